@@ -1,0 +1,225 @@
+-- What a session records leaves alone each path of a replacement that may still come.
+use Rattle.std.proofs.Common.{◌≡◌, ◌≤◌, ℕ, Bool, true, false, not, ◌&&◌, ◌||◌, List, [], ◌∷◌, ◌++◌, length, refl, sym, ap, ap₂, ◌∙◌, subst, Some, true≢false, append_assoc, append-nil, arith, inl, inr, ◌⊎◌, if◌then◌else◌, slice_get}
+use Rattle.std.specs.Prelude.{Contains}
+use Rattle.std.specs.FinMap.{get}
+use Rattle.syn_model.specs.Path.{Name, Path, parent, is_prefix, comparable}
+use Rattle.syn_model.specs.Tree.{Tree, IsTree, HasParents, Directory, empty_directory, subtree, replace, is_directory}
+use Rattle.syn_model.specs.Dirty.{Scan, dirty, is_same_tree}
+use Rattle.syn_model.specs.Reconcile.{is_directory_in_both}
+use Rattle.syn_model.specs.Decision.{Item, ToLeft, ToRight, MarkSame, MarkDir, Conflict, Decision, Do, DoAndGoOn, decision, is_unstable, path_of, GoesOn}
+use Rattle.syn_model.specs.History.{is_quiet, last_session}
+use Rattle.syn_model.specs.Archive.{Archive, Kept, Recorded, RecordedDir, after_kept}
+use Rattle.syn_headline.specs.Side.{Replace, Reply, Done}
+use Rattle.syn_headline.specs.Network.{Which, Left, Right, other, Sent, Asks, Answers}
+use Rattle.syn_headline.specs.Planning.{Planned, seen_on, IsPlannedFrom, IsPlanOf, WritesTo}
+use Rattle.syn_headline.specs.World.{Running, Outstanding, outstanding, IsDue, done, same, directory}
+use Rattle.syn_headline.specs.Invariant.{Plans, Histories, IsSound, IsHarmless}
+use Rattle.syn_model.proofs.PathLemmas.{is_prefix-is, strip_prefix-append, some_same}
+use Rattle.syn_model.proofs.TreeLemmas.{get-subtree, same_tree, subtree-replace_other, within}
+use Rattle.syn_model.proofs.HistoryLemmas.{get-below_root}
+use Rattle.syn_model.proofs.QuietLemmas.{nothing_below}
+use Rattle.syn_headline.proofs.PlanLemmas.{IsDecided, decided_by, goes_on_at, writes_clean, writes_path, planned_is, fenced}
+use Rattle.syn_headline.proofs.SoundLemmas.{made}
+
+-- of two comparable paths, which are one, or one lies above the other
+pub data Meets (q p : Path) : Type 0 where
+  one : q ≡ p → Meets q p
+  above : (n : Name) (r : Path) → p ≡ q ++ n ∷ r → Meets q p
+  below : (n : Name) (r : Path) → q ≡ p ++ n ∷ r → Meets q p
+
+meets_from : (q p rest : Path) → p ≡ q ++ rest → Meets q p
+meets_from q p [] e = one (sym (e ∙ append-nil q))
+meets_from q p (n ∷ r) e = above n r e
+
+meets_to : (q p rest : Path) → q ≡ p ++ rest → Meets q p
+meets_to q p [] e = one (e ∙ append-nil p)
+meets_to q p (n ∷ r) e = below n r e
+
+or_is : (a b : Bool) → (a || b) ≡ true → (a ≡ true) ⊎ (b ≡ true)
+or_is true b e = inl refl
+or_is false b e = inr e
+
+meets : (q p : Path) → comparable q p ≡ true → Meets q p
+meets q p e = elim (or_is (is_prefix q p) (is_prefix p q) e) as (λ _. Meets q p) [
+  | inl x ↦ let s = is_prefix-is q p x in meets_from q p s.0 s.1
+  | inr x ↦ let s = is_prefix-is p q x in meets_to q p s.0 s.1
+]
+
+-- what is done at a path is one item
+same_item : (d : Decision) (i j : Item) → IsDecided d i → IsDecided d j → i ≡ j
+same_item d i j (inl x) (inl y) = let e : Do i ≡ Do j = sym x ∙ y in cc
+same_item d i j (inl x) (inr y) = let e : Do i ≡ DoAndGoOn j = sym x ∙ y in cc
+same_item d i j (inr x) (inl y) = let e : DoAndGoOn i ≡ Do j = sym x ∙ y in cc
+same_item d i j (inr x) (inr y) = let e : DoAndGoOn i ≡ DoAndGoOn j = sym x ∙ y in cc
+
+-- paths that are marked alike are no directory of both
+mark_same : (a b c d e f g : Bool) (p q : Path) → IsDecided (decided_by a b c d e f g p) (MarkSame q) → b ≡ false
+mark_same true b c d e f g p q (inl x) = cc
+mark_same true b c d e f g p q (inr x) = cc
+mark_same false true true d e f g p q (inl x) = cc
+mark_same false true true d e f g p q (inr x) = cc
+mark_same false true false true e f g p q (inl x) = cc
+mark_same false true false true e f g p q (inr x) = cc
+mark_same false true false false e f g p q (inl x) = cc
+mark_same false true false false e f g p q (inr x) = cc
+mark_same false false c d e f g p q x = refl
+
+pub mark_same_is : (l r : Scan) (o : Tree) (p q : Path) → IsDecided (decision l r o p) (MarkSame q) → is_directory_in_both l.marks r.marks p ≡ false
+mark_same_is l r o p q d = mark_same (not (dirty l o p || dirty r o p)) (is_directory_in_both l.marks r.marks p) (is_unstable l p || is_unstable r p) (is_directory o p) (is_same_tree (subtree l.marks p) (subtree r.marks p)) (not (dirty r o p)) (not (dirty l o p)) p q d
+
+-- nothing is reached below a path that is no directory of both
+not_reached : (scan : Which → Scan) (o : Tree) (p : Path) → is_directory_in_both (scan Left).marks (scan Right).marks p ≡ false → GoesOn (decision (scan Left) (scan Right) o p) → ⊥
+not_reached scan o p beside g =
+    let l = goes_on_at scan o p g Left in
+    let r = goes_on_at scan o p g Right in
+    true≢false (sym (ap₂ (λ a b. a && b) l.0 r.0) ∙ beside)
+
+-- an empty directory put where there was none changes nothing below
+below_new_directory : (t : Tree) (q : Path) (n : Name) (r : Path) → HasParents t → is_directory t q ≡ false → subtree (replace t q empty_directory) (q ++ n ∷ r) ≡ subtree t (q ++ n ∷ r)
+below_new_directory t q n r h file = same_tree (subtree (replace t q empty_directory) (q ++ n ∷ r)) (subtree t (q ++ n ∷ r)) (λ s.
+    let at : (q ++ n ∷ r) ++ s ≡ q ++ n ∷ (r ++ s) = append_assoc q (n ∷ r) s in
+    get-subtree (replace t q empty_directory) (q ++ n ∷ r) s ∙ (ap (get (replace t q empty_directory)) at
+    ∙ (within t q empty_directory (q ++ n ∷ (r ++ s)) (n ∷ (r ++ s)) (strip_prefix-append q (n ∷ (r ++ s)))
+    ∙ (get-below_root Directory [] n (r ++ s) ∙ (sym (nothing_below t q n (r ++ s) h file) ∙ (ap (get t) (sym at) ∙ sym (get-subtree t (q ++ n ∷ r) s)))))))
+
+different : (which other_one : Which) (item : Item) (p q : Path) → WritesTo item which p → WritesTo item other_one q → which ≡ other_one
+different Left Left item p q x y = refl
+different Right Right item p q x y = refl
+different Left Right (ToLeft at) p q x y = absurd y
+different Left Right (ToRight at) p q x y = absurd x
+different Left Right (MarkSame at) p q x y = absurd x
+different Left Right (MarkDir at) p q x y = absurd x
+different Left Right (Conflict at) p q x y = absurd x
+different Right Left (ToLeft at) p q x y = absurd x
+different Right Left (ToRight at) p q x y = absurd y
+different Right Left (MarkSame at) p q x y = absurd x
+different Right Left (MarkDir at) p q x y = absurd x
+different Right Left (Conflict at) p q x y = absurd x
+
+recorded_beside : (archive : Archive) (q p : Path) (new : Tree) → comparable q p ≡ false → subtree (after_kept archive (Recorded q new)).marks p ≡ subtree archive.marks p
+recorded_beside archive q p new h = subtree-replace_other archive.marks q new p h
+
+directory_beside : (archive : Archive) (q p : Path) → comparable q p ≡ false → subtree (after_kept archive (RecordedDir q)).marks p ≡ subtree archive.marks p
+directory_beside archive q p h = elim (is_directory archive.marks q) as (λ b. subtree (if b then archive else record archive { marks = replace archive.marks q empty_directory }).marks p ≡ subtree archive.marks p) [
+  | true ↦ refl
+  | false ↦ subtree-replace_other archive.marks q empty_directory p h
+]
+
+directory_above : (archive : Archive) (q : Path) (n : Name) (r : Path) → IsTree archive.marks → subtree (after_kept archive (RecordedDir q)).marks (q ++ n ∷ r) ≡ subtree archive.marks (q ++ n ∷ r)
+directory_above archive q n r h = elim (is_directory archive.marks q) as (λ b. is_directory archive.marks q ≡ b → subtree (if b then archive else record archive { marks = replace archive.marks q empty_directory }).marks (q ++ n ∷ r) ≡ subtree archive.marks (q ++ n ∷ r)) [
+  | true ↦ λ _. refl
+  | false ↦ λ file. below_new_directory archive.marks q n r h.part.parents file
+] refl
+
+-- two items of one plan, of which one writes
+module _ (scan : Which → Scan) (since : Which → Path → ℕ) (found : Tree) (due planned : Planned) (due_is : IsPlannedFrom scan since found due) (planned_is : IsPlannedFrom scan since found planned)
+    (side : Which) (p : Path) (w : WritesTo planned.item side p) (at : path_of planned.item ≡ p) where
+  -- the item that writes stands at no directory of both, so nothing is reached below it
+  none_below : (q : Path) → path_of due.item ≡ q → (n : Name) (r : Path) → q ≡ p ++ n ∷ r → ⊥
+  none_below q e n r under =
+      let clean = writes_clean (scan Left) (scan Right) found (path_of planned.item) planned.item side p scan refl refl w planned_is.decided in
+      not_reached scan found p (ap (is_directory_in_both (scan Left).marks (scan Right).marks) (sym at) ∙ clean.0) (due_is.reached p n r (e ∙ under))
+
+  -- nor is it reached below a path that is no directory of both
+  not_below : (q : Path) → is_directory_in_both (scan Left).marks (scan Right).marks q ≡ false → (n : Name) (r : Path) → p ≡ q ++ n ∷ r → ⊥
+  not_below q beside n r under = not_reached scan found q beside (planned_is.reached q n r (at ∙ under))
+
+  -- at one path they are one item
+  one_item : (q : Path) → path_of due.item ≡ q → q ≡ p → due.item ≡ planned.item
+  one_item q e equal = same_item (decision (scan Left) (scan Right) found (path_of due.item)) due.item planned.item due_is.decided
+      (subst (λ x. IsDecided (decision (scan Left) (scan Right) found x) planned.item) (at ∙ (sym equal ∙ sym e)) planned_is.decided)
+
+module _ (plans : Plans) (histories : Histories) (archive : Archive) (sent : Sent) (sound : IsSound plans histories archive sent) (running : Running) (last : running.session ≡ archive.last_session) where
+  -- an item whose session is still the last on a side is one of the running session, where that has a plan
+  of_running : (found : Tree) → IsPlanOf sent running.session found (plans running.session) → (side : Which) (session : ℕ) → session ≡ last_session (histories side) → session ≡ running.session
+  of_running found is side session current =
+      let fence : running.session ≤ last_session (histories side) = fenced plans histories archive sent sound running.session found (plans running.session) is side in
+      let begun : last_session (histories side) ≤ archive.last_session = sound.begun side in
+      omega (arith, current, fence, begun, last)
+
+  -- what is recorded as an item is done
+  done_harmless : (from : Which) (number : ℕ) (item : ℕ) (path : Path) (since size : ℕ) (due : Planned) → Contains sent (Answers from running.session number Done) → Contains sent (Asks from running.session number (Replace item path since size)) →
+      slice_get (plans running.session) item ≡ Some due → WritesTo due.item from path → (marks : Tree) → IsHarmless plans histories (Recorded path marks)
+  done_harmless from number item q since size due answered asked e w marks =
+      let is = made plans histories archive sent sound running.session item due e in
+      let touched = (sound.answered from running.session number Done (Replace item q since size) answered asked).1 in
+      let by_plan = (sound.asked from running.session number (Replace item q since size) asked).by_plan in
+      let same_due : by_plan.0 ≡ due = some_same (sym by_plan.1 ∙ e) in
+      let since_is : since ≡ (seen_on due from).since = by_plan.3 ∙ ap (λ d. (seen_on d from).since) same_due in
+      record {
+        leaves = λ session j planned side p ej wp current quiet a tree can.
+            let here : session ≡ running.session = of_running is.0 is.1 side session current in
+            let ej' = ap (λ n. slice_get (plans n) j) (sym here) ∙ ej in
+            let due_is = planned_is is.1.scan is.1.since is.0 (plans running.session) item due is.1.items e in
+            let p_is = planned_is is.1.scan is.1.since is.0 (plans running.session) j planned is.1.items ej' in
+            let at = writes_path planned.item side p wp in
+            let due_at = writes_path due.item from q w in
+            let clean = writes_clean (is.1.scan Left) (is.1.scan Right) is.0 (path_of due.item) due.item from q is.1.scan refl refl w due_is.decided in
+            elim (comparable q p) as (λ b. comparable q p ≡ b → subtree (after_kept a (Recorded q marks)).marks p ≡ subtree a.marks p) [
+              | false ↦ λ apart. recorded_beside a q p marks apart
+              | true ↦ λ near. elim (meets q p near) as (λ _. subtree (after_kept a (Recorded q marks)).marks p ≡ subtree a.marks p) [
+                | one x ↦
+                    let item_is = one_item is.1.scan is.1.since is.0 due planned due_is p_is side p wp at q due_at x in
+                    let from_is : side ≡ from = different side from planned.item p q wp (subst (λ i. WritesTo i from q) item_is w) in
+                    let seen_is : (seen_on planned side).since ≡ (seen_on due side).since = (p_is.seen side).1 ∙ (ap (λ i. is.1.since side (parent (path_of i))) (sym item_is) ∙ sym (due_is.seen side).1) in
+                    let quiet' = subst (λ s. is_quiet (histories s) (seen_on due s).since (length (histories s)) q ≡ true) from_is
+                    (ap₂ (λ k w. is_quiet (histories side) k (length (histories side)) w) (sym seen_is) x ∙ quiet) in
+                    absurd (true≢false (sym quiet' ∙ (ap (λ k. is_quiet (histories from) k (length (histories from)) q) (sym since_is) ∙ touched)))
+                | above n r x ↦ absurd (not_below is.1.scan is.1.since is.0 due planned due_is p_is side p wp at q (ap (is_directory_in_both (is.1.scan Left).marks (is.1.scan Right).marks) (sym due_at) ∙ clean.0) n r x)
+                | below n r x ↦ absurd (none_below is.1.scan is.1.since is.0 due planned due_is p_is side p wp at q due_at n r x)
+              ]
+            ] refl;
+      }
+
+  same_harmless : (item : ℕ) (path : Path) (due : Planned) → slice_get (plans running.session) item ≡ Some due → due.item ≡ MarkSame path → (marks : Tree) → IsHarmless plans histories (Recorded path marks)
+  same_harmless item q due e kind marks =
+      let is = made plans histories archive sent sound running.session item due e in
+      record {
+        leaves = λ session j planned side p ej wp current quiet a tree can.
+            let here : session ≡ running.session = of_running is.0 is.1 side session current in
+            let ej' = ap (λ n. slice_get (plans n) j) (sym here) ∙ ej in
+            let due_is = planned_is is.1.scan is.1.since is.0 (plans running.session) item due is.1.items e in
+            let p_is = planned_is is.1.scan is.1.since is.0 (plans running.session) j planned is.1.items ej' in
+            let at = writes_path planned.item side p wp in
+            let due_at = ap path_of kind in
+            let beside = mark_same_is (is.1.scan Left) (is.1.scan Right) is.0 q q (subst (λ x. IsDecided (decision (is.1.scan Left) (is.1.scan Right) is.0 x) (MarkSame q)) due_at (subst (λ i. IsDecided (decision (is.1.scan Left) (is.1.scan Right) is.0 (path_of due.item)) i) kind due_is.decided)) in
+            elim (comparable q p) as (λ b. comparable q p ≡ b → subtree (after_kept a (Recorded q marks)).marks p ≡ subtree a.marks p) [
+              | false ↦ λ apart. recorded_beside a q p marks apart
+              | true ↦ λ near. elim (meets q p near) as (λ _. subtree (after_kept a (Recorded q marks)).marks p ≡ subtree a.marks p) [
+                | one x ↦ absurd (subst (λ i. WritesTo i side p) (sym (one_item is.1.scan is.1.since is.0 due planned due_is p_is side p wp at q due_at x) ∙ kind) wp)
+                | above n r x ↦ absurd (not_below is.1.scan is.1.since is.0 due planned due_is p_is side p wp at q beside n r x)
+                | below n r x ↦ absurd (none_below is.1.scan is.1.since is.0 due planned due_is p_is side p wp at q due_at n r x)
+              ]
+            ] refl;
+      }
+
+  directory_harmless : (item : ℕ) (path : Path) (due : Planned) → slice_get (plans running.session) item ≡ Some due → due.item ≡ MarkDir path → IsHarmless plans histories (RecordedDir path)
+  directory_harmless item q due e kind =
+      let is = made plans histories archive sent sound running.session item due e in
+      record {
+        leaves = λ session j planned side p ej wp current quiet a tree can.
+            let here : session ≡ running.session = of_running is.0 is.1 side session current in
+            let ej' = ap (λ n. slice_get (plans n) j) (sym here) ∙ ej in
+            let due_is = planned_is is.1.scan is.1.since is.0 (plans running.session) item due is.1.items e in
+            let p_is = planned_is is.1.scan is.1.since is.0 (plans running.session) j planned is.1.items ej' in
+            let at = writes_path planned.item side p wp in
+            let due_at = ap path_of kind in
+            elim (comparable q p) as (λ b. comparable q p ≡ b → subtree (after_kept a (RecordedDir q)).marks p ≡ subtree a.marks p) [
+              | false ↦ λ apart. directory_beside a q p apart
+              | true ↦ λ near. elim (meets q p near) as (λ _. subtree (after_kept a (RecordedDir q)).marks p ≡ subtree a.marks p) [
+                | one x ↦ absurd (subst (λ i. WritesTo i side p) (sym (one_item is.1.scan is.1.since is.0 due planned due_is p_is side p wp at q due_at x) ∙ kind) wp)
+                | above n r x ↦ subst (λ w. subtree (after_kept a (RecordedDir q)).marks w ≡ subtree a.marks w) (sym x) (directory_above a q n r tree)
+                | below n r x ↦ absurd (none_below is.1.scan is.1.since is.0 due planned due_is p_is side p wp at q due_at n r x)
+              ]
+            ] refl;
+      }
+
+  -- what is due as a session goes on is harmless
+  pub due_harmless : (plan : List Planned) → plans running.session ≡ plan → (from : Which) (number : ℕ) (reply : Reply) (kept : Kept) → Contains sent (Answers from running.session number reply) →
+      ((waiting : Outstanding) → outstanding running from ≡ Some waiting → Contains sent (Asks from running.session number waiting.request)) →
+      IsDue running plan from reply kept → IsHarmless plans histories kept
+  due_harmless plan has from number reply _ answered waits (done waiting item path since size planned is_done out asks e w) =
+      done_harmless from number item path since size planned (subst (λ r. Contains sent (Answers from running.session number r)) is_done answered)
+      (subst (λ r. Contains sent (Asks from running.session number r)) asks (waits waiting out)) (ap (λ x. slice_get x item) has ∙ e) w (seen_on planned (other from)).marks
+  due_harmless plan has from number reply _ answered waits (same item path planned e kind alike) = same_harmless item path planned (ap (λ x. slice_get x item) has ∙ e) kind planned.left.marks
+  due_harmless plan has from number reply _ answered waits (directory item path planned e kind) = directory_harmless item path planned (ap (λ x. slice_get x item) has ∙ e) kind

@@ -1,0 +1,84 @@
+-- What a scan shows was held.
+use Rattle.std.proofs.Common.{◌≡◌, ℕ, suc, true, false, ◌&&◌, ◌||◌, if◌then◌else◌, List, [], ◌∷◌, ◌++◌, refl, sym, ap, ap₂, ◌∙◌, subst, Some, None, is_some, true≢false, arith, inl, inr, ◌⊎◌, option_map}
+use Rattle.std.specs.Prelude.{Contains}
+use Rattle.std.specs.List.{list_any}
+use Rattle.std.specs.Option.{option_map_or}
+use Rattle.std.specs.FinMap.{get, find}
+use Rattle.std.specs.Ordering.{eq_by_cmp}
+use Rattle.syn_model.specs.Path.{Name, Path, name_cmp, is_prefix, child, strip_prefix}
+use Rattle.syn_model.specs.Tree.{Tree, Content, replace, is_directory, is_directory_content}
+use Rattle.syn_model.specs.Limits.{children}
+use Rattle.syn_model.specs.Mark.{mark, mark_of}
+use Rattle.syn_model.specs.Dirty.{Scan}
+use Rattle.syn_model.specs.Decision.{is_unstable}
+use Rattle.syn_model.specs.History.{tree_at}
+use Rattle.syn_model.specs.Archive.{Archive, Held}
+use Rattle.syn_headline.specs.Side.{ListAt, Listed}
+use Rattle.syn_headline.specs.Network.{Which, Sent}
+use Rattle.syn_headline.specs.Planning.{IsScanOf}
+use Rattle.syn_headline.specs.Invariant.{Plans, Histories, IsSound, IsTrueListing}
+use Rattle.syn_model.proofs.PathLemmas.{none_some, strip_prefix-is, same_name, name_itself}
+use Rattle.syn_model.proofs.TreeLemmas.{get-replace}
+use Rattle.syn_model.proofs.MarkLemmas.{get-mark}
+use Rattle.syn_model.proofs.DirtyLemmas.{both_true}
+use Rattle.syn_model.proofs.QuietLemmas.{get-children, same_child}
+use Rattle.syn_headline.proofs.PlanLemmas.{last_name}
+use Rattle.syn_headline.proofs.MoveLemmas.{tree_at_is_tree}
+
+-- prefixes both ways are one path
+both_ways : (p q : Path) → is_prefix p q ≡ true → is_prefix q p ≡ true → p ≡ q
+both_ways [] [] h k = refl
+both_ways [] (m ∷ q) h k = absurd (true≢false (sym k))
+both_ways (n ∷ p) [] h k = absurd (true≢false (sym h))
+both_ways (n ∷ p) (m ∷ q) h k =
+    elim (eq_by_cmp name_cmp n m) as (λ b. eq_by_cmp name_cmp n m ≡ b → is_some (if b then strip_prefix p q else None) ≡ true → n ∷ p ≡ m ∷ q) [
+      | false ↦ λ _ x. absurd (true≢false (sym x))
+      | true ↦ λ y x.
+          let heads = same_name n m y in
+          let back : is_prefix (n ∷ q) (n ∷ p) ≡ true = ap (λ w. is_prefix (w ∷ q) (n ∷ p)) heads ∙ k in
+          ap₂ (λ w ws. w ∷ ws) heads (both_ways p q x (sym (ap (λ b. is_some (if b then strip_prefix q p else None)) (name_itself n)) ∙ back))
+    ] refl h
+
+-- an unstable path is one that was answered so
+found_unstable : (p : Path) (us : List Path) → list_any (λ other. is_prefix p other && is_prefix other p) us ≡ true → Contains us p
+found_unstable p [] e = absurd (true≢false (sym e))
+found_unstable p (u ∷ us) e =
+    elim (is_prefix p u && is_prefix u p) as (λ b. (is_prefix p u && is_prefix u p) ≡ b → (b || list_any (λ other. is_prefix p other && is_prefix other p) us) ≡ true → Contains (u ∷ us) p) [
+      | true ↦ λ y _. let both = both_true (is_prefix p u) (is_prefix u p) y in (0, omega arith, sym (both_ways p u both.0 both.1))
+      | false ↦ λ _ rest. let c = found_unstable p us rest in (suc c.0, omega (arith, c.1), c.2)
+    ] refl e
+
+module _ (plans : Plans) (histories : Histories) (archive : Archive) (sent : Sent) (sound : IsSound plans histories archive sent) (side : Which) (session : ℕ) (scan : Scan) (since : Path → ℕ) (is : IsScanOf sent side session scan since) where
+  nothing_unstable : (a : Path) (n : Name) (x : Content) → is_unstable scan a ≡ true → get scan.marks (child a n) ≡ Some x → ⊥
+  nothing_unstable a n x u e =
+      let empty = is.nothing_below a (found_unstable a scan.unstable u) in
+      none_some (sym (get-children scan.marks a n ∙ ap (λ cs. find name_cmp n cs) empty) ∙ e)
+
+  -- what a scan shows in a directory was there when that was listed
+  child_held : (a : Path) (n : Name) (x : Content) → get scan.marks (child a n) ≡ Some x → Held (histories side) (child a n) x
+  child_held a n x e =
+      let d : is_directory scan.marks a ≡ true = ap is_directory_content (is.tree.part.parents a n [] (ap is_some e)) in
+      elim (is_unstable scan a) as (λ b. is_unstable scan a ≡ b → Held (histories side) (child a n) x) [
+        | true ↦ λ u. absurd (nothing_unstable a n x u e)
+        | false ↦ λ u.
+            let w = is.listed a d u in
+            let listing : IsTrueListing (histories side) a (since a) (children scan.marks a) = sound.answered side session w.number (Listed (since a) (children scan.marks a)) (ListAt a) w.answered w.asked in
+            (since a, listing.reached, sym (same_child scan.marks (mark (tree_at (histories side) (since a))) a n listing.entries_there) ∙ e)
+      ] refl
+
+  root_held : (x : Content) → get scan.marks [] ≡ Some x → Held (histories side) [] x
+  root_held x e = (0, omega arith, get-mark (tree_at (histories side) 0) [] ∙ (ap (option_map mark_of) (tree_at_is_tree (histories side) 0 (sound.lawful side)).rooted ∙ (sym is.tree.rooted ∙ e)))
+
+  -- each entry of a scan was held by its side
+  pub scan_held : (p : Path) (x : Content) → get scan.marks p ≡ Some x → Held (histories side) p x
+  scan_held [] x e = root_held x e
+  scan_held (n ∷ p) x e =
+      let split = last_name n p in
+      subst (λ q. Held (histories side) q x) (sym split.2) (child_held split.0 split.1 x (ap (get scan.marks) (sym split.2) ∙ e))
+
+-- an entry of an archive that recorded a part is of that part, or was there before
+pub recorded_entry : (marks : Tree) (at : Path) (new : Tree) (p : Path) (x : Content) → get (replace marks at new) p ≡ Some x → ((rest : Path) × (p ≡ at ++ rest) × (get new rest ≡ Some x)) ⊎ (get marks p ≡ Some x)
+recorded_entry marks at new p x e = elim (strip_prefix at p) as (λ o. strip_prefix at p ≡ o → ((rest : Path) × (p ≡ at ++ rest) × (get new rest ≡ Some x)) ⊎ (get marks p ≡ Some x)) [
+  | None ↦ λ none. inr (sym (ap (λ o. option_map_or (λ r. get new r) o (get marks p)) none) ∙ (sym (get-replace marks at new p) ∙ e))
+  | Some rest ↦ λ some. inl (rest, strip_prefix-is at p rest some, sym (ap (λ o. option_map_or (λ r. get new r) o (get marks p)) some) ∙ (sym (get-replace marks at new p) ∙ e))
+] refl

@@ -1,0 +1,13 @@
+pub mod RowLemmas
+pub mod WorldLemmas
+pub mod SideLemmas
+pub mod FormattedLemmas
+pub mod PlanLemmas
+pub mod SoundLemmas
+pub mod HarmlessLemmas
+pub mod OutcomeLemmas
+pub mod MoveLemmas
+pub mod StepLemmas
+pub mod TokenLemmas
+pub mod RunLemmas
+pub mod HeldLemmas

@@ -1,0 +1,391 @@
+-- The invariant is kept as a side answers a request.
+use Rattle.std.proofs.Common.{◌≡◌, ◌≤◌, ◌+◌, ℕ, Bool, true, false, not, ◌&&◌, ◌||◌, ◌==◌, nat_le, List, [], filter_map, option_map, ◌∷◌, ◌++◌, length, take, drop, refl, sym, ap, ap₂, ◌∙◌, subst, Option, Some, None, is_some, IsSome, true≢false, append_assoc, append-nil, arith, inl, inr, ◌⊎◌, slice_get, fold}
+use Rattle.std.specs.Prelude.{Contains, IfSome, All}
+use Rattle.std.specs.Option.{option_map_or, option_and_then}
+use Rattle.std.specs.FinMap.{get, entries, len-entries}
+use Rattle.std.specs.Prelude.{sum_by}
+use Rattle.std.specs.List.{list_all}
+use Rattle.syn_model.proofs.RowLemmas.{entries-at_root}
+use Rattle.std.proofs.lemmas.Bool.Decides.{nat_tests}
+use Rattle.std.proofs.lemmas.List.{length-append, take-append-drop}
+use Rattle.std.proofs.lemmas.List.Elements.{All-tail}
+use Rattle.std.proofs.Math.Seq.{take-append_seam, take-length}
+use Rattle.syn_model.specs.Path.{Name, Bytes, Path, parent, IsName, comparable, is_prefix, strip_prefix}
+use Rattle.syn_model.specs.Tree.{Tree, IsTree, IsPart, subtree, replace, Content, Pair, Directory, empty_directory}
+use Rattle.syn_model.specs.Limits.{children, fits_replica, only_name, last_name_spelling_length, content_spelling_length, fits_content, fits_path}
+use Rattle.syn_model.specs.Mark.{mark}
+use Rattle.syn_model.specs.Spelling.{spelling}
+use Rattle.syn_model.specs.Event.{Token, is_below, is_same_token, Event, Edited, Began, Replaced, touches, after_event, after_edit}
+use Rattle.syn_model.specs.History.{History, IsHistory, AllAllowed, IsAllowed, tree_of, tree_at, is_quiet, last_session, last_token, token_after, is_old_token, place_causes, full_causes, position_causes, edit_causes}
+use Rattle.syn_model.specs.Archive.{Archive}
+use Rattle.syn_headline.specs.Laws.{AddsAllowed}
+use Rattle.syn_headline.specs.Side.{Side, Served, Staging, Request, Begin, ListAt, Fetch, Stage, Replace, Piece, Refused, Reads, token_of, is_staged, staged_bytes}
+use Rattle.syn_headline.specs.Network.{Which, Left, Right, other, Sent, Asks}
+use Rattle.syn_model.specs.Decision.{path_of}
+use Rattle.syn_headline.specs.Planning.{Planned, seen_on, WritesTo}
+use Rattle.syn_headline.specs.Invariant.{Plans, Histories, IsSound, IsTrue, IsTruePiece, IsSoundStaging, IsSoundReplacement, IsSoundEvent, source_of, part_at, SpellingsTell}
+use Rattle.syn_model.proofs.PathLemmas.{some_same, strip_prefix-append}
+use Rattle.syn_model.proofs.TreeLemmas.{get-subtree}
+use Rattle.syn_model.proofs.HistoryLemmas.{history-is_tree, first_cause-none, tree_of-append, none-append}
+use Rattle.syn_model.proofs.DirtyLemmas.{both_true, both_false}
+use Rattle.syn_model.proofs.QuietLemmas.{quiet_before, quiet_same}
+use Rattle.syn_headline.proofs.PlanLemmas.{writes_path, since_reached, writes_of, parent-child}
+use Rattle.syn_model.proofs.MarkLemmas.{mark-subtree}
+use Rattle.syn_model.specs.Refusal.{Refusal, OldSession, Full, Cause, first_cause}
+use Rattle.syn_headline.specs.Acknowledged.{Stores, history_of, WasListed, IsLegal}
+use Rattle.syn_headline.proofs.SoundLemmas.{fold_one, made, extends, length_grows, part_at_stays, still_touched, sound-grow}
+use Rattle.syn_headline.proofs.OutcomeLemmas.{Outcome, refuses, begins_again, begins, lists, lists_none, fetches, stages_first, stages_more, stages_again, done_again, replaces}
+
+pub on_both : (P : Which → Type 0) (side : Which) → P side → P (other side) → (s : Which) → P s
+on_both P Left here there Left = here
+on_both P Left here there Right = there
+on_both P Right here there Right = here
+on_both P Right here there Left = there
+
+same_number : (a b : ℕ) → (a == b) ≡ true → a ≡ b
+same_number a b h = grind (arith, nat_tests)
+
+pub same_token : (a b : Token) → is_same_token a b ≡ true → a ≡ b
+same_token a b e =
+    let both = both_true (a.session == b.session) (a.item == b.item) e in
+    let s : (a.session == b.session) ≡ true = both.0 in
+    let i : (a.item == b.item) ≡ true = both.1 in
+    let same_session : a.session ≡ b.session = same_number a.session b.session s in
+    let same_item : a.item ≡ b.item = same_number a.item b.item i in
+    ap₂ (λ s i. token_of s i) same_session same_item
+
+pub token_one : (last : Option Token) (history : History) (event : Event) → fold token_after last (history ++ event ∷ []) ≡ token_after (fold token_after last history) event
+token_one last [] event = refl
+token_one last (e ∷ history) event = token_one (token_after last e) history event
+
+path_meets_itself : (p : Path) → comparable p p ≡ true
+path_meets_itself p = ap (λ b. b || is_prefix p p) (ap (λ w. is_prefix p w) (sym (append-nil p)) ∙ ap is_some (strip_prefix-append p []))
+
+-- a path that is touched now is not quiet
+touched_now : (history : History) (event : Event) (since : ℕ) (p : Path) → since ≤ length history → touches event p ≡ true → is_quiet (history ++ event ∷ []) since (length (history ++ event ∷ [])) p ≡ false
+touched_now history event since p h t =
+    elim (is_quiet (history ++ event ∷ []) since (length (history ++ event ∷ [])) p) as (λ b. is_quiet (history ++ event ∷ []) since (length (history ++ event ∷ [])) p ≡ b → b ≡ false) [
+      | false ↦ λ _. refl
+      | true ↦ λ q. absurd (true≢false (sym (both_true (not (touches event p)) true (quiet_before history (event ∷ []) since p h q).1).0 ∙ ap not t))
+    ] refl
+
+-- a side's history stays, or has one more event that its session's plan asks for; the other's stays
+pub record Moves (plans : Plans) (archive : Archive) (old new : Histories) (side : Which) : Type 0 where
+  pub here : (new side ≡ old side) ⊎ ((event : Event) × IsAllowed (old side) event × IsSoundEvent plans old archive side event × (new side ≡ old side ++ event ∷ []))
+  pub there : new (other side) ≡ old (other side)
+
+adds : (plans : Plans) (archive : Archive) (old new : Histories) (side : Which) → Moves plans archive old new side → AddsAllowed (old side) (new side)
+adds plans archive old new side m = elim m.here as (λ _. AddsAllowed (old side) (new side)) [ inl e ↦ inl e | inr a ↦ inr (a.0, a.1, a.3) ]
+
+pub moves_grow : (plans : Plans) (archive : Archive) (old new : Histories) (side : Which) → Moves plans archive old new side → (s : Which) → AddsAllowed (old s) (new s)
+moves_grow plans archive old new side m = on_both (λ s. AddsAllowed (old s) (new s)) side (adds plans archive old new side m) (inl m.there)
+
+module _ (plans : Plans) (archive : Archive) (sent : Sent) (old new : Histories) (sound : IsSound plans old archive sent) (side : Which) (m : Moves plans archive old new side) where
+  event_below : (event : Event) → IsSoundEvent plans old archive side event → last_session (old side ++ event ∷ []) ≤ archive.last_session
+  event_below (Edited user edit) e = subst (λ n. n ≤ archive.last_session) (sym (fold_one 0 (old side) (Edited user edit))) (sound.begun side)
+  event_below (Began session) e = subst (λ n. n ≤ archive.last_session) (sym (fold_one 0 (old side) (Began session))) e
+  event_below (Replaced token path since u) e = subst (λ n. n ≤ archive.last_session) (sym (fold_one 0 (old side) (Replaced token path since u))) (sound.begun side)
+
+  -- where the last token is that of an event before, its path is still touched
+  used_before : (event : Event) → IsAllowed (old side) event → (token : Token) (planned : Planned) (path : Path) → last_token (old side) ≡ Some token → slice_get (plans token.session) token.item ≡ Some planned → WritesTo planned.item side path →
+      is_quiet (old side ++ event ∷ []) (seen_on planned side).since (length (old side ++ event ∷ [])) path ≡ false
+  used_before event a token planned path last e w =
+      let is = made plans old archive sent sound token.session token.item planned e in
+      still_touched (old side) (old side ++ event ∷ []) (event ∷ [], refl) (seen_on planned side).since path
+      (since_reached plans old archive sent sound token.session is.0 (plans token.session) is.1 token.item planned side path e w side) (sound.used side token planned path last e w)
+
+  used_after : (event : Event) → IsAllowed (old side) event → IsSoundEvent plans old archive side event → (token : Token) (planned : Planned) (path : Path) → token_after (last_token (old side)) event ≡ Some token →
+      slice_get (plans token.session) token.item ≡ Some planned → WritesTo planned.item side path → is_quiet (old side ++ event ∷ []) (seen_on planned side).since (length (old side ++ event ∷ [])) path ≡ false
+  used_after (Edited user edit) a s token planned path last e w = used_before (Edited user edit) a token planned path last e w
+  used_after (Began session) a s token planned path last e w = used_before (Began session) a token planned path last e w
+  used_after (Replaced token' path' since u) a s token planned path last e w =
+      let token_is : token' ≡ token = some_same last in
+      let planned_is : s.planned ≡ planned = some_same (sym s.item ∙ (ap (λ t. slice_get (plans t.session) t.item) token_is ∙ e)) in
+      let path_is : path' ≡ path = sym (writes_path s.planned.item side path' s.writes) ∙ (ap (λ d. path_of d.item) planned_is ∙ writes_path planned.item side path w) in
+      let since_is : since ≡ (seen_on planned side).since = s.listed ∙ ap (λ d. (seen_on d side).since) planned_is in
+      touched_now (old side) (Replaced token' path' since u) (seen_on planned side).since path (subst (λ k. k ≤ length (old side)) since_is s.within) (ap (λ q. comparable q path) path_is ∙ path_meets_itself path)
+
+  begun_below : last_session (new side) ≤ archive.last_session
+  begun_below = elim m.here as (λ _. last_session (new side) ≤ archive.last_session) [
+    | inl e ↦ subst (λ h. last_session h ≤ archive.last_session) (sym e) (sound.begun side)
+    | inr a ↦ subst (λ h. last_session h ≤ archive.last_session) (sym a.3) (event_below a.0 a.2)
+  ]
+
+  used_here : (token : Token) (planned : Planned) (path : Path) → last_token (new side) ≡ Some token → slice_get (plans token.session) token.item ≡ Some planned → WritesTo planned.item side path →
+      is_quiet (new side) (seen_on planned side).since (length (new side)) path ≡ false
+  used_here token planned path last e w = elim m.here as (λ _. is_quiet (new side) (seen_on planned side).since (length (new side)) path ≡ false) [
+    | inl same ↦ subst (λ h. is_quiet h (seen_on planned side).since (length h) path ≡ false) (sym same) (sound.used side token planned path (ap last_token (sym same) ∙ last) e w)
+    | inr a ↦ subst (λ h. is_quiet h (seen_on planned side).since (length h) path ≡ false) (sym a.3) (used_after a.0 a.1 a.2 token planned path (sym (token_one None (old side) a.0) ∙ (ap last_token (sym a.3) ∙ last)) e w)
+  ]
+
+  pub sound_moves : IsSound plans new archive sent
+  sound_moves = sound-grow plans old new archive sent sound (moves_grow plans archive old new side m)
+      (on_both (λ s. last_session (new s) ≤ archive.last_session) side begun_below (subst (λ h. last_session h ≤ archive.last_session) (sym m.there) (sound.begun (other side))))
+      (on_both (λ s. (token : Token) (planned : Planned) (path : Path) → last_token (new s) ≡ Some token → slice_get (plans token.session) token.item ≡ Some planned → WritesTo planned.item s path →
+      is_quiet (new s) (seen_on planned s).since (length (new s)) path ≡ false) side used_here
+      (λ token planned path last e w. subst (λ h. is_quiet h (seen_on planned (other side)).since (length h) path ≡ false) (sym m.there)
+      (sound.used (other side) token planned path (ap last_token (sym m.there) ∙ last) e w)))
+
+-- What is staged
+
+prefix_from : (whole part rest : Bytes) → whole ≡ part ++ rest → part ≡ take (length part) whole
+prefix_from whole part rest e = sym (take-append_seam part rest) ∙ ap (take (length part)) (sym e)
+
+first_piece : (whole bytes : Bytes) (offset : ℕ) → offset ≡ 0 → bytes ≡ take 32768 (drop offset whole) → bytes ≡ take (length bytes) whole
+first_piece whole bytes offset z e =
+    let e' : bytes ≡ take 32768 whole = e ∙ ap (λ k. take 32768 (drop k whole)) z in
+    prefix_from whole bytes (drop 32768 whole) (sym (take-append-drop 32768 whole) ∙ ap (λ w. w ++ drop 32768 whole) (sym e'))
+
+next_piece : (whole had bytes : Bytes) (offset : ℕ) → offset ≡ length had → had ≡ take (length had) whole → bytes ≡ take 32768 (drop offset whole) → had ++ bytes ≡ take (length (had ++ bytes)) whole
+next_piece whole had bytes offset at h e =
+    let rest = drop (length had) whole in
+    let e' : bytes ≡ take 32768 rest = e ∙ ap (λ k. take 32768 (drop k whole)) at in
+    prefix_from whole (had ++ bytes) (drop 32768 rest)
+    (sym (take-append-drop (length had) whole) ∙ (ap (λ w. w ++ rest) (sym h) ∙ (ap (λ w. had ++ w) (sym (take-append-drop 32768 rest) ∙ ap (λ w. w ++ drop 32768 rest) (sym e')) ∙ sym (append_assoc had bytes (drop 32768 rest)))))
+
+-- what is staged stays so as histories go on
+pub staging-grow : (plans : Plans) (old new : Histories) (side : Which) (staging : Staging) → ((s : Which) → AddsAllowed (old s) (new s)) → IsSoundStaging plans old side staging → IsSoundStaging plans new side staging
+staging-grow plans old new side staging grows h =
+    let x = extends (old (other side)) (new (other side)) (grows (other side)) in
+    let longer : length (old (other side)) ≤ length (new (other side)) = length_grows (old (other side)) (new (other side)) x in
+    let r : (seen_on h.planned (other side)).since ≤ length (old (other side)) = h.reached in
+    record {
+      planned = h.planned;
+      item = h.item;
+      reached = omega (arith, r, longer);
+      begins = h.begins ∙ ap (λ t. take (length staging.bytes) (spelling t)) (sym (part_at_stays (old (other side)) (new (other side)) x (seen_on h.planned (other side)).since (path_of h.planned.item) r));
+    }
+
+-- and so a replacement that is being written, whose own side stays
+pub replacement-grow : (plans : Plans) (old new : Histories) (side : Which) (token : Token) (path : Path) (since : ℕ) (u : Tree) → new side ≡ old side → AddsAllowed (old (other side)) (new (other side)) →
+    IsSoundReplacement plans old side token path since u → IsSoundReplacement plans new side token path since u
+replacement-grow plans old new side token path since u stays grows h =
+    let x = extends (old (other side)) (new (other side)) grows in
+    let longer : length (old (other side)) ≤ length (new (other side)) = length_grows (old (other side)) (new (other side)) x in
+    let r : (seen_on h.planned (other side)).since ≤ length (old (other side)) = h.reached in
+    record {
+      planned = h.planned;
+      item = h.item;
+      writes = h.writes;
+      listed = h.listed;
+      within = subst (λ w. since ≤ length w) (sym stays) h.within;
+      quiet = ap (λ w. is_quiet w since (length w) path) stays ∙ h.quiet;
+      reached = omega (arith, r, longer);
+      whole = h.whole ∙ sym (part_at_stays (old (other side)) (new (other side)) x (seen_on h.planned (other side)).since (path_of h.planned.item) r);
+    }
+
+all_front : (start xs ys : History) → AllAllowed start (xs ++ ys) → AllAllowed start xs
+all_front start [] ys h = tt
+all_front start (x ∷ xs) ys h = (h.0, all_front (start ++ x ∷ []) xs ys h.1)
+
+-- a history has a whole tree at each position
+pub tree_at_is_tree : (history : History) (k : ℕ) → IsHistory history → IsTree (tree_at history k)
+tree_at_is_tree history k h = history-is_tree (take k history) (all_front [] (take k history) (drop k history) (subst IsHistory (sym (take-append-drop k history)) h))
+
+is_not : (b : Bool) → not b ≡ false → b ≡ true
+is_not true e = refl
+is_not false e = absurd (true≢false e)
+
+fits_of : (new : Tree) (more : List Cause) → first_cause (full_causes new ++ more) ≡ None → fits_replica new ≡ true
+fits_of new more e = is_not (fits_replica new) (first_cause-none (not (fits_replica new), Full) more e).0
+
+event_fits : (history : History) (event : Event) → IsAllowed history event → fits_replica (tree_of history) ≡ true → fits_replica (after_event (tree_of history) event) ≡ true
+event_fits history (Edited user edit) a h = fits_of (after_edit (tree_of history) edit) (position_causes history) (none-append (edit_causes (tree_of history) edit) (full_causes (after_edit (tree_of history) edit) ++ position_causes history) a.not_refused).1
+event_fits history (Began session) a h = h
+event_fits history (Replaced token path since u) a h =
+    let rest = full_causes (replace (tree_of history) path u) ++ position_causes history in
+    fits_of (replace (tree_of history) path u) (position_causes history)
+    (none-append (place_causes (tree_of history) path) rest (first_cause-none (is_old_token history token, OldSession) (place_causes (tree_of history) path ++ rest) a.not_refused).1).1
+
+abbrev listed_children : List Pair → Path → List (Name × Content)
+listed_children es path = filter_map (λ pair. option_map (λ name. (name, pair.1)) (option_and_then only_name (strip_prefix path pair.0))) es
+
+abbrev fits_by : ℕ → List Pair → Bool
+fits_by n es = nat_le n 1024 && nat_le (sum_by (λ pair. last_name_spelling_length pair.0 + content_spelling_length pair.1) es) 524288
+    && list_all (λ pair. fits_content pair.1 && nat_le (length (listed_children es pair.0)) 256) es && list_all (λ pair. fits_path pair.0) es
+
+empty_fits : fits_replica (tree_of []) ≡ true
+unfolding tree_of
+empty_fits =
+    let es = entries-at_root Directory in
+    ap₂ fits_by (len-entries empty_directory ∙ ap length es) es
+
+more_fits : (start events : History) → fits_replica (tree_of start) ≡ true → AllAllowed start events → fits_replica (tree_of (start ++ events)) ≡ true
+more_fits start [] h all = ap (λ w. fits_replica (tree_of w)) (append-nil start) ∙ h
+more_fits start (event ∷ events) h all =
+    let after : fits_replica (tree_of (start ++ event ∷ [])) ≡ true = ap fits_replica (tree_of-append start (event ∷ [])) ∙ event_fits start event all.0 h in
+    ap (λ w. fits_replica (tree_of w)) (sym (append_assoc start (event ∷ []) events)) ∙ more_fits (start ++ event ∷ []) events after all.1
+
+-- a history has at each position a tree that fits
+tree_at_fits : (history : History) (k : ℕ) → IsHistory history → fits_replica (tree_at history k) ≡ true
+tree_at_fits history k h = more_fits [] (take k history) empty_fits (all_front [] (take k history) (drop k history) (subst IsHistory (sym (take-append-drop k history)) h))
+
+-- A request
+
+module _ (tells : SpellingsTell) (plans : Plans) (archive : Archive) (sent : Sent) (histories : Histories) (sound : IsSound plans histories archive sent) (which : Which) (side : Side) (same : side.history ≡ histories which)
+    (staged : IfSome side.staging (IsSoundStaging plans histories which)) (session number : ℕ) where
+  staged_is : (o : Option Staging) (token : Token) → IfSome o (IsSoundStaging plans histories which) → is_staged o token ≡ true → (staging : Staging) × IsSoundStaging plans histories which staging × (staging.token ≡ token) × (staged_bytes o ≡ staging.bytes)
+  staged_is None token h e = absurd (true≢false (sym e))
+  staged_is (Some staging) token h e = (staging, h, same_token staging.token token e, refl)
+
+  -- what is staged whole is what the source had
+  pub replacement_is : (item : ℕ) (path : Path) (since size : ℕ) (new : Tree) → Contains sent (Asks which session number (Replace item path since size)) → Reads (staged_bytes side.staging) (Some new) → is_staged side.staging (token_of session item) ≡ true →
+      length (staged_bytes side.staging) ≡ size → since ≤ length side.history → is_quiet side.history since (length side.history) path ≡ true → IsSoundReplacement plans histories which (token_of session item) path since new
+  replacement_is item path since size new asked reads at_token long within quiet =
+      let st = staged_is side.staging (token_of session item) staged at_token in
+      let by_plan = (sound.asked which session number (Replace item path since size) asked).by_plan in
+      let planned = by_plan.0 in
+      let item_is : slice_get (plans session) item ≡ Some st.1.planned = ap (λ t. slice_get (plans t.session) t.item) (sym st.2) ∙ st.1.item in
+      let same_planned : st.1.planned ≡ planned = some_same (sym item_is ∙ by_plan.1) in
+      let piece = by_plan.4.2 in
+      let true_piece : IsTruePiece (histories (other which)) (path_of planned.item) (seen_on planned (other which)).since by_plan.4.0 size by_plan.4.1 =
+      sound.answered (other which) session piece.number (Piece size by_plan.4.1) (Fetch (path_of planned.item) (seen_on planned (other which)).since by_plan.4.0) piece.answered piece.asked in
+      let whole = spelling (source_of histories which planned) in
+      let begins : st.0.bytes ≡ take (length st.0.bytes) whole = st.1.begins ∙ ap (λ d. take (length st.0.bytes) (spelling (source_of histories which d))) same_planned in
+      let full : length st.0.bytes ≡ length whole = ap length (sym st.3) ∙ (long ∙ true_piece.whole) in
+      let bytes_are : st.0.bytes ≡ whole = begins ∙ (ap (λ k. take k whole) full ∙ take-length whole) in
+      record {
+        planned = planned;
+        item = by_plan.1;
+        writes = by_plan.2;
+        listed = by_plan.3;
+        within = subst (λ h. since ≤ length h) same within;
+        quiet = ap (λ h. is_quiet h since (length h) path) (sym same) ∙ quiet;
+        reached = true_piece.reached;
+        whole = tells new (source_of histories which planned) reads.0 reads.1
+            (record {
+              whole = tree_at (histories (other which)) (seen_on planned (other which)).since;
+              path = path_of planned.item;
+              tree = tree_at_is_tree (histories (other which)) (seen_on planned (other which)).since (sound.lawful (other which));
+              fits = tree_at_fits (histories (other which)) (seen_on planned (other which)).since (sound.lawful (other which));
+              part_is = refl;
+            })
+            (reads.2 ∙ (st.3 ∙ bytes_are));
+      }
+
+  -- the events that it adds are asked for
+  pub outcome_moves : (request : Request) (served : Served) → Contains sent (Asks which session number request) → Outcome side session request served →
+      (served.side.history ≡ side.history) ⊎ ((event : Event) × IsAllowed side.history event × IsSoundEvent plans histories archive which event × (served.side.history ≡ side.history ++ event ∷ []))
+  outcome_moves request served asked (refuses r reason) = inl refl
+  outcome_moves _ served asked (begins_again pair e) = inl refl
+  outcome_moves _ served asked (begins pair a) = inr (Began session, a, (sound.asked which session number (Begin pair) asked).session_kept, refl)
+  outcome_moves _ served asked (lists path) = inl refl
+  outcome_moves _ served asked (lists_none path) = inl refl
+  outcome_moves _ served asked (fetches path since offset w q) = inl refl
+  outcome_moves _ served asked (stages_first item offset bytes z) = inl refl
+  outcome_moves _ served asked (stages_more item offset bytes staging s t at) = inl refl
+  outcome_moves _ served asked (stages_again item offset bytes) = inl refl
+  outcome_moves _ served asked (done_again item path since size e) = inl refl
+  outcome_moves _ served asked (replaces item path since size new reads at_token long within quiet a) =
+      inr (Replaced (token_of session item) path since new, a, replacement_is item path since size new asked reads at_token long within quiet, refl)
+
+  refused_true : (history : History) (n : ℕ) (request : Request) (reason : Refusal) → IsTrue history n request (Refused reason)
+  refused_true history n (Begin pair) reason = tt
+  refused_true history n (ListAt path) reason = tt
+  refused_true history n (Fetch path since offset) reason = tt
+  refused_true history n (Stage item offset bytes) reason = tt
+  refused_true history n (Replace item path since size) reason = tt
+
+  last_is : (o : Option Token) (token : Token) → option_map_or (λ last. is_same_token last token) o false ≡ true → o ≡ Some token
+  last_is None token e = absurd (true≢false (sym e))
+  last_is (Some last) token e = ap (λ t. Some t) (same_token last token e)
+
+  -- what it answers is true
+  pub outcome_true : (request : Request) (served : Served) → Contains sent (Asks which session number request) → Outcome side session request served → IsTrue served.side.history session request served.reply
+  outcome_true request served asked (refuses r reason) = refused_true side.history session request reason
+  outcome_true _ served asked (begins_again pair e) = subst (λ n. session ≤ n) e (omega arith)
+  outcome_true _ served asked (begins pair a) = subst (λ n. session ≤ n) (sym (fold_one 0 side.history (Began session))) (omega arith)
+  outcome_true _ served asked (lists path) = record { reached = omega arith; entries_there = ap (λ h. children (mark (tree_of h)) path) (sym (take-length side.history)) }
+  outcome_true _ served asked (lists_none path) = tt
+  outcome_true _ served asked (fetches path since offset w q) =
+      let at = quiet_same side.history since path q in
+      record { reached = w; whole = ap (λ t. length (spelling t)) at; bytes_there = ap (λ t. take 32768 (drop offset (spelling t))) at }
+  outcome_true _ served asked (stages_first item offset bytes z) = tt
+  outcome_true _ served asked (stages_more item offset bytes staging s t at) = tt
+  outcome_true _ served asked (stages_again item offset bytes) = tt
+  outcome_true _ served asked (done_again item path since size e) =
+      let by_plan = (sound.asked which session number (Replace item path since size) asked).by_plan in
+      let is = made plans histories archive sent sound session item by_plan.0 by_plan.1 in
+      let touched = sound.used which (token_of session item) by_plan.0 path (ap last_token (sym same) ∙ last_is (last_token side.history) (token_of session item) e) by_plan.1 by_plan.2 in
+      let within = since_reached plans histories archive sent sound session is.0 (plans session) is.1 item by_plan.0 which path by_plan.1 by_plan.2 which in (
+        subst (λ h. since ≤ length h) (sym same) (subst (λ k. k ≤ length (histories which)) (sym by_plan.3) within),
+        subst (λ h. is_quiet h since (length h) path ≡ false) (sym same) (subst (λ k. is_quiet (histories which) k (length (histories which)) path ≡ false) (sym by_plan.3) touched),
+      )
+  outcome_true _ served asked (replaces item path since size new reads at_token long within quiet a) =
+      (omega (arith, within, length-append side.history (Replaced (token_of session item) path since new ∷ [])), touched_now side.history (Replaced (token_of session item) path since new) since path within (path_meets_itself path))
+
+  piece_of : (item offset : ℕ) (bytes : Bytes) → Contains sent (Asks which session number (Stage item offset bytes)) → (planned : Planned) × (slice_get (plans session) item ≡ Some planned)
+      × ((seen_on planned (other which)).since ≤ length (histories (other which))) × (bytes ≡ take 32768 (drop offset (spelling (source_of histories which planned))))
+  piece_of item offset bytes asked =
+      let by_plan = (sound.asked which session number (Stage item offset bytes) asked).by_plan in
+      let planned = by_plan.0 in
+      let piece = by_plan.2.1 in
+      let true_piece : IsTruePiece (histories (other which)) (path_of planned.item) (seen_on planned (other which)).since offset by_plan.2.0 bytes =
+      sound.answered (other which) session piece.number (Piece by_plan.2.0 bytes) (Fetch (path_of planned.item) (seen_on planned (other which)).since offset) piece.answered piece.asked in
+      (planned, by_plan.1, true_piece.reached, true_piece.bytes_there)
+
+  -- what it stages was fetched
+  pub outcome_staging : (request : Request) (served : Served) → Contains sent (Asks which session number request) → Outcome side session request served → IfSome served.side.staging (IsSoundStaging plans histories which)
+  outcome_staging request served asked (refuses r reason) = staged
+  outcome_staging _ served asked (begins_again pair e) = staged
+  outcome_staging _ served asked (begins pair a) = staged
+  outcome_staging _ served asked (lists path) = staged
+  outcome_staging _ served asked (lists_none path) = staged
+  outcome_staging _ served asked (fetches path since offset w q) = staged
+  outcome_staging _ served asked (stages_first item offset bytes z) =
+      let piece = piece_of item offset bytes asked in
+      record { planned = piece.0; item = piece.1; reached = piece.2; begins = first_piece (spelling (source_of histories which piece.0)) bytes offset z piece.3 }
+  outcome_staging _ served asked (stages_more item offset bytes staging s t at) =
+      let piece = piece_of item offset bytes asked in
+      let had : IsSoundStaging plans histories which staging = subst (λ o. IfSome o (IsSoundStaging plans histories which)) s staged in
+      let item_is : slice_get (plans session) item ≡ Some had.planned = ap (λ t. slice_get (plans t.session) t.item) (same_token (token_of session item) staging.token t) ∙ had.item in
+      let same_planned : had.planned ≡ piece.0 = some_same (sym item_is ∙ piece.1) in
+      record {
+        planned = piece.0;
+        item = piece.1;
+        reached = piece.2;
+        begins = next_piece (spelling (source_of histories which piece.0)) staging.bytes bytes offset at (had.begins ∙ ap (λ d. take (length staging.bytes) (spelling (source_of histories which d))) same_planned) piece.3;
+      }
+  outcome_staging _ served asked (stages_again item offset bytes) = staged
+  outcome_staging _ served asked (done_again item path since size e) = staged
+  outcome_staging _ served asked (replaces item path since size new reads at_token long within quiet a) = staged
+
+-- Legal replacements
+
+not_false : (b : Bool) → not b ≡ false → b ≡ true
+not_false true e = refl
+not_false false e = absurd (true≢false e)
+
+pub current : (history : History) (token : Token) (path : Path) (since : ℕ) (new : Tree) → IsAllowed history (Replaced token path since new) → token.session ≡ last_session history
+current history token path since new a =
+    let rest = place_causes (tree_of history) path ++ (full_causes (replace (tree_of history) path new) ++ position_causes history) in
+    let one = (first_cause-none (is_old_token history token, OldSession) rest a.not_refused).0 in
+    let two = (both_false (token.session == 0 || not (token.session == last_session history)) (option_map_or (λ last. not (is_below last token)) (last_token history) false) one).0 in
+    let three = (both_false (token.session == 0) (not (token.session == last_session history)) two).1 in
+    same_number token.session (last_session history) (not_false _ three)
+
+-- a replacement by its session's plan is legal
+pub legal : (plans : Plans) (histories : Histories) (archive : Archive) (sent : Sent) → IsSound plans histories archive sent → (side : Which) (token : Token) (path : Path) (since : ℕ) (new : Tree) →
+    IsAllowed (histories side) (Replaced token path since new) → IsSoundReplacement plans histories side token path since new →
+    (stores : Stores) → ((s : Which) → history_of stores s ≡ histories s) → stores.archive ≡ archive → IsLegal sent side stores token path since new
+legal plans histories archive sent sound side token path since new allowed h stores at archive_is =
+    let is = made plans histories archive sent sound token.session token.item h.planned h.item in
+    let w = writes_of plans histories archive sent sound token.session is.0 (plans token.session) is.1 token.item h.planned side path h.item h.writes in
+    let above_is : parent path ≡ w.above = ap parent w.at ∙ parent-child w.above w.name in
+    let listed = λ (s : Which). subst (λ k. WasListed sent s token.session (parent path) k) (sym (w.since_is s)) (subst (λ q. WasListed sent s token.session q (is.1.since s w.above)) (sym above_is)
+    (children (is.1.scan s).marks w.above, (is.1.scanned s).listed w.above (w.above_is s).0 (w.above_is s).1)) in
+    record {
+      listed = subst (λ k. WasListed sent side token.session (parent path) k) (sym h.listed) (listed side);
+      untouched = ap (λ w. is_quiet w since (length w) path) (at side) ∙ h.quiet;
+      recorded = sym (mark-subtree (tree_of (history_of stores side)) path) ∙ (mark-subtree (tree_of (history_of stores side)) path ∙ (ap (λ w. subtree (mark (tree_of w)) path) (at side)
+          ∙ (sound.recorded token.session token.item h.planned side path h.item h.writes (current (histories side) token path since new allowed) (ap (λ k. is_quiet (histories side) k (length (histories side)) path) (sym h.listed) ∙ h.quiet)
+          ∙ ap (λ a. subtree a.marks path) (sym archive_is))));
+      source = record {
+        listed = (seen_on h.planned (other side)).since;
+        was_listed = listed (other side);
+        position = (seen_on h.planned (other side)).since;
+        not_before = omega arith;
+        reached = subst (λ w. (seen_on h.planned (other side)).since ≤ length w) (sym (at (other side))) h.reached;
+        held = h.whole ∙ (ap (λ p. part_at (histories (other side)) (seen_on h.planned (other side)).since p) (writes_path h.planned.item side path h.writes) ∙ ap (λ w. part_at w (seen_on h.planned (other side)).since path) (sym (at (other side))));
+      };
+    }

@@ -1,0 +1,237 @@
+-- What the items of a plan tell of the scans that it was made of, and of the histories.
+use Rattle.std.proofs.Common.{◌≡◌, ◌≤◌, ℕ, Bool, true, false, not, ◌&&◌, ◌||◌, List, [], ◌∷◌, ◌++◌, length, refl, sym, ap, ap₂, ◌∙◌, subst, Some, true≢false, append-nil, inl, inr, ◌⊎◌, if◌then◌else◌, slice_get}
+use Rattle.std.specs.Prelude.{All}
+use Rattle.std.proofs.lemmas.List.Elements.{Contains-append_left, All-get_or}
+use Rattle.std.proofs.lemmas.Option.{slice_get_within, get_or_from_slice_get}
+use Rattle.syn_model.specs.Path.{Name, Path, parent, child}
+use Rattle.syn_model.specs.Tree.{Tree, IsTree, subtree, is_directory, is_directory_content}
+use Rattle.syn_model.specs.Limits.{children}
+use Rattle.syn_model.specs.Dirty.{Scan, dirty, has_unstable, is_same_tree}
+use Rattle.syn_model.specs.Mark.{mark}
+use Rattle.syn_model.specs.History.{tree_of, is_quiet, last_session}
+use Rattle.syn_model.specs.Reconcile.{is_directory_in_both}
+use Rattle.syn_model.specs.Decision.{Item, ToLeft, ToRight, MarkSame, MarkDir, Conflict, Decision, Clean, Do, DoAndGoOn, GoOn, decision, is_unstable, path_of, GoesOn}
+use Rattle.syn_headline.specs.Side.{Request, Reply, Begin, ListAt, Fetch, Stage, Replace, Listed, Begun}
+use Rattle.syn_headline.specs.Network.{Which, Left, Right, Sent, Asks, Answers, WasAnswered}
+use Rattle.syn_model.specs.Archive.{Archive}
+use Rattle.syn_headline.specs.Planning.{Planned, seen_on, IsScanOf, IsPlannedFrom, IsPlanOf, WritesTo}
+use Rattle.syn_headline.specs.World.{IsOfPlan}
+use Rattle.syn_headline.specs.Invariant.{Plans, Histories, IsSound, IsTrueListing}
+use Rattle.syn_model.proofs.PathLemmas.{parent-append}
+use Rattle.syn_model.proofs.HistoryLemmas.{history-is_tree}
+use Rattle.syn_model.proofs.DirtyLemmas.{both_true, both_false, dirty-safe}
+use Rattle.syn_model.proofs.QuietLemmas.{ScansHistory, scan_is}
+
+-- What was answered stays so
+
+pub answered-more : (sent more : Sent) (side : Which) (session : ℕ) (request : Request) (reply : Reply) → WasAnswered sent side session request reply → WasAnswered (sent ++ more) side session request reply
+answered-more sent more side session request reply w = record {
+  number = w.number;
+  asked = Contains-append_left sent more (Asks side session w.number request) w.asked;
+  answered = Contains-append_left sent more (Answers side session w.number reply) w.answered;
+}
+
+pub of_plan-more : (sent more : Sent) (session : ℕ) (plan : List Planned) (to : Which) (request : Request) → IsOfPlan sent session plan to request → IsOfPlan (sent ++ more) session plan to request
+of_plan-more sent more session plan to (Begin pair) h = h
+of_plan-more sent more session plan to (ListAt path) h = h
+of_plan-more sent more session plan to (Fetch path since offset) h = h
+of_plan-more sent more session plan to (Stage item offset bytes) h = (h.0, h.1, (h.2.0, answered-more sent more _ _ _ _ h.2.1))
+of_plan-more sent more session plan to (Replace item path since size) h = (h.0, h.1, h.2, h.3, (h.4.0, h.4.1, answered-more sent more _ _ _ _ h.4.2))
+
+scan_of-more : (sent more : Sent) (side : Which) (session : ℕ) (scan : Scan) (since : Path → ℕ) → IsScanOf sent side session scan since → IsScanOf (sent ++ more) side session scan since
+scan_of-more sent more side session scan since h = record {
+  tree = h.tree;
+  listed = λ path d u. answered-more sent more _ _ _ _ (h.listed path d u);
+  ordered = h.ordered;
+  not_dir = λ path c. answered-more sent more _ _ _ _ (h.not_dir path c);
+  nothing_below = h.nothing_below;
+}
+
+pub plan_of-more : (sent more : Sent) (session : ℕ) (archive : Tree) (plan : List Planned) → IsPlanOf sent session archive plan → IsPlanOf (sent ++ more) session archive plan
+plan_of-more sent more session archive plan h = record {
+  scan = h.scan;
+  since = h.since;
+  begun = λ side. let b = h.begun side in record { pair = b.pair; position = b.position; begun = answered-more sent more _ _ _ _ b.begun };
+  scanned = λ side. scan_of-more sent more side session (h.scan side) (h.since side) (h.scanned side);
+  items = h.items;
+}
+
+-- What is decided
+
+abbrev pub decided_by : Bool → Bool → Bool → Bool → Bool → Bool → Bool → Path → Decision
+decided_by clean both unstable recorded same right left path =
+    if clean then Clean
+    else if both then (if unstable then Do (Conflict path) else if recorded then GoOn else DoAndGoOn (MarkDir path))
+    else if same then Do (MarkSame path)
+    else if right then Do (ToRight path)
+    else if left then Do (ToLeft path)
+    else Do (Conflict path)
+
+abbrev pub IsDecided : Decision → Item → Type 0
+IsDecided decision item = (decision ≡ Do item) ⊎ (decision ≡ DoAndGoOn item)
+
+-- an item that writes goes to a side that is clean, and stands at no directory of both
+to_right : (a b c d e f g : Bool) (p q : Path) → IsDecided (decided_by a b c d e f g p) (ToRight q) → (b ≡ false) × (f ≡ true)
+to_right true b c d e f g p q (inl x) = cc
+to_right true b c d e f g p q (inr x) = cc
+to_right false true true d e f g p q (inl x) = cc
+to_right false true true d e f g p q (inr x) = cc
+to_right false true false true e f g p q (inl x) = cc
+to_right false true false true e f g p q (inr x) = cc
+to_right false true false false e f g p q (inl x) = cc
+to_right false true false false e f g p q (inr x) = cc
+to_right false false c d true f g p q (inl x) = cc
+to_right false false c d true f g p q (inr x) = cc
+to_right false false c d false true g p q x = (refl, refl)
+to_right false false c d false false true p q (inl x) = cc
+to_right false false c d false false true p q (inr x) = cc
+to_right false false c d false false false p q (inl x) = cc
+to_right false false c d false false false p q (inr x) = cc
+
+to_left : (a b c d e f g : Bool) (p q : Path) → IsDecided (decided_by a b c d e f g p) (ToLeft q) → (b ≡ false) × (g ≡ true)
+to_left true b c d e f g p q (inl x) = cc
+to_left true b c d e f g p q (inr x) = cc
+to_left false true true d e f g p q (inl x) = cc
+to_left false true true d e f g p q (inr x) = cc
+to_left false true false true e f g p q (inl x) = cc
+to_left false true false true e f g p q (inr x) = cc
+to_left false true false false e f g p q (inl x) = cc
+to_left false true false false e f g p q (inr x) = cc
+to_left false false c d true f g p q (inl x) = cc
+to_left false false c d true f g p q (inr x) = cc
+to_left false false c d false true g p q (inl x) = cc
+to_left false false c d false true g p q (inr x) = cc
+to_left false false c d false false true p q x = (refl, refl)
+to_left false false c d false false false p q (inl x) = cc
+to_left false false c d false false false p q (inr x) = cc
+
+-- a plan goes on below what is a stable directory on both sides
+pub goes_on_below : (a b c d e f g : Bool) (p : Path) → GoesOn (decided_by a b c d e f g p) → (b ≡ true) × (c ≡ false)
+goes_on_below true b c d e f g p x = absurd x
+goes_on_below false true true d e f g p x = absurd x
+goes_on_below false true false d e f g p x = (refl, refl)
+goes_on_below false false c d true f g p x = absurd x
+goes_on_below false false c d false true g p x = absurd x
+goes_on_below false false c d false false true p x = absurd x
+goes_on_below false false c d false false false p x = absurd x
+
+not_to_false : (b : Bool) → not b ≡ true → b ≡ false
+not_to_false false e = refl
+not_to_false true e = absurd (true≢false (sym e))
+
+pub last_name : (n : Name) (p : Path) → (a : Path) × (m : Name) × (n ∷ p ≡ child a m)
+last_name n [] = ([], n, refl)
+last_name n (m ∷ p) = let rest = last_name m p in (n ∷ rest.0, rest.1, ap (λ w. n ∷ w) rest.2)
+
+pub parent-child : (a : Path) (n : Name) → parent (child a n) ≡ a
+parent-child a n = parent-append a n [] ∙ append-nil a
+
+pub planned_is : (scan : Which → Scan) (since : Which → Path → ℕ) (found : Tree) (plan : List Planned) (item : ℕ) (planned : Planned) → All (IsPlannedFrom scan since found) plan → slice_get plan item ≡ Some planned → IsPlannedFrom scan since found planned
+planned_is scan since found plan item planned all e =
+    subst (IsPlannedFrom scan since found) (get_or_from_slice_get plan item planned planned e) (All-get_or (IsPlannedFrom scan since found) plan item planned (slice_get_within plan item planned e) all)
+
+pub writes_path : (item : Item) (side : Which) (path : Path) → WritesTo item side path → path_of item ≡ path
+writes_path (ToLeft at) Left path w = w
+writes_path (ToRight at) Right path w = w
+writes_path (ToLeft at) Right path w = absurd w
+writes_path (ToRight at) Left path w = absurd w
+writes_path (MarkSame at) side path w = absurd w
+writes_path (MarkDir at) side path w = absurd w
+writes_path (Conflict at) side path w = absurd w
+
+-- an item that writes is decided where no directory stands on both, and the side that it writes is clean
+pub writes_clean : (l r : Scan) (o : Tree) (p : Path) (item : Item) (side : Which) (path : Path) (scan : Which → Scan) → scan Left ≡ l → scan Right ≡ r → WritesTo item side path → IsDecided (decision l r o p) item →
+    (is_directory_in_both l.marks r.marks p ≡ false) × (dirty (scan side) o p ≡ false)
+writes_clean l r o p (ToLeft at) Left path scan el er w d =
+    let both = to_left (not (dirty l o p || dirty r o p)) (is_directory_in_both l.marks r.marks p) (is_unstable l p || is_unstable r p) (is_directory o p) (is_same_tree (subtree l.marks p) (subtree r.marks p)) (not (dirty r o p)) (not (dirty l o p)) p at d in
+    (both.0, ap (λ s. dirty s o p) el ∙ not_to_false _ both.1)
+writes_clean l r o p (ToRight at) Right path scan el er w d =
+    let both = to_right (not (dirty l o p || dirty r o p)) (is_directory_in_both l.marks r.marks p) (is_unstable l p || is_unstable r p) (is_directory o p) (is_same_tree (subtree l.marks p) (subtree r.marks p)) (not (dirty r o p)) (not (dirty l o p)) p at d in
+    (both.0, ap (λ s. dirty s o p) er ∙ not_to_false _ both.1)
+writes_clean l r o p (ToLeft at) Right path scan el er w d = absurd w
+writes_clean l r o p (ToRight at) Left path scan el er w d = absurd w
+writes_clean l r o p (MarkSame at) side path scan el er w d = absurd w
+writes_clean l r o p (MarkDir at) side path scan el er w d = absurd w
+writes_clean l r o p (Conflict at) side path scan el er w d = absurd w
+
+-- what a directory of both scans that a plan goes on below is on each side
+pub goes_on_at : (scan : Which → Scan) (o : Tree) (p : Path) → GoesOn (decision (scan Left) (scan Right) o p) → (side : Which) → (is_directory (scan side).marks p ≡ true) × (is_unstable (scan side) p ≡ false)
+goes_on_at scan o p g side =
+    let l = scan Left in
+    let r = scan Right in
+    let both = goes_on_below (not (dirty l o p || dirty r o p)) (is_directory_in_both l.marks r.marks p) (is_unstable l p || is_unstable r p) (is_directory o p) (is_same_tree (subtree l.marks p) (subtree r.marks p)) (not (dirty r o p)) (not (dirty l o p)) p g in
+    let ds = both_true (is_directory l.marks p) (is_directory r.marks p) both.0 in
+    let us = both_false (is_unstable l p) (is_unstable r p) both.1 in
+    elim side as (λ side. (is_directory (scan side).marks p ≡ true) × (is_unstable (scan side) p ≡ false)) [ Left ↦ (ds.0, us.0) | Right ↦ (ds.1, us.1) ]
+
+-- what is known of an item that writes
+pub record Writes (scan : Which → Scan) (since : Which → Path → ℕ) (found : Tree) (planned : Planned) (side : Which) (path : Path) : Type 0 where
+  pub above : Path
+  pub name : Name
+  pub at : path ≡ child above name
+  pub above_is : (s : Which) → (is_directory (scan s).marks above ≡ true) × (is_unstable (scan s) above ≡ false)
+  pub since_is : (s : Which) → (seen_on planned s).since ≡ since s above
+  pub marks_are : (s : Which) → (seen_on planned s).marks ≡ subtree (scan s).marks path
+  pub clean : dirty (scan side) found path ≡ false
+
+root_is_directory : (t : Tree) → IsTree t → is_directory t [] ≡ true
+root_is_directory t h = ap is_directory_content h.rooted
+
+writes_at : (scan : Which → Scan) (since : Which → Path → ℕ) (found : Tree) (planned : Planned) (side : Which) (path : Path) → ((s : Which) → IsTree (scan s).marks) →
+    IsPlannedFrom scan since found planned → WritesTo planned.item side path → path_of planned.item ≡ path → Writes scan since found planned side path
+writes_at scan since found planned side [] trees from w e =
+    let clean = writes_clean (scan Left) (scan Right) found (path_of planned.item) planned.item side [] scan refl refl w from.decided in
+    absurd (true≢false (sym (ap₂ (λ a b. a && b) (root_is_directory (scan Left).marks (trees Left)) (root_is_directory (scan Right).marks (trees Right))) ∙ (ap (is_directory_in_both (scan Left).marks (scan Right).marks) (sym e) ∙ clean.0)))
+writes_at scan since found planned side (n ∷ p) trees from w e =
+    let clean = writes_clean (scan Left) (scan Right) found (path_of planned.item) planned.item side (n ∷ p) scan refl refl w from.decided in
+    let split = last_name n p in
+    record {
+      above = split.0;
+      name = split.1;
+      at = split.2;
+      above_is = goes_on_at scan found split.0 (from.reached split.0 split.1 [] (e ∙ split.2));
+      since_is = λ s. (from.seen s).1 ∙ ap (since s) (ap parent (e ∙ split.2) ∙ parent-child split.0 split.1);
+      marks_are = λ s. (from.seen s).0 ∙ ap (subtree (scan s).marks) e;
+      clean = ap (dirty (scan side) found) (sym e) ∙ clean.1;
+    }
+
+module _ (plans : Plans) (histories : Histories) (archive : Archive) (sent : Sent) (sound : IsSound plans histories archive sent) where
+  -- a scan of a session shows its side's history
+  pub scans : (side : Which) (session : ℕ) (scan : Scan) (since : Path → ℕ) → IsScanOf sent side session scan since → ScansHistory scan since (histories side)
+  scans side session scan since h = record {
+    tree = h.tree;
+    history_tree = history-is_tree (histories side) (sound.lawful side);
+    listed = λ path d u. let w = h.listed path d u in
+        let true_one : IsTrueListing (histories side) path (since path) (children scan.marks path) = sound.answered side session w.number (Listed (since path) (children scan.marks path)) (ListAt path) w.answered w.asked in
+        true_one.entries_there;
+    ordered = h.ordered;
+  }
+
+  pub listing_reached : (side : Which) (session : ℕ) (scan : Scan) (since : Path → ℕ) → IsScanOf sent side session scan since → (path : Path) → is_directory scan.marks path ≡ true → is_unstable scan path ≡ false → since path ≤ length (histories side)
+  listing_reached side session scan since h path d u =
+      let w = h.listed path d u in
+      let true_one : IsTrueListing (histories side) path (since path) (children scan.marks path) = sound.answered side session w.number (Listed (since path) (children scan.marks path)) (ListAt path) w.answered w.asked in
+      true_one.reached
+
+  module _ (session : ℕ) (found : Tree) (plan : List Planned) (is : IsPlanOf sent session found plan) where
+    pub fenced : (side : Which) → session ≤ last_session (histories side)
+    fenced side = let b = is.begun side in sound.answered side session b.begun.number (Begun b.position) (Begin b.pair) b.begun.answered b.begun.asked
+
+    module _ (item : ℕ) (planned : Planned) (side : Which) (path : Path) (e : slice_get plan item ≡ Some planned) (w : WritesTo planned.item side path) where
+      pub writes_of : Writes is.scan is.since found planned side path
+      writes_of = writes_at is.scan is.since found planned side path (λ s. (is.scanned s).tree) (planned_is is.scan is.since found plan item planned is.items e) w (writes_path planned.item side path w)
+
+      pub since_reached : (s : Which) → (seen_on planned s).since ≤ length (histories s)
+      since_reached s =
+          let at = writes_of in
+          subst (λ k. k ≤ length (histories s)) (sym (at.since_is s)) (listing_reached s session (is.scan s) (is.since s) (is.scanned s) at.above (at.above_is s).0 (at.above_is s).1)
+
+      -- the path that an item writes has what was found in the archive, as long as nothing touched it
+      pub target_is : is_quiet (histories side) (seen_on planned side).since (length (histories side)) path ≡ true → subtree (mark (tree_of (histories side))) path ≡ subtree found path
+      target_is quiet =
+          let at = writes_of in
+          let c = both_false (not (is_same_tree (subtree (is.scan side).marks path) (subtree found path))) (has_unstable (is.scan side) path) at.clean in
+          let seen = scan_is (is.scan side) (is.since side) (histories side) (scans side session (is.scan side) (is.since side) (is.scanned side)) at.above at.name (at.above_is side).0 (at.above_is side).1
+          (ap (has_unstable (is.scan side)) (sym at.at) ∙ c.1)
+          (ap₂ (λ k p. is_quiet (histories side) k (length (histories side)) p) (sym (at.since_is side)) (sym at.at) ∙ quiet) in
+          subst (λ p. subtree (mark (tree_of (histories side))) p ≡ subtree (is.scan side).marks p) (sym at.at) (sym seen) ∙ dirty-safe (is.scan side) found path at.clean

@@ -1,0 +1,19 @@
+-- The worked examples of a side hold.
+use Rattle.std.proofs.Common.{refl}
+use Rattle.syn_headline.specs.Rows.{SideRows}
+
+pub side_rows : SideRows
+side_rows = record {
+  begins = refl;
+  begins_again = refl;
+  wrong_pair = refl;
+  earlier = refl;
+  stages = refl;
+  stages_again = refl;
+  gap = refl;
+  wrong_length = refl;
+  next_from_middle = refl;
+  next_stages = refl;
+  older = refl;
+  not_staged = refl;
+}

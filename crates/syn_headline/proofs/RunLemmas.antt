@@ -1,0 +1,554 @@
+-- Each step of a run keeps the invariant, and each replacement is legal.
+use Rattle.std.proofs.Common.{◌≡◌, ◌≤◌, ◌+◌, ℕ, Bool, List, [], ◌∷◌, ◌++◌, refl, sym, ap, ap₂, ◌∙◌, subst, Option, Some, None, append-nil, arith, inl, inr, ◌⊎◌, slice_get, ◌≢◌, map}
+use Rattle.std.specs.Prelude.{Contains, IfSome, IsSomeAnd}
+use Rattle.std.proofs.lemmas.List.{append_cancel_left}
+use Rattle.std.proofs.lemmas.List.Elements.{Contains-get_or}
+use Rattle.std.proofs.lemmas.Option.{slice_get_within, get_or_from_slice_get}
+use Rattle.syn_model.specs.Path.{Path}
+use Rattle.syn_model.specs.Tree.{Tree}
+use Rattle.syn_model.specs.Refusal.{Refusal, Device}
+use Rattle.syn_model.specs.Event.{Token, Edit, Event, Edited, Began, Replaced}
+use Rattle.syn_model.specs.History.{History, IsHistory, IsAllowed, last_session}
+use Rattle.syn_model.specs.Archive.{Kept, Session, CanKeep, after_kept}
+use Rattle.syn_headline.specs.Side.{Side, Served, Request, Begin, ListAt, Fetch, Stage, Replace, Reply, Refused, IsLawfulRequest}
+use Rattle.syn_headline.specs.Network.{Which, Left, Right, other, Sent, Message, Asks, Answers}
+use Rattle.syn_headline.specs.Planning.{Planned}
+use Rattle.syn_headline.specs.Acknowledged.{Ack, Happened, Kept_by, Stores, stores_after, history_of, IsLegal}
+use Rattle.syn_headline.specs.World.{Status, Up, Halted, Down, Machine, At, Coordinator, World, SideMachine, CoordinatorMachine, Running, Outstanding, outstanding, side_of, set_side, stopped, Step, Edits, Start, Deliver, Tick, Checkpoint, Fail, Stop, Open, Reopen, Writes, written, failed, cut, DoesEdit, edit_refused, edit_written, Opens, opened, recovered, not_opened, not_reopened, OpensArchive, archive_opened, archive_recovered, archive_not_opened, archive_not_reopened, ServesAs, serve_halted, WouldAdd, TakesRequest, answered, request_failed, request_cut, side_down, IsDueAfter, IsExpected, HasPlan, GoesOnAs, ended, goes_on, GoesOnFrom, plan_of, StartsFrom, RunsOver, IsNext, IsNothing, CoordinatorGoes, TakesAnswer, taken, ignored, coordinator_down, Delivers, OpensMachine, cut_off, halted, Steps, Runs}
+use Rattle.syn_headline.specs.Headline.{stores_of, IsStart, EachReplacementIsLegal, StandsFor, RunsReplaceLegally, RunsUseTokensOnce}
+use Rattle.syn_headline.specs.Invariant.{Plans, Histories, histories_of, IsSound, IsTrue, IsFresh, IsHarmless, IsSoundStaging, IsSoundEvent, IsSoundSide, IsSoundCoordinator, IsKept, SpellingsTell}
+use Rattle.syn_model.proofs.PathLemmas.{none_some}
+use Rattle.syn_headline.proofs.PlanLemmas.{answered-more}
+use Rattle.syn_headline.proofs.SoundLemmas.{set_plan, set_plan-grows, set_plan-here, sound-plan, sound-keep, kept_session}
+use Rattle.syn_headline.proofs.OutcomeLemmas.{Outcome, refuses, stages_first, stages_more, stages_again, any_outcome, outcome, halted_outcome}
+use Rattle.syn_headline.proofs.MoveLemmas.{on_both, outcome_moves, outcome_true, outcome_staging, legal}
+use Rattle.syn_headline.proofs.HarmlessLemmas.{due_harmless}
+use Rattle.syn_headline.proofs.StepLemmas.{if_some, Says, nothing, reply, SideStep, side_keeps, coordinator_keeps, next_fresh, sides-later, sides-plan}
+use Rattle.syn_headline.proofs.TokenLemmas.{token_once}
+use Rattle.syn_headline.proofs.WorldLemmas.{step_stands}
+
+-- each acknowledged replacement of a step is the first of its events, and legal
+abbrev pub IsLegalStep : World → List Ack → Type 0
+IsLegalStep old acks = (earlier later : List Ack) (side : Which) (token : Token) (path : Path) (since : ℕ) (u : Tree) → acks ≡ earlier ++ Happened side (Replaced token path since u) ∷ later →
+    (earlier ≡ []) × IsLegal old.sent side (stores_of old) token path since u
+
+pub record Advances (old new : World) : Type 0 where
+  pub plans : Plans
+  pub kept : IsKept plans new
+  pub messages : Sent
+  pub sends : new.sent ≡ old.sent ++ messages
+  pub acks : List Ack
+  pub acknowledges : new.acknowledged ≡ old.acknowledged ++ acks
+  pub legal_step : IsLegalStep old acks
+
+not_nothing : (earlier later : List Ack) (a : Ack) → [] ≡ earlier ++ a ∷ later → ⊥
+not_nothing [] later a e = cc
+not_nothing (b ∷ earlier) later a e = cc
+
+none_legal : (old : World) → IsLegalStep old []
+none_legal old earlier later side token path since u e = absurd (not_nothing earlier later _ e)
+
+kept_only : (ks : List Kept) (earlier later : List Ack) (side : Which) (event : Event) → map (λ k. Kept_by k) ks ≡ earlier ++ Happened side event ∷ later → ⊥
+kept_only [] earlier later side event e = not_nothing earlier later _ e
+kept_only (k ∷ ks) [] later side event e = cc
+kept_only (k ∷ ks) (b ∷ earlier) later side event e = kept_only ks earlier later side event (let t : map (λ k. Kept_by k) ks ≡ earlier ++ Happened side event ∷ later = cc in t)
+
+kept_legal : (old : World) (ks : List Kept) → IsLegalStep old (map (λ k. Kept_by k) ks)
+kept_legal old ks earlier later side token path since u e = absurd (kept_only ks earlier later side _ e)
+
+stays : (plans : Plans) (old new : World) → IsKept plans old → new ≡ old → Advances old new
+stays plans old new k e = record {
+  plans = plans;
+  kept = subst (IsKept plans) (sym e) k;
+  messages = [];
+  sends = ap (λ w. w.sent) e ∙ sym (append-nil old.sent);
+  acks = [];
+  acknowledges = ap (λ w. w.acknowledged) e ∙ sym (append-nil old.acknowledged);
+  legal_step = none_legal old;
+}
+
+-- A side
+
+-- the events that a side adds: none, or one that is allowed and that its session's plan asks for
+pub data Adds (plans : Plans) (old : World) (which : Which) (history : History) : List Event → Type 0 where
+  no_event : history ≡ histories_of old which → Adds plans old which history []
+  one_event : (event : Event) → IsAllowed (histories_of old which) event → IsSoundEvent plans (histories_of old) old.coordinator.archive which event → history ≡ histories_of old which ++ event ∷ [] → Adds plans old which history (event ∷ [])
+
+moves_of : (plans : Plans) (old : World) (which : Which) (history : History) (events : List Event) → Adds plans old which history events →
+    (history ≡ histories_of old which) ⊎ ((event : Event) × IsAllowed (histories_of old which) event × IsSoundEvent plans (histories_of old) old.coordinator.archive which event × (history ≡ histories_of old which ++ event ∷ []))
+moves_of plans old which history _ (no_event e) = inl e
+moves_of plans old which history _ (one_event event a s e) = inr (event, a, s, e)
+
+stores_history : (w : World) (s : Which) → history_of (stores_of w) s ≡ histories_of w s
+stores_history w Left = refl
+stores_history w Right = refl
+
+event_legal : (plans : Plans) (old : World) → IsKept plans old → (which : Which) (event : Event) → IsAllowed (histories_of old which) event → IsSoundEvent plans (histories_of old) old.coordinator.archive which event →
+    (side : Which) (token : Token) (path : Path) (since : ℕ) (u : Tree) → Happened which event ≡ Happened side (Replaced token path since u) → IsLegal old.sent side (stores_of old) token path since u
+event_legal plans old k which (Edited user edit) a s side token path since u e = absurd (let x : Edited user edit ≡ Replaced token path since u = cc in cc)
+event_legal plans old k which (Began session) a s side token path since u e = absurd (let x : Began session ≡ Replaced token path since u = cc in cc)
+event_legal plans old k which (Replaced token' path' since' u') a s side token path since u e =
+    let e0 : which ≡ side = cc in
+    let e1 : token' ≡ token = cc in
+    let e2 : path' ≡ path = cc in
+    let e3 : since' ≡ since = cc in
+    let e4 : u' ≡ u = cc in
+    subst (λ v. IsLegal old.sent side (stores_of old) token path since v) e4 (subst (λ v. IsLegal old.sent side (stores_of old) token path v u') e3 (subst (λ v. IsLegal old.sent side (stores_of old) token v since' u') e2
+    (subst (λ v. IsLegal old.sent side (stores_of old) v path' since' u') e1 (subst (λ v. IsLegal old.sent v (stores_of old) token' path' since' u') e0
+    (legal plans (histories_of old) old.coordinator.archive old.sent k.sound which token' path' since' u' a s (stores_of old) (stores_history old) refl)))))
+
+adds_legal : (plans : Plans) (old : World) → IsKept plans old → (which : Which) (history : History) (events : List Event) → Adds plans old which history events → IsLegalStep old (map (λ event. Happened which event) events)
+adds_legal plans old k which history _ (no_event e) earlier later side token path since u same = none_legal old earlier later side token path since u same
+adds_legal plans old k which history _ (one_event event a s e) [] later side token path since u same = (refl, event_legal plans old k which event a s side token path since u (let x : Happened which event ≡ Happened side (Replaced token path since u) = cc in x))
+adds_legal plans old k which history _ (one_event event a s e) (b ∷ earlier) later side token path since u same = absurd (not_nothing earlier later (Happened side (Replaced token path since u)) (let x : [] ≡ earlier ++ Happened side (Replaced token path since u) ∷ later = cc in x))
+
+abbrev next : World → Which → SideMachine → Sent → List Ack → World
+next old which machine sent acks = record (set_side old which machine) { sent = sent; acknowledged = acks }
+
+next_here : (old : World) (which : Which) (machine : SideMachine) (sent : Sent) (acks : List Ack) → side_of (next old which machine sent acks) which ≡ machine
+next_here old Left machine sent acks = refl
+next_here old Right machine sent acks = refl
+
+next_there : (old : World) (which : Which) (machine : SideMachine) (sent : Sent) (acks : List Ack) → side_of (next old which machine sent acks) (other which) ≡ side_of old (other which)
+next_there old Left machine sent acks = refl
+next_there old Right machine sent acks = refl
+
+next_coordinator : (old : World) (which : Which) (machine : SideMachine) (sent : Sent) (acks : List Ack) → (next old which machine sent acks).coordinator ≡ old.coordinator
+next_coordinator old Left machine sent acks = refl
+next_coordinator old Right machine sent acks = refl
+
+next_sent : (old : World) (which : Which) (machine : SideMachine) (sent : Sent) → record (set_side old which machine) { sent = sent } ≡ next old which machine sent old.acknowledged
+next_sent old Left machine sent = refl
+next_sent old Right machine sent = refl
+
+next_same : (old : World) (which : Which) (machine : SideMachine) → set_side old which machine ≡ next old which machine old.sent old.acknowledged
+next_same old Left machine = refl
+next_same old Right machine = refl
+
+abbrev IsWritten : Plans → World → Which → SideMachine → Type 0
+IsWritten plans old which machine = IfSome machine.writing (λ event. (machine.status ≢ Up) × IsSoundEvent plans (histories_of old) old.coordinator.archive which event × (machine.side.history ≡ histories_of old which))
+
+side_advances : (plans : Plans) (old : World) → IsKept plans old → (which : Which) (machine : SideMachine) (messages : Sent) (events : List Event) (new : World) → Adds plans old which machine.side.history events →
+    IfSome machine.side.staging (IsSoundStaging plans (histories_of old) which) → IsWritten plans old which machine → Says old.sent which machine.side.history messages →
+    new ≡ next old which machine (old.sent ++ messages) (old.acknowledged ++ map (λ event. Happened which event) events) → Advances old new
+side_advances plans old k which machine messages events new adds staged writing says e =
+    let says_now = old.sent ++ messages in
+    let acks_now = old.acknowledged ++ map (λ event. Happened which event) events in
+    let n = next old which machine says_now acks_now in
+    let step : SideStep plans old n which machine messages = record {
+      here = next_here old which machine says_now acks_now;
+      there = next_there old which machine says_now acks_now;
+      coordinator = next_coordinator old which machine says_now acks_now;
+      sent = refl;
+      moves = moves_of plans old which machine.side.history events adds;
+      staged = staged;
+      writing = writing;
+      says = says;
+    } in
+    record {
+      plans = plans;
+      kept = subst (IsKept plans) (sym e) (side_keeps plans old n k which machine messages step);
+      messages = messages;
+      sends = ap (λ w. w.sent) e;
+      acks = map (λ event. Happened which event) events;
+      acknowledges = ap (λ w. w.acknowledged) e;
+      legal_step = adds_legal plans old k which machine.side.history events adds;
+    }
+
+-- with no event and nothing said
+side_settles : (plans : Plans) (old : World) → IsKept plans old → (which : Which) (machine : SideMachine) (new : World) → machine.side.history ≡ histories_of old which →
+    IfSome machine.side.staging (IsSoundStaging plans (histories_of old) which) → IsWritten plans old which machine → new ≡ next old which machine old.sent old.acknowledged → Advances old new
+side_settles plans old k which machine new h staged writing e =
+    side_advances plans old k which machine [] [] new (no_event h) staged writing nothing (e ∙ ap₂ (λ s a. next old which machine s a) (sym (append-nil old.sent)) (sym (append-nil old.acknowledged)))
+
+was_written : (plans : Plans) (old : World) → IsKept plans old → (which : Which) (status : Status) → (((side_of old which).status ≢ Up) → status ≢ Up) → (side : Side) → side.history ≡ histories_of old which →
+    IsWritten plans old which (record { status = status; side = side; writing = (side_of old which).writing })
+was_written plans old k which status keeps side h = if_some (side_of old which).writing (λ event. ((side_of old which).status ≢ Up) × IsSoundEvent plans (histories_of old) old.coordinator.archive which event)
+    (λ event. (status ≢ Up) × IsSoundEvent plans (histories_of old) old.coordinator.archive which event × (side.history ≡ histories_of old which)) (k.sides which).writing (λ event _ x. (keeps x.0, x.1, h))
+
+down_not_up : Down ≢ Up
+down_not_up e = cc
+
+halted_not_up : Halted ≢ Up
+halted_not_up e = cc
+
+writes_advances : (plans : Plans) (old : World) → IsKept plans old → (which : Which) (event : Event) → IsAllowed (histories_of old which) event → IsSoundEvent plans (histories_of old) old.coordinator.archive which event →
+    (machine : SideMachine) (events : List Event) (new : World) → (side_of old which).status ≡ Up → Writes (side_of old which) event machine events →
+    new ≡ next old which machine (old.sent ++ []) (old.acknowledged ++ map (λ event. Happened which event) events) → Advances old new
+writes_advances plans old k which event a s _ _ new up written e =
+    side_advances plans old k which _ [] (event ∷ []) new (one_event event a s refl) (k.sides which).staged
+    (if_some (side_of old which).writing (λ event. ((side_of old which).status ≢ Up) × IsSoundEvent plans (histories_of old) old.coordinator.archive which event) _ (k.sides which).writing (λ other_event _ x. absurd (x.0 up))) nothing e
+writes_advances plans old k which event a s _ _ new up failed e = side_advances plans old k which _ [] [] new (no_event refl) (k.sides which).staged (halted_not_up, s, refl) nothing e
+writes_advances plans old k which event a s _ _ new up cut e = side_advances plans old k which _ [] [] new (no_event refl) tt (down_not_up, s, refl) nothing e
+
+edit_advances : (plans : Plans) (old : World) → IsKept plans old → (which : Which) (user : ℕ) (edit : Edit) (machine : SideMachine) (events : List Event) (new : World) → DoesEdit (side_of old which) user edit machine events →
+    new ≡ next old which machine (old.sent ++ []) (old.acknowledged ++ map (λ event. Happened which event) events) → Advances old new
+edit_advances plans old k which user edit _ _ new edit_refused e =
+    side_advances plans old k which (side_of old which) [] [] new (no_event refl) (k.sides which).staged (was_written plans old k which (side_of old which).status (λ x. x) (side_of old which).side refl) nothing e
+edit_advances plans old k which user edit _ _ new (edit_written machine events up a w) e = writes_advances plans old k which (Edited user edit) a tt machine events new up w e
+
+opens_advances : (plans : Plans) (old : World) → IsKept plans old → (which : Which) (machine : SideMachine) (events : List Event) (new : World) → Opens (side_of old which) machine events →
+    new ≡ next old which machine (old.sent ++ []) (old.acknowledged ++ map (λ event. Happened which event) events) → Advances old new
+opens_advances plans old k which _ _ new opened e = side_advances plans old k which _ [] [] new (no_event refl) (k.sides which).staged tt nothing e
+opens_advances plans old k which _ _ new (recovered event w a) e =
+    let s : ((side_of old which).status ≢ Up) × IsSoundEvent plans (histories_of old) old.coordinator.archive which event =
+    subst (λ o. IfSome o (λ event. ((side_of old which).status ≢ Up) × IsSoundEvent plans (histories_of old) old.coordinator.archive which event)) w (k.sides which).writing in
+    side_advances plans old k which _ [] (event ∷ []) new (one_event event a s.1 refl) (k.sides which).staged tt nothing e
+opens_advances plans old k which _ _ new not_opened e =
+    side_advances plans old k which (side_of old which) [] [] new (no_event refl) (k.sides which).staged (was_written plans old k which (side_of old which).status (λ x. x) (side_of old which).side refl) nothing e
+opens_advances plans old k which _ _ new (not_reopened up) e =
+    side_advances plans old k which _ [] [] new (no_event refl) (k.sides which).staged (was_written plans old k which Halted (λ _. halted_not_up) (side_of old which).side refl) nothing e
+
+stage_same : (side : Side) (session item offset : ℕ) (bytes : List ℕ) (served : Served) → Outcome side session (Stage item offset bytes) served → served.side.history ≡ side.history
+stage_same side session item offset bytes _ (refuses _ reason) = refl
+stage_same side session item offset bytes _ (stages_first _ _ _ z) = refl
+stage_same side session item offset bytes _ (stages_more _ _ _ staging s t at) = refl
+stage_same side session item offset bytes _ (stages_again _ _ _) = refl
+
+halted_same : (side : Side) (session : ℕ) (request : Request) → (serve_halted side session request).side.history ≡ side.history
+halted_same side session (Begin pair) = refl
+halted_same side session (ListAt path) = refl
+halted_same side session (Fetch path since offset) = refl
+halted_same side session (Stage item offset bytes) = stage_same side session item offset bytes _ (halted_outcome side session (Stage item offset bytes))
+halted_same side session (Replace item path since size) = refl
+
+unless_up_same : (status : Status) → status ≢ Up → (pair : ℕ) (has_room : Event → Bool) (side : Side) (session : ℕ) (request : Request) (served : Served) → ServesAs status pair has_room side session request served → served.side.history ≡ side.history
+unless_up_same Up h pair has_room side session request served s = absurd (h refl)
+unless_up_same Halted h pair has_room side session request served s = ap (λ x. x.side.history) s ∙ halted_same side session request
+unless_up_same Down h pair has_room side session request served s = absurd s
+
+pub refused_is_true : (history : History) (n : ℕ) (request : Request) (reason : Refusal) → IsTrue history n request (Refused reason)
+refused_is_true history n (Begin pair) reason = tt
+refused_is_true history n (ListAt path) reason = tt
+refused_is_true history n (Fetch path since offset) reason = tt
+refused_is_true history n (Stage item offset bytes) reason = tt
+refused_is_true history n (Replace item path since size) reason = tt
+
+longer : (h : History) (event : Event) → h ≡ h ++ event ∷ [] → ⊥
+longer h event e = let x : [] ≡ event ∷ [] = append_cancel_left h [] (event ∷ []) (append-nil h ∙ e) in cc
+
+module _ (tells : SpellingsTell) (plans : Plans) (old : World) (k : IsKept plans old) (which : Which) (session number : ℕ) (request : Request) (asked : Contains old.sent (Asks which session number request)) where
+  lawful : IsLawfulRequest request
+  lawful = (k.sound.asked which session number request asked).lawful
+
+  events_are : (served : Served) (events : List Event) → served.side.history ≡ histories_of old which ++ events →
+      (served.side.history ≡ histories_of old which) ⊎ ((event : Event) × IsAllowed (histories_of old which) event × IsSoundEvent plans (histories_of old) old.coordinator.archive which event × (served.side.history ≡ histories_of old which ++ event ∷ [])) →
+      Adds plans old which served.side.history events
+  events_are served events added (inl e) =
+      let none : [] ≡ events = append_cancel_left (histories_of old which) [] events (append-nil (histories_of old which) ∙ (sym e ∙ added)) in
+      subst (Adds plans old which served.side.history) none (no_event e)
+  events_are served events added (inr a) =
+      let one : a.0 ∷ [] ≡ events = append_cancel_left (histories_of old which) (a.0 ∷ []) events (sym a.3 ∙ added) in
+      subst (Adds plans old which served.side.history) one (one_event a.0 a.1 a.2 a.3)
+
+  would_sound : (event : Event) → WouldAdd old.pair (side_of old which).side session request event → IsSoundEvent plans (histories_of old) old.coordinator.archive which event
+  would_sound event w =
+      let o = outcome old.pair w.has_room (side_of old which).side session request w.served lawful w.serves in
+      elim (outcome_moves tells plans old.coordinator.archive old.sent (histories_of old) k.sound which (side_of old which).side refl (k.sides which).staged session number request w.served asked o) as (λ _. IsSoundEvent plans (histories_of old) old.coordinator.archive which event) [
+        | inl e ↦ absurd (longer (histories_of old which) event (sym e ∙ w.adds))
+        | inr a ↦
+            let one : a.0 ∷ [] ≡ event ∷ [] = append_cancel_left (histories_of old which) (a.0 ∷ []) (event ∷ []) (sym a.3 ∙ w.adds) in
+            let same : a.0 ≡ event = cc in
+            subst (IsSoundEvent plans (histories_of old) old.coordinator.archive which) same a.2
+      ]
+
+  pub request_advances : (new : World) → TakesRequest old which session number request new → Advances old new
+  request_advances new (answered a) =
+      let o = any_outcome (side_of old which).status old.pair a.has_room (side_of old which).side session request a.served lawful a.serves in
+      let moves = outcome_moves tells plans old.coordinator.archive old.sent (histories_of old) k.sound which (side_of old which).side refl (k.sides which).staged session number request a.served asked o in
+      side_advances plans old k which (record (side_of old which) { side = a.served.side }) (Answers which session number a.served.reply ∷ []) a.events new (events_are a.served a.events a.added moves)
+      (outcome_staging tells plans old.coordinator.archive old.sent (histories_of old) k.sound which (side_of old which).side refl (k.sides which).staged session number request a.served asked o)
+      (if_some (side_of old which).writing (λ event. ((side_of old which).status ≢ Up) × IsSoundEvent plans (histories_of old) old.coordinator.archive which event)
+      (λ event. ((side_of old which).status ≢ Up) × IsSoundEvent plans (histories_of old) old.coordinator.archive which event × (a.served.side.history ≡ histories_of old which)) (k.sides which).writing
+      (λ event _ x. (x.0, x.1, unless_up_same (side_of old which).status x.0 old.pair a.has_room (side_of old which).side session request a.served a.serves)))
+      (reply session number request a.served.reply asked (outcome_true tells plans old.coordinator.archive old.sent (histories_of old) k.sound which (side_of old which).side refl (k.sides which).staged session number request a.served asked o))
+      a.result
+  request_advances new (request_failed f) =
+      side_advances plans old k which (record (side_of old which) { status = Halted; writing = Some f.event }) (Answers which session number (Refused Device) ∷ []) [] new (no_event refl) (k.sides which).staged
+      (halted_not_up, would_sound f.event f.would, refl)
+      (reply session number request (Refused Device) asked (refused_is_true (histories_of old which) session request Device))
+      (f.result ∙ (next_sent old which _ _ ∙ ap (λ a. next old which (record (side_of old which) { status = Halted; writing = Some f.event }) (old.sent ++ Answers which session number (Refused Device) ∷ []) a) (sym (append-nil old.acknowledged))))
+  request_advances new (request_cut c) =
+      side_settles plans old k which (stopped (side_of old which) (Some c.event)) new refl tt (down_not_up, would_sound c.event c.would, refl) (c.result ∙ next_same old which _)
+  request_advances new (side_down d e) = stays plans old new k e
+
+-- The coordinator
+
+coordinator_advances : (plans : Plans) (old : World) (D : Kept → Type 0) (R : Option Running → Type 0) (new : World) → (g : CoordinatorGoes old D R new) → IsKept plans new → Advances old new
+coordinator_advances plans old D R new g k = record {
+  plans = plans;
+  kept = k;
+  messages = g.messages;
+  sends = ap (λ w. w.sent) g.result;
+  acks = map (λ k. Kept_by k) g.kept;
+  acknowledges = ap (λ w. w.acknowledged) g.result;
+  legal_step = kept_legal old g.kept;
+}
+
+abbrev HasItsPlan : Plans → Histories → Option Running → Type 0
+HasItsPlan plans histories o = IfSome o (λ running. (plans running.session ≡ running.plan) × (running.plan ≡ [] → IsFresh histories running.session))
+
+runs_has : (plans : Plans) (histories : Histories) (r : Running) (plan : List Planned) → plans r.session ≡ plan → (plan ≡ [] → IsFresh histories r.session) → (o : Option Running) → GoesOnAs r plan o → HasItsPlan plans histories o
+runs_has plans histories r plan has fresh _ ended = tt
+runs_has plans histories r plan has fresh _ (goes_on new session_is plan_is) =
+    (ap plans session_is ∙ (has ∙ sym plan_is), λ e. subst (IsFresh histories) (sym session_is) (fresh (sym plan_is ∙ e)))
+
+module _ (plans : Plans) (old : World) (k : IsKept plans old) (new : World) where
+  running_has : (r : Running) → old.coordinator.running ≡ Some r → (plans r.session ≡ r.plan) × (r.plan ≡ [] → IsFresh (histories_of old) r.session)
+  running_has r e = subst (HasItsPlan plans (histories_of old)) e k.coordinator.running
+
+  running_over : (r : Running) → old.coordinator.running ≡ Some r → RunsOver old.sent old.coordinator.archive (Some r)
+  running_over r e = subst (RunsOver old.sent old.coordinator.archive) e k.coordinator.runs_over
+
+  waits_for : (r : Running) → old.coordinator.running ≡ Some r → (from : Which) (number : ℕ) → IsSomeAnd (outstanding r from) (λ sent. sent.number ≡ number) → (waiting : Outstanding) → outstanding r from ≡ Some waiting →
+      Contains old.sent (Asks from r.session number waiting.request)
+  waits_for r e from number expected waiting out =
+      let number_is : waiting.number ≡ number = subst (λ o. IsSomeAnd o (λ sent. sent.number ≡ number)) out expected in
+      let was : Contains old.sent (Asks from r.session waiting.number waiting.request) = subst (λ o. IfSome o (λ waiting. Contains old.sent (Asks from r.session waiting.number waiting.request))) out ((running_over r e).1 from) in
+      subst (λ n. Contains old.sent (Asks from r.session n waiting.request)) number_is was
+
+  take_with : (from : Which) (session number : ℕ) (said : Reply) (plan : List Planned) → Contains old.sent (Answers from session number said) → (running : Option Running) → old.coordinator.running ≡ running → IsExpected running from session number →
+      HasPlan old.sent old.coordinator.archive running plan → CoordinatorGoes old (IsDueAfter running plan from said) (GoesOnFrom running plan) new → Advances old new
+  take_with from session number said plan c None e expected made g = absurd expected
+  take_with from session number said plan c (Some r) e expected (inl same) g =
+      let has = running_has r e in
+      let planned : plans r.session ≡ plan = has.0 ∙ sym same in
+      let c' = subst (λ n. Contains old.sent (Answers from n number said)) expected.0 c in
+      coordinator_advances plans old (IsDueAfter (Some r) plan from said) (GoesOnFrom (Some r) plan) new g
+      (coordinator_keeps plans old (IsDueAfter (Some r) plan from said) (GoesOnFrom (Some r) plan) new k.sound k.sides
+      (λ kept due. due_harmless plans (histories_of old) old.coordinator.archive old.sent k.sound r (running_over r e).0 plan planned from number said kept c' (waits_for r e from number expected.1) due) g
+      (runs_has plans (histories_of old) r plan planned (λ x. has.1 (sym same ∙ x)) g.machine.running g.runs_on))
+  take_with from session number said plan c (Some r) e expected (inr made) g =
+      let has = running_has r e in
+      let empty : plans r.session ≡ [] = has.0 ∙ made.0 in
+      let fresh = has.1 made.0 in
+      let plans' = set_plan plans r.session plan in
+      let planned : plans' r.session ≡ plan = set_plan-here plans r.session plan in
+      let sound = sound-plan plans (histories_of old) old.coordinator.archive old.sent k.sound r.session plan empty made.1 fresh in
+      let c' = subst (λ n. Contains old.sent (Answers from n number said)) expected.0 c in
+      coordinator_advances plans' old (IsDueAfter (Some r) plan from said) (GoesOnFrom (Some r) plan) new g
+      (coordinator_keeps plans' old (IsDueAfter (Some r) plan from said) (GoesOnFrom (Some r) plan) new sound
+      (λ side. sides-plan plans plans' (set_plan-grows plans r.session plan empty) (histories_of old) old.coordinator.archive side (side_of old side) (k.sides side))
+      (λ kept due. due_harmless plans' (histories_of old) old.coordinator.archive old.sent sound r (running_over r e).0 plan planned from number said kept c' (waits_for r e from number expected.1) due) g
+      (runs_has plans' (histories_of old) r plan planned (λ _. fresh) g.machine.running g.runs_on))
+
+  tick_with : (running : Option Running) → old.coordinator.running ≡ running → CoordinatorGoes old IsNothing (GoesOnFrom running (plan_of running)) new → Advances old new
+  tick_with None e g = coordinator_advances plans old IsNothing (GoesOnFrom None []) new g
+      (coordinator_keeps plans old IsNothing (GoesOnFrom None []) new k.sound k.sides (λ kept due. absurd due) g (subst (HasItsPlan plans (histories_of old)) (sym g.runs_on) tt))
+  tick_with (Some r) e g =
+      let has = running_has r e in
+      coordinator_advances plans old IsNothing (GoesOnFrom (Some r) r.plan) new g
+      (coordinator_keeps plans old IsNothing (GoesOnFrom (Some r) r.plan) new k.sound k.sides (λ kept due. absurd due) g (runs_has plans (histories_of old) r r.plan has.0 has.1 g.machine.running g.runs_on))
+
+  session_harmless : (n : ℕ) → IsHarmless plans (histories_of old) (Session n)
+  session_harmless n = record { leaves = λ session item planned side path e w last quiet archive tree can. refl }
+
+  starts_has : (o : Option Running) → StartsFrom old.coordinator.archive o → HasItsPlan plans (histories_of old) o
+  starts_has None s = tt
+  starts_has (Some r) s =
+      let f = next_fresh plans (histories_of old) old.coordinator.archive old.sent k.sound r.session s.0 in
+      (f.0 ∙ sym s.1, λ _. f.1)
+
+  start_advances : CoordinatorGoes old (IsNext old.coordinator.archive) (StartsFrom old.coordinator.archive) new → Advances old new
+  start_advances g = coordinator_advances plans old (IsNext old.coordinator.archive) (StartsFrom old.coordinator.archive) new g
+      (coordinator_keeps plans old (IsNext old.coordinator.archive) (StartsFrom old.coordinator.archive) new k.sound k.sides
+      (λ kept due. subst (IsHarmless plans (histories_of old)) (sym due) (session_harmless (old.coordinator.archive.last_session + 1))) g (starts_has g.machine.running g.runs_on))
+
+  -- the coordinator's machine alone changes, and says nothing
+  coordinator_settles : (machine : CoordinatorMachine) (ks : List Kept) → IsSound plans (histories_of old) machine.archive old.sent → old.coordinator.archive.last_session ≤ machine.archive.last_session →
+      IsSoundCoordinator plans (histories_of old) old.sent machine → new ≡ record old { coordinator = machine; acknowledged = old.acknowledged ++ map (λ k. Kept_by k) ks } → Advances old new
+  coordinator_settles machine ks sound later coordinator e = record {
+    plans = plans;
+    kept = subst (IsKept plans) (sym e) (record {
+      sound = sound;
+      sides = λ side. on_both (λ s. IsSoundSide plans (histories_of old) machine.archive s (side_of old s)) side
+          (sides-later plans (histories_of old) old.coordinator.archive machine.archive side (side_of old side) later (k.sides side))
+          (sides-later plans (histories_of old) old.coordinator.archive machine.archive (other side) (side_of old (other side)) later (k.sides (other side))) side;
+      coordinator = coordinator;
+    });
+    messages = [];
+    sends = ap (λ w. w.sent) e ∙ sym (append-nil old.sent);
+    acks = map (λ k. Kept_by k) ks;
+    acknowledges = ap (λ w. w.acknowledged) e;
+    legal_step = kept_legal old ks;
+  }
+
+  abbrev IsPending : Status → Option Running → Kept → Type 0
+  IsPending status running kept = (status ≢ Up) × (running ≡ None) × CanKeep old.coordinator.archive kept × IsHarmless plans (histories_of old) kept
+
+  -- with another status, unless that is up
+  with_status : (status : Status) → (old.coordinator.status ≢ Up → status ≢ Up) → IsSoundCoordinator plans (histories_of old) old.sent (record old.coordinator { status = status })
+  with_status status keeps = record {
+    running = k.coordinator.running;
+    runs_over = k.coordinator.runs_over;
+    writing = if_some old.coordinator.writing (IsPending old.coordinator.status old.coordinator.running) (IsPending status old.coordinator.running) k.coordinator.writing (λ kept _ x. (keeps x.0, x.1, x.2, x.3));
+  }
+
+  opens_archive : (machine : CoordinatorMachine) (ks : List Kept) → OpensArchive old.coordinator machine ks → new ≡ record old { coordinator = machine; acknowledged = old.acknowledged ++ map (λ k. Kept_by k) ks } → Advances old new
+  opens_archive _ _ archive_opened e = coordinator_settles (record old.coordinator { status = Up; writing = None }) [] k.sound (omega arith) (record { running = k.coordinator.running; runs_over = k.coordinator.runs_over; writing = tt }) e
+  opens_archive _ _ (archive_recovered kept w can) e =
+      let pending : IsPending old.coordinator.status old.coordinator.running kept = subst (λ o. IfSome o (IsPending old.coordinator.status old.coordinator.running)) w k.coordinator.writing in
+      coordinator_settles (record old.coordinator { status = Up; archive = after_kept old.coordinator.archive kept; writing = None }) (kept ∷ [])
+      (sound-keep plans (histories_of old) old.coordinator.archive old.sent k.sound kept can pending.3) (kept_session old.coordinator.archive kept can)
+      (record { running = k.coordinator.running; runs_over = subst (RunsOver old.sent (after_kept old.coordinator.archive kept)) (sym pending.1) tt; writing = tt }) e
+  opens_archive _ _ archive_not_opened e = coordinator_settles old.coordinator [] k.sound (omega arith) k.coordinator e
+  opens_archive _ _ (archive_not_reopened up) e = coordinator_settles (record old.coordinator { status = Halted }) [] k.sound (omega arith) (with_status Halted (λ _. halted_not_up)) e
+
+  no_acks : (machine : CoordinatorMachine) → new ≡ record old { coordinator = machine } → new ≡ record old { coordinator = machine; acknowledged = old.acknowledged ++ map (λ k. Kept_by k) [] }
+  no_acks machine e = e ∙ ap (λ a. record old { coordinator = machine; acknowledged = a }) (sym (append-nil old.acknowledged))
+
+  cut_advances : (machine : Machine) → new ≡ cut_off old machine → Advances old new
+  cut_advances (At which) e = side_settles plans old k which (stopped (side_of old which) (side_of old which).writing) new refl tt
+      (was_written plans old k which Down (λ _. down_not_up) (record { history = (side_of old which).side.history; staging = None }) refl) (e ∙ next_same old which _)
+  cut_advances Coordinator e = coordinator_settles (record old.coordinator { status = Down; running = None }) [] k.sound (omega arith)
+      (record { running = tt; runs_over = tt; writing = if_some old.coordinator.writing (IsPending old.coordinator.status old.coordinator.running) (IsPending Down None) k.coordinator.writing (λ kept _ x. (down_not_up, refl, x.2, x.3)) })
+      (no_acks (record old.coordinator { status = Down; running = None }) e)
+
+  halt_advances : (machine : Machine) → new ≡ halted old machine → Advances old new
+  halt_advances (At which) e = side_settles plans old k which (record (side_of old which) { status = Halted }) new refl (k.sides which).staged
+      (was_written plans old k which Halted (λ _. halted_not_up) (side_of old which).side refl) (e ∙ next_same old which _)
+  halt_advances Coordinator e = coordinator_settles (record old.coordinator { status = Halted }) [] k.sound (omega arith) (with_status Halted (λ _. halted_not_up)) (no_acks (record old.coordinator { status = Halted }) e)
+
+  opens_machine : (machine : Machine) → OpensMachine old machine new → Advances old new
+  opens_machine (At which) g = opens_advances plans old k which g.0 g.1 new g.2 g.3
+  opens_machine Coordinator g = opens_archive g.0 g.1 g.2 g.3
+
+  answer_advances : (from : Which) (session number : ℕ) (said : Reply) → Contains old.sent (Answers from session number said) → TakesAnswer old from session number said new → Advances old new
+  answer_advances from session number said c (taken plan expected made g) = take_with from session number said plan c old.coordinator.running refl expected made g
+  answer_advances from session number said c (ignored x e) = stays plans old new k e
+  answer_advances from session number said c (coordinator_down d e) = stays plans old new k e
+
+  delivers_advances : SpellingsTell → (o : Option Message) → ((m : Message) → o ≡ Some m → Contains old.sent m) → Delivers old o new → Advances old new
+  delivers_advances tells None c e = stays plans old new k e
+  delivers_advances tells (Some (Asks to session number request)) c t = request_advances tells plans old k to session number request (c _ refl) new t
+  delivers_advances tells (Some (Answers from session number said)) c t = answer_advances from session number said (c _ refl) t
+
+  was_sent : (n : ℕ) (m : Message) → slice_get old.sent n ≡ Some m → Contains old.sent m
+  was_sent n m e = subst (Contains old.sent) (get_or_from_slice_get old.sent n m m e) (Contains-get_or old.sent n m (slice_get_within old.sent n m e))
+
+  -- each step keeps the invariant, and its replacements are legal
+  pub step_advances : SpellingsTell → (step : Step) → Steps old step new → Advances old new
+  step_advances tells (Edits side user edit) g = edit_advances plans old k side user edit g.0 g.1 new g.2 g.3
+  step_advances tells Start (inl e) = stays plans old new k e
+  step_advances tells Start (inr g) = start_advances g
+  step_advances tells (Deliver message) g = delivers_advances tells (slice_get old.sent message) (was_sent message) g
+  step_advances tells Tick (inl e) = stays plans old new k e
+  step_advances tells Tick (inr g) = tick_with old.coordinator.running refl g
+  step_advances tells (Checkpoint machine) (inl e) = stays plans old new k e
+  step_advances tells (Checkpoint machine) (inr (inl e)) = halt_advances machine e
+  step_advances tells (Checkpoint machine) (inr (inr e)) = cut_advances machine e
+  step_advances tells (Fail machine call) e = stays plans old new k e
+  step_advances tells (Stop machine call) (inl e) = stays plans old new k e
+  step_advances tells (Stop machine call) (inr e) = cut_advances machine e
+  step_advances tells (Open machine) (inl e) = stays plans old new k e
+  step_advances tells (Open machine) (inr g) = opens_machine machine g.1
+  step_advances tells (Reopen machine) (inl e) = stays plans old new k e
+  step_advances tells (Reopen machine) (inr (up, inl g)) = opens_machine machine g
+  step_advances tells (Reopen machine) (inr (up, inr e)) = cut_advances machine e
+
+-- Whole runs
+
+legal-more : (sent more : Sent) (side : Which) (stores : Stores) (token : Token) (path : Path) (since : ℕ) (u : Tree) → IsLegal sent side stores token path since u → IsLegal (sent ++ more) side stores token path since u
+legal-more sent more side stores token path since u h = record {
+  listed = (h.listed.0, answered-more sent more _ _ _ _ h.listed.1);
+  untouched = h.untouched;
+  recorded = h.recorded;
+  source = record {
+    listed = h.source.listed;
+    was_listed = (h.source.was_listed.0, answered-more sent more _ _ _ _ h.source.was_listed.1);
+    position = h.source.position;
+    not_before = h.source.not_before;
+    reached = h.source.reached;
+    held = h.source.held;
+  };
+}
+
+split_at : (xs ys earlier : List Ack) (x : Ack) (later : List Ack) → xs ++ ys ≡ earlier ++ x ∷ later →
+    ((rest : List Ack) × (xs ≡ earlier ++ x ∷ rest)) ⊎ ((rest : List Ack) × (earlier ≡ xs ++ rest) × (ys ≡ rest ++ x ∷ later))
+split_at [] ys earlier x later e = inr (earlier, refl, e)
+split_at (a ∷ xs) ys [] x later e = let h : a ≡ x = cc in inl (xs, ap (λ b. b ∷ xs) h)
+split_at (a ∷ xs) ys (b ∷ earlier) x later e =
+    let h : a ≡ b = cc in
+    let t : xs ++ ys ≡ earlier ++ x ∷ later = cc in
+    elim (split_at xs ys earlier x later t) as (λ _. ((rest : List Ack) × (a ∷ xs ≡ b ∷ (earlier ++ x ∷ rest))) ⊎ ((rest : List Ack) × (b ∷ earlier ≡ a ∷ (xs ++ rest)) × (ys ≡ rest ++ x ∷ later))) [
+      | inl l ↦ inl (l.0, ap₂ (λ c cs. c ∷ cs) h l.1)
+      | inr r ↦ inr (r.0, ap₂ (λ c cs. c ∷ cs) (sym h) r.1, r.2)
+    ]
+
+stores_same : (a b : Stores) → a.left ≡ b.left → a.right ≡ b.right → a.archive ≡ b.archive → a ≡ b
+stores_same a b l r o = ap₂ (λ x y. record { left = x; right = y; archive = a.archive }) l r ∙ ap (λ x. record { left = b.left; right = b.right; archive = x }) o
+
+legal_extends : (before : Stores) (old new : World) → StandsFor before old → Advances old new → EachReplacementIsLegal before old → EachReplacementIsLegal before new
+legal_extends before old new stands a all earlier later side token path since u e =
+    subst (λ sent. IsLegal sent side (stores_after before earlier) token path since u) (sym a.sends)
+    (legal-more old.sent a.messages side (stores_after before earlier) token path since u
+    (elim (split_at old.acknowledged a.acks earlier (Happened side (Replaced token path since u)) later (sym a.acknowledges ∙ e)) as (λ _. IsLegal old.sent side (stores_after before earlier) token path since u) [
+      | inl l ↦ all earlier l.0 side token path since u l.1
+      | inr r ↦
+          let first = a.legal_step r.0 later side token path since u r.2 in
+          let at : stores_of old ≡ stores_after before earlier =
+          stores_same (stores_of old) (stores_after before old.acknowledged) stands.left stands.right stands.archive
+          ∙ ap (stores_after before) (sym (append-nil old.acknowledged) ∙ (ap (λ w. old.acknowledged ++ w) (sym first.0) ∙ sym r.1)) in
+          subst (λ s. IsLegal old.sent side s token path since u) at first.1
+    ]))
+
+runs_legally : SpellingsTell → (before : Stores) (steps : List Step) (plans : Plans) (old new : World) → IsKept plans old → StandsFor before old → EachReplacementIsLegal before old → Runs old steps new → EachReplacementIsLegal before new
+runs_legally tells before [] plans old new k stands all e = subst (EachReplacementIsLegal before) (sym e) all
+runs_legally tells before (step ∷ steps) plans old new k stands all g =
+    let a = step_advances plans old k g.0 tells step g.1 in
+    runs_legally tells before steps a.plans g.0 new a.kept (step_stands before old step g.0 stands g.1) (legal_extends before old g.0 stands a all) g.2
+
+nothing_sent : (sent : Sent) (m : Message) → sent ≡ [] → Contains sent m → ⊥
+nothing_sent sent m e c = let d : Contains [] m = subst (λ s. Contains s m) e c in omega (arith, d.1)
+
+abbrev no_plans : Plans
+no_plans session = []
+
+start_kept : (old : World) → IsStart old → IsKept no_plans old
+start_kept old s =
+    let p = s.pair in
+    let empty = s.nothing_yet.0 in
+    record {
+      sound = record {
+        lawful = λ side. elim side as (λ side. IsHistory (histories_of old side)) [ Left ↦ p.left | Right ↦ p.right ];
+        marks = p.marks;
+        begun = λ side. elim side as (λ side. last_session (histories_of old side) ≤ old.coordinator.archive.last_session) [ Left ↦ p.left_begun | Right ↦ p.right_begun ];
+        numbers = λ side session n a b c d. absurd (nothing_sent old.sent _ empty c);
+        asked = λ to session number request c. absurd (nothing_sent old.sent _ empty c);
+        known = λ from session number said c. absurd (nothing_sent old.sent _ empty c);
+        answered = λ from session number said request c d. absurd (nothing_sent old.sent _ empty c);
+        planned = λ session. inl refl;
+        recorded = λ session item planned side path e w. absurd (none_some e);
+        used = λ side token planned path last e w. absurd (none_some e);
+      };
+      sides = λ side. elim side as (λ side. IsSoundSide no_plans (histories_of old) old.coordinator.archive side (side_of old side)) [
+        | Left ↦ record { staged = subst (λ o. IfSome o (IsSoundStaging no_plans (histories_of old) Left)) (sym s.left.1) tt; writing = subst (λ o. IfSome o (λ event. (old.left.status ≢ Up) × IsSoundEvent no_plans (histories_of old) old.coordinator.archive Left event)) (sym s.left.2) tt }
+        | Right ↦ record { staged = subst (λ o. IfSome o (IsSoundStaging no_plans (histories_of old) Right)) (sym s.right.1) tt; writing = subst (λ o. IfSome o (λ event. (old.right.status ≢ Up) × IsSoundEvent no_plans (histories_of old) old.coordinator.archive Right event)) (sym s.right.2) tt }
+      ];
+      coordinator = record {
+        running = subst (HasItsPlan no_plans (histories_of old)) (sym s.coordinator.1) tt;
+        runs_over = subst (RunsOver old.sent old.coordinator.archive) (sym s.coordinator.1) tt;
+        writing = subst (λ o. IfSome o (λ kept. (old.coordinator.status ≢ Up) × (old.coordinator.running ≡ None) × CanKeep old.coordinator.archive kept × IsHarmless no_plans (histories_of old) kept)) (sym s.coordinator.2) tt;
+      };
+    }
+
+start_stands : (old : World) → old.acknowledged ≡ [] → StandsFor (stores_of old) old
+start_stands old e = subst (λ acks. StandsFor (stores_of old) (record old { acknowledged = acks })) (sym e) (record {
+  left = sym (append-nil old.left.side.history);
+  right = sym (append-nil old.right.side.history);
+  archive = refl;
+})
+
+-- in every run each replacement is legal
+pub runs_replace_legally : RunsReplaceLegally
+runs_replace_legally tells old new steps s g = runs_legally tells (stores_of old) steps no_plans old new (start_kept old s) (start_stands old s.nothing_yet.1)
+    (λ earlier later side token path since u e. absurd (not_nothing earlier later _ (sym s.nothing_yet.1 ∙ e))) g
+
+-- the invariant after a whole run
+pub run_kept : SpellingsTell → (steps : List Step) (plans : Plans) (old new : World) → IsKept plans old → Runs old steps new → (later : Plans) × IsKept later new
+run_kept tells [] plans old new k e = (plans, subst (IsKept plans) (sym e) k)
+run_kept tells (step ∷ steps) plans old new k g = let a = step_advances plans old k g.0 tells step g.1 in run_kept tells steps a.plans g.0 new a.kept g.2
+
+pub runs_use_tokens_once : RunsUseTokensOnce
+runs_use_tokens_once tells old new steps s g side earlier later token path since u e =
+    token_once (histories_of new side) earlier later token path since u ((run_kept tells steps no_plans old new (start_kept old s) g).1.sound.lawful side) e

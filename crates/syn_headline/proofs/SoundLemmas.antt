@@ -1,0 +1,309 @@
+-- The invariant is kept as histories, messages, plans and the archive go on.
+use Rattle.std.proofs.Common.{◌≡◌, ◌≤◌, ◌+◌, ℕ, zero, suc, true, false, not, ◌==◌, nat_le, List, [], ◌∷◌, ◌++◌, length, take, drop, refl, sym, ap, ◌∙◌, subst, Some, None, true≢false, append-nil, arith, inl, inr, ◌⊎◌, if◌then◌else◌, slice_get, fold}
+use Rattle.std.specs.Prelude.{Contains, All}
+use Rattle.std.proofs.lemmas.Bool.Decides.{nat_tests}
+use Rattle.std.proofs.lemmas.List.{length-append}
+use Rattle.std.proofs.lemmas.List.Elements.{Contains-append_left, Contains-append_cases}
+use Rattle.syn_model.specs.Path.{Path, is_root, IsName}
+use Rattle.syn_model.specs.Tree.{Tree, IsTree, IsPart, empty_directory, subtree, replace, is_directory}
+use Rattle.syn_model.specs.Mark.{mark}
+use Rattle.syn_model.specs.Limits.{children}
+use Rattle.syn_model.specs.Spelling.{spelling}
+use Rattle.syn_model.specs.Refusal.{first_cause, OldSession, Root, Full, BadMessage}
+use Rattle.syn_model.specs.Event.{Event, Edited, Began, Replaced}
+use Rattle.syn_model.specs.History.{History, IsHistory, IsAllowed, tree_of, tree_at, is_quiet, last_session, session_after, position_causes}
+use Rattle.syn_model.specs.Archive.{Archive, Kept, Session, Recorded, RecordedDir, CanKeep, after_kept, record_causes}
+use Rattle.syn_model.specs.Limits.{greatest, fits_archive}
+use Rattle.syn_headline.specs.Laws.{AddsAllowed}
+use Rattle.syn_headline.specs.Side.{Request, Begin, ListAt, Fetch, Stage, Replace, Reply, Begun, Listed, Piece, Done}
+use Rattle.syn_headline.specs.Network.{Which, Sent, Message, Asks, Answers, NumbersTell}
+use Rattle.syn_headline.specs.Planning.{Planned, seen_on, IsPlanOf, WritesTo}
+use Rattle.syn_headline.specs.World.{IsOfPlan}
+use Rattle.syn_headline.specs.Invariant.{Plans, Histories, IsSound, IsSound_request, IsStillRecorded, IsTrue, IsHarmless, IsUsed, IsFresh, part_at}
+use Rattle.syn_model.proofs.PathLemmas.{none_some}
+use Rattle.syn_model.proofs.HistoryLemmas.{first_cause-none, replace-is_tree, place-stands, empty-is_tree, allowed_goes_on}
+use Rattle.syn_model.proofs.MarkLemmas.{mark-subtree}
+use Rattle.syn_model.proofs.QuietLemmas.{quiet_before, tree_at-append, untouched_stays}
+use Rattle.syn_headline.proofs.PlanLemmas.{of_plan-more, plan_of-more, fenced, since_reached, target_is}
+
+-- A history that goes on
+
+pub fold_one : (last : ℕ) (history : History) (event : Event) → fold session_after last (history ++ event ∷ []) ≡ session_after (fold session_after last history) event
+fold_one last [] event = refl
+fold_one last (e ∷ history) event = fold_one (session_after last e) history event
+
+number_above : (n last : ℕ) → nat_le n last ≡ false → last ≤ n
+number_above n last h = grind (arith, nat_tests)
+
+after_grows : (history : History) (event : Event) → IsAllowed history event → last_session history ≤ session_after (last_session history) event
+after_grows history (Edited user edit) a = omega arith
+after_grows history (Began session) a = number_above session (last_session history) (first_cause-none (nat_le session (last_session history), OldSession) (position_causes history) a.not_refused).0
+after_grows history (Replaced token path since new) a = omega arith
+
+pub session_grows : (old new : History) → AddsAllowed old new → last_session old ≤ last_session new
+session_grows old new (inl e) = subst (λ h. last_session old ≤ last_session h) (sym e) (omega arith)
+session_grows old new (inr a) = subst (λ h. last_session old ≤ last_session h) (sym a.2) (subst (λ n. last_session old ≤ n) (sym (fold_one 0 old a.0)) (after_grows old a.0 a.1))
+
+pub history_grows : (old new : History) → AddsAllowed old new → IsHistory old → IsHistory new
+history_grows old new (inl e) h = subst IsHistory (sym e) h
+history_grows old new (inr a) h = subst IsHistory (sym a.2) (allowed_goes_on old a.0 h a.1)
+
+-- a list that goes on
+abbrev pub Extends : History → History → Type 0
+Extends old new = (events : History) × (new ≡ old ++ events)
+
+pub extends : (old new : History) → AddsAllowed old new → Extends old new
+extends old new (inl e) = ([], e ∙ sym (append-nil old))
+extends old new (inr a) = (a.0 ∷ [], a.2)
+
+pub length_grows : (old new : History) → Extends old new → length old ≤ length new
+length_grows old new x = subst (λ h. length old ≤ length h) (sym x.1) (omega (arith, length-append old x.0))
+
+pub tree_at_stays : (old new : History) → Extends old new → (k : ℕ) → k ≤ length old → tree_at new k ≡ tree_at old k
+tree_at_stays old new x k h = ap (λ w. tree_at w k) x.1 ∙ tree_at-append old x.0 k h
+
+pub part_at_stays : (old new : History) → Extends old new → (k : ℕ) (p : Path) → k ≤ length old → part_at new k p ≡ part_at old k p
+part_at_stays old new x k p h = ap (λ t. subtree t p) (tree_at_stays old new x k h)
+
+pub quiet_was : (old new : History) → Extends old new → (since : ℕ) (p : Path) → since ≤ length old → is_quiet new since (length new) p ≡ true → is_quiet old since (length old) p ≡ true
+quiet_was old new x since p h q = (quiet_before old x.0 since p h (ap (λ w. is_quiet w since (length w) p) (sym x.1) ∙ q)).0
+
+pub still_touched : (old new : History) → Extends old new → (since : ℕ) (p : Path) → since ≤ length old → is_quiet old since (length old) p ≡ false → is_quiet new since (length new) p ≡ false
+still_touched old new x since p h f =
+    elim (is_quiet new since (length new) p) as (λ b. is_quiet new since (length new) p ≡ b → b ≡ false) [
+      | false ↦ λ _. refl
+      | true ↦ λ q. absurd (true≢false (sym (quiet_was old new x since p h q) ∙ f))
+    ] refl
+
+still_recorded-grow : (old new : History) (archive : Archive) (session : ℕ) (path : Path) (since : ℕ) → AddsAllowed old new → session ≤ last_session old → since ≤ length old →
+    IsStillRecorded old archive session path since → IsStillRecorded new archive session path since
+still_recorded-grow old new archive session path since a fence h still e q =
+    let x = extends old new a in
+    let before = quiet_before old x.0 since path h (ap (λ w. is_quiet w since (length w) path) (sym x.1) ∙ q) in
+    let grows : last_session old ≤ last_session new = session_grows old new a in
+    let same : session ≡ last_session old = omega (arith, grows, fence, e) in
+    ap (λ w. subtree (mark (tree_of w)) path) x.1 ∙ (sym (mark-subtree (tree_of (old ++ x.0)) path) ∙ (ap mark (untouched_stays old x.0 path before.1) ∙ (mark-subtree (tree_of old) path ∙ still same before.0)))
+
+-- a reply stays true
+pub true-grow : (old new : History) → AddsAllowed old new → (session : ℕ) (request : Request) (reply : Reply) → IsTrue old session request reply → IsTrue new session request reply
+true-grow old new a session (Begin pair) (Begun position) t = let grows : last_session old ≤ last_session new = session_grows old new a in omega (arith, t, grows)
+true-grow old new a session (ListAt path) (Listed position entries) t =
+    let x = extends old new a in
+    let grows : length old ≤ length new = length_grows old new x in
+    record { reached = omega (arith, t.reached, grows); entries_there = t.entries_there ∙ ap (λ u. children (mark u) path) (sym (tree_at_stays old new x position t.reached)) }
+true-grow old new a session (Fetch path since offset) (Piece total bytes) t =
+    let x = extends old new a in
+    let grows : length old ≤ length new = length_grows old new x in
+    let same = sym (part_at_stays old new x since path t.reached) in
+    record {
+      reached = omega (arith, t.reached, grows);
+      whole = t.whole ∙ ap (λ u. length (spelling u)) same;
+      bytes_there = t.bytes_there ∙ ap (λ u. take 32768 (drop offset (spelling u))) same;
+    }
+true-grow old new a session (Replace item path since size) Done t =
+    let x = extends old new a in
+    let grows : length old ≤ length new = length_grows old new x in
+    (omega (arith, t.0, grows), still_touched old new x since path t.0 t.1)
+true-grow old new a session request reply t = tt
+
+some_in_nothing : (item : ℕ) (planned : Planned) → slice_get [] item ≡ Some planned → ⊥
+some_in_nothing item planned e = none_some e
+
+-- an item of a plan is of one that was made as said
+pub made : (plans : Plans) (histories : Histories) (archive : Archive) (sent : Sent) → IsSound plans histories archive sent → (session item : ℕ) (planned : Planned) → slice_get (plans session) item ≡ Some planned →
+    (found : Tree) × IsPlanOf sent session found (plans session)
+made plans histories archive sent sound session item planned e =
+    elim (sound.planned session) as (λ _. (found : Tree) × IsPlanOf sent session found (plans session)) [
+      | inl nothing ↦ absurd (some_in_nothing item planned (ap (λ plan. slice_get plan item) (sym nothing) ∙ e))
+      | inr is ↦ is
+    ]
+
+pub sound-grow : (plans : Plans) (histories new : Histories) (archive : Archive) (sent : Sent) → IsSound plans histories archive sent → ((s : Which) → AddsAllowed (histories s) (new s)) →
+    ((s : Which) → last_session (new s) ≤ archive.last_session) → IsUsed plans new → IsSound plans new archive sent
+sound-grow plans histories new archive sent sound grows below used = record {
+  used = used;
+  lawful = λ s. history_grows (histories s) (new s) (grows s) (sound.lawful s);
+  marks = sound.marks;
+  begun = below;
+  numbers = sound.numbers;
+  asked = sound.asked;
+  known = sound.known;
+  answered = λ from session number reply request c d. true-grow (histories from) (new from) (grows from) session request reply (sound.answered from session number reply request c d);
+  planned = sound.planned;
+  recorded = λ session item planned side path e w.
+      let is = made plans histories archive sent sound session item planned e in
+      still_recorded-grow (histories side) (new side) archive session path (seen_on planned side).since (grows side)
+      (fenced plans histories archive sent sound session is.0 (plans session) is.1 side)
+      (since_reached plans histories archive sent sound session is.0 (plans session) is.1 item planned side path e w side)
+      (sound.recorded session item planned side path e w);
+}
+
+-- Messages
+
+pub only_one : (x y : Message) → Contains (x ∷ []) y → x ≡ y
+only_one x y (zero, h, e) = e
+only_one x y (suc k, h, e) = absurd (omega (arith, h))
+
+pub sound-more : (plans : Plans) (histories : Histories) (archive : Archive) (sent more : Sent) → IsSound plans histories archive sent → NumbersTell (sent ++ more) →
+    ((to : Which) (session number : ℕ) (request : Request) → Contains more (Asks to session number request) → IsSound_request plans archive sent to session request) →
+    ((from : Which) (session number : ℕ) (reply : Reply) → Contains more (Answers from session number reply) → (request : Request) × Contains sent (Asks from session number request) × IsTrue (histories from) session request reply) →
+    IsSound plans histories archive (sent ++ more)
+sound-more plans histories archive sent more sound numbers asks answers = record {
+  used = sound.used;
+  lawful = sound.lawful;
+  marks = sound.marks;
+  begun = sound.begun;
+  numbers = numbers;
+  asked = λ to session number request c. elim (Contains-append_cases sent more (Asks to session number request) c) as (λ _. IsSound_request plans archive (sent ++ more) to session request) [
+    | inl old ↦ let r = sound.asked to session number request old in record { session_kept = r.session_kept; lawful = r.lawful; by_plan = of_plan-more sent more session (plans session) to request r.by_plan }
+    | inr new ↦ let r = asks to session number request new in record { session_kept = r.session_kept; lawful = r.lawful; by_plan = of_plan-more sent more session (plans session) to request r.by_plan }
+  ];
+  known = λ from session number reply c. elim (Contains-append_cases sent more (Answers from session number reply) c) as (λ _. (request : Request) × Contains (sent ++ more) (Asks from session number request)) [
+    | inl old ↦ let k = sound.known from session number reply old in (k.0, Contains-append_left sent more _ k.1)
+    | inr new ↦ let k = answers from session number reply new in (k.0, Contains-append_left sent more _ k.1)
+  ];
+  answered = λ from session number reply request c d. elim (Contains-append_cases sent more (Answers from session number reply) c) as (λ _. IsTrue (histories from) session request reply) [
+    | inl old ↦
+        let k = sound.known from session number reply old in
+        subst (λ r. IsTrue (histories from) session r reply) (numbers from session number k.0 request (Contains-append_left sent more _ k.1) d) (sound.answered from session number reply k.0 old k.1)
+    | inr new ↦
+        let k = answers from session number reply new in
+        subst (λ r. IsTrue (histories from) session r reply) (numbers from session number k.0 request (Contains-append_left sent more _ k.1) d) k.2
+  ];
+  planned = λ session. elim (sound.planned session) as (λ _. (plans session ≡ []) ⊎ ((found : Tree) × IsPlanOf (sent ++ more) session found (plans session))) [
+    | inl nothing ↦ inl nothing
+    | inr is ↦ inr (is.0, plan_of-more sent more session is.0 (plans session) is.1)
+  ];
+  recorded = sound.recorded;
+}
+
+-- an answer to a request that was sent
+ask_before : (sent : Sent) (from : Which) (session number : ℕ) (reply : Reply) (to : Which) (n m : ℕ) (request : Request) → Contains (sent ++ Answers from session number reply ∷ []) (Asks to n m request) → Contains sent (Asks to n m request)
+ask_before sent from session number reply to n m request c = elim (Contains-append_cases sent (Answers from session number reply ∷ []) (Asks to n m request) c) as (λ _. Contains sent (Asks to n m request)) [
+  | inl old ↦ old
+  | inr new ↦ let e = only_one (Answers from session number reply) (Asks to n m request) new in cc
+]
+
+pub sound-answer : (plans : Plans) (histories : Histories) (archive : Archive) (sent : Sent) → IsSound plans histories archive sent → (from : Which) (session number : ℕ) (request : Request) (reply : Reply) →
+    Contains sent (Asks from session number request) → IsTrue (histories from) session request reply → IsSound plans histories archive (sent ++ Answers from session number reply ∷ [])
+sound-answer plans histories archive sent sound from session number request reply asked is_true =
+    sound-more plans histories archive sent (Answers from session number reply ∷ []) sound
+    (λ side n m a b c d. sound.numbers side n m a b (ask_before sent from session number reply side n m a c) (ask_before sent from session number reply side n m b d))
+    (λ to n m r c. let e = only_one (Answers from session number reply) (Asks to n m r) c in cc)
+    (λ side n m r c.
+    let e = only_one (Answers from session number reply) (Answers side n m r) c in
+    let e0 : from ≡ side = cc in
+    let e1 : session ≡ n = cc in
+    let e2 : number ≡ m = cc in
+    let e3 : reply ≡ r = cc in (
+      request,
+      subst (λ m. Contains sent (Asks side n m request)) e2 (subst (λ n. Contains sent (Asks side n number request)) e1 (subst (λ s. Contains sent (Asks s session number request)) e0 asked)),
+      subst (λ r. IsTrue (histories side) n request r) e3 (subst (λ n. IsTrue (histories side) n request reply) e1 (subst (λ s. IsTrue (histories s) session request reply) e0 is_true)),
+    ))
+
+-- A plan that is made
+
+abbrev pub set_plan : Plans → ℕ → List Planned → Plans
+set_plan plans session plan n = if n == session then plan else plans n
+
+-- a plan is only made where there was none
+abbrev pub PlansGrow : Plans → Plans → Type 0
+PlansGrow old new = (n : ℕ) → (new n ≡ old n) ⊎ (old n ≡ [])
+
+pub set_plan-grows : (plans : Plans) (session : ℕ) (plan : List Planned) → plans session ≡ [] → PlansGrow plans (set_plan plans session plan)
+set_plan-grows plans session plan e n = elim (n == session) as (λ b. (n == session) ≡ b → ((if b then plan else plans n) ≡ plans n) ⊎ (plans n ≡ [])) [
+  | true ↦ λ same. let at : n ≡ session = grind (arith, nat_tests) in inr (ap plans at ∙ e)
+  | false ↦ λ _. inl refl
+] refl
+
+pub set_plan-here : (plans : Plans) (session : ℕ) (plan : List Planned) → set_plan plans session plan session ≡ plan
+set_plan-here plans session plan = let e : (session == session) ≡ true = grind (arith, nat_tests) in ap (λ b. if b then plan else plans session) e
+
+pub item-grow : (old new : Plans) → PlansGrow old new → (session item : ℕ) (planned : Planned) → slice_get (old session) item ≡ Some planned → slice_get (new session) item ≡ Some planned
+item-grow old new grows session item planned e = elim (grows session) as (λ _. slice_get (new session) item ≡ Some planned) [
+  | inl same ↦ ap (λ plan. slice_get plan item) same ∙ e
+  | inr nothing ↦ absurd (some_in_nothing item planned (ap (λ plan. slice_get plan item) (sym nothing) ∙ e))
+]
+
+of_plan-grow : (old new : Plans) → PlansGrow old new → (sent : Sent) (session : ℕ) (to : Which) (request : Request) → IsOfPlan sent session (old session) to request → IsOfPlan sent session (new session) to request
+of_plan-grow old new grows sent session to (Begin pair) h = h
+of_plan-grow old new grows sent session to (ListAt path) h = h
+of_plan-grow old new grows sent session to (Fetch path since offset) h = (h.0, h.1, item-grow old new grows session h.0 h.1 h.2, h.3, h.4)
+of_plan-grow old new grows sent session to (Stage item offset bytes) h = (h.0, item-grow old new grows session item h.0 h.1, h.2)
+of_plan-grow old new grows sent session to (Replace item path since size) h = (h.0, item-grow old new grows session item h.0 h.1, h.2, h.3, h.4)
+
+pub sound-plan : (plans : Plans) (histories : Histories) (archive : Archive) (sent : Sent) → IsSound plans histories archive sent → (session : ℕ) (plan : List Planned) → plans session ≡ [] → IsPlanOf sent session archive.marks plan → IsFresh histories session →
+    IsSound (set_plan plans session plan) histories archive sent
+sound-plan plans histories archive sent sound session plan nothing is fresh = record {
+  used = λ side token planned path last. elim (token.session == session) as (λ b. (token.session == session) ≡ b → slice_get (if b then plan else plans token.session) token.item ≡ Some planned → WritesTo planned.item side path →
+      is_quiet (histories side) (seen_on planned side).since (length (histories side)) path ≡ false) [
+        | true ↦ λ same _ _. absurd (fresh side token last (grind (arith, nat_tests)))
+        | false ↦ λ _ e w. sound.used side token planned path last e w
+      ] refl;
+  lawful = sound.lawful;
+  marks = sound.marks;
+  begun = sound.begun;
+  numbers = sound.numbers;
+  asked = λ to n number request c. let r = sound.asked to n number request c in
+      record { session_kept = r.session_kept; lawful = r.lawful; by_plan = of_plan-grow plans (set_plan plans session plan) (set_plan-grows plans session plan nothing) sent n to request r.by_plan };
+  known = sound.known;
+  answered = sound.answered;
+  planned = λ n. elim (n == session) as (λ b. (n == session) ≡ b → ((if b then plan else plans n) ≡ []) ⊎ ((found : Tree) × IsPlanOf sent n found (if b then plan else plans n))) [
+    | true ↦ λ same. let at : session ≡ n = grind (arith, nat_tests) in inr (archive.marks, subst (λ m. IsPlanOf sent m archive.marks plan) at is)
+    | false ↦ λ _. sound.planned n
+  ] refl;
+  recorded = λ n item planned side path. elim (n == session) as (λ b. (n == session) ≡ b → slice_get (if b then plan else plans n) item ≡ Some planned → WritesTo planned.item side path → IsStillRecorded (histories side) archive n path (seen_on planned side).since) [
+    | true ↦ λ same e w _ quiet. target_is plans histories archive sent sound session archive.marks plan is item planned side path e w quiet
+    | false ↦ λ _ e w. sound.recorded n item planned side path e w
+  ] refl;
+}
+
+-- What the archive keeps
+
+session_next : (n last : ℕ) → not (n == last + 1) ≡ false → last ≤ n
+session_next n last h = grind (arith, nat_tests)
+
+pub kept_session : (archive : Archive) (kept : Kept) → CanKeep archive kept → archive.last_session ≤ (after_kept archive kept).last_session
+kept_session archive (Session session) can =
+    session_next session archive.last_session (first_cause-none (not (session == archive.last_session + 1), BadMessage) [] (first_cause-none (nat_le greatest archive.last_session, Full) ((not (session == archive.last_session + 1), BadMessage) ∷ []) can.not_refused).1).0
+kept_session archive (Recorded path marks) can = omega arith
+kept_session archive (RecordedDir path) can =
+    elim (is_directory archive.marks path) as (λ b. archive.last_session ≤ (if b then archive else record archive { marks = replace archive.marks path empty_directory }).last_session) [ true ↦ omega arith | false ↦ omega arith ]
+
+recorded_is_tree : (marks : Tree) (path : Path) (new : Tree) → IsTree marks → IsPart new → All IsName path → first_cause (record_causes marks path new) ≡ None → IsTree (replace marks path new)
+recorded_is_tree marks path new h part names e =
+    let place = place-stands marks path ((not (fits_archive (replace marks path new)), Full) ∷ []) e in
+    replace-is_tree marks path new h part place.0 place.1 names
+
+empty_is_part : IsPart empty_directory
+unfolding tree_of
+empty_is_part = empty-is_tree.part
+
+pub kept_is_tree : (archive : Archive) (kept : Kept) → IsTree archive.marks → CanKeep archive kept → IsTree (after_kept archive kept).marks
+kept_is_tree archive (Session session) h can = h
+kept_is_tree archive (Recorded path marks) h can = recorded_is_tree archive.marks path marks h can.lawful.1 can.lawful.0.names can.not_refused
+kept_is_tree archive (RecordedDir path) h can =
+    elim (is_directory archive.marks path) as (λ b. first_cause ((is_root path, Root) ∷ (if b then [] else record_causes archive.marks path empty_directory)) ≡ None → IsTree (if b then archive else record archive { marks = replace archive.marks path empty_directory }).marks) [
+      | true ↦ λ _. h
+      | false ↦ λ e. recorded_is_tree archive.marks path empty_directory h empty_is_part can.lawful.names (first_cause-none (is_root path, Root) (record_causes archive.marks path empty_directory) e).1
+    ] can.not_refused
+
+pub sound-keep : (plans : Plans) (histories : Histories) (archive : Archive) (sent : Sent) → IsSound plans histories archive sent → (kept : Kept) → CanKeep archive kept → IsHarmless plans histories kept →
+    IsSound plans histories (after_kept archive kept) sent
+sound-keep plans histories archive sent sound kept can harmless =
+    let grows : archive.last_session ≤ (after_kept archive kept).last_session = kept_session archive kept can in
+    record {
+      used = sound.used;
+      lawful = sound.lawful;
+      marks = kept_is_tree archive kept sound.marks can;
+      begun = λ side. let b : last_session (histories side) ≤ archive.last_session = sound.begun side in omega (arith, b, grows);
+      numbers = sound.numbers;
+      asked = λ to session number request c. let r = sound.asked to session number request c in
+          let k : session ≤ archive.last_session = r.session_kept in
+          record { session_kept = omega (arith, k, grows); lawful = r.lawful; by_plan = r.by_plan };
+      known = sound.known;
+      answered = sound.answered;
+      planned = sound.planned;
+      recorded = λ session item planned side path e w current quiet.
+          sound.recorded session item planned side path e w current quiet ∙ sym (harmless.leaves session item planned side path e w current quiet archive sound.marks can);
+    }

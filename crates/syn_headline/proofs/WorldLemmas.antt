@@ -1,0 +1,187 @@
+-- What is acknowledged is what the machines stand for.
+use Rattle.std.proofs.Common.{◌≡◌, ℕ, List, [], ◌∷◌, ◌++◌, map, filter_map, refl, sym, ap, ap₂, ◌∙◌, subst, Option, Some, None, inl, inr, append-nil, append_assoc, slice_get}
+use Rattle.std.specs.List.{cons_option}
+use Rattle.syn_model.specs.Event.{Event, Edited, Edit}
+use Rattle.syn_model.specs.History.{History}
+use Rattle.syn_model.specs.Archive.{Archive, Kept, after_kept, archive_of}
+use Rattle.syn_headline.specs.Network.{Which, Left, Right, Message, Asks, Answers}
+use Rattle.syn_headline.specs.Acknowledged.{Ack, Happened, Kept_by, event_at, kept_in, Stores}
+use Rattle.syn_headline.specs.Report.{Report}
+use Rattle.syn_headline.specs.Side.{Request, Reply, Refused}
+use Rattle.syn_model.specs.Refusal.{Device}
+use Rattle.syn_headline.specs.World.{Running, World, SideMachine, CoordinatorMachine, Machine, At, Coordinator, Step, Edits, Start, Deliver, Tick, Checkpoint, Fail, Stop, Open, Reopen, side_of, set_side, stopped, Writes, DoesEdit, SideGoes, Opens, OpensArchive, TakesRequest, TakesAnswer, CoordinatorGoes, Delivers, OpensMachine, cut_off, halted, Steps, written, failed, cut, edit_refused, edit_written, opened, recovered, not_opened, not_reopened, archive_opened, archive_recovered, archive_not_opened, archive_not_reopened, answered, request_failed, request_cut, side_down, taken, ignored, coordinator_down}
+use Rattle.syn_headline.specs.Headline.{StandsFor, RunsStand}
+
+taken-append : {X : Type 0} (f : Ack → Option X) (xs ys : List Ack) → filter_map f (xs ++ ys) ≡ filter_map f xs ++ filter_map f ys
+taken-append f [] ys = refl
+taken-append {X} f (x ∷ xs) ys = elim (f x) as (λ o. cons_option o (filter_map f (xs ++ ys)) ≡ cons_option o (filter_map f xs) ++ filter_map f ys) [ None ↦ taken-append f xs ys | Some y ↦ ap (λ w. y ∷ w) (taken-append f xs ys) ]
+
+left_left : (es : List Event) → filter_map (event_at Left) (map (λ e. Happened Left e) es) ≡ es
+left_left [] = refl
+left_left (e ∷ es) = ap (λ w. e ∷ w) (left_left es)
+
+right_right : (es : List Event) → filter_map (event_at Right) (map (λ e. Happened Right e) es) ≡ es
+right_right [] = refl
+right_right (e ∷ es) = ap (λ w. e ∷ w) (right_right es)
+
+left_right : (es : List Event) → filter_map (event_at Left) (map (λ e. Happened Right e) es) ≡ []
+left_right [] = refl
+left_right (e ∷ es) = left_right es
+
+right_left : (es : List Event) → filter_map (event_at Right) (map (λ e. Happened Left e) es) ≡ []
+right_left [] = refl
+right_left (e ∷ es) = right_left es
+
+kept_events : (which : Which) (es : List Event) → filter_map kept_in (map (λ e. Happened which e) es) ≡ []
+kept_events which [] = refl
+kept_events which (e ∷ es) = kept_events which es
+
+kept_kept : (ks : List Kept) → filter_map kept_in (map (λ k. Kept_by k) ks) ≡ ks
+kept_kept [] = refl
+kept_kept (k ∷ ks) = ap (λ w. k ∷ w) (kept_kept ks)
+
+event_kept : (which : Which) (ks : List Kept) → filter_map (event_at which) (map (λ k. Kept_by k) ks) ≡ []
+event_kept Left [] = refl
+event_kept Right [] = refl
+event_kept Left (k ∷ ks) = event_kept Left ks
+event_kept Right (k ∷ ks) = event_kept Right ks
+
+archive-append : (a : Archive) (xs ys : List Kept) → archive_of a (xs ++ ys) ≡ archive_of (archive_of a xs) ys
+archive-append a [] ys = refl
+archive-append a (x ∷ xs) ys = archive-append (after_kept a x) xs ys
+
+-- a history that goes on as its acknowledged events do
+goes_on : (before : History) (which : Which) (acks more : List Ack) (old new : History) (es : List Event) → old ≡ before ++ filter_map (event_at which) acks →
+    filter_map (event_at which) more ≡ es → new ≡ old ++ es → new ≡ before ++ filter_map (event_at which) (acks ++ more)
+goes_on before which acks more old new es o m n =
+    n ∙ (ap₂ (λ a b. a ++ b) o (sym m) ∙ (append_assoc before (filter_map (event_at which) acks) (filter_map (event_at which) more)
+    ∙ ap (λ w. before ++ w) (sym (taken-append (event_at which) acks more))))
+
+stays : (before : History) (which : Which) (acks more : List Ack) (old : History) → old ≡ before ++ filter_map (event_at which) acks →
+    filter_map (event_at which) more ≡ [] → old ≡ before ++ filter_map (event_at which) (acks ++ more)
+stays before which acks more old o m = goes_on before which acks more old old [] o m (sym (append-nil old))
+
+archive_goes : (before : Archive) (acks more : List Ack) (old new : Archive) (ks : List Kept) → old ≡ archive_of before (filter_map kept_in acks) →
+    filter_map kept_in more ≡ ks → new ≡ archive_of old ks → new ≡ archive_of before (filter_map kept_in (acks ++ more))
+archive_goes before acks more old new ks o m n =
+    n ∙ (ap₂ archive_of o (sym m) ∙ (sym (archive-append before (filter_map kept_in acks) (filter_map kept_in more)) ∙ ap (archive_of before) (sym (taken-append kept_in acks more))))
+
+-- a side that goes on by the events that are acknowledged
+side_goes : (before : Stores) (old : World) (which : Which) (machine : SideMachine) (es : List Event) (messages : List Message) (new : World) → StandsFor before old →
+    machine.side.history ≡ (side_of old which).side.history ++ es →
+    new ≡ record (set_side old which machine) { sent = old.sent ++ messages; acknowledged = old.acknowledged ++ map (λ event. Happened which event) es } → StandsFor before new
+side_goes before old Left machine es messages new s h e = subst (StandsFor before) (sym e) (record {
+  left = goes_on before.left Left old.acknowledged (map (λ event. Happened Left event) es) old.left.side.history machine.side.history es s.left (left_left es) h;
+  right = stays before.right Right old.acknowledged (map (λ event. Happened Left event) es) old.right.side.history s.right (right_left es);
+  archive = archive_goes before.archive old.acknowledged (map (λ event. Happened Left event) es) old.coordinator.archive old.coordinator.archive [] s.archive (kept_events Left es) refl;
+})
+side_goes before old Right machine es messages new s h e = subst (StandsFor before) (sym e) (record {
+  left = stays before.left Left old.acknowledged (map (λ event. Happened Right event) es) old.left.side.history s.left (left_right es);
+  right = goes_on before.right Right old.acknowledged (map (λ event. Happened Right event) es) old.right.side.history machine.side.history es s.right (right_right es) h;
+  archive = archive_goes before.archive old.acknowledged (map (λ event. Happened Right event) es) old.coordinator.archive old.coordinator.archive [] s.archive (kept_events Right es) refl;
+})
+
+-- a side whose history stays
+side_stays : (before : Stores) (old : World) (which : Which) (machine : SideMachine) (sent : List Message) (new : World) → StandsFor before old →
+    machine.side.history ≡ (side_of old which).side.history → new ≡ record (set_side old which machine) { sent = sent } → StandsFor before new
+side_stays before old Left machine sent new s h e = subst (StandsFor before) (sym e) (record { left = h ∙ s.left; right = s.right; archive = s.archive })
+side_stays before old Right machine sent new s h e = subst (StandsFor before) (sym e) (record { left = s.left; right = h ∙ s.right; archive = s.archive })
+
+writes_history : (m : SideMachine) (event : Event) (new : SideMachine) (es : List Event) → Writes m event new es → new.side.history ≡ m.side.history ++ es
+writes_history m event new es written = refl
+writes_history m event new es failed = sym (append-nil m.side.history)
+writes_history m event new es cut = sym (append-nil m.side.history)
+
+edit_history : (m : SideMachine) (user : ℕ) (edit : Edit) (new : SideMachine) (es : List Event) → DoesEdit m user edit new es → new.side.history ≡ m.side.history ++ es
+edit_history m user edit new es edit_refused = sym (append-nil m.side.history)
+edit_history m user edit new es (edit_written n l up allowed w) = writes_history m (Edited user edit) new es w
+
+opens_history : (m : SideMachine) (new : SideMachine) (es : List Event) → Opens m new es → new.side.history ≡ m.side.history ++ es
+opens_history m new es opened = sym (append-nil m.side.history)
+opens_history m new es (recovered event is allowed) = refl
+opens_history m new es not_opened = sym (append-nil m.side.history)
+opens_history m new es (not_reopened up) = sym (append-nil m.side.history)
+
+opens_archive : (m new : CoordinatorMachine) (ks : List Kept) → OpensArchive m new ks → new.archive ≡ archive_of m.archive ks
+opens_archive m new ks archive_opened = refl
+opens_archive m new ks (archive_recovered kept is can) = refl
+opens_archive m new ks archive_not_opened = refl
+opens_archive m new ks (archive_not_reopened up) = refl
+
+side_steps : (before : Stores) (old : World) (which : Which) (Goes : SideMachine → List Event → Type 0) (new : World) → ((m : SideMachine) (es : List Event) → Goes m es → m.side.history ≡ (side_of old which).side.history ++ es) →
+    StandsFor before old → SideGoes old which Goes [] new → StandsFor before new
+side_steps before old which Goes new h s g = side_goes before old which g.0 g.1 [] new s (h g.0 g.1 g.2) g.3
+
+-- the coordinator goes on by what it keeps
+coordinator_goes : (before : Stores) (old : World) (machine : CoordinatorMachine) (ks : List Kept) (sent : List Message) (reports : List (Report × ℕ)) (new : World) → StandsFor before old →
+    machine.archive ≡ archive_of old.coordinator.archive ks →
+    new ≡ record old { coordinator = machine; sent = sent; acknowledged = old.acknowledged ++ map Kept_by ks; reports = reports } → StandsFor before new
+coordinator_goes before old machine ks sent reports new s h e = subst (StandsFor before) (sym e) (record {
+  left = stays before.left Left old.acknowledged (map Kept_by ks) old.left.side.history s.left (event_kept Left ks);
+  right = stays before.right Right old.acknowledged (map Kept_by ks) old.right.side.history s.right (event_kept Right ks);
+  archive = archive_goes before.archive old.acknowledged (map Kept_by ks) old.coordinator.archive machine.archive ks s.archive (kept_kept ks) h;
+})
+
+coordinator_steps : (before : Stores) (old : World) (IsDue_now : Kept → Type 0) (RunsOn : Option Running → Type 0) (new : World) → StandsFor before old → CoordinatorGoes old IsDue_now RunsOn new → StandsFor before new
+coordinator_steps before old IsDue_now RunsOn new s g = coordinator_goes before old g.machine g.kept (old.sent ++ g.messages) (old.reports ++ g.reports) new s g.keeps.archive g.result
+
+same_world : (before : Stores) (old new : World) → StandsFor before old → new ≡ old → StandsFor before new
+same_world before old new s e = subst (StandsFor before) (sym e) s
+
+-- a world whose machine is set has the messages that it had
+sent_stays : (old : World) (which : Which) (machine : SideMachine) → set_side old which machine ≡ record (set_side old which machine) { sent = old.sent }
+sent_stays old Left machine = refl
+sent_stays old Right machine = refl
+
+takes_request : (before : Stores) (old : World) (which : Which) (session number : ℕ) (request : Request) (new : World) → StandsFor before old → TakesRequest old which session number request new → StandsFor before new
+takes_request before old which session number request new s (answered a) =
+    side_goes before old which (record (side_of old which) { side = a.served.side }) a.events (Answers which session number a.served.reply ∷ []) new s a.added a.result
+takes_request before old which session number request new s (request_failed f) = side_stays before old which _ (old.sent ++ Answers which session number (Refused Device) ∷ []) new s refl f.result
+takes_request before old which session number request new s (request_cut c) = side_stays before old which _ old.sent new s refl (c.result ∙ sent_stays old which _)
+takes_request before old which session number request new s (side_down d e) = same_world before old new s e
+
+takes_answer : (before : Stores) (old : World) (from : Which) (session number : ℕ) (reply : Reply) (new : World) → StandsFor before old → TakesAnswer old from session number reply new → StandsFor before new
+takes_answer before old from session number reply new s (taken plan x made g) = coordinator_steps before old _ _ new s g
+takes_answer before old from session number reply new s (ignored x e) = same_world before old new s e
+takes_answer before old from session number reply new s (coordinator_down d e) = same_world before old new s e
+
+delivers : (before : Stores) (old : World) (message : Option Message) (new : World) → StandsFor before old → Delivers old message new → StandsFor before new
+delivers before old None new s e = same_world before old new s e
+delivers before old (Some (Asks to session number request)) new s t = takes_request before old to session number request new s t
+delivers before old (Some (Answers from session number reply)) new s t = takes_answer before old from session number reply new s t
+
+cut_stands : (before : Stores) (old : World) (machine : Machine) (new : World) → StandsFor before old → new ≡ cut_off old machine → StandsFor before new
+cut_stands before old (At which) new s e = side_stays before old which (stopped (side_of old which) (side_of old which).writing) old.sent new s refl (e ∙ sent_stays old which _)
+cut_stands before old Coordinator new s e = subst (StandsFor before) (sym e) (record { left = s.left; right = s.right; archive = s.archive })
+
+halt_stands : (before : Stores) (old : World) (machine : Machine) (new : World) → StandsFor before old → new ≡ halted old machine → StandsFor before new
+halt_stands before old (At which) new s e = side_stays before old which _ old.sent new s refl (e ∙ sent_stays old which _)
+halt_stands before old Coordinator new s e = subst (StandsFor before) (sym e) (record { left = s.left; right = s.right; archive = s.archive })
+
+opens_machine : (before : Stores) (old : World) (machine : Machine) (new : World) → StandsFor before old → OpensMachine old machine new → StandsFor before new
+opens_machine before old (At which) new s g = side_steps before old which (Opens (side_of old which)) new (opens_history (side_of old which)) s g
+opens_machine before old Coordinator new s g = coordinator_goes before old g.0 g.1 old.sent old.reports new s (opens_archive old.coordinator g.0 g.1 g.2) g.3
+
+pub step_stands : (before : Stores) (old : World) (step : Step) (new : World) → StandsFor before old → Steps old step new → StandsFor before new
+step_stands before old (Edits side user edit) new s g = side_steps before old side (DoesEdit (side_of old side) user edit) new (edit_history (side_of old side) user edit) s g
+step_stands before old Start new s (inl e) = same_world before old new s e
+step_stands before old Start new s (inr g) = coordinator_steps before old _ _ new s g
+step_stands before old (Deliver message) new s g = delivers before old (slice_get old.sent message) new s g
+step_stands before old Tick new s (inl e) = same_world before old new s e
+step_stands before old Tick new s (inr g) = coordinator_steps before old _ _ new s g
+step_stands before old (Checkpoint machine) new s (inl e) = same_world before old new s e
+step_stands before old (Checkpoint machine) new s (inr (inl e)) = halt_stands before old machine new s e
+step_stands before old (Checkpoint machine) new s (inr (inr e)) = cut_stands before old machine new s e
+step_stands before old (Fail machine call) new s e = same_world before old new s e
+step_stands before old (Stop machine call) new s (inl e) = same_world before old new s e
+step_stands before old (Stop machine call) new s (inr e) = cut_stands before old machine new s e
+step_stands before old (Open machine) new s (inl e) = same_world before old new s e
+step_stands before old (Open machine) new s (inr g) = opens_machine before old machine new s g.1
+step_stands before old (Reopen machine) new s (inl e) = same_world before old new s e
+step_stands before old (Reopen machine) new s (inr (up, inl g)) = opens_machine before old machine new s g
+step_stands before old (Reopen machine) new s (inr (up, inr e)) = cut_stands before old machine new s e
+
+-- a whole run
+pub run_stands : RunsStand
+run_stands before old new [] g s = same_world before old new s g
+run_stands before old new (step ∷ steps) g s = run_stands before g.0 new steps g.2 (step_stands before old step g.0 s g.1)

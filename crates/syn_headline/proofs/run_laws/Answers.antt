@@ -1,0 +1,16 @@
+use Rattle.syn_headline.proofs.WorldLemmas.{run_stands}
+use Rattle.syn_headline.proofs.FormattedLemmas.{formatted_is_pair}
+use Rattle.syn_headline.proofs.RunLemmas.{runs_replace_legally, runs_use_tokens_once}
+use Rattle.syn_headline.proofs.run_laws.Goals as goal
+
+pub returns-clause-stands : goal.returns-clause-stands
+returns-clause-stands c = run_stands
+
+pub returns-clause-formatted : goal.returns-clause-formatted
+returns-clause-formatted c = formatted_is_pair
+
+pub returns-clause-legal : goal.returns-clause-legal
+returns-clause-legal c = runs_replace_legally
+
+pub returns-clause-tokens : goal.returns-clause-tokens
+returns-clause-tokens c = runs_use_tokens_once

@@ -1,0 +1,75 @@
+-- What a run's calls answered, in order of time, and what may come of one more.
+use Rattle.std.specs.Prelude.{ℕ, ◌≡◌, ◌≤◌, ◌⊎◌, List, [], ◌∷◌, ◌++◌, length, true, filter_map, Option, Some, None}
+use Rattle.syn_model.specs.Path.{Path, Name, parent}
+use Rattle.syn_model.specs.Tree.{Tree, Content, subtree}
+use Rattle.syn_model.specs.Event.{Token, Event}
+use Rattle.syn_model.specs.History.{History, tree_of, tree_at, is_quiet, IsAllowed}
+use Rattle.syn_model.specs.Mark.{mark}
+use Rattle.syn_model.specs.Archive.{Archive, Kept, archive_of, CanKeep, after_kept}
+use Rattle.syn_headline.specs.Side.{ListAt, Listed}
+use Rattle.syn_headline.specs.Network.{Which, Left, Right, other, Sent, WasAnswered}
+
+-- an event of a side, or what the archive kept: answered Ok, or recovered by an opening
+pub data Ack : Type 0 where
+  Happened : (side : Which) (event : Event) → Ack
+  Kept_by : (kept : Kept) → Ack
+
+abbrev pub event_at : Which → Ack → Option Event
+event_at Left (Happened Left event) = Some event
+event_at Left (Happened Right event) = None
+event_at Right (Happened Right event) = Some event
+event_at Right (Happened Left event) = None
+event_at Left (Kept_by kept) = None
+event_at Right (Kept_by kept) = None
+
+abbrev pub kept_in : Ack → Option Kept
+kept_in (Happened side event) = None
+kept_in (Kept_by kept) = Some kept
+
+-- what three disks stand for
+pub record Stores : Type 0 where
+  pub left : History
+  pub right : History
+  pub archive : Archive
+
+abbrev pub history_of : Stores → Which → History
+history_of stores Left = stores.left
+history_of stores Right = stores.right
+
+-- what three disks stand for after the acknowledged list
+abbrev pub stores_after : Stores → List Ack → Stores
+stores_after before acks = record {
+  left = before.left ++ filter_map (event_at Left) acks;
+  right = before.right ++ filter_map (event_at Right) acks;
+  archive = archive_of before.archive (filter_map kept_in acks);
+}
+
+-- a history, or it and the one event that was being written
+abbrev pub Grown : Option Event → History → History → Type 0
+Grown None old new = new ≡ old
+Grown (Some writing) old new = (new ≡ old) ⊎ (IsAllowed old writing × (new ≡ old ++ writing ∷ []))
+
+-- an archive, or it and the one record that was being written
+abbrev pub ArchiveGrown : Option Kept → Archive → Archive → Type 0
+ArchiveGrown None old new = new ≡ old
+ArchiveGrown (Some writing) old new = (new ≡ old) ⊎ (CanKeep old writing × (new ≡ after_kept old writing))
+
+-- the side listed the path at the position in the session
+abbrev pub WasListed : Sent → Which → ℕ → Path → ℕ → Type 0
+WasListed sent side session path position = (entries : List (Name × Content)) × WasAnswered sent side session (ListAt path) (Listed position entries)
+
+-- what the replacement puts was in the other side's tree, no earlier than its listing
+pub record IsFrom (sent : Sent) (source : Which) (source_history : History) (session : ℕ) (path : Path) (new : Tree) : Type 0 where
+  pub listed : ℕ
+  pub was_listed : WasListed sent source session (parent path) listed
+  pub position : ℕ
+  pub not_before : listed ≤ position
+  pub reached : position ≤ length source_history
+  pub held : new ≡ subtree (tree_at source_history position) path
+
+-- a replacement that follows a listing, puts what the other side held and takes what the archive recorded
+pub record IsLegal (sent : Sent) (side : Which) (written : Stores) (token : Token) (path : Path) (since : ℕ) (new : Tree) : Type 0 where
+  pub listed : WasListed sent side token.session (parent path) since
+  pub untouched : is_quiet (history_of written side) since (length (history_of written side)) path ≡ true
+  pub recorded : subtree (mark (tree_of (history_of written side))) path ≡ subtree written.archive.marks path
+  pub source : IsFrom sent (other side) (history_of written (other side)) token.session path new

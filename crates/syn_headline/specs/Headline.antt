@@ -1,0 +1,183 @@
+-- What is proved of whole runs.
+use Rattle.std.specs.Prelude.{ℕ, ◌≡◌, ◌≤◌, ◌↔◌, ◌+◌, drop, true, false, List, [], ◌∷◌, ◌++◌, take, length, None, All, Contains, IfSome}
+use Rattle.syn_model.specs.Path.{Bytes, Path}
+use Rattle.syn_model.specs.Tree.{Tree, IsTree, subtree}
+use Rattle.syn_model.specs.Event.{Token, is_same_token, Event, Edited, Began, Replaced, touches}
+use Rattle.syn_model.specs.History.{History, IsHistory, tree_of, tree_at, last_session}
+use Rattle.syn_model.specs.Mark.{mark, AreApart}
+use Rattle.syn_model.specs.Archive.{Archive, new_archive, Session, BothHeld}
+use Rattle.syn_model.specs.Dirty.{Paths, dirty}
+use Rattle.syn_model.specs.Reconcile.{is_directory_in_both, is_relevant, is_settled, IsSynchronization, IsReconciledArchive}
+use Rattle.syn_headline.specs.Network.{Which, Left, Right, other, NumbersTell}
+use Rattle.syn_headline.specs.Acknowledged.{Ack, Happened, Kept_by, Stores, history_of, stores_after, Grown, ArchiveGrown, IsLegal}
+use Rattle.syn_headline.specs.Report.{Report, Complete}
+use Rattle.syn_headline.specs.Owed.{AsksNothingTwice, Waits}
+use Rattle.syn_headline.specs.Invariant.{SpellingsTell}
+use Rattle.syn_headline.specs.World.{World, Step, Runs, Up, side_of}
+
+abbrev pub stores_of : World → Stores
+stores_of world = record { left = world.left.side.history; right = world.right.side.history; archive = world.coordinator.archive }
+
+-- a pair of sides and their archive, as three formatted disks are, and as every run leaves them
+pub record IsPair (stores : Stores) : Type 0 where
+  pub left : IsHistory stores.left
+  pub right : IsHistory stores.right
+  pub marks : IsTree stores.archive.marks
+  pub held : BothHeld stores.left stores.right stores.archive.marks
+  pub left_begun : last_session stores.left ≤ stores.archive.last_session
+  pub right_begun : last_session stores.right ≤ stores.archive.last_session
+
+-- a world that has just been opened
+pub record IsStart (world : World) : Type 0 where
+  pub pair : IsPair (stores_of world)
+  pub left : (world.left.status ≡ Up) × (world.left.side.staging ≡ None) × (world.left.writing ≡ None)
+  pub right : (world.right.status ≡ Up) × (world.right.side.staging ≡ None) × (world.right.writing ≡ None)
+  pub coordinator : (world.coordinator.status ≡ Up) × (world.coordinator.running ≡ None) × (world.coordinator.writing ≡ None)
+  pub nothing_yet : (world.sent ≡ []) × (world.acknowledged ≡ []) × (world.reports ≡ [])
+
+-- Opening what any stop leaves: the acknowledged events in order, with at most the one being written.
+-- `stands` says what a disk's bytes stand for, and `leaves` which bytes a stop may then leave
+pub record OpensToAcknowledged (stands : Bytes → History → Type 0) (stands_archive : Bytes → Archive → Type 0)
+    (leaves : Which → Bytes → Type 0) (leaves_archive : Bytes → Type 0) (before : Stores) (world : World) : Type 0 where
+  pub side : (which : Which) (bytes : Bytes) → leaves which bytes →
+      (history : History) × stands bytes history × Grown (side_of world which).writing (history_of (stores_after before world.acknowledged) which) history
+  pub archive : (bytes : Bytes) → leaves_archive bytes →
+      (archive : Archive) × stands_archive bytes archive × ArchiveGrown world.coordinator.writing (stores_after before world.acknowledged).archive archive
+
+-- Each replacement of the run puts what the other side held over what the archive recorded, untouched since its listing
+abbrev pub EachReplacementIsLegal : Stores → World → Type 0
+EachReplacementIsLegal before world =
+    (earlier later : List Ack) (side : Which) (token : Token) (path : Path) (since : ℕ) (new : Tree) →
+    world.acknowledged ≡ earlier ++ Happened side (Replaced token path since new) ∷ later →
+    IsLegal world.sent side (stores_after before earlier) token path since new
+
+-- Each archive entry was held by both sides, whatever an opening then gives
+abbrev pub EachEntryWasHeld : Stores → World → Type 0
+EachEntryWasHeld before world =
+    let now = stores_after before world.acknowledged in
+    (left right : History) (archive : Archive) → Grown world.left.writing now.left left → Grown world.right.writing now.right right →
+    ArchiveGrown world.coordinator.writing now.archive archive → BothHeld left right archive.marks
+
+abbrev pub IsNoEdit : Event → Type 0
+IsNoEdit (Edited user edit) = ⊥
+IsNoEdit (Began session) = Unit {0}
+IsNoEdit (Replaced token path since new) = Unit {0}
+
+-- the session began after these events, and no user's event came up to the end
+pub record BeganAfter (session : ℕ) (found : History) (ended : History) : Type 0 where
+  pub later : List Event
+  pub begun : ended ≡ found ++ Began session ∷ later
+  pub no_edit : All IsNoEdit later
+
+-- a complete session without edits: what it found, and what it left
+pub record IsQuietSession (before : Stores) (world : World) (report : Report) (found left : Stores) : Type 0 where
+  pub acks : ℕ
+  pub reported : Contains world.reports (report, acks)
+  pub complete : report.end ≡ Complete
+  pub at_end : left ≡ stores_after before (take acks world.acknowledged)
+  pub left_side : BeganAfter report.session found.left left.left
+  pub right_side : BeganAfter report.session found.right left.right
+  pub started : ℕ
+  pub archive : found.archive ≡ (stores_after before (take started world.acknowledged)).archive
+  pub taken : take (started + 1) world.acknowledged ≡ take started world.acknowledged ++ Kept_by (Session report.session) ∷ []
+
+-- what a scan of the whole tree finds dirty
+abbrev pub dirty_in : History → Archive → Paths
+dirty_in history archive = dirty (record { marks = mark (tree_of history); unstable = [] }) archive.marks
+
+-- the trees and the archive that it left are a synchronization of what it found
+pub record Synchronizes (found left : Stores) : Type 0 where
+  pub trees : IsSynchronization (tree_of found.left) (tree_of found.right) (dirty_in found.left found.archive) (dirty_in found.right found.archive) (tree_of left.left) (tree_of left.right)
+  pub archive : IsReconciledArchive (tree_of found.left) (tree_of found.right) (dirty_in found.left found.archive) (dirty_in found.right found.archive) (tree_of left.left) (tree_of left.right) found.archive.marks left.archive.marks
+
+-- a tree that a side had at some moment of the run or before it
+abbrev pub IsOfRun : World → Tree → Type 0
+IsOfRun world tree = (side : Which) × (position : ℕ) × (tree ≡ tree_at (side_of world side).side.history position)
+
+-- A complete session without edits leaves the synchronization of what it found
+abbrev pub CompleteSessionsSynchronize : Stores → World → Type 0
+CompleteSessionsSynchronize before world =
+    AreApart (IsOfRun world) → (report : Report) (found left : Stores) → IsQuietSession before world report found left → Synchronizes found left
+
+-- Its conflicts are the relevant paths that are dirty on both sides, no directory on both and unequal
+abbrev pub ReportsItsConflicts : Stores → World → Type 0
+ReportsItsConflicts before world =
+    AreApart (IsOfRun world) → (report : Report) (found left : Stores) → IsQuietSession before world report found left → (path : Path) →
+    let a = tree_of found.left in let b = tree_of found.right in
+    Contains report.conflicts path ↔
+    ((is_relevant a b path ≡ true) × (is_directory_in_both a b path ≡ false) × (is_settled a b (dirty_in found.left found.archive) (dirty_in found.right found.archive) path ≡ false))
+
+abbrev pub IsOtherToken : Token → Event → Type 0
+IsOtherToken token (Edited user edit) = Unit {0}
+IsOtherToken token (Began session) = Unit {0}
+IsOtherToken token (Replaced used path since new) = is_same_token used token ≡ false
+
+-- Each token has one replacement at most
+abbrev pub EachTokenOnce : World → Type 0
+EachTokenOnce world =
+    (side : Which) (earlier later : History) (token : Token) (path : Path) (since : ℕ) (new : Tree) →
+    (side_of world side).side.history ≡ earlier ++ Replaced token path since new ∷ later → All (IsOtherToken token) later
+
+-- no event of a history after a position touches the path
+abbrev pub UntouchedSince : ℕ → History → Path → Type 0
+UntouchedSince position history path = All (λ event. touches event path ≡ false) (drop position history)
+
+-- What was carried and not recorded is marked by the next complete session without edits:
+-- `fetched` is the source's position at its last fetch
+abbrev pub CarriedIsMarked : Stores → World → Type 0
+CarriedIsMarked before world =
+    (side : Which) (earlier later : List Ack) (token : Token) (path : Path) (since fetched : ℕ) (new : Tree) (report : Report) (found left : Stores) →
+    world.acknowledged ≡ earlier ++ Happened side (Replaced token path since new) ∷ later →
+    fetched ≤ length (history_of (stores_after before earlier) (other side)) →
+    new ≡ subtree (tree_at (history_of found (other side)) fetched) path →
+    UntouchedSince fetched (history_of found (other side)) path →
+    UntouchedSince (length (history_of (stores_after before earlier) side) + 1) (history_of found side) path →
+    IsQuietSession before world report found left → subtree left.archive.marks path ≡ mark new
+
+-- The headline
+pub record Headline (stands : Bytes → History → Type 0) (stands_archive : Bytes → Archive → Type 0)
+    (leaves : Which → Bytes → Type 0) (leaves_archive : Bytes → Type 0) (before : Stores) (world : World) : Type 0 where
+  pub opens : OpensToAcknowledged stands stands_archive leaves leaves_archive before world
+  pub replaced : EachReplacementIsLegal before world
+  pub archived : EachEntryWasHeld before world
+  pub synchronized : CompleteSessionsSynchronize before world
+
+-- The machines stand for what was there before and then what was acknowledged, in order
+pub record StandsFor (before : Stores) (world : World) : Type 0 where
+  pub left : world.left.side.history ≡ history_of (stores_after before world.acknowledged) Left
+  pub right : world.right.side.history ≡ history_of (stores_after before world.acknowledged) Right
+  pub archive : world.coordinator.archive ≡ (stores_after before world.acknowledged).archive
+
+-- as every run leaves them
+abbrev pub RunsStand : Type 0
+RunsStand = (before : Stores) (old new : World) (steps : List Step) → Runs old steps new → StandsFor before old → StandsFor before new
+
+-- three disks that were just formatted
+abbrev pub formatted : Stores
+formatted = record { left = []; right = []; archive = new_archive }
+
+abbrev pub FormattedIsPair : Type 0
+FormattedIsPair = IsPair formatted
+
+-- Without stops, and with devices that do not fail: the layers compose
+pub record Composes (before : Stores) (world : World) : Type 0 where
+  pub replaced : EachReplacementIsLegal before world
+  pub archived : EachEntryWasHeld before world
+  pub synchronized : CompleteSessionsSynchronize before world
+  pub conflicts : ReportsItsConflicts before world
+  pub once : EachTokenOnce world
+
+-- What is also proved of runs with stops
+pub record Continues (before : Stores) (world : World) : Type 0 where
+  pub once : EachTokenOnce world
+  pub repeats : AsksNothingTwice world.sent
+  pub numbers : NumbersTell world.sent
+  pub waits : IfSome world.coordinator.running Waits
+  pub carried : CarriedIsMarked before world
+
+-- In every run from a world that has just been opened, with stops and failing devices, each replacement is legal
+abbrev pub RunsReplaceLegally : Type 0
+RunsReplaceLegally = SpellingsTell → (old new : World) (steps : List Step) → IsStart old → Runs old steps new → EachReplacementIsLegal (stores_of old) new
+
+abbrev pub RunsUseTokensOnce : Type 0
+RunsUseTokensOnce = SpellingsTell → (old new : World) (steps : List Step) → IsStart old → Runs old steps new → EachTokenOnce new

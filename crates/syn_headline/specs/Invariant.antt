@@ -1,0 +1,145 @@
+-- What each step of a run keeps.
+use Rattle.std.specs.Prelude.{ℕ, ◌≡◌, ◌≢◌, ◌≤◌, ◌⊎◌, true, false, List, [], length, take, drop, slice_get, Some, None, Contains, IfSome}
+use Rattle.syn_model.specs.Path.{Bytes, Name, Path}
+use Rattle.syn_model.specs.Tree.{Tree, Content, IsPart, IsTree, subtree}
+use Rattle.syn_model.specs.Limits.{children, fits_part, fits_replica}
+use Rattle.syn_model.specs.Spelling.{spelling}
+use Rattle.syn_model.specs.Mark.{mark}
+use Rattle.syn_model.specs.Event.{Token, Event, Edited, Began, Replaced}
+use Rattle.syn_model.specs.History.{History, IsHistory, tree_of, tree_at, last_session, last_token, is_quiet}
+use Rattle.syn_model.specs.Archive.{Archive, Kept, CanKeep, after_kept}
+use Rattle.syn_headline.specs.Side.{Request, Begin, ListAt, Fetch, Replace, IsLawfulRequest, Reply, Begun, Listed, Piece, Done, Staging}
+use Rattle.syn_headline.specs.Network.{Which, other, Asks, Answers, Sent, NumbersTell}
+use Rattle.syn_model.specs.Decision.{path_of}
+use Rattle.syn_headline.specs.Planning.{Planned, seen_on, IsPlanOf, WritesTo}
+use Rattle.syn_headline.specs.World.{World, Up, SideMachine, CoordinatorMachine, side_of, IsOfPlan, RunsOver}
+
+-- the history of each side
+abbrev pub Histories : Type 0
+Histories = Which → History
+
+abbrev pub histories_of : World → Histories
+histories_of world side = (side_of world side).side.history
+
+-- the plan of each session that had one, which the coordinator forgets as it stops
+abbrev pub Plans : Type 0
+Plans = ℕ → List Planned
+
+abbrev pub part_at : History → ℕ → Path → Tree
+part_at history position path = subtree (tree_at history position) path
+
+pub record IsTrueListing (history : History) (path : Path) (position : ℕ) (entries : List (Name × Content)) : Type 0 where
+  pub reached : position ≤ length history
+  pub entries_there : entries ≡ children (mark (tree_at history position)) path
+
+pub record IsTruePiece (history : History) (path : Path) (since offset total : ℕ) (bytes : Bytes) : Type 0 where
+  pub reached : since ≤ length history
+  pub whole : total ≡ length (spelling (part_at history since path))
+  pub bytes_there : bytes ≡ take 32768 (drop offset (spelling (part_at history since path)))
+
+-- a reply that stays true as the history goes on
+abbrev pub IsTrue : History → ℕ → Request → Reply → Type 0
+IsTrue history session (Begin pair) (Begun position) = session ≤ last_session history
+IsTrue history session (ListAt path) (Listed position entries) = IsTrueListing history path position entries
+IsTrue history session (Fetch path since offset) (Piece total bytes) = IsTruePiece history path since offset total bytes
+IsTrue history session (Replace item path since size) Done = (since ≤ length history) × (is_quiet history since (length history) path ≡ false)
+IsTrue history session request reply = Unit {0}
+
+-- a request that was sent: of a session that the archive kept, lawful, and by its session's plan
+pub record IsSound_request (plans : Plans) (archive : Archive) (sent : Sent) (to : Which) (session : ℕ) (request : Request) : Type 0 where
+  pub session_kept : session ≤ archive.last_session
+  pub lawful : IsLawfulRequest request
+  pub by_plan : IsOfPlan sent session (plans session) to request
+
+-- where the session of an item is the last that its side began, and nothing touched the path since it was listed,
+-- the archive has there what the side has
+abbrev pub IsStillRecorded : History → Archive → ℕ → Path → ℕ → Type 0
+IsStillRecorded history archive session path since =
+    session ≡ last_session history → is_quiet history since (length history) path ≡ true → subtree (mark (tree_of history)) path ≡ subtree archive.marks path
+
+-- the path of a side's last token was touched since it was listed
+abbrev pub IsUsed : Plans → Histories → Type 0
+IsUsed plans histories = (side : Which) (token : Token) (planned : Planned) (path : Path) → last_token (histories side) ≡ Some token →
+    slice_get (plans token.session) token.item ≡ Some planned → WritesTo planned.item side path → is_quiet (histories side) (seen_on planned side).since (length (histories side)) path ≡ false
+
+-- no side has a token of the session
+abbrev pub IsFresh : Histories → ℕ → Type 0
+IsFresh histories session = (side : Which) (token : Token) → last_token (histories side) ≡ Some token → token.session ≢ session
+
+-- what the two histories, the archive and the messages keep of one another
+pub record IsSound (plans : Plans) (histories : Histories) (archive : Archive) (sent : Sent) : Type 0 where
+  pub lawful : (side : Which) → IsHistory (histories side)
+  pub marks : IsTree archive.marks
+  pub begun : (side : Which) → last_session (histories side) ≤ archive.last_session
+  pub numbers : NumbersTell sent
+  pub asked : (to : Which) (session number : ℕ) (request : Request) → Contains sent (Asks to session number request) → IsSound_request plans archive sent to session request
+  pub known : (from : Which) (session number : ℕ) (reply : Reply) → Contains sent (Answers from session number reply) →
+      (request : Request) × Contains sent (Asks from session number request)
+  pub answered : (from : Which) (session number : ℕ) (reply : Reply) (request : Request) → Contains sent (Answers from session number reply) →
+      Contains sent (Asks from session number request) → IsTrue (histories from) session request reply
+  pub planned : (session : ℕ) → (plans session ≡ []) ⊎ ((found : Tree) × IsPlanOf sent session found (plans session))
+  pub recorded : (session item : ℕ) (planned : Planned) (side : Which) (path : Path) → slice_get (plans session) item ≡ Some planned → WritesTo planned.item side path →
+      IsStillRecorded (histories side) archive session path (seen_on planned side).since
+  pub used : IsUsed plans histories
+
+-- what an item's source had at its path when it was listed there
+abbrev pub source_of : Histories → Which → Planned → Tree
+source_of histories side planned = part_at (histories (other side)) (seen_on planned (other side)).since (path_of planned.item)
+
+-- what is staged on a side is a beginning of the spelling of what the item's source had
+pub record IsSoundStaging (plans : Plans) (histories : Histories) (side : Which) (staging : Staging) : Type 0 where
+  pub planned : Planned
+  pub item : slice_get (plans staging.token.session) staging.token.item ≡ Some planned
+  pub reached : (seen_on planned (other side)).since ≤ length (histories (other side))
+  pub begins : staging.bytes ≡ take (length staging.bytes) (spelling (source_of histories side planned))
+
+-- a replacement by its session's plan, of a path that was not touched since, with all that the source had
+pub record IsSoundReplacement (plans : Plans) (histories : Histories) (side : Which) (token : Token) (path : Path) (since : ℕ) (new : Tree) : Type 0 where
+  pub planned : Planned
+  pub item : slice_get (plans token.session) token.item ≡ Some planned
+  pub writes : WritesTo planned.item side path
+  pub listed : since ≡ (seen_on planned side).since
+  pub within : since ≤ length (histories side)
+  pub quiet : is_quiet (histories side) since (length (histories side)) path ≡ true
+  pub reached : (seen_on planned (other side)).since ≤ length (histories (other side))
+  pub whole : new ≡ source_of histories side planned
+
+abbrev pub IsSoundEvent : Plans → Histories → Archive → Which → Event → Type 0
+IsSoundEvent plans histories archive side (Edited user edit) = Unit {0}
+IsSoundEvent plans histories archive side (Began session) = session ≤ archive.last_session
+IsSoundEvent plans histories archive side (Replaced token path since new) = IsSoundReplacement plans histories side token path since new
+
+-- a side that has failed or stopped while it wrote an event adds no other
+pub record IsSoundSide (plans : Plans) (histories : Histories) (archive : Archive) (side : Which) (machine : SideMachine) : Type 0 where
+  pub staged : IfSome machine.side.staging (IsSoundStaging plans histories side)
+  pub writing : IfSome machine.writing (λ event. (machine.status ≢ Up) × IsSoundEvent plans histories archive side event)
+
+-- what is recorded leaves alone each path of a replacement that may still come
+pub record IsHarmless (plans : Plans) (histories : Histories) (kept : Kept) : Type 0 where
+  pub leaves : (session item : ℕ) (planned : Planned) (side : Which) (path : Path) → slice_get (plans session) item ≡ Some planned → WritesTo planned.item side path →
+      session ≡ last_session (histories side) → is_quiet (histories side) (seen_on planned side).since (length (histories side)) path ≡ true →
+      (archive : Archive) → IsTree archive.marks → CanKeep archive kept → subtree (after_kept archive kept).marks path ≡ subtree archive.marks path
+
+-- a running session has its plan, and none runs while a record is written
+pub record IsSoundCoordinator (plans : Plans) (histories : Histories) (sent : Sent) (machine : CoordinatorMachine) : Type 0 where
+  pub running : IfSome machine.running (λ running. (plans running.session ≡ running.plan) × (running.plan ≡ [] → IsFresh histories running.session))
+  pub runs_over : RunsOver sent machine.archive machine.running
+  pub writing : IfSome machine.writing (λ kept. (machine.status ≢ Up) × (machine.running ≡ None) × CanKeep machine.archive kept × IsHarmless plans histories kept)
+
+-- The invariant of a run
+pub record IsKept (plans : Plans) (world : World) : Type 0 where
+  pub sound : IsSound plans (histories_of world) world.coordinator.archive world.sent
+  pub sides : (side : Which) → IsSoundSide plans (histories_of world) world.coordinator.archive side (side_of world side)
+  pub coordinator : IsSoundCoordinator plans (histories_of world) world.sent world.coordinator
+
+-- a part of a tree that a replica may have
+pub record IsOfReplica (part : Tree) : Type 0 where
+  pub whole : Tree
+  pub path : Path
+  pub tree : IsTree whole
+  pub fits : fits_replica whole ≡ true
+  pub part_is : part ≡ subtree whole path
+
+-- one spelling has one tree, among those that fit
+abbrev pub SpellingsTell : Type 0
+SpellingsTell = (t u : Tree) → IsPart t → fits_part t ≡ true → IsOfReplica u → spelling t ≡ spelling u → t ≡ u

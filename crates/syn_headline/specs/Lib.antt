@@ -1,0 +1,11 @@
+pub mod Side
+pub mod Network
+pub mod Acknowledged
+pub mod Report
+pub mod Planning
+pub mod World
+pub mod Owed
+pub mod Invariant
+pub mod Headline
+pub mod Laws
+pub mod Rows

@@ -1,0 +1,30 @@
+-- Messages, each in the order in which it was sent. A delivery takes any of them, as often as the steps say.
+use Rattle.std.specs.Prelude.{ℕ, ◌≡◌, List, Contains}
+use Rattle.syn_headline.specs.Side.{Request, Reply}
+
+pub data Which : Type 0 where
+  Left : Which
+  Right : Which
+
+abbrev pub other : Which → Which
+other Left = Right
+other Right = Left
+
+-- a request to a side, or the side's reply to it, with the session and number of the request
+pub data Message : Type 0 where
+  Asks : (to : Which) (session : ℕ) (number : ℕ) (request : Request) → Message
+  Answers : (from : Which) (session : ℕ) (number : ℕ) (reply : Reply) → Message
+
+abbrev pub Sent : Type 0
+Sent = List Message
+
+-- a side replied so to a request of a session
+pub record WasAnswered (sent : Sent) (side : Which) (session : ℕ) (request : Request) (reply : Reply) : Type 0 where
+  pub number : ℕ
+  pub asked : Contains sent (Asks side session number request)
+  pub answered : Contains sent (Answers side session number reply)
+
+-- a request that is sent again is the same
+abbrev pub NumbersTell : Sent → Type 0
+NumbersTell sent = (side : Which) (session n : ℕ) (a b : Request) →
+    Contains sent (Asks side session n a) → Contains sent (Asks side session n b) → a ≡ b

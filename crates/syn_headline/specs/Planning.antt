@@ -1,0 +1,79 @@
+-- Where a session's plan and what it stages come from: the listings and pieces that the sides answered.
+use Rattle.std.specs.Prelude.{ℕ, ◌≡◌, ◌≤◌, ◌⊎◌, true, false, List, [], ◌∷◌, ◌++◌, Contains, All}
+use Rattle.syn_model.specs.Path.{Path, Name, parent, child}
+use Rattle.syn_model.specs.Tree.{Tree, IsTree, subtree, is_directory}
+use Rattle.syn_model.specs.Limits.{children}
+use Rattle.syn_model.specs.Dirty.{Scan}
+use Rattle.syn_headline.specs.Side.{Begin, ListAt, Fetch, Begun, Listed, NotDir, Piece}
+use Rattle.syn_headline.specs.Network.{Which, Left, Right, other, Sent, WasAnswered}
+use Rattle.syn_model.specs.Decision.{Item, path_of, IsReached, ToLeft, ToRight, MarkSame, MarkDir, Conflict, Decision, Clean, Do, DoAndGoOn, GoOn, decision, is_unstable}
+
+-- each directory of the scan was listed so at its position, after the directory above it, and each unstable path answered as no directory
+pub record IsScanOf (sent : Sent) (side : Which) (session : ℕ) (scan : Scan) (since : Path → ℕ) : Type 0 where
+  pub tree : IsTree scan.marks
+  pub listed : (path : Path) → is_directory scan.marks path ≡ true → is_unstable scan path ≡ false →
+      WasAnswered sent side session (ListAt path) (Listed (since path) (children scan.marks path))
+  pub ordered : (path : Path) (name : Name) → is_directory scan.marks (child path name) ≡ true → since path ≤ since (child path name)
+  pub not_dir : (path : Path) → Contains scan.unstable path → WasAnswered sent side session (ListAt path) (NotDir (since path))
+  pub nothing_below : (path : Path) → Contains scan.unstable path → children scan.marks path ≡ []
+
+-- what a scan has at a path, and the position of the listing of its parent
+pub record Seen : Type 0 where
+  pub marks : Tree
+  pub since : ℕ
+
+-- an item of the plan, with what the two scans have at its path
+pub record Planned : Type 0 where
+  pub item : Item
+  pub left : Seen
+  pub right : Seen
+
+abbrev pub seen_on : Planned → Which → Seen
+seen_on planned Left = planned.left
+seen_on planned Right = planned.right
+
+abbrev pub IsSeen : Scan → (Path → ℕ) → Path → Seen → Type 0
+IsSeen scan since path seen = (seen.marks ≡ subtree scan.marks path) × (seen.since ≡ since (parent path))
+
+-- the item is what is decided at its path
+pub record IsPlannedFrom (scan : Which → Scan) (since : Which → Path → ℕ) (archive : Tree) (planned : Planned) : Type 0 where
+  pub reached : IsReached (scan Left) (scan Right) archive (path_of planned.item)
+  pub decided : (decision (scan Left) (scan Right) archive (path_of planned.item) ≡ Do planned.item) ⊎ (decision (scan Left) (scan Right) archive (path_of planned.item) ≡ DoAndGoOn planned.item)
+  pub seen : (side : Which) → IsSeen (scan side) (since side) (path_of planned.item) (seen_on planned side)
+
+-- the side answered that the session has begun there
+pub record HasBegun (sent : Sent) (side : Which) (session : ℕ) : Type 0 where
+  pub pair : ℕ
+  pub position : ℕ
+  pub begun : WasAnswered sent side session (Begin pair) (Begun position)
+
+-- a plan that was made of two scans of the session and the archive then, once both sides had begun the session
+pub record IsPlanOf (sent : Sent) (session : ℕ) (archive : Tree) (plan : List Planned) : Type 0 where
+  pub scan : Which → Scan
+  pub since : Which → Path → ℕ
+  pub begun : (side : Which) → HasBegun sent side session
+  pub scanned : (side : Which) → IsScanOf sent side session (scan side) (since side)
+  pub items : All (IsPlannedFrom scan since archive) plan
+
+-- the item writes the path on the side
+abbrev pub WritesTo : Item → Which → Path → Type 0
+WritesTo (ToLeft at) Left path = at ≡ path
+WritesTo (ToRight at) Right path = at ≡ path
+WritesTo (ToLeft at) Right path = ⊥
+WritesTo (ToRight at) Left path = ⊥
+WritesTo (MarkSame at) side path = ⊥
+WritesTo (MarkDir at) side path = ⊥
+WritesTo (Conflict at) side path = ⊥
+
+-- a piece of the item's source was answered so, for what is to be written to a side
+abbrev pub IsPiece : Sent → Which → ℕ → Planned → ℕ → ℕ → List ℕ → Type 0
+IsPiece sent to session planned offset total bytes =
+    WasAnswered sent (other to) session (Fetch (path_of planned.item) (seen_on planned (other to)).since offset) (Piece total bytes)
+
+-- what is staged for an item was a piece of the source, at the same place
+abbrev pub IsFetched : Sent → Which → ℕ → Planned → ℕ → List ℕ → Type 0
+IsFetched sent to session planned offset bytes = (total : ℕ) × IsPiece sent to session planned offset total bytes
+
+-- the source's pieces said that this is the length of the whole
+abbrev pub IsTotal : Sent → Which → ℕ → Planned → ℕ → Type 0
+IsTotal sent to session planned total = (offset : ℕ) × (bytes : List ℕ) × IsPiece sent to session planned offset total bytes

@@ -1,0 +1,346 @@
+-- Three machines and the network between them, and what a step may do.
+use Rattle.std.specs.Prelude.{ℕ, ◌+◌, ◌≡◌, ◌≢◌, ◌⊎◌, Bool, List, [], ◌∷◌, ◌++◌, slice_get, map, Option, Some, None, Contains, IfSome, IsSome, IsSomeAnd, All}
+use Rattle.syn_model.specs.Path.{Path}
+use Rattle.syn_model.specs.Refusal.{Refusal, Device}
+use Rattle.syn_model.specs.Refusal as why
+use Rattle.syn_model.specs.Event.{Edit, Event, Edited}
+use Rattle.syn_model.specs.History.{IsAllowed}
+use Rattle.syn_model.specs.Archive.{Archive, Kept, Session, Recorded, RecordedDir, CanKeep, after_kept, archive_of}
+use Rattle.syn_headline.specs.Side.{Request, Begin, ListAt, Fetch, Stage, Replace, Reply, Done, Refused, token_of, IsLawfulRequest, Side, Served, Serves, answer, stage, add_event}
+use Rattle.syn_headline.specs.Network.{Which, Left, Right, other, Message, Asks, Answers, Sent, NumbersTell}
+use Rattle.syn_headline.specs.Acknowledged.{Ack, Happened, Kept_by}
+use Rattle.syn_headline.specs.Planning.{Planned, seen_on, IsPlanOf, WritesTo, IsFetched, IsTotal}
+use Rattle.syn_model.specs.Decision.{MarkSame, MarkDir}
+use Rattle.syn_headline.specs.Report.{Report}
+
+pub data Machine : Type 0 where
+  At : (side : Which) → Machine
+  Coordinator : Machine
+
+pub data Step : Type 0 where
+  Edits : (side : Which) (user : ℕ) (edit : Edit) → Step
+  Start : Step
+  Deliver : (message : ℕ) → Step
+  Tick : Step
+  Checkpoint : (machine : Machine) → Step
+  Fail : (machine : Machine) (call : ℕ) → Step
+  Stop : (machine : Machine) (call : ℕ) → Step
+  Open : (machine : Machine) → Step
+  Reopen : (machine : Machine) → Step
+
+pub data Status : Type 0 where
+  Up : Status
+  Halted : Status
+  Down : Status
+
+-- a side: what it stands for, and what was being written when it stopped or a device failed
+pub record SideMachine : Type 0 where
+  pub status : Status
+  pub side : Side
+  pub writing : Option Event
+
+-- a request that waits for its answer
+pub record Outstanding : Type 0 where
+  pub number : ℕ
+  pub request : Request
+  pub resent : ℕ
+
+-- a session that runs, with its plan once it is made
+pub record Running : Type 0 where
+  pub session : ℕ
+  pub left : Option Outstanding
+  pub right : Option Outstanding
+  pub plan : List Planned
+
+pub record CoordinatorMachine : Type 0 where
+  pub status : Status
+  pub archive : Archive
+  pub writing : Option Kept
+  pub running : Option Running
+
+pub record World : Type 0 where
+  pub pair : ℕ
+  pub left : SideMachine
+  pub right : SideMachine
+  pub coordinator : CoordinatorMachine
+  pub sent : Sent
+  pub acknowledged : List Ack
+  pub reports : List (Report × ℕ)
+
+abbrev pub side_of : World → Which → SideMachine
+side_of world Left = world.left
+side_of world Right = world.right
+
+abbrev pub set_side : World → Which → SideMachine → World
+set_side world Left machine = record world { left = machine }
+set_side world Right machine = record world { right = machine }
+
+abbrev pub outstanding : Running → Which → Option Outstanding
+outstanding running Left = running.left
+outstanding running Right = running.right
+
+-- a machine that stops forgets all but its disk
+abbrev pub stopped : SideMachine → Option Event → SideMachine
+stopped machine writing = record { status = Down; side = record { history = machine.side.history; staging = None }; writing = writing }
+
+-- a call that writes an event is answered, fails at a device call, or is cut off by a stop
+pub data Writes (machine : SideMachine) (event : Event) : SideMachine → List Event → Type 0 where
+  written : Writes machine event (record machine { side = add_event machine.side event }) (event ∷ [])
+  failed : Writes machine event (record machine { status = Halted; writing = Some event }) []
+  cut : Writes machine event (stopped machine (Some event)) []
+
+-- a side goes on so, and acknowledges these events
+abbrev pub SideGoes : World → Which → (SideMachine → List Event → Type 0) → List Message → World → Type 0
+SideGoes old which Goes messages new =
+    (machine : SideMachine) × (events : List Event) × Goes machine events
+    × (new ≡ record (set_side old which machine) {
+      sent = old.sent ++ messages;
+      acknowledged = old.acknowledged ++ map (λ event. Happened which event) events;
+    })
+
+-- an edit is refused and nothing changes, or its event is written
+pub data DoesEdit (machine : SideMachine) (user : ℕ) (edit : Edit) : SideMachine → List Event → Type 0 where
+  edit_refused : DoesEdit machine user edit machine []
+  edit_written : (new : SideMachine) (events : List Event) → machine.status ≡ Up → IsAllowed machine.side.history (Edited user edit) →
+      Writes machine (Edited user edit) new events → DoesEdit machine user edit new events
+
+-- an opening gives the history, or it and the event that was being written
+pub data Opens (machine : SideMachine) : SideMachine → List Event → Type 0 where
+  opened : Opens machine (record machine { status = Up; writing = None }) []
+  recovered : (event : Event) → machine.writing ≡ Some event → IsAllowed machine.side.history event →
+      Opens machine (record { status = Up; side = add_event machine.side event; writing = None }) (event ∷ [])
+  not_opened : Opens machine machine []
+  not_reopened : machine.status ≢ Down → Opens machine (record machine { status = Halted }) []
+
+-- a halted side still stages, and refuses all else
+abbrev pub serve_halted : Side → ℕ → Request → Served
+serve_halted side session (Stage item offset bytes) = stage side side.staging (token_of session item) offset bytes
+serve_halted side session (Begin pair) = answer side (Refused why.Halted)
+serve_halted side session (ListAt path) = answer side (Refused why.Halted)
+serve_halted side session (Fetch path since offset) = answer side (Refused why.Halted)
+serve_halted side session (Replace item path since size) = answer side (Refused why.Halted)
+
+abbrev pub ServesAs : Status → ℕ → (Event → Bool) → Side → ℕ → Request → Served → Type 0
+ServesAs Up pair has_room side session request served = Serves pair has_room side session request served
+ServesAs Halted pair has_room side session request served = served ≡ serve_halted side session request
+ServesAs Down pair has_room side session request served = ⊥
+
+pub record AnswersRequest (pair : ℕ) (old : World) (which : Which) (session number : ℕ) (request : Request) (new : World) : Type 0 where
+  pub has_room : Event → Bool
+  pub served : Served
+  pub events : List Event
+  pub serves : ServesAs (side_of old which).status pair has_room (side_of old which).side session request served
+  pub no_failure : served.reply ≢ Refused Device
+  pub added : served.side.history ≡ (side_of old which).side.history ++ events
+  pub result : new ≡ record (set_side old which (record (side_of old which) { side = served.side })) {
+    sent = old.sent ++ Answers which session number served.reply ∷ [];
+    acknowledged = old.acknowledged ++ map (λ event. Happened which event) events;
+  }
+
+-- the event that a request adds where no device fails and the side does not stop
+pub record WouldAdd (pair : ℕ) (side : Side) (session : ℕ) (request : Request) (event : Event) : Type 0 where
+  pub has_room : Event → Bool
+  pub served : Served
+  pub serves : Serves pair has_room side session request served
+  pub adds : served.side.history ≡ side.history ++ event ∷ []
+
+-- the device fails as the event is written: the side is halted, and says so
+pub record FailsRequest (old : World) (which : Which) (session number : ℕ) (request : Request) (new : World) : Type 0 where
+  pub event : Event
+  pub up : (side_of old which).status ≡ Up
+  pub would : WouldAdd old.pair (side_of old which).side session request event
+  pub result : new ≡ record (set_side old which (record (side_of old which) { status = Halted; writing = Some event })) {
+    sent = old.sent ++ Answers which session number (Refused Device) ∷ [];
+  }
+
+-- the side stops as the event is written: it answers nothing
+pub record CutsRequest (old : World) (which : Which) (session : ℕ) (request : Request) (new : World) : Type 0 where
+  pub event : Event
+  pub up : (side_of old which).status ≡ Up
+  pub would : WouldAdd old.pair (side_of old which).side session request event
+  pub result : new ≡ set_side old which (stopped (side_of old which) (Some event))
+
+-- a side takes a request
+pub data TakesRequest (old : World) (which : Which) (session number : ℕ) (request : Request) (new : World) : Type 0 where
+  answered : AnswersRequest old.pair old which session number request new → TakesRequest old which session number request new
+  request_failed : FailsRequest old which session number request new → TakesRequest old which session number request new
+  request_cut : CutsRequest old which session request new → TakesRequest old which session number request new
+  side_down : (side_of old which).status ≡ Down → new ≡ old → TakesRequest old which session number request new
+
+-- The coordinator
+
+-- what is asked of a side is by an item of the plan: a piece of what it is to give, a piece that was fetched,
+-- or its replacement, once the length of the whole is known
+abbrev pub IsOfPlan : Sent → ℕ → List Planned → Which → Request → Type 0
+IsOfPlan sent session plan to (Begin pair) = Unit {0}
+IsOfPlan sent session plan to (ListAt path) = Unit {0}
+IsOfPlan sent session plan to (Fetch path since offset) =
+    (item : ℕ) × (planned : Planned) × (slice_get plan item ≡ Some planned) × WritesTo planned.item (other to) path × (since ≡ (seen_on planned to).since)
+IsOfPlan sent session plan to (Stage item offset bytes) =
+    (planned : Planned) × (slice_get plan item ≡ Some planned) × IsFetched sent to session planned offset bytes
+IsOfPlan sent session plan to (Replace item path since size) =
+    (planned : Planned) × (slice_get plan item ≡ Some planned) × WritesTo planned.item to path × (since ≡ (seen_on planned to).since)
+    × IsTotal sent to session planned size
+
+-- a request of the running session
+abbrev pub IsOfSession : Sent → Running → Message → Type 0
+IsOfSession sent running (Asks to session number request) = (session ≡ running.session) × IsLawfulRequest request × IsOfPlan sent running.session running.plan to request
+IsOfSession sent running (Answers from session number reply) = ⊥
+
+-- what may be recorded when an answer is taken: the item whose replacement is done, with the mark of its source, or where both scans agree
+pub data IsDue (running : Running) (plan : List Planned) (from : Which) (reply : Reply) : Kept → Type 0 where
+  done : (sent : Outstanding) (item : ℕ) (path : Path) (since size : ℕ) (planned : Planned) → reply ≡ Done →
+      outstanding running from ≡ Some sent → sent.request ≡ Replace item path since size → slice_get plan item ≡ Some planned →
+      WritesTo planned.item from path → IsDue running plan from reply (Recorded path (seen_on planned (other from)).marks)
+  same : (item : ℕ) (path : Path) (planned : Planned) → slice_get plan item ≡ Some planned → planned.item ≡ MarkSame path →
+      planned.left.marks ≡ planned.right.marks → IsDue running plan from reply (Recorded path planned.left.marks)
+  directory : (item : ℕ) (path : Path) (planned : Planned) → slice_get plan item ≡ Some planned → planned.item ≡ MarkDir path →
+      IsDue running plan from reply (RecordedDir path)
+
+abbrev pub AllOfSession : Sent → Option Running → List Message → Type 0
+AllOfSession sent None messages = messages ≡ []
+AllOfSession sent (Some running) messages = All (IsOfSession sent running) messages
+
+-- the plan stays, or there was none and it is made of the scans and the archive as they are
+abbrev pub HasPlan : Sent → Archive → Option Running → List Planned → Type 0
+HasPlan sent archive None plan = Unit {0}
+HasPlan sent archive (Some running) plan = (plan ≡ running.plan) ⊎ ((running.plan ≡ []) × IsPlanOf sent running.session archive.marks plan)
+
+-- a session ends, or goes on with its plan
+pub data GoesOnAs (old : Running) (plan : List Planned) : Option Running → Type 0 where
+  ended : GoesOnAs old plan None
+  goes_on : (new : Running) → new.session ≡ old.session → new.plan ≡ plan → GoesOnAs old plan (Some new)
+
+abbrev pub GoesOnFrom : Option Running → List Planned → Option Running → Type 0
+GoesOnFrom None plan new = new ≡ None
+GoesOnFrom (Some old) plan new = GoesOnAs old plan new
+
+abbrev pub plan_of : Option Running → List Planned
+plan_of None = []
+plan_of (Some running) = running.plan
+
+-- a session starts with the next number
+abbrev pub StartsFrom : Archive → Option Running → Type 0
+StartsFrom archive None = Unit {0}
+StartsFrom archive (Some new) = (new.session ≡ archive.last_session + 1) × (new.plan ≡ [])
+
+-- a request that waits was sent
+abbrev pub WasSent : Sent → Running → Type 0
+WasSent sent running = (side : Which) → IfSome (outstanding running side) (λ waiting. Contains sent (Asks side running.session waiting.number waiting.request))
+
+-- a running session has the number that the archive kept last, and what waits was sent
+abbrev pub RunsOver : Sent → Archive → Option Running → Type 0
+RunsOver sent archive None = Unit {0}
+RunsOver sent archive (Some running) = (running.session ≡ archive.last_session) × WasSent sent running
+
+-- each in turn may be kept
+abbrev pub AllCanKeep : Archive → List Kept → Type 0
+AllCanKeep archive [] = Unit {0}
+AllCanKeep archive (kept ∷ more) = CanKeep archive kept × AllCanKeep (after_kept archive kept) more
+
+-- what a call of the coordinator keeps, and how it ends: with one more record that the device failed on, or that a stop cut off
+pub record Keeps (old : CoordinatorMachine) (IsDue_now : Kept → Type 0) (new : CoordinatorMachine) (kept : List Kept) : Type 0 where
+  pub due : All IsDue_now kept
+  pub can : AllCanKeep old.archive kept
+  pub archive : new.archive ≡ archive_of old.archive kept
+  pub writing : IfSome new.writing (λ more. IsDue_now more × CanKeep new.archive more)
+
+-- a call of the coordinator: what it sends is of its session, and what it keeps is due
+pub record CoordinatorGoes (old : World) (IsDue_now : Kept → Type 0) (RunsOn : Option Running → Type 0) (new : World) : Type 0 where
+  pub machine : CoordinatorMachine
+  pub kept : List Kept
+  pub messages : List Message
+  pub reports : List (Report × ℕ)
+  pub not_down : old.coordinator.status ≢ Down
+  pub while_halted : old.coordinator.status ≡ Halted → (kept ≡ []) × (machine.writing ≡ old.coordinator.writing) × (machine.status ≢ Up)
+  pub keeps : Keeps old.coordinator IsDue_now machine kept
+  pub unless_up : machine.status ≡ Up → machine.writing ≡ None
+  pub runs_on : RunsOn machine.running
+  pub runs_over : RunsOver (old.sent ++ messages) machine.archive machine.running
+  pub numbers : NumbersTell (old.sent ++ messages)
+  pub of_session : AllOfSession old.sent machine.running messages
+  pub silent_when_writing : IsSome machine.writing → (messages ≡ []) × (machine.running ≡ None)
+  pub silent_when_down : machine.status ≡ Down → (messages ≡ []) × (machine.running ≡ None)
+  pub result : new ≡ record old {
+    coordinator = machine;
+    sent = old.sent ++ messages;
+    acknowledged = old.acknowledged ++ map Kept_by kept;
+    reports = old.reports ++ reports;
+  }
+
+-- the answer has the session and number of a request that is outstanding
+abbrev pub IsExpected : Option Running → Which → ℕ → ℕ → Type 0
+IsExpected None from session number = ⊥
+IsExpected (Some running) from session number = (session ≡ running.session) × IsSomeAnd (outstanding running from) (λ sent. sent.number ≡ number)
+
+abbrev pub IsDueAfter : Option Running → List Planned → Which → Reply → Kept → Type 0
+IsDueAfter None plan from reply kept = ⊥
+IsDueAfter (Some running) plan from reply kept = IsDue running plan from reply kept
+
+-- the coordinator takes an answer, or ignores one that it does not wait for
+pub data TakesAnswer (old : World) (from : Which) (session number : ℕ) (reply : Reply) (new : World) : Type 0 where
+  taken : (plan : List Planned) → IsExpected old.coordinator.running from session number → HasPlan old.sent old.coordinator.archive old.coordinator.running plan →
+      CoordinatorGoes old (IsDueAfter old.coordinator.running plan from reply) (GoesOnFrom old.coordinator.running plan) new → TakesAnswer old from session number reply new
+  ignored : (IsExpected old.coordinator.running from session number → ⊥) → new ≡ old → TakesAnswer old from session number reply new
+  coordinator_down : old.coordinator.status ≡ Down → new ≡ old → TakesAnswer old from session number reply new
+
+-- a start takes the next number
+abbrev pub IsNext : Archive → Kept → Type 0
+IsNext archive kept = kept ≡ Session (archive.last_session + 1)
+
+abbrev pub IsNothing : Kept → Type 0
+IsNothing kept = ⊥
+
+abbrev pub Delivers : World → Option Message → World → Type 0
+Delivers old None new = new ≡ old
+Delivers old (Some (Asks to session number request)) new = TakesRequest old to session number request new
+Delivers old (Some (Answers from session number reply)) new = TakesAnswer old from session number reply new
+
+-- what an opening of the archive gives
+pub data OpensArchive (machine : CoordinatorMachine) : CoordinatorMachine → List Kept → Type 0 where
+  archive_opened : OpensArchive machine (record machine { status = Up; writing = None }) []
+  archive_recovered : (kept : Kept) → machine.writing ≡ Some kept → CanKeep machine.archive kept →
+      OpensArchive machine (record machine { status = Up; archive = after_kept machine.archive kept; writing = None }) (kept ∷ [])
+  archive_not_opened : OpensArchive machine machine []
+  archive_not_reopened : machine.status ≢ Down → OpensArchive machine (record machine { status = Halted }) []
+
+abbrev pub OpensMachine : World → Machine → World → Type 0
+OpensMachine old (At which) new = SideGoes old which (Opens (side_of old which)) [] new
+OpensMachine old Coordinator new =
+    (machine : CoordinatorMachine) × (kept : List Kept) × OpensArchive old.coordinator machine kept
+    × (new ≡ record old { coordinator = machine; acknowledged = old.acknowledged ++ map Kept_by kept })
+
+abbrev pub status_of : World → Machine → Status
+status_of world (At which) = (side_of world which).status
+status_of world Coordinator = world.coordinator.status
+
+-- the machine goes down at once
+abbrev pub cut_off : World → Machine → World
+cut_off world (At which) = set_side world which (stopped (side_of world which) (side_of world which).writing)
+cut_off world Coordinator = record world { coordinator = record world.coordinator { status = Down; running = None } }
+
+-- the machine's device failed, and nothing was being written
+abbrev pub halted : World → Machine → World
+halted world (At which) = set_side world which (record (side_of world which) { status = Halted })
+halted world Coordinator = record world { coordinator = record world.coordinator { status = Halted } }
+
+-- a checkpoint changes nothing that the machines stand for, whether it is made, fails or is cut off
+abbrev pub Checkpoints : World → Machine → World → Type 0
+Checkpoints old machine new = (new ≡ old) ⊎ ((new ≡ halted old machine) ⊎ (new ≡ cut_off old machine))
+
+-- One step. A device may fail and a machine may stop within any call, of which Fail and Stop say when
+abbrev pub Steps : World → Step → World → Type 0
+Steps old (Edits side user edit) new = SideGoes old side (DoesEdit (side_of old side) user edit) [] new
+Steps old Start new = (new ≡ old) ⊎ CoordinatorGoes old (IsNext old.coordinator.archive) (StartsFrom old.coordinator.archive) new
+Steps old (Deliver message) new = Delivers old (slice_get old.sent message) new
+Steps old Tick new = (new ≡ old) ⊎ CoordinatorGoes old IsNothing (GoesOnFrom old.coordinator.running (plan_of old.coordinator.running)) new
+Steps old (Checkpoint machine) new = Checkpoints old machine new
+Steps old (Fail machine call) new = new ≡ old
+Steps old (Stop machine call) new = (new ≡ old) ⊎ (new ≡ cut_off old machine)
+Steps old (Open machine) new = (new ≡ old) ⊎ ((status_of old machine ≡ Down) × OpensMachine old machine new)
+Steps old (Reopen machine) new = (new ≡ old) ⊎ ((status_of old machine ≢ Down) × (OpensMachine old machine new ⊎ (new ≡ cut_off old machine)))
+
+-- a list of steps, one after another
+abbrev pub Runs : World → List Step → World → Type 0
+Runs old [] new = new ≡ old
+Runs old (step ∷ steps) new = (between : World) × Steps old step between × Runs between steps new

@@ -1,0 +1,13 @@
+pub mod PathLemmas
+pub mod TreeLemmas
+pub mod DirtyLemmas
+pub mod SyncLemmas
+pub mod HistoryLemmas
+pub mod MarkLemmas
+pub mod QuietLemmas
+pub mod RowLemmas
+pub mod PlanOrder
+pub mod ResultLemmas
+pub mod PlanSteps
+pub mod PlanCover
+pub mod PlanNames

@@ -1,0 +1,54 @@
+-- What a session decides at a path, by what the two scans and the archive have there.
+use Rattle.std.specs.Prelude.{◌≡◌, Bool, not, ◌&&◌, ◌||◌, if◌then◌else◌, ◌∷◌, ◌++◌}
+use Rattle.std.specs.List.{list_any}
+use Rattle.syn_model.specs.Path.{Path, Name, is_prefix}
+use Rattle.syn_model.specs.Tree.{Tree, subtree, is_directory}
+use Rattle.syn_model.specs.Dirty.{Scan, dirty, is_same_tree}
+use Rattle.syn_model.specs.Reconcile.{is_directory_in_both}
+
+pub data Item : Type 0 where
+  ToLeft : (path : Path) → Item
+  ToRight : (path : Path) → Item
+  MarkSame : (path : Path) → Item
+  MarkDir : (path : Path) → Item
+  Conflict : (path : Path) → Item
+
+-- what is done at a relevant path: nothing there or below, an item, or one and the names of the directory
+pub data Decision : Type 0 where
+  Clean : Decision
+  Do : (item : Item) → Decision
+  DoAndGoOn : (item : Item) → Decision
+  GoOn : Decision
+
+-- the path is unstable itself
+abbrev pub is_unstable : Scan → Path → Bool
+is_unstable scan path = list_any (λ other. is_prefix path other && is_prefix other path) scan.unstable
+
+abbrev pub decision : Scan → Scan → Tree → Path → Decision
+decision left right archive path =
+    if not (dirty left archive path || dirty right archive path) then Clean
+    else if is_directory_in_both left.marks right.marks path then
+    (if is_unstable left path || is_unstable right path then Do (Conflict path)
+    else if is_directory archive path then GoOn else DoAndGoOn (MarkDir path))
+    else if is_same_tree (subtree left.marks path) (subtree right.marks path) then Do (MarkSame path)
+    else if not (dirty right archive path) then Do (ToRight path)
+    else if not (dirty left archive path) then Do (ToLeft path)
+    else Do (Conflict path)
+
+abbrev pub path_of : Item → Path
+path_of (ToLeft path) = path
+path_of (ToRight path) = path
+path_of (MarkSame path) = path
+path_of (MarkDir path) = path
+path_of (Conflict path) = path
+
+-- a plan goes on below a path that is decided so
+abbrev pub GoesOn : Decision → Type 0
+GoesOn Clean = ⊥
+GoesOn (Do item) = ⊥
+GoesOn (DoAndGoOn item) = Unit {0}
+GoesOn GoOn = Unit {0}
+
+-- it goes on at each path above
+abbrev pub IsReached : Scan → Scan → Tree → Path → Type 0
+IsReached left right archive path = (above : Path) (name : Name) (rest : Path) → path ≡ above ++ name ∷ rest → GoesOn (decision left right archive above)

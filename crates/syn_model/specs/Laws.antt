@@ -1,0 +1,69 @@
+-- What follows from the definitions, for the other crates to use.
+use Rattle.std.specs.Prelude.{ℕ, ◌≡◌, ◌⊎◌, Bool, false, [], ◌∷◌, ◌++◌, All}
+use Rattle.std.specs.Option.{option_map_or, option_map}
+use Rattle.syn_model.specs.Mark.{mark, mark_of}
+use Rattle.std.specs.FinMap.{get}
+use Rattle.syn_model.specs.Path.{Path, root, comparable, strip_prefix, IsName}
+use Rattle.syn_model.specs.Tree.{Tree, IsPart, IsTree, StandsIn, subtree, replace}
+use Rattle.syn_model.specs.History.{History, IsHistory, IsAllowed, tree_of}
+use Rattle.syn_model.specs.Event.{Event}
+use Rattle.syn_model.specs.Dirty.{Scan, Paths, dirty, IsClosedUpward, IsSafeEstimate}
+use Rattle.syn_model.specs.Reconcile.{IsSynchronization}
+
+-- trees with the same at each path are one
+abbrev pub SameAtEachPath : Type 0
+SameAtEachPath = (t u : Tree) → ((path : Path) → get t path ≡ get u path) → t ≡ u
+
+-- a subtree has at a path what the tree has there below its root
+abbrev pub SubtreeHas : Type 0
+SubtreeHas = (tree : Tree) (at path : Path) → get (subtree tree at) path ≡ get tree (at ++ path)
+
+-- a replaced tree has below the place what the new part has, and elsewhere what it had
+abbrev pub ReplacedHas : Type 0
+ReplacedHas = (tree : Tree) (at : Path) (new : Tree) (path : Path) →
+    get (replace tree at new) path ≡ option_map_or (λ rest. get new rest) (strip_prefix at path) (get tree path)
+
+-- what is put somewhere is there
+abbrev pub ReplacedIsThere : Type 0
+ReplacedIsThere = (tree : Tree) (at : Path) (new : Tree) → subtree (replace tree at new) at ≡ new
+
+-- and every subtree that is not touched stays
+abbrev pub OthersStay : Type 0
+OthersStay = (tree : Tree) (at : Path) (new : Tree) (path : Path) → comparable at path ≡ false → subtree (replace tree at new) path ≡ subtree tree path
+
+-- a part put where it may stand leaves a part
+abbrev pub ReplacedIsPart : Type 0
+ReplacedIsPart = (tree : Tree) (at : Path) (new : Tree) → IsPart tree → IsPart new → StandsIn tree at → All IsName at → IsPart (replace tree at new)
+
+-- the paths that a scan shows as dirty are a safe estimate, closed upward
+abbrev pub DirtyIsClosed : Type 0
+DirtyIsClosed = (scan : Scan) (archive : Tree) → IsClosedUpward (dirty scan archive)
+
+abbrev pub DirtyIsSafe : Type 0
+DirtyIsSafe = (scan : Scan) (archive : Tree) → IsSafeEstimate (dirty scan archive) archive scan.marks
+
+-- two trees with what is dirty on each side have one synchronization at most
+abbrev pub OneSynchronization : Type 0
+OneSynchronization = (left right : Tree) (dirty_left dirty_right : Paths) (a b c d : Tree) →
+    IsSynchronization left right dirty_left dirty_right a b → IsSynchronization left right dirty_left dirty_right c d → (a ≡ c) × (b ≡ d)
+
+-- where nothing is dirty, both sides were equal and stay
+abbrev pub NothingToDo : Type 0
+NothingToDo = (left right : Tree) (dirty_left dirty_right : Paths) (left' right' : Tree) →
+    IsSynchronization left right dirty_left dirty_right left' right' → dirty_left root ≡ false → dirty_right root ≡ false →
+    (left' ≡ left) × (left' ≡ right) × (right' ≡ left) × (right' ≡ right)
+
+-- what allowed events leave is a tree
+abbrev pub HistoryIsTree : Type 0
+HistoryIsTree = (history : History) → IsHistory history → IsTree (tree_of history)
+
+-- and a history with an allowed event is one
+abbrev pub AllowedGoesOn : Type 0
+AllowedGoesOn = (history : History) (event : Event) → IsHistory history → IsAllowed history event → IsHistory (history ++ event ∷ [])
+
+-- marks are taken path by path, and so of each subtree
+abbrev pub MarkHas : Type 0
+MarkHas = (tree : Tree) (path : Path) → get (mark tree) path ≡ option_map mark_of (get tree path)
+
+abbrev pub MarkOfSubtree : Type 0
+MarkOfSubtree = (tree : Tree) (path : Path) → mark (subtree tree path) ≡ subtree (mark tree) path

@@ -1,0 +1,15 @@
+pub mod Path
+pub mod Tree
+pub mod Refusal
+pub mod Limits
+pub mod Event
+pub mod History
+pub mod Mark
+pub mod Archive
+pub mod Dirty
+pub mod Reconcile
+pub mod Decision
+pub mod Plan
+pub mod Spelling
+pub mod Laws
+pub mod Rows
