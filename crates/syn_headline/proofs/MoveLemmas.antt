@@ -16,7 +16,8 @@ use Rattle.syn_model.specs.Limits.{children, fits_replica, only_name, last_name_
 use Rattle.syn_model.specs.Mark.{mark}
 use Rattle.syn_model.specs.Spelling.{spelling}
 use Rattle.syn_model.specs.Event.{Token, is_below, is_same_token, Event, Edited, Began, Replaced, touches, after_event, after_edit}
-use Rattle.syn_model.specs.History.{History, IsHistory, AllAllowed, IsAllowed, tree_of, tree_at, is_quiet, last_session, last_token, token_after, is_old_token, place_causes, full_causes, position_causes, edit_causes}
+use Rattle.syn_model.specs.History.{History, IsHistory, AllAllowed, IsAllowed, tree_of, tree_at, is_quiet, last_session, last_token, is_old_token, position_causes}
+use Rattle.syn_model.specs.Standing.{token_after, place_causes, full_causes, edit_causes}
 use Rattle.syn_model.specs.Archive.{Archive}
 use Rattle.syn_headline.specs.Laws.{AddsAllowed}
 use Rattle.syn_headline.specs.Side.{Side, Served, Staging, Request, Begin, ListAt, Fetch, Stage, Replace, Piece, Refused, Reads, token_of, is_staged, staged_bytes}

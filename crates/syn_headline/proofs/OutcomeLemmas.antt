@@ -1,5 +1,5 @@
 -- What a side answers to a request, case by case.
-use Rattle.std.proofs.Common.{◌≡◌, ◌≤◌, ℕ, Bool, true, false, not, ◌||◌, ◌&&◌, ◌==◌, nat_lt, nat_le, [], ◌∷◌, ◌++◌, length, take, drop, bytes_eq, if◌then◌else◌, refl, sym, subst, Option, Some, None, true≢false, inl, inr, arith, ◌+◌}
+use Rattle.std.proofs.Common.{◌≡◌, ◌<◌, ◌^◌, ◌≤◌, ℕ, Bool, true, false, not, ◌||◌, ◌&&◌, ◌==◌, nat_lt, nat_le, [], ◌∷◌, ◌++◌, length, take, drop, bytes_eq, if◌then◌else◌, refl, sym, subst, Option, Some, None, true≢false, inl, inr, arith, ◌+◌}
 use Rattle.std.specs.Option.{option_map_or}
 use Rattle.std.proofs.lemmas.Bool.Decides.{nat_tests}
 use Rattle.syn_model.specs.Path.{Path, Bytes, IsPath}
@@ -9,8 +9,9 @@ use Rattle.syn_model.specs.Mark.{mark}
 use Rattle.syn_model.specs.Spelling.{spelling}
 use Rattle.syn_model.specs.Refusal.{Refusal, Cause, first_cause, OldSession, WrongPair, NotStaged, BadStage, BelowFloor, Touched}
 use Rattle.syn_model.specs.Refusal as why
-use Rattle.syn_model.specs.Event.{is_below, is_same_token, Event, Began, Replaced}
-use Rattle.syn_model.specs.History.{History, tree_of, IsAllowed, last_session, last_token, place_causes, full_causes, position_causes, is_quiet, floor}
+use Rattle.syn_model.specs.Event.{IsLawfulToken, is_below, is_same_token, Event, Began, Replaced}
+use Rattle.syn_model.specs.History.{History, tree_of, IsAllowed, last_session, last_token, position_causes, is_quiet, floor}
+use Rattle.syn_model.specs.Standing.{place_causes, full_causes}
 use Rattle.syn_headline.specs.Side.{Side, Served, Staging, Request, Begin, ListAt, Fetch, Stage, Replace, Begun, Listed, NotDir, Piece, Staged, Done, Refused, IsLawfulRequest, answer, add_event, set_staging, unless_refused, stage, stage_first, replace_with, replace_causes, since_causes, room_causes, is_dead_token, serve, Serves, token_of, Reads, is_staged, staged_bytes}
 use Rattle.syn_headline.specs.World.{Status, Up, Halted, Down, serve_halted, ServesAs}
 use Rattle.syn_model.proofs.HistoryLemmas.{first_cause-none, none-append}
@@ -76,7 +77,7 @@ stage_outcome side (Some staging) session item offset bytes e =
     (λ _. choose P (bytes_eq (take (length bytes) (drop offset staging.bytes)) bytes && nat_le (offset + length bytes) (length staging.bytes)) _ _ (λ _. stages_again item offset bytes) (λ _. refuses _ BadStage)))
     (λ _. first_outcome side session item offset bytes))
 
-with_outcome : (has_room : Event → Bool) (side : Side) (session item : ℕ) (path : Path) (since size : ℕ) (read : Option Tree) → IsPath path → Reads (staged_bytes side.staging) read →
+with_outcome : (has_room : Event → Bool) (side : Side) (session item : ℕ) (path : Path) (since size : ℕ) (read : Option Tree) → IsLawfulToken (token_of session item) × IsPath path × (since < 2 ^ 64) → Reads (staged_bytes side.staging) read →
     option_map_or (λ last. is_same_token last (token_of session item)) (last_token side.history) false ≡ false → is_dead_token side (token_of session item) ≡ false →
     is_staged side.staging (token_of session item) ≡ true → length (staged_bytes side.staging) ≡ size →
     Outcome side session (Replace item path since size) (replace_with has_room side (token_of session item) path since read)
@@ -88,7 +89,7 @@ with_outcome has_room side session item path since size (Some new) lawful reads 
     let s = since_holds side.history path since (none-append (since_causes side.history path since) (place_causes tree path ++ (full_causes (replace tree path new) ++ (position_causes side.history ++ room_causes has_room (Replaced token path since new)))) e).0 in
     replaces item path since size new reads staged long s.0 s.1 (replaced_allowed has_room side token path since new lawful reads.0 fresh alive e))
 
-serve_outcome : (pair : ℕ) (has_room : Event → Bool) (side : Side) (session : ℕ) (request : Request) (read : Option Tree) → Reads (staged_bytes side.staging) read → IsLawfulRequest request → Outcome side session request (serve pair has_room read side session request)
+serve_outcome : (pair : ℕ) (has_room : Event → Bool) (side : Side) (session : ℕ) (request : Request) (read : Option Tree) → Reads (staged_bytes side.staging) read → IsLawfulRequest session request → Outcome side session request (serve pair has_room read side session request)
 serve_outcome pair has_room side session (ListAt path) read reads lawful =
     elim (is_directory (tree_of side.history) path) as (λ b. Outcome side session (ListAt path) (answer side (if b then Listed (length side.history) (children (mark (tree_of side.history)) path) else NotDir (length side.history)))) [ true ↦ lists path | false ↦ lists_none path ]
 serve_outcome pair has_room side session (Fetch path since offset) read reads lawful =
@@ -100,7 +101,7 @@ serve_outcome pair has_room side session (Begin asked) read reads lawful =
     choose P (session == last_session side.history) _ _ (λ k. begins_again asked (same_number session (last_session side.history) k)) (λ k.
     unless P side (first_cause (position_causes side.history ++ room_causes has_room (Began session))) _ (refuses _) (λ f.
     let second = first_cause-none (nat_lt session (last_session side.history), OldSession) [] (first_cause-none (not (asked == pair), WrongPair) ((nat_lt session (last_session side.history), OldSession) ∷ []) e).1 in
-    begins asked (began_allowed side.history session second.0 k (none-append (position_causes side.history) (room_causes has_room (Began session)) f).0))))
+    begins asked (began_allowed side.history session lawful.0 second.0 k (none-append (position_causes side.history) (room_causes has_room (Began session)) f).0))))
 serve_outcome pair has_room side session (Replace item path since size) read reads lawful =
     let token = token_of session item in
     let P = Outcome side session (Replace item path since size) in
@@ -109,10 +110,10 @@ serve_outcome pair has_room side session (Replace item path since size) read rea
     let one = first_cause-none (is_dead_token side token, OldSession) ((not (is_staged side.staging token), NotStaged) ∷ (not (length (staged_bytes side.staging) == size), BadStage) ∷ []) e in
     let two = first_cause-none (not (is_staged side.staging token), NotStaged) ((not (length (staged_bytes side.staging) == size), BadStage) ∷ []) one.1 in
     let three = first_cause-none (not (length (staged_bytes side.staging) == size), BadStage) [] two.1 in
-    with_outcome has_room side session item path since size read lawful reads fresh one.0 (not_false _ two.0) (same_number (length (staged_bytes side.staging)) size (not_false _ three.0))))
+    with_outcome has_room side session item path since size read ((lawful.0, lawful.1.0), lawful.1.1, lawful.1.2) reads fresh one.0 (not_false _ two.0) (same_number (length (staged_bytes side.staging)) size (not_false _ three.0))))
 
 -- what a side answers while no device fails
-pub outcome : (pair : ℕ) (has_room : Event → Bool) (side : Side) (session : ℕ) (request : Request) (served : Served) → IsLawfulRequest request → Serves pair has_room side session request served → Outcome side session request served
+pub outcome : (pair : ℕ) (has_room : Event → Bool) (side : Side) (session : ℕ) (request : Request) (served : Served) → IsLawfulRequest session request → Serves pair has_room side session request served → Outcome side session request served
 outcome pair has_room side session request served lawful (inl s) = subst (Outcome side session request) (sym s.2) (serve_outcome pair has_room side session request s.0 s.1 lawful)
 outcome pair has_room side session request served lawful (inr i) = subst (Outcome side session request) (sym i.2) (refuses request i.0)
 
@@ -124,7 +125,7 @@ halted_outcome side session (Fetch path since offset) = refuses _ why.Halted
 halted_outcome side session (Replace item path since size) = refuses _ why.Halted
 
 -- what it answers, halted or not; an event is added only where it is up
-pub any_outcome : (status : Status) (pair : ℕ) (has_room : Event → Bool) (side : Side) (session : ℕ) (request : Request) (served : Served) → IsLawfulRequest request → ServesAs status pair has_room side session request served → Outcome side session request served
+pub any_outcome : (status : Status) (pair : ℕ) (has_room : Event → Bool) (side : Side) (session : ℕ) (request : Request) (served : Served) → IsLawfulRequest session request → ServesAs status pair has_room side session request served → Outcome side session request served
 any_outcome Up pair has_room side session request served lawful s = outcome pair has_room side session request served lawful s
 any_outcome Halted pair has_room side session request served lawful s = subst (Outcome side session request) (sym s) (halted_outcome side session request)
 any_outcome Down pair has_room side session request served lawful s = absurd s

@@ -228,7 +228,7 @@ longer : (h : History) (event : Event) → h ≡ h ++ event ∷ [] → ⊥
 longer h event e = let x : [] ≡ event ∷ [] = append_cancel_left h [] (event ∷ []) (append-nil h ∙ e) in cc
 
 module _ (tells : SpellingsTell) (plans : Plans) (old : World) (k : IsKept plans old) (which : Which) (session number : ℕ) (request : Request) (asked : Contains old.sent (Asks which session number request)) where
-  lawful : IsLawfulRequest request
+  lawful : IsLawfulRequest session request
   lawful = (k.sound.asked which session number request asked).lawful
 
   events_are : (served : Served) (events : List Event) → served.side.history ≡ histories_of old which ++ events →

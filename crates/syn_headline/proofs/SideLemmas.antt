@@ -1,12 +1,13 @@
 -- A side adds only allowed events.
-use Rattle.std.proofs.Common.{◌≡◌, ℕ, Bool, true, false, not, ◌||◌, ◌&&◌, ◌==◌, nat_lt, nat_le, List, [], ◌∷◌, ◌++◌, length, take, drop, bytes_eq, if◌then◌else◌, refl, sym, ap, ◌∙◌, subst, Option, Some, None, true≢false, inl, inr, arith, append_assoc, append-nil, ◌+◌}
+use Rattle.std.proofs.Common.{◌≡◌, ◌<◌, ◌^◌, ℕ, Bool, true, false, not, ◌||◌, ◌&&◌, ◌==◌, nat_lt, nat_le, List, [], ◌∷◌, ◌++◌, length, take, drop, bytes_eq, if◌then◌else◌, refl, sym, ap, ◌∙◌, subst, Option, Some, None, true≢false, inl, inr, arith, append_assoc, append-nil, ◌+◌}
 use Rattle.std.specs.Option.{option_map_or}
 use Rattle.std.proofs.lemmas.Bool.Decides.{nat_tests}
 use Rattle.syn_model.specs.Path.{Path, Bytes, IsPath}
 use Rattle.syn_model.specs.Tree.{Tree, IsPart, replace}
 use Rattle.syn_model.specs.Refusal.{Refusal, Cause, first_cause, OldSession, WrongPair, NotStaged, BadStage}
-use Rattle.syn_model.specs.Event.{Token, is_below, is_same_token, Event, Began, Replaced}
-use Rattle.syn_model.specs.History.{History, tree_of, IsAllowed, AllAllowed, last_session, last_token, place_causes, full_causes, position_causes}
+use Rattle.syn_model.specs.Event.{Token, IsLawfulToken, is_below, is_same_token, Event, Began, Replaced}
+use Rattle.syn_model.specs.History.{History, tree_of, IsAllowed, AllAllowed, last_session, last_token, position_causes}
+use Rattle.syn_model.specs.Standing.{place_causes, full_causes}
 use Rattle.syn_headline.specs.Side.{Side, Served, Staging, Request, Begin, ListAt, Fetch, Stage, Replace, IsLawfulRequest, unless_refused, stage, stage_first, replace_with, replace_causes, since_causes, room_causes, is_dead_token, serve, token_of, Reads, is_staged, staged_bytes}
 use Rattle.syn_headline.specs.Laws.{AddsAllowed, ServesAllowed}
 use Rattle.syn_model.proofs.HistoryLemmas.{first_cause-none, none-append, append-none}
@@ -30,9 +31,9 @@ later_numbers s i t j h k = grind (arith, nat_tests)
 later_token : (a b : Token) → is_below a b ≡ false → is_same_token b a ≡ false → is_below b a ≡ true
 later_token a b h k = later_numbers a.session a.item b.session b.item h k
 
-pub began_allowed : (history : History) (session : ℕ) → nat_lt session (last_session history) ≡ false → (session == last_session history) ≡ false → first_cause (position_causes history) ≡ None → IsAllowed history (Began session)
-began_allowed history session h k p = record {
-  lawful = tt;
+pub began_allowed : (history : History) (session : ℕ) → session < 2 ^ 64 → nat_lt session (last_session history) ≡ false → (session == last_session history) ≡ false → first_cause (position_causes history) ≡ None → IsAllowed history (Began session)
+began_allowed history session lawful h k p = record {
+  lawful = lawful;
   not_refused = ap (λ b. if b then Some OldSession else first_cause (position_causes history)) (above_last_session session (last_session history) h k) ∙ p;
 }
 
@@ -49,7 +50,7 @@ not_same : (b : Bool) → not b ≡ false → b ≡ true
 not_same true e = refl
 not_same false e = absurd (true≢false e)
 
-pub replaced_allowed : (has_room : Event → Bool) (side : Side) (token : Token) (path : Path) (since : ℕ) (new : Tree) → IsPath path → IsPart new →
+pub replaced_allowed : (has_room : Event → Bool) (side : Side) (token : Token) (path : Path) (since : ℕ) (new : Tree) → IsLawfulToken token × IsPath path × (since < 2 ^ 64) → IsPart new →
     option_map_or (λ last. is_same_token last token) (last_token side.history) false ≡ false → is_dead_token side token ≡ false →
     first_cause (replace_causes has_room side token path since new) ≡ None → IsAllowed side.history (Replaced token path since new)
 replaced_allowed has_room side token path since new lawful part fresh alive e =
@@ -61,7 +62,7 @@ replaced_allowed has_room side token path since new lawful part fresh alive e =
     let staged = both_false (token.session == 0 || not (token.session == last_session side.history) || option_map_or (λ last. is_below token last) (last_token side.history) false) (option_map_or (λ staging. is_below token staging.token) side.staging false) alive in
     let last = both_false (token.session == 0 || not (token.session == last_session side.history)) (option_map_or (λ last. is_below token last) (last_token side.history) false) staged.0 in
     record {
-      lawful = (lawful, part);
+      lawful = (lawful.0, lawful.1, lawful.2, part);
       not_refused = ap (λ b. if b then Some OldSession else first_cause (place_causes tree path ++ (full_causes (replace tree path new) ++ position_causes side.history)))
           (or_false (token.session == 0 || not (token.session == last_session side.history)) _ last.0 (old_token side.history token (last_token side.history) fresh last.1))
           ∙ append-none (place_causes tree path) (full_causes (replace tree path new) ++ position_causes side.history) two.0 (append-none (full_causes (replace tree path new)) (position_causes side.history) three.0 four.0);
@@ -79,14 +80,14 @@ stage_keeps side (Some staging) token offset bytes =
     choose side.history (bytes_eq (take (length bytes) (drop offset staging.bytes)) bytes && nat_le (offset + length bytes) (length staging.bytes)) _ _ (λ _. inl refl) (λ _. inl refl)))
     (λ _. first_keeps side token offset bytes))
 
-with_keeps : (has_room : Event → Bool) (side : Side) (token : Token) (path : Path) (since : ℕ) (read : Option Tree) (bytes : Bytes) → IsPath path → Reads bytes read →
+with_keeps : (has_room : Event → Bool) (side : Side) (token : Token) (path : Path) (since : ℕ) (read : Option Tree) (bytes : Bytes) → IsLawfulToken token × IsPath path × (since < 2 ^ 64) → Reads bytes read →
     option_map_or (λ last. is_same_token last token) (last_token side.history) false ≡ false → is_dead_token side token ≡ false → AddsAllowed side.history (replace_with has_room side token path since read).side.history
 with_keeps has_room side token path since None bytes lawful reads fresh alive = inl refl
 with_keeps has_room side token path since (Some new) bytes lawful reads fresh alive =
     unless side.history side (first_cause (replace_causes has_room side token path since new)) _ refl (λ e.
     inr (Replaced token path since new, replaced_allowed has_room side token path since new lawful reads.0 fresh alive e, refl))
 
-by_request : (pair : ℕ) (has_room : Event → Bool) (side : Side) (session : ℕ) (request : Request) (read : Option Tree) → Reads (staged_bytes side.staging) read → IsLawfulRequest request → AddsAllowed side.history (serve pair has_room read side session request).side.history
+by_request : (pair : ℕ) (has_room : Event → Bool) (side : Side) (session : ℕ) (request : Request) (read : Option Tree) → Reads (staged_bytes side.staging) read → IsLawfulRequest session request → AddsAllowed side.history (serve pair has_room read side session request).side.history
 by_request pair has_room side session (ListAt path) read reads lawful = inl refl
 by_request pair has_room side session (Fetch path since offset) read reads lawful = unless side.history side _ _ refl (λ _. inl refl)
 by_request pair has_room side session (Stage item offset bytes) read reads lawful = stage_keeps side side.staging (token_of session item) offset bytes
@@ -95,12 +96,12 @@ by_request pair has_room side session (Begin asked) read reads lawful =
     choose side.history (session == last_session side.history) _ _ (λ _. inl refl) (λ k.
     unless side.history side (first_cause (position_causes side.history ++ room_causes has_room (Began session))) _ refl (λ f.
     let second = first_cause-none (nat_lt session (last_session side.history), OldSession) [] (first_cause-none (not (asked == pair), WrongPair) ((nat_lt session (last_session side.history), OldSession) ∷ []) e).1 in
-    inr (Began session, began_allowed side.history session second.0 k (none-append (position_causes side.history) (room_causes has_room (Began session)) f).0, refl))))
+    inr (Began session, began_allowed side.history session lawful.0 second.0 k (none-append (position_causes side.history) (room_causes has_room (Began session)) f).0, refl))))
 by_request pair has_room side session (Replace item path since size) read reads lawful =
     let token = token_of session item in
     choose side.history (option_map_or (λ last. is_same_token last token) (last_token side.history) false) _ _ (λ _. inl refl) (λ fresh.
     unless side.history side _ _ refl (λ e.
-    with_keeps has_room side token path since read (staged_bytes side.staging) lawful reads fresh (first_cause-none (is_dead_token side token, OldSession) ((not (is_staged side.staging token), NotStaged) ∷ (not (length (staged_bytes side.staging) == size), BadStage) ∷ []) e).0))
+    with_keeps has_room side token path since read (staged_bytes side.staging) ((lawful.0, lawful.1.0), lawful.1.1, lawful.1.2) reads fresh (first_cause-none (is_dead_token side token, OldSession) ((not (is_staged side.staging token), NotStaged) ∷ (not (length (staged_bytes side.staging) == size), BadStage) ∷ []) e).0))
 
 -- a step of a side adds one allowed event at most
 pub serves_allowed : ServesAllowed

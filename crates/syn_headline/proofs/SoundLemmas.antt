@@ -11,7 +11,8 @@ use Rattle.syn_model.specs.Limits.{children}
 use Rattle.syn_model.specs.Spelling.{spelling}
 use Rattle.syn_model.specs.Refusal.{first_cause, OldSession, Root, Full, BadMessage}
 use Rattle.syn_model.specs.Event.{Event, Edited, Began, Replaced}
-use Rattle.syn_model.specs.History.{History, IsHistory, IsAllowed, tree_of, tree_at, is_quiet, last_session, session_after, position_causes}
+use Rattle.syn_model.specs.History.{History, IsHistory, IsAllowed, tree_of, tree_at, is_quiet, last_session, position_causes}
+use Rattle.syn_model.specs.Standing.{session_after}
 use Rattle.syn_model.specs.Archive.{Archive, Kept, Session, Recorded, RecordedDir, CanKeep, after_kept, record_causes}
 use Rattle.syn_model.specs.Limits.{greatest, fits_archive}
 use Rattle.syn_headline.specs.Laws.{AddsAllowed}

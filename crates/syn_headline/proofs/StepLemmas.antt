@@ -3,7 +3,8 @@ use Rattle.std.proofs.Common.{◌≡◌, ◌≤◌, ◌+◌, ℕ, List, [], ◌�
 use Rattle.std.specs.Prelude.{Contains, IfSome, All}
 use Rattle.std.proofs.lemmas.List.Elements.{All-head, All-tail, All-contains, Contains-append_left}
 use Rattle.syn_model.specs.Event.{Token, Event, Edited, Began, Replaced}
-use Rattle.syn_model.specs.History.{History, AllAllowed, IsAllowed, last_session, last_token, session_after, token_after}
+use Rattle.syn_model.specs.History.{History, AllAllowed, IsAllowed, last_session, last_token}
+use Rattle.syn_model.specs.Standing.{session_after, token_after}
 use Rattle.syn_model.specs.Archive.{Archive, Kept, CanKeep, after_kept, archive_of}
 use Rattle.syn_headline.specs.Laws.{AddsAllowed}
 use Rattle.syn_headline.specs.Side.{Request, Reply}

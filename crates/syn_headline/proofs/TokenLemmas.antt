@@ -8,7 +8,8 @@ use Rattle.syn_model.specs.Path.{Path}
 use Rattle.syn_model.specs.Tree.{Tree, replace}
 use Rattle.syn_model.specs.Refusal.{OldSession}
 use Rattle.syn_model.specs.Event.{Token, is_below, Edited, Began, Replaced}
-use Rattle.syn_model.specs.History.{History, IsHistory, AllAllowed, IsAllowed, tree_of, last_session, last_token, is_old_token, place_causes, full_causes, position_causes}
+use Rattle.syn_model.specs.History.{History, IsHistory, AllAllowed, IsAllowed, tree_of, last_session, last_token, is_old_token, position_causes}
+use Rattle.syn_model.specs.Standing.{place_causes, full_causes}
 use Rattle.syn_headline.specs.Headline.{IsOtherToken}
 use Rattle.syn_model.proofs.HistoryLemmas.{first_cause-none}
 use Rattle.syn_model.proofs.DirtyLemmas.{both_false}

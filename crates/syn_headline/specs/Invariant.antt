@@ -48,7 +48,7 @@ IsTrue history session request reply = Unit {0}
 -- a request that was sent: of a session that the archive kept, lawful, and by its session's plan
 pub record IsSound_request (plans : Plans) (archive : Archive) (sent : Sent) (to : Which) (session : ℕ) (request : Request) : Type 0 where
   pub session_kept : session ≤ archive.last_session
-  pub lawful : IsLawfulRequest request
+  pub lawful : IsLawfulRequest session request
   pub by_plan : IsOfPlan sent session (plans session) to request
 
 -- where the session of an item is the last that its side began, and nothing touched the path since it was listed,

@@ -10,4 +10,4 @@ AddsAllowed old new = (new ≡ old) ⊎ ((event : Event) × IsAllowed old event 
 
 abbrev pub ServesAllowed : Type 0
 ServesAllowed = (pair : ℕ) (has_room : Event → Bool) (side : Side) (session : ℕ) (request : Request) (served : Served) →
-    IsLawfulRequest request → Serves pair has_room side session request served → AddsAllowed side.history served.side.history
+    IsLawfulRequest session request → Serves pair has_room side session request served → AddsAllowed side.history served.side.history

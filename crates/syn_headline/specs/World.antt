@@ -184,7 +184,7 @@ IsOfPlan sent session plan to (Replace item path since size) =
 
 -- a request of the running session
 abbrev pub IsOfSession : Sent → Running → Message → Type 0
-IsOfSession sent running (Asks to session number request) = (session ≡ running.session) × IsLawfulRequest request × IsOfPlan sent running.session running.plan to request
+IsOfSession sent running (Asks to session number request) = (session ≡ running.session) × IsLawfulRequest session request × IsOfPlan sent running.session running.plan to request
 IsOfSession sent running (Answers from session number reply) = ⊥
 
 -- what may be recorded when an answer is taken: the item whose replacement is done, with the mark of its source, or where both scans agree

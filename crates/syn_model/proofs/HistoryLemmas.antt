@@ -4,10 +4,11 @@ use Rattle.std.specs.Ordering.{eq_by_cmp}
 use Rattle.std.specs.FinMap.{get, get-insert, get-empty, empty}
 use Rattle.std.proofs.lemmas.List.Elements.{All-nil}
 use Rattle.syn_model.specs.Path.{Name, Path, path_cmp, root, is_root, parent, IsName}
-use Rattle.syn_model.specs.Tree.{Tree, Content, Directory, File, IsPart, IsTree, StandsIn, at_root, file, empty_directory, absent, replace, is_directory, is_present}
+use Rattle.syn_model.specs.Tree.{Tree, Content, Contents, contents_of, Directory, File, IsPart, IsTree, StandsIn, at_root, file, empty_directory, absent, replace, is_directory, is_present}
 use Rattle.syn_model.specs.Refusal.{Cause, first_cause, NoParent, Root, IsDirectory, Exists, Absent, OldSession}
 use Rattle.syn_model.specs.Event.{Edit, Put, MakeDir, Remove, Event, Edited, Began, Replaced, after_edit, after_event, AreBytes, IsLawfulEdit}
-use Rattle.syn_model.specs.History.{History, tree_of, place_causes, edit_causes, full_causes, position_causes, is_old_token, IsAllowed, AllAllowed, IsHistory}
+use Rattle.syn_model.specs.History.{History, tree_of, position_causes, is_old_token, IsAllowed, AllAllowed, IsHistory}
+use Rattle.syn_model.specs.Standing.{place_causes, edit_causes, full_causes}
 use Rattle.syn_model.specs.Laws.{AllowedGoesOn}
 use Rattle.syn_model.proofs.PathLemmas.{path_total, none_some, some_same}
 use Rattle.syn_model.proofs.TreeLemmas.{replace-is_part, beside}
@@ -57,15 +58,15 @@ names : (x : Content) (p : Path) → IsSome (get (at_root x) p) → All IsName p
 names x [] h = All-nil IsName
 names x (n ∷ p) h = absurd (true≢false (sym h ∙ ap is_some (get-at_root x (n ∷ p))))
 
-only : (x : Content) (p : Path) (bytes : List ℕ) → get (at_root x) p ≡ Some (File bytes) → x ≡ File bytes
-only x [] bytes h = some_same (sym (get-at_root x root) ∙ h)
-only x (n ∷ p) bytes h = absurd (none_some (sym (get-at_root x (n ∷ p)) ∙ h))
+only : (x : Content) (p : Path) (contents : Contents) → get (at_root x) p ≡ Some (File contents) → x ≡ File contents
+only x [] contents h = some_same (sym (get-at_root x root) ∙ h)
+only x (n ∷ p) contents h = absurd (none_some (sym (get-at_root x (n ∷ p)) ∙ h))
 
-at_root-is_part : (x : Content) → ((bytes : List ℕ) → x ≡ File bytes → AreBytes bytes) → IsPart (at_root x)
+pub at_root-is_part : (x : Content) → ((contents : Contents) → x ≡ File contents → AreBytes contents.bytes) → IsPart (at_root x)
 at_root-is_part x lawful = record {
   parents = λ p n r h. absurd (true≢false (sym h ∙ ap is_some (get-below_root x p n r)));
   names = names x;
-  bytes = λ p bytes h. lawful bytes (only x p bytes h);
+  bytes = λ p contents h. lawful contents (only x p contents h);
 }
 
 absent-is_part : IsPart absent
@@ -85,22 +86,22 @@ replace-is_tree t (n ∷ p) u ht hu r place lawful = record {
 
 abbrev bytes_or : Content → List ℕ → List ℕ
 bytes_or Directory d = d
-bytes_or (File bytes) d = bytes
+bytes_or (File contents) d = contents.bytes
 
-pub same_file : (a b : List ℕ) → File a ≡ File b → a ≡ b
-same_file a b e = ap (λ x. bytes_or x a) e
+pub same_file : (a b : Contents) → File a ≡ File b → a.bytes ≡ b.bytes
+same_file a b e = ap (λ x. bytes_or x a.bytes) e
 
 abbrev is_file : Content → Bool
 is_file Directory = false
-is_file (File bytes) = true
+is_file (File contents) = true
 
-pub no_file : (bytes : List ℕ) → Directory ≢ File bytes
-no_file bytes e = true≢false (sym (ap is_file e))
+pub no_file : (contents : Contents) → Directory ≢ File contents
+no_file contents e = true≢false (sym (ap is_file e))
 
 edit-is_tree : (t : Tree) (edit : Edit) (more : List Cause) → IsTree t → IsLawfulEdit edit → first_cause (edit_causes t edit ++ more) ≡ None → IsTree (after_edit t edit)
 edit-is_tree t (Put p bytes) more ht h e =
     let place = place-stands t p ((is_directory t p, IsDirectory) ∷ more) e in
-    replace-is_tree t p (file bytes) ht (at_root-is_part (File bytes) (λ b x. subst AreBytes (same_file bytes b x) h.1)) place.0 place.1 h.0.names
+    replace-is_tree t p (file bytes) ht (at_root-is_part (File (contents_of bytes)) (λ b x. subst AreBytes (same_file (contents_of bytes) b x) h.1)) place.0 place.1 h.0.names
 edit-is_tree t (MakeDir p) more ht h e =
     let place = place-stands t p ((is_present t p, Exists) ∷ more) e in
     replace-is_tree t p empty_directory ht (at_root-is_part Directory (λ b x. absurd (no_file b x))) place.0 place.1 h.names
@@ -110,12 +111,12 @@ edit-is_tree t (Remove p) more ht h e =
 
 -- an allowed event leaves a whole tree
 pub event-is_tree : (history : History) (event : Event) → IsTree (tree_of history) → IsAllowed history event → IsTree (after_event (tree_of history) event)
-event-is_tree history (Edited user edit) ht h = edit-is_tree (tree_of history) edit (full_causes (after_edit (tree_of history) edit) ++ position_causes history) ht h.lawful h.not_refused
+event-is_tree history (Edited user edit) ht h = edit-is_tree (tree_of history) edit (full_causes (after_edit (tree_of history) edit) ++ position_causes history) ht h.lawful.1 h.not_refused
 event-is_tree history (Began session) ht h = ht
 event-is_tree history (Replaced token p since new) ht h =
     let rest = full_causes (replace (tree_of history) p new) ++ position_causes history in
     let place = place-stands (tree_of history) p rest (first_cause-none (is_old_token history token, OldSession) (place_causes (tree_of history) p ++ rest) h.not_refused).1 in
-    replace-is_tree (tree_of history) p new ht h.lawful.1 place.0 place.1 h.lawful.0.names
+    replace-is_tree (tree_of history) p new ht h.lawful.3 place.0 place.1 h.lawful.1.names
 
 fold-append : (t : Tree) (xs ys : List Event) → fold after_event t (xs ++ ys) ≡ fold after_event (fold after_event t xs) ys
 fold-append t [] ys = refl

@@ -3,6 +3,9 @@ pub mod TreeLemmas
 pub mod DirtyLemmas
 pub mod SyncLemmas
 pub mod HistoryLemmas
+pub mod StandingLemmas
+pub mod ImageLemmas
+pub mod KeyLemmas
 pub mod MarkLemmas
 pub mod QuietLemmas
 pub mod RowLemmas

@@ -122,7 +122,7 @@ nothing_below t p n r h d = elim (get t (p ++ n ∷ r)) as (λ o. get t (p ++ n 
 marked_is_directory : (o : Option Content) → is_directory_content (option_map mark_of o) ≡ is_directory_content o
 marked_is_directory None = refl
 marked_is_directory (Some Directory) = refl
-marked_is_directory (Some (File bytes)) = refl
+marked_is_directory (Some (File contents)) = refl
 
 pub directory_of_mark : (t : Tree) (p : Path) → is_directory (mark t) p ≡ is_directory t p
 directory_of_mark t p = ap is_directory_content (get-mark t p) ∙ marked_is_directory (get t p)

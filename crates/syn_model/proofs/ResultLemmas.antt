@@ -8,7 +8,7 @@ use Rattle.std.specs.FinMap.{get, entries, find, from_entries, get-from_entries,
 use Rattle.std.proofs.lemmas.List.Sums.{fold-append}
 use Rattle.sha2.specs.Sha256.{sha256}
 use Rattle.syn_model.specs.Path.{Path, Name, Bytes, name_cmp, path_cmp, root, is_root, child, parent, is_prefix, strip_prefix, comparable}
-use Rattle.syn_model.specs.Tree.{Tree, Content, Directory, File, Pair, HasParents, subtree, replace, is_directory, is_directory_content, empty_directory}
+use Rattle.syn_model.specs.Tree.{Tree, Content, Contents, contents_of, Directory, File, Pair, HasParents, subtree, replace, is_directory, is_directory_content, empty_directory}
 use Rattle.syn_model.specs.Limits.{children, only_name}
 use Rattle.syn_model.specs.Mark.{mark, mark_of, AreApart}
 use Rattle.syn_model.specs.Dirty.{Scan, Paths, dirty, is_same_tree}
@@ -92,7 +92,7 @@ beside_items s items p q at h = from_contents (carried_out s items) s q (λ r. e
 marked-content : (o : Option Content) → is_directory_content (option_map mark_of o) ≡ is_directory_content o
 marked-content None = refl
 marked-content (Some Directory) = refl
-marked-content (Some (File bytes)) = refl
+marked-content (Some (File contents)) = refl
 
 pub marked-directory : (t : Tree) (p : Path) → is_directory (mark t) p ≡ is_directory t p
 marked-directory t p = ap is_directory_content (get-mark t p) ∙ marked-content (get t p)
@@ -198,9 +198,9 @@ none_mark t p e = get-mark t p ∙ ap (option_map mark_of) e
 bytes_in : Option Content → Bytes
 bytes_in None = []
 bytes_in (Some Directory) = []
-bytes_in (Some (File bytes)) = bytes
+bytes_in (Some (File contents)) = contents.bytes
 
-unmarked : (x y : Option Content) → ((c d : Bytes) → x ≡ Some (File c) → y ≡ Some (File d) → sha256 c ≡ sha256 d → c ≡ d) → option_map mark_of x ≡ option_map mark_of y → x ≡ y
+unmarked : (x y : Option Content) → ((c d : Contents) → x ≡ Some (File c) → y ≡ Some (File d) → sha256 c.bytes ≡ sha256 d.bytes → c.bytes ≡ d.bytes) → option_map mark_of x ≡ option_map mark_of y → x ≡ y
 unfolding bytes_in
 unmarked None None h e = refl
 unmarked None (Some d) h e = absurd (none_some e)
@@ -208,7 +208,7 @@ unmarked (Some c) None h e = absurd (none_some (sym e))
 unmarked (Some Directory) (Some Directory) h e = refl
 unmarked (Some Directory) (Some (File d)) h e = absurd (true≢false (ap is_directory_content e))
 unmarked (Some (File c)) (Some Directory) h e = absurd (true≢false (sym (ap is_directory_content e)))
-unmarked (Some (File c)) (Some (File d)) h e = ap (λ z. Some (File z)) (h c d refl refl (ap bytes_in e))
+unmarked (Some (File c)) (Some (File d)) h e = ap (λ z. Some (File (contents_of z))) (h c d refl refl (ap bytes_in e))
 
 -- parts with one mark are one
 same_by_mark : (a b : Tree) → AreApart (λ tree. (tree ≡ a) ⊎ (tree ≡ b)) → (p : Path) → subtree (mark a) p ≡ subtree (mark b) p → subtree a p ≡ subtree b p

@@ -3,7 +3,7 @@ use Rattle.std.proofs.Common.{arith, length, ◌≡◌, ◌≢◌, Bool, true, f
 use Rattle.std.specs.FinMap.{get, empty, get-empty, entries, put, entries-insert, len-entries, len-empty}
 use Rattle.syn_model.specs.Spelling.{spelling_within}
 use Rattle.syn_model.specs.Path.{Bytes, root, path_cmp}
-use Rattle.syn_model.specs.Tree.{Tree, Pair, Content, File, Directory, at_root, file, empty_directory, absent, is_directory, is_directory_content}
+use Rattle.syn_model.specs.Tree.{Tree, Pair, Content, contents_of, File, Directory, at_root, file, empty_directory, absent, is_directory, is_directory_content}
 use Rattle.syn_model.specs.Dirty.{is_same_tree}
 use Rattle.syn_model.specs.Rows.{Spellings, ItemsOfOneNameHold, Floors, file_in, a_name, RefusedEditsHold}
 use Rattle.syn_model.proofs.PathLemmas.{path_total, some_same, none_some}
@@ -19,8 +19,8 @@ false_of false h = refl
 differ_at_root : (t u : Tree) → get t root ≢ get u root → is_same_tree t u ≡ false
 differ_at_root t u h = false_of (is_same_tree t u) (λ e. h (ap (λ w. get w root) (same_tree_is t u e)))
 
-get-file : (f : Bytes) → get (file f) root ≡ Some (File f)
-get-file f = get-at_root (File f) root
+get-file : (f : Bytes) → get (file f) root ≡ Some (File (contents_of f))
+get-file f = get-at_root (File (contents_of f)) root
 
 get-directory : get empty_directory root ≡ Some Directory
 get-directory = get-at_root Directory root
@@ -29,7 +29,7 @@ get-absent : get absent root ≡ None
 get-absent = get-empty path_cmp root
 
 files_differ : (f g : Bytes) → f ≢ g → is_same_tree (file f) (file g) ≡ false
-files_differ f g h = differ_at_root (file f) (file g) (λ e. h (same_file f g (some_same (sym (get-file f) ∙ (e ∙ get-file g)))))
+files_differ f g h = differ_at_root (file f) (file g) (λ e. h (same_file (contents_of f) (contents_of g) (some_same (sym (get-file f) ∙ (e ∙ get-file g)))))
 
 file_differs : (f : Bytes) → is_same_tree (file f) absent ≡ false
 file_differs f = differ_at_root (file f) absent (λ e. none_some (sym get-absent ∙ (sym e ∙ get-file f)))
@@ -38,7 +38,7 @@ absent_differs : (f : Bytes) → is_same_tree absent (file f) ≡ false
 absent_differs f = differ_at_root absent (file f) (λ e. none_some (sym get-absent ∙ (e ∙ get-file f)))
 
 directory_differs : (f : Bytes) → is_same_tree empty_directory (file f) ≡ false
-directory_differs f = differ_at_root empty_directory (file f) (λ e. no_file f (some_same (sym get-directory ∙ (e ∙ get-file f))))
+directory_differs f = differ_at_root empty_directory (file f) (λ e. no_file (contents_of f) (some_same (sym get-directory ∙ (e ∙ get-file f))))
 
 directory_there : is_same_tree empty_directory absent ≡ false
 directory_there = differ_at_root empty_directory absent (λ e. none_some (sym get-absent ∙ (sym e ∙ get-directory)))
@@ -53,11 +53,11 @@ absent-no_directory : is_directory absent root ≡ false
 absent-no_directory = ap is_directory_content get-absent
 
 -- a directory with one file
-get-file_in : (f : Bytes) → get (file_in f) (a_name ∷ []) ≡ Some (File f)
+get-file_in : (f : Bytes) → get (file_in f) (a_name ∷ []) ≡ Some (File (contents_of f))
 get-file_in f = within empty_directory (a_name ∷ []) (file f) (a_name ∷ []) root refl ∙ get-file f
 
 file_in-differs : (f g : Bytes) → f ≢ g → is_same_tree (file_in f) (file_in g) ≡ false
-file_in-differs f g h = false_of _ (λ e. h (same_file f g (some_same (sym (get-file_in f) ∙ (ap (λ w. get w (a_name ∷ [])) (same_tree_is (file_in f) (file_in g) e) ∙ get-file_in g)))))
+file_in-differs f g h = false_of _ (λ e. h (same_file (contents_of f) (contents_of g) (some_same (sym (get-file_in f) ∙ (ap (λ w. get w (a_name ∷ [])) (same_tree_is (file_in f) (file_in g) e) ∙ get-file_in g)))))
 
 absent_differs_in : (f : Bytes) → is_same_tree absent (file_in f) ≡ false
 absent_differs_in f = false_of _ (λ e. none_some (sym (get-empty path_cmp (a_name ∷ [])) ∙ (ap (λ w. get w (a_name ∷ [])) (same_tree_is absent (file_in f) e) ∙ get-file_in f)))

@@ -1,12 +1,15 @@
 -- What follows from the definitions, for the other crates to use.
-use Rattle.std.specs.Prelude.{ℕ, ◌≡◌, ◌⊎◌, Bool, false, [], ◌∷◌, ◌++◌, All}
+use Rattle.std.specs.Prelude.{ℕ, List, ◌↔◌, ◌≡◌, ◌⊎◌, Bool, false, [], ◌∷◌, ◌++◌, All}
 use Rattle.std.specs.Option.{option_map_or, option_map}
 use Rattle.syn_model.specs.Mark.{mark, mark_of}
 use Rattle.std.specs.FinMap.{get}
-use Rattle.syn_model.specs.Path.{Path, root, comparable, strip_prefix, IsName}
+use Rattle.syn_model.specs.Path.{Bytes, Path, path_cmp, path_key, key_cmp, root, comparable, strip_prefix, IsName, IsPath}
 use Rattle.syn_model.specs.Tree.{Tree, IsPart, IsTree, StandsIn, subtree, replace}
-use Rattle.syn_model.specs.History.{History, IsHistory, IsAllowed, tree_of}
+use Rattle.syn_model.specs.Standing.{new_standing, standing_after, AllAllowedAt}
+use Rattle.syn_model.specs.History.{History, IsHistory, IsAllowed, AllAllowed, tree_of, standing_of}
 use Rattle.syn_model.specs.Event.{Event}
+use Rattle.syn_model.specs.Spelling.{event_spelling}
+use Rattle.syn_model.specs.Image.{image_spelling, StandsFor}
 use Rattle.syn_model.specs.Dirty.{Scan, Paths, dirty, IsClosedUpward, IsSafeEstimate}
 use Rattle.syn_model.specs.Reconcile.{IsSynchronization}
 
@@ -67,3 +70,24 @@ MarkHas = (tree : Tree) (path : Path) → get (mark tree) path ≡ option_map ma
 
 abbrev pub MarkOfSubtree : Type 0
 MarkOfSubtree = (tree : Tree) (path : Path) → mark (subtree tree path) ≡ subtree (mark tree) path
+
+-- one more event takes what an image keeps of a history one step on
+abbrev pub StandingSteps : Type 0
+StandingSteps = (history : History) (event : Event) → standing_of (history ++ event ∷ []) ≡ standing_after (standing_of history) event
+
+-- and what is allowed there is what is allowed after the history
+abbrev pub StandingAllows : Type 0
+StandingAllows = (history : History) (events : List Event) → AllAllowedAt (standing_of history) events ↔ AllAllowed history events
+
+-- what is formatted stands for the empty history
+abbrev pub FormattedStands : Type 0
+FormattedStands = (pair : ℕ) → StandsFor pair (image_spelling pair new_standing) [] []
+
+-- and with the payload of an allowed event it stands for the history with that event
+abbrev pub PayloadGoesOn : Type 0
+PayloadGoesOn = (pair : ℕ) (image : Bytes) (payloads : List Bytes) (history : History) (event : Event) →
+    StandsFor pair image payloads history → IsAllowed history event → StandsFor pair image (payloads ++ event_spelling event ∷ []) (history ++ event ∷ [])
+
+-- the order of lawful paths is a byte order
+abbrev pub PathsGoByKey : Type 0
+PathsGoByKey = (p q : Path) → IsPath p → IsPath q → path_cmp p q ≡ key_cmp (path_key p) (path_key q)

@@ -3,6 +3,7 @@ pub mod Tree
 pub mod Refusal
 pub mod Limits
 pub mod Event
+pub mod Standing
 pub mod History
 pub mod Mark
 pub mod Archive
@@ -11,5 +12,6 @@ pub mod Reconcile
 pub mod Decision
 pub mod Plan
 pub mod Spelling
+pub mod Image
 pub mod Laws
 pub mod Rows

@@ -1,9 +1,14 @@
 //! The definitions from path to plan that the other crates cite, and the laws that hold of them.
 #![tactic(auto)]
 
-ghost use Rattle.syn_model.specs.Laws.{SameAtEachPath, SubtreeHas, ReplacedHas, ReplacedIsThere, OthersStay, ReplacedIsPart, DirtyIsClosed, DirtyIsSafe, OneSynchronization, NothingToDo, HistoryIsTree, AllowedGoesOn, MarkHas, MarkOfSubtree};
+ghost use Rattle.syn_model.specs.Laws.{SameAtEachPath, SubtreeHas, ReplacedHas, ReplacedIsThere, OthersStay, ReplacedIsPart, DirtyIsClosed, DirtyIsSafe, OneSynchronization, NothingToDo, HistoryIsTree, AllowedGoesOn, StandingSteps, StandingAllows, FormattedStands, PayloadGoesOn, PathsGoByKey, MarkHas, MarkOfSubtree};
 ghost use Rattle.syn_model.specs.Plan.{NamesAreOnly, PlanIsInOrder, PlanIsOrderly, PlanIsDecided, PlanReconciles, PlanHasDecided, PlanOverwritesClean, ConflictsArePlanned, ItemFindsArchive, ItemFindsSides};
 ghost use Rattle.syn_model.specs.Rows.{ItemsOfOneNameHold, Floors, RefusedEditsHold, Spellings};
+
+/// Paths compare as bytes: by their names, each followed by one zero byte.
+pub fn path_laws()
+    ensures order { PathsGoByKey }
+{}
 
 /// What a tree has after a part of it is taken or replaced.
 pub fn tree_laws()
@@ -51,6 +56,14 @@ pub fn plan_laws()
 pub fn history_laws()
     ensures tree { HistoryIsTree }
     ensures goes_on { AllowedGoesOn }
+
+    // An image keeps of a history what the next events need.
+    ensures steps { StandingSteps }
+    ensures allows { StandingAllows }
+
+    // And an image with the payloads of allowed events stands for their history.
+    ensures formatted { FormattedStands }
+    ensures payload { PayloadGoesOn }
 {}
 
 /// The definitions give what the worked examples say.

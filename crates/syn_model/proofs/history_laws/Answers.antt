@@ -1,4 +1,6 @@
 use Rattle.syn_model.proofs.HistoryLemmas.{history-is_tree, allowed_goes_on}
+use Rattle.syn_model.proofs.StandingLemmas.{standing_steps, standing_allows}
+use Rattle.syn_model.proofs.ImageLemmas.{formatted_stands, payload_goes_on}
 use Rattle.syn_model.proofs.history_laws.Goals as goal
 
 pub returns-clause-tree : goal.returns-clause-tree
@@ -6,3 +8,15 @@ returns-clause-tree c = history-is_tree
 
 pub returns-clause-goes_on : goal.returns-clause-goes_on
 returns-clause-goes_on c = allowed_goes_on
+
+pub returns-clause-steps : goal.returns-clause-steps
+returns-clause-steps c = standing_steps
+
+pub returns-clause-allows : goal.returns-clause-allows
+returns-clause-allows c = standing_allows
+
+pub returns-clause-formatted : goal.returns-clause-formatted
+returns-clause-formatted c = formatted_stands
+
+pub returns-clause-payload : goal.returns-clause-payload
+returns-clause-payload c = payload_goes_on

@@ -1,0 +1,55 @@
+-- What a replica disk means: the image of a standing, and payloads that are events allowed in turn.
+use Rattle.std.specs.Prelude.{ℕ, ◌≡◌, ◌≤◌, ◌<◌, ◌^◌, true, List, [], ◌∷◌, ◌++◌, map, fold, flat_map, length, Option, Some, None, IfSome, All, AllPairs}
+use Rattle.std.specs.Int.{to_be_bytes, w16, w64}
+use Rattle.syn_model.specs.Path.{Bytes, IsPath, path_spelling}
+use Rattle.syn_model.specs.Tree.{IsTree}
+use Rattle.syn_model.specs.Limits.{greatest, fits_replica}
+use Rattle.syn_model.specs.Event.{Token, Event, IsLawfulToken}
+use Rattle.syn_model.specs.Standing.{Touch, Standing, most_touches, standing_after, AllAllowedAt}
+use Rattle.syn_model.specs.History.{History, IsHistory, standing_of}
+use Rattle.syn_model.specs.Spelling.{spelling, token_spelling, event_spelling}
+
+abbrev pub last_token_spelling : Option Token → Bytes
+last_token_spelling None = 0 ∷ []
+last_token_spelling (Some token) = 1 ∷ token_spelling token
+
+abbrev pub touch_spelling : Touch → Bytes
+touch_spelling touch = to_be_bytes w64 touch.position ++ path_spelling touch.path
+
+-- "SYNR" and the version
+abbrev pub replica_front : Bytes
+replica_front = 83 ∷ 89 ∷ 78 ∷ 82 ∷ 1 ∷ []
+
+abbrev pub image_spelling : ℕ → Standing → Bytes
+image_spelling pair standing =
+    replica_front ++ (to_be_bytes w64 pair
+    ++ (to_be_bytes w64 standing.position ++ (to_be_bytes w64 standing.floor ++ (to_be_bytes w64 standing.session
+    ++ (last_token_spelling standing.token
+    ++ (to_be_bytes w16 (length standing.touches) ++ (flat_map touch_spelling standing.touches ++ spelling standing.tree)))))))
+
+-- what an image may hold
+pub record IsStanding (standing : Standing) : Type 0 where
+  pub tree : IsTree standing.tree
+  pub fits : fits_replica standing.tree ≡ true
+  pub position : standing.position ≤ greatest
+  pub floor : standing.floor ≤ standing.position
+  pub session : standing.session ≤ greatest
+  pub token : IfSome standing.token (λ token. (1 ≤ token.session) × (token.session ≤ standing.session) × IsLawfulToken token)
+  pub count : length standing.touches ≤ most_touches
+  pub touches : All (λ touch. (standing.floor ≤ touch.position) × (touch.position < standing.position) × IsPath touch.path) standing.touches
+  pub rising : AllPairs (λ earlier later. earlier.position < later.position) standing.touches
+
+-- The image is that of a standing, the payloads are events that are allowed in turn after it, and this is the standing after them.
+pub record Gives (pair : ℕ) (image : Bytes) (payloads : List Bytes) (standing : Standing) : Type 0 where
+  pub first : Standing
+  pub events : List Event
+  pub sound : IsStanding first
+  pub image_is : image ≡ image_spelling pair first
+  pub payloads_are : payloads ≡ map event_spelling events
+  pub allowed : AllAllowedAt first events
+  pub last : standing ≡ fold standing_after first events
+
+-- an image and payloads stand for a history
+pub record StandsFor (pair : ℕ) (image : Bytes) (payloads : List Bytes) (history : History) : Type 0 where
+  pub lawful : IsHistory history
+  pub gives : Gives pair image payloads (standing_of history)
