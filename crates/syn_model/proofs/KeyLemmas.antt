@@ -47,7 +47,7 @@ not_none b h = omega arith
 
 no_zero : (name : Name) → IsName name → NoZero name
 unfolding NoZero
-no_zero name lawful k d below = not_none (slice_index_or name k d) (lawful.no_zero _ (Contains-get_or name k d below))
+no_zero name lawful k d below = not_none (slice_index_or name k d) (λ e. lawful.no_zero (subst (Contains name) e (Contains-get_or name k d below)))
 
 pub paths_go_by_key : PathsGoByKey
 paths_go_by_key p q hp hq = by_names p q (λ k d below. no_zero _ (hp.names k d below)) (λ k d below. no_zero _ (hq.names k d below))

@@ -1,0 +1,15 @@
+//! Names and paths of a file tree: their limits, their text, and their order.
+#![tactic(auto)]
+
+mod error;
+mod name;
+mod order;
+mod path;
+mod printed;
+
+pub use error::PathError;
+pub use name::Name;
+pub use path::Path;
+
+#[cfg(test)]
+mod tests;
