@@ -1,0 +1,3 @@
+pub mod FlatLemmas
+pub mod PlaceLemmas
+pub mod MapLemmas

@@ -1,0 +1,4 @@
+pub mod FileMap
+pub mod Place
+pub mod Entries
+pub mod Files

@@ -1,0 +1,4 @@
+//! A replica: a history of edits of a file tree that outlives stops of its machine.
+#![tactic(auto)]
+
+mod files;
