@@ -57,6 +57,19 @@ impl Path {
         Ok(Path { names })
     }
 
+    /// The path of these names, from the root on.
+    ///
+    /// Refused 1 where it would pass the limits.
+    pub fn from_names(names: Vec<Name>) -> Result<Path, PathError>
+        ensures ok { IfOk result (λ path. (path ≡ names.items) × IsPath path) }
+        ensures bad { IfErr result (λ e. (e ≡ PathError.BadPath) × ¬ IsPath names.items) }
+    {
+        if names.len() > 16 || spelled_len(names.as_slice()) > 255 {
+            return Err(PathError::BadPath);
+        }
+        Ok(Path { names })
+    }
+
     /// The names from the root on, none for the root.
     pub fn names(&self) -> &[Name]
         ensures names { result.now ≡ self.now }
@@ -158,7 +171,8 @@ fn copy_names(alloc: Global, source: &[Name], more: usize) -> Result<Vec<Name>, 
 /// How many bytes the names are spelled with, the count among them.
 fn spelled_len(names: &[Name]) -> usize
     requires { length names.now ≤ 16 }
-    ensures { result ≡ length (path_spelling names.now) }
+    ensures length { result ≡ length (path_spelling names.now) }
+    ensures lawful { All IsName names.now }
 {
     let mut len = 1;
     for name in names {

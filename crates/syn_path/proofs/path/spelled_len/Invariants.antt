@@ -1,9 +1,12 @@
 use Rattle.std.proofs.Common.{◌∷◌, ◌≡◌, ◌+◌, ◌*◌, ◌≤◌, length, take}
 use Rattle.std.specs.List.{flat_map}
+use Rattle.std.specs.Prelude.{All}
+use Rattle.syn_model.specs.Path.{IsName}
 use Rattle.syn_path.proofs.path.spelled_len.Given as goal
 
 abbrev pub invariant-loop-name : goal.invariant-loop-name
 invariant-loop-name l = record {
   so_far : l.len ≡ 1 + length (flat_map (λ name. length name ∷ name) (take l.name-index l.names));
+  lawful : All IsName (take l.name-index l.names);
   small : l.len ≤ 1 + 65 * l.name-index;
 }

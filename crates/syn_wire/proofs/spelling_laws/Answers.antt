@@ -1,0 +1,15 @@
+use Rattle.syn_wire.proofs.NameLemmas.{paths_tell}
+use Rattle.syn_wire.proofs.NumberLemmas.{u16_tells, u32_tells, u64_tells}
+use Rattle.syn_wire.proofs.spelling_laws.Goals as goal
+
+pub returns-clause-u16 : goal.returns-clause-u16
+returns-clause-u16 c = u16_tells
+
+pub returns-clause-u32 : goal.returns-clause-u32
+returns-clause-u32 c = u32_tells
+
+pub returns-clause-u64 : goal.returns-clause-u64
+returns-clause-u64 c = u64_tells
+
+pub returns-clause-path : goal.returns-clause-path
+returns-clause-path c = paths_tell

@@ -1,0 +1,17 @@
+-- What holds of spellings, for the layers above.
+use Rattle.std.specs.Prelude.{◌<◌, ◌^◌}
+use Rattle.std.specs.Int.{to_be_bytes, w16, w32, w64}
+use Rattle.syn_model.specs.Path.{IsPath, path_spelling}
+use Rattle.syn_wire.specs.Reads.{NoneBeginsAnother}
+
+abbrev pub NoU16BeginsAnother : Type 0
+NoU16BeginsAnother = NoneBeginsAnother (λ n. n < 2 ^ 16) (to_be_bytes w16)
+
+abbrev pub NoU32BeginsAnother : Type 0
+NoU32BeginsAnother = NoneBeginsAnother (λ n. n < 2 ^ 32) (to_be_bytes w32)
+
+abbrev pub NoU64BeginsAnother : Type 0
+NoU64BeginsAnother = NoneBeginsAnother (λ n. n < 2 ^ 64) (to_be_bytes w64)
+
+abbrev pub NoPathBeginsAnother : Type 0
+NoPathBeginsAnother = NoneBeginsAnother IsPath path_spelling

@@ -1,0 +1,4 @@
+pub mod Refusals
+pub mod Reads
+pub mod Names
+pub mod Laws

@@ -1,0 +1,25 @@
+//! The one spelling of a value in bytes: what is written, and what is read from it.
+//!
+//! All numbers are big-endian. Each value has one spelling, and no spelling of a value begins another.
+#![tactic(auto)]
+
+ghost use Rattle.syn_wire.specs.Laws.{NoU16BeginsAnother, NoU32BeginsAnother, NoU64BeginsAnother, NoPathBeginsAnother};
+
+mod error;
+mod number;
+mod path;
+
+pub use error::WireError;
+pub use number::{read_u16, read_u32, read_u64};
+pub use path::{decode_path, encode_path, write_path};
+
+/// No spelling of a value begins that of another.
+pub fn spelling_laws()
+    ensures u16 { NoU16BeginsAnother }
+    ensures u32 { NoU32BeginsAnother }
+    ensures u64 { NoU64BeginsAnother }
+    ensures path { NoPathBeginsAnother }
+{}
+
+#[cfg(test)]
+mod tests;
