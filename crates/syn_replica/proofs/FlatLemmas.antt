@@ -7,11 +7,12 @@ use Rattle.std.specs.Ordering.{eq_by_cmp, ordering_then}
 use Rattle.std.specs.FinMap.{FinMap, entries, entries_sorted, entries-insert, entries-from_sorted, len, len-entries, get, insert, get-insert, get-entries, is_sorted, find}
 use Rattle.std.specs.FinMap.Entries.{below_all}
 use Rattle.std.specs.Cmp.{eq_by_cmp_equiv}
-use Rattle.std.proofs.lemmas.List.{length-map}
+use Rattle.std.proofs.lemmas.List.{length-map, append_assoc}
+use Rattle.std.proofs.lemmas.List.Elements.{All-head}
 use Rattle.std.proofs.lemmas.List.Sums.{sum_by-cons}
 use Rattle.std.proofs.lemmas.Bool.Decides.{nat_tests}
 use Rattle.syn_model.specs.Path.{Bytes, Name, Path, name_cmp, path_cmp, root, strip_prefix, IsName, path_spelling}
-use Rattle.syn_model.specs.Tree.{Tree, Pair, Content, Directory, File, contents_of, file, replace, empty_directory}
+use Rattle.syn_model.specs.Tree.{Tree, IsTree, Pair, Content, Directory, File, contents_of, file, replace, empty_directory}
 use Rattle.syn_model.specs.Limits.{children, only_name, fits_replica, fits_content, fits_path, greatest_spelling, last_name_spelling_length, content_spelling_length, tree_spelling_length}
 use Rattle.syn_model.proofs.PathLemmas.{path_total, name_total, name_itself}
 use Rattle.syn_model.proofs.TreeLemmas.{same_tree, get-replace}
@@ -170,3 +171,24 @@ fits-flat files names =
     let paths = ap (list_all (λ pair. fits_path pair.0)) (entries-flat files) ∙ paths_fit fs names in
     ap₂ (λ a b. a && b) (ap₂ (λ a b. a && b) (ap₂ (λ a b. a && b) number size) parts) paths
     ∙ combined (nat_le (suc (length fs)) 1024) (nat_le (spelling_length fs) greatest_spelling) (nat_le (length fs) 256) (list_all (λ f. nat_le (length f.1) 16384) fs) (few (length fs))
+
+here : (n : Name) (b : Bytes) (more fs : List (Name × Bytes)) → is_some (find name_cmp n (more ++ (n, b) ∷ fs)) ≡ true
+here n b [] fs = ap (λ t. is_some (cond t (Some b) (find name_cmp n fs))) (name_itself n)
+here n b (e ∷ more) fs = elim (eq_by_cmp name_cmp n e.0) as (λ t. is_some (cond t (Some e.1) (find name_cmp n (more ++ (n, b) ∷ fs))) ≡ true) [ true ↦ refl | false ↦ here n b more fs ]
+
+name_in : (files : FileMap) → IsTree (flat_tree files) → (n : Name) (b : Bytes) (more fs : List (Name × Bytes)) → entries files ≡ more ++ (n, b) ∷ fs → IsName n
+name_in files tree n b more fs e =
+    All-head IsName n [] (tree.part.names (n ∷ []) (ap is_some (get-flat files (n ∷ [])) ∙ (mapped (get files n) ∙ (ap is_some (get-entries files n) ∙ (ap (λ es. is_some (find name_cmp n es)) e ∙ here n b more fs)))))
+  where
+    mapped : (o : Option Bytes) → is_some (option_map (λ b. File (contents_of b)) o) ≡ is_some o
+    mapped None = refl
+    mapped (Some b) = refl
+
+named_rest : (files : FileMap) → IsTree (flat_tree files) → (more fs : List (Name × Bytes)) → entries files ≡ more ++ fs → AreNames fs
+named_rest files tree more [] e = tt
+named_rest files tree more (f ∷ fs) e =
+    (name_in files tree f.0 f.1 more fs e, named_rest files tree (more ++ f ∷ []) fs (e ∙ sym (append_assoc more (f ∷ []) fs)))
+
+-- the names of a lawful tree are lawful
+pub names-flat : (files : FileMap) → IsTree (flat_tree files) → AreNames (entries files)
+names-flat files tree = named_rest files tree [] (entries files) refl

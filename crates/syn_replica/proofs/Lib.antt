@@ -1,3 +1,5 @@
 pub mod FlatLemmas
 pub mod PlaceLemmas
 pub mod MapLemmas
+pub mod PayloadLemmas
+pub mod ImageLemmas

@@ -1,0 +1,35 @@
+-- The formatted image in its parts.
+use Rattle.std.proofs.Common.{◌≡◌, ◌<◌, ◌^◌, ℕ, true, [], ◌∷◌, ◌++◌, take, drop, sym, ap, ap₂, ◌∙◌}
+use Rattle.std.specs.Prelude.{bytes_eq}
+use Rattle.std.proofs.lemmas.Slice.Eq.{bytes_eq-Decides}
+use Rattle.std.proofs.lemmas.List.{take-append-drop}
+use Rattle.std.specs.Int.{to_be_bytes, w64}
+use Rattle.syn_model.specs.Path.{Bytes}
+use Rattle.syn_model.specs.Image.{replica_front}
+use Rattle.syn_model.proofs.RowLemmas.{spellings}
+use Rattle.syn_wire.specs.Laws.{NoU64BeginsAnother}
+use Rattle.syn_wire.specs.Reads.{BeginsWith}
+use Rattle.syn_replica.specs.Formatted.{formatted_image}
+use Rattle.syn_replica.specs.declared.image.TheConstants.{NO_EVENTS}
+
+pub formatted_parts : (pair : ℕ) → formatted_image pair ≡ replica_front ++ (to_be_bytes w64 pair ++ NO_EVENTS)
+formatted_parts pair = ap (λ tree. replica_front ++ (to_be_bytes w64 pair
+    ++ (to_be_bytes w64 0 ++ (to_be_bytes w64 0 ++ (to_be_bytes w64 0 ++ (0 ∷ [] ++ (0 ∷ 0 ∷ [] ++ ([] ++ tree)))))))) spellings.no_names
+
+-- a front, a number and the rest in a row are the image
+pub formatted_from : (image after rest : Bytes) (pair : ℕ) → bytes_eq (take 5 image) replica_front ≡ true → after ≡ drop 5 image → after ≡ to_be_bytes w64 pair ++ rest → rest ≡ NO_EVENTS → image ≡ formatted_image pair
+formatted_from image after rest pair front behind read last =
+    sym (take-append-drop 5 image)
+    ∙ (ap₂ (λ a b. a ++ b) ((bytes_eq-Decides (take 5 image) replica_front).0 front) (sym behind ∙ (read ∙ ap (λ xs. to_be_bytes w64 pair ++ xs) last))
+    ∙ sym (formatted_parts pair))
+
+-- and the other way round
+pub formatted_rest : NoU64BeginsAnother → (image after rest : Bytes) (pair number : ℕ) → after ≡ drop 5 image → BeginsWith (λ n. n < 2 ^ 64) (to_be_bytes w64) after number rest → pair < 2 ^ 64 → image ≡ formatted_image pair → rest ≡ NO_EVENTS
+formatted_rest u64 image after rest pair number behind read fits e =
+    (u64 number pair rest NO_EVENTS read.lawful fits (sym read.spelled ∙ (behind ∙ ap (drop 5) (e ∙ formatted_parts pair)))).1
+
+pub same_bytes : (a b : Bytes) → bytes_eq a b ≡ true → a ≡ b
+same_bytes a b h = (bytes_eq-Decides a b).0 h
+
+pub bytes_same : (a b : Bytes) → a ≡ b → bytes_eq a b ≡ true
+bytes_same a b e = (bytes_eq-Decides a b).1 e

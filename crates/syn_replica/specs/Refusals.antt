@@ -1,0 +1,35 @@
+-- Why a call of a replica is refused, as a refusal of the product.
+use Rattle.std.specs.Prelude.{Result, Ok, Err, Option, Some, None}
+use Rattle.syn_model.specs.Refusal.{Refusal}
+use Rattle.syn_model.specs.Refusal as why
+use Rattle.syn_journal.specs.declared.error.JournalError.{JournalError}
+use Rattle.syn_journal.specs.declared.error.JournalError.TheVariants as journal
+use Rattle.syn_replica.specs.declared.error.ReplicaError.{ReplicaError}
+use Rattle.syn_replica.specs.declared.error.ReplicaError.TheVariants.{NoParent, Absent, Root, Full, JournalFull, Device, Halted, Memory, NoImage, Damaged, WrongPair}
+
+abbrev pub refusal_of : ReplicaError → Refusal
+refusal_of NoParent = why.NoParent
+refusal_of Absent = why.Absent
+refusal_of Root = why.Root
+refusal_of Full = why.Full
+refusal_of JournalFull = why.JournalFull
+refusal_of Device = why.Device
+refusal_of Halted = why.Halted
+refusal_of Memory = why.Memory
+refusal_of NoImage = why.NoImage
+refusal_of Damaged = why.Damaged
+refusal_of WrongPair = why.WrongPair
+
+abbrev pub of_journal : JournalError → ReplicaError
+of_journal journal.Full = Full
+of_journal journal.JournalFull = JournalFull
+of_journal journal.Device = Device
+of_journal journal.Halted = Halted
+of_journal journal.Memory = Memory
+of_journal journal.NoImage = NoImage
+of_journal journal.Damaged = Damaged
+
+-- why a call was refused, if it was
+abbrev pub refusal_in : {X : Type 0} → Result X ReplicaError → Option Refusal
+refusal_in (Ok x) = None
+refusal_in (Err e) = Some (refusal_of e)
