@@ -95,9 +95,9 @@ put-flat files n bytes = same_tree _ _ (λ path. get-flat (insert files n bytes)
           | false ↦ sym (get-flat files (m ∷ []))
         ]
     by_path (m ∷ k ∷ p) = elim (eq_by_cmp name_cmp n m) as (λ b. None ≡ option_map_or (λ r. get (file bytes) r) (if b then Some (k ∷ p) else None) (get (flat_tree files) (m ∷ k ∷ p))) [
-          | true ↦ sym (get-at_root (File (contents_of bytes)) (k ∷ p))
-          | false ↦ sym (get-flat files (m ∷ k ∷ p))
-        ]
+      | true ↦ sym (get-at_root (File (contents_of bytes)) (k ∷ p))
+      | false ↦ sym (get-flat files (m ∷ k ∷ p))
+    ]
 
 -- the names of the root
 child-pairs : (fs : List (Name × Bytes)) → filter_map {Y = Name × Content} (λ pair. option_map (λ name. (name, pair.1)) (option_and_then only_name (strip_prefix root pair.0))) (pairs fs) ≡ map (λ f. (f.0, File (contents_of f.1))) fs

@@ -3,3 +3,4 @@ pub mod PlaceLemmas
 pub mod MapLemmas
 pub mod PayloadLemmas
 pub mod ImageLemmas
+pub mod RefusalLemmas

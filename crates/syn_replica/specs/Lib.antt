@@ -3,6 +3,8 @@ pub mod Place
 pub mod Entries
 pub mod Files
 pub mod Stored
+pub mod Disks
+pub mod Replica
 pub mod Refusals
 pub mod Formatted
 pub mod Payload

@@ -2,9 +2,10 @@ ghost use Rattle.std.specs.Prelude.{◌≡◌};
 ghost use Rattle.syn_model.specs.Refusal.{number, name_of};
 ghost use Rattle.syn_replica.specs.Refusals.{refusal_of, of_journal};
 
-use syn_journal::JournalError;
-use syn_wire::WireError;
 use std::alloc::{AllocError, AllocFailed};
+use syn_journal::JournalError;
+use syn_path::PathError;
+use syn_wire::WireError;
 use thiserror::Error;
 
 /// Why a call of a replica is refused.
@@ -101,6 +102,18 @@ impl From<JournalError> for ReplicaError {
             JournalError::NoImage => ReplicaError::NoImage,
             JournalError::Damaged => ReplicaError::Damaged,
         }
+    }
+}
+
+/// A copy of a path or a name is refused for want of memory alone.
+impl From<PathError> for ReplicaError {
+    ghost use Rattle.std.specs.Prelude.{◌≡◌};
+    ghost use Rattle.syn_replica.specs.declared.error.ReplicaError.TheVariants.{Memory};
+
+    ghost from_gives = { λ _ e. e ≡ Memory };
+
+    fn from(_error: PathError) -> ReplicaError {
+        ReplicaError::Memory
     }
 }
 

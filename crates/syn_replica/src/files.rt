@@ -7,7 +7,7 @@ ghost use Rattle.syn_replica.specs.Place.{IsFoundAt, IsGapAt};
 
 use std::alloc::{AllocError, Global};
 use std::cmp::Ordering;
-use syn_path::Name;
+use syn_path::{Name, PathError};
 
 /// The most files of the root.
 const MOST_FILES: usize = 256;
@@ -57,6 +57,15 @@ impl Files {
             Ok(at) => Some(&self.entries[at].bytes),
             Err(_) => None,
         }
+    }
+
+    /// The names in byte order; none of them is a directory.
+    pub(crate) fn names(&self, alloc: Global) -> Result<Vec<(Name, bool)>, PathError> {
+        let mut names = Vec::with_capacity(alloc, self.entries.len())?;
+        for entry in &self.entries {
+            names.push((entry.name.copy(alloc)?, false))?;
+        }
+        Ok(names)
     }
 
     /// How many files there are with a file of so many bytes at that name, and how long their spelling is.

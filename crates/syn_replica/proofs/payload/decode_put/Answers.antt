@@ -50,11 +50,13 @@ returns c =
     let spelled = put_spelled payload after_kind c.in-Some.after_user.now c.in-Some-2.after_path.now c.in-Some-read_u32.bytes.now c.in-Some.user c.in-Some-read_u32.count c.in-Some-2.path kind read_user.spelled read_path.spelled read_count.spelled (sym c.if-bytes-count.false) in
     let all : AreBytes payload = λ k d l. subst (λ v. v < 256) (get_or_default payload k 0 d l) (byte_fits (slice_index_or payload k 0) (c.type_inv.payload k)) in
     let kept = bytes_behind after_kind (to_be_bytes w32 c.in-Some.user ++ (path_spelling c.in-Some-2.path ++ to_be_bytes w32 c.in-Some-read_u32.count)) c.in-Some-read_u32.bytes.now (bytes_behind payload (1 ∷ []) after_kind all kind)
-      (read_user.spelled ∙ (ap (λ xs. to_be_bytes w32 c.in-Some.user ++ xs) (read_path.spelled ∙ (ap (λ xs. path_spelling c.in-Some-2.path ++ xs) read_count.spelled ∙ sym (append_assoc (path_spelling c.in-Some-2.path) (to_be_bytes w32 c.in-Some-read_u32.count) c.in-Some-read_u32.bytes.now)))
-      ∙ sym (append_assoc (to_be_bytes w32 c.in-Some.user) (path_spelling c.in-Some-2.path ++ to_be_bytes w32 c.in-Some-read_u32.count) c.in-Some-read_u32.bytes.now))) in
-    (record {
-      user = read_user.lawful;
-      path = read_path.lawful;
-      bytes = subst AreBytes (sym same) kept;
-      brief = subst (λ xs. length xs < 2 ^ 32) (sym same) (subst (λ n. n < 2 ^ 32) (sym c.if-bytes-count.false) read_count.lawful);
-    }, spelled ∙ ap (λ xs. event_spelling (event_of (record { user = c.in-Some.user; path = c.in-Some-2.path; bytes = xs }))) (sym same))
+    (read_user.spelled ∙ (ap (λ xs. to_be_bytes w32 c.in-Some.user ++ xs) (read_path.spelled ∙ (ap (λ xs. path_spelling c.in-Some-2.path ++ xs) read_count.spelled ∙ sym (append_assoc (path_spelling c.in-Some-2.path) (to_be_bytes w32 c.in-Some-read_u32.count) c.in-Some-read_u32.bytes.now)))
+    ∙ sym (append_assoc (to_be_bytes w32 c.in-Some.user) (path_spelling c.in-Some-2.path ++ to_be_bytes w32 c.in-Some-read_u32.count) c.in-Some-read_u32.bytes.now))) in (
+      record {
+        user = read_user.lawful;
+        path = read_path.lawful;
+        bytes = subst AreBytes (sym same) kept;
+        brief = subst (λ xs. length xs < 2 ^ 32) (sym same) (subst (λ n. n < 2 ^ 32) (sym c.if-bytes-count.false) read_count.lawful);
+      },
+      spelled ∙ ap (λ xs. event_spelling (event_of (record { user = c.in-Some.user; path = c.in-Some-2.path; bytes = xs }))) (sym same),
+    )

@@ -10,4 +10,4 @@ returns c =
     let none = c.new.ensures.items in
     let order : AreInOrder c.new.result.items = ap (λ es. is_sorted name_cmp (files_in es)) none in
     empty_of_len (from_sorted {R = name_cmp} (files_in c.new.result.items))
-      (len-entries (from_sorted (files_in c.new.result.items)) ∙ (ap length (entries-in c.new.result.items order) ∙ ap (λ es. length (files_in es)) none))
+    (len-entries (from_sorted (files_in c.new.result.items)) ∙ (ap length (entries-in c.new.result.items order) ∙ ap (λ es. length (files_in es)) none))

@@ -1,0 +1,17 @@
+pub mod Arms
+pub mod Cut
+pub mod Disk
+pub mod Extent
+pub mod FileDisk
+pub mod Half
+pub mod Halves
+pub mod MemDisk
+pub mod Memory
+pub mod MomentLaws
+pub mod Moments
+pub mod OpenError
+pub mod Padded
+pub mod PaddedLaws
+pub mod Ranged
+pub mod Stop
+pub mod Written

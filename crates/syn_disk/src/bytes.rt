@@ -1,0 +1,28 @@
+//! Parts of the bytes of a disk.
+ghost use Rattle.std.specs.Prelude.{◌≡◌, ◌≤◌, ◌+◌, ◌-◌, List, length, slice_range, take, drop, vec_capacity};
+ghost use Rattle.syn_disk.specs.Disk.{overwritten};
+
+pub fn overwrite(content: &mut Vec<u8>, at: usize, bytes: &[u8])
+    requires { at + length bytes.now ≤ length content.old.items }
+    ensures items { content.new.items ≡ overwritten content.old.items at bytes.now }
+    ensures room { vec_capacity content.new ≡ vec_capacity content.old }
+{
+    content[at..at + bytes.len()].copy_from_slice(bytes);
+}
+
+pub fn copy_range(copy: &mut Vec<u8>, original: &Vec<u8>, from: usize, to: usize)
+    requires ordered { from ≤ to }
+    requires within { to ≤ length original.now.items }
+    requires fits { to ≤ length copy.old.items }
+    ensures items { copy.new.items ≡ overwritten copy.old.items from (slice_range original.now.items from to) }
+    ensures room { vec_capacity copy.new ≡ vec_capacity copy.old }
+{
+    overwrite(copy, from, &original[from..to]);
+}
+
+pub fn copy_out(content: &Vec<u8>, at: usize, into: &mut [u8])
+    requires { at + length into.old ≤ length content.now.items }
+    ensures { into.new ≡ take (length into.old) (drop at content.now.items) }
+{
+    into.copy_from_slice(&content[at..at + into.len()]);
+}

@@ -1,0 +1,9 @@
+mod Appends
+mod Commits
+mod Formats
+mod Meanings
+mod Moments
+mod Parts
+mod Openings
+mod Records
+mod Whole

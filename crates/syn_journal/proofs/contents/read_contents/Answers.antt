@@ -1,0 +1,69 @@
+use Rattle.std.proofs.Common.{◌≡◌, ◌∙◌, ◌≢◌, ◌+◌, ◌-◌, ◌++◌, Ok, None, List, ℕ, take, drop, get_or, length, subst, ap, sym, arith}
+use Rattle.std.specs.Int.{w32, to_be_bytes}
+use Rattle.std.specs.Prelude.{Err}
+use Rattle.syn_journal.specs.Layout.{open_gate, start_of, damaged, current, generation_at, value_at, meaning, bytes_from, records, records_of}
+use Rattle.syn_journal.specs.Opened.{payloads_of}
+use Rattle.syn_journal.specs.Refusals.{IsOpenRefusal, IsReadRefusal}
+use Rattle.syn_journal.proofs.Openings.{if_err_by, refused_by_halves, refused_by_value, refused_by_records, front_read}
+use Rattle.syn_journal.proofs.contents.read_contents.Goals as goal
+
+pub returns-in_err-half-clause-refusals : goal.returns-in_err-half-clause-refusals
+returns-in_err-half-clause-refusals g c =
+    let seen = g.D.Disk.seen c.args.disk.now in
+    let e = c.in_err-half.field-0.0 in
+    let cause : IsOpenRefusal e (current seen) = subst (λ bytes. IsOpenRefusal e (current bytes)) c.in_ok-sync.ensures.seen c.in_err-half.ensures.refusals in
+    if_err_by c.from_residual-in_err-half.result _ _ c.from_residual-in_err-half.ensures.1
+    (λ e' gives. subst (λ refusal. IsOpenRefusal refusal (meaning seen)) (sym gives) (refused_by_halves seen e cause))
+
+pub returns-in_err-image-clause-refusals : goal.returns-in_err-image-clause-refusals
+returns-in_err-image-clause-refusals g c =
+    let seen = g.D.Disk.seen c.args.disk.now in
+    let half = c.in_ok-half.half in
+    let e = c.in_err-image.field-0.0 in
+    let is : current seen ≡ Ok half = ap current (sym c.in_ok-sync.ensures.seen) ∙ c.in_ok-half.ensures.half in
+    let same : g.D.Disk.seen c.read_current.new.disk ≡ seen = c.in_ok-half.ensures.untouched.same ∙ c.in_ok-sync.ensures.seen in
+    let cause : IsReadRefusal e (value_at seen half ≡ Err damaged) = subst (λ bytes. IsReadRefusal e (value_at bytes half ≡ Err damaged)) same c.in_err-image.ensures.refusals in
+    if_err_by c.from_residual-in_err-image.result _ _ c.from_residual-in_err-image.ensures.1
+    (λ e' gives. subst (λ refusal. IsOpenRefusal refusal (meaning seen)) (sym gives) (refused_by_value seen half e is cause))
+
+pub returns-in_err-records-clause-refusals : goal.returns-in_err-records-clause-refusals
+returns-in_err-records-clause-refusals g c =
+    let seen = g.D.Disk.seen c.args.disk.now in
+    let half = c.in_ok-half.half in
+    let image = c.in_ok-image.image.items in
+    let e = c.in_err-records.field-0.0 in
+    let is : current seen ≡ Ok half = ap current (sym c.in_ok-sync.ensures.seen) ∙ c.in_ok-half.ensures.half in
+    let same : g.D.Disk.seen c.read_current.new.disk ≡ seen = c.in_ok-half.ensures.untouched.same ∙ c.in_ok-sync.ensures.seen in
+    let same' : g.D.Disk.seen c.read_image.new.disk ≡ seen = c.in_ok-image.ensures.untouched.same ∙ same in
+    let there : take (4 + length image) (drop (start_of half + 9) seen) ≡ to_be_bytes w32 (length image) ++ image =
+    ap (λ bytes. take (4 + length image) (drop (start_of half + 9) bytes)) (sym same) ∙ c.in_ok-image.ensures.image in
+    let long : c.len.result ≡ length image = omega (arith, c.len.ensures, c.in_ok-image.image.ok) in
+    let P : List ℕ → ℕ → Type 0 = λ bytes n. IsReadRefusal e (let behind = bytes_from bytes half (13 + n) in records (length behind) behind ≡ None) in
+    let cause : P seen (length image) = subst (λ n. P seen n) long (subst (λ bytes. P bytes c.len.result) same' c.in_err-records.ensures.refusals) in
+    if_err_by c.from_residual-in_err-records.result _ _ c.from_residual-in_err-records.ensures.1
+    (λ e' gives. subst (λ refusal. IsOpenRefusal refusal (meaning seen)) (sym gives) (refused_by_records seen half image c.in_ok-image.ensures.fits there e is cause))
+
+pub returns-clause-whole : goal.returns-clause-whole
+returns-clause-whole g c =
+    let disk = c.args.disk.now in
+    let seen = g.D.Disk.seen disk in
+    let half = c.in_ok-half.half in
+    let image = c.in_ok-image.image.items in
+    let gate = c.in_ok-records.gate in
+    let payloads = payloads_of c.in_ok-records.records in
+    let same : g.D.Disk.seen c.read_current.new.disk ≡ seen = c.in_ok-half.ensures.untouched.same ∙ c.in_ok-sync.ensures.seen in
+    let same' : g.D.Disk.seen c.read_image.new.disk ≡ seen = c.in_ok-image.ensures.untouched.same ∙ same in
+    let there : take (4 + length image) (drop (start_of half + 9) seen) ≡ to_be_bytes w32 (length image) ++ image =
+    ap (λ bytes. take (4 + length image) (drop (start_of half + 9) bytes)) (sym same) ∙ c.in_ok-image.ensures.image in
+    let long : c.len.result ≡ length image = omega (arith, c.len.ensures, c.in_ok-image.image.ok) in
+    let next : take (gate - (13 + length image)) (drop (start_of half + (13 + length image)) seen) ≡ records_of payloads =
+    subst (λ n. take (gate - (13 + n)) (drop (start_of half + (13 + n)) seen) ≡ records_of payloads) long
+    (ap (λ bytes. take (gate - (13 + c.len.result)) (drop (start_of half + (13 + c.len.result)) bytes)) (sym same') ∙ c.in_ok-records.ensures.payloads) in
+    record {
+      size = g.met.D.Disk.whole disk _ _ (g.met.D.Disk.counts_now disk (g.D.Disk.moment disk) _ (omega arith) (g.met.D.Disk.seen_may_stay disk));
+      is_current = ap current (sym c.in_ok-sync.ensures.seen) ∙ c.in_ok-half.ensures.half;
+      numbered = ap (λ bytes. generation_at bytes half) (sym c.in_ok-sync.ensures.seen) ∙ sym c.in_ok-half.ensures.generation;
+      front = front_read seen half image c.in_ok-image.ensures.fits there payloads gate (omega (arith, long, c.in_ok-records.ensures.ordered)) next;
+      closed = subst (λ bytes. get_or bytes (start_of half + gate) 0 ≢ open_gate) same' c.in_ok-records.ensures.closed;
+      within = c.in_ok-records.ensures.within;
+    }

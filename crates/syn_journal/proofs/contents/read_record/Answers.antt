@@ -1,0 +1,25 @@
+use Rattle.std.proofs.Common.{◌≡◌, ◌∙◌, ◌+◌, ◌≤◌, ap, take, drop, length, arith}
+use Rattle.std.specs.Int.{w32, to_be_bytes}
+use Rattle.syn_disk.specs.declared.disk.TheConstants.{DISK_SIZE}
+use Rattle.syn_journal.specs.Layout.{half_size, start_of}
+use Rattle.syn_journal.proofs.Meanings.{within_disk}
+use Rattle.syn_journal.proofs.Openings.{if_ok_both, with_word, with_gate}
+use Rattle.syn_journal.proofs.contents.read_record.Goals as goal
+
+pub returns-clause-payload : goal.returns-clause-payload
+returns-clause-payload g c =
+    let disk = c.args.disk.now in
+    let seen = g.D.Disk.seen disk in
+    let whole : length seen ≡ DISK_SIZE = g.met.D.Disk.whole disk _ _ (g.met.D.Disk.counts_now disk (g.D.Disk.moment disk) _ (omega arith) (g.met.D.Disk.seen_may_stay disk)) in
+    let room : start_of c.args.half + half_size ≤ length seen = within_disk c.args.half (length seen) whole in
+    let gate = start_of c.args.half + c.args.gate in
+    let size = c.in_ok-size.field-0 in
+    let word : to_be_bytes w32 size ≡ take 4 (drop (gate + 1) seen) = rw c.start.ensures at c.in_ok-size.ensures.bytes in
+    let there : gate + 5 ≡ gate + 1 + 4 = omega arith in
+    if_ok_both c.read_bytes.result _ _ _
+    (λ payload value long. with_gate seen gate payload.items c.requires.opened (omega (arith, room, c.requires.within))
+    (with_word seen (gate + 1) size (to_be_bytes w32 (length payload.items)) payload.items
+    (ap (to_be_bytes w32) long ∙ word)
+    (value ∙ ap (λ bytes. take size (drop (c.start-2.result + c.args.gate + 5) bytes)) c.in_ok-size.ensures.untouched.same ∙ ap (λ start. take size (drop (start + c.args.gate + 5) seen)) c.start-2.ensures ∙ ap (λ k. take size (drop k seen)) there)
+    long))
+    c.read_bytes.ensures.value c.read_bytes.ensures.size

@@ -1,0 +1,26 @@
+use Rattle.std.proofs.Common.{refl, subst, sym}
+use Rattle.syn_journal.specs.Opened.{value_read}
+use Rattle.syn_journal.specs.Whole.{IsWhole}
+use Rattle.syn_journal.proofs.Meanings.{in_step, means, sizes}
+use Rattle.syn_journal.proofs.journal.Journal.open.Goals as goal
+
+pub invariant_of-result : goal.invariant_of-result
+invariant_of-result g c =
+    let found = c.in-Ok.found in
+    let seen = g.D.Disk.seen c.read_contents.new.disk in
+    let whole : IsWhole seen found.half found.generation found.gate (value_read found.image found.records) =
+    subst (λ bytes. IsWhole bytes found.half found.generation found.gate (value_read found.image found.records)) (sym c.read_contents.ensures.untouched.same) c.in-Ok.ensures.whole in
+    record { within = whole.within; in_step = λ _. in_step seen found.half found.generation found.gate _ whole _ c.in-Ok.ensures.durable }
+
+pub returns-in-Ok-clause-opened : goal.returns-in-Ok-clause-opened
+returns-in-Ok-clause-opened g c =
+    let found = c.in-Ok.found in
+    let seen = g.D.Disk.seen c.read_contents.new.disk in
+    let whole : IsWhole seen found.half found.generation found.gate (value_read found.image found.records) =
+    subst (λ bytes. IsWhole bytes found.half found.generation found.gate (value_read found.image found.records)) (sym c.read_contents.ensures.untouched.same) c.in-Ok.ensures.whole in
+    record {
+      running = refl;
+      means = means seen found.half found.generation found.gate _ whole;
+      durable = c.in-Ok.ensures.durable;
+      gate = sizes seen found.half found.generation found.gate _ whole;
+    }

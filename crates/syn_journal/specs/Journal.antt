@@ -1,0 +1,43 @@
+-- What a journal shows.
+use Rattle.std.specs.Prelude.{◌≡◌, ℕ, true, false, Ok}
+use Rattle.syn_disk.specs.Disk.{Only}
+use Rattle.syn_disk.specs.declared.disk.Disk.{Ghosts}
+use Rattle.syn_journal.specs.declared.half.Half.{Half}
+use Rattle.syn_journal.specs.declared.journal.Journal.{Journal}
+use Rattle.syn_journal.specs.Layout.{Value, meaning, size_of}
+use Rattle.syn_journal.specs.Whole.{value_or_empty}
+
+module _ {D : Type 0} {disk : Ghosts D} (journal : Journal D disk) where
+  abbrev pub disk_of : D
+  disk_of = journal.disk
+
+  abbrev pub half_of : Half
+  half_of = journal.half
+
+  abbrev pub generation_of : ℕ
+  generation_of = journal.generation
+
+  -- where its next gate stands in the half
+  abbrev pub gate_of : ℕ
+  gate_of = journal.gate
+
+  -- A device call failed, and the journal was not opened again since.
+  abbrev pub IsHalted : Type 0
+  IsHalted = journal.halted ≡ true
+
+  -- the value of its disk
+  abbrev pub value_of : Value
+  value_of = value_or_empty (meaning (disk.seen journal.disk))
+
+-- The journal runs and has this value, and each stop leaves it.
+pub record Stands {D : Type 0} {disk : Ghosts D} (journal : Journal D disk) (value : Value) : Type 0 where
+  pub running : journal.halted ≡ false
+  pub means : meaning (disk.seen journal.disk) ≡ Ok value
+  pub durable : Only (disk.seen journal.disk) (disk.may_leave journal.disk)
+  pub gate : journal.gate ≡ size_of value
+
+pub record SameReadings {D : Type 0} {disk : Ghosts D} (old new : Journal D disk) : Type 0 where
+  pub half : new.half ≡ old.half
+  pub generation : new.generation ≡ old.generation
+  pub gate : new.gate ≡ old.gate
+  pub halted : new.halted ≡ old.halted

@@ -1,0 +1,48 @@
+-- The refusals of a journal.
+use Rattle.std.specs.Prelude.{◌≡◌, ◌<◌, ℕ, Result, Err}
+use Rattle.syn_journal.specs.Layout.{Fault, no_image, damaged}
+use Rattle.syn_journal.specs.declared.error.JournalError.{JournalError}
+use Rattle.syn_journal.specs.declared.error.JournalError.TheVariants.{Full, JournalFull, Device, Halted, Memory, NoImage, Damaged}
+
+abbrev pub number_of : JournalError → ℕ
+number_of Full = 7
+number_of JournalFull = 8
+number_of Device = 9
+number_of Halted = 10
+number_of Memory = 11
+number_of NoImage = 18
+number_of Damaged = 19
+
+-- Device is answered where the count of failed calls grew, and any other refusal where it did not.
+abbrev pub CountsFailures : JournalError → ℕ → ℕ → Type 0
+CountsFailures Device old new = old < new
+CountsFailures _ old new = new ≡ old
+
+-- the refusals of each call
+abbrev pub IsFormatRefusal : JournalError → Type 0
+IsFormatRefusal Full = Unit {0}
+IsFormatRefusal Memory = Unit {0}
+IsFormatRefusal Device = Unit {0}
+IsFormatRefusal _ = ⊥
+
+-- and what each refusal of open says of what the disk stands for
+abbrev pub IsOpenRefusal : {X : Type 0} → JournalError → Result X Fault → Type 0
+IsOpenRefusal NoImage meaning = meaning ≡ Err no_image
+IsOpenRefusal Damaged meaning = meaning ≡ Err damaged
+IsOpenRefusal Device meaning = Unit {0}
+IsOpenRefusal Memory meaning = Unit {0}
+IsOpenRefusal _ meaning = ⊥
+
+abbrev pub IsAppendRefusal : JournalError → Type 0
+IsAppendRefusal Halted = Unit {0}
+IsAppendRefusal JournalFull = Unit {0}
+IsAppendRefusal Memory = Unit {0}
+IsAppendRefusal Device = Unit {0}
+IsAppendRefusal _ = ⊥
+
+-- of reading a part of the disk, which is damaged where this holds
+abbrev pub IsReadRefusal : JournalError → Type 0 → Type 0
+IsReadRefusal Damaged cause = cause
+IsReadRefusal Memory cause = Unit {0}
+IsReadRefusal Device cause = Unit {0}
+IsReadRefusal _ cause = ⊥

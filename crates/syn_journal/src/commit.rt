@@ -1,0 +1,29 @@
+//! The device calls that put something behind a closed gate and then open the gate.
+ghost use Rattle.std.specs.Prelude.{◌≡◌, ◌≤◌, ◌+◌, ◌∷◌, [], length, OnOk};
+ghost use Rattle.syn_disk.specs.Disk.{Only, overwritten, CountsFailure};
+ghost use Rattle.syn_journal.specs.Stops.{LeavesOnly};
+ghost use Rattle.syn_journal.specs.Commit.{IsStagedOrOpened};
+
+use syn_disk::{DISK_SIZE, DeviceFailed, Disk};
+
+pub const OPEN_GATE: u8 = 0xa5;
+
+/// Writes `body` behind the gate, syncs, opens the gate, and syncs.
+pub fn commit<D: Disk>(disk: &mut D, gate: usize, body: &[u8]) -> Result<(), DeviceFailed>
+    requires within { gate + 1 + length body.now ≤ DISK_SIZE }
+
+    // At Ok both are on the disk.
+    ensures written { OnOk result (D.seen disk.new ≡ overwritten (overwritten (D.seen disk.old) (gate + 1) body.now) gate (165 ∷ [])) }
+    ensures durable { OnOk result (Only (D.seen disk.new) (D.may_leave disk.new)) }
+
+    // A stop at any moment leaves any bytes behind the untouched gate, or any gate before the body.
+    ensures any_moment { Only (D.seen disk.old) (D.may_leave disk.old) → LeavesOnly D.moment D.left_since disk.old disk.new
+        (IsStagedOrOpened (D.seen disk.old) gate body.now) }
+
+    ensures count { CountsFailure result (D.failures disk.old) (D.failures disk.new) }
+{
+    disk.write(gate + 1, body)?;
+    disk.sync()?;
+    disk.write(gate, &[OPEN_GATE])?;
+    disk.sync()
+}

@@ -1,0 +1,269 @@
+//! The journal and its appends.
+ghost use Rattle.std.specs.Prelude.{◌≡◌, ◌↔◌, ◌⊎◌, ◌≤◌, ◌<◌, ◌+◌, ◌-◌, ◌++◌, ◌∷◌, [], ℕ, true, false, List, length, Ok, IfOk, IfErr, OnOk, OnErr, MatchResult, IsErrAnd};
+ghost use Rattle.syn_disk.specs.Arms.{armed, is_stopped};
+ghost use Rattle.syn_disk.specs.Disk.{CountsFailure, Only, SameOutcomes};
+ghost use Rattle.syn_journal.specs.Layout.{Value, half_size, is_open, longest_image, current, generation_at, meaning, with_payload, IsBeforeOrAfter};
+ghost use Rattle.syn_journal.specs.Stops.{LeavesOnly, Untouched};
+ghost use Rattle.syn_journal.specs.Opened.{value_read};
+ghost use Rattle.syn_journal.specs.Whole.{IsInStep, IsWhole};
+ghost use Rattle.syn_journal.specs.Commit.{body_of_image, body_of_record};
+ghost use Rattle.syn_journal.specs.declared.half.Half.TheVariants.{First};
+
+use crate::JournalError;
+use crate::commit::commit;
+use crate::contents::read_contents;
+use crate::half::{HALF_SIZE, Half};
+use std::alloc::{AllocError, Global};
+use syn_disk::{Arm, DeviceFailed, Disk, Limit};
+
+/// The length of the longest image, in bytes. With it the first gate is the last byte of its half, and no
+/// record fits.
+pub const MAX_IMAGE: usize = HALF_SIZE - 14;
+
+/// An image and the payloads that were appended since, on a disk.
+///
+/// The value is kept on the disk alone. A journal that was refused `Device` is halted: each later append is
+/// refused `Halted`, and the disk has to be opened again.
+#[derive(Drop)]
+pub struct Journal<D: Disk> {
+    disk: D,
+    /// The current half.
+    half: Half,
+    /// The generation of the current half.
+    generation: u64,
+    /// Where the next gate stands in the current half.
+    gate: usize,
+    halted: bool,
+    ghost within: { gate < half_size },
+    ghost in_step: { halted ≡ false → IsInStep (D.seen disk) (D.may_leave disk) half generation gate },
+}
+
+/// A journal that was opened, and what its disk stands for.
+#[derive(Drop)]
+pub struct Opened<D: Disk> {
+    pub journal: Journal<D>,
+    /// The image that the disk was formatted with.
+    pub image: Vec<u8>,
+    /// The payloads, the oldest first.
+    pub records: Vec<Vec<u8>>,
+}
+
+impl<D: Disk> Journal<D> {
+    ghost use Rattle.syn_journal.specs.Journal.{disk_of, half_of, generation_of, gate_of, value_of, IsHalted, Stands};
+    ghost use Rattle.syn_journal.specs.Refusals.{CountsFailures, IsFormatRefusal, IsOpenRefusal, IsAppendRefusal};
+
+    /// Makes a disk stand for this image and no payloads, whatever it held. A disk that is refused comes back.
+    ///
+    /// A stop inside the call may leave what the disk stood for before, the image, or nothing: format it again.
+    /// It is refused `Full` where the image is longer than `MAX_IMAGE`, `Memory`, or `Device`.
+    pub fn format(alloc: Global, mut disk: D, image: &[u8]) -> Result<Journal<D>, (JournalError, D)>
+        ensures formatted { IfOk result (λ journal. Stands journal (record { image = image.now; payloads = [] })) }
+        ensures half { IfOk result (λ journal. half_of journal ≡ First) }
+        ensures generation { IfOk result (λ journal. generation_of journal ≡ 1) }
+
+        // Full comes exactly where the image is too long.
+        ensures too_long { longest_image < length image.now → IsErrAnd result (λ refused. refused.0 ≡ JournalError.Full) }
+        ensures full { IfErr result (λ refused. refused.0 ≡ JournalError.Full → longest_image < length image.now) }
+
+        ensures refusals { IfErr result (λ refused. IsFormatRefusal refused.0) }
+        ensures unchanged { IfErr result (λ refused. (refused.0 ≡ JournalError.Device) ⊎ (refused.1 ≡ disk)) }
+        ensures failures { MatchResult result (λ journal. D.failures (disk_of journal) ≡ D.failures disk) (λ refused. CountsFailures refused.0 (D.failures disk) (D.failures refused.1)) }
+    {
+        if image.len() > MAX_IMAGE {
+            return Err((JournalError::Full, disk));
+        }
+        let Ok(body) = image_body(alloc, 1, image) else {
+            return Err((JournalError::Memory, disk));
+        };
+        match write_image(&mut disk, &body) {
+            Ok(()) => Ok(Journal {
+                disk,
+                half: Half::First,
+                generation: 1,
+                gate: 13 + image.len(),
+                halted: false,
+            }),
+            Err(_) => Err((JournalError::Device, disk)),
+        }
+    }
+
+    /// Finds out what a disk stands for. It syncs before it reads, so that each later stop leaves what is
+    /// handed out, and it writes nothing. A disk that is refused comes back.
+    ///
+    /// It is refused `Device`, `NoImage` where neither half is open, `Damaged` where both are open and of one
+    /// generation or the current one breaks the layout, and `Memory`.
+    pub fn open(alloc: Global, mut disk: D) -> Result<Opened<D>, (JournalError, D)>
+        ensures opened { IfOk result (λ opened. Stands opened.journal (value_read opened.image opened.records)) }
+        ensures half { IfOk result (λ opened. current (D.seen disk) ≡ Ok (half_of opened.journal)) }
+        ensures generation { IfOk result (λ opened. generation_at (D.seen disk) (half_of opened.journal) ≡ generation_of opened.journal) }
+
+        // NoImage and Damaged come only where the disk stands for nothing.
+        ensures refusals { IfErr result (λ refused. IsOpenRefusal refused.0 (meaning (D.seen disk))) }
+
+        // Reads give the same, and a stop at any moment of the call leaves only what it might have left before.
+        ensures untouched { MatchResult result
+            (λ opened. Untouched D.seen D.may_leave D.moment D.left_since disk (disk_of opened.journal))
+            (λ refused. Untouched D.seen D.may_leave D.moment D.left_since disk refused.1) }
+        ensures failures { MatchResult result (λ opened. D.failures (disk_of opened.journal) ≡ D.failures disk) (λ refused. CountsFailures refused.0 (D.failures disk) (D.failures refused.1)) }
+    {
+        match read_contents(alloc, &mut disk) {
+            Ok(found) => Ok(Opened {
+                journal: Journal {
+                    disk,
+                    half: found.half,
+                    generation: found.generation,
+                    gate: found.gate,
+                    halted: false,
+                },
+                image: found.image,
+                records: found.records,
+            }),
+            Err(refusal) => Err((refusal, disk)),
+        }
+    }
+
+    /// Gives the disk back.
+    pub fn into_disk(self) -> D
+        ensures { result ≡ disk_of self }
+    {
+        self.disk
+    }
+
+    /// The length of the longest payload that fits, or 0 where none does.
+    pub fn room(&self) -> usize
+        ensures { result ≡ half_size - gate_of self.now - 6 }
+    {
+        (HALF_SIZE - self.gate).saturating_sub(6)
+    }
+
+    /// The generation of the current half: 1 after `format`.
+    pub fn generation(&self) -> u64
+        ensures { result ≡ generation_of self.now }
+    {
+        self.generation
+    }
+
+    /// Whether a call was refused `Device` since the disk was opened.
+    pub fn is_halted(&self) -> bool
+        ensures halted { (result ≡ true) ↔ IsHalted self.now }
+        // A journal that is not halted has the value of its disk.
+        ensures stands { result ≡ false → Stands self.now (value_of self.now) }
+    {
+        self.halted
+    }
+
+    /// Adds a payload. At `Ok` it is durable: from then on each stop leaves it. A record takes 5 bytes more than
+    /// its payload.
+    ///
+    /// It is refused `Halted`, `JournalFull` where the record does not fit in the current half, `Memory`, and
+    /// `Device`, after which the journal is halted.
+    pub fn append(&mut self, alloc: Global, payload: &[u8]) -> Result<(), JournalError>
+        ensures acknowledged { (value : Value) → Stands self.old value → OnOk result (Stands self.new (with_payload value payload.now)) }
+
+        // A stop at any moment of the call leaves the value before it, or that with the payload.
+        ensures any_moment { (value : Value) → Stands self.old value
+            → LeavesOnly D.moment D.left_since (disk_of self.old) (disk_of self.new) (IsBeforeOrAfter value payload.now) }
+
+        // When each refusal comes, and what it leaves.
+        ensures halted { (result ≡ Err JournalError.Halted) ↔ IsHalted self.old }
+        ensures full { (result ≡ Err JournalError.JournalFull) ↔ (¬ IsHalted self.old × (half_size < gate_of self.old + 6 + length payload.now)) }
+        ensures halts { result ≡ Err JournalError.Device → IsHalted self.new }
+        ensures refusals { IfErr result IsAppendRefusal }
+        ensures unchanged { IfErr result (λ refusal. (refusal ≡ JournalError.Device) ⊎ (self.new ≡ self.old)) }
+        ensures failures { MatchResult result (λ _. D.failures (disk_of self.new) ≡ D.failures (disk_of self.old)) (λ refusal. CountsFailures refusal (D.failures (disk_of self.old)) (D.failures (disk_of self.new))) }
+
+        // The readings, also after a refusal.
+        ensures half { half_of self.new ≡ half_of self.old }
+        ensures generation { generation_of self.new ≡ generation_of self.old }
+        ensures gate { MatchResult result (λ _. gate_of self.new ≡ gate_of self.old + 5 + length payload.now) (λ _. gate_of self.new ≡ gate_of self.old) }
+    {
+        if self.halted {
+            return Err(JournalError::Halted);
+        }
+        if HALF_SIZE - self.gate < 6 || HALF_SIZE - self.gate - 6 < payload.len() {
+            return Err(JournalError::JournalFull);
+        }
+        let body = record_body(alloc, payload)?;
+        let gate = self.half.start() + self.gate;
+        // It is halted if a device call fails.
+        self.halted = true;
+        commit(&mut self.disk, gate, &body)?;
+        self.gate += 5 + payload.len();
+        self.halted = false;
+        Ok(())
+    }
+}
+
+impl<D: Limit> Journal<D> {
+    ghost use Rattle.syn_journal.specs.Journal.{disk_of, SameReadings, Stands};
+
+    /// Arms the journal's disk. It takes the place of an arm of its kind that is still to come.
+    pub fn arm(&mut self, arm: Arm)
+        ensures arms { D.Limit.arms (disk_of self.new) ≡ armed (D.Limit.arms (disk_of self.old)) arm }
+
+        // It changes nothing that a read gives or a stop leaves.
+        ensures seen { D.Disk.seen (disk_of self.new) ≡ D.Disk.seen (disk_of self.old) }
+        ensures stop { SameOutcomes (D.Disk.may_leave (disk_of self.old)) (D.Disk.may_leave (disk_of self.new)) }
+        ensures moment { D.Disk.moment (disk_of self.new) ≡ D.Disk.moment (disk_of self.old) }
+        ensures past { (t : ℕ) → SameOutcomes (D.Disk.left_since (disk_of self.old) t) (D.Disk.left_since (disk_of self.new) t) }
+        ensures failures { D.Disk.failures (disk_of self.new) ≡ D.Disk.failures (disk_of self.old) }
+        ensures stands { (value : Value) → Stands self.old value → Stands self.new value }
+        ensures readings { SameReadings self.old self.new }
+    {
+        self.disk.arm(arm);
+    }
+
+    /// Whether all the device calls before a stop are made.
+    pub fn is_cut(&self) -> bool
+        ensures { result ≡ is_stopped (D.Limit.arms (disk_of self.now)) }
+    {
+        self.disk.is_cut()
+    }
+}
+
+// The length, the payload, and the closed gate behind it.
+fn record_body(alloc: Global, payload: &[u8]) -> Result<Vec<u8>, AllocError>
+    requires { length payload.now < half_size }
+    ensures { IfOk result (λ body. body.items ≡ body_of_record payload.now) }
+{
+    let mut body = Vec::with_capacity(alloc, payload.len() + 5)?;
+    body.extend_from_slice(&(payload.len() as u32).to_be_bytes())?;
+    body.extend_from_slice(payload)?;
+    body.push(0)?;
+    Ok(body)
+}
+
+// The generation, the image's length, the image, and the closed gate behind it.
+fn image_body(alloc: Global, generation: u64, image: &[u8]) -> Result<Vec<u8>, AllocError>
+    requires { length image.now ≤ longest_image }
+    ensures { IfOk result (λ body. body.items ≡ body_of_image generation image.now) }
+{
+    let mut body = Vec::with_capacity(alloc, image.len() + 13)?;
+    body.extend_from_slice(&generation.to_be_bytes())?;
+    body.extend_from_slice(&(image.len() as u32).to_be_bytes())?;
+    body.extend_from_slice(image)?;
+    body.push(0)?;
+    Ok(body)
+}
+
+// Closes a half by its gate.
+fn close<D: Disk>(disk: &mut D, half: Half) -> Result<(), DeviceFailed>
+    ensures closed { OnOk result (is_open (D.seen disk.new) half ≡ false) }
+    ensures count { CountsFailure result (D.failures disk.old) (D.failures disk.new) }
+{
+    disk.write(half.start(), &[0])
+}
+
+// Closes both halves, and commits the body of an image to the first.
+fn write_image<D: Disk>(disk: &mut D, body: &[u8]) -> Result<(), DeviceFailed>
+    requires { length body.now < half_size }
+    ensures written { (image : List ℕ) → length image ≤ longest_image → body.now ≡ body_of_image 1 image
+        → OnOk result (IsWhole (D.seen disk.new) First 1 (13 + length image) (record { image = image; payloads = [] })) }
+    ensures durable { OnOk result (Only (D.seen disk.new) (D.may_leave disk.new)) }
+    ensures count { CountsFailure result (D.failures disk.old) (D.failures disk.new) }
+{
+    close(disk, Half::First)?;
+    close(disk, Half::Second)?;
+    disk.sync()?;
+    commit(disk, Half::First.start(), body)
+}
