@@ -4,7 +4,8 @@ use Rattle.std.specs.List.{list_all, cons_option, AllByRecursion}
 use Rattle.std.specs.Prelude.{sum_by, option_map, option_and_then, All}
 use Rattle.std.specs.Option.{option_map_or}
 use Rattle.std.specs.Ordering.{eq_by_cmp, ordering_then}
-use Rattle.std.specs.FinMap.{FinMap, entries, entries_sorted, entries-insert, entries-from_sorted, len, len-entries, get, insert, get-insert, get-entries, is_sorted, find}
+use Rattle.syn_model.specs.History.{tree_of}
+use Rattle.std.specs.FinMap.{FinMap, empty, get-empty, entries, entries_sorted, entries-insert, entries-from_sorted, len, len-entries, get, insert, get-insert, get-entries, is_sorted, find}
 use Rattle.std.specs.FinMap.Entries.{below_all}
 use Rattle.std.specs.Cmp.{eq_by_cmp_equiv}
 use Rattle.std.proofs.lemmas.List.{length-map, append_assoc}
@@ -192,3 +193,16 @@ named_rest files tree more (f ∷ fs) e =
 -- the names of a lawful tree are lawful
 pub names-flat : (files : FileMap) → IsTree (flat_tree files) → AreNames (entries files)
 names-flat files tree = named_rest files tree [] (entries files) refl
+
+-- without files it is the tree that a history begins with
+pub flat-empty : flat_tree empty ≡ tree_of []
+unfolding tree_of
+flat-empty = same_tree (flat_tree empty) empty_directory (λ path. get-flat empty path ∙ (by_path path ∙ sym (get-at_root Directory path)))
+  where
+    by_path : (path : Path) → content_at empty path ≡ cond (eq_by_cmp path_cmp path root) (Some Directory) None
+    by_path [] = refl
+    by_path (n ∷ []) = ap (option_map (λ b. File (contents_of b))) (get-empty name_cmp n)
+    by_path (n ∷ m ∷ p) = refl
+
+pub get-name : (files : FileMap) (n : Name) (o : Option Bytes) → o ≡ get files n → get (flat_tree files) (n ∷ []) ≡ option_map (λ b. File (contents_of b)) o
+get-name files n o e = get-flat files (n ∷ []) ∙ ap (option_map (λ b. File (contents_of b))) (sym e)

@@ -4,3 +4,6 @@ pub mod MapLemmas
 pub mod PayloadLemmas
 pub mod ImageLemmas
 pub mod RefusalLemmas
+pub mod StandLemmas
+pub mod EditLemmas
+pub mod OpeningLemmas

@@ -7,6 +7,7 @@ use Rattle.std.specs.FinMap.{find, is_sorted}
 use Rattle.std.specs.FinMap.Entries.{put, by_order, below_all}
 use Rattle.std.proofs.lemmas.List.Sums.{sum_by-cons}
 use Rattle.std.proofs.lemmas.Bool.{and_parts}
+use Rattle.std.proofs.lemmas.Bool.Decides.{nat_tests}
 use Rattle.syn_model.specs.Path.{Bytes, Name, name_cmp}
 use Rattle.syn_model.proofs.PathLemmas.{name_total, same_name}
 use Rattle.syn_replica.specs.FileMap.{file_spelling_length, spelling_length, fits_files}
@@ -171,3 +172,13 @@ pub found-name : (n : Name) (fs : Names) (i : ℕ) (d : Name × Bytes) → IsFou
 found-name n [] i d h = absurd h
 found-name n (f ∷ fs) zero d h = same_name f.0 n (ap is_eq h)
 found-name n (f ∷ fs) (suc i) d h = found-name n fs i d h.1
+
+-- what is put and fits has few bytes
+pub few : (n : Name) (b : Bytes) (fs : Names) → fits_files fs ≡ true → fits_files (put name_cmp n b fs) ≡ true → length b < 4294967296
+few n b fs h k =
+    let parts = and_parts (nat_le (length (put name_cmp n b fs)) 256) (nat_le (spelling_length (put name_cmp n b fs)) greatest_spelling && nat_le (length b) 16384) (sym (fits-put n b fs h) ∙ k) in
+    let last = (and_parts (nat_le (spelling_length (put name_cmp n b fs)) greatest_spelling) (nat_le (length b) 16384) parts.1).1 in
+    below (length b) last
+  where
+    below : (m : ℕ) → nat_le m 16384 ≡ true → m < 4294967296
+    below m h = grind (arith, nat_tests)

@@ -1,5 +1,5 @@
 -- Why a put is refused by a tree whose only directory is the root.
-use Rattle.std.proofs.Common.{◌≡◌, ℕ, Bool, true, false, cond, if◌then◌else◌, not, List, [], ◌∷◌, refl, sym, ap, ap₂, ◌∙◌, subst, Option, Some, None, Ordering, Less, Equal, Greater}
+use Rattle.std.proofs.Common.{◌≡◌, ◌<◌, ◌≤◌, slice_index_or, length, arith, ℕ, Bool, true, false, cond, if◌then◌else◌, not, List, [], ◌∷◌, refl, sym, ap, ap₂, ◌∙◌, subst, Option, Some, None, Ordering, Less, Equal, Greater}
 use Rattle.std.specs.Prelude.{option_map}
 use Rattle.std.specs.List.{AllByRecursion}
 use Rattle.std.specs.FinMap.{entries, get, insert, entries-insert}
@@ -44,3 +44,18 @@ not_below files n (m ∷ q) = ap is_directory_content (get-flat files (n ∷ m �
 pub put_below : (files : FileMap) (n m : Name) (p : Path) (bytes : Bytes) → edit_refusal (flat_tree files) (Put (n ∷ m ∷ p) bytes) ≡ Some NoParent
 put_below files n m p bytes =
     ap (λ a. first_cause ((false, Root) ∷ (not a, NoParent) ∷ (is_directory (flat_tree files) (n ∷ m ∷ p), IsDirectory) ∷ (not (fits_replica (replace (flat_tree files) (n ∷ m ∷ p) (file bytes))), Full) ∷ [])) (not_below files n (parent (m ∷ p)))
+
+-- a path of one name, and a longer one
+pub one_of : (p : Path) (x : Name) → 1 ≤ length p → length p < 2 → x ≡ slice_index_or p 0 x → p ≡ x ∷ []
+one_of [] x l m is = absurd (omega arith)
+one_of (n ∷ []) x l m is = ap (λ y. y ∷ []) (sym is)
+one_of (n ∷ k ∷ p) x l m is = absurd (omega arith)
+
+pub many_of : (p : Path) → 2 ≤ length p → (n : Name) × (m : Name) × (q : Path) × (p ≡ n ∷ m ∷ q)
+many_of [] l = absurd (omega arith)
+many_of (n ∷ []) l = absurd (omega arith)
+many_of (n ∷ m ∷ q) l = (n, m, q, refl)
+
+pub none_of : (p : Path) → length p ≡ 0 → p ≡ []
+none_of [] e = refl
+none_of (n ∷ p) e = absurd (omega arith)

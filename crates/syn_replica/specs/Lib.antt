@@ -3,6 +3,10 @@ pub mod Place
 pub mod Entries
 pub mod Files
 pub mod Stored
+pub mod Opening
+pub mod Contents
+pub mod Admission
+pub mod Edits
 pub mod Disks
 pub mod Replica
 pub mod Refusals

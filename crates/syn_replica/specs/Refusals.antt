@@ -1,5 +1,5 @@
 -- Why a call of a replica is refused, as a refusal of the product.
-use Rattle.std.specs.Prelude.{Result, Ok, Err, Option, Some, None}
+use Rattle.std.specs.Prelude.{◌≡◌, ◌<◌, ℕ, Result, Ok, Err, Option, Some, None}
 use Rattle.syn_model.specs.Refusal.{Refusal}
 use Rattle.syn_model.specs.Refusal as why
 use Rattle.syn_journal.specs.declared.error.JournalError.{JournalError}
@@ -33,3 +33,8 @@ of_journal journal.Damaged = Damaged
 abbrev pub refusal_in : {X : Type 0} → Result X ReplicaError → Option Refusal
 refusal_in (Ok x) = None
 refusal_in (Err e) = Some (refusal_of e)
+
+-- Device is answered where the count of failed calls grew, and any other refusal where it did not
+abbrev pub CountsFailures : ReplicaError → ℕ → ℕ → Type 0
+CountsFailures Device old new = old < new
+CountsFailures _ old new = new ≡ old

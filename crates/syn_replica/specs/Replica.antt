@@ -43,3 +43,9 @@ pub record Stands {D : Type 0} {disk : Ghosts D} (replica : Replica D disk) (his
   pub value : Value
   pub runs : journal.Stands (journal_of replica) value
   pub means : StandsFor (pair_of replica) value.image value.payloads history
+
+-- what it has in memory stays
+pub record SameMemory {D : Type 0} {disk : Ghosts D} (old new : Replica D disk) : Type 0 where
+  pub pair : pair_of new ≡ pair_of old
+  pub tree : tree_shown new ≡ tree_shown old
+  pub position : position_shown new ≡ position_shown old

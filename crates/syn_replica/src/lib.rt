@@ -8,6 +8,7 @@ mod files;
 mod image;
 mod opening;
 mod payload;
+mod prepare;
 mod replica;
 
 pub use content::Content;

@@ -1,4 +1,13 @@
 //! A replica from what its disk holds.
+ghost use Rattle.std.specs.Prelude.{◌≡◌, ◌<◌, ◌-◌, ◌^◌, ℕ, List, length, IfOk, IfErr, OnOk};
+ghost use Rattle.std.specs.Vec.{vec_len};
+ghost use Rattle.syn_model.specs.Path.{Bytes};
+ghost use Rattle.syn_model.specs.History.{History};
+ghost use Rattle.syn_replica.specs.FileMap.{flat_tree};
+ghost use Rattle.syn_replica.specs.Files.{map_of};
+ghost use Rattle.syn_replica.specs.Formatted.{formatted_image};
+ghost use Rattle.syn_replica.specs.Opening.{Holds, AddsEvent, IsOtherPair, IsOfMeaning, IsOfPayload, bytes_of_each};
+
 use crate::error::ReplicaError;
 use crate::files::Files;
 use crate::image::decode_image;
@@ -12,8 +21,13 @@ pub(crate) fn read_replica(
     alloc: Global,
     image: &[u8],
     wanted: Option<u64>,
-    payloads: Vec<Vec<u8>>,
-) -> Result<(u64, Files), ReplicaError> {
+    payloads: &[Vec<u8>],
+) -> Result<(u64, Files), ReplicaError>
+    ensures pair { IfOk result (λ read. image.now ≡ formatted_image read.0) }
+    ensures files { IfOk result (λ read. (history : History) × Holds (map_of read.1) (bytes_of_each payloads.now) history) }
+    ensures other { IfErr result (λ e. e ≡ ReplicaError.WrongPair → IsOtherPair image.now wanted) }
+    ensures refusals { IfErr result IsOfMeaning }
+{
     let Some(pair) = decode_image(image) else {
         return Err(ReplicaError::Damaged);
     };
@@ -29,16 +43,23 @@ pub(crate) fn read_replica(
 /// The files after each payload in turn, each of which has to be a put that is allowed.
 ///
 /// Refused 19 where one is not, and 11 where memory is refused.
-fn files_of(alloc: Global, payloads: Vec<Vec<u8>>) -> Result<Files, ReplicaError> {
+fn files_of(alloc: Global, payloads: &[Vec<u8>]) -> Result<Files, ReplicaError>
+    ensures files { IfOk result (λ files. (history : History) × Holds (map_of files) (bytes_of_each payloads.now) history) }
+    ensures refusals { IfErr result IsOfPayload }
+{
     let mut files = Files::new(alloc);
-    for payload in &payloads {
+    for payload in payloads {
         add_put(alloc, &mut files, payload)?;
     }
     Ok(files)
 }
 
 // Adds the file of one payload.
-fn add_put(alloc: Global, files: &mut Files, payload: &[u8]) -> Result<(), ReplicaError> {
+fn add_put(alloc: Global, files: &mut Files, payload: &[u8]) -> Result<(), ReplicaError>
+    ensures event { (payloads : List Bytes) (history : History) → Holds (map_of files.old) payloads history → length history < 2 ^ 64 - 1
+        → OnOk result (AddsEvent history payload.now (flat_tree (map_of files.new))) }
+    ensures refusals { IfErr result IsOfPayload }
+{
     let Some(put) = decode_put(alloc, payload)? else {
         return Err(ReplicaError::Damaged);
     };

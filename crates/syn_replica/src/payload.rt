@@ -1,6 +1,6 @@
 //! A put as the payload of a record.
 ghost use Rattle.std.specs.Prelude.{◌≡◌, ◌<◌, ◌^◌, length, IfOk, option_map};
-ghost use Rattle.syn_model.specs.Event.{Edited, Put};
+ghost use Rattle.syn_model.specs.Event.{AreBytes, Edited, Put};
 ghost use Rattle.syn_model.specs.Spelling.{event_spelling};
 ghost use Rattle.syn_replica.specs.Stored.{IsReadAs};
 ghost use Rattle.syn_replica.specs.Payload.{put_of};
@@ -28,7 +28,8 @@ pub(crate) fn encode_put(
     bytes: &[u8],
 ) -> Result<Vec<u8>, WireError>
     requires { length bytes.now < 2 ^ 32 }
-    ensures { IfOk result (λ payload. payload.items ≡ event_spelling (Edited user (Put path.now bytes.now))) }
+    ensures payload { IfOk result (λ payload. payload.items ≡ event_spelling (Edited user (Put path.now bytes.now))) }
+    ensures bytes { AreBytes bytes.now }
 {
     let mut out = Vec::new(alloc);
     out.push(PUT)?;

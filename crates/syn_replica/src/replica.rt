@@ -1,9 +1,20 @@
 //! A replica over a journal.
-ghost use Rattle.std.specs.Prelude.{◌≡◌, ◌≢◌, ◌⊎◌, ◌↔◌, ◌+◌, ◌++◌, ◌∷◌, [], ℕ, List, length, OnOk, OnErr, IfOk, IfErr, IsErrAnd, MatchResult};
+ghost use Rattle.std.specs.Prelude.{◌≡◌, ◌≢◌, ◌⊎◌, ◌↔◌, ◌+◌, ◌-◌, ◌^◌, ◌<◌, ◌++◌, ◌∷◌, [], ℕ, List, length, OnOk, OnErr, IfOk, IfErr, IsErrAnd, MatchResult, Err, Some, None, true};
 ghost use Rattle.syn_model.specs.Tree.{IsTree};
-ghost use Rattle.syn_model.specs.Event.{Put, Edited};
+ghost use Rattle.syn_model.specs.Event.{Event, Put, Edited, after_event};
+ghost use Rattle.syn_model.specs.History.{History, IsAllowed, tree_of, event_refusal};
+ghost use Rattle.syn_model.specs.Refusal.{Refusal};
+ghost use Rattle.syn_model.specs.Spelling.{event_spelling};
 ghost use Rattle.syn_model.specs.Standing.{edit_refusal};
-ghost use Rattle.syn_replica.specs.Refusals.{refusal_in, refusal_of};
+ghost use Rattle.syn_replica.specs.Refusals.{refusal_in, refusal_of, CountsFailures};
+ghost use Rattle.syn_replica.specs.Admission.{refusal_by, IsAdmitted, IsAdmission, IsOfTree, IsOfCommit};
+ghost use Rattle.syn_replica.specs.Disks.{StandsBeforeOrAfter};
+ghost use Rattle.syn_replica.specs.Edits.{event_by};
+ghost use Rattle.syn_replica.specs.FileMap.{flat_tree, fits_files};
+ghost use Rattle.syn_replica.specs.Files.{map_of, HasRoom};
+ghost use Rattle.syn_journal.specs.Stops.{LeavesOnly, Untouched};
+ghost use Rattle.std.specs.FinMap.{entries, get, insert};
+ghost use Rattle.syn_replica.specs.Contents.{content_of, IsOfReading};
 
 use crate::content::Content;
 use crate::edit::Edit;
@@ -11,7 +22,7 @@ use crate::error::ReplicaError;
 use crate::files::Files;
 use crate::image::encode_image;
 use crate::opening::read_replica;
-use crate::payload::encode_put;
+use crate::prepare::prepare;
 use std::alloc::Global;
 use syn_disk::Disk;
 use syn_journal::{Journal, Opened};
@@ -29,7 +40,7 @@ pub struct Replica<D: Disk> {
 }
 
 impl<D: Disk> Replica<D> {
-    ghost use Rattle.syn_replica.specs.Replica.{pair_of, tree_shown, position_shown, disk_of, IsHalted, Remembers, Stands};
+    ghost use Rattle.syn_replica.specs.Replica.{pair_of, tree_shown, position_shown, disk_of, journal_of, IsHalted, Remembers, Stands, SameMemory};
 
     /// Formats the disk as a replica of the pair, with no events.
     ///
@@ -59,11 +70,14 @@ impl<D: Disk> Replica<D> {
     /// Refused 9 where a device call fails, 18 where the disk holds no image, 19 where it means nothing that a replica
     /// with files in its root holds, 20 where it is of another pair than the one given, and 11 where memory is refused;
     /// the disk comes back. Nothing is written.
-    pub fn open(
-        alloc: Global,
-        disk: D,
-        pair: Option<u64>,
-    ) -> Result<Replica<D>, (ReplicaError, D)> {
+    pub fn open(alloc: Global, disk: D, pair: Option<u64>) -> Result<Replica<D>, (ReplicaError, D)>
+        ensures opened { IfOk result (λ replica. (history : History) × Stands replica history) }
+        ensures untouched { MatchResult result
+            (λ replica. Untouched D.seen D.may_leave D.moment D.left_since disk (disk_of replica))
+            (λ refused. Untouched D.seen D.may_leave D.moment D.left_since disk refused.1) }
+        ensures failures { MatchResult result (λ replica. D.failures (disk_of replica) ≡ D.failures disk)
+            (λ refused. CountsFailures refused.0 (D.failures disk) (D.failures refused.1)) }
+    {
         let opened = match Journal::open(alloc, disk) {
             Ok(opened) => opened,
             Err((error, disk)) => return Err((ReplicaError::from(error), disk)),
@@ -74,7 +88,7 @@ impl<D: Disk> Replica<D> {
             records,
         } = opened;
         let position = records.len() as u64;
-        match read_replica(alloc, &image, pair, records) {
+        match read_replica(alloc, &image, pair, &records) {
             Ok((pair, files)) => Ok(Replica {
                 journal,
                 pair,
@@ -109,7 +123,12 @@ impl<D: Disk> Replica<D> {
     /// What stands at the path.
     ///
     /// Refused 10 while the replica is halted, 5 where nothing is there, and 11 where memory is refused.
-    pub fn get(&self, alloc: Global, path: &Path) -> Result<Content, ReplicaError> {
+    pub fn get(&self, alloc: Global, path: &Path) -> Result<Content, ReplicaError>
+        ensures found { IfOk result (λ content. get (tree_shown self.now) path.now ≡ Some (content_of content)) }
+        ensures absent { IfErr result (λ e. e ≡ ReplicaError.Absent → get (tree_shown self.now) path.now ≡ None) }
+        ensures halted { (result ≡ Err ReplicaError.Halted) ↔ IsHalted self.now }
+        ensures refusals { IfErr result IsOfReading }
+    {
         if self.journal.is_halted() {
             return Err(ReplicaError::Halted);
         }
@@ -140,31 +159,74 @@ impl<D: Disk> Replica<D> {
     ///
     /// Refused 10 while the replica is halted; 6 for the root, 2 where the parent is not a directory, 7 where the result
     /// would pass a limit; 8 where the record does not fit in the journal, 11 where memory is refused, and 9 where a
-    /// device call fails. After 9 the replica is halted; after any other refusal it is as it was.
-    pub fn edit(&mut self, alloc: Global, user: u32, edit: Edit) -> Result<u64, ReplicaError> {
+    /// device call fails. After 9 the replica is halted and remembers what it had; after any other refusal it is as it
+    /// was. Whenever the machine stops, the disk has the events before the call, or those and this one.
+    pub fn edit(&mut self, alloc: Global, user: u32, edit: Edit) -> Result<u64, ReplicaError>
+        ensures acknowledged { (history : History) → Stands self.old history
+            → IfOk result (λ position. (position ≡ length history + 1) × Stands self.new (history ++ event_by user edit ∷ [])) }
+        ensures any_moment { (history : History) → Stands self.old history
+            → LeavesOnly D.moment D.left_since (disk_of self.old) (disk_of self.new) (StandsBeforeOrAfter (pair_of self.old) history (event_by user edit)) }
+
+        // Each refusal has its cause, and the causes of the tree come first.
+        ensures by_tree { (history : History) → Stands self.old history
+            → IfErr result (λ e. IsOfTree e → event_refusal history (event_by user edit) ≡ Some (refusal_of e)) }
+        ensures refused { (history : History) (why : Refusal) → Stands self.old history → event_refusal history (event_by user edit) ≡ Some why
+            → IsErrAnd result (λ e. refusal_of e ≡ why) }
+        ensures halted { (result ≡ Err ReplicaError.Halted) ↔ IsHalted self.old }
+        ensures halts { result ≡ Err ReplicaError.Device → IsHalted self.new }
+        ensures failures { MatchResult result (λ _. D.failures (disk_of self.new) ≡ D.failures (disk_of self.old))
+            (λ e. CountsFailures e (D.failures (disk_of self.old)) (D.failures (disk_of self.new))) }
+
+        // What stays after a refusal.
+        ensures remembers { (history : History) → Remembers self.old history → IfErr result (λ _. Remembers self.new history) }
+        ensures unchanged { (history : History) → Stands self.old history
+            → IfErr result (λ e. (e ≡ ReplicaError.Device) ⊎ Stands self.new history) }
+    {
+        let (path, bytes) = edit.into_put();
+        self.put(alloc, user, path, bytes)
+    }
+
+    // The same for the one kind of edit that there is.
+    fn put(
+        &mut self,
+        alloc: Global,
+        user: u32,
+        path: Path,
+        bytes: Vec<u8>,
+    ) -> Result<u64, ReplicaError>
+        ensures acknowledged { (history : History) → Stands self.old history
+            → IfOk result (λ position. (position ≡ length history + 1) × Stands self.new (history ++ Edited user (Put path bytes.items) ∷ [])) }
+        ensures any_moment { (history : History) → Stands self.old history
+            → LeavesOnly D.moment D.left_since (disk_of self.old) (disk_of self.new) (StandsBeforeOrAfter (pair_of self.old) history (Edited user (Put path bytes.items))) }
+
+        // Each refusal has its cause, and the causes of the tree come first.
+        ensures by_tree { (history : History) → Stands self.old history
+            → IfErr result (λ e. IsOfTree e → event_refusal history (Edited user (Put path bytes.items)) ≡ Some (refusal_of e)) }
+        ensures refused { (history : History) (why : Refusal) → Stands self.old history → event_refusal history (Edited user (Put path bytes.items)) ≡ Some why
+            → IsErrAnd result (λ e. refusal_of e ≡ why) }
+        ensures halted { (result ≡ Err ReplicaError.Halted) ↔ IsHalted self.old }
+        ensures halts { result ≡ Err ReplicaError.Device → IsHalted self.new }
+        ensures failures { MatchResult result (λ _. D.failures (disk_of self.new) ≡ D.failures (disk_of self.old))
+            (λ e. CountsFailures e (D.failures (disk_of self.old)) (D.failures (disk_of self.new))) }
+
+        // What stays after a refusal.
+        ensures remembers { (history : History) → Remembers self.old history → IfErr result (λ _. Remembers self.new history) }
+        ensures unchanged { (history : History) → Stands self.old history
+            → IfErr result (λ e. (e ≡ ReplicaError.Device) ⊎ Stands self.new history) }
+    {
         if self.journal.is_halted() {
             return Err(ReplicaError::Halted);
         }
-        let Edit::Put(path, bytes) = edit;
-        self.check(&path, bytes.len())?;
-        if self.position == u64::MAX {
-            return Err(ReplicaError::Full);
-        }
-        let [name] = path.names() else {
-            return Err(ReplicaError::NoParent);
-        };
-        let name = name.copy(alloc)?;
-        let payload = encode_put(alloc, user, &path, &bytes)?;
-        self.files.reserve()?;
-        self.journal.append(alloc, &payload)?;
-        self.files.put(name, bytes);
-        self.position += 1;
-        Ok(self.position)
+        self.admit(&path, bytes.len())?;
+        let (name, payload) = prepare(alloc, &mut self.files, user, &path, &bytes)?;
+        self.commit(alloc, &payload, name, bytes)
     }
 
     // Why a put of so many bytes is refused by the tree.
     fn check(&self, path: &Path, size: usize) -> Result<(), ReplicaError>
-        ensures { IsTree (tree_shown self.now) → (bytes : List ℕ) → length bytes ≡ size → refusal_in result ≡ edit_refusal (tree_shown self.now) (Put path.now bytes) }
+        ensures tree { IsTree (tree_shown self.now) → (bytes : List ℕ) → length bytes ≡ size → refusal_in result ≡ edit_refusal (tree_shown self.now) (Put path.now bytes) }
+        ensures admitted { OnOk result (IsAdmitted (map_of self.now.files) path.now size) }
+        ensures cause { IfErr result IsOfTree }
     {
         match path.names() {
             [] => Err(ReplicaError::Root),
@@ -177,5 +239,49 @@ impl<D: Disk> Replica<D> {
             }
             _ => Err(ReplicaError::NoParent),
         }
+    }
+
+    // Why a put of so many bytes is refused before anything is made for it.
+    fn admit(&self, path: &Path, size: usize) -> Result<(), ReplicaError>
+        ensures answer { IsTree (tree_shown self.now) → (bytes : List ℕ) → length bytes ≡ size
+            → IsAdmission (refusal_by (tree_shown self.now) (position_shown self.now) (Put path.now bytes)) result }
+        ensures admitted { OnOk result (IsAdmitted (map_of self.now.files) path.now size) }
+        ensures below { OnOk result (position_shown self.now < 2 ^ 64 - 1) }
+        ensures cause { IfErr result (λ e. (IsOfTree e) ⊎ (e ≡ ReplicaError.JournalFull)) }
+    {
+        self.check(path, size)?;
+        if self.position == u64::MAX {
+            return Err(ReplicaError::Full);
+        }
+        Ok(())
+    }
+
+    // Writes a prepared put, and puts its file.
+    fn commit(
+        &mut self,
+        alloc: Global,
+        payload: &[u8],
+        name: Name,
+        bytes: Vec<u8>,
+    ) -> Result<u64, ReplicaError>
+        requires room { HasRoom self.old.files }
+        requires fits { fits_files (entries (insert (map_of self.old.files) name bytes.items)) ≡ true }
+        requires below { position_shown self.old < 2 ^ 64 - 1 }
+        ensures acknowledged { (history : History) (event : Event) → Stands self.old history → IsAllowed history event → payload.now ≡ event_spelling event
+            → flat_tree (insert (map_of self.old.files) name bytes.items) ≡ after_event (tree_of history) event
+            → IfOk result (λ position. (position ≡ length history + 1) × Stands self.new (history ++ event ∷ [])) }
+        ensures any_moment { (history : History) (event : Event) → Stands self.old history → IsAllowed history event → payload.now ≡ event_spelling event
+            → LeavesOnly D.moment D.left_since (disk_of self.old) (disk_of self.new) (StandsBeforeOrAfter (pair_of self.old) history event) }
+        ensures refusals { IfErr result (λ e. IsOfCommit e ⊎ ((e ≡ ReplicaError.Halted) × IsHalted self.old)) }
+        ensures halts { result ≡ Err ReplicaError.Device → IsHalted self.new }
+        ensures failures { MatchResult result (λ _. D.failures (disk_of self.new) ≡ D.failures (disk_of self.old))
+            (λ e. CountsFailures e (D.failures (disk_of self.old)) (D.failures (disk_of self.new))) }
+        ensures remembers { IfErr result (λ _. SameMemory self.old self.new) }
+        ensures unchanged { IfErr result (λ e. (e ≡ ReplicaError.Device) ⊎ (journal_of self.new ≡ journal_of self.old)) }
+    {
+        self.journal.append(alloc, payload)?;
+        self.files.put(name, bytes);
+        self.position += 1;
+        Ok(self.position)
     }
 }

@@ -11,7 +11,7 @@ use Rattle.syn_replica.specs.Entries.{file_of, files_in}
 use Rattle.syn_replica.specs.Place.{IsFoundAt, IsGapAt}
 use Rattle.syn_replica.specs.declared.files.FileEntry.{FileEntry}
 use Rattle.syn_replica.proofs.MapLemmas.{entries-put, put-in_order, put-map, files-set, files-insert}
-use Rattle.syn_replica.proofs.PlaceLemmas.{fits-put}
+use Rattle.syn_replica.proofs.PlaceLemmas.{few}
 use Rattle.syn_replica.proofs.files.Files.put.Goals as goal
 
 written : (es ds : List FileEntry) (at : ℕ) (x : FileEntry) (n : Name) (b : Vec ℕ Global) → ds ≡ es → IsFoundAt n (files_in ds) at → at < length ds → x ≡ slice_index_or es at x → files_in (set es at (record { name = x.name; bytes = b })) ≡ put name_cmp n b.items (files_in es)
@@ -26,16 +26,6 @@ added : {E : Type 0} (es ds new : List FileEntry) (at : ℕ) (n : Name) (b : Vec
     new ≡ (if is_ok r then insert es at (record { name = n; bytes = b }) else es) → files_in new ≡ put name_cmp n b.items (files_in es)
 added es ds new at n b r e gap done is =
     ap files_in (is ∙ ap (λ t. if t then insert es at (record { name = n; bytes = b }) else es) (is_done r done)) ∙ files-insert es at (record { name = n; bytes = b }) n b.items (subst (λ xs. IsGapAt n (files_in xs) at) e gap) refl
-
--- what is put fits, so its bytes are few
-few : (n : Name) (b : Bytes) (fs : List (Name × Bytes)) → fits_files fs ≡ true → fits_files (put name_cmp n b fs) ≡ true → length b < 4294967296
-few n b fs h k =
-    let parts = and_parts (nat_le (length (put name_cmp n b fs)) 256) (nat_le (spelling_length (put name_cmp n b fs)) greatest_spelling && nat_le (length b) 16384) (sym (fits-put n b fs h) ∙ k) in
-    let last = (and_parts (nat_le (spelling_length (put name_cmp n b fs)) greatest_spelling) (nat_le (length b) 16384) parts.1).1 in
-    below (length b) last
-  where
-    below : (m : ℕ) → nat_le m 16384 ≡ true → m < 4294967296
-    below m h = grind (arith, nat_tests)
 
 pub measure-spelled-requires : goal.measure-spelled-requires
 measure-spelled-requires c =

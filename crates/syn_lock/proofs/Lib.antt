@@ -1,0 +1,4 @@
+pub mod Histories
+pub mod Seats
+pub mod Turns
+pub mod Keeps

@@ -1,0 +1,39 @@
+use Rattle.std.proofs.Common.{◌≡◌, ◌<◌, ◌≤◌, ◌^◌, ◌-◌, ◌+◌, ◌∷◌, ◌++◌, [], length, take, List, ℕ, sym, ap, ◌∙◌, subst, arith}
+use Rattle.std.specs.Global.{Vec}
+use Rattle.std.proofs.lemmas.List.{length-map, map_more}
+use Rattle.std.proofs.lemmas.List.{length-take-le}
+use Rattle.syn_model.specs.History.{History}
+use Rattle.syn_replica.specs.Files.{map_of}
+use Rattle.syn_replica.specs.FileMap.{flat_tree}
+use Rattle.syn_replica.specs.Opening.{Holds, AddsEvent, bytes_of_each}
+use Rattle.syn_replica.proofs.OpeningLemmas.{holds_nothing, holds_more}
+use Rattle.syn_replica.proofs.opening.files_of.Goals as goal
+
+at_most : (i n : ℕ) → i < n → i ≤ n
+at_most i n h = grind (arith)
+
+below : (i h n : ℕ) → i ≡ h → i < n → n < 2 ^ 64 → h < 2 ^ 64 - 1
+below i h n e inside bound = grind (arith)
+
+few : (i : ℕ) (payloads : List (Vec ℕ)) (history : History) → length (bytes_of_each (take i payloads)) ≡ length history → length payloads < 2 ^ 64 → i < length payloads → length history < 2 ^ 64 - 1
+few i payloads history position bound inside =
+    let reached : i ≡ length history = sym (length-map (take i payloads) (λ payload. payload.items) ∙ length-take-le i payloads (at_most i (length payloads) inside)) ∙ position in
+    below i (length history) (length payloads) reached inside bound
+
+pub loop-payload-init : goal.loop-payload-init
+loop-payload-init c = ([], holds_nothing _ c.new-files.ensures)
+
+pub loop-payload-preserved : goal.loop-payload-preserved
+loop-payload-preserved c =
+    let i = c.loop-payload.payload-index in
+    let payloads = c.args.payloads.now in
+    let history = c.loop-payload.invariant.0 in
+    let holds = c.loop-payload.invariant.1 in
+    let read = bytes_of_each (take i payloads) in
+    let same = c.deref.ensures.value in
+    let adds = subst (λ p. AddsEvent history p (flat_tree (map_of c.add_put.new.files))) c.deref.ensures.value (c.in_ok-add_put.ensures.event read history holds (few i payloads history holds.position (omega arith) c.loop-payload-test.true)) in
+    let more = holds_more (map_of c.loop-payload.files) (map_of c.add_put.new.files) read c.payload-item.result.items history holds adds in (
+      more.0,
+      subst (λ xs. Holds (map_of c.add_put.new.files) xs more.0)
+          (sym (map_more (λ p. p.items) payloads i c.payload-item.result c.loop-payload-test.true ∙ ap (λ p. read ++ p.items ∷ []) (sym c.payload-item.is))) more.1,
+    )

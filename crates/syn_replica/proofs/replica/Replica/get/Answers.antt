@@ -1,0 +1,32 @@
+use Rattle.std.proofs.Common.{◌≡◌, ◌∷◌, [], sym, ap, ◌∙◌, subst, Some, None, option_map, length, List, ℕ, arith}
+use Rattle.std.specs.FinMap.{get}
+use Rattle.syn_model.specs.Path.{Path, Name}
+use Rattle.syn_model.specs.Tree.{File, contents_of}
+use Rattle.syn_replica.specs.Files.{map_of}
+use Rattle.syn_replica.specs.Replica.{tree_shown}
+use Rattle.syn_replica.proofs.FlatLemmas.{get-flat, get-name}
+use Rattle.syn_replica.proofs.RefusalLemmas.{one_of, many_of, none_of}
+use Rattle.syn_replica.proofs.replica.Replica.get.Goals as goal
+
+pub returns-in-empty-clause-found : goal.returns-in-empty-clause-found
+returns-in-empty-clause-found g c =
+    let root : c.args.path.now ≡ [] = sym c.names.ensures.names ∙ none_of c.names.result.now (omega (arith, c.in-empty.len_below)) in
+    ap (get (tree_shown c.args.self.now)) root ∙ get-flat (map_of c.args.self.now.files) []
+
+pub returns-in_ok-to_vec-in-Some-clause-found : goal.returns-in_ok-to_vec-in-Some-clause-found
+returns-in_ok-to_vec-in-Some-clause-found g c =
+    let x = c.name-item.result in
+    let path = sym c.names.ensures.names ∙ one_of c.names.result.now x c.in-len1.len_at_least c.in-len1.len_below c.name-item.is in
+    let same = c.in_ok-to_vec-in-Some.ensures.items_if_clones_equal (λ x y e. e) in
+    ap (get (tree_shown c.args.self.now)) path ∙ (get-name (map_of c.args.self.now.files) x (Some c.in-Some.bytes.now) c.in-Some.ensures ∙ ap (λ bytes. Some (File (contents_of bytes))) (sym same))
+
+pub returns-in-None-clause-absent : goal.returns-in-None-clause-absent
+returns-in-None-clause-absent g c e =
+    let x = c.name-item.result in
+    let path = sym c.names.ensures.names ∙ one_of c.names.result.now x c.in-len1.len_at_least c.in-len1.len_below c.name-item.is in
+    ap (get (tree_shown c.args.self.now)) path ∙ get-name (map_of c.args.self.now.files) x None c.in-None.ensures
+
+pub returns-in_default-clause-absent : goal.returns-in_default-clause-absent
+returns-in_default-clause-absent g c e =
+    let parts = many_of c.names.result.now c.in_default.len_at_least in
+    ap (get (tree_shown c.args.self.now)) (sym c.names.ensures.names ∙ parts.3) ∙ get-flat (map_of c.args.self.now.files) (parts.0 ∷ parts.1 ∷ parts.2)

@@ -1,0 +1,41 @@
+-- What is looked at before an edit is made.
+use Rattle.std.specs.Prelude.{◌≡◌, ℕ, true, List, [], ◌∷◌, ◌++◌, length, Option, Some, None, Result, Ok, Err}
+use Rattle.std.specs.FinMap.{entries, insert}
+use Rattle.syn_model.specs.Path.{Bytes, Name, Path}
+use Rattle.syn_model.specs.Tree.{Tree}
+use Rattle.syn_model.specs.Event.{Edit, after_edit}
+use Rattle.syn_model.specs.Refusal.{Refusal, first_cause}
+use Rattle.syn_model.specs.Standing.{edit_causes, full_causes, full_position}
+use Rattle.syn_replica.specs.FileMap.{FileMap, fits_files}
+use Rattle.syn_replica.specs.Refusals.{refusal_of}
+use Rattle.syn_replica.specs.declared.error.ReplicaError.{ReplicaError}
+use Rattle.syn_replica.specs.declared.error.ReplicaError.TheVariants.{NoParent, Absent, Root, Full, JournalFull, Device, Halted, Memory, NoImage, Damaged, WrongPair}
+
+-- why an edit is refused by a tree and a position
+abbrev pub refusal_by : Tree → ℕ → Edit → Option Refusal
+refusal_by tree position edit = first_cause (edit_causes tree edit ++ (full_causes (after_edit tree edit) ++ full_position position))
+
+-- the path is a name in the root, and a file of so many bytes there keeps the limits
+pub record IsAdmitted (files : FileMap) (path : Path) (size : ℕ) : Type 0 where
+  pub named : length path ≡ 1
+  pub fits : (name : Name) (bytes : Bytes) → path ≡ name ∷ [] → length bytes ≡ size → fits_files (entries (insert files name bytes)) ≡ true
+
+-- the refusals that a tree or a position is the cause of
+abbrev pub IsOfTree : ReplicaError → Type 0
+IsOfTree NoParent = Unit {0}
+IsOfTree Root = Unit {0}
+IsOfTree Full = Unit {0}
+IsOfTree _ = ⊥
+
+-- what an admission answers: none of these where there is no cause, and else the first cause
+abbrev pub IsAdmission : Option Refusal → Result (Unit {0}) ReplicaError → Type 0
+IsAdmission refusal (Ok done) = refusal ≡ None
+IsAdmission refusal (Err JournalFull) = refusal ≡ None
+IsAdmission refusal (Err e) = (refusal ≡ Some (refusal_of e)) × IsOfTree e
+
+-- the refusals of a change
+abbrev pub IsOfCommit : ReplicaError → Type 0
+IsOfCommit JournalFull = Unit {0}
+IsOfCommit Device = Unit {0}
+IsOfCommit Memory = Unit {0}
+IsOfCommit _ = ⊥

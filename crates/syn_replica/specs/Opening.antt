@@ -1,0 +1,49 @@
+-- What the payloads of a formatted disk give.
+use Rattle.std.specs.Prelude.{◌≡◌, ◌≢◌, ℕ, List, length, map, Option, Some, None}
+use Rattle.std.specs.Global.{Vec}
+use Rattle.syn_model.specs.Path.{Bytes}
+use Rattle.syn_model.specs.Tree.{Tree}
+use Rattle.syn_model.specs.Event.{Event, after_event}
+use Rattle.syn_model.specs.History.{History, IsAllowed, tree_of}
+use Rattle.syn_model.specs.Spelling.{event_spelling}
+use Rattle.syn_model.specs.Image.{StandsFor}
+use Rattle.syn_replica.specs.FileMap.{FileMap, flat_tree}
+use Rattle.syn_replica.specs.Formatted.{formatted_image}
+use Rattle.syn_replica.specs.declared.error.ReplicaError.{ReplicaError}
+use Rattle.syn_replica.specs.declared.error.ReplicaError.TheVariants.{NoParent, Absent, Root, Full, JournalFull, Device, Halted, Memory, NoImage, Damaged, WrongPair}
+
+-- With these payloads a formatted disk stands for the history, which leaves these files.
+pub record Holds (files : FileMap) (payloads : List Bytes) (history : History) : Type 0 where
+  pub stands : (pair : ℕ) → StandsFor pair (formatted_image pair) payloads history
+  pub tree : flat_tree files ≡ tree_of history
+  pub position : length payloads ≡ length history
+
+-- one more payload is an allowed event, which leaves this tree
+pub record AddsEvent (history : History) (payload : Bytes) (tree : Tree) : Type 0 where
+  pub event : Event
+  pub spelled : payload ≡ event_spelling event
+  pub allowed : IsAllowed history event
+  pub gives : tree ≡ after_event (tree_of history) event
+
+abbrev pub bytes_of_each : List (Vec ℕ) → List Bytes
+bytes_of_each payloads = map (λ payload. payload.items) payloads
+
+-- another pair than the wanted one
+pub record IsOtherPair (image : Bytes) (wanted : Option ℕ) : Type 0 where
+  pub pair : ℕ
+  pub asked : ℕ
+  pub formatted : image ≡ formatted_image pair
+  pub wanted_is : wanted ≡ Some asked
+  pub differ : asked ≢ pair
+
+-- the refusals of a payload, and of an image with payloads
+abbrev pub IsOfPayload : ReplicaError → Type 0
+IsOfPayload Damaged = Unit {0}
+IsOfPayload Memory = Unit {0}
+IsOfPayload _ = ⊥
+
+abbrev pub IsOfMeaning : ReplicaError → Type 0
+IsOfMeaning Damaged = Unit {0}
+IsOfMeaning Memory = Unit {0}
+IsOfMeaning WrongPair = Unit {0}
+IsOfMeaning _ = ⊥
