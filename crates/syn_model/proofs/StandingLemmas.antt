@@ -80,6 +80,7 @@ standing_allows history [] = (λ _. tt, λ _. tt)
 standing_allows history (event ∷ events) =
     let next = subst (λ s. AllAllowedAt s events) (standing_steps history event) in
     let back = subst (λ s. AllAllowedAt s events) (sym (standing_steps history event)) in
-    let more = standing_allows (history ++ event ∷ []) events in
-    (λ all. (record { lawful = all.0.lawful; not_refused = all.0.not_refused }, more.0 (back all.1)),
-     λ all. (record { lawful = all.0.lawful; not_refused = all.0.not_refused }, next (more.1 all.1)))
+    let more = standing_allows (history ++ event ∷ []) events in (
+      λ all. (record { lawful = all.0.lawful; not_refused = all.0.not_refused }, more.0 (back all.1)),
+      λ all. (record { lawful = all.0.lawful; not_refused = all.0.not_refused }, next (more.1 all.1)),
+    )
