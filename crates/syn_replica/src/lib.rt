@@ -10,6 +10,8 @@ mod opening;
 mod payload;
 mod prepare;
 mod replica;
+#[cfg(test)]
+mod tests;
 
 pub use content::Content;
 pub use edit::Edit;

@@ -1,0 +1,25 @@
+use Rattle.std.proofs.Common.{map}
+use Rattle.std.proofs.lemmas.Result.{IfOk-weaker}
+use Rattle.clap.specs.Words.{found_of, rows_of}
+use Rattle.syn.proofs.LineLemmas.{fault_among, no_fault, nothing_read, reads_found, subcommand_is, value_is, IfUsage-weaker}
+use Rattle.syn.proofs.words.read_words.Goals as goal
+
+pub returns-in-Err-clause-usage : goal.returns-in-Err-clause-usage
+returns-in-Err-clause-usage c =
+    IfUsage-weaker c.told.result _ _ (λ e told. rw told.0 (fault_among _ _ c.in-Err.error c.in_ok-command.ensures c.in-Err.ensures.kinds told.1)) c.told.ensures.usage
+
+pub returns-in-Some-clause-ok : goal.returns-in-Some-clause-ok
+returns-in-Some-clause-ok c =
+    let asked = subcommand_is c.in-Ok.matches _ (map (λ word. word.now) c.args.words.now) c.in-Some.name.now (rows_of (found_of c.in-Some.found.now)) c.in_ok-command.ensures c.in-Ok.ensures.matches c.in-Some.ensures.name c.in-Some.ensures.rows in
+    IfOk-weaker c.line_of.result _ _ (λ line read. record {
+      taken = no_fault _ _ c.in_ok-command.ensures c.in-Ok.ensures.kinds;
+      reads = reads_found _ _ _ line asked read;
+    }) c.line_of.ensures.ok
+
+pub returns-in-Some-clause-value : goal.returns-in-Some-clause-value
+returns-in-Some-clause-value c =
+    let asked = subcommand_is c.in-Ok.matches _ (map (λ word. word.now) c.args.words.now) c.in-Some.name.now (rows_of (found_of c.in-Some.found.now)) c.in_ok-command.ensures c.in-Ok.ensures.matches c.in-Some.ensures.name c.in-Some.ensures.rows in
+    value_is c.line_of.result _ _ c.line_of.ensures.nothing (λ nothing. (
+      no_fault _ _ c.in_ok-command.ensures c.in-Ok.ensures.kinds,
+      nothing_read _ _ _ asked nothing,
+    ))

@@ -1,0 +1,76 @@
+-- What a command and its values say of the words.
+use Rattle.std.specs.Prelude.{◌≡◌, ◌⊎◌, ◌<◌, ◌^◌, ℕ, List, [], Option, Some, None, codes, option_map}
+use Rattle.std.specs.Str.Parse.{IsNumeral, digits_value}
+use Rattle.clap.specs.Words.{IsAmong, Row, Text, fault_of, first_of, kind_of, subcommand_of}
+use Rattle.clap.specs.declared.error.Error.{Error}
+use Rattle.clap.specs.declared.error.kind.ErrorKind.TheVariants.{DisplayHelp, DisplayVersion}
+use Rattle.syn.specs.App.{syn_app}
+use Rattle.syn.specs.declared.line.Line.{Line}
+use Rattle.syn.specs.declared.line.Line.TheVariants.{Format, Put, Show}
+use Rattle.syn.specs.declared.line.LineError.{LineError}
+use Rattle.syn.specs.declared.line.LineError.TheVariants.{Usage, Value, Memory}
+
+-- the text is decimal digits that spell n, a number of so many bits
+pub record IsNumber (bits : ℕ) (text : Text) (n : ℕ) : Type 0 where
+  pub digits : IsNumeral 10 text
+  pub value : digits_value 10 text ≡ n
+  pub fits : n < 2 ^ bits
+
+-- the text given for an id
+abbrev pub HasText : List Row → Text → Text → Type 0
+HasText rows id text = first_of id rows ≡ Some text
+
+-- the number given for an id
+abbrev pub HasNumber : ℕ → List Row → Text → ℕ → Type 0
+HasNumber bits rows id n = (text : Text) × HasText rows id text × IsNumber bits text n
+
+-- the values of each command
+abbrev pub IsFormat : List Row → ℕ → Text → Type 0
+IsFormat rows pair file = HasText rows (codes "KIND") (codes "replica") × HasNumber 64 rows (codes "PAIR") pair × HasText rows (codes "FILE") file
+
+abbrev pub IsPut : List Row → Text → ℕ → Text → Type 0
+IsPut rows file user path = HasText rows (codes "FILE") file × HasNumber 32 rows (codes "USER") user × HasText rows (codes "PATH") path
+
+-- the line is that of the subcommand and its rows
+abbrev pub ReadsRows : Text → List Row → Line → Type 0
+ReadsRows name rows (Format pair file) = (name ≡ codes "format") × IsFormat rows pair file.now
+ReadsRows name rows (Put file user path) = (name ≡ codes "put") × IsPut rows file.now user path.now
+ReadsRows name rows (Show file path) =
+    (name ≡ codes "show") × HasText rows (codes "FILE") file.now × (first_of (codes "PATH") rows ≡ option_map (λ p. p.now) path)
+
+abbrev pub Reads : Option (Text × List Row) → Line → Type 0
+Reads None line = ⊥
+Reads (Some found) line = ReadsRows found.0 found.1 line
+
+-- no line is that of the subcommand
+abbrev pub NothingReads : Option (Text × List Row) → Type 0
+NothingReads found = (line : Line) → ¬ Reads found line
+
+-- the words ask for what the line says: `clap` takes them, and their values are the line's
+pub record Asks (words : List Text) (line : Line) : Type 0 where
+  pub taken : fault_of syn_app words ≡ []
+  pub reads : Reads (subcommand_of syn_app words) line
+
+-- the words ask for the help or the version
+abbrev pub AsksHelp : List Text → Type 0
+AsksHelp words = IsAmong DisplayHelp (fault_of syn_app words) ⊎ IsAmong DisplayVersion (fault_of syn_app words)
+
+-- a value is wrong
+abbrev pub IsValue : LineError → Type 0
+IsValue (Value id) = Unit {0}
+IsValue _ = ⊥
+
+-- a fact of what `clap` tells, where it refuses the words
+abbrev pub IfUsage : LineError → (Error → Type 0) → Type 0
+IfUsage (Usage error) P = P error
+IfUsage _ P = Unit {0}
+
+-- the help or the version is asked for
+abbrev pub IsRequest : LineError → Type 0
+IsRequest (Usage error) = (kind_of error ≡ DisplayHelp) ⊎ (kind_of error ≡ DisplayVersion)
+IsRequest _ = ⊥
+
+-- the words are wrong
+abbrev pub IsMistake : LineError → Type 0
+IsMistake Memory = ⊥
+IsMistake _ = Unit {0}

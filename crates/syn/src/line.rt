@@ -1,0 +1,49 @@
+//! What a command line asks for.
+
+use thiserror::Error;
+
+/// A command with its values.
+#[derive(Clone, Copy, Debug, PartialEq, Eq)]
+pub enum Line<'a> {
+    /// Makes the file a replica of the pair.
+    Format {
+        pair: u64,
+        file: &'a str,
+    },
+    /// Puts standard input at the path, for the user.
+    Put {
+        file: &'a str,
+        user: u32,
+        path: &'a str,
+    },
+    /// Prints the whole image, or what stands at the path.
+    Show {
+        file: &'a str,
+        path: Option<&'a str>,
+    },
+}
+
+/// Why the words are no command.
+#[derive(Debug, Drop, Error)]
+pub enum LineError {
+    /// `clap` refuses the words, or they ask for the help or the version.
+    #[error("{0}")]
+    Usage(clap::Error),
+    /// The value of this name is not what it has to be.
+    #[error("error: invalid value for '<{0}>': KIND is 'replica', PAIR and USER are decimal numbers\n\nFor more information, try '--help'.\n")]
+    Value(&'static str),
+    /// Memory was refused.
+    #[error("Memory")]
+    Memory,
+}
+
+impl From<std::alloc::AllocError> for LineError {
+    ghost use Rattle.std.specs.Prelude.{◌≡◌};
+    ghost use Rattle.syn.specs.declared.line.LineError.TheVariants.{Memory};
+
+    ghost from_gives = { λ _ e. e ≡ Memory };
+
+    fn from(_error: std::alloc::AllocError) -> LineError {
+        LineError::Memory
+    }
+}

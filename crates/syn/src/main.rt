@@ -1,0 +1,35 @@
+//! A crash-safe synchronizer of file trees: the program.
+//!
+//! `syn format replica PAIR FILE` makes a replica, `syn put FILE USER PATH` puts standard input into it, and
+//! `syn show FILE [PATH]` prints it. The exit status is 0 where the command was done, 1 where it was refused and 2 where
+//! the words are no command.
+#![tactic(auto)]
+
+mod command;
+mod line;
+mod refusal;
+mod show;
+mod status;
+#[cfg(test)]
+mod tests;
+mod words;
+
+use command::command;
+use std::io::{self, BufWriter};
+use std::process::ExitCode;
+
+fn main(rt: HostRuntime) -> io::Result<ExitCode> {
+    let alloc = rt.alloc();
+    let owned: Vec<String> = std::env::args(&rt)?.collect(alloc)?;
+    let words: Vec<&str> = owned.iter().map(|word| word.as_str()).collect(alloc)?;
+    let mut output = BufWriter::new(alloc, rt.stdout())?;
+    let status = command(
+        alloc,
+        &words,
+        &rt,
+        &mut rt.stdin(),
+        &mut output,
+        &mut rt.stderr(),
+    );
+    Ok(ExitCode::from(status.code()))
+}

@@ -1,0 +1,193 @@
+//! Reads a command line by `clap`.
+ghost use Rattle.std.specs.Prelude.{◌≡◌, ◌≢◌, ℕ, [], IfOk, IfErr, OnOk, OnErr, Some, None, codes, map, false};
+ghost use Rattle.syn.specs.Reads.{Asks, HasText, IfUsage, IsFormat, IsNumber, IsPut, IsValue, NothingReads, ReadsRows};
+ghost use Rattle.clap.specs.Words.{IsAmong, Text, app_of, fault_of, first_of, found_of, kind_of, rows_of, subcommand_of};
+ghost use Rattle.clap.specs.declared.Command.TheViews.{out-Command};
+ghost use Rattle.syn.specs.App.{show_app, syn_app, word_app};
+
+use crate::line::{Line, LineError};
+use clap::error::ErrorKind;
+use clap::{Arg, ArgMatches, Command};
+use std::alloc::{AllocError, Global};
+
+/// A command that takes words, each required, in the order of their names.
+fn word_command<'a>(
+    alloc: Global,
+    name: &'a str,
+    about: &'a str,
+    ids: &[&'a str],
+) -> Result<Command<'a>, AllocError>
+    ensures app { IfOk result (λ c. app_of c ≡ word_app name.entry.now (map (λ id. id.now) ids.now)) }
+    ensures globals { IfOk result (λ c. (out-Command c).has_globals ≡ false) }
+{
+    let mut command = Command::new(alloc, name).about(about);
+    for id in ids {
+        command = command.arg(Arg::new(alloc, id).required(true))?;
+    }
+    Ok(command)
+}
+
+fn show_command<'a>(alloc: Global) -> Result<Command<'a>, AllocError>
+    ensures app { IfOk result (λ c. app_of c ≡ show_app) }
+    ensures globals { IfOk result (λ c. (out-Command c).has_globals ≡ false) }
+{
+    word_command(
+        alloc,
+        "show",
+        "Prints an image, or a file or a directory of it",
+        &["FILE"],
+    )?
+    .arg(Arg::new(alloc, "PATH"))
+}
+
+fn syn_command<'a>(alloc: Global) -> Result<Command<'a>, AllocError>
+    ensures { IfOk result (λ c. app_of c ≡ syn_app) }
+{
+    let format = word_command(
+        alloc,
+        "format",
+        "Makes FILE an image of KIND `replica` for the pair numbered PAIR",
+        &["KIND", "PAIR", "FILE"],
+    )?;
+    let put = word_command(
+        alloc,
+        "put",
+        "Puts standard input at PATH, as an edit of the user numbered USER",
+        &["FILE", "USER", "PATH"],
+    )?;
+    let show = show_command(alloc)?;
+    Command::new(alloc, "syn")
+        .about("A crash-safe synchronizer of file trees")
+        .version("0.1.0")
+        .subcommand_required(true)
+        .subcommand(format)?
+        .subcommand(put)?
+        .subcommand(show)
+}
+
+/// The command that the words ask for. The first word is the program's own.
+pub fn read_words<'a>(alloc: Global, words: &'a [&'a str]) -> Result<Line<'a>, LineError>
+    ensures ok { IfOk result (Asks (map (λ word. word.now) words.entry.now)) }
+    ensures usage { IfErr result (λ error. IfUsage error (λ told. IsAmong (kind_of told) (fault_of syn_app (map (λ word. word.now) words.entry.now)))) }
+
+    // Where `clap` takes the words, a value is wrong: no line is what they say.
+    ensures value { IfErr result (λ error. IsValue error → (fault_of syn_app (map (λ word. word.now) words.entry.now) ≡ [])
+        × NothingReads (subcommand_of syn_app (map (λ word. word.now) words.entry.now))) }
+{
+    let command = syn_command(alloc)?;
+    let matches = match command.try_get_matches_from(words) {
+        Ok(matches) => matches,
+        Err(error) => return Err(told(error)),
+    };
+    match matches.subcommand() {
+        Some((name, found)) => line_of(name, found),
+        None => Err(LineError::Value("COMMAND")),
+    }
+}
+
+/// What a parse that failed is told as.
+fn told(error: clap::Error) -> LineError
+    ensures usage { IfUsage result (λ told. (told ≡ error) × (kind_of error ≢ ErrorKind.OutOfMemory)) }
+    ensures value { ¬ IsValue result }
+{
+    match error.kind() {
+        ErrorKind::OutOfMemory => LineError::Memory,
+        _ => LineError::Usage(error),
+    }
+}
+
+/// The command of a name and its matches.
+fn line_of<'a>(name: &'a str, found: &ArgMatches<'a>) -> Result<Line<'a>, LineError>
+    ensures ok { IfOk result (λ line. ReadsRows name.entry.now (rows_of (found_of found.now)) line) }
+    ensures value { IfErr result (λ error. IsValue error) }
+    ensures nothing { OnErr result (NothingReads (Some (name.entry.now, rows_of (found_of found.now)))) }
+{
+    match name {
+        "format" => format_line(found),
+        "put" => put_line(found),
+        "show" => show_line(found),
+        _ => Err(LineError::Value("COMMAND")),
+    }
+}
+
+fn format_line<'a>(found: &ArgMatches<'a>) -> Result<Line<'a>, LineError>
+    ensures ok { IfOk result (λ line. ReadsRows (codes "format") (rows_of (found_of found.now)) line) }
+    ensures value { IfErr result (λ error. IsValue error) }
+    ensures nothing { OnErr result ((pair : ℕ) (file : Text) → ¬ IsFormat (rows_of (found_of found.now)) pair file) }
+{
+    replica_kind(text(found, "KIND")?)?;
+    let pair = number(text(found, "PAIR")?)?;
+    let file = text(found, "FILE")?;
+    Ok(Line::Format { pair, file })
+}
+
+fn put_line<'a>(found: &ArgMatches<'a>) -> Result<Line<'a>, LineError>
+    ensures ok { IfOk result (λ line. ReadsRows (codes "put") (rows_of (found_of found.now)) line) }
+    ensures value { IfErr result (λ error. IsValue error) }
+    ensures nothing { OnErr result ((file : Text) (user : ℕ) (path : Text) → ¬ IsPut (rows_of (found_of found.now)) file user path) }
+{
+    let file = text(found, "FILE")?;
+    let user = user(text(found, "USER")?)?;
+    let path = text(found, "PATH")?;
+    Ok(Line::Put { file, user, path })
+}
+
+#[tactic(auto, using(crate::proofs::LineLemmas::first_value_rows))]
+fn show_line<'a>(found: &ArgMatches<'a>) -> Result<Line<'a>, LineError>
+    ensures ok { IfOk result (λ line. ReadsRows (codes "show") (rows_of (found_of found.now)) line) }
+    ensures value { IfErr result (λ error. IsValue error) }
+    ensures nothing { OnErr result ((file : Text) → ¬ HasText (rows_of (found_of found.now)) (codes "FILE") file) }
+{
+    let file = text(found, "FILE")?;
+    let path = found.get_str("PATH");
+    Ok(Line::Show { file, path })
+}
+
+/// The text that is given for the id.
+#[tactic(auto, using(crate::proofs::LineLemmas::first_value_rows))]
+fn text<'a>(found: &ArgMatches<'a>, id: &'static str) -> Result<&'a str, LineError>
+    ensures ok { IfOk result (λ value. first_of id.entry.now (rows_of (found_of found.now)) ≡ Some value.now) }
+    ensures value { IfErr result (λ error. IsValue error) }
+    ensures nothing { OnErr result (first_of id.entry.now (rows_of (found_of found.now)) ≡ None) }
+{
+    match found.get_str(id) {
+        Some(value) => Ok(value),
+        None => Err(LineError::Value(id)),
+    }
+}
+
+/// The decimal number below 2^64 that the text writes, in digits alone.
+fn number(value: &str) -> Result<u64, LineError>
+    ensures ok { IfOk result (λ n. IsNumber 64 value.now n) }
+    ensures value { IfErr result (λ error. IsValue error) }
+    ensures nothing { OnErr result ((n : ℕ) → ¬ IsNumber 64 value.now n) }
+{
+    if value.starts_with('+') {
+        return Err(LineError::Value("PAIR"));
+    }
+    value.parse::<u64>().map_err(|_| LineError::Value("PAIR"))
+}
+
+/// The decimal number below 2^32 that the text writes, in digits alone.
+fn user(value: &str) -> Result<u32, LineError>
+    ensures ok { IfOk result (λ n. IsNumber 32 value.now n) }
+    ensures value { IfErr result (λ error. IsValue error) }
+    ensures nothing { OnErr result ((n : ℕ) → ¬ IsNumber 32 value.now n) }
+{
+    if value.starts_with('+') {
+        return Err(LineError::Value("USER"));
+    }
+    value.parse::<u32>().map_err(|_| LineError::Value("USER"))
+}
+
+/// The text has to be the one kind that there is.
+fn replica_kind(value: &str) -> Result<(), LineError>
+    ensures ok { OnOk result (value.now ≡ codes "replica") }
+    ensures value { IfErr result (λ error. IsValue error) }
+    ensures nothing { OnErr result (value.now ≢ codes "replica") }
+{
+    match value {
+        "replica" => Ok(()),
+        _ => Err(LineError::Value("KIND")),
+    }
+}
