@@ -10,8 +10,6 @@ mod opening;
 mod payload;
 mod prepare;
 mod replica;
-#[cfg(test)]
-mod tests;
 
 pub use content::Content;
 pub use edit::Edit;
