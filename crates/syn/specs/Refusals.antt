@@ -14,3 +14,9 @@ number_of (Open error) = of_disk error
 number_of (Replica error) = number (of_replica error)
 number_of Device = 9
 number_of Memory = 11
+
+-- the refusals of a stream that cannot be read or written
+abbrev pub IsOfStream : Refusal → Type 0
+IsOfStream Device = Unit {0}
+IsOfStream Memory = Unit {0}
+IsOfStream _ = ⊥

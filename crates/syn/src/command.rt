@@ -1,9 +1,10 @@
 //! Carries out a command.
-ghost use Rattle.std.specs.Prelude.{◌≡◌, ◌≢◌, ◌⊎◌, map, take, IfOk, IfSome};
+ghost use Rattle.std.specs.Prelude.{◌≡◌, ◌≢◌, ◌⊎◌, map};
 ghost use Rattle.syn.specs.Reads.{Asks, AsksHelp, IsMistake, IsRequest};
 ghost use Rattle.syn.specs.declared.line.Line.{Line};
 
 use crate::line::{Line, LineError};
+use crate::put::put_input;
 use crate::refusal::Refusal;
 use crate::show::{show_image, show_path};
 use crate::status::Status;
@@ -15,10 +16,7 @@ use std::io::{self, Read, Write};
 use std::os::unix::fs::FileExt;
 use syn_disk::{DISK_SIZE, FileDisk};
 use syn_path::Path;
-use syn_replica::{Edit, Replica};
-
-/// How many bytes of standard input are read at most: one more than a file may have.
-const MOST_INPUT: u64 = 16_385;
+use syn_replica::Replica;
 
 /// Carries out what the words ask for, of which the first is the program's own name. What is asked for goes to
 /// `output`, and why it is refused to `errors`.
@@ -189,17 +187,7 @@ where
 {
     let path = Path::parse(alloc, path)?;
     let mut replica = open(alloc, files, file)?;
-    let bytes = read_input(alloc, input)?;
-    Ok(replica.edit(alloc, user, Edit::Put(path, bytes))?)
-}
-
-/// The bytes of the input, or the first of them where it has more than a file may have. No more are read.
-fn read_input<I: Read>(alloc: Global, input: &mut I) -> Result<Vec<u8>, Refusal>
-    ensures { IfOk result (λ bytes. IfSome (I.remaining input.old) (λ left. bytes.items ≡ take MOST_INPUT left)) }
-{
-    let mut bytes = Vec::new(alloc);
-    input.take(MOST_INPUT).read_to_end(&mut bytes)?;
-    Ok(bytes)
+    put_input(alloc, &mut replica, user, path, input)
 }
 
 /// Prints what stands in the file, or at the path.

@@ -7,6 +7,7 @@
 
 mod command;
 mod line;
+mod put;
 mod refusal;
 mod show;
 mod status;

@@ -45,24 +45,43 @@ impl Refusal {
 }
 
 impl From<PathError> for Refusal {
+    ghost use Rattle.std.specs.Prelude.{◌≡◌};
+    ghost use Rattle.syn.specs.declared.refusal.Refusal.TheVariants.{Path};
+
+    ghost from_gives = { λ error e. e ≡ Path error };
+
     fn from(error: PathError) -> Refusal {
         Refusal::Path(error)
     }
 }
 
 impl From<OpenError> for Refusal {
+    ghost use Rattle.std.specs.Prelude.{◌≡◌};
+    ghost use Rattle.syn.specs.declared.refusal.Refusal.TheVariants.{Open};
+
+    ghost from_gives = { λ error e. e ≡ Open error };
+
     fn from(error: OpenError) -> Refusal {
         Refusal::Open(error)
     }
 }
 
 impl From<ReplicaError> for Refusal {
+    ghost use Rattle.std.specs.Prelude.{◌≡◌};
+    ghost use Rattle.syn.specs.declared.refusal.Refusal.TheVariants.{Replica};
+
+    ghost from_gives = { λ error e. e ≡ Replica error };
+
     fn from(error: ReplicaError) -> Refusal {
         Refusal::Replica(error)
     }
 }
 
 impl From<io::Error> for Refusal {
+    ghost use Rattle.syn.specs.Refusals.{IsOfStream};
+
+    ghost from_gives = { λ _ e. IsOfStream e };
+
     fn from(error: io::Error) -> Refusal {
         match error.kind() {
             io::ErrorKind::OutOfMemory => Refusal::Memory,

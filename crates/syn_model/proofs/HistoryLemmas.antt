@@ -35,7 +35,7 @@ append-none (x ∷ xs) ys e f =
     let first = first_cause-none x xs e in
     ap (λ b. if b then Some x.1 else first_cause (xs ++ ys)) first.0 ∙ append-none xs ys first.1 f
 
-not_true : (b : Bool) → not b ≡ false → b ≡ true
+pub not_true : (b : Bool) → not b ≡ false → b ≡ true
 not_true true e = refl
 not_true false e = absurd (true≢false e)
 

@@ -16,7 +16,7 @@ use Rattle.syn_model.proofs.HistoryLemmas.{empty-is_tree, allowed_goes_on}
 use Rattle.syn_model.proofs.RowLemmas.{entries-at_root}
 use Rattle.syn_model.proofs.StandingLemmas.{standing_steps}
 
-empty_fits : fits_replica empty_directory ≡ true
+pub empty_fits : fits_replica empty_directory ≡ true
 empty_fits = rw (len-entries, entries-at_root)
 
 new_is_standing : IsStanding new_standing

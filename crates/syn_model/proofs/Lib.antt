@@ -5,6 +5,7 @@ pub mod SyncLemmas
 pub mod HistoryLemmas
 pub mod StandingLemmas
 pub mod ImageLemmas
+pub mod FitsLemmas
 pub mod KeyLemmas
 pub mod MarkLemmas
 pub mod QuietLemmas

@@ -1,13 +1,14 @@
 -- What follows from the definitions, for the other crates to use.
-use Rattle.std.specs.Prelude.{ℕ, List, ◌↔◌, ◌≡◌, ◌⊎◌, Bool, false, [], ◌∷◌, ◌++◌, All}
+use Rattle.std.specs.Prelude.{ℕ, ◌≤◌, List, ◌↔◌, ◌≡◌, ◌⊎◌, Bool, true, false, [], ◌∷◌, ◌++◌, length, All}
 use Rattle.std.specs.Option.{option_map_or, option_map}
 use Rattle.syn_model.specs.Mark.{mark, mark_of}
 use Rattle.std.specs.FinMap.{get}
 use Rattle.syn_model.specs.Path.{Bytes, Path, path_cmp, path_key, key_cmp, root, comparable, strip_prefix, IsName, IsPath}
 use Rattle.syn_model.specs.Tree.{Tree, IsPart, IsTree, StandsIn, subtree, replace}
+use Rattle.syn_model.specs.Limits.{fits_replica}
 use Rattle.syn_model.specs.Standing.{new_standing, standing_after, AllAllowedAt}
 use Rattle.syn_model.specs.History.{History, IsHistory, IsAllowed, AllAllowed, tree_of, standing_of}
-use Rattle.syn_model.specs.Event.{Event}
+use Rattle.syn_model.specs.Event.{Event, Put, after_edit}
 use Rattle.syn_model.specs.Spelling.{event_spelling}
 use Rattle.syn_model.specs.Image.{image_spelling, StandsFor}
 use Rattle.syn_model.specs.Dirty.{Scan, Paths, dirty, IsClosedUpward, IsSafeEstimate}
@@ -59,6 +60,14 @@ NothingToDo = (left right : Tree) (dirty_left dirty_right : Paths) (left' right'
 -- what allowed events leave is a tree
 abbrev pub HistoryIsTree : Type 0
 HistoryIsTree = (history : History) → IsHistory history → IsTree (tree_of history)
+
+-- within the limits of a replica
+abbrev pub HistoryFits : Type 0
+HistoryFits = (history : History) → IsHistory history → fits_replica (tree_of history) ≡ true
+
+-- where a put that fits is no longer than a file may be
+abbrev pub PutFits : Type 0
+PutFits = (tree : Tree) (path : Path) (bytes : Bytes) → fits_replica (after_edit tree (Put path bytes)) ≡ true → length bytes ≤ 16384
 
 -- and a history with an allowed event is one
 abbrev pub AllowedGoesOn : Type 0

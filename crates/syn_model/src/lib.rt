@@ -1,7 +1,7 @@
 //! The definitions from path to plan that the other crates cite, and the laws that hold of them.
 #![tactic(auto)]
 
-ghost use Rattle.syn_model.specs.Laws.{SameAtEachPath, SubtreeHas, ReplacedHas, ReplacedIsThere, OthersStay, ReplacedIsPart, DirtyIsClosed, DirtyIsSafe, OneSynchronization, NothingToDo, HistoryIsTree, AllowedGoesOn, StandingSteps, StandingAllows, FormattedStands, PayloadGoesOn, PathsGoByKey, MarkHas, MarkOfSubtree};
+ghost use Rattle.syn_model.specs.Laws.{SameAtEachPath, SubtreeHas, ReplacedHas, ReplacedIsThere, OthersStay, ReplacedIsPart, DirtyIsClosed, DirtyIsSafe, OneSynchronization, NothingToDo, HistoryIsTree, HistoryFits, PutFits, AllowedGoesOn, StandingSteps, StandingAllows, FormattedStands, PayloadGoesOn, PathsGoByKey, MarkHas, MarkOfSubtree};
 ghost use Rattle.syn_model.specs.Plan.{NamesAreOnly, PlanIsInOrder, PlanIsOrderly, PlanIsDecided, PlanReconciles, PlanHasDecided, PlanOverwritesClean, ConflictsArePlanned, ItemFindsArchive, ItemFindsSides};
 ghost use Rattle.syn_model.specs.Rows.{ItemsOfOneNameHold, Floors, RefusedEditsHold, Spellings};
 
@@ -52,9 +52,11 @@ pub fn plan_laws()
     ensures reconciles { PlanReconciles }
 {}
 
-/// What a history of allowed events leaves is a tree, and an allowed event goes on it.
+/// What a history of allowed events leaves is a tree within the limits, and an allowed event goes on it.
 pub fn history_laws()
     ensures tree { HistoryIsTree }
+    ensures fits { HistoryFits }
+    ensures put { PutFits }
     ensures goes_on { AllowedGoesOn }
 
     // An image keeps of a history what the next events need.

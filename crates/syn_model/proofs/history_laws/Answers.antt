@@ -1,10 +1,17 @@
 use Rattle.syn_model.proofs.HistoryLemmas.{history-is_tree, allowed_goes_on}
+use Rattle.syn_model.proofs.FitsLemmas.{history_fits, put_fits}
 use Rattle.syn_model.proofs.StandingLemmas.{standing_steps, standing_allows}
 use Rattle.syn_model.proofs.ImageLemmas.{formatted_stands, payload_goes_on}
 use Rattle.syn_model.proofs.history_laws.Goals as goal
 
 pub returns-clause-tree : goal.returns-clause-tree
 returns-clause-tree c = history-is_tree
+
+pub returns-clause-fits : goal.returns-clause-fits
+returns-clause-fits c = history_fits
+
+pub returns-clause-put : goal.returns-clause-put
+returns-clause-put c = put_fits
 
 pub returns-clause-goes_on : goal.returns-clause-goes_on
 returns-clause-goes_on c = allowed_goes_on

@@ -1,0 +1,74 @@
+-- A put of an input of which at most one byte more is read than a file may have.
+use Rattle.std.proofs.Common.{◌≡◌, ◌⊎◌, inl, inr, ◌<◌, ◌≤◌, ◌+◌, ◌++◌, ◌∷◌, ◌∙◌, ℕ, Bool, true, false, not, nat_le, [], List, length, take, Option, Some, sym, ap, subst, refl, true≢false, arith}
+use Rattle.std.specs.Option.{IfSome}
+use Rattle.std.proofs.lemmas.Bool.{leb-true, leb-false}
+use Rattle.std.proofs.lemmas.List.{take_all, length-take-le}
+use Rattle.syn_model.specs.Event.{Event, Edited, Put, after_edit}
+use Rattle.syn_model.specs.History.{History, IsHistory, tree_of, event_refusal}
+use Rattle.syn_model.specs.Limits.{fits_replica}
+use Rattle.syn_model.specs.Path.{Bytes, Path}
+use Rattle.syn_model.specs.Refusal.{Full, first_cause}
+use Rattle.syn_model.specs.Standing.{edit_causes, full_position}
+use Rattle.syn_model.specs.Laws.{HistoryFits, PutFits, StandingSteps}
+use Rattle.syn_replica.specs.Disks.{DiskStands, StandsBeforeOrAfter}
+
+-- the most bytes that are read
+abbrev most : ℕ
+most = 16385
+
+-- what was read, where it is known what is left
+pub known : (o : Option Bytes) (left bytes : Bytes) → o ≡ Some left → IfSome o (λ l. bytes ≡ take most l) → bytes ≡ take most left
+known o left bytes e h = subst (λ x. IfSome x (λ l. bytes ≡ take most l)) e h
+
+over : (n : ℕ) → n ≤ 16384 → 16384 < n → ⊥
+over n a b = omega (arith, a, b)
+
+cut_length : (left : Bytes) → most < length left → 16384 < length (take most left)
+cut_length left long = subst (λ n. 16384 < n) (sym (length-take-le most left (omega (arith, long)))) (omega arith)
+
+-- What was read is all that is left, or both are longer than a file may be.
+longer : (bytes left : Bytes) → bytes ≡ take most left → (bytes ≡ left) ⊎ ((16384 < length bytes) × (16384 < length left))
+longer bytes left e =
+    elim (nat_le (length left) most) as (λ b. nat_le (length left) most ≡ b → (bytes ≡ left) ⊎ ((16384 < length bytes) × (16384 < length left))) [
+      | true ↦ λ brief. inl (e ∙ take_all most left (leb-true (length left) most brief))
+      | false ↦ λ no.
+        let long : most < length left = leb-false (length left) most no in
+        inr (subst (λ b. 16384 < length b) (sym e) (cut_length left long), omega (arith, long))
+    ] refl
+
+-- what is no longer than a file may be was read whole
+whole : (bytes left : Bytes) → bytes ≡ take most left → length bytes ≤ 16384 → bytes ≡ left
+whole bytes left e small = elim (longer bytes left e) as (λ _. bytes ≡ left) [ inl same ↦ same | inr both ↦ absurd (over (length bytes) small both.0) ]
+
+module _ (fits : HistoryFits) (put : PutFits) (steps : StandingSteps) where
+  -- a put that came into a history has no more bytes than a file may have
+  small : (history : History) (user : ℕ) (path : Path) (bytes : Bytes) → IsHistory (history ++ Edited user (Put path bytes) ∷ []) → length bytes ≤ 16384
+  small history user path bytes h =
+      put (tree_of history) path bytes (ap (λ s. fits_replica s.tree) (sym (steps history (Edited user (Put path bytes)))) ∙ fits (history ++ Edited user (Put path bytes) ∷ []) h)
+
+  -- so it is what is left of the input
+  pub read_whole : (history : History) (user : ℕ) (path : Path) (bytes left : Bytes) → bytes ≡ take most left → IsHistory (history ++ Edited user (Put path bytes) ∷ []) → bytes ≡ left
+  read_whole history user path bytes left e h = whole bytes left e (small history user path bytes h)
+
+  pub before_or_after : (pair : ℕ) (history : History) (user : ℕ) (path : Path) (bytes left : Bytes) → bytes ≡ take most left
+      → (c : List ℕ) → StandsBeforeOrAfter pair history (Edited user (Put path bytes)) c → StandsBeforeOrAfter pair history (Edited user (Put path left)) c
+  before_or_after pair history user path bytes left e c (inl before) = inl before
+  before_or_after pair history user path bytes left e c (inr after) =
+      inr (subst (λ b. DiskStands pair c (history ++ Edited user (Put path b) ∷ [])) (read_whole history user path bytes left e after.stands.lawful) after)
+
+  too_long : (history : History) (path : Path) (bytes : Bytes) → 16384 < length bytes → fits_replica (after_edit (tree_of history) (Put path bytes)) ≡ false
+  too_long history path bytes long =
+      elim (fits_replica (after_edit (tree_of history) (Put path bytes))) as (λ b. fits_replica (after_edit (tree_of history) (Put path bytes)) ≡ b → b ≡ false) [
+        | true ↦ λ yes. absurd (over (length bytes) (put (tree_of history) path bytes yes) long)
+        | false ↦ λ _. refl
+      ] refl
+
+  -- and a longer input is refused as what was read of it is
+  pub same_refusal : (history : History) (user : ℕ) (path : Path) (bytes left : Bytes) → bytes ≡ take most left
+      → event_refusal history (Edited user (Put path bytes)) ≡ event_refusal history (Edited user (Put path left))
+  same_refusal history user path bytes left e =
+      let causes = λ (b : Bool). first_cause (edit_causes (tree_of history) (Put path bytes) ++ ((not b, Full) ∷ full_position (length history))) in
+      elim (longer bytes left e) as (λ _. event_refusal history (Edited user (Put path bytes)) ≡ event_refusal history (Edited user (Put path left))) [
+        | inl same ↦ ap (λ b. event_refusal history (Edited user (Put path b))) same
+        | inr both ↦ ap causes (too_long history path bytes both.0 ∙ sym (too_long history path left both.1))
+      ]
