@@ -6,6 +6,7 @@ pub mod PlanLemmas
 pub mod SoundLemmas
 pub mod HarmlessLemmas
 pub mod OutcomeLemmas
+pub mod SpellingLemmas
 pub mod MoveLemmas
 pub mod StepLemmas
 pub mod TokenLemmas

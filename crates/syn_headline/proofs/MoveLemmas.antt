@@ -1,17 +1,16 @@
 -- The invariant is kept as a side answers a request.
-use Rattle.std.proofs.Common.{◌≡◌, ◌≤◌, ◌+◌, ℕ, Bool, true, false, not, ◌&&◌, ◌||◌, ◌==◌, nat_le, List, [], filter_map, option_map, ◌∷◌, ◌++◌, length, take, drop, refl, sym, ap, ap₂, ◌∙◌, subst, Option, Some, None, is_some, IsSome, true≢false, append_assoc, append-nil, arith, inl, inr, ◌⊎◌, slice_get, fold}
-use Rattle.std.specs.Prelude.{Contains, IfSome, All}
+use Rattle.std.proofs.Common.{◌≡◌, ◌≤◌, ◌+◌, ℕ, Bool, true, false, not, ◌&&◌, ◌||◌, ◌==◌, nat_le, List, [], filter_map, option_map, ◌∷◌, ◌++◌, length, take, drop, refl, sym, ap, ap₂, ◌∙◌, subst, Option, Some, None, is_some, true≢false, append_assoc, append-nil, arith, inl, inr, ◌⊎◌, slice_get, fold}
+use Rattle.std.specs.Prelude.{Contains, IfSome}
 use Rattle.std.specs.Option.{option_map_or, option_and_then}
-use Rattle.std.specs.FinMap.{get, entries, len-entries}
+use Rattle.std.specs.FinMap.{len-entries}
 use Rattle.std.specs.Prelude.{sum_by}
 use Rattle.std.specs.List.{list_all}
 use Rattle.syn_model.proofs.RowLemmas.{entries-at_root}
 use Rattle.std.proofs.lemmas.Bool.Decides.{nat_tests}
 use Rattle.std.proofs.lemmas.List.{length-append, take-append-drop}
-use Rattle.std.proofs.lemmas.List.Elements.{All-tail}
 use Rattle.std.proofs.Math.Seq.{take-append_seam, take-length}
-use Rattle.syn_model.specs.Path.{Name, Bytes, Path, parent, IsName, comparable, is_prefix, strip_prefix}
-use Rattle.syn_model.specs.Tree.{Tree, IsTree, IsPart, subtree, replace, Content, Pair, Directory, empty_directory}
+use Rattle.syn_model.specs.Path.{Name, Bytes, Path, parent, comparable, is_prefix, strip_prefix}
+use Rattle.syn_model.specs.Tree.{Tree, IsTree, subtree, replace, Content, Pair, Directory, empty_directory}
 use Rattle.syn_model.specs.Limits.{children, fits_replica, only_name, last_name_spelling_length, content_spelling_length, fits_content, fits_path}
 use Rattle.syn_model.specs.Mark.{mark}
 use Rattle.syn_model.specs.Spelling.{spelling}
@@ -24,9 +23,9 @@ use Rattle.syn_headline.specs.Side.{Side, Served, Staging, Request, Begin, ListA
 use Rattle.syn_headline.specs.Network.{Which, Left, Right, other, Sent, Asks}
 use Rattle.syn_model.specs.Decision.{path_of}
 use Rattle.syn_headline.specs.Planning.{Planned, seen_on, WritesTo}
-use Rattle.syn_headline.specs.Invariant.{Plans, Histories, IsSound, IsTrue, IsTruePiece, IsSoundStaging, IsSoundReplacement, IsSoundEvent, source_of, part_at, SpellingsTell}
+use Rattle.syn_headline.specs.Invariant.{Plans, Histories, IsSound, IsTrue, IsTruePiece, IsSoundStaging, IsSoundReplacement, IsSoundEvent, source_of, part_at}
 use Rattle.syn_model.proofs.PathLemmas.{some_same, strip_prefix-append}
-use Rattle.syn_model.proofs.TreeLemmas.{get-subtree}
+use Rattle.syn_headline.proofs.SpellingLemmas.{spellings_tell}
 use Rattle.syn_model.proofs.HistoryLemmas.{history-is_tree, first_cause-none, tree_of-append, none-append}
 use Rattle.syn_model.proofs.DirtyLemmas.{both_true, both_false}
 use Rattle.syn_model.proofs.QuietLemmas.{quiet_before, quiet_same}
@@ -223,7 +222,7 @@ tree_at_fits history k h = more_fits [] (take k history) empty_fits (all_front [
 
 -- A request
 
-module _ (tells : SpellingsTell) (plans : Plans) (archive : Archive) (sent : Sent) (histories : Histories) (sound : IsSound plans histories archive sent) (which : Which) (side : Side) (same : side.history ≡ histories which)
+module _ (plans : Plans) (archive : Archive) (sent : Sent) (histories : Histories) (sound : IsSound plans histories archive sent) (which : Which) (side : Side) (same : side.history ≡ histories which)
     (staged : IfSome side.staging (IsSoundStaging plans histories which)) (session number : ℕ) where
   staged_is : (o : Option Staging) (token : Token) → IfSome o (IsSoundStaging plans histories which) → is_staged o token ≡ true → (staging : Staging) × IsSoundStaging plans histories which staging × (staging.token ≡ token) × (staged_bytes o ≡ staging.bytes)
   staged_is None token h e = absurd (true≢false (sym e))
@@ -253,7 +252,7 @@ module _ (tells : SpellingsTell) (plans : Plans) (archive : Archive) (sent : Sen
         within = subst (λ h. since ≤ length h) same within;
         quiet = ap (λ h. is_quiet h since (length h) path) (sym same) ∙ quiet;
         reached = true_piece.reached;
-        whole = tells new (source_of histories which planned) reads.0 reads.1
+        whole = spellings_tell new (source_of histories which planned) reads.0 reads.1
             (record {
               whole = tree_at (histories (other which)) (seen_on planned (other which)).since;
               path = path_of planned.item;

@@ -16,7 +16,7 @@ use Rattle.syn_headline.specs.Planning.{Planned}
 use Rattle.syn_headline.specs.Acknowledged.{Ack, Happened, Kept_by, Stores, stores_after, history_of, IsLegal}
 use Rattle.syn_headline.specs.World.{Status, Up, Halted, Down, Machine, At, Coordinator, World, SideMachine, CoordinatorMachine, Running, Outstanding, outstanding, side_of, set_side, stopped, Step, Edits, Start, Deliver, Tick, Checkpoint, Fail, Stop, Open, Reopen, Writes, written, failed, cut, DoesEdit, edit_refused, edit_written, Opens, opened, recovered, not_opened, not_reopened, OpensArchive, archive_opened, archive_recovered, archive_not_opened, archive_not_reopened, ServesAs, serve_halted, WouldAdd, TakesRequest, answered, request_failed, request_cut, side_down, IsDueAfter, IsExpected, HasPlan, GoesOnAs, ended, goes_on, GoesOnFrom, plan_of, StartsFrom, RunsOver, IsNext, IsNothing, CoordinatorGoes, TakesAnswer, taken, ignored, coordinator_down, Delivers, OpensMachine, cut_off, halted, Steps, Runs}
 use Rattle.syn_headline.specs.Headline.{stores_of, IsStart, EachReplacementIsLegal, StandsFor, RunsReplaceLegally, RunsUseTokensOnce}
-use Rattle.syn_headline.specs.Invariant.{Plans, Histories, histories_of, IsSound, IsTrue, IsFresh, IsHarmless, IsSoundStaging, IsSoundEvent, IsSoundSide, IsSoundCoordinator, IsKept, SpellingsTell}
+use Rattle.syn_headline.specs.Invariant.{Plans, Histories, histories_of, IsSound, IsTrue, IsFresh, IsHarmless, IsSoundStaging, IsSoundEvent, IsSoundSide, IsSoundCoordinator, IsKept}
 use Rattle.syn_model.proofs.PathLemmas.{none_some}
 use Rattle.syn_headline.proofs.PlanLemmas.{answered-more}
 use Rattle.syn_headline.proofs.SoundLemmas.{set_plan, set_plan-grows, set_plan-here, sound-plan, sound-keep, kept_session}
@@ -227,7 +227,7 @@ refused_is_true history n (Replace item path since size) reason = tt
 longer : (h : History) (event : Event) → h ≡ h ++ event ∷ [] → ⊥
 longer h event e = let x : [] ≡ event ∷ [] = append_cancel_left h [] (event ∷ []) (append-nil h ∙ e) in cc
 
-module _ (tells : SpellingsTell) (plans : Plans) (old : World) (k : IsKept plans old) (which : Which) (session number : ℕ) (request : Request) (asked : Contains old.sent (Asks which session number request)) where
+module _ (plans : Plans) (old : World) (k : IsKept plans old) (which : Which) (session number : ℕ) (request : Request) (asked : Contains old.sent (Asks which session number request)) where
   lawful : IsLawfulRequest session request
   lawful = (k.sound.asked which session number request asked).lawful
 
@@ -244,7 +244,7 @@ module _ (tells : SpellingsTell) (plans : Plans) (old : World) (k : IsKept plans
   would_sound : (event : Event) → WouldAdd old.pair (side_of old which).side session request event → IsSoundEvent plans (histories_of old) old.coordinator.archive which event
   would_sound event w =
       let o = outcome old.pair w.has_room (side_of old which).side session request w.served lawful w.serves in
-      elim (outcome_moves tells plans old.coordinator.archive old.sent (histories_of old) k.sound which (side_of old which).side refl (k.sides which).staged session number request w.served asked o) as (λ _. IsSoundEvent plans (histories_of old) old.coordinator.archive which event) [
+      elim (outcome_moves plans old.coordinator.archive old.sent (histories_of old) k.sound which (side_of old which).side refl (k.sides which).staged session number request w.served asked o) as (λ _. IsSoundEvent plans (histories_of old) old.coordinator.archive which event) [
         | inl e ↦ absurd (longer (histories_of old which) event (sym e ∙ w.adds))
         | inr a ↦
             let one : a.0 ∷ [] ≡ event ∷ [] = append_cancel_left (histories_of old which) (a.0 ∷ []) (event ∷ []) (sym a.3 ∙ w.adds) in
@@ -255,13 +255,13 @@ module _ (tells : SpellingsTell) (plans : Plans) (old : World) (k : IsKept plans
   pub request_advances : (new : World) → TakesRequest old which session number request new → Advances old new
   request_advances new (answered a) =
       let o = any_outcome (side_of old which).status old.pair a.has_room (side_of old which).side session request a.served lawful a.serves in
-      let moves = outcome_moves tells plans old.coordinator.archive old.sent (histories_of old) k.sound which (side_of old which).side refl (k.sides which).staged session number request a.served asked o in
+      let moves = outcome_moves plans old.coordinator.archive old.sent (histories_of old) k.sound which (side_of old which).side refl (k.sides which).staged session number request a.served asked o in
       side_advances plans old k which (record (side_of old which) { side = a.served.side }) (Answers which session number a.served.reply ∷ []) a.events new (events_are a.served a.events a.added moves)
-      (outcome_staging tells plans old.coordinator.archive old.sent (histories_of old) k.sound which (side_of old which).side refl (k.sides which).staged session number request a.served asked o)
+      (outcome_staging plans old.coordinator.archive old.sent (histories_of old) k.sound which (side_of old which).side refl (k.sides which).staged session number request a.served asked o)
       (if_some (side_of old which).writing (λ event. ((side_of old which).status ≢ Up) × IsSoundEvent plans (histories_of old) old.coordinator.archive which event)
       (λ event. ((side_of old which).status ≢ Up) × IsSoundEvent plans (histories_of old) old.coordinator.archive which event × (a.served.side.history ≡ histories_of old which)) (k.sides which).writing
       (λ event _ x. (x.0, x.1, unless_up_same (side_of old which).status x.0 old.pair a.has_room (side_of old which).side session request a.served a.serves)))
-      (reply session number request a.served.reply asked (outcome_true tells plans old.coordinator.archive old.sent (histories_of old) k.sound which (side_of old which).side refl (k.sides which).staged session number request a.served asked o))
+      (reply session number request a.served.reply asked (outcome_true plans old.coordinator.archive old.sent (histories_of old) k.sound which (side_of old which).side refl (k.sides which).staged session number request a.served asked o))
       a.result
   request_advances new (request_failed f) =
       side_advances plans old k which (record (side_of old which) { status = Halted; writing = Some f.event }) (Answers which session number (Refused Device) ∷ []) [] new (no_event refl) (k.sides which).staged
@@ -418,33 +418,33 @@ module _ (plans : Plans) (old : World) (k : IsKept plans old) (new : World) wher
   answer_advances from session number said c (ignored x e) = stays plans old new k e
   answer_advances from session number said c (coordinator_down d e) = stays plans old new k e
 
-  delivers_advances : SpellingsTell → (o : Option Message) → ((m : Message) → o ≡ Some m → Contains old.sent m) → Delivers old o new → Advances old new
-  delivers_advances tells None c e = stays plans old new k e
-  delivers_advances tells (Some (Asks to session number request)) c t = request_advances tells plans old k to session number request (c _ refl) new t
-  delivers_advances tells (Some (Answers from session number said)) c t = answer_advances from session number said (c _ refl) t
+  delivers_advances : (o : Option Message) → ((m : Message) → o ≡ Some m → Contains old.sent m) → Delivers old o new → Advances old new
+  delivers_advances None c e = stays plans old new k e
+  delivers_advances (Some (Asks to session number request)) c t = request_advances plans old k to session number request (c _ refl) new t
+  delivers_advances (Some (Answers from session number said)) c t = answer_advances from session number said (c _ refl) t
 
   was_sent : (n : ℕ) (m : Message) → slice_get old.sent n ≡ Some m → Contains old.sent m
   was_sent n m e = subst (Contains old.sent) (get_or_from_slice_get old.sent n m m e) (Contains-get_or old.sent n m (slice_get_within old.sent n m e))
 
   -- each step keeps the invariant, and its replacements are legal
-  pub step_advances : SpellingsTell → (step : Step) → Steps old step new → Advances old new
-  step_advances tells (Edits side user edit) g = edit_advances plans old k side user edit g.0 g.1 new g.2 g.3
-  step_advances tells Start (inl e) = stays plans old new k e
-  step_advances tells Start (inr g) = start_advances g
-  step_advances tells (Deliver message) g = delivers_advances tells (slice_get old.sent message) (was_sent message) g
-  step_advances tells Tick (inl e) = stays plans old new k e
-  step_advances tells Tick (inr g) = tick_with old.coordinator.running refl g
-  step_advances tells (Checkpoint machine) (inl e) = stays plans old new k e
-  step_advances tells (Checkpoint machine) (inr (inl e)) = halt_advances machine e
-  step_advances tells (Checkpoint machine) (inr (inr e)) = cut_advances machine e
-  step_advances tells (Fail machine call) e = stays plans old new k e
-  step_advances tells (Stop machine call) (inl e) = stays plans old new k e
-  step_advances tells (Stop machine call) (inr e) = cut_advances machine e
-  step_advances tells (Open machine) (inl e) = stays plans old new k e
-  step_advances tells (Open machine) (inr g) = opens_machine machine g.1
-  step_advances tells (Reopen machine) (inl e) = stays plans old new k e
-  step_advances tells (Reopen machine) (inr (up, inl g)) = opens_machine machine g
-  step_advances tells (Reopen machine) (inr (up, inr e)) = cut_advances machine e
+  pub step_advances : (step : Step) → Steps old step new → Advances old new
+  step_advances (Edits side user edit) g = edit_advances plans old k side user edit g.0 g.1 new g.2 g.3
+  step_advances Start (inl e) = stays plans old new k e
+  step_advances Start (inr g) = start_advances g
+  step_advances (Deliver message) g = delivers_advances (slice_get old.sent message) (was_sent message) g
+  step_advances Tick (inl e) = stays plans old new k e
+  step_advances Tick (inr g) = tick_with old.coordinator.running refl g
+  step_advances (Checkpoint machine) (inl e) = stays plans old new k e
+  step_advances (Checkpoint machine) (inr (inl e)) = halt_advances machine e
+  step_advances (Checkpoint machine) (inr (inr e)) = cut_advances machine e
+  step_advances (Fail machine call) e = stays plans old new k e
+  step_advances (Stop machine call) (inl e) = stays plans old new k e
+  step_advances (Stop machine call) (inr e) = cut_advances machine e
+  step_advances (Open machine) (inl e) = stays plans old new k e
+  step_advances (Open machine) (inr g) = opens_machine machine g.1
+  step_advances (Reopen machine) (inl e) = stays plans old new k e
+  step_advances (Reopen machine) (inr (up, inl g)) = opens_machine machine g
+  step_advances (Reopen machine) (inr (up, inr e)) = cut_advances machine e
 
 -- Whole runs
 
@@ -492,11 +492,11 @@ legal_extends before old new stands a all earlier later side token path since u 
           subst (λ s. IsLegal old.sent side s token path since u) at first.1
     ]))
 
-runs_legally : SpellingsTell → (before : Stores) (steps : List Step) (plans : Plans) (old new : World) → IsKept plans old → StandsFor before old → EachReplacementIsLegal before old → Runs old steps new → EachReplacementIsLegal before new
-runs_legally tells before [] plans old new k stands all e = subst (EachReplacementIsLegal before) (sym e) all
-runs_legally tells before (step ∷ steps) plans old new k stands all g =
-    let a = step_advances plans old k g.0 tells step g.1 in
-    runs_legally tells before steps a.plans g.0 new a.kept (step_stands before old step g.0 stands g.1) (legal_extends before old g.0 stands a all) g.2
+runs_legally : (before : Stores) (steps : List Step) (plans : Plans) (old new : World) → IsKept plans old → StandsFor before old → EachReplacementIsLegal before old → Runs old steps new → EachReplacementIsLegal before new
+runs_legally before [] plans old new k stands all e = subst (EachReplacementIsLegal before) (sym e) all
+runs_legally before (step ∷ steps) plans old new k stands all g =
+    let a = step_advances plans old k g.0 step g.1 in
+    runs_legally before steps a.plans g.0 new a.kept (step_stands before old step g.0 stands g.1) (legal_extends before old g.0 stands a all) g.2
 
 nothing_sent : (sent : Sent) (m : Message) → sent ≡ [] → Contains sent m → ⊥
 nothing_sent sent m e c = let d : Contains [] m = subst (λ s. Contains s m) e c in omega (arith, d.1)
@@ -541,14 +541,14 @@ start_stands old e = subst (λ acks. StandsFor (stores_of old) (record old { ack
 
 -- in every run each replacement is legal
 pub runs_replace_legally : RunsReplaceLegally
-runs_replace_legally tells old new steps s g = runs_legally tells (stores_of old) steps no_plans old new (start_kept old s) (start_stands old s.nothing_yet.1)
+runs_replace_legally old new steps s g = runs_legally (stores_of old) steps no_plans old new (start_kept old s) (start_stands old s.nothing_yet.1)
     (λ earlier later side token path since u e. absurd (not_nothing earlier later _ (sym s.nothing_yet.1 ∙ e))) g
 
 -- the invariant after a whole run
-pub run_kept : SpellingsTell → (steps : List Step) (plans : Plans) (old new : World) → IsKept plans old → Runs old steps new → (later : Plans) × IsKept later new
-run_kept tells [] plans old new k e = (plans, subst (IsKept plans) (sym e) k)
-run_kept tells (step ∷ steps) plans old new k g = let a = step_advances plans old k g.0 tells step g.1 in run_kept tells steps a.plans g.0 new a.kept g.2
+pub run_kept : (steps : List Step) (plans : Plans) (old new : World) → IsKept plans old → Runs old steps new → (later : Plans) × IsKept later new
+run_kept [] plans old new k e = (plans, subst (IsKept plans) (sym e) k)
+run_kept (step ∷ steps) plans old new k g = let a = step_advances plans old k g.0 step g.1 in run_kept steps a.plans g.0 new a.kept g.2
 
 pub runs_use_tokens_once : RunsUseTokensOnce
-runs_use_tokens_once tells old new steps s g side earlier later token path since u e =
-    token_once (histories_of new side) earlier later token path since u ((run_kept tells steps no_plans old new (start_kept old s) g).1.sound.lawful side) e
+runs_use_tokens_once old new steps s g side earlier later token path since u e =
+    token_once (histories_of new side) earlier later token path since u ((run_kept steps no_plans old new (start_kept old s) g).1.sound.lawful side) e

@@ -1,12 +1,12 @@
 -- A side adds only allowed events.
-use Rattle.std.proofs.Common.{◌≡◌, ◌<◌, ◌^◌, ℕ, Bool, true, false, not, ◌||◌, ◌&&◌, ◌==◌, nat_lt, nat_le, List, [], ◌∷◌, ◌++◌, length, take, drop, bytes_eq, if◌then◌else◌, refl, sym, ap, ◌∙◌, subst, Option, Some, None, true≢false, inl, inr, arith, append_assoc, append-nil, ◌+◌}
+use Rattle.std.proofs.Common.{◌≡◌, ◌<◌, ◌^◌, ℕ, Bool, true, false, not, ◌||◌, ◌&&◌, ◌==◌, nat_lt, nat_le, [], ◌∷◌, ◌++◌, length, take, drop, bytes_eq, if◌then◌else◌, refl, sym, ap, ◌∙◌, subst, Option, Some, None, true≢false, inl, inr, arith, ◌+◌}
 use Rattle.std.specs.Option.{option_map_or}
 use Rattle.std.proofs.lemmas.Bool.Decides.{nat_tests}
 use Rattle.syn_model.specs.Path.{Path, Bytes, IsPath}
 use Rattle.syn_model.specs.Tree.{Tree, IsPart, replace}
-use Rattle.syn_model.specs.Refusal.{Refusal, Cause, first_cause, OldSession, WrongPair, NotStaged, BadStage}
+use Rattle.syn_model.specs.Refusal.{Refusal, first_cause, OldSession, WrongPair, NotStaged, BadStage}
 use Rattle.syn_model.specs.Event.{Token, IsLawfulToken, is_below, is_same_token, Event, Began, Replaced}
-use Rattle.syn_model.specs.History.{History, tree_of, IsAllowed, AllAllowed, last_session, last_token, position_causes}
+use Rattle.syn_model.specs.History.{History, tree_of, IsAllowed, last_session, last_token, position_causes}
 use Rattle.syn_model.specs.Standing.{place_causes, full_causes}
 use Rattle.syn_headline.specs.Side.{Side, Served, Staging, Request, Begin, ListAt, Fetch, Stage, Replace, IsLawfulRequest, unless_refused, stage, stage_first, replace_with, replace_causes, since_causes, room_causes, is_dead_token, serve, token_of, Reads, is_staged, staged_bytes}
 use Rattle.syn_headline.specs.Laws.{AddsAllowed, ServesAllowed}

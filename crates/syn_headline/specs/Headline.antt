@@ -12,7 +12,6 @@ use Rattle.syn_headline.specs.Network.{Which, Left, Right, other, NumbersTell}
 use Rattle.syn_headline.specs.Acknowledged.{Ack, Happened, Kept_by, Stores, history_of, stores_after, Grown, ArchiveGrown, IsLegal}
 use Rattle.syn_headline.specs.Report.{Report, Complete}
 use Rattle.syn_headline.specs.Owed.{AsksNothingTwice, Waits}
-use Rattle.syn_headline.specs.Invariant.{SpellingsTell}
 use Rattle.syn_headline.specs.World.{World, Step, Runs, Up, side_of}
 
 abbrev pub stores_of : World → Stores
@@ -177,7 +176,7 @@ pub record Continues (before : Stores) (world : World) : Type 0 where
 
 -- In every run from a world that has just been opened, with stops and failing devices, each replacement is legal
 abbrev pub RunsReplaceLegally : Type 0
-RunsReplaceLegally = SpellingsTell → (old new : World) (steps : List Step) → IsStart old → Runs old steps new → EachReplacementIsLegal (stores_of old) new
+RunsReplaceLegally = (old new : World) (steps : List Step) → IsStart old → Runs old steps new → EachReplacementIsLegal (stores_of old) new
 
 abbrev pub RunsUseTokensOnce : Type 0
-RunsUseTokensOnce = SpellingsTell → (old new : World) (steps : List Step) → IsStart old → Runs old steps new → EachTokenOnce new
+RunsUseTokensOnce = (old new : World) (steps : List Step) → IsStart old → Runs old steps new → EachTokenOnce new

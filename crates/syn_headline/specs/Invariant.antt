@@ -1,8 +1,8 @@
 -- What each step of a run keeps.
 use Rattle.std.specs.Prelude.{ℕ, ◌≡◌, ◌≢◌, ◌≤◌, ◌⊎◌, true, false, List, [], length, take, drop, slice_get, Some, None, Contains, IfSome}
 use Rattle.syn_model.specs.Path.{Bytes, Name, Path}
-use Rattle.syn_model.specs.Tree.{Tree, Content, IsPart, IsTree, subtree}
-use Rattle.syn_model.specs.Limits.{children, fits_part, fits_replica}
+use Rattle.syn_model.specs.Tree.{Tree, Content, IsTree, subtree}
+use Rattle.syn_model.specs.Limits.{children, fits_replica}
 use Rattle.syn_model.specs.Spelling.{spelling}
 use Rattle.syn_model.specs.Mark.{mark}
 use Rattle.syn_model.specs.Event.{Token, Event, Edited, Began, Replaced}
@@ -139,7 +139,3 @@ pub record IsOfReplica (part : Tree) : Type 0 where
   pub tree : IsTree whole
   pub fits : fits_replica whole ≡ true
   pub part_is : part ≡ subtree whole path
-
--- one spelling has one tree, among those that fit
-abbrev pub SpellingsTell : Type 0
-SpellingsTell = (t u : Tree) → IsPart t → fits_part t ≡ true → IsOfReplica u → spelling t ≡ spelling u → t ≡ u

@@ -1,12 +1,12 @@
 -- Where a session's plan and what it stages come from: the listings and pieces that the sides answered.
-use Rattle.std.specs.Prelude.{ℕ, ◌≡◌, ◌≤◌, ◌⊎◌, true, false, List, [], ◌∷◌, ◌++◌, Contains, All}
+use Rattle.std.specs.Prelude.{ℕ, ◌≡◌, ◌≤◌, ◌⊎◌, true, false, List, [], Contains, All}
 use Rattle.syn_model.specs.Path.{Path, Name, parent, child}
 use Rattle.syn_model.specs.Tree.{Tree, IsTree, subtree, is_directory}
 use Rattle.syn_model.specs.Limits.{children}
 use Rattle.syn_model.specs.Dirty.{Scan}
 use Rattle.syn_headline.specs.Side.{Begin, ListAt, Fetch, Begun, Listed, NotDir, Piece}
 use Rattle.syn_headline.specs.Network.{Which, Left, Right, other, Sent, WasAnswered}
-use Rattle.syn_model.specs.Decision.{Item, path_of, IsReached, ToLeft, ToRight, MarkSame, MarkDir, Conflict, Decision, Clean, Do, DoAndGoOn, GoOn, decision, is_unstable}
+use Rattle.syn_model.specs.Decision.{Item, path_of, IsReached, ToLeft, ToRight, MarkSame, MarkDir, Conflict, Do, DoAndGoOn, decision, is_unstable}
 
 -- each directory of the scan was listed so at its position, after the directory above it, and each unstable path answered as no directory
 pub record IsScanOf (sent : Sent) (side : Which) (session : ℕ) (scan : Scan) (since : Path → ℕ) : Type 0 where

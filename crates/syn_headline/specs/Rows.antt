@@ -1,5 +1,5 @@
 -- Worked examples of what a side answers, which the definitions are to give.
-use Rattle.std.specs.Prelude.{ℕ, ◌≡◌, Bool, true, [], ◌∷◌, None}
+use Rattle.std.specs.Prelude.{◌≡◌, Bool, true, [], ◌∷◌, None}
 use Rattle.syn_model.specs.Path.{Bytes}
 use Rattle.syn_model.specs.Rows.{a_name}
 use Rattle.syn_model.specs.Refusal.{OldSession, NotStaged, BadStage, WrongPair}

@@ -1,5 +1,5 @@
 -- Histories leave trees within the limits.
-use Rattle.std.proofs.Common.{◌≡◌, ◌≤◌, ℕ, Bool, true, false, cond, not, ◌&&◌, nat_le, List, [], ◌∷◌, ◌++◌, length, refl, sym, ap, ◌∙◌, subst, Option, Some, None, append_assoc, append-nil, true≢false, arith}
+use Rattle.std.proofs.Common.{◌≡◌, ◌≤◌, Bool, true, false, cond, not, ◌&&◌, nat_le, List, [], ◌∷◌, ◌++◌, length, sym, ap, ◌∙◌, Some, None, append_assoc, append-nil}
 use Rattle.std.specs.Ordering.{eq_by_cmp}
 use Rattle.std.specs.List.{list_all}
 use Rattle.std.specs.FinMap.{find, entries, get, get-entries, len}
@@ -8,18 +8,15 @@ use Rattle.syn_model.specs.Path.{Path, path_cmp, root}
 use Rattle.syn_model.specs.Tree.{Tree, Content, Contents, Pair, File, contents_of, file, replace}
 use Rattle.syn_model.specs.Limits.{children, fits_content, fits_part, fits_paths, fits_replica, tree_spelling_length, greatest_spelling}
 use Rattle.syn_model.specs.Refusal.{Cause, first_cause, OldSession}
-use Rattle.syn_model.specs.Event.{Edit, Event, Edited, Began, Replaced, after_edit, after_event}
-use Rattle.syn_model.specs.History.{History, tree_of, position_causes, is_old_token, IsAllowed, AllAllowed, IsHistory}
+use Rattle.syn_model.specs.Event.{Event, Edited, Began, Replaced, after_edit, after_event}
+use Rattle.syn_model.specs.History.{History, tree_of, position_causes, is_old_token, IsAllowed, AllAllowed}
 use Rattle.syn_model.specs.Standing.{place_causes, edit_causes, full_causes}
 use Rattle.syn_model.specs.Laws.{HistoryFits, PutFits}
 use Rattle.syn_model.proofs.PathLemmas.{none_some, some_same}
+use Rattle.syn_model.proofs.DirtyLemmas.{both_true}
 use Rattle.syn_model.proofs.TreeLemmas.{get-subtree, subtree-replace}
 use Rattle.syn_model.proofs.ImageLemmas.{empty_fits}
 use Rattle.syn_model.proofs.HistoryLemmas.{get-at_root, first_cause-none, none-append, tree_of-append, not_true}
-
-both : (a b : Bool) → (a && b) ≡ true → (a ≡ true) × (b ≡ true)
-both true b e = (refl, e)
-both false b e = absurd (true≢false (sym e))
 
 -- what no cause of fullness refuses fits
 full_none : (t : Tree) (more : List Cause) → first_cause (full_causes t ++ more) ≡ None → fits_replica t ≡ true
@@ -28,7 +25,7 @@ full_none t more e = not_true (fits_replica t) (first_cause-none (not (fits_repl
 event_fits : (history : History) (event : Event) → fits_replica (tree_of history) ≡ true → IsAllowed history event → fits_replica (after_event (tree_of history) event) ≡ true
 event_fits history (Edited user edit) f h =
     full_none (after_edit (tree_of history) edit) (position_causes history)
-      (none-append (edit_causes (tree_of history) edit) (full_causes (after_edit (tree_of history) edit) ++ position_causes history) h.not_refused).1
+    (none-append (edit_causes (tree_of history) edit) (full_causes (after_edit (tree_of history) edit) ++ position_causes history) h.not_refused).1
 event_fits history (Began session) f h = f
 event_fits history (Replaced token p since new) f h =
     let rest = full_causes (replace (tree_of history) p new) ++ position_causes history in
@@ -53,7 +50,7 @@ history_fits history h = more_fits [] history start_fits h
 all_found : (f : Pair → Bool) (p : Path) (es : List Pair) (c : Content) → list_all f es ≡ true → find path_cmp p es ≡ Some c → (q : Path) × (f (q, c) ≡ true)
 all_found f p [] c h e = absurd (none_some e)
 all_found f p (x ∷ es) c h e =
-    let parts = both (f x) (list_all f es) h in
+    let parts = both_true (f x) (list_all f es) h in
     elim (eq_by_cmp path_cmp p x.0) as (λ b. cond b (Some x.1) (find path_cmp p es) ≡ Some c → (q : Path) × (f (q, c) ≡ true)) [
       | true ↦ λ same. (x.0, ap (λ d. f (x.0, d)) (sym (some_same same)) ∙ parts.0)
       | false ↦ λ rest. all_found f p es c parts.1 rest
@@ -62,14 +59,14 @@ all_found f p (x ∷ es) c h e =
 -- a tree that fits has no file that is longer than a file may be
 files_fit : (tree : Tree) (path : Path) (contents : Contents) → fits_replica tree ≡ true → get tree path ≡ Some (File contents) → length contents.bytes ≤ 16384
 files_fit tree path contents fits has =
-    let part = (both (nat_le (len tree) 1024 && nat_le (tree_spelling_length tree) greatest_spelling) (fits_part tree) (both _ (fits_paths tree) fits).0).1 in
+    let part = (both_true (nat_le (len tree) 1024 && nat_le (tree_spelling_length tree) greatest_spelling) (fits_part tree) (both_true _ (fits_paths tree) fits).0).1 in
     let found = all_found (λ pair. fits_content pair.1 && nat_le (length (children tree pair.0)) 256) path (entries tree) (File contents) part (sym (get-entries tree path) ∙ has) in
-    leb-true (length contents.bytes) 16384 (both (nat_le (length contents.bytes) 16384) (nat_le (length (children tree found.0)) 256) found.1).0
+    leb-true (length contents.bytes) 16384 (both_true (nat_le (length contents.bytes) 16384) (nat_le (length (children tree found.0)) 256) found.1).0
 
 -- and so no longer file was put into it
 pub put_fits : PutFits
 put_fits tree path bytes fits =
     files_fit (replace tree path (file bytes)) path (contents_of bytes) fits
-      (ap (λ p. get (replace tree path (file bytes)) p) (sym (append-nil path))
-      ∙ (sym (get-subtree (replace tree path (file bytes)) path root)
-      ∙ (ap (λ t. get t root) (subtree-replace tree path (file bytes)) ∙ get-at_root (File (contents_of bytes)) root)))
+    (ap (λ p. get (replace tree path (file bytes)) p) (sym (append-nil path))
+    ∙ (sym (get-subtree (replace tree path (file bytes)) path root)
+    ∙ (ap (λ t. get t root) (subtree-replace tree path (file bytes)) ∙ get-at_root (File (contents_of bytes)) root)))

@@ -1,16 +1,16 @@
 -- Images and payloads stand for histories.
-use Rattle.std.proofs.Common.{◌≡◌, ℕ, true, List, [], ◌∷◌, ◌++◌, map, fold, length, refl, sym, ap, ◌∙◌, subst, arith}
+use Rattle.std.proofs.Common.{◌≡◌, true, List, [], ◌∷◌, ◌++◌, fold, refl, sym, ap, ◌∙◌, subst, arith}
 use Rattle.std.proofs.lemmas.List.{map-append}
 use Rattle.std.proofs.lemmas.List.Sums.{fold-append}
 use Rattle.std.proofs.lemmas.List.Elements.{All-nil}
 use Rattle.std.specs.FinMap.{len-entries}
-use Rattle.syn_model.specs.Tree.{IsTree, Directory, empty_directory}
+use Rattle.syn_model.specs.Tree.{empty_directory}
 use Rattle.syn_model.specs.Limits.{fits_replica}
 use Rattle.syn_model.specs.Event.{Event}
 use Rattle.syn_model.specs.Standing.{Standing, new_standing, standing_after, IsAllowedAt, AllAllowedAt}
-use Rattle.syn_model.specs.History.{History, IsAllowed, tree_of, standing_of}
+use Rattle.syn_model.specs.History.{tree_of}
 use Rattle.syn_model.specs.Spelling.{event_spelling}
-use Rattle.syn_model.specs.Image.{IsStanding, Gives, StandsFor}
+use Rattle.syn_model.specs.Image.{IsStanding}
 use Rattle.syn_model.specs.Laws.{FormattedStands, PayloadGoesOn}
 use Rattle.syn_model.proofs.HistoryLemmas.{empty-is_tree, allowed_goes_on}
 use Rattle.syn_model.proofs.RowLemmas.{entries-at_root}

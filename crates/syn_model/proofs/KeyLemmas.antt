@@ -1,10 +1,10 @@
 -- The order of lawful paths is that of their keys.
-use Rattle.std.proofs.Common.{◌≡◌, ◌≢◌, ◌<◌, ℕ, List, [], ◌∷◌, ◌++◌, refl, sym, ap, ap₂, ◌∙◌, subst, append_assoc, arith, All, Ordering, Less, Equal, Greater}
+use Rattle.std.proofs.Common.{◌≡◌, ◌≢◌, ◌<◌, ℕ, [], ◌∷◌, ◌++◌, refl, sym, ap, ap₂, ◌∙◌, subst, append_assoc, arith, All, Ordering, Less, Equal, Greater}
 use Rattle.std.specs.Ordering.{nat_cmp, ordering_then}
 use Rattle.std.specs.Cmp.{nat_cmp_is}
 use Rattle.std.specs.Prelude.{Contains, slice_index_or}
 use Rattle.std.proofs.lemmas.List.Elements.{All-tail, All-head, Contains-get_or}
-use Rattle.syn_model.specs.Path.{Bytes, Name, Path, name_cmp, path_cmp, path_key, key_cmp, IsName, IsPath}
+use Rattle.syn_model.specs.Path.{Bytes, Name, Path, name_cmp, path_cmp, path_key, key_cmp, IsName}
 use Rattle.syn_model.specs.Laws.{PathsGoByKey}
 
 then_assoc : (a b c : Ordering) → ordering_then (ordering_then a b) c ≡ ordering_then a (ordering_then b c)

@@ -6,6 +6,8 @@ pub mod HistoryLemmas
 pub mod StandingLemmas
 pub mod ImageLemmas
 pub mod FitsLemmas
+pub mod SubtreeLemmas
+pub mod SpellingLemmas
 pub mod KeyLemmas
 pub mod MarkLemmas
 pub mod QuietLemmas

@@ -1,5 +1,5 @@
 -- Marks of trees, and what formatted disks stand for.
-use Rattle.std.proofs.Common.{◌≡◌, true, false, cond, List, [], ◌∷◌, ◌++◌, map, refl, sym, ap, ◌∙◌, Some, None, option_map, arith}
+use Rattle.std.proofs.Common.{◌≡◌, true, false, cond, List, [], ◌∷◌, ◌++◌, map, refl, sym, ap, ◌∙◌, Some, None, option_map}
 use Rattle.std.specs.Ordering.{eq_by_cmp}
 use Rattle.std.specs.FinMap.{find, entries, get, get-entries, get-from_entries}
 use Rattle.syn_model.specs.Path.{Path, path_cmp, root}
@@ -8,7 +8,7 @@ use Rattle.syn_model.specs.Mark.{mark, mark_of}
 use Rattle.syn_model.specs.History.{tree_of}
 use Rattle.syn_model.proofs.PathLemmas.{path_total}
 use Rattle.syn_model.proofs.TreeLemmas.{get-subtree, same_tree}
-use Rattle.syn_model.proofs.HistoryLemmas.{empty-is_tree, get-at_root}
+use Rattle.syn_model.proofs.HistoryLemmas.{get-at_root}
 
 find-marked : (q : Path) (es : List Pair) → find path_cmp q (map (λ e. (e.0, mark_of e.1)) es) ≡ option_map mark_of (find path_cmp q es)
 find-marked q [] = refl

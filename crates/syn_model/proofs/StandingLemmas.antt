@@ -1,12 +1,11 @@
 -- What an image keeps of a history goes on event by event.
-use Rattle.std.proofs.Common.{◌≡◌, ◌≤◌, ℕ, ◌+◌, ◌-◌, List, [], ◌∷◌, ◌++◌, length, take, drop, fold, refl, sym, ap, ◌∙◌, subst, append_assoc, append-nil, add-zero, zero-add, suc, None, arith}
+use Rattle.std.proofs.Common.{◌≡◌, ℕ, ◌+◌, ◌-◌, List, [], ◌∷◌, ◌++◌, length, take, drop, fold, sym, ap, ◌∙◌, subst, append_assoc, append-nil, add-zero, zero-add, suc, None, arith}
 use Rattle.std.proofs.lemmas.List.{length-append, length-drop, drop-drop, drop-append-le, take-append-le}
 use Rattle.std.proofs.lemmas.List.Sums.{fold-append}
 use Rattle.std.proofs.Math.Seq.{take-add}
-use Rattle.syn_model.specs.Tree.{empty_directory}
-use Rattle.syn_model.specs.Event.{Event, after_event}
-use Rattle.syn_model.specs.Standing.{Touch, Standing, most_touches, surplus, above_last, touches_at, session_after, token_after, standing_after, IsAllowedAt, AllAllowedAt}
-use Rattle.syn_model.specs.History.{History, tree_of, touches_from, last_session, last_token, floor, last_touches, standing_of, IsAllowed, AllAllowed}
+use Rattle.syn_model.specs.Event.{Event}
+use Rattle.syn_model.specs.Standing.{Touch, most_touches, surplus, above_last, touches_at, session_after, token_after, AllAllowedAt}
+use Rattle.syn_model.specs.History.{History, touches_from}
 use Rattle.syn_model.specs.Laws.{StandingSteps, StandingAllows}
 use Rattle.syn_model.proofs.HistoryLemmas.{tree_of-append}
 

@@ -1,5 +1,5 @@
 -- What a replica disk means: the image of a standing, and payloads that are events allowed in turn.
-use Rattle.std.specs.Prelude.{ℕ, ◌≡◌, ◌≤◌, ◌<◌, ◌^◌, true, List, [], ◌∷◌, ◌++◌, map, fold, flat_map, length, Option, Some, None, IfSome, All, AllPairs}
+use Rattle.std.specs.Prelude.{ℕ, ◌≡◌, ◌≤◌, ◌<◌, true, List, [], ◌∷◌, ◌++◌, map, fold, flat_map, length, Option, Some, None, IfSome, All, AllPairs}
 use Rattle.std.specs.Int.{to_be_bytes, w16, w64}
 use Rattle.syn_model.specs.Path.{Bytes, IsPath, path_spelling}
 use Rattle.syn_model.specs.Tree.{IsTree}

@@ -1,15 +1,15 @@
 -- What follows from the definitions, for the other crates to use.
-use Rattle.std.specs.Prelude.{ℕ, ◌≤◌, List, ◌↔◌, ◌≡◌, ◌⊎◌, Bool, true, false, [], ◌∷◌, ◌++◌, length, All}
+use Rattle.std.specs.Prelude.{ℕ, ◌≤◌, List, ◌↔◌, ◌≡◌, true, false, [], ◌∷◌, ◌++◌, length, All}
 use Rattle.std.specs.Option.{option_map_or, option_map}
 use Rattle.syn_model.specs.Mark.{mark, mark_of}
 use Rattle.std.specs.FinMap.{get}
 use Rattle.syn_model.specs.Path.{Bytes, Path, path_cmp, path_key, key_cmp, root, comparable, strip_prefix, IsName, IsPath}
 use Rattle.syn_model.specs.Tree.{Tree, IsPart, IsTree, StandsIn, subtree, replace}
-use Rattle.syn_model.specs.Limits.{fits_replica}
+use Rattle.syn_model.specs.Limits.{fits_part, fits_replica}
 use Rattle.syn_model.specs.Standing.{new_standing, standing_after, AllAllowedAt}
 use Rattle.syn_model.specs.History.{History, IsHistory, IsAllowed, AllAllowed, tree_of, standing_of}
 use Rattle.syn_model.specs.Event.{Event, Put, after_edit}
-use Rattle.syn_model.specs.Spelling.{event_spelling}
+use Rattle.syn_model.specs.Spelling.{content_spelling, spelling, event_spelling}
 use Rattle.syn_model.specs.Image.{image_spelling, StandsFor}
 use Rattle.syn_model.specs.Dirty.{Scan, Paths, dirty, IsClosedUpward, IsSafeEstimate}
 use Rattle.syn_model.specs.Reconcile.{IsSynchronization}
@@ -38,6 +38,21 @@ OthersStay = (tree : Tree) (at : Path) (new : Tree) (path : Path) → comparable
 -- a part put where it may stand leaves a part
 abbrev pub ReplacedIsPart : Type 0
 ReplacedIsPart = (tree : Tree) (at : Path) (new : Tree) → IsPart tree → IsPart new → StandsIn tree at → All IsName at → IsPart (replace tree at new)
+
+-- a subtree of a part is a part, and keeps its limits
+abbrev pub SubtreeIsPart : Type 0
+SubtreeIsPart = (tree : Tree) (at : Path) → IsPart tree → IsPart (subtree tree at)
+
+abbrev pub SubtreeFits : Type 0
+SubtreeFits = (tree : Tree) (at : Path) → fits_part tree ≡ true → fits_part (subtree tree at) ≡ true
+
+-- The spelling of a part is made of what stands at its root and the spellings of the parts below.
+abbrev pub SpellingUnfolds : Type 0
+SpellingUnfolds = (t : Tree) → spelling t ≡ content_spelling spelling t (get t root)
+
+-- No spelling of a part begins that of another, so that a spelling tells its part.
+abbrev pub NoSpellingBeginsAnother : Type 0
+NoSpellingBeginsAnother = (t u : Tree) (r s : Bytes) → IsPart t → IsPart u → fits_part t ≡ true → fits_part u ≡ true → spelling t ++ r ≡ spelling u ++ s → (t ≡ u) × (r ≡ s)
 
 -- the paths that a scan shows as dirty are a safe estimate, closed upward
 abbrev pub DirtyIsClosed : Type 0

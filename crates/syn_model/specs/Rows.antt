@@ -1,5 +1,5 @@
 -- Worked examples, which the definitions are to give.
-use Rattle.std.specs.Prelude.{◌≡◌, ◌≢◌, Bool, true, false, [], ◌∷◌, replicate, Some, None}
+use Rattle.std.specs.Prelude.{◌≡◌, ◌≢◌, true, false, [], ◌∷◌, replicate, Some, None}
 use Rattle.std.specs.FinMap.{get}
 use Rattle.syn_model.specs.Path.{Bytes, Name, root}
 use Rattle.syn_model.specs.Tree.{Tree, Contents, File, Directory, file, empty_directory, absent, replace}

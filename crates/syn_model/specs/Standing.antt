@@ -1,5 +1,5 @@
 -- What of a replica's history its image keeps, and why an event is refused there.
-use Rattle.std.specs.Prelude.{ℕ, ◌+◌, ◌-◌, ◌≡◌, Bool, true, false, not, ◌||◌, ◌==◌, nat_le, List, [], ◌∷◌, ◌++◌, length, take, drop, fold, Option, Some, None}
+use Rattle.std.specs.Prelude.{ℕ, ◌+◌, ◌-◌, ◌≡◌, Bool, false, not, ◌||◌, ◌==◌, nat_le, List, [], ◌∷◌, ◌++◌, length, take, drop, fold, Option, Some, None}
 use Rattle.std.specs.Option.{option_map_or}
 use Rattle.syn_model.specs.Path.{Path, is_root, parent}
 use Rattle.syn_model.specs.Tree.{Tree, empty_directory, is_directory, is_present, replace}

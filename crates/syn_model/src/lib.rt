@@ -1,7 +1,7 @@
 //! The definitions from path to plan that the other crates cite, and the laws that hold of them.
 #![tactic(auto)]
 
-ghost use Rattle.syn_model.specs.Laws.{SameAtEachPath, SubtreeHas, ReplacedHas, ReplacedIsThere, OthersStay, ReplacedIsPart, DirtyIsClosed, DirtyIsSafe, OneSynchronization, NothingToDo, HistoryIsTree, HistoryFits, PutFits, AllowedGoesOn, StandingSteps, StandingAllows, FormattedStands, PayloadGoesOn, PathsGoByKey, MarkHas, MarkOfSubtree};
+ghost use Rattle.syn_model.specs.Laws.{SameAtEachPath, SubtreeHas, ReplacedHas, ReplacedIsThere, OthersStay, ReplacedIsPart, SubtreeIsPart, SubtreeFits, SpellingUnfolds, NoSpellingBeginsAnother, DirtyIsClosed, DirtyIsSafe, OneSynchronization, NothingToDo, HistoryIsTree, HistoryFits, PutFits, AllowedGoesOn, StandingSteps, StandingAllows, FormattedStands, PayloadGoesOn, PathsGoByKey, MarkHas, MarkOfSubtree};
 ghost use Rattle.syn_model.specs.Plan.{NamesAreOnly, PlanIsInOrder, PlanIsOrderly, PlanIsDecided, PlanReconciles, PlanHasDecided, PlanOverwritesClean, ConflictsArePlanned, ItemFindsArchive, ItemFindsSides};
 ghost use Rattle.syn_model.specs.Rows.{ItemsOfOneNameHold, Floors, RefusedEditsHold, Spellings};
 
@@ -18,6 +18,14 @@ pub fn tree_laws()
     ensures there { ReplacedIsThere }
     ensures others { OthersStay }
     ensures part { ReplacedIsPart }
+    ensures below { SubtreeIsPart }
+    ensures fits { SubtreeFits }
+{}
+
+/// The spelling of a tree, or of a part of one, tells it.
+pub fn spelling_laws()
+    ensures unfolds { SpellingUnfolds }
+    ensures tells { NoSpellingBeginsAnother }
 {}
 
 /// Marks are taken path by path.
