@@ -3,23 +3,28 @@ use Rattle.std.proofs.Common.{◌≡◌, ◌≤◌, ℕ, Bool, true, false, not,
 use Rattle.std.specs.Prelude.{Contains}
 use Rattle.std.specs.FinMap.{get}
 use Rattle.syn_model.specs.Path.{Name, Path, parent, is_prefix, comparable}
-use Rattle.syn_model.specs.Tree.{Tree, IsTree, HasParents, Directory, empty_directory, subtree, replace, is_directory}
+use Rattle.syn_model.specs.Tree.{Tree, Content, IsTree, HasParents, Directory, empty_directory, subtree, replace, is_directory}
 use Rattle.syn_model.specs.Dirty.{Scan, dirty, is_same_tree}
 use Rattle.syn_model.specs.Reconcile.{is_directory_in_both}
 use Rattle.syn_model.specs.Decision.{Item, ToLeft, ToRight, MarkSame, MarkDir, Conflict, Decision, Do, DoAndGoOn, decision, is_unstable, path_of, GoesOn}
-use Rattle.syn_model.specs.History.{is_quiet, last_session}
-use Rattle.syn_model.specs.Archive.{Archive, Kept, Recorded, RecordedDir, after_kept}
+use Rattle.syn_model.specs.History.{History, tree_at, is_quiet, last_session}
+use Rattle.syn_model.specs.Archive.{Archive, Kept, Recorded, RecordedDir, after_kept, Held}
 use Rattle.syn_headline.specs.Side.{Replace, Reply, Done}
 use Rattle.syn_headline.specs.Network.{Which, Left, Right, other, Sent, Asks, Answers}
 use Rattle.syn_headline.specs.Planning.{Planned, seen_on, IsPlannedFrom, IsPlanOf, WritesTo}
 use Rattle.syn_headline.specs.World.{Running, Outstanding, outstanding, IsDue, done, same, directory}
-use Rattle.syn_headline.specs.Invariant.{Plans, Histories, IsSound, IsHarmless}
+use Rattle.syn_headline.specs.Invariant.{Plans, Histories, IsSound, HadMarks, IsHeldRecord, IsHarmless}
 use Rattle.syn_model.proofs.PathLemmas.{is_prefix-is, strip_prefix-append, some_same}
 use Rattle.syn_model.proofs.TreeLemmas.{get-subtree, same_tree, subtree-replace_other, within}
 use Rattle.syn_model.proofs.HistoryLemmas.{get-below_root}
 use Rattle.syn_model.proofs.QuietLemmas.{nothing_below}
 use Rattle.syn_headline.proofs.PlanLemmas.{IsDecided, decided_by, goes_on_at, writes_clean, writes_path, planned_is, fenced}
 use Rattle.syn_headline.proofs.SoundLemmas.{made}
+use Rattle.syn_headline.proofs.MoveLemmas.{on_both}
+use Rattle.syn_headline.proofs.HeldLemmas.{scan_held}
+use Rattle.syn_model.proofs.SyncLemmas.{directory_is}
+use Rattle.syn_model.proofs.DirtyLemmas.{both_true}
+use Rattle.syn_model.specs.Mark.{mark}
 
 -- of two comparable paths, which are one, or one lies above the other
 pub data Meets (q p : Path) : Type 0 where
@@ -66,6 +71,23 @@ mark_same false false c d e f g p q x = refl
 
 pub mark_same_is : (l r : Scan) (o : Tree) (p q : Path) → IsDecided (decision l r o p) (MarkSame q) → is_directory_in_both l.marks r.marks p ≡ false
 mark_same_is l r o p q d = mark_same (not (dirty l o p || dirty r o p)) (is_directory_in_both l.marks r.marks p) (is_unstable l p || is_unstable r p) (is_directory o p) (is_same_tree (subtree l.marks p) (subtree r.marks p)) (not (dirty r o p)) (not (dirty l o p)) p q d
+
+-- and a path that is marked as a directory is one of both
+mark_dir : (a b c d e f g : Bool) (p q : Path) → IsDecided (decided_by a b c d e f g p) (MarkDir q) → b ≡ true
+mark_dir true b c d e f g p q (inl x) = cc
+mark_dir true b c d e f g p q (inr x) = cc
+mark_dir false true c d e f g p q x = refl
+mark_dir false false c d true f g p q (inl x) = cc
+mark_dir false false c d true f g p q (inr x) = cc
+mark_dir false false c d false true g p q (inl x) = cc
+mark_dir false false c d false true g p q (inr x) = cc
+mark_dir false false c d false false true p q (inl x) = cc
+mark_dir false false c d false false true p q (inr x) = cc
+mark_dir false false c d false false false p q (inl x) = cc
+mark_dir false false c d false false false p q (inr x) = cc
+
+mark_dir_is : (l r : Scan) (o : Tree) (p q : Path) → IsDecided (decision l r o p) (MarkDir q) → is_directory_in_both l.marks r.marks p ≡ true
+mark_dir_is l r o p q d = mark_dir (not (dirty l o p || dirty r o p)) (is_directory_in_both l.marks r.marks p) (is_unstable l p || is_unstable r p) (is_directory o p) (is_same_tree (subtree l.marks p) (subtree r.marks p)) (not (dirty r o p)) (not (dirty l o p)) p q d
 
 -- nothing is reached below a path that is no directory of both
 not_reached : (scan : Which → Scan) (o : Tree) (p : Path) → is_directory_in_both (scan Left).marks (scan Right).marks p ≡ false → GoesOn (decision (scan Left) (scan Right) o p) → ⊥
@@ -137,16 +159,54 @@ module _ (plans : Plans) (histories : Histories) (archive : Archive) (sent : Sen
       let begun : last_session (histories side) ≤ archive.last_session = sound.begun side in
       omega (arith, current, fence, begun, last)
 
+  -- what a scan showed at an item's path was held there
+  seen_held : (item : ℕ) (due : Planned) → slice_get (plans running.session) item ≡ Some due → (side : Which) (rest : Path) (content : Content) → get (seen_on due side).marks rest ≡ Some content →
+      Held (histories side) (path_of due.item ++ rest) content
+  seen_held item due e side rest content at =
+      let is = made plans histories archive sent sound running.session item due e in
+      let due_is = planned_is is.1.scan is.1.since is.0 (plans running.session) item due is.1.items e in
+      scan_held plans histories archive sent sound side running.session (is.1.scan side) (is.1.since side) (is.1.scanned side) (path_of due.item ++ rest) content
+      (sym (get-subtree (is.1.scan side).marks (path_of due.item) rest) ∙ (ap (λ t. get t rest) (sym (due_is.seen side).0) ∙ at))
+
+  had_held : (history : History) (path : Path) (marks : Tree) → HadMarks history path marks → (rest : Path) (content : Content) → get marks rest ≡ Some content → Held history (path ++ rest) content
+  had_held history path marks h rest content at = (h.position, h.reached, sym (get-subtree (mark (tree_at history h.position)) path rest) ∙ (ap (λ t. get t rest) (sym h.had) ∙ at))
+
+  done_held : (from : Which) (number : ℕ) (item : ℕ) (path : Path) (since size : ℕ) (due : Planned) → Contains sent (Answers from running.session number Done) → Contains sent (Asks from running.session number (Replace item path since size)) →
+      slice_get (plans running.session) item ≡ Some due → WritesTo due.item from path → IsHeldRecord histories (Recorded path (seen_on due (other from)).marks)
+  done_held from number item path since size due answered asked e w rest content at side =
+      let here = had_held (histories from) path (seen_on due (other from)).marks (sound.borne from running.session number Done (Replace item path since size) answered asked due e) rest content at in
+      let there = subst (λ p. Held (histories (other from)) (p ++ rest) content) (writes_path due.item from path w) (seen_held item due e (other from) rest content at) in
+      on_both (λ s. Held (histories s) (path ++ rest) content) from here there side
+
+  same_held : (item : ℕ) (path : Path) (due : Planned) → slice_get (plans running.session) item ≡ Some due → due.item ≡ MarkSame path → due.left.marks ≡ due.right.marks → IsHeldRecord histories (Recorded path due.left.marks)
+  same_held item path due e kind alike rest content at side =
+      subst (λ p. Held (histories side) (p ++ rest) content) (ap path_of kind) (elim side as (λ s. Held (histories s) (path_of due.item ++ rest) content) [
+        | Left ↦ seen_held item due e Left rest content at
+        | Right ↦ seen_held item due e Right rest content (ap (λ t. get t rest) (sym alike) ∙ at)
+      ])
+
+  directory_held : (item : ℕ) (path : Path) (due : Planned) → slice_get (plans running.session) item ≡ Some due → due.item ≡ MarkDir path → IsHeldRecord histories (RecordedDir path)
+  directory_held item path due e kind side =
+      let is = made plans histories archive sent sound running.session item due e in
+      let due_is = planned_is is.1.scan is.1.since is.0 (plans running.session) item due is.1.items e in
+      let both = mark_dir_is (is.1.scan Left) (is.1.scan Right) is.0 (path_of due.item) path (subst (IsDecided (decision (is.1.scan Left) (is.1.scan Right) is.0 (path_of due.item))) kind due_is.decided) in
+      let each = both_true (is_directory (is.1.scan Left).marks (path_of due.item)) (is_directory (is.1.scan Right).marks (path_of due.item)) both in
+      let there : is_directory (is.1.scan side).marks (path_of due.item) ≡ true = elim side as (λ s. is_directory (is.1.scan s).marks (path_of due.item) ≡ true) [ Left ↦ each.0 | Right ↦ each.1 ] in
+      subst (λ p. Held (histories side) p Directory) (ap path_of kind)
+      (scan_held plans histories archive sent sound side running.session (is.1.scan side) (is.1.since side) (is.1.scanned side) (path_of due.item) Directory (directory_is (get (is.1.scan side).marks (path_of due.item)) there))
+
   -- what is recorded as an item is done
   done_harmless : (from : Which) (number : ℕ) (item : ℕ) (path : Path) (since size : ℕ) (due : Planned) → Contains sent (Answers from running.session number Done) → Contains sent (Asks from running.session number (Replace item path since size)) →
-      slice_get (plans running.session) item ≡ Some due → WritesTo due.item from path → (marks : Tree) → IsHarmless plans histories (Recorded path marks)
-  done_harmless from number item q since size due answered asked e w marks =
+      slice_get (plans running.session) item ≡ Some due → WritesTo due.item from path → IsHarmless plans histories (Recorded path (seen_on due (other from)).marks)
+  done_harmless from number item q since size due answered asked e w =
       let is = made plans histories archive sent sound running.session item due e in
       let touched = (sound.answered from running.session number Done (Replace item q since size) answered asked).1 in
       let by_plan = (sound.asked from running.session number (Replace item q since size) asked).by_plan in
       let same_due : by_plan.0 ≡ due = some_same (sym by_plan.1 ∙ e) in
       let since_is : since ≡ (seen_on due from).since = by_plan.3 ∙ ap (λ d. (seen_on d from).since) same_due in
+      let marks = (seen_on due (other from)).marks in
       record {
+        held = done_held from number item q since size due answered asked e w;
         leaves = λ session j planned side p ej wp current quiet a tree can.
             let here : session ≡ running.session = of_running is.0 is.1 side session current in
             let ej' = ap (λ n. slice_get (plans n) j) (sym here) ∙ ej in
@@ -171,10 +231,12 @@ module _ (plans : Plans) (histories : Histories) (archive : Archive) (sent : Sen
             ] refl;
       }
 
-  same_harmless : (item : ℕ) (path : Path) (due : Planned) → slice_get (plans running.session) item ≡ Some due → due.item ≡ MarkSame path → (marks : Tree) → IsHarmless plans histories (Recorded path marks)
-  same_harmless item q due e kind marks =
+  same_harmless : (item : ℕ) (path : Path) (due : Planned) → slice_get (plans running.session) item ≡ Some due → due.item ≡ MarkSame path → due.left.marks ≡ due.right.marks → IsHarmless plans histories (Recorded path due.left.marks)
+  same_harmless item q due e kind alike =
       let is = made plans histories archive sent sound running.session item due e in
+      let marks = due.left.marks in
       record {
+        held = same_held item q due e kind alike;
         leaves = λ session j planned side p ej wp current quiet a tree can.
             let here : session ≡ running.session = of_running is.0 is.1 side session current in
             let ej' = ap (λ n. slice_get (plans n) j) (sym here) ∙ ej in
@@ -197,6 +259,7 @@ module _ (plans : Plans) (histories : Histories) (archive : Archive) (sent : Sen
   directory_harmless item q due e kind =
       let is = made plans histories archive sent sound running.session item due e in
       record {
+        held = directory_held item q due e kind;
         leaves = λ session j planned side p ej wp current quiet a tree can.
             let here : session ≡ running.session = of_running is.0 is.1 side session current in
             let ej' = ap (λ n. slice_get (plans n) j) (sym here) ∙ ej in
@@ -220,6 +283,6 @@ module _ (plans : Plans) (histories : Histories) (archive : Archive) (sent : Sen
       IsDue running plan from reply kept → IsHarmless plans histories kept
   due_harmless plan has from number reply _ answered waits (done waiting item path since size planned is_done out asks e w) =
       done_harmless from number item path since size planned (subst (λ r. Contains sent (Answers from running.session number r)) is_done answered)
-      (subst (λ r. Contains sent (Asks from running.session number r)) asks (waits waiting out)) (ap (λ x. slice_get x item) has ∙ e) w (seen_on planned (other from)).marks
-  due_harmless plan has from number reply _ answered waits (same item path planned e kind alike) = same_harmless item path planned (ap (λ x. slice_get x item) has ∙ e) kind planned.left.marks
+      (subst (λ r. Contains sent (Asks from running.session number r)) asks (waits waiting out)) (ap (λ x. slice_get x item) has ∙ e) w
+  due_harmless plan has from number reply _ answered waits (same item path planned e kind alike) = same_harmless item path planned (ap (λ x. slice_get x item) has ∙ e) kind alike
   due_harmless plan has from number reply _ answered waits (directory item path planned e kind) = directory_harmless item path planned (ap (λ x. slice_get x item) has ∙ e) kind

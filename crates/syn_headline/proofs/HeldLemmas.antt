@@ -22,31 +22,8 @@ use Rattle.syn_model.proofs.TreeLemmas.{get-replace}
 use Rattle.syn_model.proofs.MarkLemmas.{get-mark}
 use Rattle.syn_model.proofs.DirtyLemmas.{both_true}
 use Rattle.syn_model.proofs.QuietLemmas.{get-children, same_child}
-use Rattle.syn_headline.proofs.PlanLemmas.{last_name}
+use Rattle.syn_headline.proofs.PlanLemmas.{last_name, found_unstable}
 use Rattle.syn_headline.proofs.MoveLemmas.{tree_at_is_tree}
-
--- prefixes both ways are one path
-both_ways : (p q : Path) → is_prefix p q ≡ true → is_prefix q p ≡ true → p ≡ q
-both_ways [] [] h k = refl
-both_ways [] (m ∷ q) h k = absurd (true≢false (sym k))
-both_ways (n ∷ p) [] h k = absurd (true≢false (sym h))
-both_ways (n ∷ p) (m ∷ q) h k =
-    elim (eq_by_cmp name_cmp n m) as (λ b. eq_by_cmp name_cmp n m ≡ b → is_some (if b then strip_prefix p q else None) ≡ true → n ∷ p ≡ m ∷ q) [
-      | false ↦ λ _ x. absurd (true≢false (sym x))
-      | true ↦ λ y x.
-          let heads = same_name n m y in
-          let back : is_prefix (n ∷ q) (n ∷ p) ≡ true = ap (λ w. is_prefix (w ∷ q) (n ∷ p)) heads ∙ k in
-          ap₂ (λ w ws. w ∷ ws) heads (both_ways p q x (sym (ap (λ b. is_some (if b then strip_prefix q p else None)) (name_itself n)) ∙ back))
-    ] refl h
-
--- an unstable path is one that was answered so
-found_unstable : (p : Path) (us : List Path) → list_any (λ other. is_prefix p other && is_prefix other p) us ≡ true → Contains us p
-found_unstable p [] e = absurd (true≢false (sym e))
-found_unstable p (u ∷ us) e =
-    elim (is_prefix p u && is_prefix u p) as (λ b. (is_prefix p u && is_prefix u p) ≡ b → (b || list_any (λ other. is_prefix p other && is_prefix other p) us) ≡ true → Contains (u ∷ us) p) [
-      | true ↦ λ y _. let both = both_true (is_prefix p u) (is_prefix u p) y in (0, omega arith, sym (both_ways p u both.0 both.1))
-      | false ↦ λ _ rest. let c = found_unstable p us rest in (suc c.0, omega (arith, c.1), c.2)
-    ] refl e
 
 module _ (plans : Plans) (histories : Histories) (archive : Archive) (sent : Sent) (sound : IsSound plans histories archive sent) (side : Which) (session : ℕ) (scan : Scan) (since : Path → ℕ) (is : IsScanOf sent side session scan since) where
   nothing_unstable : (a : Path) (n : Name) (x : Content) → is_unstable scan a ≡ true → get scan.marks (child a n) ≡ Some x → ⊥
@@ -75,10 +52,3 @@ module _ (plans : Plans) (histories : Histories) (archive : Archive) (sent : Sen
   scan_held (n ∷ p) x e =
       let split = last_name n p in
       subst (λ q. Held (histories side) q x) (sym split.2) (child_held split.0 split.1 x (ap (get scan.marks) (sym split.2) ∙ e))
-
--- an entry of an archive that recorded a part is of that part, or was there before
-pub recorded_entry : (marks : Tree) (at : Path) (new : Tree) (p : Path) (x : Content) → get (replace marks at new) p ≡ Some x → ((rest : Path) × (p ≡ at ++ rest) × (get new rest ≡ Some x)) ⊎ (get marks p ≡ Some x)
-recorded_entry marks at new p x e = elim (strip_prefix at p) as (λ o. strip_prefix at p ≡ o → ((rest : Path) × (p ≡ at ++ rest) × (get new rest ≡ Some x)) ⊎ (get marks p ≡ Some x)) [
-  | None ↦ λ none. inr (sym (ap (λ o. option_map_or (λ r. get new r) o (get marks p)) none) ∙ (sym (get-replace marks at new p) ∙ e))
-  | Some rest ↦ λ some. inl (rest, strip_prefix-is at p rest some, sym (ap (λ o. option_map_or (λ r. get new r) o (get marks p)) some) ∙ (sym (get-replace marks at new p) ∙ e))
-] refl

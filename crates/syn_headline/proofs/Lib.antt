@@ -4,6 +4,7 @@ pub mod SideLemmas
 pub mod FormattedLemmas
 pub mod PlanLemmas
 pub mod SoundLemmas
+pub mod HeldLemmas
 pub mod HarmlessLemmas
 pub mod OutcomeLemmas
 pub mod SpellingLemmas
@@ -11,4 +12,4 @@ pub mod MoveLemmas
 pub mod StepLemmas
 pub mod TokenLemmas
 pub mod RunLemmas
-pub mod HeldLemmas
+pub mod ArchiveLemmas

@@ -10,7 +10,7 @@ use Rattle.std.proofs.lemmas.Bool.Decides.{nat_tests}
 use Rattle.std.proofs.lemmas.List.{length-append, take-append-drop}
 use Rattle.std.proofs.Math.Seq.{take-append_seam, take-length}
 use Rattle.syn_model.specs.Path.{Name, Bytes, Path, parent, comparable, is_prefix, strip_prefix}
-use Rattle.syn_model.specs.Tree.{Tree, IsTree, subtree, replace, Content, Pair, Directory, empty_directory}
+use Rattle.syn_model.specs.Tree.{Tree, is_directory, IsTree, subtree, replace, Content, Pair, Directory, empty_directory}
 use Rattle.syn_model.specs.Limits.{children, fits_replica, only_name, last_name_spelling_length, content_spelling_length, fits_content, fits_path}
 use Rattle.syn_model.specs.Mark.{mark}
 use Rattle.syn_model.specs.Spelling.{spelling}
@@ -23,17 +23,18 @@ use Rattle.syn_headline.specs.Side.{Side, Served, Staging, Request, Begin, ListA
 use Rattle.syn_headline.specs.Network.{Which, Left, Right, other, Sent, Asks}
 use Rattle.syn_model.specs.Decision.{path_of}
 use Rattle.syn_headline.specs.Planning.{Planned, seen_on, WritesTo}
-use Rattle.syn_headline.specs.Invariant.{Plans, Histories, IsSound, IsTrue, IsTruePiece, IsSoundStaging, IsSoundReplacement, IsSoundEvent, source_of, part_at}
+use Rattle.syn_headline.specs.Invariant.{Plans, Histories, IsSound, IsTrue, IsBorne, HadMarks, IsSpent, IsTruePiece, IsSoundStaging, IsSoundReplacement, IsSoundEvent, source_of, part_at}
 use Rattle.syn_model.proofs.PathLemmas.{some_same, strip_prefix-append}
 use Rattle.syn_headline.proofs.SpellingLemmas.{spellings_tell}
 use Rattle.syn_model.proofs.HistoryLemmas.{history-is_tree, first_cause-none, tree_of-append, none-append}
 use Rattle.syn_model.proofs.DirtyLemmas.{both_true, both_false}
 use Rattle.syn_model.proofs.QuietLemmas.{quiet_before, quiet_same}
-use Rattle.syn_headline.proofs.PlanLemmas.{writes_path, since_reached, writes_of, parent-child}
+use Rattle.syn_headline.proofs.PlanLemmas.{writes_path, since_reached, seen_is, writes_of, parent-child}
 use Rattle.syn_model.proofs.MarkLemmas.{mark-subtree}
+use Rattle.syn_model.proofs.TreeLemmas.{subtree-replace}
 use Rattle.syn_model.specs.Refusal.{Refusal, OldSession, Full, Cause, first_cause}
 use Rattle.syn_headline.specs.Acknowledged.{Stores, history_of, WasListed, IsLegal}
-use Rattle.syn_headline.proofs.SoundLemmas.{fold_one, made, extends, length_grows, part_at_stays, still_touched, sound-grow}
+use Rattle.syn_headline.proofs.SoundLemmas.{fold_one, had-grow, made, extends, length_grows, part_at_stays, still_touched, sound-grow}
 use Rattle.syn_headline.proofs.OutcomeLemmas.{Outcome, refuses, begins_again, begins, lists, lists_none, fetches, stages_first, stages_more, stages_again, done_again, replaces}
 
 pub on_both : (P : Which → Type 0) (side : Which) → P side → P (other side) → (s : Which) → P s
@@ -69,6 +70,18 @@ touched_now history event since p h t =
       | true ↦ λ q. absurd (true≢false (sym (both_true (not (touches event p)) true (quiet_before history (event ∷ []) since p h q).1).0 ∙ ap not t))
     ] refl
 
+-- what is put at a path is there then
+put_there : (history : History) (token : Token) (path : Path) (since : ℕ) (u : Tree) → mark u ≡ subtree (mark (tree_at (history ++ Replaced token path since u ∷ []) (length history + 1))) path
+put_there history token path since u =
+    let event = Replaced token path since u in
+    let whole : take (length history + 1) (history ++ event ∷ []) ≡ history ++ event ∷ [] = ap (λ n. take n (history ++ event ∷ [])) (sym (length-append history (event ∷ []))) ∙ take-length (history ++ event ∷ []) in
+    ap mark (sym (subtree-replace (tree_of history) path u) ∙ ap (λ t. subtree t path) (sym (tree_of-append history (event ∷ [])) ∙ ap tree_of (sym whole)))
+    ∙ mark-subtree (tree_at (history ++ event ∷ []) (length history + 1)) path
+
+pub other_twice : (side : Which) → other (other side) ≡ side
+other_twice Left = refl
+other_twice Right = refl
+
 -- a side's history stays, or has one more event that its session's plan asks for; the other's stays
 pub record Moves (plans : Plans) (archive : Archive) (old new : Histories) (side : Which) : Type 0 where
   pub here : (new side ≡ old side) ⊎ ((event : Event) × IsAllowed (old side) event × IsSoundEvent plans old archive side event × (new side ≡ old side ++ event ∷ []))
@@ -88,14 +101,18 @@ module _ (plans : Plans) (archive : Archive) (sent : Sent) (old new : Histories)
 
   -- where the last token is that of an event before, its path is still touched
   used_before : (event : Event) → IsAllowed (old side) event → (token : Token) (planned : Planned) (path : Path) → last_token (old side) ≡ Some token → slice_get (plans token.session) token.item ≡ Some planned → WritesTo planned.item side path →
-      is_quiet (old side ++ event ∷ []) (seen_on planned side).since (length (old side ++ event ∷ [])) path ≡ false
+      IsSpent (old side ++ event ∷ []) path (seen_on planned side).since (seen_on planned (other side)).marks
   used_before event a token planned path last e w =
       let is = made plans old archive sent sound token.session token.item planned e in
-      still_touched (old side) (old side ++ event ∷ []) (event ∷ [], refl) (seen_on planned side).since path
-      (since_reached plans old archive sent sound token.session is.0 (plans token.session) is.1 token.item planned side path e w side) (sound.used side token planned path last e w)
+      let was = sound.used side token planned path last e w in
+      record {
+        touched = still_touched (old side) (old side ++ event ∷ []) (event ∷ [], refl) (seen_on planned side).since path
+            (since_reached plans old archive sent sound token.session is.0 (plans token.session) is.1 token.item planned side path e w side) was.touched;
+        put = had-grow (old side) (old side ++ event ∷ []) (event ∷ [], refl) path (seen_on planned (other side)).marks was.put;
+      }
 
   used_after : (event : Event) → IsAllowed (old side) event → IsSoundEvent plans old archive side event → (token : Token) (planned : Planned) (path : Path) → token_after (last_token (old side)) event ≡ Some token →
-      slice_get (plans token.session) token.item ≡ Some planned → WritesTo planned.item side path → is_quiet (old side ++ event ∷ []) (seen_on planned side).since (length (old side ++ event ∷ [])) path ≡ false
+      slice_get (plans token.session) token.item ≡ Some planned → WritesTo planned.item side path → IsSpent (old side ++ event ∷ []) path (seen_on planned side).since (seen_on planned (other side)).marks
   used_after (Edited user edit) a s token planned path last e w = used_before (Edited user edit) a token planned path last e w
   used_after (Began session) a s token planned path last e w = used_before (Began session) a token planned path last e w
   used_after (Replaced token' path' since u) a s token planned path last e w =
@@ -103,7 +120,15 @@ module _ (plans : Plans) (archive : Archive) (sent : Sent) (old new : Histories)
       let planned_is : s.planned ≡ planned = some_same (sym s.item ∙ (ap (λ t. slice_get (plans t.session) t.item) token_is ∙ e)) in
       let path_is : path' ≡ path = sym (writes_path s.planned.item side path' s.writes) ∙ (ap (λ d. path_of d.item) planned_is ∙ writes_path planned.item side path w) in
       let since_is : since ≡ (seen_on planned side).since = s.listed ∙ ap (λ d. (seen_on d side).since) planned_is in
-      touched_now (old side) (Replaced token' path' since u) (seen_on planned side).since path (subst (λ k. k ≤ length (old side)) since_is s.within) (ap (λ q. comparable q path) path_is ∙ path_meets_itself path)
+      record {
+        touched = touched_now (old side) (Replaced token' path' since u) (seen_on planned side).since path (subst (λ k. k ≤ length (old side)) since_is s.within) (ap (λ q. comparable q path) path_is ∙ path_meets_itself path);
+        put = record {
+          position = length (old side) + 1;
+          reached = omega (arith, length-append (old side) (Replaced token' path' since u ∷ []));
+          had = ap (λ d. (seen_on d (other side)).marks) (sym planned_is) ∙ (s.carries ∙ (put_there (old side) token' path' since u
+              ∙ ap (λ q. subtree (mark (tree_at (old side ++ Replaced token' path' since u ∷ []) (length (old side) + 1))) q) path_is));
+        };
+      }
 
   begun_below : last_session (new side) ≤ archive.last_session
   begun_below = elim m.here as (λ _. last_session (new side) ≤ archive.last_session) [
@@ -112,18 +137,18 @@ module _ (plans : Plans) (archive : Archive) (sent : Sent) (old new : Histories)
   ]
 
   used_here : (token : Token) (planned : Planned) (path : Path) → last_token (new side) ≡ Some token → slice_get (plans token.session) token.item ≡ Some planned → WritesTo planned.item side path →
-      is_quiet (new side) (seen_on planned side).since (length (new side)) path ≡ false
-  used_here token planned path last e w = elim m.here as (λ _. is_quiet (new side) (seen_on planned side).since (length (new side)) path ≡ false) [
-    | inl same ↦ subst (λ h. is_quiet h (seen_on planned side).since (length h) path ≡ false) (sym same) (sound.used side token planned path (ap last_token (sym same) ∙ last) e w)
-    | inr a ↦ subst (λ h. is_quiet h (seen_on planned side).since (length h) path ≡ false) (sym a.3) (used_after a.0 a.1 a.2 token planned path (sym (token_one None (old side) a.0) ∙ (ap last_token (sym a.3) ∙ last)) e w)
+      IsSpent (new side) path (seen_on planned side).since (seen_on planned (other side)).marks
+  used_here token planned path last e w = elim m.here as (λ _. IsSpent (new side) path (seen_on planned side).since (seen_on planned (other side)).marks) [
+    | inl same ↦ subst (λ h. IsSpent h path (seen_on planned side).since (seen_on planned (other side)).marks) (sym same) (sound.used side token planned path (ap last_token (sym same) ∙ last) e w)
+    | inr a ↦ subst (λ h. IsSpent h path (seen_on planned side).since (seen_on planned (other side)).marks) (sym a.3) (used_after a.0 a.1 a.2 token planned path (sym (token_one None (old side) a.0) ∙ (ap last_token (sym a.3) ∙ last)) e w)
   ]
 
   pub sound_moves : IsSound plans new archive sent
   sound_moves = sound-grow plans old new archive sent sound (moves_grow plans archive old new side m)
       (on_both (λ s. last_session (new s) ≤ archive.last_session) side begun_below (subst (λ h. last_session h ≤ archive.last_session) (sym m.there) (sound.begun (other side))))
       (on_both (λ s. (token : Token) (planned : Planned) (path : Path) → last_token (new s) ≡ Some token → slice_get (plans token.session) token.item ≡ Some planned → WritesTo planned.item s path →
-      is_quiet (new s) (seen_on planned s).since (length (new s)) path ≡ false) side used_here
-      (λ token planned path last e w. subst (λ h. is_quiet h (seen_on planned (other side)).since (length h) path ≡ false) (sym m.there)
+      IsSpent (new s) path (seen_on planned s).since (seen_on planned (other s)).marks) side used_here
+      (λ token planned path last e w. subst (λ h. IsSpent h path (seen_on planned (other side)).since (seen_on planned (other (other side))).marks) (sym m.there)
       (sound.used (other side) token planned path (ap last_token (sym m.there) ∙ last) e w)))
 
 -- What is staged
@@ -172,6 +197,7 @@ replacement-grow plans old new side token path since u stays grows h =
       quiet = ap (λ w. is_quiet w since (length w) path) stays ∙ h.quiet;
       reached = omega (arith, r, longer);
       whole = h.whole ∙ sym (part_at_stays (old (other side)) (new (other side)) x (seen_on h.planned (other side)).since (path_of h.planned.item) r);
+      carries = h.carries;
     }
 
 all_front : (start xs ys : History) → AllAllowed start (xs ++ ys) → AllAllowed start xs
@@ -222,6 +248,13 @@ tree_at_fits history k h = more_fits [] (take k history) empty_fits (all_front [
 
 -- A request
 
+pub refused_borne : (plan : List Planned) (history : History) (from : Which) (request : Request) (reason : Refusal) → IsBorne plan history from request (Refused reason)
+refused_borne plan history from (Begin pair) reason = tt
+refused_borne plan history from (ListAt path) reason = tt
+refused_borne plan history from (Fetch path since offset) reason = tt
+refused_borne plan history from (Stage item offset bytes) reason = tt
+refused_borne plan history from (Replace item path since size) reason = tt
+
 module _ (plans : Plans) (archive : Archive) (sent : Sent) (histories : Histories) (sound : IsSound plans histories archive sent) (which : Which) (side : Side) (same : side.history ≡ histories which)
     (staged : IfSome side.staging (IsSoundStaging plans histories which)) (session number : ℕ) where
   staged_is : (o : Option Staging) (token : Token) → IfSome o (IsSoundStaging plans histories which) → is_staged o token ≡ true → (staging : Staging) × IsSoundStaging plans histories which staging × (staging.token ≡ token) × (staged_bytes o ≡ staging.bytes)
@@ -244,6 +277,18 @@ module _ (plans : Plans) (archive : Archive) (sent : Sent) (histories : Historie
       let begins : st.0.bytes ≡ take (length st.0.bytes) whole = st.1.begins ∙ ap (λ d. take (length st.0.bytes) (spelling (source_of histories which d))) same_planned in
       let full : length st.0.bytes ≡ length whole = ap length (sym st.3) ∙ (long ∙ true_piece.whole) in
       let bytes_are : st.0.bytes ≡ whole = begins ∙ (ap (λ k. take k whole) full ∙ take-length whole) in
+      let new_is : new ≡ source_of histories which planned = spellings_tell new (source_of histories which planned) reads.0 reads.1
+          (record {
+            whole = tree_at (histories (other which)) (seen_on planned (other which)).since;
+            path = path_of planned.item;
+            tree = tree_at_is_tree (histories (other which)) (seen_on planned (other which)).since (sound.lawful (other which));
+            fits = tree_at_fits (histories (other which)) (seen_on planned (other which)).since (sound.lawful (other which));
+            part_is = refl;
+          })
+          (reads.3 ∙ (st.3 ∙ bytes_are)) in
+      let to_path : WritesTo planned.item (other (other which)) (path_of planned.item) =
+          subst (λ s. WritesTo planned.item s (path_of planned.item)) (sym (other_twice which)) (subst (WritesTo planned.item which) (sym (writes_path planned.item which path by_plan.2)) by_plan.2) in
+      let borne = sound.borne (other which) session piece.number (Piece size by_plan.4.1) (Fetch (path_of planned.item) (seen_on planned (other which)).since by_plan.4.0) piece.answered piece.asked in
       record {
         planned = planned;
         item = by_plan.1;
@@ -252,15 +297,8 @@ module _ (plans : Plans) (archive : Archive) (sent : Sent) (histories : Historie
         within = subst (λ h. since ≤ length h) same within;
         quiet = ap (λ h. is_quiet h since (length h) path) (sym same) ∙ quiet;
         reached = true_piece.reached;
-        whole = spellings_tell new (source_of histories which planned) reads.0 reads.1
-            (record {
-              whole = tree_at (histories (other which)) (seen_on planned (other which)).since;
-              path = path_of planned.item;
-              tree = tree_at_is_tree (histories (other which)) (seen_on planned (other which)).since (sound.lawful (other which));
-              fits = tree_at_fits (histories (other which)) (seen_on planned (other which)).since (sound.lawful (other which));
-              part_is = refl;
-            })
-            (reads.2 ∙ (st.3 ∙ bytes_are));
+        whole = new_is;
+        carries = borne item planned by_plan.1 to_path refl ∙ ap mark (sym new_is);
       }
 
   -- the events that it adds are asked for
@@ -270,7 +308,7 @@ module _ (plans : Plans) (archive : Archive) (sent : Sent) (histories : Historie
   outcome_moves _ served asked (begins_again pair e) = inl refl
   outcome_moves _ served asked (begins pair a) = inr (Began session, a, (sound.asked which session number (Begin pair) asked).session_kept, refl)
   outcome_moves _ served asked (lists path) = inl refl
-  outcome_moves _ served asked (lists_none path) = inl refl
+  outcome_moves _ served asked (lists_none path none) = inl refl
   outcome_moves _ served asked (fetches path since offset w q) = inl refl
   outcome_moves _ served asked (stages_first item offset bytes z) = inl refl
   outcome_moves _ served asked (stages_more item offset bytes staging s t at) = inl refl
@@ -296,7 +334,7 @@ module _ (plans : Plans) (archive : Archive) (sent : Sent) (histories : Historie
   outcome_true _ served asked (begins_again pair e) = subst (λ n. session ≤ n) e (omega arith)
   outcome_true _ served asked (begins pair a) = subst (λ n. session ≤ n) (sym (fold_one 0 side.history (Began session))) (omega arith)
   outcome_true _ served asked (lists path) = record { reached = omega arith; entries_there = ap (λ h. children (mark (tree_of h)) path) (sym (take-length side.history)) }
-  outcome_true _ served asked (lists_none path) = tt
+  outcome_true _ served asked (lists_none path none) = record { reached = omega arith; no_directory = ap (λ h. is_directory (tree_of h) path) (take-length side.history) ∙ none }
   outcome_true _ served asked (fetches path since offset w q) =
       let at = quiet_same side.history since path q in
       record { reached = w; whole = ap (λ t. length (spelling t)) at; bytes_there = ap (λ t. take 32768 (drop offset (spelling t))) at }
@@ -306,13 +344,41 @@ module _ (plans : Plans) (archive : Archive) (sent : Sent) (histories : Historie
   outcome_true _ served asked (done_again item path since size e) =
       let by_plan = (sound.asked which session number (Replace item path since size) asked).by_plan in
       let is = made plans histories archive sent sound session item by_plan.0 by_plan.1 in
-      let touched = sound.used which (token_of session item) by_plan.0 path (ap last_token (sym same) ∙ last_is (last_token side.history) (token_of session item) e) by_plan.1 by_plan.2 in
+      let spent = sound.used which (token_of session item) by_plan.0 path (ap last_token (sym same) ∙ last_is (last_token side.history) (token_of session item) e) by_plan.1 by_plan.2 in
+      let touched = spent.touched in
       let within = since_reached plans histories archive sent sound session is.0 (plans session) is.1 item by_plan.0 which path by_plan.1 by_plan.2 which in (
         subst (λ h. since ≤ length h) (sym same) (subst (λ k. k ≤ length (histories which)) (sym by_plan.3) within),
         subst (λ h. is_quiet h since (length h) path ≡ false) (sym same) (subst (λ k. is_quiet (histories which) k (length (histories which)) path ≡ false) (sym by_plan.3) touched),
       )
   outcome_true _ served asked (replaces item path since size new reads at_token long within quiet a) =
       (omega (arith, within, length-append side.history (Replaced (token_of session item) path since new ∷ [])), touched_now side.history (Replaced (token_of session item) path since new) since path within (path_meets_itself path))
+
+  -- and so is what it says of its item
+  pub outcome_borne : (request : Request) (served : Served) → Contains sent (Asks which session number request) → Outcome side session request served → IsBorne (plans session) served.side.history which request served.reply
+  outcome_borne request served asked (refuses r reason) = refused_borne (plans session) side.history which request reason
+  outcome_borne _ served asked (begins_again pair e) = tt
+  outcome_borne _ served asked (begins pair a) = tt
+  outcome_borne _ served asked (lists path) = tt
+  outcome_borne _ served asked (lists_none path none) = tt
+  outcome_borne _ served asked (fetches path since offset w q) = λ item planned e writes since_is.
+      let is = made plans histories archive sent sound session item planned e in
+      let quiet = ap₂ (λ k h. is_quiet h k (length h) path) (sym since_is) (sym same) ∙ q in
+      let seen = seen_is plans histories archive sent sound session is.0 (plans session) is.1 item planned (other which) path e writes which quiet in
+      seen ∙ (ap (λ h. subtree (mark (tree_of h)) path) (sym same) ∙ (sym (mark-subtree (tree_of side.history) path) ∙ ap mark (quiet_same side.history since path q)))
+  outcome_borne _ served asked (stages_first item offset bytes z) = tt
+  outcome_borne _ served asked (stages_more item offset bytes staging s t at) = tt
+  outcome_borne _ served asked (stages_again item offset bytes) = tt
+  outcome_borne _ served asked (done_again item path since size e) = λ planned at.
+      let by_plan = (sound.asked which session number (Replace item path since size) asked).by_plan in
+      let spent = sound.used which (token_of session item) by_plan.0 path (ap last_token (sym same) ∙ last_is (last_token side.history) (token_of session item) e) by_plan.1 by_plan.2 in
+      subst (λ h. HadMarks h path (seen_on planned (other which)).marks) (sym same) (subst (λ d. HadMarks (histories which) path (seen_on d (other which)).marks) (some_same (sym by_plan.1 ∙ at)) spent.put)
+  outcome_borne _ served asked (replaces item path since size new reads at_token long within quiet a) = λ planned at.
+      let r = replacement_is item path since size new asked reads at_token long within quiet in
+      record {
+        position = length side.history + 1;
+        reached = omega (arith, length-append side.history (Replaced (token_of session item) path since new ∷ []));
+        had = ap (λ d. (seen_on d (other which)).marks) (some_same (sym at ∙ r.item)) ∙ (r.carries ∙ put_there side.history (token_of session item) path since new);
+      }
 
   piece_of : (item offset : ℕ) (bytes : Bytes) → Contains sent (Asks which session number (Stage item offset bytes)) → (planned : Planned) × (slice_get (plans session) item ≡ Some planned)
       × ((seen_on planned (other which)).since ≤ length (histories (other which))) × (bytes ≡ take 32768 (drop offset (spelling (source_of histories which planned))))
@@ -330,7 +396,7 @@ module _ (plans : Plans) (archive : Archive) (sent : Sent) (histories : Historie
   outcome_staging _ served asked (begins_again pair e) = staged
   outcome_staging _ served asked (begins pair a) = staged
   outcome_staging _ served asked (lists path) = staged
-  outcome_staging _ served asked (lists_none path) = staged
+  outcome_staging _ served asked (lists_none path none) = staged
   outcome_staging _ served asked (fetches path since offset w q) = staged
   outcome_staging _ served asked (stages_first item offset bytes z) =
       let piece = piece_of item offset bytes asked in

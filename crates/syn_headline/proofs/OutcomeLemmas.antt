@@ -23,7 +23,7 @@ pub data Outcome (side : Side) (session : ℕ) : Request → Served → Type 0 w
   begins_again : (pair : ℕ) → session ≡ last_session side.history → Outcome side session (Begin pair) (answer side (Begun (length side.history)))
   begins : (pair : ℕ) → IsAllowed side.history (Began session) → Outcome side session (Begin pair) (answer (add_event side (Began session)) (Begun (length side.history + 1)))
   lists : (path : Path) → Outcome side session (ListAt path) (answer side (Listed (length side.history) (children (mark (tree_of side.history)) path)))
-  lists_none : (path : Path) → Outcome side session (ListAt path) (answer side (NotDir (length side.history)))
+  lists_none : (path : Path) → is_directory (tree_of side.history) path ≡ false → Outcome side session (ListAt path) (answer side (NotDir (length side.history)))
   fetches : (path : Path) (since offset : ℕ) → since ≤ length side.history → is_quiet side.history since (length side.history) path ≡ true →
       Outcome side session (Fetch path since offset) (answer side (Piece (length (spelling (subtree (tree_of side.history) path))) (take 32768 (drop offset (spelling (subtree (tree_of side.history) path))))))
   stages_first : (item offset : ℕ) (bytes : Bytes) → offset ≡ 0 → Outcome side session (Stage item offset bytes) (answer (set_staging side (record { token = token_of session item; bytes = bytes })) Staged)
@@ -91,7 +91,7 @@ with_outcome has_room side session item path since size (Some new) lawful reads 
 
 serve_outcome : (pair : ℕ) (has_room : Event → Bool) (side : Side) (session : ℕ) (request : Request) (read : Option Tree) → Reads (staged_bytes side.staging) read → IsLawfulRequest session request → Outcome side session request (serve pair has_room read side session request)
 serve_outcome pair has_room side session (ListAt path) read reads lawful =
-    elim (is_directory (tree_of side.history) path) as (λ b. Outcome side session (ListAt path) (answer side (if b then Listed (length side.history) (children (mark (tree_of side.history)) path) else NotDir (length side.history)))) [ true ↦ lists path | false ↦ lists_none path ]
+    elim (is_directory (tree_of side.history) path) as (λ b. is_directory (tree_of side.history) path ≡ b → Outcome side session (ListAt path) (answer side (if b then Listed (length side.history) (children (mark (tree_of side.history)) path) else NotDir (length side.history)))) [ true ↦ λ _. lists path | false ↦ λ none. lists_none path none ] refl
 serve_outcome pair has_room side session (Fetch path since offset) read reads lawful =
     unless (Outcome side session (Fetch path since offset)) side (first_cause (since_causes side.history path since)) _ (refuses _) (λ e. let s = since_holds side.history path since e in fetches path since offset s.0 s.1)
 serve_outcome pair has_room side session (Stage item offset bytes) read reads lawful = stage_outcome side side.staging session item offset bytes refl

@@ -1,9 +1,11 @@
 -- What the items of a plan tell of the scans that it was made of, and of the histories.
-use Rattle.std.proofs.Common.{◌≡◌, ◌≤◌, ℕ, Bool, true, false, not, ◌&&◌, ◌||◌, List, [], ◌∷◌, ◌++◌, length, refl, sym, ap, ap₂, ◌∙◌, subst, Some, true≢false, append-nil, inl, inr, ◌⊎◌, if◌then◌else◌, slice_get}
-use Rattle.std.specs.Prelude.{All}
+use Rattle.std.proofs.Common.{◌≡◌, ◌≤◌, ℕ, suc, Bool, is_some, None, arith, true, false, not, ◌&&◌, ◌||◌, List, [], ◌∷◌, ◌++◌, length, refl, sym, ap, ap₂, ◌∙◌, subst, Some, true≢false, append-nil, inl, inr, ◌⊎◌, if◌then◌else◌, slice_get}
+use Rattle.std.specs.Prelude.{All, Contains}
+use Rattle.std.specs.List.{list_any}
+use Rattle.std.specs.Ordering.{eq_by_cmp}
 use Rattle.std.proofs.lemmas.List.Elements.{Contains-append_left, All-get_or}
 use Rattle.std.proofs.lemmas.Option.{slice_get_within, get_or_from_slice_get}
-use Rattle.syn_model.specs.Path.{Name, Path, parent, child}
+use Rattle.syn_model.specs.Path.{Name, Path, name_cmp, is_prefix, strip_prefix, parent, child}
 use Rattle.syn_model.specs.Tree.{Tree, IsTree, subtree, is_directory, is_directory_content}
 use Rattle.syn_model.specs.Limits.{children}
 use Rattle.syn_model.specs.Dirty.{Scan, dirty, has_unstable, is_same_tree}
@@ -11,13 +13,13 @@ use Rattle.syn_model.specs.Mark.{mark}
 use Rattle.syn_model.specs.History.{tree_of, is_quiet, last_session}
 use Rattle.syn_model.specs.Reconcile.{is_directory_in_both}
 use Rattle.syn_model.specs.Decision.{Item, ToLeft, ToRight, MarkSame, MarkDir, Conflict, Decision, Clean, Do, DoAndGoOn, GoOn, decision, is_unstable, path_of, GoesOn}
-use Rattle.syn_headline.specs.Side.{Request, Reply, Begin, ListAt, Fetch, Stage, Replace, Listed, Begun}
+use Rattle.syn_headline.specs.Side.{Request, Reply, Begin, ListAt, Fetch, Stage, Replace, Listed, NotDir, Begun}
 use Rattle.syn_headline.specs.Network.{Which, Left, Right, Sent, Asks, Answers, WasAnswered}
 use Rattle.syn_model.specs.Archive.{Archive}
 use Rattle.syn_headline.specs.Planning.{Planned, seen_on, IsScanOf, IsPlannedFrom, IsPlanOf, WritesTo}
 use Rattle.syn_headline.specs.World.{IsOfPlan}
-use Rattle.syn_headline.specs.Invariant.{Plans, Histories, IsSound, IsTrueListing}
-use Rattle.syn_model.proofs.PathLemmas.{parent-append}
+use Rattle.syn_headline.specs.Invariant.{Plans, Histories, IsSound, IsTrueListing, IsTrueNotDir}
+use Rattle.syn_model.proofs.PathLemmas.{parent-append, same_name, name_itself}
 use Rattle.syn_model.proofs.HistoryLemmas.{history-is_tree}
 use Rattle.syn_model.proofs.DirtyLemmas.{both_true, both_false, dirty-safe}
 use Rattle.syn_model.proofs.QuietLemmas.{ScansHistory, scan_is}
@@ -195,6 +197,29 @@ writes_at scan since found planned side (n ∷ p) trees from w e =
       clean = ap (dirty (scan side) found) (sym e) ∙ clean.1;
     }
 
+-- prefixes both ways are one path
+both_ways : (p q : Path) → is_prefix p q ≡ true → is_prefix q p ≡ true → p ≡ q
+both_ways [] [] h k = refl
+both_ways [] (m ∷ q) h k = absurd (true≢false (sym k))
+both_ways (n ∷ p) [] h k = absurd (true≢false (sym h))
+both_ways (n ∷ p) (m ∷ q) h k =
+    elim (eq_by_cmp name_cmp n m) as (λ b. eq_by_cmp name_cmp n m ≡ b → is_some (if b then strip_prefix p q else None) ≡ true → n ∷ p ≡ m ∷ q) [
+      | false ↦ λ _ x. absurd (true≢false (sym x))
+      | true ↦ λ y x.
+          let heads = same_name n m y in
+          let back : is_prefix (n ∷ q) (n ∷ p) ≡ true = ap (λ w. is_prefix (w ∷ q) (n ∷ p)) heads ∙ k in
+          ap₂ (λ w ws. w ∷ ws) heads (both_ways p q x (sym (ap (λ b. is_some (if b then strip_prefix q p else None)) (name_itself n)) ∙ back))
+    ] refl h
+
+-- an unstable path is one that was answered so
+pub found_unstable : (p : Path) (us : List Path) → list_any (λ other. is_prefix p other && is_prefix other p) us ≡ true → Contains us p
+found_unstable p [] e = absurd (true≢false (sym e))
+found_unstable p (u ∷ us) e =
+    elim (is_prefix p u && is_prefix u p) as (λ b. (is_prefix p u && is_prefix u p) ≡ b → (b || list_any (λ other. is_prefix p other && is_prefix other p) us) ≡ true → Contains (u ∷ us) p) [
+      | true ↦ λ y _. let both = both_true (is_prefix p u) (is_prefix u p) y in (0, omega arith, sym (both_ways p u both.0 both.1))
+      | false ↦ λ _ rest. let c = found_unstable p us rest in (suc c.0, omega (arith, c.1), c.2)
+    ] refl e
+
 module _ (plans : Plans) (histories : Histories) (archive : Archive) (sent : Sent) (sound : IsSound plans histories archive sent) where
   -- a scan of a session shows its side's history
   pub scans : (side : Which) (session : ℕ) (scan : Scan) (since : Path → ℕ) → IsScanOf sent side session scan since → ScansHistory scan since (histories side)
@@ -205,6 +230,9 @@ module _ (plans : Plans) (histories : Histories) (archive : Archive) (sent : Sen
         let true_one : IsTrueListing (histories side) path (since path) (children scan.marks path) = sound.answered side session w.number (Listed (since path) (children scan.marks path)) (ListAt path) w.answered w.asked in
         true_one.entries_there;
     ordered = h.ordered;
+    not_dir = λ path u. let w = h.not_dir path (found_unstable path scan.unstable u) in
+        let true_one : IsTrueNotDir (histories side) path (since path) = sound.answered side session w.number (NotDir (since path)) (ListAt path) w.answered w.asked in
+        true_one.no_directory;
   }
 
   pub listing_reached : (side : Which) (session : ℕ) (scan : Scan) (since : Path → ℕ) → IsScanOf sent side session scan since → (path : Path) → is_directory scan.marks path ≡ true → is_unstable scan path ≡ false → since path ≤ length (histories side)
@@ -226,12 +254,14 @@ module _ (plans : Plans) (histories : Histories) (archive : Archive) (sent : Sen
           let at = writes_of in
           subst (λ k. k ≤ length (histories s)) (sym (at.since_is s)) (listing_reached s session (is.scan s) (is.since s) (is.scanned s) at.above (at.above_is s).0 (at.above_is s).1)
 
+      -- where nothing touched the path since it was listed, a side's scan has the mark of what is there
+      pub seen_is : (s : Which) → is_quiet (histories s) (seen_on planned s).since (length (histories s)) path ≡ true → (seen_on planned s).marks ≡ subtree (mark (tree_of (histories s))) path
+      seen_is s quiet =
+          let at = writes_of in
+          let seen = scan_is (is.scan s) (is.since s) (histories s) (scans s session (is.scan s) (is.since s) (is.scanned s)) at.above at.name (at.above_is s).0 (at.above_is s).1
+          (ap₂ (λ k p. is_quiet (histories s) k (length (histories s)) p) (sym (at.since_is s)) (sym at.at) ∙ quiet) in
+          at.marks_are s ∙ subst (λ p. subtree (is.scan s).marks p ≡ subtree (mark (tree_of (histories s))) p) (sym at.at) seen
+
       -- the path that an item writes has what was found in the archive, as long as nothing touched it
       pub target_is : is_quiet (histories side) (seen_on planned side).since (length (histories side)) path ≡ true → subtree (mark (tree_of (histories side))) path ≡ subtree found path
-      target_is quiet =
-          let at = writes_of in
-          let c = both_false (not (is_same_tree (subtree (is.scan side).marks path) (subtree found path))) (has_unstable (is.scan side) path) at.clean in
-          let seen = scan_is (is.scan side) (is.since side) (histories side) (scans side session (is.scan side) (is.since side) (is.scanned side)) at.above at.name (at.above_is side).0 (at.above_is side).1
-          (ap (has_unstable (is.scan side)) (sym at.at) ∙ c.1)
-          (ap₂ (λ k p. is_quiet (histories side) k (length (histories side)) p) (sym (at.since_is side)) (sym at.at) ∙ quiet) in
-          subst (λ p. subtree (mark (tree_of (histories side))) p ≡ subtree (is.scan side).marks p) (sym at.at) (sym seen) ∙ dirty-safe (is.scan side) found path at.clean
+      target_is quiet = sym (seen_is side quiet) ∙ (writes_of.marks_are side ∙ dirty-safe (is.scan side) found path writes_of.clean)

@@ -9,7 +9,7 @@ use Rattle.syn_model.specs.Tree.{Tree}
 use Rattle.syn_model.specs.Refusal.{Refusal, Device}
 use Rattle.syn_model.specs.Event.{Token, Edit, Event, Edited, Began, Replaced}
 use Rattle.syn_model.specs.History.{History, IsHistory, IsAllowed, last_session}
-use Rattle.syn_model.specs.Archive.{Kept, Session, CanKeep, after_kept}
+use Rattle.syn_model.specs.Archive.{Kept, Session, CanKeep, after_kept, Held}
 use Rattle.syn_headline.specs.Side.{Side, Served, Request, Begin, ListAt, Fetch, Stage, Replace, Reply, Refused, IsLawfulRequest}
 use Rattle.syn_headline.specs.Network.{Which, Left, Right, other, Sent, Message, Asks, Answers}
 use Rattle.syn_headline.specs.Planning.{Planned}
@@ -21,7 +21,7 @@ use Rattle.syn_model.proofs.PathLemmas.{none_some}
 use Rattle.syn_headline.proofs.PlanLemmas.{answered-more}
 use Rattle.syn_headline.proofs.SoundLemmas.{set_plan, set_plan-grows, set_plan-here, sound-plan, sound-keep, kept_session}
 use Rattle.syn_headline.proofs.OutcomeLemmas.{Outcome, refuses, stages_first, stages_more, stages_again, any_outcome, outcome, halted_outcome}
-use Rattle.syn_headline.proofs.MoveLemmas.{on_both, outcome_moves, outcome_true, outcome_staging, legal}
+use Rattle.syn_headline.proofs.MoveLemmas.{on_both, refused_borne, outcome_moves, outcome_true, outcome_borne, outcome_staging, legal}
 use Rattle.syn_headline.proofs.HarmlessLemmas.{due_harmless}
 use Rattle.syn_headline.proofs.StepLemmas.{if_some, Says, nothing, reply, SideStep, side_keeps, coordinator_keeps, next_fresh, sides-later, sides-plan}
 use Rattle.syn_headline.proofs.TokenLemmas.{token_once}
@@ -129,7 +129,7 @@ abbrev IsWritten : Plans → World → Which → SideMachine → Type 0
 IsWritten plans old which machine = IfSome machine.writing (λ event. (machine.status ≢ Up) × IsSoundEvent plans (histories_of old) old.coordinator.archive which event × (machine.side.history ≡ histories_of old which))
 
 side_advances : (plans : Plans) (old : World) → IsKept plans old → (which : Which) (machine : SideMachine) (messages : Sent) (events : List Event) (new : World) → Adds plans old which machine.side.history events →
-    IfSome machine.side.staging (IsSoundStaging plans (histories_of old) which) → IsWritten plans old which machine → Says old.sent which machine.side.history messages →
+    IfSome machine.side.staging (IsSoundStaging plans (histories_of old) which) → IsWritten plans old which machine → Says plans old.sent which machine.side.history messages →
     new ≡ next old which machine (old.sent ++ messages) (old.acknowledged ++ map (λ event. Happened which event) events) → Advances old new
 side_advances plans old k which machine messages events new adds staged writing says e =
     let says_now = old.sent ++ messages in
@@ -261,12 +261,13 @@ module _ (plans : Plans) (old : World) (k : IsKept plans old) (which : Which) (s
       (if_some (side_of old which).writing (λ event. ((side_of old which).status ≢ Up) × IsSoundEvent plans (histories_of old) old.coordinator.archive which event)
       (λ event. ((side_of old which).status ≢ Up) × IsSoundEvent plans (histories_of old) old.coordinator.archive which event × (a.served.side.history ≡ histories_of old which)) (k.sides which).writing
       (λ event _ x. (x.0, x.1, unless_up_same (side_of old which).status x.0 old.pair a.has_room (side_of old which).side session request a.served a.serves)))
-      (reply session number request a.served.reply asked (outcome_true plans old.coordinator.archive old.sent (histories_of old) k.sound which (side_of old which).side refl (k.sides which).staged session number request a.served asked o))
+      (reply session number request a.served.reply asked (outcome_true plans old.coordinator.archive old.sent (histories_of old) k.sound which (side_of old which).side refl (k.sides which).staged session number request a.served asked o)
+      (outcome_borne plans old.coordinator.archive old.sent (histories_of old) k.sound which (side_of old which).side refl (k.sides which).staged session number request a.served asked o))
       a.result
   request_advances new (request_failed f) =
       side_advances plans old k which (record (side_of old which) { status = Halted; writing = Some f.event }) (Answers which session number (Refused Device) ∷ []) [] new (no_event refl) (k.sides which).staged
       (halted_not_up, would_sound f.event f.would, refl)
-      (reply session number request (Refused Device) asked (refused_is_true (histories_of old which) session request Device))
+      (reply session number request (Refused Device) asked (refused_is_true (histories_of old which) session request Device) (refused_borne (plans session) (histories_of old which) which request Device))
       (f.result ∙ (next_sent old which _ _ ∙ ap (λ a. next old which (record (side_of old which) { status = Halted; writing = Some f.event }) (old.sent ++ Answers which session number (Refused Device) ∷ []) a) (sym (append-nil old.acknowledged))))
   request_advances new (request_cut c) =
       side_settles plans old k which (stopped (side_of old which) (Some c.event)) new refl tt (down_not_up, would_sound c.event c.would, refl) (c.result ∙ next_same old which _)
@@ -341,7 +342,7 @@ module _ (plans : Plans) (old : World) (k : IsKept plans old) (new : World) wher
       (coordinator_keeps plans old IsNothing (GoesOnFrom (Some r) r.plan) new k.sound k.sides (λ kept due. absurd due) g (runs_has plans (histories_of old) r r.plan has.0 has.1 g.machine.running g.runs_on))
 
   session_harmless : (n : ℕ) → IsHarmless plans (histories_of old) (Session n)
-  session_harmless n = record { leaves = λ session item planned side path e w last quiet archive tree can. refl }
+  session_harmless n = record { leaves = λ session item planned side path e w last quiet archive tree can. refl; held = tt }
 
   starts_has : (o : Option Running) → StartsFrom old.coordinator.archive o → HasItsPlan plans (histories_of old) o
   starts_has None s = tt
@@ -501,10 +502,10 @@ runs_legally before (step ∷ steps) plans old new k stands all g =
 nothing_sent : (sent : Sent) (m : Message) → sent ≡ [] → Contains sent m → ⊥
 nothing_sent sent m e c = let d : Contains [] m = subst (λ s. Contains s m) e c in omega (arith, d.1)
 
-abbrev no_plans : Plans
+abbrev pub no_plans : Plans
 no_plans session = []
 
-start_kept : (old : World) → IsStart old → IsKept no_plans old
+pub start_kept : (old : World) → IsStart old → IsKept no_plans old
 start_kept old s =
     let p = s.pair in
     let empty = s.nothing_yet.0 in
@@ -517,6 +518,8 @@ start_kept old s =
         asked = λ to session number request c. absurd (nothing_sent old.sent _ empty c);
         known = λ from session number said c. absurd (nothing_sent old.sent _ empty c);
         answered = λ from session number said request c d. absurd (nothing_sent old.sent _ empty c);
+        borne = λ from session number said request c d. absurd (nothing_sent old.sent _ empty c);
+        held = λ path content e side. let both = p.held path content e in elim side as (λ side. Held (histories_of old side) path content) [ Left ↦ both.0 | Right ↦ both.1 ];
         planned = λ session. inl refl;
         recorded = λ session item planned side path e w. absurd (none_some e);
         used = λ side token planned path last e w. absurd (none_some e);
@@ -532,7 +535,7 @@ start_kept old s =
       };
     }
 
-start_stands : (old : World) → old.acknowledged ≡ [] → StandsFor (stores_of old) old
+pub start_stands : (old : World) → old.acknowledged ≡ [] → StandsFor (stores_of old) old
 start_stands old e = subst (λ acks. StandsFor (stores_of old) (record old { acknowledged = acks })) (sym e) (record {
   left = sym (append-nil old.left.side.history);
   right = sym (append-nil old.right.side.history);

@@ -1,11 +1,13 @@
 -- The invariant is kept as histories, messages, plans and the archive go on.
 use Rattle.std.proofs.Common.{◌≡◌, ◌≤◌, ◌+◌, ℕ, zero, suc, true, false, not, ◌==◌, nat_le, List, [], ◌∷◌, ◌++◌, length, take, drop, refl, sym, ap, ◌∙◌, subst, Some, None, true≢false, append-nil, arith, inl, inr, ◌⊎◌, if◌then◌else◌, slice_get, fold}
 use Rattle.std.specs.Prelude.{Contains, All}
+use Rattle.std.specs.Option.{option_map_or}
+use Rattle.std.specs.FinMap.{get}
 use Rattle.std.proofs.lemmas.Bool.Decides.{nat_tests}
 use Rattle.std.proofs.lemmas.List.{length-append}
 use Rattle.std.proofs.lemmas.List.Elements.{Contains-append_left, Contains-append_cases}
-use Rattle.syn_model.specs.Path.{Path, is_root, IsName}
-use Rattle.syn_model.specs.Tree.{Tree, IsTree, IsPart, empty_directory, subtree, replace, is_directory}
+use Rattle.syn_model.specs.Path.{Path, is_root, strip_prefix, IsName}
+use Rattle.syn_model.specs.Tree.{Tree, Content, Directory, IsTree, IsPart, empty_directory, subtree, replace, is_directory}
 use Rattle.syn_model.specs.Mark.{mark}
 use Rattle.syn_model.specs.Limits.{children}
 use Rattle.syn_model.specs.Spelling.{spelling}
@@ -13,16 +15,17 @@ use Rattle.syn_model.specs.Refusal.{first_cause, OldSession, Root, Full, BadMess
 use Rattle.syn_model.specs.Event.{Event, Edited, Began, Replaced}
 use Rattle.syn_model.specs.History.{History, IsHistory, IsAllowed, tree_of, tree_at, is_quiet, last_session, position_causes}
 use Rattle.syn_model.specs.Standing.{session_after}
-use Rattle.syn_model.specs.Archive.{Archive, Kept, Session, Recorded, RecordedDir, CanKeep, after_kept, record_causes}
+use Rattle.syn_model.specs.Archive.{Archive, Kept, Session, Recorded, RecordedDir, CanKeep, after_kept, record_causes, Held}
 use Rattle.syn_model.specs.Limits.{greatest, fits_archive}
 use Rattle.syn_headline.specs.Laws.{AddsAllowed}
-use Rattle.syn_headline.specs.Side.{Request, Begin, ListAt, Fetch, Stage, Replace, Reply, Begun, Listed, Piece, Done}
-use Rattle.syn_headline.specs.Network.{Which, Sent, Message, Asks, Answers, NumbersTell}
+use Rattle.syn_headline.specs.Side.{Request, Begin, ListAt, Fetch, Stage, Replace, Reply, Begun, Listed, NotDir, Piece, Done}
+use Rattle.syn_headline.specs.Network.{Which, other, Sent, Message, Asks, Answers, NumbersTell}
 use Rattle.syn_headline.specs.Planning.{Planned, seen_on, IsPlanOf, WritesTo}
 use Rattle.syn_headline.specs.World.{IsOfPlan}
-use Rattle.syn_headline.specs.Invariant.{Plans, Histories, IsSound, IsSound_request, IsStillRecorded, IsTrue, IsHarmless, IsUsed, IsFresh, part_at}
-use Rattle.syn_model.proofs.PathLemmas.{none_some}
-use Rattle.syn_model.proofs.HistoryLemmas.{first_cause-none, replace-is_tree, place-stands, empty-is_tree, allowed_goes_on}
+use Rattle.syn_headline.specs.Invariant.{Plans, Histories, IsSound, IsSound_request, IsStillRecorded, IsTrue, IsBorne, HadMarks, IsSpent, IsHeld, IsHeldRecord, IsHarmless, IsUsed, IsFresh, part_at}
+use Rattle.syn_model.proofs.PathLemmas.{none_some, some_same, strip_prefix-is}
+use Rattle.syn_model.proofs.TreeLemmas.{get-replace}
+use Rattle.syn_model.proofs.HistoryLemmas.{get-at_root, first_cause-none, replace-is_tree, place-stands, empty-is_tree, allowed_goes_on}
 use Rattle.syn_model.proofs.MarkLemmas.{mark-subtree}
 use Rattle.syn_model.proofs.QuietLemmas.{quiet_before, tree_at-append, untouched_stays}
 use Rattle.syn_headline.proofs.PlanLemmas.{of_plan-more, plan_of-more, fenced, since_reached, target_is}
@@ -85,6 +88,17 @@ still_recorded-grow old new archive session path since a fence h still e q =
     let same : session ≡ last_session old = omega (arith, grows, fence, e) in
     ap (λ w. subtree (mark (tree_of w)) path) x.1 ∙ (sym (mark-subtree (tree_of (old ++ x.0)) path) ∙ (ap mark (untouched_stays old x.0 path before.1) ∙ (mark-subtree (tree_of old) path ∙ still same before.0)))
 
+-- what was held stays so
+pub held-grow : (old new : History) → Extends old new → (path : Path) (content : Content) → Held old path content → Held new path content
+held-grow old new x path content h =
+    let grows : length old ≤ length new = length_grows old new x in
+    (h.0, omega (arith, h.1, grows), ap (λ t. get (mark t) path) (tree_at_stays old new x h.0 h.1) ∙ h.2)
+
+pub had-grow : (old new : History) → Extends old new → (path : Path) (marks : Tree) → HadMarks old path marks → HadMarks new path marks
+had-grow old new x path marks h =
+    let grows : length old ≤ length new = length_grows old new x in
+    record { position = h.position; reached = omega (arith, h.reached, grows); had = h.had ∙ ap (λ t. subtree (mark t) path) (sym (tree_at_stays old new x h.position h.reached)) }
+
 -- a reply stays true
 pub true-grow : (old new : History) → AddsAllowed old new → (session : ℕ) (request : Request) (reply : Reply) → IsTrue old session request reply → IsTrue new session request reply
 true-grow old new a session (Begin pair) (Begun position) t = let grows : last_session old ≤ last_session new = session_grows old new a in omega (arith, t, grows)
@@ -92,6 +106,10 @@ true-grow old new a session (ListAt path) (Listed position entries) t =
     let x = extends old new a in
     let grows : length old ≤ length new = length_grows old new x in
     record { reached = omega (arith, t.reached, grows); entries_there = t.entries_there ∙ ap (λ u. children (mark u) path) (sym (tree_at_stays old new x position t.reached)) }
+true-grow old new a session (ListAt path) (NotDir position) t =
+    let x = extends old new a in
+    let grows : length old ≤ length new = length_grows old new x in
+    record { reached = omega (arith, t.reached, grows); no_directory = ap (λ u. is_directory u path) (tree_at_stays old new x position t.reached) ∙ t.no_directory }
 true-grow old new a session (Fetch path since offset) (Piece total bytes) t =
     let x = extends old new a in
     let grows : length old ≤ length new = length_grows old new x in
@@ -106,6 +124,14 @@ true-grow old new a session (Replace item path since size) Done t =
     let grows : length old ≤ length new = length_grows old new x in
     (omega (arith, t.0, grows), still_touched old new x since path t.0 t.1)
 true-grow old new a session request reply t = tt
+
+-- and so does what it says of its item
+borne-grow : (old new : History) → AddsAllowed old new → (plan : List Planned) (from : Which) (session : ℕ) (request : Request) (reply : Reply) → IsTrue old session request reply →
+    IsBorne plan old from request reply → IsBorne plan new from request reply
+borne-grow old new a plan from session (Fetch path since offset) (Piece total bytes) t b =
+    λ item planned e w same. b item planned e w same ∙ ap mark (sym (part_at_stays old new (extends old new a) since path t.reached))
+borne-grow old new a plan from session (Replace item path since size) Done t b = λ planned e. had-grow old new (extends old new a) path (seen_on planned (other from)).marks (b planned e)
+borne-grow old new a plan from session request reply t b = tt
 
 some_in_nothing : (item : ℕ) (planned : Planned) → slice_get [] item ≡ Some planned → ⊥
 some_in_nothing item planned e = none_some e
@@ -130,6 +156,8 @@ sound-grow plans histories new archive sent sound grows below used = record {
   asked = sound.asked;
   known = sound.known;
   answered = λ from session number reply request c d. true-grow (histories from) (new from) (grows from) session request reply (sound.answered from session number reply request c d);
+  borne = λ from session number reply request c d. borne-grow (histories from) (new from) (grows from) (plans session) from session request reply (sound.answered from session number reply request c d) (sound.borne from session number reply request c d);
+  held = λ path content e side. held-grow (histories side) (new side) (extends (histories side) (new side) (grows side)) path content (sound.held path content e side);
   planned = sound.planned;
   recorded = λ session item planned side path e w.
       let is = made plans histories archive sent sound session item planned e in
@@ -147,7 +175,7 @@ only_one x y (suc k, h, e) = absurd (omega (arith, h))
 
 pub sound-more : (plans : Plans) (histories : Histories) (archive : Archive) (sent more : Sent) → IsSound plans histories archive sent → NumbersTell (sent ++ more) →
     ((to : Which) (session number : ℕ) (request : Request) → Contains more (Asks to session number request) → IsSound_request plans archive sent to session request) →
-    ((from : Which) (session number : ℕ) (reply : Reply) → Contains more (Answers from session number reply) → (request : Request) × Contains sent (Asks from session number request) × IsTrue (histories from) session request reply) →
+    ((from : Which) (session number : ℕ) (reply : Reply) → Contains more (Answers from session number reply) → (request : Request) × Contains sent (Asks from session number request) × IsTrue (histories from) session request reply × IsBorne (plans session) (histories from) from request reply) →
     IsSound plans histories archive (sent ++ more)
 sound-more plans histories archive sent more sound numbers asks answers = record {
   used = sound.used;
@@ -171,6 +199,15 @@ sound-more plans histories archive sent more sound numbers asks answers = record
         let k = answers from session number reply new in
         subst (λ r. IsTrue (histories from) session r reply) (numbers from session number k.0 request (Contains-append_left sent more _ k.1) d) k.2
   ];
+  borne = λ from session number reply request c d. elim (Contains-append_cases sent more (Answers from session number reply) c) as (λ _. IsBorne (plans session) (histories from) from request reply) [
+    | inl old ↦
+        let k = sound.known from session number reply old in
+        subst (λ r. IsBorne (plans session) (histories from) from r reply) (numbers from session number k.0 request (Contains-append_left sent more _ k.1) d) (sound.borne from session number reply k.0 old k.1)
+    | inr new ↦
+        let k = answers from session number reply new in
+        subst (λ r. IsBorne (plans session) (histories from) from r reply) (numbers from session number k.0 request (Contains-append_left sent more _ k.1) d) k.3
+  ];
+  held = sound.held;
   planned = λ session. elim (sound.planned session) as (λ _. (plans session ≡ []) ⊎ ((found : Tree) × IsPlanOf (sent ++ more) session found (plans session))) [
     | inl nothing ↦ inl nothing
     | inr is ↦ inr (is.0, plan_of-more sent more session is.0 (plans session) is.1)
@@ -186,8 +223,8 @@ ask_before sent from session number reply to n m request c = elim (Contains-appe
 ]
 
 pub sound-answer : (plans : Plans) (histories : Histories) (archive : Archive) (sent : Sent) → IsSound plans histories archive sent → (from : Which) (session number : ℕ) (request : Request) (reply : Reply) →
-    Contains sent (Asks from session number request) → IsTrue (histories from) session request reply → IsSound plans histories archive (sent ++ Answers from session number reply ∷ [])
-sound-answer plans histories archive sent sound from session number request reply asked is_true =
+    Contains sent (Asks from session number request) → IsTrue (histories from) session request reply → IsBorne (plans session) (histories from) from request reply → IsSound plans histories archive (sent ++ Answers from session number reply ∷ [])
+sound-answer plans histories archive sent sound from session number request reply asked is_true is_borne =
     sound-more plans histories archive sent (Answers from session number reply ∷ []) sound
     (λ side n m a b c d. sound.numbers side n m a b (ask_before sent from session number reply side n m a c) (ask_before sent from session number reply side n m b d))
     (λ to n m r c. let e = only_one (Answers from session number reply) (Asks to n m r) c in cc)
@@ -200,6 +237,7 @@ sound-answer plans histories archive sent sound from session number request repl
       request,
       subst (λ m. Contains sent (Asks side n m request)) e2 (subst (λ n. Contains sent (Asks side n number request)) e1 (subst (λ s. Contains sent (Asks s session number request)) e0 asked)),
       subst (λ r. IsTrue (histories side) n request r) e3 (subst (λ n. IsTrue (histories side) n request reply) e1 (subst (λ s. IsTrue (histories s) session request reply) e0 is_true)),
+      subst (λ r. IsBorne (plans n) (histories side) side request r) e3 (subst (λ n. IsBorne (plans n) (histories side) side request reply) e1 (subst (λ s. IsBorne (plans session) (histories s) s request reply) e0 is_borne)),
     ))
 
 -- A plan that is made
@@ -233,11 +271,17 @@ of_plan-grow old new grows sent session to (Fetch path since offset) h = (h.0, h
 of_plan-grow old new grows sent session to (Stage item offset bytes) h = (h.0, item-grow old new grows session item h.0 h.1, h.2)
 of_plan-grow old new grows sent session to (Replace item path since size) h = (h.0, item-grow old new grows session item h.0 h.1, h.2, h.3, h.4)
 
+-- nothing was asked for by a plan that was not made
+nothing_borne : (sent : Sent) (session : ℕ) (plan : List Planned) (history : History) (from : Which) (request : Request) (reply : Reply) → IsOfPlan sent session [] from request → IsBorne plan history from request reply
+nothing_borne sent session plan history from (Fetch path since offset) (Piece total bytes) h = absurd (some_in_nothing h.0 h.1 h.2)
+nothing_borne sent session plan history from (Replace item path since size) Done h = absurd (some_in_nothing item h.0 h.1)
+nothing_borne sent session plan history from request reply h = tt
+
 pub sound-plan : (plans : Plans) (histories : Histories) (archive : Archive) (sent : Sent) → IsSound plans histories archive sent → (session : ℕ) (plan : List Planned) → plans session ≡ [] → IsPlanOf sent session archive.marks plan → IsFresh histories session →
     IsSound (set_plan plans session plan) histories archive sent
 sound-plan plans histories archive sent sound session plan nothing is fresh = record {
   used = λ side token planned path last. elim (token.session == session) as (λ b. (token.session == session) ≡ b → slice_get (if b then plan else plans token.session) token.item ≡ Some planned → WritesTo planned.item side path →
-      is_quiet (histories side) (seen_on planned side).since (length (histories side)) path ≡ false) [
+      IsSpent (histories side) path (seen_on planned side).since (seen_on planned (other side)).marks) [
         | true ↦ λ same _ _. absurd (fresh side token last (grind (arith, nat_tests)))
         | false ↦ λ _ e w. sound.used side token planned path last e w
       ] refl;
@@ -249,6 +293,13 @@ sound-plan plans histories archive sent sound session plan nothing is fresh = re
       record { session_kept = r.session_kept; lawful = r.lawful; by_plan = of_plan-grow plans (set_plan plans session plan) (set_plan-grows plans session plan nothing) sent n to request r.by_plan };
   known = sound.known;
   answered = sound.answered;
+  borne = λ from n number reply request c d. elim (n == session) as (λ b. (n == session) ≡ b → IsBorne (if b then plan else plans n) (histories from) from request reply) [
+    | true ↦ λ same.
+        let at : n ≡ session = grind (arith, nat_tests) in
+        nothing_borne sent n plan (histories from) from request reply (subst (λ p. IsOfPlan sent n p from request) (ap plans at ∙ nothing) (sound.asked from n number request d).by_plan)
+    | false ↦ λ _. sound.borne from n number reply request c d
+  ] refl;
+  held = sound.held;
   planned = λ n. elim (n == session) as (λ b. (n == session) ≡ b → ((if b then plan else plans n) ≡ []) ⊎ ((found : Tree) × IsPlanOf sent n found (if b then plan else plans n))) [
     | true ↦ λ same. let at : session ≡ n = grind (arith, nat_tests) in inr (archive.marks, subst (λ m. IsPlanOf sent m archive.marks plan) at is)
     | false ↦ λ _. sound.planned n
@@ -260,6 +311,14 @@ sound-plan plans histories archive sent sound session plan nothing is fresh = re
 }
 
 -- What the archive keeps
+
+-- an entry of an archive that recorded a part is of that part, or was there before
+pub recorded_entry : (marks : Tree) (at : Path) (new : Tree) (p : Path) (x : Content) → get (replace marks at new) p ≡ Some x → ((rest : Path) × (p ≡ at ++ rest) × (get new rest ≡ Some x)) ⊎ (get marks p ≡ Some x)
+recorded_entry marks at new p x e = elim (strip_prefix at p) as (λ o. strip_prefix at p ≡ o → ((rest : Path) × (p ≡ at ++ rest) × (get new rest ≡ Some x)) ⊎ (get marks p ≡ Some x)) [
+  | None ↦ λ none. inr (sym (ap (λ o. option_map_or (λ r. get new r) o (get marks p)) none) ∙ (sym (get-replace marks at new p) ∙ e))
+  | Some rest ↦ λ some. inl (rest, strip_prefix-is at p rest some, sym (ap (λ o. option_map_or (λ r. get new r) o (get marks p)) some) ∙ (sym (get-replace marks at new p) ∙ e))
+] refl
+
 
 session_next : (n last : ℕ) → not (n == last + 1) ≡ false → last ≤ n
 session_next n last h = grind (arith, nat_tests)
@@ -289,6 +348,29 @@ kept_is_tree archive (RecordedDir path) h can =
       | false ↦ λ e. recorded_is_tree archive.marks path empty_directory h empty_is_part can.lawful.names (first_cause-none (is_root path, Root) (record_causes archive.marks path empty_directory) e).1
     ] can.not_refused
 
+put_held : (histories : Histories) (marks : Tree) (path : Path) (new : Tree) → IsHeld histories marks → ((rest : Path) (content : Content) → get new rest ≡ Some content → (side : Which) → Held (histories side) (path ++ rest) content) →
+    IsHeld histories (replace marks path new)
+put_held histories marks path new h n p x e side = elim (recorded_entry marks path new p x e) as (λ _. Held (histories side) p x) [
+  | inl of ↦ subst (λ q. Held (histories side) q x) (sym of.1) (n of.0 x of.2 side)
+  | inr old ↦ h p x old side
+]
+
+at_root_alone : (rest : Path) (x : Content) → get empty_directory rest ≡ Some x → (rest ≡ []) × (x ≡ Directory)
+at_root_alone [] x e = (refl, sym (some_same (sym (get-at_root Directory []) ∙ e)))
+at_root_alone (n ∷ rest) x e = absurd (none_some (sym (get-at_root Directory (n ∷ rest)) ∙ e))
+
+-- what is recorded was held
+pub kept_held : (histories : Histories) (archive : Archive) (kept : Kept) → IsHeld histories archive.marks → IsHeldRecord histories kept → IsHeld histories (after_kept archive kept).marks
+kept_held histories archive (Session session) h k = h
+kept_held histories archive (Recorded path marks) h k = put_held histories archive.marks path marks h k
+kept_held histories archive (RecordedDir path) h k =
+    elim (is_directory archive.marks path) as (λ b. IsHeld histories (if b then archive else record archive { marks = replace archive.marks path empty_directory }).marks) [
+      | true ↦ h
+      | false ↦ put_held histories archive.marks path empty_directory h (λ rest x e side.
+          let at = at_root_alone rest x e in
+          subst (λ q. Held (histories side) q x) (sym (append-nil path) ∙ ap (λ r. path ++ r) (sym at.0)) (subst (λ y. Held (histories side) path y) (sym at.1) (k side)))
+    ]
+
 pub sound-keep : (plans : Plans) (histories : Histories) (archive : Archive) (sent : Sent) → IsSound plans histories archive sent → (kept : Kept) → CanKeep archive kept → IsHarmless plans histories kept →
     IsSound plans histories (after_kept archive kept) sent
 sound-keep plans histories archive sent sound kept can harmless =
@@ -304,6 +386,8 @@ sound-keep plans histories archive sent sound kept can harmless =
           record { session_kept = omega (arith, k, grows); lawful = r.lawful; by_plan = r.by_plan };
       known = sound.known;
       answered = sound.answered;
+      borne = sound.borne;
+      held = kept_held histories archive kept sound.held harmless.held;
       planned = sound.planned;
       recorded = λ session item planned side path e w current quiet.
           sound.recorded session item planned side path e w current quiet ∙ sym (harmless.leaves session item planned side path e w current quiet archive sound.marks can);

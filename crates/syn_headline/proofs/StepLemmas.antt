@@ -2,22 +2,28 @@
 use Rattle.std.proofs.Common.{◌≡◌, ◌≤◌, ◌+◌, ℕ, List, [], ◌∷◌, ◌++◌, refl, sym, ap, ◌∙◌, subst, Option, Some, None, is_some, append_assoc, append-nil, arith, inl, inr, ◌⊎◌, slice_get, ◌≢◌}
 use Rattle.std.specs.Prelude.{Contains, IfSome, All}
 use Rattle.std.proofs.lemmas.List.Elements.{All-head, All-tail, All-contains, Contains-append_left}
+use Rattle.syn_model.specs.Tree.{Directory}
 use Rattle.syn_model.specs.Event.{Token, Event, Edited, Began, Replaced}
 use Rattle.syn_model.specs.History.{History, AllAllowed, IsAllowed, last_session, last_token}
 use Rattle.syn_model.specs.Standing.{session_after, token_after}
-use Rattle.syn_model.specs.Archive.{Archive, Kept, CanKeep, after_kept, archive_of}
+use Rattle.syn_model.specs.Archive.{Archive, Kept, Session, Recorded, RecordedDir, CanKeep, after_kept, archive_of}
 use Rattle.syn_headline.specs.Laws.{AddsAllowed}
 use Rattle.syn_headline.specs.Side.{Request, Reply}
 use Rattle.syn_headline.specs.Network.{Which, Left, Right, other, Sent, Message, Asks, Answers}
 use Rattle.syn_headline.specs.Planning.{seen_on}
 use Rattle.syn_headline.specs.World.{Up, World, SideMachine, Running, outstanding, side_of, IsOfPlan, IsOfSession, AllOfSession, RunsOver, WasSent, AllCanKeep, CoordinatorGoes}
-use Rattle.syn_headline.specs.Invariant.{Plans, Histories, histories_of, IsSound, IsSound_request, IsTrue, IsFresh, IsSoundStaging, IsSoundEvent, IsSoundSide, IsSoundCoordinator, IsHarmless, IsKept}
+use Rattle.syn_headline.specs.Invariant.{Plans, Histories, histories_of, IsSound, IsSound_request, IsTrue, IsBorne, IsHeldRecord, IsFresh, IsSoundStaging, IsSoundEvent, IsSoundSide, IsSoundCoordinator, IsHarmless, IsKept}
 use Rattle.syn_model.proofs.PathLemmas.{none_some, some_same}
 use Rattle.syn_headline.proofs.PlanLemmas.{fenced, since_reached}
-use Rattle.syn_headline.proofs.SoundLemmas.{fold_one, made, extends, quiet_was, session_grows, sound-more, sound-answer, sound-keep, item-grow, PlansGrow, kept_session}
+use Rattle.syn_headline.proofs.SoundLemmas.{fold_one, held-grow, made, extends, quiet_was, session_grows, sound-more, sound-answer, sound-keep, item-grow, PlansGrow, kept_session}
 use Rattle.syn_headline.proofs.MoveLemmas.{on_both, Moves, moves_grow, sound_moves, staging-grow, replacement-grow, token_one, current}
 
 module _ (plans : Plans) (archive : Archive) (sent : Sent) (old new : Histories) (sound : IsSound plans old archive sent) where
+  held_record-grow : ((s : Which) → AddsAllowed (old s) (new s)) → (kept : Kept) → IsHeldRecord old kept → IsHeldRecord new kept
+  held_record-grow grows (Session session) h = tt
+  held_record-grow grows (Recorded path marks) h = λ rest content e side. held-grow (old side) (new side) (extends (old side) (new side) (grows side)) (path ++ rest) content (h rest content e side)
+  held_record-grow grows (RecordedDir path) h = λ side. held-grow (old side) (new side) (extends (old side) (new side) (grows side)) path Directory (h side)
+
   pub harmless-grow : ((s : Which) → AddsAllowed (old s) (new s)) → (kept : Kept) → IsHarmless plans old kept → IsHarmless plans new kept
   harmless-grow grows kept h = record {
     leaves = λ session item planned side path e w last quiet.
@@ -26,6 +32,7 @@ module _ (plans : Plans) (archive : Archive) (sent : Sent) (old new : Histories)
         let later : last_session (old side) ≤ last_session (new side) = session_grows (old side) (new side) (grows side) in
         h.leaves session item planned side path e w (omega (arith, last, fence, later))
         (quiet_was (old side) (new side) (extends (old side) (new side) (grows side)) (seen_on planned side).since path (since_reached plans old archive sent sound session is.0 (plans session) is.1 item planned side path e w side) quiet);
+    held = held_record-grow grows kept h.held;
   }
 
   fresh_after : (side : Which) (event : Event) → IsSoundEvent plans old archive side event → (session : ℕ) → plans session ≡ [] → (token : Token) → ((t : Token) → last_token (old side) ≡ Some t → t.session ≢ session) →
@@ -62,13 +69,13 @@ runs_over-more sent more archive None r = tt
 runs_over-more sent more archive (Some running) r = (r.0, was_sent-more sent more running r.1)
 
 -- what a side says as it goes on: nothing, or a true reply to a request that was sent
-pub data Says (sent : Sent) (which : Which) (history : History) : List Message → Type 0 where
-  nothing : Says sent which history []
-  reply : (session number : ℕ) (request : Request) (said : Reply) → Contains sent (Asks which session number request) → IsTrue history session request said → Says sent which history (Answers which session number said ∷ [])
+pub data Says (plans : Plans) (sent : Sent) (which : Which) (history : History) : List Message → Type 0 where
+  nothing : Says plans sent which history []
+  reply : (session number : ℕ) (request : Request) (said : Reply) → Contains sent (Asks which session number request) → IsTrue history session request said → IsBorne (plans session) history which request said → Says plans sent which history (Answers which session number said ∷ [])
 
-says_sound : (plans : Plans) (histories : Histories) (archive : Archive) (sent : Sent) → IsSound plans histories archive sent → (which : Which) (messages : List Message) → Says sent which (histories which) messages → IsSound plans histories archive (sent ++ messages)
+says_sound : (plans : Plans) (histories : Histories) (archive : Archive) (sent : Sent) → IsSound plans histories archive sent → (which : Which) (messages : List Message) → Says plans sent which (histories which) messages → IsSound plans histories archive (sent ++ messages)
 says_sound plans histories archive sent sound which _ nothing = subst (IsSound plans histories archive) (sym (append-nil sent)) sound
-says_sound plans histories archive sent sound which _ (reply session number request said asked t) = sound-answer plans histories archive sent sound which session number request said asked t
+says_sound plans histories archive sent sound which _ (reply session number request said asked t b) = sound-answer plans histories archive sent sound which session number request said asked t b
 
 -- a side goes on
 pub record SideStep (plans : Plans) (old new : World) (which : Which) (machine : SideMachine) (messages : List Message) : Type 0 where
@@ -79,7 +86,7 @@ pub record SideStep (plans : Plans) (old new : World) (which : Which) (machine :
   pub moves : (machine.side.history ≡ histories_of old which) ⊎ ((event : Event) × IsAllowed (histories_of old which) event × IsSoundEvent plans (histories_of old) old.coordinator.archive which event × (machine.side.history ≡ histories_of old which ++ event ∷ []))
   pub staged : IfSome machine.side.staging (IsSoundStaging plans (histories_of old) which)
   pub writing : IfSome machine.writing (λ event. (machine.status ≢ Up) × IsSoundEvent plans (histories_of old) old.coordinator.archive which event × (machine.side.history ≡ histories_of old which))
-  pub says : Says old.sent which machine.side.history messages
+  pub says : Says plans old.sent which machine.side.history messages
 
 module _ (plans : Plans) (old new : World) (k : IsKept plans old) (which : Which) (machine : SideMachine) (messages : List Message) (s : SideStep plans old new which machine messages) where
   machine_is : histories_of new which ≡ machine.side.history
@@ -100,7 +107,7 @@ module _ (plans : Plans) (old new : World) (k : IsKept plans old) (which : Which
   sound_then : IsSound plans (histories_of new) old.coordinator.archive (old.sent ++ messages)
   sound_then = says_sound plans (histories_of new) old.coordinator.archive old.sent
       (sound_moves plans old.coordinator.archive old.sent (histories_of old) (histories_of new) k.sound which step_moves) which messages
-      (subst (λ h. Says old.sent which h messages) (sym machine_is) s.says)
+      (subst (λ h. Says plans old.sent which h messages) (sym machine_is) s.says)
 
   this_side : IsSoundSide plans (histories_of new) old.coordinator.archive which machine
   this_side = record {
@@ -109,10 +116,6 @@ module _ (plans : Plans) (old new : World) (k : IsKept plans old) (which : Which
         (λ event. (machine.status ≢ Up) × IsSoundEvent plans (histories_of new) old.coordinator.archive which event) s.writing (λ event _ h.
         (h.0, event-grow plans old.coordinator.archive old.sent (histories_of old) (histories_of new) k.sound which event (machine_is ∙ h.2) (grows (other which)) h.1));
   }
-
-  other_other : (t : Which) → other (other t) ≡ t
-  other_other Left = refl
-  other_other Right = refl
 
   that_side : IsSoundSide plans (histories_of new) old.coordinator.archive (other which) (side_of old (other which))
   that_side =
@@ -244,6 +247,7 @@ event-plan old new grows histories archive side (Replaced token path since u) h 
   quiet = h.quiet;
   reached = h.reached;
   whole = h.whole;
+  carries = h.carries;
 }
 
 pub sides-plan : (old new : Plans) → PlansGrow old new → (histories : Histories) (archive : Archive) (side : Which) (machine : SideMachine) → IsSoundSide old histories archive side machine → IsSoundSide new histories archive side machine

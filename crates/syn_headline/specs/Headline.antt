@@ -180,3 +180,7 @@ RunsReplaceLegally = (old new : World) (steps : List Step) → IsStart old → R
 
 abbrev pub RunsUseTokensOnce : Type 0
 RunsUseTokensOnce = (old new : World) (steps : List Step) → IsStart old → Runs old steps new → EachTokenOnce new
+
+-- and each archive entry was held by both sides, whatever an opening then gives
+abbrev pub RunsHoldArchive : Type 0
+RunsHoldArchive = (old new : World) (steps : List Step) → IsStart old → Runs old steps new → EachEntryWasHeld (stores_of old) new

@@ -1,14 +1,15 @@
 -- What each step of a run keeps.
-use Rattle.std.specs.Prelude.{ℕ, ◌≡◌, ◌≢◌, ◌≤◌, ◌⊎◌, true, false, List, [], length, take, drop, slice_get, Some, None, Contains, IfSome}
+use Rattle.std.specs.Prelude.{ℕ, ◌≡◌, ◌≢◌, ◌≤◌, ◌⊎◌, true, false, List, [], ◌++◌, length, take, drop, slice_get, Some, None, Contains, IfSome}
+use Rattle.std.specs.FinMap.{get}
 use Rattle.syn_model.specs.Path.{Bytes, Name, Path}
-use Rattle.syn_model.specs.Tree.{Tree, Content, IsTree, subtree}
+use Rattle.syn_model.specs.Tree.{Tree, Content, Directory, IsTree, subtree, is_directory}
 use Rattle.syn_model.specs.Limits.{children, fits_replica}
 use Rattle.syn_model.specs.Spelling.{spelling}
 use Rattle.syn_model.specs.Mark.{mark}
 use Rattle.syn_model.specs.Event.{Token, Event, Edited, Began, Replaced}
 use Rattle.syn_model.specs.History.{History, IsHistory, tree_of, tree_at, last_session, last_token, is_quiet}
-use Rattle.syn_model.specs.Archive.{Archive, Kept, CanKeep, after_kept}
-use Rattle.syn_headline.specs.Side.{Request, Begin, ListAt, Fetch, Replace, IsLawfulRequest, Reply, Begun, Listed, Piece, Done, Staging}
+use Rattle.syn_model.specs.Archive.{Archive, Kept, Session, Recorded, RecordedDir, CanKeep, after_kept, Held}
+use Rattle.syn_headline.specs.Side.{Request, Begin, ListAt, Fetch, Replace, IsLawfulRequest, Reply, Begun, Listed, NotDir, Piece, Done, Staging}
 use Rattle.syn_headline.specs.Network.{Which, other, Asks, Answers, Sent, NumbersTell}
 use Rattle.syn_model.specs.Decision.{path_of}
 use Rattle.syn_headline.specs.Planning.{Planned, seen_on, IsPlanOf, WritesTo}
@@ -37,13 +38,33 @@ pub record IsTruePiece (history : History) (path : Path) (since offset total : �
   pub whole : total ≡ length (spelling (part_at history since path))
   pub bytes_there : bytes ≡ take 32768 (drop offset (spelling (part_at history since path)))
 
+pub record IsTrueNotDir (history : History) (path : Path) (position : ℕ) : Type 0 where
+  pub reached : position ≤ length history
+  pub no_directory : is_directory (tree_at history position) path ≡ false
+
 -- a reply that stays true as the history goes on
 abbrev pub IsTrue : History → ℕ → Request → Reply → Type 0
 IsTrue history session (Begin pair) (Begun position) = session ≤ last_session history
 IsTrue history session (ListAt path) (Listed position entries) = IsTrueListing history path position entries
+IsTrue history session (ListAt path) (NotDir position) = IsTrueNotDir history path position
 IsTrue history session (Fetch path since offset) (Piece total bytes) = IsTruePiece history path since offset total bytes
 IsTrue history session (Replace item path since size) Done = (since ≤ length history) × (is_quiet history since (length history) path ≡ false)
 IsTrue history session request reply = Unit {0}
+
+-- at some moment the side had a part with these marks at the path
+pub record HadMarks (history : History) (path : Path) (marks : Tree) : Type 0 where
+  pub position : ℕ
+  pub reached : position ≤ length history
+  pub had : marks ≡ subtree (mark (tree_at history position)) path
+
+-- what a reply says of the item that was asked for: a piece is of what the scan showed, and what is done was put there
+abbrev pub IsBorne : List Planned → History → Which → Request → Reply → Type 0
+IsBorne plan history from (Fetch path since offset) (Piece total bytes) =
+    (item : ℕ) (planned : Planned) → slice_get plan item ≡ Some planned → WritesTo planned.item (other from) path → since ≡ (seen_on planned from).since →
+    (seen_on planned from).marks ≡ mark (part_at history since path)
+IsBorne plan history from (Replace item path since size) Done =
+    (planned : Planned) → slice_get plan item ≡ Some planned → HadMarks history path (seen_on planned (other from)).marks
+IsBorne plan history from request reply = Unit {0}
 
 -- a request that was sent: of a session that the archive kept, lawful, and by its session's plan
 pub record IsSound_request (plans : Plans) (archive : Archive) (sent : Sent) (to : Which) (session : ℕ) (request : Request) : Type 0 where
@@ -57,10 +78,19 @@ abbrev pub IsStillRecorded : History → Archive → ℕ → Path → ℕ → Ty
 IsStillRecorded history archive session path since =
     session ≡ last_session history → is_quiet history since (length history) path ≡ true → subtree (mark (tree_of history)) path ≡ subtree archive.marks path
 
--- the path of a side's last token was touched since it was listed
+-- the path was touched since it was listed, and had then what the item's source had shown
+pub record IsSpent (history : History) (path : Path) (since : ℕ) (marks : Tree) : Type 0 where
+  pub touched : is_quiet history since (length history) path ≡ false
+  pub put : HadMarks history path marks
+
+-- and so is the path of a side's last token
 abbrev pub IsUsed : Plans → Histories → Type 0
 IsUsed plans histories = (side : Which) (token : Token) (planned : Planned) (path : Path) → last_token (histories side) ≡ Some token →
-    slice_get (plans token.session) token.item ≡ Some planned → WritesTo planned.item side path → is_quiet (histories side) (seen_on planned side).since (length (histories side)) path ≡ false
+    slice_get (plans token.session) token.item ≡ Some planned → WritesTo planned.item side path → IsSpent (histories side) path (seen_on planned side).since (seen_on planned (other side)).marks
+
+-- both sides held each entry
+abbrev pub IsHeld : Histories → Tree → Type 0
+IsHeld histories marks = (path : Path) (content : Content) → get marks path ≡ Some content → (side : Which) → Held (histories side) path content
 
 -- no side has a token of the session
 abbrev pub IsFresh : Histories → ℕ → Type 0
@@ -77,6 +107,9 @@ pub record IsSound (plans : Plans) (histories : Histories) (archive : Archive) (
       (request : Request) × Contains sent (Asks from session number request)
   pub answered : (from : Which) (session number : ℕ) (reply : Reply) (request : Request) → Contains sent (Answers from session number reply) →
       Contains sent (Asks from session number request) → IsTrue (histories from) session request reply
+  pub borne : (from : Which) (session number : ℕ) (reply : Reply) (request : Request) → Contains sent (Answers from session number reply) →
+      Contains sent (Asks from session number request) → IsBorne (plans session) (histories from) from request reply
+  pub held : IsHeld histories archive.marks
   pub planned : (session : ℕ) → (plans session ≡ []) ⊎ ((found : Tree) × IsPlanOf sent session found (plans session))
   pub recorded : (session item : ℕ) (planned : Planned) (side : Which) (path : Path) → slice_get (plans session) item ≡ Some planned → WritesTo planned.item side path →
       IsStillRecorded (histories side) archive session path (seen_on planned side).since
@@ -103,6 +136,7 @@ pub record IsSoundReplacement (plans : Plans) (histories : Histories) (side : Wh
   pub quiet : is_quiet (histories side) since (length (histories side)) path ≡ true
   pub reached : (seen_on planned (other side)).since ≤ length (histories (other side))
   pub whole : new ≡ source_of histories side planned
+  pub carries : (seen_on planned (other side)).marks ≡ mark new
 
 abbrev pub IsSoundEvent : Plans → Histories → Archive → Which → Event → Type 0
 IsSoundEvent plans histories archive side (Edited user edit) = Unit {0}
@@ -114,11 +148,18 @@ pub record IsSoundSide (plans : Plans) (histories : Histories) (archive : Archiv
   pub staged : IfSome machine.side.staging (IsSoundStaging plans histories side)
   pub writing : IfSome machine.writing (λ event. (machine.status ≢ Up) × IsSoundEvent plans histories archive side event)
 
--- what is recorded leaves alone each path of a replacement that may still come
+-- both sides held what is recorded
+abbrev pub IsHeldRecord : Histories → Kept → Type 0
+IsHeldRecord histories (Session session) = Unit {0}
+IsHeldRecord histories (Recorded path marks) = (rest : Path) (content : Content) → get marks rest ≡ Some content → (side : Which) → Held (histories side) (path ++ rest) content
+IsHeldRecord histories (RecordedDir path) = (side : Which) → Held (histories side) path Directory
+
+-- what is recorded leaves alone each path of a replacement that may still come, and both sides held it
 pub record IsHarmless (plans : Plans) (histories : Histories) (kept : Kept) : Type 0 where
   pub leaves : (session item : ℕ) (planned : Planned) (side : Which) (path : Path) → slice_get (plans session) item ≡ Some planned → WritesTo planned.item side path →
       session ≡ last_session (histories side) → is_quiet (histories side) (seen_on planned side).since (length (histories side)) path ≡ true →
       (archive : Archive) → IsTree archive.marks → CanKeep archive kept → subtree (after_kept archive kept).marks path ≡ subtree archive.marks path
+  pub held : IsHeldRecord histories kept
 
 -- a running session has its plan, and none runs while a record is written
 pub record IsSoundCoordinator (plans : Plans) (histories : Histories) (sent : Sent) (machine : CoordinatorMachine) : Type 0 where

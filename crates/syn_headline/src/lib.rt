@@ -3,7 +3,7 @@
 
 ghost use Rattle.syn_headline.specs.Laws.{ServesAllowed};
 ghost use Rattle.syn_headline.specs.Rows.{SideRows};
-ghost use Rattle.syn_headline.specs.Headline.{RunsStand, RunsReplaceLegally, RunsUseTokensOnce, FormattedIsPair};
+ghost use Rattle.syn_headline.specs.Headline.{RunsStand, RunsReplaceLegally, RunsUseTokensOnce, RunsHoldArchive, FormattedIsPair};
 
 /// A step of a side leaves its history or adds one allowed event, and answers as the worked examples say.
 pub fn side_laws()
@@ -17,4 +17,5 @@ pub fn run_laws()
     ensures stands { RunsStand }
     ensures legal { RunsReplaceLegally }
     ensures tokens { RunsUseTokensOnce }
+    ensures archive { RunsHoldArchive }
 {}

@@ -137,21 +137,21 @@ pub record ScansHistory (scan : Scan) (since : Path → ℕ) (history : History)
   pub history_tree : IsTree (tree_of history)
   pub listed : (path : Path) → is_directory scan.marks path ≡ true → is_unstable scan path ≡ false → children scan.marks path ≡ children (mark (tree_at history (since path))) path
   pub ordered : (path : Path) (name : Name) → is_directory scan.marks (child path name) ≡ true → since path ≤ since (child path name)
-
-unstable_itself : (p q : Path) (us : List Path) → is_prefix p q ≡ true → list_any (is_prefix p) us ≡ false → list_any (λ other. is_prefix q other && is_prefix other q) us ≡ false
-unstable_itself p q [] h e = refl
-unstable_itself p q (u ∷ us) h e =
-    let both = both_false (is_prefix p u) (list_any (is_prefix p) us) e in
-    elim (is_prefix q u) as (λ b. is_prefix q u ≡ b → ((b && is_prefix u q) || list_any (λ other. is_prefix q other && is_prefix other q) us) ≡ false) [
-      | false ↦ λ _. unstable_itself p q us h both.1
-      | true ↦ λ y.
-          let one = is_prefix-is p q h in
-          let two = is_prefix-is q u y in
-          absurd (true≢false (sym (ap is_some (ap (strip_prefix p) (two.1 ∙ (ap (λ w. w ++ two.0) one.1 ∙ append_assoc p one.0 two.0)) ∙ strip_prefix-append p (one.0 ++ two.0))) ∙ both.0))
-    ] refl
+  pub not_dir : (path : Path) → is_unstable scan path ≡ true → is_directory (tree_at history (since path)) path ≡ false
 
 module _ (scan : Scan) (since : Path → ℕ) (history : History) (scans : ScansHistory scan since history) (p : Path) (listed_at : ℕ)
-    (stable : has_unstable scan p ≡ false) (quiet : is_quiet history listed_at (length history) p ≡ true) where
+    (quiet : is_quiet history listed_at (length history) p ≡ true) where
+  -- a directory that stood there since its listing was listed itself
+  steady : (s : Path) → listed_at ≤ since (p ++ s) → get scan.marks (p ++ s) ≡ get (mark (tree_of history)) (p ++ s) → is_directory scan.marks (p ++ s) ≡ true → is_unstable scan (p ++ s) ≡ false
+  steady s late same d =
+      elim (is_unstable scan (p ++ s)) as (λ b. is_unstable scan (p ++ s) ≡ b → b ≡ false) [
+        | false ↦ λ _. refl
+        | true ↦ λ u.
+            let now : is_directory (tree_of history) (p ++ s) ≡ true = sym (directory_of_mark (tree_of history) (p ++ s)) ∙ (sym (ap is_directory_content same) ∙ d) in
+            let then = mark_within (tree_at history (since (p ++ s))) (tree_of history) p s (sym (quiet_same history (since (p ++ s)) p (quiet_later history listed_at (since (p ++ s)) p late quiet))) in
+            absurd (true≢false (sym now ∙ (sym (directory_of_mark (tree_of history) (p ++ s)) ∙ (sym (ap is_directory_content then) ∙ (directory_of_mark (tree_at history (since (p ++ s))) (p ++ s) ∙ scans.not_dir (p ++ s) u)))))
+      ] refl
+
   -- from a listing below the path
   listed_below : (s : Path) (n : Name) (position : ℕ) → listed_at ≤ position → children scan.marks (p ++ s) ≡ children (mark (tree_at history position)) (p ++ s) →
       get scan.marks (p ++ (s ++ n ∷ [])) ≡ get (mark (tree_of history)) (p ++ (s ++ n ∷ []))
@@ -166,8 +166,7 @@ module _ (scan : Scan) (since : Path → ℕ) (history : History) (scans : Scans
   below (n ∷ r) s same late =
       elim (is_directory scan.marks (p ++ s)) as (λ b. is_directory scan.marks (p ++ s) ≡ b → get scan.marks (p ++ (s ++ n ∷ r)) ≡ get (mark (tree_of history)) (p ++ (s ++ n ∷ r))) [
         | true ↦ λ d.
-            let steady = unstable_itself p (p ++ s) scan.unstable (ap is_some (strip_prefix-append p s)) stable in
-            let next = listed_below s n (since (p ++ s)) (late d) (scans.listed (p ++ s) d steady) in
+            let next = listed_below s n (since (p ++ s)) (late d) (scans.listed (p ++ s) d (steady s (late d) same d)) in
             let at : child (p ++ s) n ≡ p ++ (s ++ n ∷ []) = append_assoc p s (n ∷ []) in
             let more : (is_directory scan.marks (p ++ (s ++ n ∷ [])) ≡ true → listed_at ≤ since (p ++ (s ++ n ∷ []))) = λ d'.
             let first : listed_at ≤ since (p ++ s) = late d in
@@ -185,15 +184,15 @@ module _ (scan : Scan) (since : Path → ℕ) (history : History) (scans : Scans
 
 -- at a path that nothing touched since its parent was listed, a scan has the mark of what is there
 pub scan_is : (scan : Scan) (since : Path → ℕ) (history : History) → ScansHistory scan since history → (a : Path) (n : Name) →
-    is_directory scan.marks a ≡ true → is_unstable scan a ≡ false → has_unstable scan (child a n) ≡ false → is_quiet history (since a) (length history) (child a n) ≡ true →
+    is_directory scan.marks a ≡ true → is_unstable scan a ≡ false → is_quiet history (since a) (length history) (child a n) ≡ true →
     subtree scan.marks (child a n) ≡ subtree (mark (tree_of history)) (child a n)
-scan_is scan since history scans a n d steady stable quiet =
+scan_is scan since history scans a n d steady quiet =
     let p = child a n in
     let e = append-nil p in
     let here : get scan.marks p ≡ get (mark (tree_of history)) p =
     same_child scan.marks (mark (tree_at history (since a))) a n (scans.listed a d steady)
     ∙ (ap (get (mark (tree_at history (since a)))) (sym e) ∙ (mark_within (tree_at history (since a)) (tree_of history) p [] (sym (quiet_same history (since a) p quiet)) ∙ ap (get (mark (tree_of history))) e)) in
     same_tree (subtree scan.marks p) (subtree (mark (tree_of history)) p) (λ r.
-    get-subtree scan.marks p r ∙ (below scan since history scans p (since a) stable quiet r [] (subst (λ w. get scan.marks w ≡ get (mark (tree_of history)) w) (sym e) here)
+    get-subtree scan.marks p r ∙ (below scan since history scans p (since a) quiet r [] (subst (λ w. get scan.marks w ≡ get (mark (tree_of history)) w) (sym e) here)
     (λ d'. subst (λ w. since a ≤ since w) (sym e) (scans.ordered a n (ap (is_directory scan.marks) (sym e) ∙ d')))
     ∙ sym (get-subtree (mark (tree_of history)) p r)))
