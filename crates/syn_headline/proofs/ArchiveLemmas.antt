@@ -1,12 +1,10 @@
 -- Each entry of the archive was held by both sides, whatever an opening then gives.
-use Rattle.std.proofs.Common.{◌≡◌, ◌≢◌, [], ◌∷◌, sym, ap, ◌∙◌, subst, Option, Some, None, append-nil, inl, inr}
+use Rattle.std.proofs.Common.{◌≡◌, ◌≢◌, [], ◌∷◌, sym, ◌∙◌, subst, Option, Some, None, append-nil, inl, inr}
 use Rattle.std.specs.Prelude.{IfSome}
-use Rattle.syn_model.specs.Path.{Path}
-use Rattle.syn_model.specs.Tree.{Content}
 use Rattle.syn_model.specs.Event.{Event}
 use Rattle.syn_model.specs.History.{History}
 use Rattle.syn_model.specs.Archive.{Archive, Kept, CanKeep, Held}
-use Rattle.syn_headline.specs.Network.{Which, Left, Right}
+use Rattle.syn_headline.specs.Network.{Left, Right}
 use Rattle.syn_headline.specs.Acknowledged.{Grown, ArchiveGrown, stores_after}
 use Rattle.syn_headline.specs.Headline.{stores_of, RunsHoldArchive}
 use Rattle.syn_headline.specs.Invariant.{Histories, histories_of, IsHeld, IsHeldRecord, IsHarmless}
@@ -33,7 +31,7 @@ runs_hold_archive old new steps start runs left right archive grown_left grown_r
     let kept = after.1 in
     let stands = run_stands (stores_of old) old new steps runs (start_stands old start.nothing_yet.1) in
     let pending = if_some new.coordinator.writing (λ record_of. (new.coordinator.status ≢ Up) × (new.coordinator.running ≡ None) × CanKeep new.coordinator.archive record_of × IsHarmless after.0 (histories_of new) record_of)
-        (IsHeldRecord (histories_of new)) kept.coordinator.writing (λ record_of _ h. h.3.held) in
+    (IsHeldRecord (histories_of new)) kept.coordinator.writing (λ record_of _ h. h.3.held) in
     let held = archive_held (histories_of new) new.coordinator.writing new.coordinator.archive archive pending kept.sound.held (subst (λ a. ArchiveGrown new.coordinator.writing a archive) (sym stands.archive) grown_archive) path content e in (
       held-grow now.left left (grown_extends new.left.writing now.left left grown_left) path content (subst (λ h. Held h path content) stands.left (held Left)),
       held-grow now.right right (grown_extends new.right.writing now.right right grown_right) path content (subst (λ h. Held h path content) stands.right (held Right)),

@@ -1,12 +1,8 @@
 -- What a scan shows was held.
-use Rattle.std.proofs.Common.{◌≡◌, ℕ, suc, true, false, ◌&&◌, ◌||◌, if◌then◌else◌, List, [], ◌∷◌, ◌++◌, refl, sym, ap, ap₂, ◌∙◌, subst, Some, None, is_some, true≢false, arith, inl, inr, ◌⊎◌, option_map}
-use Rattle.std.specs.Prelude.{Contains}
-use Rattle.std.specs.List.{list_any}
-use Rattle.std.specs.Option.{option_map_or}
+use Rattle.std.proofs.Common.{◌≡◌, ℕ, true, false, [], ◌∷◌, refl, sym, ap, ◌∙◌, subst, Some, is_some, arith, option_map}
 use Rattle.std.specs.FinMap.{get, find}
-use Rattle.std.specs.Ordering.{eq_by_cmp}
-use Rattle.syn_model.specs.Path.{Name, Path, name_cmp, is_prefix, child, strip_prefix}
-use Rattle.syn_model.specs.Tree.{Tree, Content, replace, is_directory, is_directory_content}
+use Rattle.syn_model.specs.Path.{Name, Path, name_cmp, child}
+use Rattle.syn_model.specs.Tree.{Content, is_directory, is_directory_content}
 use Rattle.syn_model.specs.Limits.{children}
 use Rattle.syn_model.specs.Mark.{mark, mark_of}
 use Rattle.syn_model.specs.Dirty.{Scan}
@@ -17,10 +13,8 @@ use Rattle.syn_headline.specs.Side.{ListAt, Listed}
 use Rattle.syn_headline.specs.Network.{Which, Sent}
 use Rattle.syn_headline.specs.Planning.{IsScanOf}
 use Rattle.syn_headline.specs.Invariant.{Plans, Histories, IsSound, IsTrueListing}
-use Rattle.syn_model.proofs.PathLemmas.{none_some, strip_prefix-is, same_name, name_itself}
-use Rattle.syn_model.proofs.TreeLemmas.{get-replace}
+use Rattle.syn_model.proofs.PathLemmas.{none_some}
 use Rattle.syn_model.proofs.MarkLemmas.{get-mark}
-use Rattle.syn_model.proofs.DirtyLemmas.{both_true}
 use Rattle.syn_model.proofs.QuietLemmas.{get-children, same_child}
 use Rattle.syn_headline.proofs.PlanLemmas.{last_name, found_unstable}
 use Rattle.syn_headline.proofs.MoveLemmas.{tree_at_is_tree}

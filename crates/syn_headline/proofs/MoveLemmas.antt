@@ -1,22 +1,18 @@
 -- The invariant is kept as a side answers a request.
-use Rattle.std.proofs.Common.{◌≡◌, ◌≤◌, ◌+◌, ℕ, Bool, true, false, not, ◌&&◌, ◌||◌, ◌==◌, nat_le, List, [], filter_map, option_map, ◌∷◌, ◌++◌, length, take, drop, refl, sym, ap, ap₂, ◌∙◌, subst, Option, Some, None, is_some, true≢false, append_assoc, append-nil, arith, inl, inr, ◌⊎◌, slice_get, fold}
+use Rattle.std.proofs.Common.{◌≡◌, ◌≤◌, ◌+◌, ℕ, Bool, true, false, not, ◌||◌, ◌==◌, List, [], ◌∷◌, ◌++◌, length, take, drop, refl, sym, ap, ap₂, ◌∙◌, subst, Option, Some, None, is_some, true≢false, append_assoc, append-nil, arith, inl, inr, ◌⊎◌, slice_get, fold}
 use Rattle.std.specs.Prelude.{Contains, IfSome}
-use Rattle.std.specs.Option.{option_map_or, option_and_then}
-use Rattle.std.specs.FinMap.{len-entries}
-use Rattle.std.specs.Prelude.{sum_by}
-use Rattle.std.specs.List.{list_all}
-use Rattle.syn_model.proofs.RowLemmas.{entries-at_root}
+use Rattle.std.specs.Option.{option_map_or}
 use Rattle.std.proofs.lemmas.Bool.Decides.{nat_tests}
 use Rattle.std.proofs.lemmas.List.{length-append, take-append-drop}
 use Rattle.std.proofs.Math.Seq.{take-append_seam, take-length}
-use Rattle.syn_model.specs.Path.{Name, Bytes, Path, parent, comparable, is_prefix, strip_prefix}
-use Rattle.syn_model.specs.Tree.{Tree, is_directory, IsTree, subtree, replace, Content, Pair, Directory, empty_directory}
-use Rattle.syn_model.specs.Limits.{children, fits_replica, only_name, last_name_spelling_length, content_spelling_length, fits_content, fits_path}
+use Rattle.syn_model.specs.Path.{Bytes, Path, parent, comparable, is_prefix}
+use Rattle.syn_model.specs.Tree.{Tree, is_directory, IsTree, subtree, replace}
+use Rattle.syn_model.specs.Limits.{children, fits_replica}
 use Rattle.syn_model.specs.Mark.{mark}
 use Rattle.syn_model.specs.Spelling.{spelling}
-use Rattle.syn_model.specs.Event.{Token, is_below, is_same_token, Event, Edited, Began, Replaced, touches, after_event, after_edit}
+use Rattle.syn_model.specs.Event.{Token, is_below, is_same_token, Event, Edited, Began, Replaced, touches}
 use Rattle.syn_model.specs.History.{History, IsHistory, AllAllowed, IsAllowed, tree_of, tree_at, is_quiet, last_session, last_token, is_old_token, position_causes}
-use Rattle.syn_model.specs.Standing.{token_after, place_causes, full_causes, edit_causes}
+use Rattle.syn_model.specs.Standing.{token_after, place_causes, full_causes}
 use Rattle.syn_model.specs.Archive.{Archive}
 use Rattle.syn_headline.specs.Laws.{AddsAllowed}
 use Rattle.syn_headline.specs.Side.{Side, Served, Staging, Request, Begin, ListAt, Fetch, Stage, Replace, Piece, Refused, Reads, token_of, is_staged, staged_bytes}
@@ -26,13 +22,14 @@ use Rattle.syn_headline.specs.Planning.{Planned, seen_on, WritesTo}
 use Rattle.syn_headline.specs.Invariant.{Plans, Histories, IsSound, IsTrue, IsBorne, HadMarks, IsSpent, IsTruePiece, IsSoundStaging, IsSoundReplacement, IsSoundEvent, source_of, part_at}
 use Rattle.syn_model.proofs.PathLemmas.{some_same, strip_prefix-append}
 use Rattle.syn_headline.proofs.SpellingLemmas.{spellings_tell}
-use Rattle.syn_model.proofs.HistoryLemmas.{history-is_tree, first_cause-none, tree_of-append, none-append}
+use Rattle.syn_model.proofs.FitsLemmas.{history_fits}
+use Rattle.syn_model.proofs.HistoryLemmas.{history-is_tree, first_cause-none, tree_of-append}
 use Rattle.syn_model.proofs.DirtyLemmas.{both_true, both_false}
 use Rattle.syn_model.proofs.QuietLemmas.{quiet_before, quiet_same}
 use Rattle.syn_headline.proofs.PlanLemmas.{writes_path, since_reached, seen_is, writes_of, parent-child}
 use Rattle.syn_model.proofs.MarkLemmas.{mark-subtree}
 use Rattle.syn_model.proofs.TreeLemmas.{subtree-replace}
-use Rattle.syn_model.specs.Refusal.{Refusal, OldSession, Full, Cause, first_cause}
+use Rattle.syn_model.specs.Refusal.{Refusal, OldSession}
 use Rattle.syn_headline.specs.Acknowledged.{Stores, history_of, WasListed, IsLegal}
 use Rattle.syn_headline.proofs.SoundLemmas.{fold_one, had-grow, made, extends, length_grows, part_at_stays, still_touched, sound-grow}
 use Rattle.syn_headline.proofs.OutcomeLemmas.{Outcome, refuses, begins_again, begins, lists, lists_none, fetches, stages_first, stages_more, stages_again, done_again, replaces}
@@ -208,43 +205,9 @@ all_front start (x ∷ xs) ys h = (h.0, all_front (start ++ x ∷ []) xs ys h.1)
 pub tree_at_is_tree : (history : History) (k : ℕ) → IsHistory history → IsTree (tree_at history k)
 tree_at_is_tree history k h = history-is_tree (take k history) (all_front [] (take k history) (drop k history) (subst IsHistory (sym (take-append-drop k history)) h))
 
-is_not : (b : Bool) → not b ≡ false → b ≡ true
-is_not true e = refl
-is_not false e = absurd (true≢false e)
-
-fits_of : (new : Tree) (more : List Cause) → first_cause (full_causes new ++ more) ≡ None → fits_replica new ≡ true
-fits_of new more e = is_not (fits_replica new) (first_cause-none (not (fits_replica new), Full) more e).0
-
-event_fits : (history : History) (event : Event) → IsAllowed history event → fits_replica (tree_of history) ≡ true → fits_replica (after_event (tree_of history) event) ≡ true
-event_fits history (Edited user edit) a h = fits_of (after_edit (tree_of history) edit) (position_causes history) (none-append (edit_causes (tree_of history) edit) (full_causes (after_edit (tree_of history) edit) ++ position_causes history) a.not_refused).1
-event_fits history (Began session) a h = h
-event_fits history (Replaced token path since u) a h =
-    let rest = full_causes (replace (tree_of history) path u) ++ position_causes history in
-    fits_of (replace (tree_of history) path u) (position_causes history)
-    (none-append (place_causes (tree_of history) path) rest (first_cause-none (is_old_token history token, OldSession) (place_causes (tree_of history) path ++ rest) a.not_refused).1).1
-
-abbrev listed_children : List Pair → Path → List (Name × Content)
-listed_children es path = filter_map (λ pair. option_map (λ name. (name, pair.1)) (option_and_then only_name (strip_prefix path pair.0))) es
-
-abbrev fits_by : ℕ → List Pair → Bool
-fits_by n es = nat_le n 1024 && nat_le (sum_by (λ pair. last_name_spelling_length pair.0 + content_spelling_length pair.1) es) 524288
-    && list_all (λ pair. fits_content pair.1 && nat_le (length (listed_children es pair.0)) 256) es && list_all (λ pair. fits_path pair.0) es
-
-empty_fits : fits_replica (tree_of []) ≡ true
-unfolding tree_of
-empty_fits =
-    let es = entries-at_root Directory in
-    ap₂ fits_by (len-entries empty_directory ∙ ap length es) es
-
-more_fits : (start events : History) → fits_replica (tree_of start) ≡ true → AllAllowed start events → fits_replica (tree_of (start ++ events)) ≡ true
-more_fits start [] h all = ap (λ w. fits_replica (tree_of w)) (append-nil start) ∙ h
-more_fits start (event ∷ events) h all =
-    let after : fits_replica (tree_of (start ++ event ∷ [])) ≡ true = ap fits_replica (tree_of-append start (event ∷ [])) ∙ event_fits start event all.0 h in
-    ap (λ w. fits_replica (tree_of w)) (sym (append_assoc start (event ∷ []) events)) ∙ more_fits (start ++ event ∷ []) events after all.1
-
 -- a history has at each position a tree that fits
 tree_at_fits : (history : History) (k : ℕ) → IsHistory history → fits_replica (tree_at history k) ≡ true
-tree_at_fits history k h = more_fits [] (take k history) empty_fits (all_front [] (take k history) (drop k history) (subst IsHistory (sym (take-append-drop k history)) h))
+tree_at_fits history k h = history_fits (take k history) (all_front [] (take k history) (drop k history) (subst IsHistory (sym (take-append-drop k history)) h))
 
 -- A request
 
@@ -278,16 +241,16 @@ module _ (plans : Plans) (archive : Archive) (sent : Sent) (histories : Historie
       let full : length st.0.bytes ≡ length whole = ap length (sym st.3) ∙ (long ∙ true_piece.whole) in
       let bytes_are : st.0.bytes ≡ whole = begins ∙ (ap (λ k. take k whole) full ∙ take-length whole) in
       let new_is : new ≡ source_of histories which planned = spellings_tell new (source_of histories which planned) reads.0 reads.1
-          (record {
-            whole = tree_at (histories (other which)) (seen_on planned (other which)).since;
-            path = path_of planned.item;
-            tree = tree_at_is_tree (histories (other which)) (seen_on planned (other which)).since (sound.lawful (other which));
-            fits = tree_at_fits (histories (other which)) (seen_on planned (other which)).since (sound.lawful (other which));
-            part_is = refl;
-          })
-          (reads.3 ∙ (st.3 ∙ bytes_are)) in
+      (record {
+        whole = tree_at (histories (other which)) (seen_on planned (other which)).since;
+        path = path_of planned.item;
+        tree = tree_at_is_tree (histories (other which)) (seen_on planned (other which)).since (sound.lawful (other which));
+        fits = tree_at_fits (histories (other which)) (seen_on planned (other which)).since (sound.lawful (other which));
+        part_is = refl;
+      })
+      (reads.3 ∙ (st.3 ∙ bytes_are)) in
       let to_path : WritesTo planned.item (other (other which)) (path_of planned.item) =
-          subst (λ s. WritesTo planned.item s (path_of planned.item)) (sym (other_twice which)) (subst (WritesTo planned.item which) (sym (writes_path planned.item which path by_plan.2)) by_plan.2) in
+      subst (λ s. WritesTo planned.item s (path_of planned.item)) (sym (other_twice which)) (subst (WritesTo planned.item which) (sym (writes_path planned.item which path by_plan.2)) by_plan.2) in
       let borne = sound.borne (other which) session piece.number (Piece size by_plan.4.1) (Fetch (path_of planned.item) (seen_on planned (other which)).since by_plan.4.0) piece.answered piece.asked in
       record {
         planned = planned;

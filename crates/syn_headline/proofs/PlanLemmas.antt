@@ -8,7 +8,7 @@ use Rattle.std.proofs.lemmas.Option.{slice_get_within, get_or_from_slice_get}
 use Rattle.syn_model.specs.Path.{Name, Path, name_cmp, is_prefix, strip_prefix, parent, child}
 use Rattle.syn_model.specs.Tree.{Tree, IsTree, subtree, is_directory, is_directory_content}
 use Rattle.syn_model.specs.Limits.{children}
-use Rattle.syn_model.specs.Dirty.{Scan, dirty, has_unstable, is_same_tree}
+use Rattle.syn_model.specs.Dirty.{Scan, dirty, is_same_tree}
 use Rattle.syn_model.specs.Mark.{mark}
 use Rattle.syn_model.specs.History.{tree_of, is_quiet, last_session}
 use Rattle.syn_model.specs.Reconcile.{is_directory_in_both}

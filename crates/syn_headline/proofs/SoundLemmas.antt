@@ -319,7 +319,6 @@ recorded_entry marks at new p x e = elim (strip_prefix at p) as (λ o. strip_pre
   | Some rest ↦ λ some. inl (rest, strip_prefix-is at p rest some, sym (ap (λ o. option_map_or (λ r. get new r) o (get marks p)) some) ∙ (sym (get-replace marks at new p) ∙ e))
 ] refl
 
-
 session_next : (n last : ℕ) → not (n == last + 1) ≡ false → last ≤ n
 session_next n last h = grind (arith, nat_tests)
 

@@ -9,7 +9,7 @@ use Rattle.syn_model.specs.Standing.{session_after, token_after}
 use Rattle.syn_model.specs.Archive.{Archive, Kept, Session, Recorded, RecordedDir, CanKeep, after_kept, archive_of}
 use Rattle.syn_headline.specs.Laws.{AddsAllowed}
 use Rattle.syn_headline.specs.Side.{Request, Reply}
-use Rattle.syn_headline.specs.Network.{Which, Left, Right, other, Sent, Message, Asks, Answers}
+use Rattle.syn_headline.specs.Network.{Which, Left, other, Sent, Message, Asks, Answers}
 use Rattle.syn_headline.specs.Planning.{seen_on}
 use Rattle.syn_headline.specs.World.{Up, World, SideMachine, Running, outstanding, side_of, IsOfPlan, IsOfSession, AllOfSession, RunsOver, WasSent, AllCanKeep, CoordinatorGoes}
 use Rattle.syn_headline.specs.Invariant.{Plans, Histories, histories_of, IsSound, IsSound_request, IsTrue, IsBorne, IsHeldRecord, IsFresh, IsSoundStaging, IsSoundEvent, IsSoundSide, IsSoundCoordinator, IsHarmless, IsKept}

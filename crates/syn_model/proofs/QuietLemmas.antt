@@ -1,25 +1,25 @@
 -- What no event touched is as it was, also in what a scan listed.
-use Rattle.std.proofs.Common.{◌≡◌, ◌≤◌, ℕ, zero, suc, Bool, true, false, cond, not, ◌&&◌, ◌||◌, List, [], ◌∷◌, ◌++◌, length, take, drop, fold, filter_map, refl, sym, ap, ◌∙◌, subst, Option, Some, None, option_map, is_some, true≢false, append_assoc, append-nil, arith}
+use Rattle.std.proofs.Common.{◌≡◌, ◌≤◌, ℕ, zero, suc, Bool, true, false, cond, not, List, [], ◌∷◌, ◌++◌, length, take, drop, fold, filter_map, refl, sym, ap, ◌∙◌, subst, Option, Some, None, option_map, is_some, true≢false, append_assoc, append-nil, arith}
 use Rattle.std.proofs.lemmas.List.{take-append-drop, drop-append-le, take-append-le}
 use Rattle.std.proofs.Math.Seq.{take-length}
 use Rattle.std.proofs.lemmas.List.Folds.{list_all-append}
-use Rattle.std.specs.List.{list_all, list_any, cons_option}
+use Rattle.std.specs.List.{list_all, cons_option}
 use Rattle.std.specs.Option.{option_map_or, option_and_then}
 use Rattle.std.specs.Ordering.{eq_by_cmp}
 use Rattle.std.specs.FinMap.{find, entries, get, get-entries}
-use Rattle.syn_model.specs.Path.{Name, Path, name_cmp, path_cmp, is_prefix, strip_prefix, child}
+use Rattle.syn_model.specs.Path.{Name, Path, name_cmp, path_cmp, strip_prefix, child}
 use Rattle.syn_model.specs.Tree.{Tree, Content, Directory, File, Pair, IsTree, HasParents, subtree, is_directory, is_directory_content}
 use Rattle.syn_model.specs.Limits.{children, only_name}
 use Rattle.syn_model.specs.Event.{Event, Edited, Began, Replaced, Put, MakeDir, Remove, after_event, touches}
 use Rattle.syn_model.specs.History.{History, tree_of, tree_at, is_quiet}
 use Rattle.syn_model.specs.Mark.{mark, mark_of}
-use Rattle.syn_model.specs.Dirty.{Scan, has_unstable}
+use Rattle.syn_model.specs.Dirty.{Scan}
 use Rattle.syn_model.specs.Decision.{is_unstable}
-use Rattle.syn_model.proofs.PathLemmas.{eq-under, then_rest, is_prefix-is, strip_prefix-append}
+use Rattle.syn_model.proofs.PathLemmas.{eq-under, then_rest}
 use Rattle.syn_model.proofs.TreeLemmas.{subtree-replace_other, get-subtree, same_tree}
 use Rattle.syn_model.proofs.HistoryLemmas.{tree_of-append}
 use Rattle.syn_model.proofs.MarkLemmas.{get-mark}
-use Rattle.syn_model.proofs.DirtyLemmas.{both_true, both_false}
+use Rattle.syn_model.proofs.DirtyLemmas.{both_true}
 
 -- none of the events touches the path
 abbrev pub none_touches : List Event → Path → Bool
