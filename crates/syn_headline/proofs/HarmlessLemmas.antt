@@ -11,14 +11,14 @@ use Rattle.syn_model.specs.History.{History, tree_at, is_quiet, last_session}
 use Rattle.syn_model.specs.Archive.{Archive, Kept, Recorded, RecordedDir, after_kept, Held}
 use Rattle.syn_headline.specs.Side.{Replace, Reply, Done}
 use Rattle.syn_headline.specs.Network.{Which, Left, Right, other, Sent, Asks, Answers}
-use Rattle.syn_headline.specs.Planning.{Planned, seen_on, IsPlannedFrom, IsPlanOf, WritesTo}
+use Rattle.syn_headline.specs.Planning.{Planned, seen_on, IsPlanOf, WritesTo}
 use Rattle.syn_headline.specs.World.{Running, Outstanding, outstanding, IsDue, done, same, directory}
 use Rattle.syn_headline.specs.Invariant.{Plans, Histories, IsSound, HadMarks, IsHeldRecord, IsHarmless}
 use Rattle.syn_model.proofs.PathLemmas.{is_prefix-is, strip_prefix-append, some_same}
 use Rattle.syn_model.proofs.TreeLemmas.{get-subtree, same_tree, subtree-replace_other, within}
 use Rattle.syn_model.proofs.HistoryLemmas.{get-below_root}
 use Rattle.syn_model.proofs.QuietLemmas.{nothing_below}
-use Rattle.syn_headline.proofs.PlanLemmas.{IsDecided, decided_by, goes_on_at, writes_clean, writes_path, planned_is, fenced}
+use Rattle.syn_headline.proofs.PlanLemmas.{IsDecided, IsPlannedFrom, decided_by, goes_on_at, writes_clean, writes_path, planned_is, fenced}
 use Rattle.syn_headline.proofs.SoundLemmas.{made}
 use Rattle.syn_headline.proofs.MoveLemmas.{on_both}
 use Rattle.syn_headline.proofs.HeldLemmas.{scan_held}
@@ -164,7 +164,7 @@ module _ (plans : Plans) (histories : Histories) (archive : Archive) (sent : Sen
       Held (histories side) (path_of due.item ++ rest) content
   seen_held item due e side rest content at =
       let is = made plans histories archive sent sound running.session item due e in
-      let due_is = planned_is is.1.scan is.1.since is.0 (plans running.session) item due is.1.items e in
+      let due_is = planned_is sent running.session is.0 (plans running.session) is.1 item due e in
       scan_held plans histories archive sent sound side running.session (is.1.scan side) (is.1.since side) (is.1.scanned side) (path_of due.item ++ rest) content
       (sym (get-subtree (is.1.scan side).marks (path_of due.item) rest) ∙ (ap (λ t. get t rest) (sym (due_is.seen side).0) ∙ at))
 
@@ -188,7 +188,7 @@ module _ (plans : Plans) (histories : Histories) (archive : Archive) (sent : Sen
   directory_held : (item : ℕ) (path : Path) (due : Planned) → slice_get (plans running.session) item ≡ Some due → due.item ≡ MarkDir path → IsHeldRecord histories (RecordedDir path)
   directory_held item path due e kind side =
       let is = made plans histories archive sent sound running.session item due e in
-      let due_is = planned_is is.1.scan is.1.since is.0 (plans running.session) item due is.1.items e in
+      let due_is = planned_is sent running.session is.0 (plans running.session) is.1 item due e in
       let both = mark_dir_is (is.1.scan Left) (is.1.scan Right) is.0 (path_of due.item) path (subst (IsDecided (decision (is.1.scan Left) (is.1.scan Right) is.0 (path_of due.item))) kind due_is.decided) in
       let each = both_true (is_directory (is.1.scan Left).marks (path_of due.item)) (is_directory (is.1.scan Right).marks (path_of due.item)) both in
       let there : is_directory (is.1.scan side).marks (path_of due.item) ≡ true = elim side as (λ s. is_directory (is.1.scan s).marks (path_of due.item) ≡ true) [ Left ↦ each.0 | Right ↦ each.1 ] in
@@ -210,8 +210,8 @@ module _ (plans : Plans) (histories : Histories) (archive : Archive) (sent : Sen
         leaves = λ session j planned side p ej wp current quiet a tree can.
             let here : session ≡ running.session = of_running is.0 is.1 side session current in
             let ej' = ap (λ n. slice_get (plans n) j) (sym here) ∙ ej in
-            let due_is = planned_is is.1.scan is.1.since is.0 (plans running.session) item due is.1.items e in
-            let p_is = planned_is is.1.scan is.1.since is.0 (plans running.session) j planned is.1.items ej' in
+            let due_is = planned_is sent running.session is.0 (plans running.session) is.1 item due e in
+            let p_is = planned_is sent running.session is.0 (plans running.session) is.1 j planned ej' in
             let at = writes_path planned.item side p wp in
             let due_at = writes_path due.item from q w in
             let clean = writes_clean (is.1.scan Left) (is.1.scan Right) is.0 (path_of due.item) due.item from q is.1.scan refl refl w due_is.decided in
@@ -240,8 +240,8 @@ module _ (plans : Plans) (histories : Histories) (archive : Archive) (sent : Sen
         leaves = λ session j planned side p ej wp current quiet a tree can.
             let here : session ≡ running.session = of_running is.0 is.1 side session current in
             let ej' = ap (λ n. slice_get (plans n) j) (sym here) ∙ ej in
-            let due_is = planned_is is.1.scan is.1.since is.0 (plans running.session) item due is.1.items e in
-            let p_is = planned_is is.1.scan is.1.since is.0 (plans running.session) j planned is.1.items ej' in
+            let due_is = planned_is sent running.session is.0 (plans running.session) is.1 item due e in
+            let p_is = planned_is sent running.session is.0 (plans running.session) is.1 j planned ej' in
             let at = writes_path planned.item side p wp in
             let due_at = ap path_of kind in
             let beside = mark_same_is (is.1.scan Left) (is.1.scan Right) is.0 q q (subst (λ x. IsDecided (decision (is.1.scan Left) (is.1.scan Right) is.0 x) (MarkSame q)) due_at (subst (λ i. IsDecided (decision (is.1.scan Left) (is.1.scan Right) is.0 (path_of due.item)) i) kind due_is.decided)) in
@@ -263,8 +263,8 @@ module _ (plans : Plans) (histories : Histories) (archive : Archive) (sent : Sen
         leaves = λ session j planned side p ej wp current quiet a tree can.
             let here : session ≡ running.session = of_running is.0 is.1 side session current in
             let ej' = ap (λ n. slice_get (plans n) j) (sym here) ∙ ej in
-            let due_is = planned_is is.1.scan is.1.since is.0 (plans running.session) item due is.1.items e in
-            let p_is = planned_is is.1.scan is.1.since is.0 (plans running.session) j planned is.1.items ej' in
+            let due_is = planned_is sent running.session is.0 (plans running.session) is.1 item due e in
+            let p_is = planned_is sent running.session is.0 (plans running.session) is.1 j planned ej' in
             let at = writes_path planned.item side p wp in
             let due_at = ap path_of kind in
             elim (comparable q p) as (λ b. comparable q p ≡ b → subtree (after_kept a (RecordedDir q)).marks p ≡ subtree a.marks p) [

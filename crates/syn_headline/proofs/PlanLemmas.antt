@@ -1,10 +1,12 @@
 -- What the items of a plan tell of the scans that it was made of, and of the histories.
-use Rattle.std.proofs.Common.{◌≡◌, ◌≤◌, ℕ, suc, Bool, is_some, None, arith, true, false, not, ◌&&◌, ◌||◌, List, [], ◌∷◌, ◌++◌, length, refl, sym, ap, ap₂, ◌∙◌, subst, Some, true≢false, append-nil, inl, inr, ◌⊎◌, if◌then◌else◌, slice_get}
+use Rattle.std.proofs.Common.{option_map, map, ◌≡◌, ◌≤◌, ℕ, suc, Bool, is_some, None, arith, true, false, not, ◌&&◌, ◌||◌, List, [], ◌∷◌, ◌++◌, length, refl, sym, ap, ap₂, ◌∙◌, subst, Some, true≢false, append-nil, inl, inr, ◌⊎◌, if◌then◌else◌, slice_get}
 use Rattle.std.specs.Prelude.{All, Contains}
 use Rattle.std.specs.List.{list_any}
 use Rattle.std.specs.Ordering.{eq_by_cmp}
-use Rattle.std.proofs.lemmas.List.Elements.{Contains-append_left, All-get_or}
-use Rattle.std.proofs.lemmas.Option.{slice_get_within, get_or_from_slice_get}
+use Rattle.std.proofs.lemmas.List.Elements.{Contains-append_left, All-get_or, All-contains, Contains-get_or}
+use Rattle.std.proofs.lemmas.Option.{slice_get_within, get_or_from_slice_get, slice_get-map}
+use Rattle.syn_model.specs.Plan.{plan as items_of, IsDecided as IsDecidedAt}
+use Rattle.syn_model.proofs.PlanOrder.{plan_is_decided}
 use Rattle.syn_model.specs.Path.{Name, Path, name_cmp, is_prefix, strip_prefix, parent, child}
 use Rattle.syn_model.specs.Tree.{Tree, IsTree, subtree, is_directory, is_directory_content}
 use Rattle.syn_model.specs.Limits.{children}
@@ -12,11 +14,11 @@ use Rattle.syn_model.specs.Dirty.{Scan, dirty, is_same_tree}
 use Rattle.syn_model.specs.Mark.{mark}
 use Rattle.syn_model.specs.History.{tree_of, is_quiet, last_session}
 use Rattle.syn_model.specs.Reconcile.{is_directory_in_both}
-use Rattle.syn_model.specs.Decision.{Item, ToLeft, ToRight, MarkSame, MarkDir, Conflict, Decision, Clean, Do, DoAndGoOn, GoOn, decision, is_unstable, path_of, GoesOn}
+use Rattle.syn_model.specs.Decision.{IsReached, Item, ToLeft, ToRight, MarkSame, MarkDir, Conflict, Decision, Clean, Do, DoAndGoOn, GoOn, decision, is_unstable, path_of, GoesOn}
 use Rattle.syn_headline.specs.Side.{Request, Reply, Begin, ListAt, Fetch, Stage, Replace, Listed, NotDir, Begun}
 use Rattle.syn_headline.specs.Network.{Which, Left, Right, Sent, Asks, Answers, WasAnswered}
 use Rattle.syn_model.specs.Archive.{Archive}
-use Rattle.syn_headline.specs.Planning.{Planned, seen_on, IsScanOf, IsPlannedFrom, IsPlanOf, WritesTo}
+use Rattle.syn_headline.specs.Planning.{Planned, seen_on, IsScanOf, SeesBoth, IsPlanOf, WritesTo}
 use Rattle.syn_headline.specs.World.{IsOfPlan}
 use Rattle.syn_headline.specs.Invariant.{Plans, Histories, IsSound, IsTrueListing, IsTrueNotDir}
 use Rattle.syn_model.proofs.PathLemmas.{parent-append, same_name, name_itself}
@@ -56,6 +58,7 @@ plan_of-more sent more session archive plan h = record {
   begun = λ side. let b = h.begun side in record { pair = b.pair; position = b.position; begun = answered-more sent more _ _ _ _ b.begun };
   scanned = λ side. scan_of-more sent more side session (h.scan side) (h.since side) (h.scanned side);
   items = h.items;
+  seen = h.seen;
 }
 
 -- What is decided
@@ -128,9 +131,25 @@ last_name n (m ∷ p) = let rest = last_name m p in (n ∷ rest.0, rest.1, ap (�
 pub parent-child : (a : Path) (n : Name) → parent (child a n) ≡ a
 parent-child a n = parent-append a n [] ∙ append-nil a
 
-pub planned_is : (scan : Which → Scan) (since : Which → Path → ℕ) (found : Tree) (plan : List Planned) (item : ℕ) (planned : Planned) → All (IsPlannedFrom scan since found) plan → slice_get plan item ≡ Some planned → IsPlannedFrom scan since found planned
-planned_is scan since found plan item planned all e =
-    subst (IsPlannedFrom scan since found) (get_or_from_slice_get plan item planned planned e) (All-get_or (IsPlannedFrom scan since found) plan item planned (slice_get_within plan item planned e) all)
+-- an item of a plan is what is decided at its path, with what the scans have there
+pub record IsPlannedFrom (scan : Which → Scan) (since : Which → Path → ℕ) (archive : Tree) (planned : Planned) : Type 0 where
+  pub reached : IsReached (scan Left) (scan Right) archive (path_of planned.item)
+  pub decided : IsDecided (decision (scan Left) (scan Right) archive (path_of planned.item)) planned.item
+  pub seen : SeesBoth scan since planned
+
+found_item : (items : List Item) (plan : List Planned) (item : ℕ) (planned : Planned) → map (λ p. p.item) plan ≡ items → slice_get plan item ≡ Some planned → Contains items planned.item
+found_item items plan item planned same e =
+    let at : slice_get items item ≡ Some planned.item = ap (λ xs. slice_get xs item) (sym same) ∙ (slice_get-map (λ p. p.item) plan item ∙ ap (option_map (λ p. p.item)) e) in
+    subst (Contains items) (get_or_from_slice_get items item planned.item planned.item at) (Contains-get_or items item planned.item (slice_get_within items item planned.item at))
+
+pub planned_is : (sent : Sent) (session : ℕ) (found : Tree) (plan : List Planned) (is : IsPlanOf sent session found plan) (item : ℕ) (planned : Planned) → slice_get plan item ≡ Some planned → IsPlannedFrom is.scan is.since found planned
+planned_is sent session found plan is item planned e =
+    let decided = All-contains (IsDecidedAt (is.scan Left) (is.scan Right) found) (items_of (is.scan Left) (is.scan Right) found) planned.item (plan_is_decided (is.scan Left) (is.scan Right) found) (found_item _ plan item planned is.items e) in
+    record {
+      reached = decided.reached;
+      decided = decided.decided;
+      seen = subst (SeesBoth is.scan is.since) (get_or_from_slice_get plan item planned planned e) (All-get_or (SeesBoth is.scan is.since) plan item planned (slice_get_within plan item planned e) is.seen);
+    }
 
 pub writes_path : (item : Item) (side : Which) (path : Path) → WritesTo item side path → path_of item ≡ path
 writes_path (ToLeft at) Left path w = w
@@ -247,7 +266,7 @@ module _ (plans : Plans) (histories : Histories) (archive : Archive) (sent : Sen
 
     module _ (item : ℕ) (planned : Planned) (side : Which) (path : Path) (e : slice_get plan item ≡ Some planned) (w : WritesTo planned.item side path) where
       pub writes_of : Writes is.scan is.since found planned side path
-      writes_of = writes_at is.scan is.since found planned side path (λ s. (is.scanned s).tree) (planned_is is.scan is.since found plan item planned is.items e) w (writes_path planned.item side path w)
+      writes_of = writes_at is.scan is.since found planned side path (λ s. (is.scanned s).tree) (planned_is sent session found plan is item planned e) w (writes_path planned.item side path w)
 
       pub since_reached : (s : Which) → (seen_on planned s).since ≤ length (histories s)
       since_reached s =

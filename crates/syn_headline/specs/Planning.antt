@@ -1,12 +1,13 @@
 -- Where a session's plan and what it stages come from: the listings and pieces that the sides answered.
-use Rattle.std.specs.Prelude.{ℕ, ◌≡◌, ◌≤◌, ◌⊎◌, true, false, List, [], Contains, All}
+use Rattle.std.specs.Prelude.{ℕ, ◌≡◌, ◌≤◌, true, false, List, [], map, Contains, All}
 use Rattle.syn_model.specs.Path.{Path, Name, parent, child}
 use Rattle.syn_model.specs.Tree.{Tree, IsTree, subtree, is_directory}
 use Rattle.syn_model.specs.Limits.{children}
 use Rattle.syn_model.specs.Dirty.{Scan}
 use Rattle.syn_headline.specs.Side.{Begin, ListAt, Fetch, Begun, Listed, NotDir, Piece}
 use Rattle.syn_headline.specs.Network.{Which, Left, Right, other, Sent, WasAnswered}
-use Rattle.syn_model.specs.Decision.{Item, path_of, IsReached, ToLeft, ToRight, MarkSame, MarkDir, Conflict, Do, DoAndGoOn, decision, is_unstable}
+use Rattle.syn_model.specs.Decision.{Item, path_of, ToLeft, ToRight, MarkSame, MarkDir, Conflict, is_unstable}
+use Rattle.syn_model.specs.Plan.{plan as items_of}
 
 -- each directory of the scan was listed so at its position, after the directory above it, and each unstable path answered as no directory
 pub record IsScanOf (sent : Sent) (side : Which) (session : ℕ) (scan : Scan) (since : Path → ℕ) : Type 0 where
@@ -35,11 +36,9 @@ seen_on planned Right = planned.right
 abbrev pub IsSeen : Scan → (Path → ℕ) → Path → Seen → Type 0
 IsSeen scan since path seen = (seen.marks ≡ subtree scan.marks path) × (seen.since ≡ since (parent path))
 
--- the item is what is decided at its path
-pub record IsPlannedFrom (scan : Which → Scan) (since : Which → Path → ℕ) (archive : Tree) (planned : Planned) : Type 0 where
-  pub reached : IsReached (scan Left) (scan Right) archive (path_of planned.item)
-  pub decided : (decision (scan Left) (scan Right) archive (path_of planned.item) ≡ Do planned.item) ⊎ (decision (scan Left) (scan Right) archive (path_of planned.item) ≡ DoAndGoOn planned.item)
-  pub seen : (side : Which) → IsSeen (scan side) (since side) (path_of planned.item) (seen_on planned side)
+-- what the two scans have at its path
+abbrev pub SeesBoth : (Which → Scan) → (Which → Path → ℕ) → Planned → Type 0
+SeesBoth scan since planned = (side : Which) → IsSeen (scan side) (since side) (path_of planned.item) (seen_on planned side)
 
 -- the side answered that the session has begun there
 pub record HasBegun (sent : Sent) (side : Which) (session : ℕ) : Type 0 where
@@ -47,13 +46,14 @@ pub record HasBegun (sent : Sent) (side : Which) (session : ℕ) : Type 0 where
   pub position : ℕ
   pub begun : WasAnswered sent side session (Begin pair) (Begun position)
 
--- a plan that was made of two scans of the session and the archive then, once both sides had begun the session
+-- the plan of two scans of the session and the archive then, once both sides had begun the session
 pub record IsPlanOf (sent : Sent) (session : ℕ) (archive : Tree) (plan : List Planned) : Type 0 where
   pub scan : Which → Scan
   pub since : Which → Path → ℕ
   pub begun : (side : Which) → HasBegun sent side session
   pub scanned : (side : Which) → IsScanOf sent side session (scan side) (since side)
-  pub items : All (IsPlannedFrom scan since archive) plan
+  pub items : map (λ planned. planned.item) plan ≡ items_of (scan Left) (scan Right) archive
+  pub seen : All (SeesBoth scan since) plan
 
 -- the item writes the path on the side
 abbrev pub WritesTo : Item → Which → Path → Type 0
