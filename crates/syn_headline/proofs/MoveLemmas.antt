@@ -405,6 +405,7 @@ legal plans histories archive sent sound side token path since new allowed h sto
     (children (is.1.scan s).marks w.above, (is.1.scanned s).listed w.above (w.above_is s).0 (w.above_is s).1)) in
     record {
       listed = subst (λ k. WasListed sent side token.session (parent path) k) (sym h.listed) (listed side);
+      reached = subst (λ w. since ≤ length w) (sym (at side)) h.within;
       untouched = ap (λ w. is_quiet w since (length w) path) (at side) ∙ h.quiet;
       recorded = sym (mark-subtree (tree_of (history_of stores side)) path) ∙ (mark-subtree (tree_of (history_of stores side)) path ∙ (ap (λ w. subtree (mark (tree_of w)) path) (at side)
           ∙ (sound.recorded token.session token.item h.planned side path h.item h.writes (current (histories side) token path since new allowed) (ap (λ k. is_quiet (histories side) k (length (histories side)) path) (sym h.listed) ∙ h.quiet)

@@ -14,7 +14,7 @@ use Rattle.syn_headline.specs.Side.{Side, Served, Request, Begin, ListAt, Fetch,
 use Rattle.syn_headline.specs.Network.{Which, Left, Right, other, Sent, Message, Asks, Answers}
 use Rattle.syn_headline.specs.Planning.{Planned}
 use Rattle.syn_headline.specs.Acknowledged.{Ack, Happened, Kept_by, Stores, stores_after, history_of, IsLegal}
-use Rattle.syn_headline.specs.World.{Status, Up, Halted, Down, Machine, At, Coordinator, World, SideMachine, CoordinatorMachine, Running, Outstanding, outstanding, side_of, set_side, stopped, Step, Edits, Start, Deliver, Tick, Checkpoint, Fail, Stop, Open, Reopen, Writes, written, failed, cut, DoesEdit, edit_refused, edit_written, Opens, opened, recovered, not_opened, not_reopened, OpensArchive, archive_opened, archive_recovered, archive_not_opened, archive_not_reopened, ServesAs, serve_halted, WouldAdd, TakesRequest, answered, request_failed, request_cut, side_down, IsDueAfter, IsExpected, HasPlan, GoesOnAs, ended, goes_on, GoesOnFrom, plan_of, StartsFrom, RunsOver, IsNext, IsNothing, CoordinatorGoes, TakesAnswer, taken, ignored, coordinator_down, Delivers, OpensMachine, cut_off, halted, Steps, Runs}
+use Rattle.syn_headline.specs.World.{Status, Up, Halted, Down, Machine, At, Coordinator, World, SideMachine, CoordinatorMachine, Running, Outstanding, outstanding, side_of, set_side, stopped, Step, Edits, Start, Deliver, Tick, Checkpoint, Fail, Stop, Open, Reopen, Writes, written, failed, cut, DoesEdit, edit_refused, edit_written, Opens, opened, recovered, not_opened, not_reopened, OpensArchive, archive_opened, archive_recovered, archive_not_opened, archive_not_reopened, ServesAs, serve_halted, WouldAdd, TakesRequest, answered, request_failed, request_cut, side_down, IsDueAfter, IsOver, IsExpected, HasPlan, GoesOnAs, ended, goes_on, GoesOnFrom, plan_of, StartsFrom, RunsOver, IsNext, IsNothing, CoordinatorGoes, TakesAnswer, taken, ignored, coordinator_down, Delivers, OpensMachine, cut_off, halted, Steps, Runs}
 use Rattle.syn_headline.specs.Headline.{stores_of, IsStart, EachReplacementIsLegal, StandsFor, RunsReplaceLegally, RunsUseTokensOnce}
 use Rattle.syn_headline.specs.Invariant.{Plans, Histories, histories_of, IsSound, IsTrue, IsFresh, IsHarmless, IsSoundStaging, IsSoundEvent, IsSoundSide, IsSoundCoordinator, IsKept}
 use Rattle.syn_model.proofs.PathLemmas.{none_some}
@@ -309,16 +309,16 @@ module _ (plans : Plans) (old : World) (k : IsKept plans old) (new : World) wher
       subst (λ n. Contains old.sent (Asks from r.session n waiting.request)) number_is was
 
   take_with : (from : Which) (session number : ℕ) (said : Reply) (plan : List Planned) → Contains old.sent (Answers from session number said) → (running : Option Running) → old.coordinator.running ≡ running → IsExpected running from session number →
-      HasPlan old.sent old.coordinator.archive running plan → CoordinatorGoes old (IsDueAfter running plan from said) (GoesOnFrom running plan) new → Advances old new
+      HasPlan old.sent old.coordinator.archive running plan → CoordinatorGoes old (IsDueAfter running plan from said) (λ running'. GoesOnFrom running plan running' × IsOver from number running') new → Advances old new
   take_with from session number said plan c None e expected made g = absurd expected
   take_with from session number said plan c (Some r) e expected (inl same) g =
       let has = running_has r e in
       let planned : plans r.session ≡ plan = has.0 ∙ sym same in
       let c' = subst (λ n. Contains old.sent (Answers from n number said)) expected.0 c in
-      coordinator_advances plans old (IsDueAfter (Some r) plan from said) (GoesOnFrom (Some r) plan) new g
-      (coordinator_keeps plans old (IsDueAfter (Some r) plan from said) (GoesOnFrom (Some r) plan) new k.sound k.sides
+      coordinator_advances plans old (IsDueAfter (Some r) plan from said) (λ running'. GoesOnFrom (Some r) plan running' × IsOver from number running') new g
+      (coordinator_keeps plans old (IsDueAfter (Some r) plan from said) (λ running'. GoesOnFrom (Some r) plan running' × IsOver from number running') new k.sound k.sides
       (λ kept due. due_harmless plans (histories_of old) old.coordinator.archive old.sent k.sound r (running_over r e).0 plan planned from number said kept c' (waits_for r e from number expected.1) due) g
-      (runs_has plans (histories_of old) r plan planned (λ x. has.1 (sym same ∙ x)) g.machine.running g.runs_on))
+      (runs_has plans (histories_of old) r plan planned (λ x. has.1 (sym same ∙ x)) g.machine.running g.runs_on.0))
   take_with from session number said plan c (Some r) e expected (inr made) g =
       let has = running_has r e in
       let empty : plans r.session ≡ [] = has.0 ∙ made.0 in
@@ -327,11 +327,11 @@ module _ (plans : Plans) (old : World) (k : IsKept plans old) (new : World) wher
       let planned : plans' r.session ≡ plan = set_plan-here plans r.session plan in
       let sound = sound-plan plans (histories_of old) old.coordinator.archive old.sent k.sound r.session plan empty made.1 fresh in
       let c' = subst (λ n. Contains old.sent (Answers from n number said)) expected.0 c in
-      coordinator_advances plans' old (IsDueAfter (Some r) plan from said) (GoesOnFrom (Some r) plan) new g
-      (coordinator_keeps plans' old (IsDueAfter (Some r) plan from said) (GoesOnFrom (Some r) plan) new sound
+      coordinator_advances plans' old (IsDueAfter (Some r) plan from said) (λ running'. GoesOnFrom (Some r) plan running' × IsOver from number running') new g
+      (coordinator_keeps plans' old (IsDueAfter (Some r) plan from said) (λ running'. GoesOnFrom (Some r) plan running' × IsOver from number running') new sound
       (λ side. sides-plan plans plans' (set_plan-grows plans r.session plan empty) (histories_of old) old.coordinator.archive side (side_of old side) (k.sides side))
       (λ kept due. due_harmless plans' (histories_of old) old.coordinator.archive old.sent sound r (running_over r e).0 plan planned from number said kept c' (waits_for r e from number expected.1) due) g
-      (runs_has plans' (histories_of old) r plan planned (λ _. fresh) g.machine.running g.runs_on))
+      (runs_has plans' (histories_of old) r plan planned (λ _. fresh) g.machine.running g.runs_on.0))
 
   tick_with : (running : Option Running) → old.coordinator.running ≡ running → CoordinatorGoes old IsNothing (GoesOnFrom running (plan_of running)) new → Advances old new
   tick_with None e g = coordinator_advances plans old IsNothing (GoesOnFrom None []) new g
@@ -431,7 +431,7 @@ module _ (plans : Plans) (old : World) (k : IsKept plans old) (new : World) wher
   pub step_advances : (step : Step) → Steps old step new → Advances old new
   step_advances (Edits side user edit) g = edit_advances plans old k side user edit g.0 g.1 new g.2 g.3
   step_advances Start (inl e) = stays plans old new k e
-  step_advances Start (inr g) = start_advances g
+  step_advances Start (inr g) = start_advances g.1
   step_advances (Deliver message) g = delivers_advances (slice_get old.sent message) (was_sent message) g
   step_advances Tick (inl e) = stays plans old new k e
   step_advances Tick (inr g) = tick_with old.coordinator.running refl g
@@ -452,6 +452,7 @@ module _ (plans : Plans) (old : World) (k : IsKept plans old) (new : World) wher
 legal-more : (sent more : Sent) (side : Which) (stores : Stores) (token : Token) (path : Path) (since : ℕ) (u : Tree) → IsLegal sent side stores token path since u → IsLegal (sent ++ more) side stores token path since u
 legal-more sent more side stores token path since u h = record {
   listed = (h.listed.0, answered-more sent more _ _ _ _ h.listed.1);
+  reached = h.reached;
   untouched = h.untouched;
   recorded = h.recorded;
   source = record {

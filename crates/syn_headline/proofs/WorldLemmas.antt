@@ -165,7 +165,7 @@ opens_machine before old Coordinator new s g = coordinator_goes before old g.0 g
 pub step_stands : (before : Stores) (old : World) (step : Step) (new : World) → StandsFor before old → Steps old step new → StandsFor before new
 step_stands before old (Edits side user edit) new s g = side_steps before old side (DoesEdit (side_of old side) user edit) new (edit_history (side_of old side) user edit) s g
 step_stands before old Start new s (inl e) = same_world before old new s e
-step_stands before old Start new s (inr g) = coordinator_steps before old _ _ new s g
+step_stands before old Start new s (inr g) = coordinator_steps before old _ _ new s g.1
 step_stands before old (Deliver message) new s g = delivers before old (slice_get old.sent message) new s g
 step_stands before old Tick new s (inl e) = same_world before old new s e
 step_stands before old Tick new s (inr g) = coordinator_steps before old _ _ new s g

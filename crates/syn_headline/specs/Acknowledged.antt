@@ -70,6 +70,7 @@ pub record IsFrom (sent : Sent) (source : Which) (source_history : History) (ses
 -- a replacement that follows a listing, puts what the other side held and takes what the archive recorded
 pub record IsLegal (sent : Sent) (side : Which) (written : Stores) (token : Token) (path : Path) (since : ℕ) (new : Tree) : Type 0 where
   pub listed : WasListed sent side token.session (parent path) since
+  pub reached : since ≤ length (history_of written side)
   pub untouched : is_quiet (history_of written side) since (length (history_of written side)) path ≡ true
   pub recorded : subtree (mark (tree_of (history_of written side))) path ≡ subtree written.archive.marks path
   pub source : IsFrom sent (other side) (history_of written (other side)) token.session path new

@@ -184,3 +184,10 @@ RunsUseTokensOnce = (old new : World) (steps : List Step) → IsStart old → Ru
 -- and each archive entry was held by both sides, whatever an opening then gives
 abbrev pub RunsHoldArchive : Type 0
 RunsHoldArchive = (old new : World) (steps : List Step) → IsStart old → Runs old steps new → EachEntryWasHeld (stores_of old) new
+
+-- what an opening then gives is a pair again
+abbrev pub RunsLeavePair : Type 0
+RunsLeavePair = (old new : World) (steps : List Step) → IsStart old → Runs old steps new →
+    let now = stores_after (stores_of old) new.acknowledged in
+    (left right : History) (archive : Archive) → Grown new.left.writing now.left left → Grown new.right.writing now.right right →
+    ArchiveGrown new.coordinator.writing now.archive archive → IsPair (record { left = left; right = right; archive = archive })

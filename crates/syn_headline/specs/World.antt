@@ -277,10 +277,14 @@ abbrev pub IsDueAfter : Option Running → List Planned → Which → Reply → 
 IsDueAfter None plan from reply kept = ⊥
 IsDueAfter (Some running) plan from reply kept = IsDue running plan from reply kept
 
+-- what was answered waits no more
+abbrev pub IsOver : Which → ℕ → Option Running → Type 0
+IsOver from number running = IfSome running (λ running. IfSome (outstanding running from) (λ waiting. waiting.number ≢ number))
+
 -- the coordinator takes an answer, or ignores one that it does not wait for
 pub data TakesAnswer (old : World) (from : Which) (session number : ℕ) (reply : Reply) (new : World) : Type 0 where
   taken : (plan : List Planned) → IsExpected old.coordinator.running from session number → HasPlan old.sent old.coordinator.archive old.coordinator.running plan →
-      CoordinatorGoes old (IsDueAfter old.coordinator.running plan from reply) (GoesOnFrom old.coordinator.running plan) new → TakesAnswer old from session number reply new
+      CoordinatorGoes old (IsDueAfter old.coordinator.running plan from reply) (λ running. GoesOnFrom old.coordinator.running plan running × IsOver from number running) new → TakesAnswer old from session number reply new
   ignored : (IsExpected old.coordinator.running from session number → ⊥) → new ≡ old → TakesAnswer old from session number reply new
   coordinator_down : old.coordinator.status ≡ Down → new ≡ old → TakesAnswer old from session number reply new
 
@@ -331,7 +335,7 @@ Checkpoints old machine new = (new ≡ old) ⊎ ((new ≡ halted old machine) �
 -- One step. A device may fail and a machine may stop within any call, of which Fail and Stop say when
 abbrev pub Steps : World → Step → World → Type 0
 Steps old (Edits side user edit) new = SideGoes old side (DoesEdit (side_of old side) user edit) [] new
-Steps old Start new = (new ≡ old) ⊎ CoordinatorGoes old (IsNext old.coordinator.archive) (StartsFrom old.coordinator.archive) new
+Steps old Start new = (new ≡ old) ⊎ ((old.coordinator.running ≡ None) × CoordinatorGoes old (IsNext old.coordinator.archive) (StartsFrom old.coordinator.archive) new)
 Steps old (Deliver message) new = Delivers old (slice_get old.sent message) new
 Steps old Tick new = (new ≡ old) ⊎ CoordinatorGoes old IsNothing (GoesOnFrom old.coordinator.running (plan_of old.coordinator.running)) new
 Steps old (Checkpoint machine) new = Checkpoints old machine new

@@ -3,7 +3,7 @@
 
 ghost use Rattle.syn_headline.specs.Laws.{ServesAllowed};
 ghost use Rattle.syn_headline.specs.Rows.{SideRows};
-ghost use Rattle.syn_headline.specs.Headline.{RunsStand, RunsReplaceLegally, RunsUseTokensOnce, RunsHoldArchive, FormattedIsPair};
+ghost use Rattle.syn_headline.specs.Headline.{RunsStand, RunsReplaceLegally, RunsUseTokensOnce, RunsHoldArchive, RunsLeavePair, FormattedIsPair};
 
 /// A step of a side leaves its history or adds one allowed event, and answers as the worked examples say.
 pub fn side_laws()
@@ -18,4 +18,5 @@ pub fn run_laws()
     ensures legal { RunsReplaceLegally }
     ensures tokens { RunsUseTokensOnce }
     ensures archive { RunsHoldArchive }
+    ensures pair { RunsLeavePair }
 {}

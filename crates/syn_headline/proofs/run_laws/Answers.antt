@@ -1,7 +1,7 @@
 use Rattle.syn_headline.proofs.WorldLemmas.{run_stands}
 use Rattle.syn_headline.proofs.FormattedLemmas.{formatted_is_pair}
 use Rattle.syn_headline.proofs.RunLemmas.{runs_replace_legally, runs_use_tokens_once}
-use Rattle.syn_headline.proofs.ArchiveLemmas.{runs_hold_archive}
+use Rattle.syn_headline.proofs.ArchiveLemmas.{runs_hold_archive, runs_leave_pair}
 use Rattle.syn_headline.proofs.run_laws.Goals as goal
 
 pub returns-clause-stands : goal.returns-clause-stands
@@ -18,3 +18,6 @@ returns-clause-tokens c = runs_use_tokens_once
 
 pub returns-clause-archive : goal.returns-clause-archive
 returns-clause-archive c = runs_hold_archive
+
+pub returns-clause-pair : goal.returns-clause-pair
+returns-clause-pair c = runs_leave_pair
