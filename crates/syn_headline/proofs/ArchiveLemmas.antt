@@ -1,5 +1,5 @@
 -- Each entry of the archive was held by both sides, whatever an opening then gives.
-use Rattle.std.proofs.Common.{◌≡◌, ◌≢◌, ◌≤◌, ℕ, arith, ◌++◌, [], ◌∷◌, sym, ◌∙◌, subst, Option, Some, None, append-nil, inl, inr}
+use Rattle.std.proofs.Common.{◌≡◌, ◌≢◌, ◌≤◌, arith, ◌++◌, [], ◌∷◌, sym, ◌∙◌, subst, Option, Some, None, append-nil, inl, inr}
 use Rattle.std.specs.Prelude.{IfSome}
 use Rattle.syn_model.specs.Tree.{IsTree}
 use Rattle.syn_model.specs.Event.{Event, Edited, Began, Replaced}
@@ -76,7 +76,7 @@ runs_leave_pair old new steps start runs left right archive grown_left grown_rig
     let of_archive : new.coordinator.archive ≡ now.archive = stands.archive in
     let later : now.archive.last_session ≤ archive.last_session = archive_later new.coordinator.writing now.archive archive grown_archive in
     let written = λ (side : Which) (h : IfSome (side_of new side).writing (λ event. ((side_of new side).status ≢ Up) × IsSoundEvent after.0 (histories_of new) new.coordinator.archive side event)).
-        if_some (side_of new side).writing _ (λ event. IsSoundEvent after.0 (histories_of new) now.archive side event) h (λ event _ x. subst (λ a. IsSoundEvent after.0 (histories_of new) a side event) of_archive x.1) in
+    if_some (side_of new side).writing _ (λ event. IsSoundEvent after.0 (histories_of new) now.archive side event) h (λ event _ x. subst (λ a. IsSoundEvent after.0 (histories_of new) a side event) of_archive x.1) in
     let begun = λ (side : Which). subst (λ a. last_session (histories_of new side) ≤ a.last_session) of_archive (sound.begun side) in
     let left_begun : last_session left ≤ now.archive.last_session = grown_begun after.0 (histories_of new) now.archive Left new.left.writing now.left left (written Left (after.1.sides Left).writing) (subst (λ h. last_session h ≤ now.archive.last_session) stands.left (begun Left)) grown_left in
     let right_begun : last_session right ≤ now.archive.last_session = grown_begun after.0 (histories_of new) now.archive Right new.right.writing now.right right (written Right (after.1.sides Right).writing) (subst (λ h. last_session h ≤ now.archive.last_session) stands.right (begun Right)) grown_right in

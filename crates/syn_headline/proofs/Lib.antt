@@ -13,3 +13,4 @@ pub mod StepLemmas
 pub mod TokenLemmas
 pub mod RunLemmas
 pub mod ArchiveLemmas
+pub mod RepeatLemmas

@@ -1,6 +1,6 @@
 -- What the items of a plan tell of the scans that it was made of, and of the histories.
 use Rattle.std.proofs.Common.{option_map, map, ◌≡◌, ◌≤◌, ℕ, suc, Bool, is_some, None, arith, true, false, not, ◌&&◌, ◌||◌, List, [], ◌∷◌, ◌++◌, length, refl, sym, ap, ap₂, ◌∙◌, subst, Some, true≢false, append-nil, inl, inr, ◌⊎◌, if◌then◌else◌, slice_get}
-use Rattle.std.specs.Prelude.{All, Contains}
+use Rattle.std.specs.Prelude.{Contains}
 use Rattle.std.specs.List.{list_any}
 use Rattle.std.specs.Ordering.{eq_by_cmp}
 use Rattle.std.proofs.lemmas.List.Elements.{Contains-append_left, All-get_or, All-contains, Contains-get_or}

@@ -14,8 +14,8 @@ use Rattle.syn_headline.specs.Side.{Side, Served, Request, Begin, ListAt, Fetch,
 use Rattle.syn_headline.specs.Network.{Which, Left, Right, other, Sent, Message, Asks, Answers}
 use Rattle.syn_headline.specs.Planning.{Planned}
 use Rattle.syn_headline.specs.Acknowledged.{Ack, Happened, Kept_by, Stores, stores_after, history_of, IsLegal}
-use Rattle.syn_headline.specs.World.{Status, Up, Halted, Down, Machine, At, Coordinator, World, SideMachine, CoordinatorMachine, Running, Outstanding, outstanding, side_of, set_side, stopped, Step, Edits, Start, Deliver, Tick, Checkpoint, Fail, Stop, Open, Reopen, Writes, written, failed, cut, DoesEdit, edit_refused, edit_written, Opens, opened, recovered, not_opened, not_reopened, OpensArchive, archive_opened, archive_recovered, archive_not_opened, archive_not_reopened, ServesAs, serve_halted, WouldAdd, TakesRequest, answered, request_failed, request_cut, side_down, IsDueAfter, IsOver, IsExpected, HasPlan, GoesOnAs, ended, goes_on, GoesOnFrom, plan_of, StartsFrom, RunsOver, IsNext, IsNothing, CoordinatorGoes, TakesAnswer, taken, ignored, coordinator_down, Delivers, OpensMachine, cut_off, halted, Steps, Runs}
-use Rattle.syn_headline.specs.Headline.{stores_of, IsStart, EachReplacementIsLegal, StandsFor, RunsReplaceLegally, RunsUseTokensOnce}
+use Rattle.syn_headline.specs.World.{Status, Up, Halted, Down, Machine, At, Coordinator, World, SideMachine, CoordinatorMachine, Running, Outstanding, outstanding, side_of, set_side, stopped, Step, Edits, Start, Deliver, Tick, Checkpoint, Fail, Stop, Open, Reopen, Writes, written, failed, cut, DoesEdit, edit_refused, edit_written, Opens, opened, recovered, not_opened, not_reopened, OpensArchive, archive_opened, archive_recovered, archive_not_opened, archive_not_reopened, ServesAs, serve_halted, WouldAdd, TakesRequest, answered, request_failed, request_cut, side_down, IsDueAfter, IsOver, IsExpected, HasPlan, GoesOnAs, ended, goes_on, GoesOnFrom, plan_of, StartsFrom, Waits, RunsOver, IsNext, IsNothing, CoordinatorGoes, TakesAnswer, taken, ignored, coordinator_down, Delivers, OpensMachine, cut_off, halted, Steps, Runs}
+use Rattle.syn_headline.specs.Headline.{stores_of, IsStart, EachReplacementIsLegal, StandsFor, RunsReplaceLegally, RunsUseTokensOnce, RunsOwe}
 use Rattle.syn_headline.specs.Invariant.{Plans, Histories, histories_of, IsSound, IsTrue, IsFresh, IsHarmless, IsSoundStaging, IsSoundEvent, IsSoundSide, IsSoundCoordinator, IsKept}
 use Rattle.syn_model.proofs.PathLemmas.{none_some}
 use Rattle.syn_headline.proofs.PlanLemmas.{answered-more}
@@ -516,6 +516,7 @@ start_kept old s =
         marks = p.marks;
         begun = λ side. elim side as (λ side. last_session (histories_of old side) ≤ old.coordinator.archive.last_session) [ Left ↦ p.left_begun | Right ↦ p.right_begun ];
         numbers = λ side session n a b c d. absurd (nothing_sent old.sent _ empty c);
+        repeats = λ side session m n a b c d. absurd (nothing_sent old.sent _ empty c);
         asked = λ to session number request c. absurd (nothing_sent old.sent _ empty c);
         known = λ from session number said c. absurd (nothing_sent old.sent _ empty c);
         answered = λ from session number said request c d. absurd (nothing_sent old.sent _ empty c);
@@ -556,3 +557,13 @@ run_kept (step ∷ steps) plans old new k g = let a = step_advances plans old k 
 pub runs_use_tokens_once : RunsUseTokensOnce
 runs_use_tokens_once old new steps s g side earlier later token path since u e =
     token_once (histories_of new side) earlier later token path since u ((run_kept steps no_plans old new (start_kept old s) g).1.sound.lawful side) e
+
+-- and what a session owes
+pub runs_owe : RunsOwe
+runs_owe old new steps s g =
+    let k = (run_kept steps no_plans old new (start_kept old s) g).1 in
+    (waits new.coordinator.running k.coordinator.runs_over, k.sound.repeats)
+  where
+    waits : (o : Option Running) → RunsOver new.sent new.coordinator.archive o → IfSome o Waits
+    waits None r = tt
+    waits (Some running) r = r.2

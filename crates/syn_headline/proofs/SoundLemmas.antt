@@ -19,7 +19,7 @@ use Rattle.syn_model.specs.Archive.{Archive, Kept, Session, Recorded, RecordedDi
 use Rattle.syn_model.specs.Limits.{greatest, fits_archive}
 use Rattle.syn_headline.specs.Laws.{AddsAllowed}
 use Rattle.syn_headline.specs.Side.{Request, Begin, ListAt, Fetch, Stage, Replace, Reply, Begun, Listed, NotDir, Piece, Done}
-use Rattle.syn_headline.specs.Network.{Which, other, Sent, Message, Asks, Answers, NumbersTell}
+use Rattle.syn_headline.specs.Network.{Which, other, Sent, Message, Asks, Answers, NumbersTell, AsksNothingTwice}
 use Rattle.syn_headline.specs.Planning.{Planned, seen_on, IsPlanOf, WritesTo}
 use Rattle.syn_headline.specs.World.{IsOfPlan}
 use Rattle.syn_headline.specs.Invariant.{Plans, Histories, IsSound, IsSound_request, IsStillRecorded, IsTrue, IsBorne, HadMarks, IsSpent, IsHeld, IsHeldRecord, IsHarmless, IsUsed, IsFresh, part_at}
@@ -153,6 +153,7 @@ sound-grow plans histories new archive sent sound grows below used = record {
   marks = sound.marks;
   begun = below;
   numbers = sound.numbers;
+  repeats = sound.repeats;
   asked = sound.asked;
   known = sound.known;
   answered = λ from session number reply request c d. true-grow (histories from) (new from) (grows from) session request reply (sound.answered from session number reply request c d);
@@ -173,11 +174,12 @@ pub only_one : (x y : Message) → Contains (x ∷ []) y → x ≡ y
 only_one x y (zero, h, e) = e
 only_one x y (suc k, h, e) = absurd (omega (arith, h))
 
-pub sound-more : (plans : Plans) (histories : Histories) (archive : Archive) (sent more : Sent) → IsSound plans histories archive sent → NumbersTell (sent ++ more) →
+pub sound-more : (plans : Plans) (histories : Histories) (archive : Archive) (sent more : Sent) → IsSound plans histories archive sent → NumbersTell (sent ++ more) → AsksNothingTwice (sent ++ more) →
     ((to : Which) (session number : ℕ) (request : Request) → Contains more (Asks to session number request) → IsSound_request plans archive sent to session request) →
     ((from : Which) (session number : ℕ) (reply : Reply) → Contains more (Answers from session number reply) → (request : Request) × Contains sent (Asks from session number request) × IsTrue (histories from) session request reply × IsBorne (plans session) (histories from) from request reply) →
     IsSound plans histories archive (sent ++ more)
-sound-more plans histories archive sent more sound numbers asks answers = record {
+sound-more plans histories archive sent more sound numbers repeats asks answers = record {
+  repeats = repeats;
   used = sound.used;
   lawful = sound.lawful;
   marks = sound.marks;
@@ -227,6 +229,7 @@ pub sound-answer : (plans : Plans) (histories : Histories) (archive : Archive) (
 sound-answer plans histories archive sent sound from session number request reply asked is_true is_borne =
     sound-more plans histories archive sent (Answers from session number reply ∷ []) sound
     (λ side n m a b c d. sound.numbers side n m a b (ask_before sent from session number reply side n m a c) (ask_before sent from session number reply side n m b d))
+    (λ side n l m a b c d. sound.repeats side n l m a b (ask_before sent from session number reply side n l a c) (ask_before sent from session number reply side n m b d))
     (λ to n m r c. let e = only_one (Answers from session number reply) (Asks to n m r) c in cc)
     (λ side n m r c.
     let e = only_one (Answers from session number reply) (Answers side n m r) c in
@@ -289,6 +292,7 @@ sound-plan plans histories archive sent sound session plan nothing is fresh = re
   marks = sound.marks;
   begun = sound.begun;
   numbers = sound.numbers;
+  repeats = sound.repeats;
   asked = λ to n number request c. let r = sound.asked to n number request c in
       record { session_kept = r.session_kept; lawful = r.lawful; by_plan = of_plan-grow plans (set_plan plans session plan) (set_plan-grows plans session plan nothing) sent n to request r.by_plan };
   known = sound.known;
@@ -380,6 +384,7 @@ sound-keep plans histories archive sent sound kept can harmless =
       marks = kept_is_tree archive kept sound.marks can;
       begun = λ side. let b : last_session (histories side) ≤ archive.last_session = sound.begun side in omega (arith, b, grows);
       numbers = sound.numbers;
+      repeats = sound.repeats;
       asked = λ to session number request c. let r = sound.asked to session number request c in
           let k : session ≤ archive.last_session = r.session_kept in
           record { session_kept = omega (arith, k, grows); lawful = r.lawful; by_plan = r.by_plan };

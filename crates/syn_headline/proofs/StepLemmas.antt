@@ -66,7 +66,7 @@ was_sent-more sent more running w side = if_some (outstanding running side) (λ 
 
 pub runs_over-more : (sent more : Sent) (archive : Archive) (running : Option Running) → RunsOver sent archive running → RunsOver (sent ++ more) archive running
 runs_over-more sent more archive None r = tt
-runs_over-more sent more archive (Some running) r = (r.0, was_sent-more sent more running r.1)
+runs_over-more sent more archive (Some running) r = (r.0, was_sent-more sent more running r.1, r.2)
 
 -- what a side says as it goes on: nothing, or a true reply to a request that was sent
 pub data Says (plans : Plans) (sent : Sent) (which : Which) (history : History) : List Message → Type 0 where
@@ -268,7 +268,7 @@ coordinator_keeps plans old D R new sound sides harm g runs =
     let later : old.coordinator.archive.last_session ≤ machine.archive.last_session = subst (λ a. old.coordinator.archive.last_session ≤ a.last_session) (sym g.keeps.archive) k.1 in
     let has : IfSome machine.running (λ r. plans r.session ≡ r.plan) = if_some machine.running (λ running. (plans running.session ≡ running.plan) × (running.plan ≡ [] → IsFresh (histories_of old) running.session)) (λ r. plans r.session ≡ r.plan) runs (λ r _ h. h.0) in
     let sends = asks_sound plans (histories_of old) machine.archive old.sent machine.running g.messages has g.runs_over g.of_session in
-    let then = sound-more plans (histories_of old) machine.archive old.sent g.messages now g.numbers
+    let then = sound-more plans (histories_of old) machine.archive old.sent g.messages now g.numbers g.repeats
     (λ to session number request c. let x = sends (Asks to session number request) c in request_of plans machine.archive old.sent machine.running to session number request x.0 x.1)
     (λ from session number said c. let x = sends (Answers from session number said) c in absurd (no_answer old.sent machine.archive plans machine.running from session number said x.0 x.1)) in
     subst (IsKept plans) (sym g.result) (record {

@@ -8,11 +8,10 @@ use Rattle.syn_model.specs.Mark.{mark, AreApart}
 use Rattle.syn_model.specs.Archive.{Archive, new_archive, Session, BothHeld}
 use Rattle.syn_model.specs.Dirty.{Paths, dirty}
 use Rattle.syn_model.specs.Reconcile.{is_directory_in_both, is_relevant, is_settled, IsSynchronization, IsReconciledArchive}
-use Rattle.syn_headline.specs.Network.{Which, Left, Right, other, NumbersTell}
+use Rattle.syn_headline.specs.Network.{Which, Left, Right, other, NumbersTell, AsksNothingTwice}
 use Rattle.syn_headline.specs.Acknowledged.{Ack, Happened, Kept_by, Stores, history_of, stores_after, Grown, ArchiveGrown, IsLegal}
 use Rattle.syn_headline.specs.Report.{Report, Complete}
-use Rattle.syn_headline.specs.Owed.{AsksNothingTwice, Waits}
-use Rattle.syn_headline.specs.World.{World, Step, Runs, Up, side_of}
+use Rattle.syn_headline.specs.World.{World, Step, Runs, Up, Waits, side_of}
 
 abbrev pub stores_of : World → Stores
 stores_of world = record { left = world.left.side.history; right = world.right.side.history; archive = world.coordinator.archive }
@@ -191,3 +190,7 @@ RunsLeavePair = (old new : World) (steps : List Step) → IsStart old → Runs o
     let now = stores_after (stores_of old) new.acknowledged in
     (left right : History) (archive : Archive) → Grown new.left.writing now.left left → Grown new.right.writing now.right right →
     ArchiveGrown new.coordinator.writing now.archive archive → IsPair (record { left = left; right = right; archive = archive })
+
+-- a session that runs waits for an answer, and nothing was asked twice in one
+abbrev pub RunsOwe : Type 0
+RunsOwe = (old new : World) (steps : List Step) → IsStart old → Runs old steps new → IfSome new.coordinator.running Waits × AsksNothingTwice new.sent

@@ -10,7 +10,7 @@ use Rattle.syn_model.specs.Event.{Token, Event, Edited, Began, Replaced}
 use Rattle.syn_model.specs.History.{History, IsHistory, tree_of, tree_at, last_session, last_token, is_quiet}
 use Rattle.syn_model.specs.Archive.{Archive, Kept, Session, Recorded, RecordedDir, CanKeep, after_kept, Held}
 use Rattle.syn_headline.specs.Side.{Request, Begin, ListAt, Fetch, Replace, IsLawfulRequest, Reply, Begun, Listed, NotDir, Piece, Done, Staging}
-use Rattle.syn_headline.specs.Network.{Which, other, Asks, Answers, Sent, NumbersTell}
+use Rattle.syn_headline.specs.Network.{Which, other, Asks, Answers, Sent, NumbersTell, AsksNothingTwice}
 use Rattle.syn_model.specs.Decision.{path_of}
 use Rattle.syn_headline.specs.Planning.{Planned, seen_on, IsPlanOf, WritesTo}
 use Rattle.syn_headline.specs.World.{World, Up, SideMachine, CoordinatorMachine, side_of, IsOfPlan, RunsOver}
@@ -102,6 +102,7 @@ pub record IsSound (plans : Plans) (histories : Histories) (archive : Archive) (
   pub marks : IsTree archive.marks
   pub begun : (side : Which) → last_session (histories side) ≤ archive.last_session
   pub numbers : NumbersTell sent
+  pub repeats : AsksNothingTwice sent
   pub asked : (to : Which) (session number : ℕ) (request : Request) → Contains sent (Asks to session number request) → IsSound_request plans archive sent to session request
   pub known : (from : Which) (session number : ℕ) (reply : Reply) → Contains sent (Answers from session number reply) →
       (request : Request) × Contains sent (Asks from session number request)

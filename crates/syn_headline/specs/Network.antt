@@ -1,6 +1,6 @@
 -- Messages, each in the order in which it was sent. A delivery takes any of them, as often as the steps say.
 use Rattle.std.specs.Prelude.{ℕ, ◌≡◌, List, Contains}
-use Rattle.syn_headline.specs.Side.{Request, Reply}
+use Rattle.syn_headline.specs.Side.{Request, ListAt, Fetch, Stage, Replace, Reply}
 
 pub data Which : Type 0 where
   Left : Which
@@ -28,3 +28,16 @@ pub record WasAnswered (sent : Sent) (side : Which) (session : ℕ) (request : R
 abbrev pub NumbersTell : Sent → Type 0
 NumbersTell sent = (side : Which) (session n : ℕ) (a b : Request) →
     Contains sent (Asks side session n a) → Contains sent (Asks side session n b) → a ≡ b
+
+-- the two ask for the same thing
+abbrev pub IsRepeat : Request → Request → Type 0
+IsRepeat (ListAt p) (ListAt q) = p ≡ q
+IsRepeat (Fetch p k m) (Fetch q l n) = (p ≡ q) × (m ≡ n)
+IsRepeat (Stage i m a) (Stage j n b) = (i ≡ j) × (m ≡ n)
+IsRepeat (Replace i p k a) (Replace j q l b) = i ≡ j
+IsRepeat _ _ = ⊥
+
+-- resends aside, nothing is asked twice of a side in one session
+abbrev pub AsksNothingTwice : Sent → Type 0
+AsksNothingTwice sent = (side : Which) (session m n : ℕ) (a b : Request) →
+    Contains sent (Asks side session m a) → Contains sent (Asks side session n b) → IsRepeat a b → m ≡ n

@@ -1,31 +1,13 @@
--- What a coordinator owes as a session runs: it waits for an answer, repeats nothing and ends only with a cause.
-use Rattle.std.specs.Prelude.{ℕ, ◌≡◌, ◌⊎◌, List, Option, Some, None, Contains, IsSome, All, Any}
+-- What a coordinator owes as a session ends: a cause, and each item of its plan settled.
+use Rattle.std.specs.Prelude.{◌≡◌, ◌⊎◌, List, Option, Some, None, Contains, IsSome, All, Any}
 use Rattle.syn_model.specs.Path.{Path}
 use Rattle.syn_model.specs.Refusal.{Refusal, JournalFull, Device, Halted, Memory, TooLarge, BadMessage, NoAnswer}
 use Rattle.syn_model.specs.Archive.{Kept, Session, Recorded, RecordedDir}
 use Rattle.syn_headline.specs.Side.{Request, Begin, ListAt, Fetch, Stage, Replace, Reply, Refused}
-use Rattle.syn_headline.specs.Network.{Which, Asks, Sent}
 use Rattle.syn_model.specs.Decision.{Item, ToLeft, ToRight, MarkSame, MarkDir, Conflict}
 use Rattle.syn_headline.specs.Report.{Report}
-use Rattle.syn_headline.specs.World.{Step, Tick, Running}
+use Rattle.syn_headline.specs.World.{Step, Tick}
 use Rattle.syn_headline.specs.Planning.{Planned}
-
--- a request waits for its answer
-abbrev pub Waits : Running → Type 0
-Waits running = IsSome running.left ⊎ IsSome running.right
-
--- the two ask for the same thing
-abbrev pub IsRepeat : Request → Request → Type 0
-IsRepeat (ListAt p) (ListAt q) = p ≡ q
-IsRepeat (Fetch p k m) (Fetch q l n) = (p ≡ q) × (m ≡ n)
-IsRepeat (Stage i m a) (Stage j n b) = (i ≡ j) × (m ≡ n)
-IsRepeat (Replace i p k a) (Replace j q l b) = i ≡ j
-IsRepeat _ _ = ⊥
-
--- resends aside, nothing is asked twice of a side in one session
-abbrev pub AsksNothingTwice : Sent → Type 0
-AsksNothingTwice sent = (side : Which) (session m n : ℕ) (a b : Request) →
-    Contains sent (Asks side session m a) → Contains sent (Asks side session n b) → IsRepeat a b → m ≡ n
 
 -- a Begin or a listing was refused so
 abbrev pub IsOpening : Request → Type 0

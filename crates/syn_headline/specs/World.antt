@@ -7,7 +7,7 @@ use Rattle.syn_model.specs.Event.{Edit, Event, Edited}
 use Rattle.syn_model.specs.History.{IsAllowed}
 use Rattle.syn_model.specs.Archive.{Archive, Kept, Session, Recorded, RecordedDir, CanKeep, after_kept, archive_of}
 use Rattle.syn_headline.specs.Side.{Request, Begin, ListAt, Fetch, Stage, Replace, Reply, Done, Refused, token_of, IsLawfulRequest, Side, Served, Serves, answer, stage, add_event}
-use Rattle.syn_headline.specs.Network.{Which, Left, Right, other, Message, Asks, Answers, Sent, NumbersTell}
+use Rattle.syn_headline.specs.Network.{Which, Left, Right, other, Message, Asks, Answers, Sent, NumbersTell, AsksNothingTwice}
 use Rattle.syn_headline.specs.Acknowledged.{Ack, Happened, Kept_by}
 use Rattle.syn_headline.specs.Planning.{Planned, seen_on, IsPlanOf, WritesTo, IsFetched, IsTotal}
 use Rattle.syn_model.specs.Decision.{MarkSame, MarkDir}
@@ -228,10 +228,14 @@ StartsFrom archive (Some new) = (new.session ≡ archive.last_session + 1) × (n
 abbrev pub WasSent : Sent → Running → Type 0
 WasSent sent running = (side : Which) → IfSome (outstanding running side) (λ waiting. Contains sent (Asks side running.session waiting.number waiting.request))
 
--- a running session has the number that the archive kept last, and what waits was sent
+-- it waits for an answer
+abbrev pub Waits : Running → Type 0
+Waits running = IsSome running.left ⊎ IsSome running.right
+
+-- a running session has the number that the archive kept last, waits for an answer, and what waits was sent
 abbrev pub RunsOver : Sent → Archive → Option Running → Type 0
 RunsOver sent archive None = Unit {0}
-RunsOver sent archive (Some running) = (running.session ≡ archive.last_session) × WasSent sent running
+RunsOver sent archive (Some running) = (running.session ≡ archive.last_session) × WasSent sent running × Waits running
 
 -- each in turn may be kept
 abbrev pub AllCanKeep : Archive → List Kept → Type 0
@@ -258,6 +262,7 @@ pub record CoordinatorGoes (old : World) (IsDue_now : Kept → Type 0) (RunsOn :
   pub runs_on : RunsOn machine.running
   pub runs_over : RunsOver (old.sent ++ messages) machine.archive machine.running
   pub numbers : NumbersTell (old.sent ++ messages)
+  pub repeats : AsksNothingTwice (old.sent ++ messages)
   pub of_session : AllOfSession old.sent machine.running messages
   pub silent_when_writing : IsSome machine.writing → (messages ≡ []) × (machine.running ≡ None)
   pub silent_when_down : machine.status ≡ Down → (messages ≡ []) × (machine.running ≡ None)

@@ -1,13 +1,15 @@
 //! The definitions from a side's step to the headline, and what holds of every run.
 #![tactic(auto)]
 
-ghost use Rattle.syn_headline.specs.Laws.{ServesAllowed};
+ghost use Rattle.syn_headline.specs.Laws.{ServesAllowed, RepeatsAreDone, LaterAreOld};
 ghost use Rattle.syn_headline.specs.Rows.{SideRows};
-ghost use Rattle.syn_headline.specs.Headline.{RunsStand, RunsReplaceLegally, RunsUseTokensOnce, RunsHoldArchive, RunsLeavePair, FormattedIsPair};
+ghost use Rattle.syn_headline.specs.Headline.{RunsStand, RunsReplaceLegally, RunsUseTokensOnce, RunsHoldArchive, RunsLeavePair, RunsOwe, FormattedIsPair};
 
 /// A step of a side leaves its history or adds one allowed event, and answers as the worked examples say.
 pub fn side_laws()
     ensures serves { ServesAllowed }
+    ensures repeats { RepeatsAreDone }
+    ensures later { LaterAreOld }
     ensures rows { SideRows }
 {}
 
@@ -19,4 +21,5 @@ pub fn run_laws()
     ensures tokens { RunsUseTokensOnce }
     ensures archive { RunsHoldArchive }
     ensures pair { RunsLeavePair }
+    ensures owe { RunsOwe }
 {}

@@ -1,4 +1,5 @@
 use Rattle.syn_headline.proofs.SideLemmas.{serves_allowed}
+use Rattle.syn_headline.proofs.RepeatLemmas.{repeats_are_done, later_are_old}
 use Rattle.syn_headline.proofs.side_laws.Goals as goal
 use Rattle.syn_headline.proofs.RowLemmas.{side_rows}
 
@@ -7,3 +8,9 @@ returns-clause-serves c = serves_allowed
 
 pub returns-clause-rows : goal.returns-clause-rows
 returns-clause-rows c = side_rows
+
+pub returns-clause-repeats : goal.returns-clause-repeats
+returns-clause-repeats c = repeats_are_done
+
+pub returns-clause-later : goal.returns-clause-later
+returns-clause-later c = later_are_old
