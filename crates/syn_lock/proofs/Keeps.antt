@@ -3,7 +3,7 @@ use Rattle.std.proofs.Common.{◌≡◌, ◌≢◌, ℕ, ◌+◌, ◌<◌, ◌�
 use mathlib.Core.Option.{some, none, some-injective, some-ne-none}
 use mathlib.Core.List.{IsPrefix}
 use lib.ListN.{get_elem?}
-use lib.Seq.{set-get_or}
+use lib.Seq.{set-get_or, set-set}
 use prog.Atomic.{either}
 use Rattle.std.specs.Option.{unwrap_or}
 use Rattle.atomic_table.specs.Table.{State, step, keeps, takes, gives, Act, Valid, carried_after, stepped, Allows, Enters, Splits, Joins, opening}
@@ -12,9 +12,9 @@ use Rattle.syn_lock.specs.declared.view.Hold.{Hold}
 use Rattle.syn_lock.specs.declared.view.Known.{Known}
 use Rattle.syn_lock.specs.History.{hold, end_of, IsHistory, holds_by}
 use Rattle.syn_lock.specs.Views.{newcomer, seeing, entered, published, outside, own_hold, Sees}
-use Rattle.syn_lock.specs.Rule.{Sat, known, witness, caught_up, turned_away, counting, hearing, agreeing, takes_lock, publishes, gives_lock, looks, confirms, arrives, admits, IsUnused, Fits, Holds, Kept, Turned, Counted, Lawful}
+use Rattle.syn_lock.specs.Rule.{Sat, known, witness, caught_up, turned_away, counting, hearing, agreeing, takes_lock, publishes, gives_lock, gives_unmoved, recalls, looks, confirms, arrives, admits, IsUnused, Fits, Holds, Kept, Turned, Counted, Lawful}
 use Rattle.syn_lock.specs.Prefixes.{prefix_self}
-use Rattle.syn_lock.proofs.Histories.{prefix_more, end_of-append, history-append, own_more, other_more, none_in_prefix, own_between}
+use Rattle.syn_lock.proofs.Histories.{at_below, prefix_more, end_of-append, history-append, own_more, other_more, none_in_prefix, own_between}
 use Rattle.syn_lock.proofs.Seats.{newest, others, still, unused_set, unused_numbered, unused_more, number_used}
 use Rattle.syn_lock.proofs.Turns.{turned_same, turned_on, turned_more, counted_same, counted_on, counted_more}
 
@@ -109,6 +109,15 @@ module _ {S : Type 0} (position : S → ℕ) (grows : S → S → Type 0) (origi
 
   pub confirm_keeps : (id n : ℕ) (m : Sat S) → Allows Rule n id m 0 (λ r. r) (confirms (step n 0 0 0 none) m)
   confirm_keeps id n m s r wide at _ = let f = r.0.fits id m.0 at in (m.0, keeps, tt, quiet s r 0 id m.1 m.0 m.0 at refl refl refl refl f (λ e. r.0.inside id m.0 at e), (f.own_seen, refl))
+
+  pub recall_keeps : (id n : ℕ) (m : Sat S) → Allows Rule n id m 0 (λ r. r) (recalls position (step n 0 0 0 none) m)
+  recall_keeps id n m s r wide at _ = let k : History s = r.0 in let f = k.fits id m.0 at in (
+    m.0,
+    keeps,
+    tt,
+    quiet s r 0 id m.1 m.0 m.0 at refl refl refl refl f (λ e. k.inside id m.0 at e),
+    ((λ on o e. k.position_is ∙ (λ i. position (end_of (sym (f.origin_is o e) i) (sym ((k.inside id m.0 at on).seen_all) i)))), refl),
+  )
 
   -- the number of a pass that may enter
   its_number : (v : Known S) (id : ℕ) → 0 < v.view.number → (v.view.number ≡ 0) ⊎ (v.view.number ≡ id + 1) → v.view.number ≡ id + 1
@@ -222,17 +231,21 @@ module _ {S : Type 0} (position : S → ℕ) (grows : S → S → Type 0) (origi
             other_more q p v.view.seen [] (end_of o v.view.seen) left (number_used s.views id v q at (λ z. omega arith) was) (ap (holds_by q) all ∙ k.unused q was);
       }
 
+  published_at : (s : St) (r : Rule s) (id new : ℕ) (cs : List (ℕ × Option S)) (v : Known S) (o left : S) → get_elem? s.views id ≡ some v → v.inside ≡ true → v.view.origin ≡ Some o
+      → grows (end_of o v.view.seen) left → new ≡ position left → Rule (stepped s 0 new id cs (caught_up v (published o v.view left) v.inside) keeps)
+  published_at s r id new cs v o left at is from up here = let w = caught_up v (published o v.view left) v.inside in (
+    published_rule s r.0 id new cs v w o left at is from up here refl,
+    turned_same s.words (set s.words 0 new) s.views id v w at (get_or-set_other s.words 0 1 new 0 (λ e. omega arith)) refl refl r.1 (r.1.watched id v at),
+    counted_same s.words (set s.words 0 new) s.views id v w at (get_or-set_other s.words 0 2 new 0 (λ e. omega arith)) refl (r.2.seen id v at) r.2,
+  )
+
   pub publish_keeps : (id n new : ℕ) (m : Sat S) (o left : S) → m.1 ≡ (0, Some left) ∷ [] → m.0.inside ≡ true → m.0.view.origin ≡ Some o → grows (end_of o m.0.view.seen) left → new ≡ position left
       → Allows Rule n id m 0 (λ _. new) (λ _. publishes (step n 0 new 0 none) m new)
-  publish_keeps id n new m o left has is from up here s r wide at _ = let w = caught_up m.0 (published o m.0.view left) m.0.inside in (
-    w,
+  publish_keeps id n new m o left has is from up here s r wide at _ = (
+    caught_up m.0 (published o m.0.view left) m.0.inside,
     keeps,
     tt,
-    (
-      published_rule s r.0 id new m.1 m.0 w o left at is from up here refl,
-      turned_same s.words (set s.words 0 new) s.views id m.0 w at (get_or-set_other s.words 0 1 new 0 (λ e. omega arith)) refl refl r.1 (r.1.watched id m.0 at),
-      counted_same s.words (set s.words 0 new) s.views id m.0 w at (get_or-set_other s.words 0 2 new 0 (λ e. omega arith)) refl (r.2.seen id m.0 at) r.2,
-    ),
+    published_at s r id new m.1 m.0 o left at is from up here,
     λ o' left' from' has'. let l = same_state left left' (sym has ∙ has') in let e = same_origin o o' (sym from ∙ from') in (λ i. (caught_up m.0 (published (e i) m.0.view (l i)) m.0.inside, m.1)),
   )
 
@@ -253,26 +266,48 @@ module _ {S : Type 0} (position : S → ℕ) (grows : S → S → Type 0) (origi
     unused = λ p e. k.unused p (unused_set s.views id v w at number p e);
   }
 
-  give_inside : (id n : ℕ) (v : Known S) (o : S) → v.inside ≡ true → v.view.origin ≡ Some o
-      → Allows Rule n id (v, (0, Some (end_of o v.view.seen)) ∷ []) 1 (λ _. 0) (λ _. gives_lock (step n 1 0 0 none) (v, (0, Some (end_of o v.view.seen)) ∷ []) 0)
-  give_inside id n v o is from s r wide at _ =
+  given_at : (s : St) (r : Rule s) (id : ℕ) (v : Known S) (o : S) → get_elem? s.views id ≡ some v → v.inside ≡ true → v.view.origin ≡ Some o
+      → Rule (stepped s 1 0 id ((0, Some (end_of o v.view.seen)) ∷ []) (known (outside v.view) v.told (r.1.turns ++ hold v.view.number 1 0 ∷ []) false v.passes) gives)
+  given_at s r id v o at is from =
       let h = r.0.inside id v at is in
       let watched : List (Hold ℕ) = r.1.turns ++ hold v.view.number 1 0 ∷ [] in
       let w = known (outside v.view) v.told watched false v.passes in (
-        w,
-        gives,
-        tt,
-        (
-          given s r.0 id v w o at is from refl refl refl refl refl refl,
-          word_turned s r id v w 1 0 at h.number_is (taken_is s r h.taken) (omega arith) refl refl (prefix_self watched),
-          word_counted s r id 0 v w at refl refl,
-        ),
-        (watched, refl),
+        given s r.0 id v w o at is from refl refl refl refl refl refl,
+        word_turned s r id v w 1 0 at h.number_is (taken_is s r h.taken) (omega arith) refl refl (prefix_self watched),
+        word_counted s r id 0 v w at refl refl,
       )
+
+  give_inside : (id n : ℕ) (v : Known S) (o : S) → v.inside ≡ true → v.view.origin ≡ Some o
+      → Allows Rule n id (v, (0, Some (end_of o v.view.seen)) ∷ []) 1 (λ _. 0) (λ _. gives_lock (step n 1 0 0 none) (v, (0, Some (end_of o v.view.seen)) ∷ []) 0)
+  give_inside id n v o is from s r wide at _ = let watched : List (Hold ℕ) = r.1.turns ++ hold v.view.number 1 0 ∷ [] in
+      (known (outside v.view) v.told watched false v.passes, gives, tt, given_at s r id v o at is from, (watched, refl))
 
   pub give_keeps : (id n : ℕ) (m : Sat S) (o : S) → m.1 ≡ (0, Some (end_of o m.0.view.seen)) ∷ [] → m.0.inside ≡ true → m.0.view.origin ≡ Some o
       → Allows Rule n id m 1 (λ _. 0) (λ _. gives_lock (step n 1 0 0 none) m 0)
   give_keeps id n m o has is from = subst (λ (x : Sat S). Allows Rule n id x 1 (λ _. 0) (λ _. gives_lock (step n 1 0 0 none) x 0)) (λ i. (m.0, sym has i)) (give_inside id n m.0 o is from)
+
+  -- Where the state has the position that was found, this is a publishing that writes the same number again, and then a giving back
+  give_unmoved_inside : (id n : ℕ) (v : Known S) (o left : S) → v.inside ≡ true → v.view.origin ≡ Some o → grows (end_of o v.view.seen) left → position (end_of o v.view.seen) ≡ position left
+      → Allows Rule n id (v, (0, Some left) ∷ []) 1 (λ _. 0) (λ _. gives_unmoved (step n 1 0 0 none) (v, (0, Some left) ∷ []) 0)
+  give_unmoved_inside id n v o left is from up stays s r wide at _ =
+      let k : History s = r.0 in
+      let w = caught_up v (published o v.view left) v.inside in
+      let same : get_or s.words 0 0 ≡ position left = k.position_is ∙ ((λ i. position (end_of (sym ((k.fits id v at).origin_is o from) i) (sym ((k.inside id v at is).seen_all) i))) ∙ stays) in
+      let mid = published_at s r id (get_or s.words 0 0) [] v o left at is from up same in
+      let watched : List (Hold ℕ) = mid.1.turns ++ hold v.view.number 1 0 ∷ [] in
+      let u : Known S = known (outside (published o v.view left)) [] watched false v.passes in
+      let after = given_at (stepped s 0 (get_or s.words 0 0) id [] w keeps) mid id w o (set_here s.views id w (at_below s.views id v at)) is from in (
+        u,
+        gives,
+        tt,
+        subst (λ (x : List ℕ × S × List (Known S)). Rule record { words = set x.0 1 0; homes = set s.homes 0 (some (Some x.1)); views = x.2 })
+            (λ i. (set-get_or s.words 0 0 i, end_of-append o v.view.seen (own_hold o v.view left) i, set-set s.views id w u i)) after,
+        λ o' left' from' has'. let l = same_state left left' has' in let e = same_origin o o' (sym from ∙ from') in (watched, (λ i. (known (outside (published (e i) v.view (l i))) [] watched false v.passes, []))),
+      )
+
+  pub give_unmoved_keeps : (id n : ℕ) (m : Sat S) (o left : S) → m.1 ≡ (0, Some left) ∷ [] → m.0.inside ≡ true → m.0.view.origin ≡ Some o → grows (end_of o m.0.view.seen) left → position (end_of o m.0.view.seen) ≡ position left
+      → Allows Rule n id m 1 (λ _. 0) (λ _. gives_unmoved (step n 1 0 0 none) m 0)
+  give_unmoved_keeps id n m o left has is from up stays = subst (λ (x : Sat S). Allows Rule n id x 1 (λ _. 0) (λ _. gives_unmoved (step n 1 0 0 none) x 0)) (λ i. (m.0, sym has i)) (give_unmoved_inside id n m.0 o left is from up stays)
 
   -- a new seat, which is no pass, comes with a view that fits
   arrived : (s : St) (r : Rule s) (w : Known S) → Fits origin r.0.log (length s.views) w → w.inside ≡ false → w.view.number ≡ 0 → w.view.turns ≡ [] → w.watched ≡ [] → w.passes ≤ get_or s.words 2 0

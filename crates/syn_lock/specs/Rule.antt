@@ -52,6 +52,16 @@ module _ {S : Type 0} where
   abbrev pub gives_lock : Step (Option S) → Sat S → ℕ → Sat S → Type 0
   gives_lock st m r n = (watched : List (Hold ℕ)) × (n ≡ (known (outside m.0.view) m.0.told watched false m.0.passes, []))
 
+  -- the same, where the word has the state's position already: the hold is added as the lock is given back
+  abbrev pub gives_unmoved : Step (Option S) → Sat S → ℕ → Sat S → Type 0
+  gives_unmoved st m r n =
+      (origin left : S) → m.0.view.origin ≡ Some origin → m.1 ≡ (0, Some left) ∷ []
+      → (watched : List (Hold ℕ)) × (n ≡ (known (outside (published origin m.0.view left)) [] watched false m.0.passes, []))
+
+  -- the pass that has the lock finds the position of the last state
+  abbrev pub recalls : (S → ℕ) → Step (Option S) → Sat S → ℕ → Sat S → Type 0
+  recalls position st m r n = (m.0.inside ≡ true → (origin : S) → m.0.view.origin ≡ Some origin → r ≡ position (end_of origin m.0.view.seen)) × (n ≡ m)
+
   abbrev pub looks : (S → ℕ) → (S → S → Type 0) → Step (Option S) → Sat S → ℕ → Sat S → Type 0
   looks position grows st m r n =
       (origin : S) → m.0.view.origin ≡ Some origin

@@ -62,8 +62,12 @@ impl<S: Grows> Own<S> {
     {
         let Guard { pass, state } = guard;
         let position = state.position();
-        self.publish(pass, state, position);
-        self.give(pass);
+        if position == self.recall(pass) {
+            self.give_unmoved(pass, state);
+        } else {
+            self.publish(pass, state, position);
+            self.give(pass);
+        }
     }
 }
 

@@ -4,7 +4,8 @@ ghost use Rattle.std.specs.Prelude.{◌≡◌, ℕ, ◌∷◌, ◌≤◌, [], tr
 use crate::error::{LockError, Refused};
 use crate::grows::Grows;
 use crate::rule::{
-    Admit, Agree, Arrive, Confirm, Discipline, Give, Hear, Look, Publish, Take, Tell,
+    Admit, Agree, Arrive, Confirm, Discipline, Give, GiveUnmoved, Hear, Look, Publish, Recall,
+    Take, Tell,
 };
 use crate::view::Known;
 use atomic_table::{Seat, Table};
@@ -246,6 +247,35 @@ impl<S: Grows> Own<S> {
         ensures given { view_of pass.new ≡ outside (view_of pass.old) }
     {
         self.table.shared.store::<Give>(&mut pass.seat, LOCK, 0);
+    }
+
+    // The position of the state that the pass found, which has the lock.
+    pub(crate) fn recall(&self, pass: &mut Pass<S>) -> u64
+        requires ours { pass.old.seat.table_id ≡ id_of self.now }
+        requires inside { pass.old.seat.me.0.inside ≡ true }
+        requires origin { (view_of pass.old).origin ≡ Some (origin_of self.now) }
+        ensures same { (pass.new.seat.table_id ≡ pass.old.seat.table_id) × (pass.new.seat.me ≡ pass.old.seat.me) }
+        ensures position { result ≡ S.position (end_of (origin_of self.now) (view_of pass.old).seen) }
+    {
+        self.table.shared.load::<Recall>(&mut pass.seat, POSITION)
+    }
+
+    // Puts the state into the slot and gives the lock back, where the first word has the state's position already.
+    pub(crate) fn give_unmoved(&self, pass: &mut Pass<S>, state: S)
+        requires ours { pass.old.seat.table_id ≡ id_of self.now }
+        requires out { pass.old.seat.me.1 ≡ (0, None) ∷ [] }
+        requires inside { pass.old.seat.me.0.inside ≡ true }
+        requires origin { (view_of pass.old).origin ≡ Some (origin_of self.now) }
+        requires grown { S.grows (end_of (origin_of self.now) (view_of pass.old).seen) state }
+        requires unmoved { S.position (end_of (origin_of self.now) (view_of pass.old).seen) ≡ S.position state }
+        ensures same { pass.new.seat.table_id ≡ pass.old.seat.table_id }
+        ensures outside { (pass.new.seat.me.1 ≡ []) × (pass.new.seat.me.0.inside ≡ false) }
+        ensures given { view_of pass.new ≡ outside (published (origin_of self.now) (view_of pass.old) state) }
+    {
+        self.put(pass, state);
+        self.table
+            .shared
+            .store::<GiveUnmoved>(&mut pass.seat, LOCK, 0);
     }
 }
 

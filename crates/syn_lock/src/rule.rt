@@ -44,6 +44,24 @@ impl<S: Grows> Play<Option<S>, Known<S>> for Give {
     ghost then = { gives_lock };
 }
 
+/// A store of 0 into the lock's word, by a hold that left the position as it found it. It is the hold's one step.
+pub(crate) struct GiveUnmoved;
+
+impl<S: Grows> Play<Option<S>, Known<S>> for GiveUnmoved {
+    ghost use Rattle.syn_lock.specs.Rule.{gives_unmoved};
+
+    ghost then = { gives_unmoved };
+}
+
+/// A load of the position by the pass that has the lock.
+pub(crate) struct Recall;
+
+impl<S: Grows> Play<Option<S>, Known<S>> for Recall {
+    ghost use Rattle.syn_lock.specs.Rule.{recalls};
+
+    ghost then = { recalls S.position };
+}
+
 /// A load of the position.
 pub(crate) struct Look;
 
