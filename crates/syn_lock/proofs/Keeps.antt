@@ -1,5 +1,5 @@
 -- Each step of the lock keeps its rule.
-use Rattle.std.proofs.Common.{◌≡◌, ◌≢◌, ℕ, ◌+◌, ◌<◌, ◌≤◌, ◌⊎◌, true, false, eqb, cond, List, [], ◌∷◌, ◌++◌, length, get_or, set, Option, Some, None, refl, ap, sym, ◌∙◌, subst, ⊎_elim, inl, inr, arith, le_refl, length-set, get_or-set_other, get_or-set_same, ne_eqb}
+use Rattle.std.proofs.Common.{◌≡◌, ◌≢◌, ℕ, ◌+◌, ◌<◌, ◌≤◌, ◌⊎◌, true, false, eqb, cond, List, [], ◌∷◌, ◌++◌, length, get_or, set, replicate, Option, Some, None, refl, ap, sym, ◌∙◌, subst, ⊎_elim, inl, inr, arith, le_refl, length-set, get_or-set_other, get_or-set_same, ne_eqb}
 use mathlib.Core.Option.{some, none, some-injective, some-ne-none}
 use mathlib.Core.List.{IsPrefix}
 use lib.ListN.{get_elem?}
@@ -469,7 +469,7 @@ module _ {S : Type 0} (position : S → ℕ) (grows : S → S → Type 0) (origi
         (r.2.seen id v at, r.2.few, (λ e. absurd (ne e)), (λ _. refl)),
       ))
 
-  pub opens : (ws : List ℕ) (xs : List (Option S)) (p : ℕ) → ws ≡ p ∷ 0 ∷ 0 ∷ [] → p ≡ position origin → xs ≡ Some origin ∷ [] → Rule (opening ws xs (witness (Some origin) []))
+  pub opens : (ws : List ℕ) (xs : List (Option S)) (p : ℕ) → ws ≡ p ∷ 0 ∷ 0 ∷ replicate 8 0 → p ≡ position origin → xs ≡ Some origin ∷ [] → Rule (opening ws xs (witness (Some origin) []))
   opens ws xs p words here slots = subst (λ (z : List ℕ × List (Option S)). Rule (opening z.0 z.1 (witness (Some origin) []))) (λ i. (sym words i, sym slots i)) (
     record {
       log = [];

@@ -39,7 +39,7 @@ pub struct Onlooker<S> {
 #[derive(Drop)]
 pub struct Own<S: Grows> {
     table: Table<Option<S>, Known<S>, Snapshot<S>, Discipline, Global>,
-    ghost sized: { (table.shared.table_id.words ≡ 3) × (table.shared.table_id.slots ≡ 1) },
+    ghost sized: { (table.shared.table_id.words ≡ 11) × (table.shared.table_id.slots ≡ 1) },
 }
 
 impl<S: Grows> Own<S> {
@@ -56,7 +56,8 @@ impl<S: Grows> Own<S> {
         ensures ok { IfOk result (λ own. origin_of own ≡ state) }
         ensures err { IfErr result (λ refused. (refused.error ≡ LockError.Memory) × (refused.value ≡ state)) }
     {
-        let words = [state.position(), 0, 0];
+        // The words and the state lie in two blocks, mostly one behind the other. Eight spare words keep the state off the cache line of the lock's word, where an exchange of the word would wait for each write of the state.
+        let words = [state.position(), 0, 0, 0, 0, 0, 0, 0, 0, 0, 0];
         let origin = Snapshot::of(&state);
         let Ok(mut slots) = Vec::with_capacity(alloc, 1) else {
             return Err(Refused {
