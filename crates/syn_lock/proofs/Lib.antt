@@ -1,3 +1,4 @@
+pub mod Bits
 pub mod Histories
 pub mod Seats
 pub mod Turns

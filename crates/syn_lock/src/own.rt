@@ -1,11 +1,12 @@
 //! The lock and its passes.
-ghost use Rattle.std.specs.Prelude.{◌≡◌, ℕ, ◌∷◌, ◌≤◌, [], true, false, Some, List, IfOk, IfErr, IfSome, MatchOption};
+ghost use Rattle.std.specs.Prelude.{◌≡◌, ℕ, ◌∷◌, ◌%◌, ◌≤◌, ◌<◌, [], true, false, Some, List, IfOk, IfErr, IfSome, MatchOption};
+ghost use Rattle.syn_lock.specs.Rule.{Tells};
 
 use crate::error::{LockError, Refused};
 use crate::grows::Grows;
 use crate::rule::{
-    Admit, Agree, Arrive, Confirm, Discipline, Give, GiveUnmoved, Hear, Look, Publish, Recall,
-    Take, Tell,
+    Admit, Agree, Arrive, Confirm, Discipline, Give, Hear, Leave, Look, LookFar, Publish, Take,
+    Tell,
 };
 use crate::view::Known;
 use atomic_table::{Seat, Table};
@@ -18,7 +19,22 @@ const POSITION: usize = 0;
 
 const LOCK: usize = 1;
 
+// Positions from this on do not go into the lock's word.
+pub(crate) const FAR: u64 = 1 << 63;
+
 const PASSES: usize = 2;
+
+// The first two words of a free lock over a state of this position.
+fn words_of(position: u64) -> (u64, u64)
+    ensures free { result.1 % 2 ≡ 0 }
+    ensures tells { Tells result.0 result.1 position }
+{
+    if position < FAR {
+        (0, 2 * position)
+    } else {
+        (position, 0)
+    }
+}
 
 /// The most passes that a lock gives out.
 pub const MOST_PASSES: u64 = 63;
@@ -47,7 +63,7 @@ impl<S: Grows> Own<S> {
     ghost use mathlib.Core.List.{IsPrefix};
     ghost use Rattle.syn_lock.specs.History.{end_of, holds_by};
     ghost use Rattle.syn_lock.specs.Views.{seeing, entered, published, outside, Sees, LooksAt, EndsAt};
-    ghost use Rattle.syn_lock.specs.Rule.{caught_up, turned_away};
+    ghost use Rattle.syn_lock.specs.Rule.{caught_up, turned_away, far};
     ghost use Rattle.syn_lock.specs.Passes.{view_of, IsPassOf, IsNew, WasRefused, IsOnlookerOf, passes_seen};
     ghost use Rattle.syn_lock.specs.Locks.{id_of, origin_of};
 
@@ -57,7 +73,8 @@ impl<S: Grows> Own<S> {
         ensures err { IfErr result (λ refused. (refused.error ≡ LockError.Memory) × (refused.value ≡ state)) }
     {
         // The words and the state lie in two blocks, mostly one behind the other. Eight spare words keep the state off the cache line of the lock's word, where an exchange of the word would wait for each write of the state.
-        let words = [state.position(), 0, 0, 0, 0, 0, 0, 0, 0, 0, 0];
+        let (first, second) = words_of(state.position());
+        let words = [first, second, 0, 0, 0, 0, 0, 0, 0, 0, 0];
         let origin = Snapshot::of(&state);
         let Ok(mut slots) = Vec::with_capacity(alloc, 1) else {
             return Err(Refused {
@@ -156,7 +173,10 @@ impl<S: Grows> Own<S> {
         ensures told { IsPrefix pass.old.seat.me.0.told (view_of pass.new).seen }
         ensures position { result ≡ S.position (end_of (origin_of self.now) (view_of pass.new).seen) }
     {
-        self.table.shared.load::<Look>(&mut pass.seat, POSITION)
+        let shared = &self.table.shared;
+        let near = shared.load::<Look>(&mut pass.seat, LOCK);
+        let far = shared.load::<LookFar>(&mut pass.seat, POSITION);
+        if far == 0 { near / 2 } else { far }
     }
 
     // The pass is told what another has seen.
@@ -199,8 +219,8 @@ impl<S: Grows> Own<S> {
         ensures later { IfSome result (S.grows (end_of (origin_of self.now) (view_of pass.old).seen)) }
     {
         let shared = &self.table.shared;
-        let found = shared.compare_exchange::<Take>(&mut pass.seat, LOCK, 0, 1);
-        if found != 0 {
+        let found = shared.fetch_or::<Take>(&mut pass.seat, LOCK, 1);
+        if found % 2 != 0 {
             return None;
         }
         Some(shared.exchange(&mut pass.seat, 0, None).unwrap())
@@ -217,7 +237,7 @@ impl<S: Grows> Own<S> {
         let None = before else { unreachable!() };
     }
 
-    // Puts the state into the slot, and its position into the first word.
+    // Puts the state into the slot, and its position into the first word, which is for the far ones.
     pub(crate) fn publish(&self, pass: &mut Pass<S>, state: S, position: u64)
         requires ours { pass.old.seat.table_id ≡ id_of self.now }
         requires out { pass.old.seat.me.1 ≡ (0, None) ∷ [] }
@@ -225,6 +245,7 @@ impl<S: Grows> Own<S> {
         requires origin { (view_of pass.old).origin ≡ Some (origin_of self.now) }
         requires grown { S.grows (end_of (origin_of self.now) (view_of pass.old).seen) state }
         requires position { position ≡ S.position state }
+        requires far { far ≤ position }
         ensures same { pass.new.seat.table_id ≡ pass.old.seat.table_id }
         ensures inside { pass.new.seat.me.0.inside ≡ true }
         ensures put { pass.new.seat.me.1 ≡ (0, Some state) ∷ [] }
@@ -237,12 +258,13 @@ impl<S: Grows> Own<S> {
             .store::<Publish>(&mut pass.seat, POSITION, position);
     }
 
-    // Gives the lock back with the last state of the history.
+    // Gives the lock back with the last state of the history, whose position is far.
     pub(crate) fn give(&self, pass: &mut Pass<S>)
         requires ours { pass.old.seat.table_id ≡ id_of self.now }
         requires last { pass.old.seat.me.1 ≡ (0, Some (end_of (origin_of self.now) (view_of pass.old).seen)) ∷ [] }
         requires inside { pass.old.seat.me.0.inside ≡ true }
         requires origin { (view_of pass.old).origin ≡ Some (origin_of self.now) }
+        requires far { far ≤ S.position (end_of (origin_of self.now) (view_of pass.old).seen) }
         ensures same { pass.new.seat.table_id ≡ pass.old.seat.table_id }
         ensures outside { (pass.new.seat.me.1 ≡ []) × (pass.new.seat.me.0.inside ≡ false) }
         ensures given { view_of pass.new ≡ outside (view_of pass.old) }
@@ -250,33 +272,23 @@ impl<S: Grows> Own<S> {
         self.table.shared.store::<Give>(&mut pass.seat, LOCK, 0);
     }
 
-    // The position of the state that the pass found, which has the lock.
-    pub(crate) fn recall(&self, pass: &mut Pass<S>) -> u64
-        requires ours { pass.old.seat.table_id ≡ id_of self.now }
-        requires inside { pass.old.seat.me.0.inside ≡ true }
-        requires origin { (view_of pass.old).origin ≡ Some (origin_of self.now) }
-        ensures same { (pass.new.seat.table_id ≡ pass.old.seat.table_id) × (pass.new.seat.me ≡ pass.old.seat.me) }
-        ensures position { result ≡ S.position (end_of (origin_of self.now) (view_of pass.old).seen) }
-    {
-        self.table.shared.load::<Recall>(&mut pass.seat, POSITION)
-    }
-
-    // Puts the state into the slot and gives the lock back, where the first word has the state's position already.
-    pub(crate) fn give_unmoved(&self, pass: &mut Pass<S>, state: S)
+    // Puts the state into the slot, publishes its position and gives the lock back, in one step.
+    pub(crate) fn leave_near(&self, pass: &mut Pass<S>, state: S, position: u64)
         requires ours { pass.old.seat.table_id ≡ id_of self.now }
         requires out { pass.old.seat.me.1 ≡ (0, None) ∷ [] }
         requires inside { pass.old.seat.me.0.inside ≡ true }
         requires origin { (view_of pass.old).origin ≡ Some (origin_of self.now) }
         requires grown { S.grows (end_of (origin_of self.now) (view_of pass.old).seen) state }
-        requires unmoved { S.position (end_of (origin_of self.now) (view_of pass.old).seen) ≡ S.position state }
+        requires position { position ≡ S.position state }
+        requires near { position < far }
         ensures same { pass.new.seat.table_id ≡ pass.old.seat.table_id }
         ensures outside { (pass.new.seat.me.1 ≡ []) × (pass.new.seat.me.0.inside ≡ false) }
-        ensures given { view_of pass.new ≡ outside (published (origin_of self.now) (view_of pass.old) state) }
+        ensures left { view_of pass.new ≡ outside (published (origin_of self.now) (view_of pass.old) state) }
     {
         self.put(pass, state);
         self.table
             .shared
-            .store::<GiveUnmoved>(&mut pass.seat, LOCK, 0);
+            .store::<Leave>(&mut pass.seat, LOCK, 2 * position);
     }
 }
 
