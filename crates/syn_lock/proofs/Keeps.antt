@@ -1,5 +1,5 @@
 -- Each step of the lock keeps its rule.
-use Rattle.std.proofs.Common.{◌≡◌, ◌≢◌, ℕ, ◌+◌, ◌*◌, ◌/◌, ◌%◌, ◌<◌, ◌≤◌, ◌⊎◌, true, false, eqb, cond, List, [], ◌∷◌, ◌++◌, length, get_or, set, replicate, Option, Some, None, refl, ap, sym, ◌∙◌, subst, ⊎_elim, inl, inr, arith, le_refl, length-set, get_or-set_other, get_or-set_same, ne_eqb}
+use Rattle.std.proofs.Common.{◌≡◌, ◌≢◌, ℕ, ◌+◌, ◌*◌, ◌/◌, ◌%◌, ◌<◌, ◌≤◌, ◌⊎◌, true, false, eqb, cond, List, [], ◌∷◌, ◌++◌, length, get_or, set, Option, Some, None, refl, ap, sym, ◌∙◌, subst, ⊎_elim, inl, inr, arith, le_refl, length-set, get_or-set_other, get_or-set_same, ne_eqb}
 use mathlib.Core.Option.{some, none, some-injective, some-ne-none}
 use mathlib.Core.List.{IsPrefix}
 use mathlib.Core.Logic.{dite}
@@ -165,7 +165,7 @@ module _ {S : Type 0} (position : S → ℕ) (grows : S → S → Type 0) (origi
   watched_on s r id found left v at = prefix_more v.watched r.1.turns (hold v.view.number found left ∷ []) (r.1.watched id v at)
 
   -- the first two words tell the same position, where the second has the same half
-  tells_same : (s : St) (new p : ℕ) → length s.words ≡ 11 → new / 2 ≡ get_or s.words 1 0 / 2 → Tells (get_or s.words 0 0) (get_or s.words 1 0) p → Tells (get_or (set s.words 1 new) 0 0) (get_or (set s.words 1 new) 1 0) p
+  tells_same : (s : St) (new p : ℕ) → length s.words ≡ 3 → new / 2 ≡ get_or s.words 1 0 / 2 → Tells (get_or s.words 0 0) (get_or s.words 1 0) p → Tells (get_or (set s.words 1 new) 0 0) (get_or (set s.words 1 new) 1 0) p
   tells_same s new p long half t = subst (λ (x : ℕ × ℕ). Tells x.0 x.1 p) (λ i. (sym (get_or-set_other s.words 1 0 new 0 (λ e. omega arith)) i, sym (get_or-set_same s.words 1 new 0 (omega arith)) i))
       ((λ e. let near = t.0 e in (half ∙ near.0, near.1)), (λ ne. t.1 ne))
 
@@ -225,7 +225,7 @@ module _ {S : Type 0} (position : S → ℕ) (grows : S → S → Type 0) (origi
 
   -- the pass that has the lock adds its hold, and the words tell its position
   published_rule : (s : St) (k : History s) (ws : List ℕ) (id : ℕ) (v w : Known S) (o left : S) → get_elem? s.views id ≡ some v → v.inside ≡ true → v.view.origin ≡ Some o
-      → grows (end_of o v.view.seen) left → length ws ≡ 11 → get_or ws 1 0 % 2 ≡ lock s → Tells (get_or ws 0 0) (get_or ws 1 0) (position left) → w ≡ caught_up v (published o v.view left) v.inside
+      → grows (end_of o v.view.seen) left → length ws ≡ 3 → get_or ws 1 0 % 2 ≡ lock s → Tells (get_or ws 0 0) (get_or ws 1 0) (position left) → w ≡ caught_up v (published o v.view left) v.inside
       → History record { words = ws; homes = s.homes; views = set s.views id w }
   published_rule s k ws id v w o left at is from up long same here w_is = let f = k.fits id v at in let h = k.inside id v at is in let all = h.seen_all in let o_is = f.origin_is o from in
       let p = v.view.number in
@@ -316,7 +316,7 @@ module _ {S : Type 0} (position : S → ℕ) (grows : S → S → Type 0) (origi
       let last : position (end_of o v.view.seen) ≡ position (end_of origin k.log) = (λ i. position (end_of ((k.fits id v at).origin_is o from i) ((k.inside id v at is).seen_all i))) in
       let other : get_or (set s.words 1 0) 0 0 ≡ get_or s.words 0 0 = get_or-set_other s.words 1 0 0 0 (λ e. omega arith) in
       let tells : Tells (get_or (set s.words 1 0) 0 0) (get_or (set s.words 1 0) 1 0) (position (end_of o v.view.seen)) = subst (λ x. Tells x (get_or (set s.words 1 0) 1 0) (position (end_of o v.view.seen))) (sym other)
-          ((λ zero. let near = (k.position_is.0 zero).1 in absurd (omega (arith, near, last, distant))), (λ ne. let there = k.position_is.1 ne in (there.0 ∙ sym last, there.1))) in
+      ((λ zero. let near = (k.position_is.0 zero).1 in absurd (omega (arith, near, last, distant))), (λ ne. let there = k.position_is.1 ne in (there.0 ∙ sym last, there.1))) in
       (known (outside v.view) v.told watched false v.passes, gives, tt, given_at s r id 0 v o at is from refl tells, (watched, refl))
 
   pub give_keeps : (id n : ℕ) (m : Sat S) (o : S) → m.1 ≡ (0, Some (end_of o m.0.view.seen)) ∷ [] → m.0.inside ≡ true → m.0.view.origin ≡ Some o → far ≤ position (end_of o m.0.view.seen)
@@ -337,15 +337,15 @@ module _ {S : Type 0} (position : S → ℕ) (grows : S → S → Type 0) (origi
       let w = caught_up v (published o v.view left) v.inside in
       let last : position (end_of o v.view.seen) ≡ position (end_of origin k.log) = (λ i. position (end_of ((k.fits id v at).origin_is o from i) (h.seen_all i))) in
       let zero : get_or s.words 0 0 ≡ 0 = none_far s k (omega (arith, last, later, near)) in
-      let tells : (x : ℕ) → x / 2 ≡ position left → Tells (get_or (set s.words 1 x) 0 0) (get_or (set s.words 1 x) 1 0) (position left) = (λ x half. 
-          subst (λ (y : ℕ × ℕ). Tells y.0 y.1 (position left)) (λ i. (sym (get_or-set_other s.words 1 0 x 0 (λ e. omega arith)) i, sym (get_or-set_same s.words 1 x 0 (omega arith)) i))
-          ((λ _. (half, near)), (λ ne. absurd (ne zero)))) in
+      let tells : (x : ℕ) → x / 2 ≡ position left → Tells (get_or (set s.words 1 x) 0 0) (get_or (set s.words 1 x) 1 0) (position left) = (λ x half.
+      subst (λ (y : ℕ × ℕ). Tells y.0 y.1 (position left)) (λ i. (sym (get_or-set_other s.words 1 0 x 0 (λ e. omega arith)) i, sym (get_or-set_same s.words 1 x 0 (omega arith)) i))
+      ((λ _. (half, near)), (λ ne. absurd (ne zero)))) in
       let odd : get_or (set s.words 1 (new + 1)) 1 0 % 2 ≡ lock s = ap (λ x. x % 2) (get_or-set_same s.words 1 (new + 1) 0 (omega arith)) ∙ (omega (arith, twice) ∙ taken_is s h.taken) in
       let mid = published_at s r 1 id (new + 1) v o left at is from up odd (get_or-set_other s.words 1 2 (new + 1) 0 (λ e. omega arith)) (tells (new + 1) (omega (arith, twice))) in
       let watched : List (Hold ℕ) = mid.1.turns ++ hold v.view.number 1 0 ∷ [] in
       let u : Known S = known (outside (published o v.view left)) [] watched false v.passes in
       let told : Tells (get_or (set (set s.words 1 (new + 1)) 1 new) 0 0) (get_or (set (set s.words 1 (new + 1)) 1 new) 1 0) (position (end_of o w.view.seen)) =
-          subst (λ (y : List ℕ × S). Tells (get_or y.0 0 0) (get_or y.0 1 0) (position y.1)) (λ i. (sym (set-set s.words 1 (new + 1) new) i, sym (end_of-append o v.view.seen (own_hold o v.view left)) i)) (tells new (omega (arith, twice))) in
+      subst (λ (y : List ℕ × S). Tells (get_or y.0 0 0) (get_or y.0 1 0) (position y.1)) (λ i. (sym (set-set s.words 1 (new + 1) new) i, sym (end_of-append o v.view.seen (own_hold o v.view left)) i)) (tells new (omega (arith, twice))) in
       let after = given_at (stepped s 1 (new + 1) id [] w keeps) mid id new w o (set_here s.views id w (at_below s.views id v at)) is from (omega (arith, twice)) told in (
         u,
         gives,
@@ -519,7 +519,7 @@ module _ {S : Type 0} (position : S → ℕ) (grows : S → S → Type 0) (origi
         (r.2.seen id v at, r.2.few, (λ e. absurd (ne e)), (λ _. refl)),
       ))
 
-  pub opens : (ws : List ℕ) (xs : List (Option S)) (p q : ℕ) → ws ≡ p ∷ q ∷ 0 ∷ replicate 8 0 → q % 2 ≡ 0 → Tells p q (position origin) → xs ≡ Some origin ∷ [] → Rule (opening ws xs (witness (Some origin) []))
+  pub opens : (ws : List ℕ) (xs : List (Option S)) (p q : ℕ) → ws ≡ p ∷ q ∷ 0 ∷ [] → q % 2 ≡ 0 → Tells p q (position origin) → xs ≡ Some origin ∷ [] → Rule (opening ws xs (witness (Some origin) []))
   opens ws xs p q words even here slots = subst (λ (z : List ℕ × List (Option S)). Rule (opening z.0 z.1 (witness (Some origin) []))) (λ i. (sym words i, sym slots i)) (
     record {
       log = [];

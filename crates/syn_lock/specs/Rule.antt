@@ -118,7 +118,7 @@ module _ {S : Type 0} where
   pub record Kept (position : S → ℕ) (grows : S → S → Type 0) (origin : S) (s : State (Option S) (Known S)) : Type 0 where
     pub log : List (Hold S)
     pub holder : ℕ
-    pub words : length s.words ≡ 11
+    pub words : length s.words ≡ 3
     pub slots : length s.homes ≡ 1
     pub legal : IsHistory grows origin log
     pub position_is : Tells (slice_index s.words 0) (slice_index s.words 1) (position (end_of origin log))

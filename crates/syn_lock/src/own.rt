@@ -1,6 +1,6 @@
 //! The lock and its passes.
 ghost use Rattle.std.specs.Prelude.{◌≡◌, ℕ, ◌∷◌, ◌%◌, ◌≤◌, ◌<◌, [], true, false, Some, List, IfOk, IfErr, IfSome, MatchOption};
-ghost use Rattle.syn_lock.specs.Rule.{Tells};
+ghost use Rattle.syn_lock.specs.Rule.{Tells, far};
 
 use crate::error::{LockError, Refused};
 use crate::grows::Grows;
@@ -19,22 +19,10 @@ const POSITION: usize = 0;
 
 const LOCK: usize = 1;
 
-// Positions from this on do not go into the lock's word.
-pub(crate) const FAR: u64 = 1 << 63;
-
 const PASSES: usize = 2;
 
-// The first two words of a free lock over a state of this position.
-fn words_of(position: u64) -> (u64, u64)
-    ensures free { result.1 % 2 ≡ 0 }
-    ensures tells { Tells result.0 result.1 position }
-{
-    if position < FAR {
-        (0, 2 * position)
-    } else {
-        (position, 0)
-    }
-}
+// Positions from this on do not fit beside the bit of the lock's word, and stand in the first word.
+pub(crate) const FAR: u64 = 1 << 63;
 
 /// The most passes that a lock gives out.
 pub const MOST_PASSES: u64 = 63;
@@ -55,7 +43,19 @@ pub struct Onlooker<S> {
 #[derive(Drop)]
 pub struct Own<S: Grows> {
     table: Table<Option<S>, Known<S>, Snapshot<S>, Discipline, Global>,
-    ghost sized: { (table.shared.table_id.words ≡ 11) × (table.shared.table_id.slots ≡ 1) },
+    ghost sized: { (table.shared.table_id.words ≡ 3) × (table.shared.table_id.slots ≡ 1) },
+}
+
+// The first two words of a free lock over a state of this position.
+fn words_of(position: u64) -> (u64, u64)
+    ensures free { result.1 % 2 ≡ 0 }
+    ensures tells { Tells result.0 result.1 position }
+{
+    if position < FAR {
+        (0, 2 * position)
+    } else {
+        (position, 0)
+    }
 }
 
 impl<S: Grows> Own<S> {
@@ -63,7 +63,7 @@ impl<S: Grows> Own<S> {
     ghost use mathlib.Core.List.{IsPrefix};
     ghost use Rattle.syn_lock.specs.History.{end_of, holds_by};
     ghost use Rattle.syn_lock.specs.Views.{seeing, entered, published, outside, Sees, LooksAt, EndsAt};
-    ghost use Rattle.syn_lock.specs.Rule.{caught_up, turned_away, far};
+    ghost use Rattle.syn_lock.specs.Rule.{caught_up, turned_away};
     ghost use Rattle.syn_lock.specs.Passes.{view_of, IsPassOf, IsNew, WasRefused, IsOnlookerOf, passes_seen};
     ghost use Rattle.syn_lock.specs.Locks.{id_of, origin_of};
 
@@ -72,9 +72,8 @@ impl<S: Grows> Own<S> {
         ensures ok { IfOk result (λ own. origin_of own ≡ state) }
         ensures err { IfErr result (λ refused. (refused.error ≡ LockError.Memory) × (refused.value ≡ state)) }
     {
-        // The words and the state lie in two blocks, mostly one behind the other. Eight spare words keep the state off the cache line of the lock's word, where an exchange of the word would wait for each write of the state.
         let (first, second) = words_of(state.position());
-        let words = [first, second, 0, 0, 0, 0, 0, 0, 0, 0, 0];
+        let words = [first, second, 0];
         let origin = Snapshot::of(&state);
         let Ok(mut slots) = Vec::with_capacity(alloc, 1) else {
             return Err(Refused {
