@@ -1,4 +1,4 @@
--- Each step of the lock keeps its rule.
+-- Each step of a pass on the lock keeps the rule.
 use Rattle.std.proofs.Common.{◌≡◌, ◌≢◌, ℕ, ◌+◌, ◌*◌, ◌/◌, ◌%◌, ◌<◌, ◌≤◌, ◌⊎◌, true, false, eqb, cond, List, [], ◌∷◌, ◌++◌, length, get_or, set, Option, Some, None, refl, ap, sym, ◌∙◌, subst, ⊎_elim, inl, inr, arith, le_refl, length-set, get_or-set_other, get_or-set_same, ne_eqb}
 use mathlib.Core.Option.{some, none, some-injective, some-ne-none}
 use mathlib.Core.List.{IsPrefix}
@@ -17,7 +17,7 @@ use Rattle.syn_lock.specs.History.{hold, end_of, IsHistory, holds_by}
 use Rattle.syn_lock.specs.Views.{newcomer, seeing, entered, published, outside, own_hold, Sees}
 use Rattle.syn_lock.specs.Rule.{Sat, known, witness, caught_up, turned_away, counting, hearing, agreeing, takes_lock, publishes, gives_lock, leaves, looks, looks_far, far, Tells, confirms, arrives, admits, IsUnused, Fits, Holds, Kept, Turned, Counted, Lawful}
 use Rattle.syn_lock.specs.Prefixes.{prefix_self}
-use Rattle.syn_lock.proofs.Histories.{at_below, prefix_more, end_of-append, history-append, own_more, other_more, none_in_prefix, own_between, prefix_grows}
+use Rattle.syn_lock.proofs.Histories.{at_below, nothing_told, prefix_more, end_of-append, history-append, own_more, other_more, none_in_prefix, own_between, prefix_grows}
 use Rattle.syn_lock.proofs.Bits.{with_bit, bit_there}
 use Rattle.syn_lock.proofs.Seats.{newest, others, still, unused_set, unused_numbered, unused_more, number_used}
 use Rattle.syn_lock.proofs.Turns.{turned_same, turned_on, turned_more, counted_same, counted_on, counted_more}
@@ -31,7 +31,7 @@ module _ {S : Type 0} where
   same_state : (a b : S) → ◌≡◌ {A = List (ℕ × Option S)} ((0, Some a) ∷ []) ((0, Some b) ∷ []) → a ≡ b
   same_state a b e = ap (λ l. carried a l) e
 
-  same_origin : (a b : S) → ◌≡◌ {A = Option S} (Some a) (Some b) → a ≡ b
+  pub same_origin : (a b : S) → ◌≡◌ {A = Option S} (Some a) (Some b) → a ≡ b
   same_origin a b e = ap (λ x. unwrap_or x a) e
 
 module _ {S : Type 0} (position : S → ℕ) (grows : S → S → Type 0) (origin : S) where
@@ -63,7 +63,7 @@ module _ {S : Type 0} (position : S → ℕ) (grows : S → S → Type 0) (origi
   }
 
   -- what a pass has seen is the same, and so is what it was told
-  fits_same : (log : List (Hold S)) (id : ℕ) (v w : Known S) → Fits origin log id v → w.view.number ≡ v.view.number → w.view.origin ≡ v.view.origin → w.view.own ≡ v.view.own → w.view.seen ≡ v.view.seen → w.told ≡ v.told → Fits origin log id w
+  pub fits_same : (log : List (Hold S)) (id : ℕ) (v w : Known S) → Fits origin log id v → w.view.number ≡ v.view.number → w.view.origin ≡ v.view.origin → w.view.own ≡ v.view.own → w.view.seen ≡ v.view.seen → w.told ≡ v.told → Fits origin log id w
   fits_same log id v w f number from own seen told = record {
     origin_is = λ o e. f.origin_is o (sym from ∙ e);
     prefix = subst (λ x. IsPrefix x log) (sym seen) f.prefix;
@@ -73,11 +73,8 @@ module _ {S : Type 0} (position : S → ℕ) (grows : S → S → Type 0) (origi
     numbered = subst (λ x. (x ≡ 0) ⊎ (x ≡ id + 1)) (sym number) f.numbered;
   }
 
-  nothing_told : (log : List (Hold S)) → IsPrefix [] log
-  nothing_told log = (log, refl)
-
   -- a step that changes no word and moves no slot keeps the history of the state
-  unmoved : (s : St) (k : History s) (i id : ℕ) (cs : List (ℕ × Option S)) (v w : Known S) → get_elem? s.views id ≡ some v → w.view.number ≡ v.view.number → Fits origin k.log id w → (w.inside ≡ true → Holds k.log (lock s) k.holder id w)
+  pub unmoved : (s : St) (k : History s) (i id : ℕ) (cs : List (ℕ × Option S)) (v w : Known S) → get_elem? s.views id ≡ some v → w.view.number ≡ v.view.number → Fits origin k.log id w → (w.inside ≡ true → Holds k.log (lock s) k.holder id w)
       → History (stepped s i (get_or s.words i 0) id cs w keeps)
   unmoved s k i id cs v w at number fit held = subst (λ (ws : List ℕ). History record { words = ws; homes = s.homes; views = set s.views id w }) (sym (set-get_or s.words i 0)) record {
     log = k.log;
@@ -101,9 +98,13 @@ module _ {S : Type 0} (position : S → ℕ) (grows : S → S → Type 0) (origi
     counted_same s.words (set s.words i (get_or s.words i 0)) s.views id v w at (still s.words i 2) number (subst (λ n. n ≤ get_or s.words 2 0) (sym passes) (r.2.seen id v at)) r.2,
   )
 
-  -- while the position is near, half of the lock's word is the position
+  -- while the position is near, the first word is 0
+  none_far : (s : St) (k : History s) → position (end_of origin k.log) < far → get_or s.words 0 0 ≡ 0
+  none_far s k near = dite (ℕ_discrete (get_or s.words 0 0) 0) (λ e. e) (λ ne. let there = k.position_is.1 ne in absurd (omega (arith, there.0, there.1, near)))
+
+  -- and half of the lock's word is the position
   near_of : (s : St) (k : History s) → position (end_of origin k.log) < far → get_or s.words 1 0 / 2 ≡ position (end_of origin k.log)
-  near_of s k near = dite (ℕ_discrete (get_or s.words 0 0) 0) (λ e. (k.position_is.0 e).0) (λ ne. let there = k.position_is.1 ne in absurd (omega (arith, there.0, there.1, near)))
+  near_of s k near = (k.position_is.0 (none_far s k near)).0
 
   pub look_keeps : (id n : ℕ) (m : Sat S) → Allows Rule n id m 1 (λ r. r) (looks position grows (step n 1 0 0 none) m)
   look_keeps id n m s r wide at _ = let k : History s = r.0 in let f = k.fits id m.0 at in let w = caught_up m.0 (seeing m.0.view k.log) m.0.inside in (
@@ -323,11 +324,7 @@ module _ {S : Type 0} (position : S → ℕ) (grows : S → S → Type 0) (origi
       → Allows Rule n id m 1 (λ _. 0) (λ _. gives_lock (step n 1 0 0 none) m 0)
   give_keeps id n m o has is from distant = subst (λ (x : Sat S). Allows Rule n id x 1 (λ _. 0) (λ _. gives_lock (step n 1 0 0 none) x 0)) (λ i. (m.0, sym has i)) (give_inside id n m.0 o is from distant)
 
-  -- while the position is near, the first word is 0
-  none_far : (s : St) (k : History s) → position (end_of origin k.log) < far → get_or s.words 0 0 ≡ 0
-  none_far s k near = dite (ℕ_discrete (get_or s.words 0 0) 0) (λ e. e) (λ ne. let there = k.position_is.1 ne in absurd (omega (arith, there.0, there.1, near)))
-
-  -- the word becomes new, which is even, so that the position is told and the lock is free. It is as if it were new + 1 first, which tells the position while the lock is taken
+  -- The word becomes new, which is even: it tells the position, and the lock is free. It is as if the word became new + 1 before, which tells the position while the lock is taken
   leave_inside : (id n new : ℕ) (v : Known S) (o left : S) → v.inside ≡ true → v.view.origin ≡ Some o → grows (end_of o v.view.seen) left → position (end_of o v.view.seen) ≤ position left → new ≡ 2 * position left → position left < far
       → Allows Rule n id (v, (0, Some left) ∷ []) 1 (λ _. new) (λ _. leaves (step n 1 new 0 none) (v, (0, Some left) ∷ []) new)
   leave_inside id n new v o left is from up later twice near s r wide at _ =
@@ -359,188 +356,3 @@ module _ {S : Type 0} (position : S → ℕ) (grows : S → S → Type 0) (origi
       → new ≡ 2 * position left → position left < far → Allows Rule n id m 1 (λ _. new) (λ _. leaves (step n 1 new 0 none) m new)
   leave_keeps id n new m o left has is from up later twice near =
       subst (λ (x : Sat S). Allows Rule n id x 1 (λ _. new) (λ _. leaves (step n 1 new 0 none) x new)) (λ i. (m.0, sym has i)) (leave_inside id n new m.0 o left is from up later twice near)
-
-  -- a new seat, which is no pass, comes with a view that fits
-  arrived : (s : St) (r : Rule s) (w : Known S) → Fits origin r.0.log (length s.views) w → w.inside ≡ false → w.view.number ≡ 0 → w.view.turns ≡ [] → w.watched ≡ [] → w.passes ≤ get_or s.words 2 0
-      → Rule record { words = s.words; homes = s.homes; views = s.views ++ w ∷ [] }
-  arrived s r w fit out number turns watched passes = let k : History s = r.0 in (
-    record {
-      log = k.log;
-      holder = k.holder;
-      words = k.words;
-      slots = k.slots;
-      legal = k.legal;
-      position_is = k.position_is;
-      fits = newest (Fits origin k.log) s.views w fit (λ i u at. k.fits i u at);
-      home = k.home;
-      inside = newest (λ i u. u.inside ≡ true → Holds k.log (lock s) k.holder i u) s.views w (λ on. absurd (cc (on, out))) (λ i u at. k.inside i u at);
-      unused = λ p e. k.unused p (unused_more s.views w p e);
-    },
-    turned_more s.words s.views w number turns watched r.1,
-    counted_more s.words s.views w number passes r.2,
-  )
-
-  -- a seat that is no pass, which has seen these holds, fits
-  witness_fits : (s : St) (k : History s) (id : ℕ) (from : Option S) (seen : List (Hold S)) (passes : ℕ) → ((o : S) → from ≡ Some o → o ≡ origin) → IsPrefix seen k.log → Fits origin k.log id (counting (witness from seen) passes)
-  witness_fits s k id from seen passes is pre = record {
-    origin_is = is;
-    prefix = pre;
-    told = nothing_told k.log;
-    own_all = k.unused 0 (inl refl);
-    own_seen = none_in_prefix 0 seen k.log pre (k.unused 0 (inl refl));
-    numbered = inl refl;
-  }
-
-  pub arrive_keeps : (n : ℕ) → Enters Rule n 2 (λ r w. arrives (step n 2 0 0 none) (witness (Some origin) [], []) r (w, []))
-  arrive_keeps n s r wide _ = let given_out = get_or s.words 2 0 in let w = counting (witness (Some origin) []) given_out in (
-    w,
-    arrived s r w (witness_fits s r.0 (length s.views) (Some origin) [] given_out (λ o e. same_origin o origin (sym e)) (nothing_told r.0.log)) refl refl refl refl (le_refl given_out),
-    (r.2.few, refl),
-  )
-
-  -- a further seat that is no pass, with what a pass has seen
-  pub tell_keeps : (id : ℕ) (v : Known S) → Splits Rule id v v (witness v.view.origin v.view.seen)
-  tell_keeps id v s r at = let f = r.0.fits id v at in
-      subst (λ (vs : List (Known S)). Rule record { words = s.words; homes = s.homes; views = vs ++ witness v.view.origin v.view.seen ∷ [] }) (sym (set_again s.views id v at))
-      (arrived s r (witness v.view.origin v.view.seen) (witness_fits s r.0 (length s.views) v.view.origin v.view.seen 0 f.origin_is f.prefix) refl refl refl refl (omega arith))
-
-  -- two seats change, and the second, which is no pass, is spent
-  joined : (s : St) (r : Rule s) (id other : ℕ) (v w both : Known S) → get_elem? s.views id ≡ some v → both.view.number ≡ v.view.number → both.view.turns ≡ v.view.turns → both.watched ≡ v.watched → both.passes ≡ v.passes
-      → Fits origin r.0.log id both → (both.inside ≡ true → Holds r.0.log (lock s) r.0.holder id both) → get_elem? (set s.views id both) other ≡ some w → w.view.number ≡ 0
-      → Rule record { words = s.words; homes = s.homes; views = set (set s.views id both) other (witness None []) }
-  joined s r id other v w both at number turns watched passes fit held seat nobody = let spent : Known S = witness None [] in let first = set s.views id both in let k : History s = r.0 in
-      let t : Turned s.words first = turned_same s.words s.words s.views id v both at refl number turns r.1 (subst (λ x. IsPrefix x r.1.turns) (sym watched) (r.1.watched id v at)) in
-      let c : Counted s.words first = counted_same s.words s.words s.views id v both at refl number (subst (λ n. n ≤ get_or s.words 2 0) (sym passes) (r.2.seen id v at)) r.2 in (
-        record {
-          log = k.log;
-          holder = k.holder;
-          words = k.words;
-          slots = k.slots;
-          legal = k.legal;
-          position_is = k.position_is;
-          fits = others (Fits origin k.log) first other spent (witness_fits s k other None [] 0 (λ o e. absurd cc) (nothing_told k.log)) (λ j u _ e. others (Fits origin k.log) s.views id both fit (λ i x _ a. k.fits i x a) j u e);
-          home = k.home;
-          inside = others (λ j u. u.inside ≡ true → Holds k.log (lock s) k.holder j u) first other spent (λ e. absurd cc)
-              (λ j u _ e. others (λ i x. x.inside ≡ true → Holds k.log (lock s) k.holder i x) s.views id both held (λ i x _ a. k.inside i x a) j u e);
-          unused = λ p e. k.unused p (unused_set s.views id v both at number p (unused_set first other w spent seat (sym nobody) p e));
-        },
-        (let own : [] ≡ w.view.turns = sym (t.unused 0 (inl refl)) ∙ (ap (λ p. holds_by p t.turns) (sym nobody) ∙ t.own other w seat) in
-            turned_same s.words s.words first other w spent seat refl (sym nobody) own t (t.turns, refl)),
-        counted_same s.words s.words first other w spent seat refl (sym nobody) (omega arith) c,
-      )
-
-  seen_by_other : (s : St) (k : History s) (id other : ℕ) (both w : Known S) → ¬ (other ≡ id) → get_elem? (set s.views id both) other ≡ some w → IsPrefix w.view.seen k.log
-  seen_by_other s k id other both w ne e = ⊎_elim (λ (t : (other ≡ id) × (both ≡ w)). absurd (ne t.0)) (λ (t : (other ≢ id) × (get_elem? s.views other ≡ some w)). (k.fits other w t.1).prefix) (at_set s.views id other both w e)
-
-  pub hear_keeps : (id other : ℕ) (v w : Known S) → w.view.number ≡ 0 → Joins Rule id v other w (hearing v w) (witness None [])
-  hear_keeps id other v w nobody s r at ne seat = let f = r.0.fits id v at in
-      joined s r id other v w (hearing v w) at refl refl refl refl
-      record { origin_is = f.origin_is; prefix = f.prefix; told = seen_by_other s r.0 id other (hearing v w) w ne seat; own_all = f.own_all; own_seen = f.own_seen; numbered = f.numbered }
-      (λ e. let h = r.0.inside id v at e in record { is_holder = h.is_holder; seen_all = h.seen_all; taken = h.taken; number_is = h.number_is })
-      seat nobody
-
-  pub agree_keeps : (id other : ℕ) (v w : Known S) → w.view.number ≡ 0 → IsPrefix v.view.seen w.view.seen → v.inside ≡ false → Joins Rule id v other w (agreeing v w) (witness None [])
-  agree_keeps id other v w nobody more out s r at ne seat = let k : History s = r.0 in let f = k.fits id v at in let there = seen_by_other s k id other (agreeing v w) w ne seat in
-      joined s r id other v w (agreeing v w) at refl refl refl refl
-      record { origin_is = f.origin_is; prefix = there; told = nothing_told k.log; own_all = f.own_all; own_seen = own_between v.view.number v.view.seen w.view.seen k.log v.view.own more there f.own_seen f.own_all; numbered = f.numbered }
-      (λ e. absurd (cc (e, out)))
-      seat nobody
-
-  -- no seat has the number that a seat without one is to get
-  free_number : (s : St) (k : History s) (id : ℕ) (v : Known S) → get_elem? s.views id ≡ some v → v.view.number ≡ 0 → IsUnused s.views (id + 1)
-  free_number s k id v at nobody = inr (λ j u e is. ⊎_elim (λ (z : u.view.number ≡ 0). omega arith)
-      (λ (z : u.view.number ≡ j + 1). let here : j ≡ id = omega arith in
-      let same : u ≡ v = some-injective u v (sym (subst (λ x. get_elem? s.views x ≡ some u) here e) ∙ at) in
-      let none : u.view.number ≡ 0 = ap (λ x. x.view.number) same ∙ nobody in omega arith)
-      ((k.fits j u e).numbered))
-
-  -- a seat with no number becomes a pass, which sees all
-  come : (s : St) (k : History s) (id new : ℕ) (v w : Known S) → get_elem? s.views id ≡ some v → v.view.number ≡ 0 → Fits origin k.log id w → w.inside ≡ false → History (stepped s 2 new id [] w keeps)
-  come s k id new v w at nobody fit out = let long = k.words in let word : get_or (set s.words 2 new) 1 0 ≡ get_or s.words 1 0 = get_or-set_other s.words 2 1 new 0 (λ e. omega arith) in let same : get_or (set s.words 2 new) 1 0 % 2 ≡ lock s = ap (λ n. n % 2) word in record {
-    log = k.log;
-    holder = k.holder;
-    words = length-set s.words 2 new ∙ k.words;
-    slots = k.slots;
-    legal = k.legal;
-    position_is = subst (λ (x : ℕ × ℕ). Tells x.0 x.1 (position (end_of origin k.log))) (λ i. (sym (get_or-set_other s.words 2 0 new 0 (λ e. omega arith)) i, sym word i)) k.position_is;
-    fits = others (Fits origin k.log) s.views id w fit (λ j u _ e. k.fits j u e);
-    home = λ e. k.home (sym same ∙ e);
-    inside = subst (λ (z : ℕ). (j : ℕ) (u : Known S) → get_elem? (set s.views id w) j ≡ some u → u.inside ≡ true → Holds k.log z k.holder j u) (sym same)
-        (others (λ j u. u.inside ≡ true → Holds k.log (lock s) k.holder j u) s.views id w (λ on. absurd (cc (on, out))) (λ j u _ e. k.inside j u e));
-    unused = λ p e. k.unused p (unused_numbered s.views id v w at nobody p e);
-  }
-
-  admitted_word : (s : St) (r : Rule s) (id new : ℕ) (v w : Known S) → get_elem? s.views id ≡ some v → v.view.number ≡ 0 → w.view.number ≡ id + 1 → IsUnused s.views (id + 1) → w.view.turns ≡ [] → w.watched ≡ [] → Turned (set s.words 2 new) (set s.views id w)
-  admitted_word s r id new v w at nobody number free turns watched = let t = r.1 in let same : get_or (set s.words 2 new) 1 0 % 2 ≡ lock s = ap (λ n. n % 2) (get_or-set_other s.words 2 1 new 0 (λ e. omega arith)) in record {
-    turns = t.turns;
-    chained = t.chained;
-    word_is = same ∙ t.word_is;
-    watched = others (λ _ u. IsPrefix u.watched t.turns) s.views id w (subst (λ x. IsPrefix x t.turns) (sym watched) (t.turns, refl)) (λ j u _ e. t.watched j u e);
-    own = others (λ _ u. holds_by u.view.number t.turns ≡ u.view.turns) s.views id w (ap (λ p. holds_by p t.turns) number ∙ (t.unused (id + 1) free ∙ sym turns)) (λ j u _ e. t.own j u e);
-    unused = λ p e. t.unused p (unused_numbered s.views id v w at nobody p e);
-  }
-
-  pub admit_keeps : (id n old : ℕ) → old < 63 → Allows Rule n id (counting (witness (Some origin) []) old, []) 2 (λ r. either (eqb r old) (old + 1) r) (admits grows (step n 2 old (old + 1) none) (counting (witness (Some origin) []) old, []))
-  admit_keeps id n old room s r wide at _ =
-      let k : History s = r.0 in
-      let v : Known S = counting (witness (Some origin) []) old in
-      let found : ℕ = get_or s.words 2 0 in
-      let long = k.words in
-      exchanged found old (old + 1) (λ x. (w : Known S) × (a : Act (Option S)) × Valid s.homes [] a × Rule (stepped s 2 x id [] w a) × admits grows (step n 2 old (old + 1) none) (v, []) found (w, carried_after [] a))
-      (λ e.
-      let free = free_number s k id v at refl in
-      let fresh : holds_by (id + 1) k.log ≡ [] = k.unused (id + 1) free in
-      let w : Known S = known (newcomer (id + 1) origin k.log) [] [] false found in
-      let now : get_or (set s.words 2 (old + 1)) 2 0 ≡ old + 1 = get_or-set_same s.words 2 (old + 1) 0 (omega arith) in (
-        w,
-        keeps,
-        tt,
-        (
-          come s k id (old + 1) v w at refl record { origin_is = λ o e'. same_origin o origin (sym e'); prefix = prefix_self k.log; told = nothing_told k.log; own_all = fresh; own_seen = fresh; numbered = inr refl } refl,
-          admitted_word s r id (old + 1) v w at refl refl free refl refl,
-          counted_on s.words (set s.words 2 (old + 1)) s.views id v w old at e now room refl (ap (λ b. cond b 0 1) (ne_eqb (id + 1) 0 (λ z. omega arith))) (omega arith) r.2,
-        ),
-        (
-          r.2.seen id v at,
-          r.2.few,
-          (λ _ o is. let same = same_origin origin o is in (id + 1, k.log, omega arith, (nothing_told k.log, subst (λ x. IsHistory grows x k.log) same k.legal, fresh), (λ i. (known (newcomer (id + 1) (same i) k.log) [] [] false found, [])))),
-          (λ ne. absurd (ne e)),
-        ),
-      ))
-      (λ ne. let w : Known S = counting v found in (
-        w,
-        keeps,
-        tt,
-        (
-          unmoved s k 2 id [] v w at refl (fits_same k.log id v w (k.fits id v at) refl refl refl refl refl) (λ e. absurd cc),
-          turned_same s.words (set s.words 2 found) s.views id v w at (ap (λ n. n % 2) (still s.words 2 1)) refl refl r.1 (r.1.watched id v at),
-          counted_same s.words (set s.words 2 found) s.views id v w at (still s.words 2 2) refl (le_refl found) r.2,
-        ),
-        (r.2.seen id v at, r.2.few, (λ e. absurd (ne e)), (λ _. refl)),
-      ))
-
-  pub opens : (ws : List ℕ) (xs : List (Option S)) (p q : ℕ) → ws ≡ p ∷ q ∷ 0 ∷ [] → q % 2 ≡ 0 → Tells p q (position origin) → xs ≡ Some origin ∷ [] → Rule (opening ws xs (witness (Some origin) []))
-  opens ws xs p q words even here slots = subst (λ (z : List ℕ × List (Option S)). Rule (opening z.0 z.1 (witness (Some origin) []))) (λ i. (sym words i, sym slots i)) (
-    record {
-      log = [];
-      holder = 0;
-      words = refl;
-      slots = refl;
-      legal = tt;
-      position_is = here;
-      fits = newest (Fits origin []) [] (witness (Some origin) [])
-          record { origin_is = λ o e. same_origin o origin (sym e); prefix = prefix_self []; told = prefix_self []; own_all = refl; own_seen = refl; numbered = inl refl } (λ i u at. absurd (some-ne-none u (sym at)));
-      home = λ _. refl;
-      inside = newest (λ i u. u.inside ≡ true → Holds [] (q % 2) 0 i u) [] (witness (Some origin) []) (λ on. absurd cc) (λ i u at. absurd (some-ne-none u (sym at)));
-      unused = λ p e. refl;
-    },
-    record {
-      turns = [];
-      chained = tt;
-      word_is = even;
-      watched = newest (λ _ u. IsPrefix u.watched []) [] (witness (Some origin) []) (prefix_self []) (λ i u at. absurd (some-ne-none u (sym at)));
-      own = newest (λ _ u. holds_by u.view.number [] ≡ u.view.turns) [] (witness (Some origin) []) refl (λ i u at. absurd (some-ne-none u (sym at)));
-      unused = λ p e. refl;
-    },
-    record { few = omega arith; count_is = refl; seen = newest (λ _ u. u.passes ≤ 0) [] (witness (Some origin) []) (omega arith) (λ i u at. absurd (some-ne-none u (sym at))) },
-  )

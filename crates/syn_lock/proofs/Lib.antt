@@ -3,3 +3,4 @@ pub mod Histories
 pub mod Seats
 pub mod Turns
 pub mod Keeps
+pub mod Arrivals
