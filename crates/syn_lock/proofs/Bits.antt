@@ -1,5 +1,5 @@
 -- The lowest bit of a number, set.
-use Rattle.std.proofs.Common.{◌≡◌, ℕ, ◌+◌, ◌*◌, ◌/◌, ◌%◌, ◌≤◌, max, arith, ◌∙◌}
+use Rattle.std.proofs.Common.{◌≡◌, ℕ, ◌+◌, ◌*◌, ◌/◌, ◌%◌, ◌≤◌, arith, ◌∙◌}
 use Rattle.std.proofs.Math.Nat.{max-eq_right}
 use Rattle.std.specs.Int.Bits.{bit_or, or_step, or_zero_r}
 

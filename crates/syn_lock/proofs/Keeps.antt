@@ -1,26 +1,25 @@
 -- Each step of a pass on the lock keeps the rule.
-use Rattle.std.proofs.Common.{◌≡◌, ◌≢◌, ℕ, ◌+◌, ◌*◌, ◌/◌, ◌%◌, ◌<◌, ◌≤◌, ◌⊎◌, true, false, eqb, cond, List, [], ◌∷◌, ◌++◌, length, get_or, set, Option, Some, None, refl, ap, sym, ◌∙◌, subst, ⊎_elim, inl, inr, arith, le_refl, length-set, get_or-set_other, get_or-set_same, ne_eqb}
-use mathlib.Core.Option.{some, none, some-injective, some-ne-none}
+use Rattle.std.proofs.Common.{◌≡◌, ◌≢◌, ℕ, ◌+◌, ◌*◌, ◌/◌, ◌%◌, ◌<◌, ◌≤◌, ◌⊎◌, true, false, List, [], ◌∷◌, ◌++◌, length, get_or, set, Option, Some, refl, ap, sym, ◌∙◌, subst, ⊎_elim, arith, length-set, get_or-set_other, get_or-set_same}
+use mathlib.Core.Option.{some, none}
 use mathlib.Core.List.{IsPrefix}
 use mathlib.Core.Logic.{dite}
 use native.Mathlib.Decide.{ℕ_discrete}
 use lib.ListN.{get_elem?}
 use lib.Seq.{set-get_or, set-set}
-use prog.Atomic.{either}
 use Rattle.std.specs.Option.{unwrap_or}
 use Rattle.std.specs.Int.Bits.{bit_or}
-use Rattle.atomic_table.specs.Table.{State, step, keeps, takes, gives, Act, Valid, carried_after, stepped, Allows, Enters, Splits, Joins, opening}
-use Rattle.atomic_table.proofs.Lists.{at_set, set_here, set_again, exchanged}
+use Rattle.atomic_table.specs.Table.{State, step, keeps, takes, gives, stepped, Allows}
+use Rattle.atomic_table.proofs.Lists.{set_here}
 use Rattle.syn_lock.specs.declared.view.Hold.{Hold}
 use Rattle.syn_lock.specs.declared.view.Known.{Known}
 use Rattle.syn_lock.specs.History.{hold, end_of, IsHistory, holds_by}
-use Rattle.syn_lock.specs.Views.{newcomer, seeing, entered, published, outside, own_hold, Sees}
-use Rattle.syn_lock.specs.Rule.{Sat, known, witness, caught_up, turned_away, counting, hearing, agreeing, takes_lock, publishes, gives_lock, leaves, looks, looks_far, far, Tells, confirms, arrives, admits, IsUnused, Fits, Holds, Kept, Turned, Counted, Lawful}
+use Rattle.syn_lock.specs.Views.{seeing, entered, published, outside, own_hold, Sees}
+use Rattle.syn_lock.specs.Rule.{Sat, known, caught_up, turned_away, takes_lock, publishes, gives_lock, leaves, looks, looks_far, far, Tells, confirms, Fits, Holds, Kept, Turned, Counted, Lawful}
 use Rattle.syn_lock.specs.Prefixes.{prefix_self}
-use Rattle.syn_lock.proofs.Histories.{at_below, nothing_told, prefix_more, end_of-append, history-append, own_more, other_more, none_in_prefix, own_between, prefix_grows}
+use Rattle.syn_lock.proofs.Histories.{at_below, nothing_told, prefix_more, end_of-append, history-append, own_more, other_more, prefix_grows}
 use Rattle.syn_lock.proofs.Bits.{with_bit, bit_there}
-use Rattle.syn_lock.proofs.Seats.{newest, others, still, unused_set, unused_numbered, unused_more, number_used}
-use Rattle.syn_lock.proofs.Turns.{turned_same, turned_on, turned_more, counted_same, counted_on, counted_more}
+use Rattle.syn_lock.proofs.Seats.{others, still, unused_set, number_used}
+use Rattle.syn_lock.proofs.Turns.{turned_same, turned_on, counted_same}
 
 module _ {S : Type 0} where
   -- the value in the slot that was taken last, or d
