@@ -19,6 +19,9 @@ index_of (x ∷ xs) (suc i) a d e = index_of xs i a d e
 pub prefix_more : {A : Type 0} (xs ys zs : List A) → IsPrefix xs ys → IsPrefix xs (ys ++ zs)
 prefix_more xs ys zs p = (p.0 ++ zs, sym (append_assoc xs p.0 zs) ∙ ap (λ w. w ++ zs) p.1)
 
+pub nothing_told : {A : Type 0} (log : List A) → IsPrefix [] log
+nothing_told log = (log, refl)
+
 module _ {S : Type 0} where
   pub end_of-append : (s : S) (xs : List (Hold S)) (h : Hold S) → end_of s (xs ++ h ∷ []) ≡ h.left
   end_of-append s [] h = refl

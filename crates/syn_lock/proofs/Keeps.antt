@@ -1,22 +1,25 @@
--- Each step of the lock keeps its rule.
-use Rattle.std.proofs.Common.{◌≡◌, ◌≢◌, ℕ, ◌+◌, ◌<◌, ◌≤◌, ◌⊎◌, true, false, eqb, cond, List, [], ◌∷◌, ◌++◌, length, get_or, set, Option, Some, None, refl, ap, sym, ◌∙◌, subst, ⊎_elim, inl, inr, arith, le_refl, length-set, get_or-set_other, get_or-set_same, ne_eqb}
-use mathlib.Core.Option.{some, none, some-injective, some-ne-none}
+-- Each step of a pass on the lock keeps the rule.
+use Rattle.std.proofs.Common.{◌≡◌, ◌≢◌, ℕ, ◌+◌, ◌*◌, ◌/◌, ◌%◌, ◌<◌, ◌≤◌, ◌⊎◌, true, false, List, [], ◌∷◌, ◌++◌, length, get_or, set, Option, Some, refl, ap, sym, ◌∙◌, subst, ⊎_elim, arith, length-set, get_or-set_other, get_or-set_same}
+use mathlib.Core.Option.{some, none}
 use mathlib.Core.List.{IsPrefix}
+use mathlib.Core.Logic.{dite}
+use native.Mathlib.Decide.{ℕ_discrete}
 use lib.ListN.{get_elem?}
-use lib.Seq.{set-get_or}
-use prog.Atomic.{either}
+use lib.Seq.{set-get_or, set-set}
 use Rattle.std.specs.Option.{unwrap_or}
-use Rattle.atomic_table.specs.Table.{State, step, keeps, takes, gives, Act, Valid, carried_after, stepped, Allows, Enters, Splits, Joins, opening}
-use Rattle.atomic_table.proofs.Lists.{at_set, set_here, set_again, exchanged}
+use Rattle.std.specs.Int.Bits.{bit_or}
+use Rattle.atomic_table.specs.Table.{State, step, keeps, takes, gives, stepped, Allows}
+use Rattle.atomic_table.proofs.Lists.{set_here}
 use Rattle.syn_lock.specs.declared.view.Hold.{Hold}
 use Rattle.syn_lock.specs.declared.view.Known.{Known}
 use Rattle.syn_lock.specs.History.{hold, end_of, IsHistory, holds_by}
-use Rattle.syn_lock.specs.Views.{newcomer, seeing, entered, published, outside, own_hold, Sees}
-use Rattle.syn_lock.specs.Rule.{Sat, known, witness, caught_up, turned_away, counting, hearing, agreeing, takes_lock, publishes, gives_lock, looks, confirms, arrives, admits, IsUnused, Fits, Holds, Kept, Turned, Counted, Lawful}
+use Rattle.syn_lock.specs.Views.{seeing, entered, published, outside, own_hold, Sees}
+use Rattle.syn_lock.specs.Rule.{Sat, known, caught_up, turned_away, takes_lock, publishes, gives_lock, leaves, looks, looks_far, far, Tells, confirms, Fits, Holds, Kept, Turned, Counted, Lawful}
 use Rattle.syn_lock.specs.Prefixes.{prefix_self}
-use Rattle.syn_lock.proofs.Histories.{prefix_more, end_of-append, history-append, own_more, other_more, none_in_prefix, own_between}
-use Rattle.syn_lock.proofs.Seats.{newest, others, still, unused_set, unused_numbered, unused_more, number_used}
-use Rattle.syn_lock.proofs.Turns.{turned_same, turned_on, turned_more, counted_same, counted_on, counted_more}
+use Rattle.syn_lock.proofs.Histories.{at_below, nothing_told, prefix_more, end_of-append, history-append, own_more, other_more, prefix_grows}
+use Rattle.syn_lock.proofs.Bits.{with_bit, bit_there}
+use Rattle.syn_lock.proofs.Seats.{others, still, unused_set, number_used}
+use Rattle.syn_lock.proofs.Turns.{turned_same, turned_on, counted_same}
 
 module _ {S : Type 0} where
   -- the value in the slot that was taken last, or d
@@ -27,7 +30,7 @@ module _ {S : Type 0} where
   same_state : (a b : S) → ◌≡◌ {A = List (ℕ × Option S)} ((0, Some a) ∷ []) ((0, Some b) ∷ []) → a ≡ b
   same_state a b e = ap (λ l. carried a l) e
 
-  same_origin : (a b : S) → ◌≡◌ {A = Option S} (Some a) (Some b) → a ≡ b
+  pub same_origin : (a b : S) → ◌≡◌ {A = Option S} (Some a) (Some b) → a ≡ b
   same_origin a b e = ap (λ x. unwrap_or x a) e
 
 module _ {S : Type 0} (position : S → ℕ) (grows : S → S → Type 0) (origin : S) where
@@ -41,7 +44,7 @@ module _ {S : Type 0} (position : S → ℕ) (grows : S → S → Type 0) (origi
   History = Kept position grows origin
 
   abbrev lock : St → ℕ
-  lock s = get_or s.words 1 0
+  lock s = get_or s.words 1 0 % 2
 
   -- the pass sees all there is
   sees_all : (s : St) (k : History s) (id : ℕ) (v : Known S) → get_elem? s.views id ≡ some v → (o : S) → v.view.origin ≡ Some o → Sees grows o v.view k.log
@@ -59,7 +62,7 @@ module _ {S : Type 0} (position : S → ℕ) (grows : S → S → Type 0) (origi
   }
 
   -- what a pass has seen is the same, and so is what it was told
-  fits_same : (log : List (Hold S)) (id : ℕ) (v w : Known S) → Fits origin log id v → w.view.number ≡ v.view.number → w.view.origin ≡ v.view.origin → w.view.own ≡ v.view.own → w.view.seen ≡ v.view.seen → w.told ≡ v.told → Fits origin log id w
+  pub fits_same : (log : List (Hold S)) (id : ℕ) (v w : Known S) → Fits origin log id v → w.view.number ≡ v.view.number → w.view.origin ≡ v.view.origin → w.view.own ≡ v.view.own → w.view.seen ≡ v.view.seen → w.told ≡ v.told → Fits origin log id w
   fits_same log id v w f number from own seen told = record {
     origin_is = λ o e. f.origin_is o (sym from ∙ e);
     prefix = subst (λ x. IsPrefix x log) (sym seen) f.prefix;
@@ -69,11 +72,8 @@ module _ {S : Type 0} (position : S → ℕ) (grows : S → S → Type 0) (origi
     numbered = subst (λ x. (x ≡ 0) ⊎ (x ≡ id + 1)) (sym number) f.numbered;
   }
 
-  nothing_told : (log : List (Hold S)) → IsPrefix [] log
-  nothing_told log = (log, refl)
-
   -- a step that changes no word and moves no slot keeps the history of the state
-  unmoved : (s : St) (k : History s) (i id : ℕ) (cs : List (ℕ × Option S)) (v w : Known S) → get_elem? s.views id ≡ some v → w.view.number ≡ v.view.number → Fits origin k.log id w → (w.inside ≡ true → Holds k.log (lock s) k.holder id w)
+  pub unmoved : (s : St) (k : History s) (i id : ℕ) (cs : List (ℕ × Option S)) (v w : Known S) → get_elem? s.views id ≡ some v → w.view.number ≡ v.view.number → Fits origin k.log id w → (w.inside ≡ true → Holds k.log (lock s) k.holder id w)
       → History (stepped s i (get_or s.words i 0) id cs w keeps)
   unmoved s k i id cs v w at number fit held = subst (λ (ws : List ℕ). History record { words = ws; homes = s.homes; views = set s.views id w }) (sym (set-get_or s.words i 0)) record {
     log = k.log;
@@ -93,19 +93,50 @@ module _ {S : Type 0} (position : S → ℕ) (grows : S → S → Type 0) (origi
       → Fits origin r.0.log id w → (w.inside ≡ true → Holds r.0.log (lock s) r.0.holder id w) → Rule (stepped s i (get_or s.words i 0) id cs w keeps)
   quiet s r i id cs v w at number turns watched passes fit held = (
     unmoved s r.0 i id cs v w at number fit held,
-    turned_same s.words (set s.words i (get_or s.words i 0)) s.views id v w at (still s.words i 1) number turns r.1 (subst (λ x. IsPrefix x r.1.turns) (sym watched) (r.1.watched id v at)),
+    turned_same s.words (set s.words i (get_or s.words i 0)) s.views id v w at (ap (λ n. n % 2) (still s.words i 1)) number turns r.1 (subst (λ x. IsPrefix x r.1.turns) (sym watched) (r.1.watched id v at)),
     counted_same s.words (set s.words i (get_or s.words i 0)) s.views id v w at (still s.words i 2) number (subst (λ n. n ≤ get_or s.words 2 0) (sym passes) (r.2.seen id v at)) r.2,
   )
 
-  pub look_keeps : (id n : ℕ) (m : Sat S) → Allows Rule n id m 0 (λ r. r) (looks position grows (step n 0 0 0 none) m)
+  -- while the position is near, the first word is 0
+  none_far : (s : St) (k : History s) → position (end_of origin k.log) < far → get_or s.words 0 0 ≡ 0
+  none_far s k near = dite (ℕ_discrete (get_or s.words 0 0) 0) (λ e. e) (λ ne. let there = k.position_is.1 ne in absurd (omega (arith, there.0, there.1, near)))
+
+  -- and half of the lock's word is the position
+  near_of : (s : St) (k : History s) → position (end_of origin k.log) < far → get_or s.words 1 0 / 2 ≡ position (end_of origin k.log)
+  near_of s k near = (k.position_is.0 (none_far s k near)).0
+
+  pub look_keeps : (id n : ℕ) (m : Sat S) → Allows Rule n id m 1 (λ r. r) (looks position grows (step n 1 0 0 none) m)
   look_keeps id n m s r wide at _ = let k : History s = r.0 in let f = k.fits id m.0 at in let w = caught_up m.0 (seeing m.0.view k.log) m.0.inside in (
     w,
     keeps,
     tt,
-    quiet s r 0 id m.1 m.0 w at refl refl refl refl (fits_all k.log id m.0 w f refl refl refl refl (nothing_told k.log))
+    quiet s r 1 id m.1 m.0 w at refl refl refl refl (fits_all k.log id m.0 w f refl refl refl refl (nothing_told k.log))
         (λ e. let h = k.inside id m.0 at e in record { is_holder = h.is_holder; seen_all = refl; taken = h.taken; number_is = h.number_is }),
-    λ o e. (k.log, sees_all s k id m.0 at o e, f.told, refl, k.position_is ∙ ap (λ x. position (end_of x k.log)) (sym (f.origin_is o e))),
+    λ o e. (k.log, sees_all s k id m.0 at o e, f.told, refl, subst (λ x. position (end_of x k.log) < far → get_or s.words 1 0 / 2 ≡ position (end_of x k.log)) (sym (f.origin_is o e)) (near_of s k)),
   )
+
+  module _ (reflexive : (a : S) → grows a a) (transitive : (a b c : S) → grows a b → grows b c → grows a c) (advances : (a b : S) → grows a b → position a ≤ position b) where
+    not_before : (s : St) (k : History s) (id : ℕ) (v : Known S) (o : S) → get_elem? s.views id ≡ some v → v.view.origin ≡ Some o → position (end_of o v.view.seen) ≤ position (end_of o k.log)
+    not_before s k id v o at is = let sees = sees_all s k id v at o is in advances (end_of o v.view.seen) (end_of o k.log) (prefix_grows grows reflexive transitive o v.view.seen k.log sees.0 sees.1)
+
+    pub look_far_keeps : (id n : ℕ) (m : Sat S) → Allows Rule n id m 0 (λ r. r) (looks_far position grows (step n 0 0 0 none) m)
+    look_far_keeps id n m s r wide at _ = let k : History s = r.0 in let f = k.fits id m.0 at in
+        dite (ℕ_discrete (get_or s.words 0 0) 0)
+        (λ zero. (
+          m.0,
+          keeps,
+          tt,
+          quiet s r 0 id m.1 m.0 m.0 at refl refl refl refl f (λ e. k.inside id m.0 at e),
+          λ o e. ((λ _. let near = (k.position_is.0 zero).1 in let here = subst (λ x. position (end_of x k.log) < far) (sym (f.origin_is o e)) near in let up = not_before s k id m.0 o at e in (omega (arith, here, up), refl)), (λ ne. absurd (ne zero))),
+        ))
+        (λ some_position. let w = caught_up m.0 (seeing m.0.view k.log) m.0.inside in (
+          w,
+          keeps,
+          tt,
+          quiet s r 0 id m.1 m.0 w at refl refl refl refl (fits_all k.log id m.0 w f refl refl refl refl (nothing_told k.log))
+              (λ e. let h = k.inside id m.0 at e in record { is_holder = h.is_holder; seen_all = refl; taken = h.taken; number_is = h.number_is }),
+          λ o e. ((λ zero. absurd (some_position zero)), (λ _. (k.log, sees_all s k id m.0 at o e, refl, (k.position_is.1 some_position).0 ∙ ap (λ x. position (end_of x k.log)) (sym (f.origin_is o e))))),
+        ))
 
   pub confirm_keeps : (id n : ℕ) (m : Sat S) → Allows Rule n id m 0 (λ r. r) (confirms (step n 0 0 0 none) m)
   confirm_keeps id n m s r wide at _ = let f = r.0.fits id m.0 at in (m.0, keeps, tt, quiet s r 0 id m.1 m.0 m.0 at refl refl refl refl f (λ e. r.0.inside id m.0 at e), (f.own_seen, refl))
@@ -118,91 +149,97 @@ module _ {S : Type 0} (position : S → ℕ) (grows : S → S → Type 0) (origi
   apart : (id j p : ℕ) (v : Known S) → j ≢ id → (v.view.number ≡ 0) ⊎ (v.view.number ≡ j + 1) → p ≡ id + 1 → p ≢ v.view.number
   apart id j p v ne e is same = ⊎_elim (λ (z : v.view.number ≡ 0). omega arith) (λ (z : v.view.number ≡ j + 1). ne (omega arith)) e
 
-  -- a pass's step on the lock's word
-  word_turned : (s : St) (r : Rule s) (id : ℕ) (v w : Known S) (found left : ℕ) → get_elem? s.views id ≡ some v → v.view.number ≡ id + 1 → found ≡ lock s → left ≤ 1 → w.view.number ≡ v.view.number
-      → w.view.turns ≡ v.view.turns ++ hold v.view.number found left ∷ [] → IsPrefix w.watched (r.1.turns ++ hold v.view.number found left ∷ []) → Turned (set s.words 1 left) (set s.views id w)
-  word_turned s r id v w found left at is was one number turns watched = let long = r.0.words in
-      turned_on s.words (set s.words 1 left) s.views id v w found left at was (get_or-set_same s.words 1 left 0 (omega arith)) one number (λ z. omega arith) turns
+  -- a pass's step on the lock's word, which becomes new
+  word_turned : (s : St) (r : Rule s) (id new : ℕ) (v w : Known S) (found left : ℕ) → get_elem? s.views id ≡ some v → v.view.number ≡ id + 1 → found ≡ lock s → new % 2 ≡ left → w.view.number ≡ v.view.number
+      → w.view.turns ≡ v.view.turns ++ hold v.view.number found left ∷ [] → IsPrefix w.watched (r.1.turns ++ hold v.view.number found left ∷ []) → Turned (set s.words 1 new) (set s.views id w)
+  word_turned s r id new v w found left at is was now number turns watched = let long = r.0.words in
+      turned_on s.words (set s.words 1 new) s.views id v w found left at was (ap (λ n. n % 2) (get_or-set_same s.words 1 new 0 (omega arith)) ∙ now) number (λ z. omega arith) turns
       (λ j u ne e. apart id j v.view.number u ne ((r.0.fits j u e).numbered) is) r.1 watched
 
-  word_counted : (s : St) (r : Rule s) (id left : ℕ) (v w : Known S) → get_elem? s.views id ≡ some v → w.view.number ≡ v.view.number → w.passes ≡ v.passes → Counted (set s.words 1 left) (set s.views id w)
-  word_counted s r id left v w at number passes =
-      counted_same s.words (set s.words 1 left) s.views id v w at (get_or-set_other s.words 1 2 left 0 (λ e. omega arith)) number (subst (λ n. n ≤ get_or s.words 2 0) (sym passes) (r.2.seen id v at)) r.2
+  word_counted : (s : St) (r : Rule s) (id new : ℕ) (v w : Known S) → get_elem? s.views id ≡ some v → w.view.number ≡ v.view.number → w.passes ≡ v.passes → Counted (set s.words 1 new) (set s.views id w)
+  word_counted s r id new v w at number passes =
+      counted_same s.words (set s.words 1 new) s.views id v w at (get_or-set_other s.words 1 2 new 0 (λ e. omega arith)) number (subst (λ n. n ≤ get_or s.words 2 0) (sym passes) (r.2.seen id v at)) r.2
 
   -- what an old watcher watched is a beginning of a longer history
   watched_on : (s : St) (r : Rule s) (id found left : ℕ) (v : Known S) → get_elem? s.views id ≡ some v → IsPrefix v.watched (r.1.turns ++ hold v.view.number found left ∷ [])
   watched_on s r id found left v at = prefix_more v.watched r.1.turns (hold v.view.number found left ∷ []) (r.1.watched id v at)
 
-  won : (s : St) (k : History s) (id : ℕ) (v w : Known S) (o : S) → get_elem? s.views id ≡ some v → v.view.number ≡ id + 1 → v.view.origin ≡ Some o → lock s ≡ 0 → w ≡ caught_up v (entered v.view k.log) true
-      → History (stepped s 1 1 id [] w (takes 0 (Some (end_of o k.log))))
-  won s k id v w o at number is free w_is = let f = k.fits id v at in let long = k.words in let one : get_or (set s.words 1 1) 1 0 ≡ 1 = get_or-set_same s.words 1 1 0 (omega arith) in record {
+  -- the first two words tell the same position, where the second has the same half
+  tells_same : (s : St) (new p : ℕ) → length s.words ≡ 3 → new / 2 ≡ get_or s.words 1 0 / 2 → Tells (get_or s.words 0 0) (get_or s.words 1 0) p → Tells (get_or (set s.words 1 new) 0 0) (get_or (set s.words 1 new) 1 0) p
+  tells_same s new p long half t = subst (λ (x : ℕ × ℕ). Tells x.0 x.1 p) (λ i. (sym (get_or-set_other s.words 1 0 new 0 (λ e. omega arith)) i, sym (get_or-set_same s.words 1 new 0 (omega arith)) i))
+      ((λ e. let near = t.0 e in (half ∙ near.0, near.1)), (λ ne. t.1 ne))
+
+  -- the lock's word where it is taken
+  taken_is : (s : St) → lock s ≢ 0 → 1 ≡ lock s
+  taken_is s taken = omega (arith, taken)
+
+  won : (s : St) (k : History s) (id new : ℕ) (v w : Known S) (o : S) → get_elem? s.views id ≡ some v → v.view.number ≡ id + 1 → v.view.origin ≡ Some o → lock s ≡ 0 → new % 2 ≡ 1 → new / 2 ≡ get_or s.words 1 0 / 2 → w ≡ caught_up v (entered v.view k.log) true
+      → History (stepped s 1 new id [] w (takes 0 (Some (end_of o k.log))))
+  won s k id new v w o at number is free odd half w_is = let f = k.fits id v at in let long = k.words in let one : get_or (set s.words 1 new) 1 0 % 2 ≡ 1 = ap (λ n. n % 2) (get_or-set_same s.words 1 new 0 (omega arith)) ∙ odd in record {
     log = k.log;
     holder = id;
-    words = length-set s.words 1 1 ∙ k.words;
+    words = length-set s.words 1 new ∙ k.words;
     slots = length-set s.homes 0 none ∙ k.slots;
     legal = k.legal;
-    position_is = get_or-set_other s.words 1 0 1 0 (λ e. omega arith) ∙ k.position_is;
+    position_is = tells_same s new (position (end_of origin k.log)) k.words half k.position_is;
     fits = others (Fits origin k.log) s.views id w
         (fits_all k.log id v w f (ap (λ x. x.view.number) w_is) (ap (λ x. x.view.origin) w_is) (ap (λ x. x.view.own) w_is) (ap (λ x. x.view.seen) w_is) (subst (λ x. IsPrefix x k.log) (sym (ap (λ x. x.told) w_is)) (nothing_told k.log)))
         (λ j u _ e. k.fits j u e);
-    home = λ e. absurd (omega arith);
-    inside = others (λ j u. u.inside ≡ true → Holds k.log (get_or (set s.words 1 1) 1 0) id j u) s.views id w
-        (λ _. record { is_holder = refl; seen_all = ap (λ x. x.view.seen) w_is; taken = λ e. omega arith; number_is = ap (λ x. x.view.number) w_is ∙ number })
+    home = λ e. absurd (omega (arith, e, one));
+    inside = others (λ j u. u.inside ≡ true → Holds k.log (get_or (set s.words 1 new) 1 0 % 2) id j u) s.views id w
+        (λ _. record { is_holder = refl; seen_all = ap (λ x. x.view.seen) w_is; taken = λ e. omega (arith, e, one); number_is = ap (λ x. x.view.number) w_is ∙ number })
         (λ j u _ e on. absurd ((k.inside j u e on).taken free));
     unused = λ p e. k.unused p (unused_set s.views id v w at (ap (λ x. x.view.number) w_is) p e);
   }
 
-  -- the lock's word is 1 where it is not 0
-  taken_is : (s : St) (r : Rule s) → lock s ≢ 0 → 1 ≡ lock s
-  taken_is s r taken = let bit = r.1.bit in omega (arith, bit, taken)
-
-  take_idle : (id n : ℕ) (v : Known S) (o : S) → 0 < v.view.number → v.inside ≡ false → v.view.origin ≡ Some o → Allows Rule n id (v, []) 1 (λ r. either (eqb r 0) 1 r) (takes_lock grows (step n 1 0 1 none) (v, []))
+  take_idle : (id n : ℕ) (v : Known S) (o : S) → 0 < v.view.number → v.inside ≡ false → v.view.origin ≡ Some o → Allows Rule n id (v, []) 1 (λ r. bit_or r 1) (takes_lock grows (step n 1 1 0 none) (v, []))
   take_idle id n v o some_number out is s r wide at _ =
       let k : History s = r.0 in
       let f = k.fits id v at in
       let number = its_number v id some_number f.numbered in
-      exchanged (lock s) 0 1 (λ x. (w : Known S) × (a : Act (Option S)) × Valid s.homes [] a × Rule (stepped s 1 x id [] w a)
-      × takes_lock grows (step n 1 0 1 none) (v, []) (lock s) (w, carried_after [] a))
+      let was : ℕ = get_or s.words 1 0 in
+      dite (ℕ_discrete (lock s) 0)
       (λ free. let w = caught_up v (entered v.view k.log) true in (
         w,
         takes 0 (Some (end_of o k.log)),
         subst (λ x. get_elem? s.homes 0 ≡ some (some (Some (end_of x k.log)))) (sym (f.origin_is o is)) (k.home free),
-        (won s k id v w o at number is free refl, word_turned s r id v w 0 1 at number (sym free) (le_refl 1) refl refl (watched_on s r id 0 1 v at), word_counted s r id 1 v w at refl refl),
+        (won s k id (bit_or was 1) v w o at number is free (with_bit was).0 (with_bit was).1 refl, word_turned s r id (bit_or was 1) v w 0 1 at number (sym free) (with_bit was).0 refl refl (watched_on s r id 0 1 v at), word_counted s r id (bit_or was 1) v w at refl refl),
         ((λ _ o' is'. (k.log, sees_all s k id v at o' is', (λ i. (caught_up v (entered v.view k.log) true, (0, Some (end_of ((f.origin_is o is ∙ sym (f.origin_is o' is')) i) k.log)) ∷ [])))), (λ taken. absurd (taken free))),
       ))
-      (λ taken. let w = turned_away v in let one = taken_is s r taken in (
+      (λ taken. let w = turned_away v in let one = taken_is s taken in (
         w,
         keeps,
         tt,
-        (
+        subst (λ (x : ℕ). Rule (stepped s 1 x id [] w keeps)) (sym (bit_there was (sym one))) (
           unmoved s k 1 id [] v w at refl (fits_same k.log id v w f refl refl refl refl refl) (λ e. absurd (cc (out, e))),
-          subst (λ (x : ℕ). Turned (set s.words 1 x) (set s.views id w)) one (word_turned s r id v w 1 1 at number one (le_refl 1) refl refl (watched_on s r id 1 1 v at)),
-          word_counted s r id (lock s) v w at refl refl,
+          word_turned s r id was v w 1 1 at number one (sym one) refl refl (watched_on s r id 1 1 v at),
+          word_counted s r id was v w at refl refl,
         ),
         ((λ free. absurd (taken free)), (λ _. refl)),
       ))
 
   pub take_keeps : (id n : ℕ) (m : Sat S) (o : S) → m.1 ≡ [] → 0 < m.0.view.number → m.0.inside ≡ false → m.0.view.origin ≡ Some o
-      → Allows Rule n id m 1 (λ r. either (eqb r 0) 1 r) (takes_lock grows (step n 1 0 1 none) m)
-  take_keeps id n m o bare some_number out is = subst (λ (x : Sat S). Allows Rule n id x 1 (λ r. either (eqb r 0) 1 r) (takes_lock grows (step n 1 0 1 none) x)) (λ i. (m.0, sym bare i))
+      → Allows Rule n id m 1 (λ r. bit_or r 1) (takes_lock grows (step n 1 1 0 none) m)
+  take_keeps id n m o bare some_number out is = subst (λ (x : Sat S). Allows Rule n id x 1 (λ r. bit_or r 1) (takes_lock grows (step n 1 1 0 none) x)) (λ i. (m.0, sym bare i))
       (take_idle id n m.0 o some_number out is)
 
-  published_rule : (s : St) (k : History s) (id new : ℕ) (cs : List (ℕ × Option S)) (v w : Known S) (o left : S) → get_elem? s.views id ≡ some v → v.inside ≡ true → v.view.origin ≡ Some o
-      → grows (end_of o v.view.seen) left → new ≡ position left → w ≡ caught_up v (published o v.view left) v.inside → History (stepped s 0 new id cs w keeps)
-  published_rule s k id new cs v w o left at is from up here w_is = let f = k.fits id v at in let h = k.inside id v at is in let long = k.words in let all = h.seen_all in let o_is = f.origin_is o from in
+  -- the pass that has the lock adds its hold, and the words tell its position
+  published_rule : (s : St) (k : History s) (ws : List ℕ) (id : ℕ) (v w : Known S) (o left : S) → get_elem? s.views id ≡ some v → v.inside ≡ true → v.view.origin ≡ Some o
+      → grows (end_of o v.view.seen) left → length ws ≡ 3 → get_or ws 1 0 % 2 ≡ lock s → Tells (get_or ws 0 0) (get_or ws 1 0) (position left) → w ≡ caught_up v (published o v.view left) v.inside
+      → History record { words = ws; homes = s.homes; views = set s.views id w }
+  published_rule s k ws id v w o left at is from up long same here w_is = let f = k.fits id v at in let h = k.inside id v at is in let all = h.seen_all in let o_is = f.origin_is o from in
       let p = v.view.number in
       let added : List (Hold S) = own_hold o v.view left ∷ [] in
       let log' : List (Hold S) = v.view.seen ++ added in
-      let same : get_or (set s.words 0 new) 1 0 ≡ lock s = get_or-set_other s.words 0 1 new 0 (λ e. omega arith) in
       let old : IsHistory grows o v.view.seen = subst (λ (x : S × List (Hold S)). IsHistory grows x.0 x.1) (λ i. (sym o_is i, sym all i)) k.legal in
       let mine = own_more p v.view.seen v.view.own (end_of o v.view.seen) left f.own_seen in
       let number : w.view.number ≡ p = ap (λ x. x.view.number) w_is in record {
         log = log';
         holder = k.holder;
-        words = length-set s.words 0 new ∙ k.words;
+        words = long;
         slots = k.slots;
         legal = subst (λ x. IsHistory grows x log') o_is (history-append grows o v.view.seen p left old up);
-        position_is = get_or-set_same s.words 0 new 0 (omega arith) ∙ (here ∙ ap position (sym (end_of-append origin v.view.seen (own_hold o v.view left))));
+        position_is = subst (λ x. Tells (get_or ws 0 0) (get_or ws 1 0) (position x)) (sym (end_of-append origin v.view.seen (own_hold o v.view left))) here;
         fits = others (Fits origin log') s.views id w
             (subst (Fits origin log' id) (sym w_is) record { origin_is = f.origin_is; prefix = prefix_self log'; told = nothing_told log'; own_all = mine; own_seen = mine; numbered = f.numbered })
             (λ j u ne e. let g = k.fits j u e in record {
@@ -222,241 +259,99 @@ module _ {S : Type 0} (position : S → ℕ) (grows : S → S → Type 0) (origi
             other_more q p v.view.seen [] (end_of o v.view.seen) left (number_used s.views id v q at (λ z. omega arith) was) (ap (holds_by q) all ∙ k.unused q was);
       }
 
-  pub publish_keeps : (id n new : ℕ) (m : Sat S) (o left : S) → m.1 ≡ (0, Some left) ∷ [] → m.0.inside ≡ true → m.0.view.origin ≡ Some o → grows (end_of o m.0.view.seen) left → new ≡ position left
+  published_at : (s : St) (r : Rule s) (i id new : ℕ) (v : Known S) (o left : S) → get_elem? s.views id ≡ some v → v.inside ≡ true → v.view.origin ≡ Some o → grows (end_of o v.view.seen) left
+      → get_or (set s.words i new) 1 0 % 2 ≡ lock s → get_or (set s.words i new) 2 0 ≡ get_or s.words 2 0 → Tells (get_or (set s.words i new) 0 0) (get_or (set s.words i new) 1 0) (position left)
+      → Rule (stepped s i new id [] (caught_up v (published o v.view left) v.inside) keeps)
+  published_at s r i id new v o left at is from up same count here = let w = caught_up v (published o v.view left) v.inside in let ws = set s.words i new in (
+    published_rule s r.0 ws id v w o left at is from up (length-set s.words i new ∙ r.0.words) same here refl,
+    turned_same s.words ws s.views id v w at same refl refl r.1 (r.1.watched id v at),
+    counted_same s.words ws s.views id v w at count refl (r.2.seen id v at) r.2,
+  )
+
+  pub publish_keeps : (id n new : ℕ) (m : Sat S) (o left : S) → m.1 ≡ (0, Some left) ∷ [] → m.0.inside ≡ true → m.0.view.origin ≡ Some o → grows (end_of o m.0.view.seen) left → new ≡ position left → far ≤ new
       → Allows Rule n id m 0 (λ _. new) (λ _. publishes (step n 0 new 0 none) m new)
-  publish_keeps id n new m o left has is from up here s r wide at _ = let w = caught_up m.0 (published o m.0.view left) m.0.inside in (
-    w,
+  publish_keeps id n new m o left has is from up here distant s r wide at _ = let long = r.0.words in (
+    caught_up m.0 (published o m.0.view left) m.0.inside,
     keeps,
     tt,
-    (
-      published_rule s r.0 id new m.1 m.0 w o left at is from up here refl,
-      turned_same s.words (set s.words 0 new) s.views id m.0 w at (get_or-set_other s.words 0 1 new 0 (λ e. omega arith)) refl refl r.1 (r.1.watched id m.0 at),
-      counted_same s.words (set s.words 0 new) s.views id m.0 w at (get_or-set_other s.words 0 2 new 0 (λ e. omega arith)) refl (r.2.seen id m.0 at) r.2,
-    ),
+    published_at s r 0 id new m.0 o left at is from up (ap (λ x. x % 2) (get_or-set_other s.words 0 1 new 0 (λ e. omega arith))) (get_or-set_other s.words 0 2 new 0 (λ e. omega arith))
+        (subst (λ x. Tells x (get_or (set s.words 0 new) 1 0) (position left)) (sym (get_or-set_same s.words 0 new 0 (omega arith))) ((λ zero. absurd (omega (arith, zero, distant))), (λ _. (here, distant)))),
     λ o' left' from' has'. let l = same_state left left' (sym has ∙ has') in let e = same_origin o o' (sym from ∙ from') in (λ i. (caught_up m.0 (published (e i) m.0.view (l i)) m.0.inside, m.1)),
   )
 
-  given : (s : St) (k : History s) (id : ℕ) (v w : Known S) (o : S) → get_elem? s.views id ≡ some v → v.inside ≡ true → v.view.origin ≡ Some o
+  given : (s : St) (k : History s) (id new : ℕ) (v w : Known S) (o : S) → get_elem? s.views id ≡ some v → v.inside ≡ true → v.view.origin ≡ Some o → Tells (get_or (set s.words 1 new) 0 0) (get_or (set s.words 1 new) 1 0) (position (end_of origin k.log))
       → w.view.number ≡ v.view.number → w.view.origin ≡ v.view.origin → w.view.own ≡ v.view.own → w.view.seen ≡ v.view.seen → w.told ≡ v.told → w.inside ≡ false
-      → History (stepped s 1 0 id ((0, Some (end_of o v.view.seen)) ∷ []) w gives)
-  given s k id v w o at is from number origin_same own seen told off = let f = k.fits id v at in let h = k.inside id v at is in let long = k.words in let slots = k.slots in let o_is = f.origin_is o from in record {
+      → History (stepped s 1 new id ((0, Some (end_of o v.view.seen)) ∷ []) w gives)
+  given s k id new v w o at is from tells number origin_same own seen told off = let f = k.fits id v at in let h = k.inside id v at is in let long = k.words in let slots = k.slots in let o_is = f.origin_is o from in record {
     log = k.log;
     holder = id;
-    words = length-set s.words 1 0 ∙ k.words;
+    words = length-set s.words 1 new ∙ k.words;
     slots = length-set s.homes 0 (some (Some (end_of o v.view.seen))) ∙ k.slots;
     legal = k.legal;
-    position_is = get_or-set_other s.words 1 0 0 0 (λ e. omega arith) ∙ k.position_is;
+    position_is = tells;
     fits = others (Fits origin k.log) s.views id w (fits_same k.log id v w f number origin_same own seen told) (λ j u _ e. k.fits j u e);
     home = λ _. set_here s.homes 0 (some (Some (end_of o v.view.seen))) (omega arith) ∙ (λ i. some (some (Some (end_of (o_is i) (h.seen_all i)))));
-    inside = others (λ j u. u.inside ≡ true → Holds k.log (get_or (set s.words 1 0) 1 0) id j u) s.views id w (λ e. absurd (cc (e, off)))
+    inside = others (λ j u. u.inside ≡ true → Holds k.log (get_or (set s.words 1 new) 1 0 % 2) id j u) s.views id w (λ e. absurd (cc (e, off)))
         (λ j u ne e on. absurd (ne ((k.inside j u e on).is_holder ∙ sym h.is_holder)));
     unused = λ p e. k.unused p (unused_set s.views id v w at number p e);
   }
 
-  give_inside : (id n : ℕ) (v : Known S) (o : S) → v.inside ≡ true → v.view.origin ≡ Some o
-      → Allows Rule n id (v, (0, Some (end_of o v.view.seen)) ∷ []) 1 (λ _. 0) (λ _. gives_lock (step n 1 0 0 none) (v, (0, Some (end_of o v.view.seen)) ∷ []) 0)
-  give_inside id n v o is from s r wide at _ =
+  given_at : (s : St) (r : Rule s) (id new : ℕ) (v : Known S) (o : S) → get_elem? s.views id ≡ some v → v.inside ≡ true → v.view.origin ≡ Some o → new % 2 ≡ 0
+      → Tells (get_or (set s.words 1 new) 0 0) (get_or (set s.words 1 new) 1 0) (position (end_of o v.view.seen))
+      → Rule (stepped s 1 new id ((0, Some (end_of o v.view.seen)) ∷ []) (known (outside v.view) v.told (r.1.turns ++ hold v.view.number 1 0 ∷ []) false v.passes) gives)
+  given_at s r id new v o at is from even tells =
       let h = r.0.inside id v at is in
       let watched : List (Hold ℕ) = r.1.turns ++ hold v.view.number 1 0 ∷ [] in
       let w = known (outside v.view) v.told watched false v.passes in (
-        w,
+        given s r.0 id new v w o at is from (subst (λ x. Tells (get_or (set s.words 1 new) 0 0) (get_or (set s.words 1 new) 1 0) x) (λ i. position (end_of ((r.0.fits id v at).origin_is o from i) (h.seen_all i))) tells) refl refl refl refl refl refl,
+        word_turned s r id new v w 1 0 at h.number_is (taken_is s h.taken) even refl refl (prefix_self watched),
+        word_counted s r id new v w at refl refl,
+      )
+
+  give_inside : (id n : ℕ) (v : Known S) (o : S) → v.inside ≡ true → v.view.origin ≡ Some o → far ≤ position (end_of o v.view.seen)
+      → Allows Rule n id (v, (0, Some (end_of o v.view.seen)) ∷ []) 1 (λ _. 0) (λ _. gives_lock (step n 1 0 0 none) (v, (0, Some (end_of o v.view.seen)) ∷ []) 0)
+  give_inside id n v o is from distant s r wide at _ =
+      let k : History s = r.0 in
+      let watched : List (Hold ℕ) = r.1.turns ++ hold v.view.number 1 0 ∷ [] in
+      let last : position (end_of o v.view.seen) ≡ position (end_of origin k.log) = (λ i. position (end_of ((k.fits id v at).origin_is o from i) ((k.inside id v at is).seen_all i))) in
+      let other : get_or (set s.words 1 0) 0 0 ≡ get_or s.words 0 0 = get_or-set_other s.words 1 0 0 0 (λ e. omega arith) in
+      let tells : Tells (get_or (set s.words 1 0) 0 0) (get_or (set s.words 1 0) 1 0) (position (end_of o v.view.seen)) = subst (λ x. Tells x (get_or (set s.words 1 0) 1 0) (position (end_of o v.view.seen))) (sym other)
+      ((λ zero. let near = (k.position_is.0 zero).1 in absurd (omega (arith, near, last, distant))), (λ ne. let there = k.position_is.1 ne in (there.0 ∙ sym last, there.1))) in
+      (known (outside v.view) v.told watched false v.passes, gives, tt, given_at s r id 0 v o at is from refl tells, (watched, refl))
+
+  pub give_keeps : (id n : ℕ) (m : Sat S) (o : S) → m.1 ≡ (0, Some (end_of o m.0.view.seen)) ∷ [] → m.0.inside ≡ true → m.0.view.origin ≡ Some o → far ≤ position (end_of o m.0.view.seen)
+      → Allows Rule n id m 1 (λ _. 0) (λ _. gives_lock (step n 1 0 0 none) m 0)
+  give_keeps id n m o has is from distant = subst (λ (x : Sat S). Allows Rule n id x 1 (λ _. 0) (λ _. gives_lock (step n 1 0 0 none) x 0)) (λ i. (m.0, sym has i)) (give_inside id n m.0 o is from distant)
+
+  -- The word becomes new, which is even: it tells the position, and the lock is free. It is as if the word became new + 1 before, which tells the position while the lock is taken
+  leave_inside : (id n new : ℕ) (v : Known S) (o left : S) → v.inside ≡ true → v.view.origin ≡ Some o → grows (end_of o v.view.seen) left → position (end_of o v.view.seen) ≤ position left → new ≡ 2 * position left → position left < far
+      → Allows Rule n id (v, (0, Some left) ∷ []) 1 (λ _. new) (λ _. leaves (step n 1 new 0 none) (v, (0, Some left) ∷ []) new)
+  leave_inside id n new v o left is from up later twice near s r wide at _ =
+      let k : History s = r.0 in
+      let long = k.words in
+      let h = k.inside id v at is in
+      let w = caught_up v (published o v.view left) v.inside in
+      let last : position (end_of o v.view.seen) ≡ position (end_of origin k.log) = (λ i. position (end_of ((k.fits id v at).origin_is o from i) (h.seen_all i))) in
+      let zero : get_or s.words 0 0 ≡ 0 = none_far s k (omega (arith, last, later, near)) in
+      let tells : (x : ℕ) → x / 2 ≡ position left → Tells (get_or (set s.words 1 x) 0 0) (get_or (set s.words 1 x) 1 0) (position left) = (λ x half.
+      subst (λ (y : ℕ × ℕ). Tells y.0 y.1 (position left)) (λ i. (sym (get_or-set_other s.words 1 0 x 0 (λ e. omega arith)) i, sym (get_or-set_same s.words 1 x 0 (omega arith)) i))
+      ((λ _. (half, near)), (λ ne. absurd (ne zero)))) in
+      let odd : get_or (set s.words 1 (new + 1)) 1 0 % 2 ≡ lock s = ap (λ x. x % 2) (get_or-set_same s.words 1 (new + 1) 0 (omega arith)) ∙ (omega (arith, twice) ∙ taken_is s h.taken) in
+      let mid = published_at s r 1 id (new + 1) v o left at is from up odd (get_or-set_other s.words 1 2 (new + 1) 0 (λ e. omega arith)) (tells (new + 1) (omega (arith, twice))) in
+      let watched : List (Hold ℕ) = mid.1.turns ++ hold v.view.number 1 0 ∷ [] in
+      let u : Known S = known (outside (published o v.view left)) [] watched false v.passes in
+      let told : Tells (get_or (set (set s.words 1 (new + 1)) 1 new) 0 0) (get_or (set (set s.words 1 (new + 1)) 1 new) 1 0) (position (end_of o w.view.seen)) =
+      subst (λ (y : List ℕ × S). Tells (get_or y.0 0 0) (get_or y.0 1 0) (position y.1)) (λ i. (sym (set-set s.words 1 (new + 1) new) i, sym (end_of-append o v.view.seen (own_hold o v.view left)) i)) (tells new (omega (arith, twice))) in
+      let after = given_at (stepped s 1 (new + 1) id [] w keeps) mid id new w o (set_here s.views id w (at_below s.views id v at)) is from (omega (arith, twice)) told in (
+        u,
         gives,
         tt,
-        (
-          given s r.0 id v w o at is from refl refl refl refl refl refl,
-          word_turned s r id v w 1 0 at h.number_is (taken_is s r h.taken) (omega arith) refl refl (prefix_self watched),
-          word_counted s r id 0 v w at refl refl,
-        ),
-        (watched, refl),
+        subst (λ (x : List ℕ × S × List (Known S)). Rule record { words = x.0; homes = set s.homes 0 (some (Some x.1)); views = x.2 })
+            (λ i. (set-set s.words 1 (new + 1) new i, end_of-append o v.view.seen (own_hold o v.view left) i, set-set s.views id w u i)) after,
+        λ o' left' from' has'. let l = same_state left left' has' in let e = same_origin o o' (sym from ∙ from') in (watched, (λ i. (known (outside (published (e i) v.view (l i))) [] watched false v.passes, []))),
       )
 
-  pub give_keeps : (id n : ℕ) (m : Sat S) (o : S) → m.1 ≡ (0, Some (end_of o m.0.view.seen)) ∷ [] → m.0.inside ≡ true → m.0.view.origin ≡ Some o
-      → Allows Rule n id m 1 (λ _. 0) (λ _. gives_lock (step n 1 0 0 none) m 0)
-  give_keeps id n m o has is from = subst (λ (x : Sat S). Allows Rule n id x 1 (λ _. 0) (λ _. gives_lock (step n 1 0 0 none) x 0)) (λ i. (m.0, sym has i)) (give_inside id n m.0 o is from)
-
-  -- a new seat, which is no pass, comes with a view that fits
-  arrived : (s : St) (r : Rule s) (w : Known S) → Fits origin r.0.log (length s.views) w → w.inside ≡ false → w.view.number ≡ 0 → w.view.turns ≡ [] → w.watched ≡ [] → w.passes ≤ get_or s.words 2 0
-      → Rule record { words = s.words; homes = s.homes; views = s.views ++ w ∷ [] }
-  arrived s r w fit out number turns watched passes = let k : History s = r.0 in (
-    record {
-      log = k.log;
-      holder = k.holder;
-      words = k.words;
-      slots = k.slots;
-      legal = k.legal;
-      position_is = k.position_is;
-      fits = newest (Fits origin k.log) s.views w fit (λ i u at. k.fits i u at);
-      home = k.home;
-      inside = newest (λ i u. u.inside ≡ true → Holds k.log (lock s) k.holder i u) s.views w (λ on. absurd (cc (on, out))) (λ i u at. k.inside i u at);
-      unused = λ p e. k.unused p (unused_more s.views w p e);
-    },
-    turned_more s.words s.views w number turns watched r.1,
-    counted_more s.words s.views w number passes r.2,
-  )
-
-  -- a seat that is no pass, which has seen these holds, fits
-  witness_fits : (s : St) (k : History s) (id : ℕ) (from : Option S) (seen : List (Hold S)) (passes : ℕ) → ((o : S) → from ≡ Some o → o ≡ origin) → IsPrefix seen k.log → Fits origin k.log id (counting (witness from seen) passes)
-  witness_fits s k id from seen passes is pre = record {
-    origin_is = is;
-    prefix = pre;
-    told = nothing_told k.log;
-    own_all = k.unused 0 (inl refl);
-    own_seen = none_in_prefix 0 seen k.log pre (k.unused 0 (inl refl));
-    numbered = inl refl;
-  }
-
-  pub arrive_keeps : (n : ℕ) → Enters Rule n 2 (λ r w. arrives (step n 2 0 0 none) (witness (Some origin) [], []) r (w, []))
-  arrive_keeps n s r wide _ = let given_out = get_or s.words 2 0 in let w = counting (witness (Some origin) []) given_out in (
-    w,
-    arrived s r w (witness_fits s r.0 (length s.views) (Some origin) [] given_out (λ o e. same_origin o origin (sym e)) (nothing_told r.0.log)) refl refl refl refl (le_refl given_out),
-    (r.2.few, refl),
-  )
-
-  -- a further seat that is no pass, with what a pass has seen
-  pub tell_keeps : (id : ℕ) (v : Known S) → Splits Rule id v v (witness v.view.origin v.view.seen)
-  tell_keeps id v s r at = let f = r.0.fits id v at in
-      subst (λ (vs : List (Known S)). Rule record { words = s.words; homes = s.homes; views = vs ++ witness v.view.origin v.view.seen ∷ [] }) (sym (set_again s.views id v at))
-      (arrived s r (witness v.view.origin v.view.seen) (witness_fits s r.0 (length s.views) v.view.origin v.view.seen 0 f.origin_is f.prefix) refl refl refl refl (omega arith))
-
-  -- two seats change, and the second, which is no pass, is spent
-  joined : (s : St) (r : Rule s) (id other : ℕ) (v w both : Known S) → get_elem? s.views id ≡ some v → both.view.number ≡ v.view.number → both.view.turns ≡ v.view.turns → both.watched ≡ v.watched → both.passes ≡ v.passes
-      → Fits origin r.0.log id both → (both.inside ≡ true → Holds r.0.log (lock s) r.0.holder id both) → get_elem? (set s.views id both) other ≡ some w → w.view.number ≡ 0
-      → Rule record { words = s.words; homes = s.homes; views = set (set s.views id both) other (witness None []) }
-  joined s r id other v w both at number turns watched passes fit held seat nobody = let spent : Known S = witness None [] in let first = set s.views id both in let k : History s = r.0 in
-      let t : Turned s.words first = turned_same s.words s.words s.views id v both at refl number turns r.1 (subst (λ x. IsPrefix x r.1.turns) (sym watched) (r.1.watched id v at)) in
-      let c : Counted s.words first = counted_same s.words s.words s.views id v both at refl number (subst (λ n. n ≤ get_or s.words 2 0) (sym passes) (r.2.seen id v at)) r.2 in (
-        record {
-          log = k.log;
-          holder = k.holder;
-          words = k.words;
-          slots = k.slots;
-          legal = k.legal;
-          position_is = k.position_is;
-          fits = others (Fits origin k.log) first other spent (witness_fits s k other None [] 0 (λ o e. absurd cc) (nothing_told k.log)) (λ j u _ e. others (Fits origin k.log) s.views id both fit (λ i x _ a. k.fits i x a) j u e);
-          home = k.home;
-          inside = others (λ j u. u.inside ≡ true → Holds k.log (lock s) k.holder j u) first other spent (λ e. absurd cc)
-              (λ j u _ e. others (λ i x. x.inside ≡ true → Holds k.log (lock s) k.holder i x) s.views id both held (λ i x _ a. k.inside i x a) j u e);
-          unused = λ p e. k.unused p (unused_set s.views id v both at number p (unused_set first other w spent seat (sym nobody) p e));
-        },
-        (let own : [] ≡ w.view.turns = sym (t.unused 0 (inl refl)) ∙ (ap (λ p. holds_by p t.turns) (sym nobody) ∙ t.own other w seat) in
-            turned_same s.words s.words first other w spent seat refl (sym nobody) own t (t.turns, refl)),
-        counted_same s.words s.words first other w spent seat refl (sym nobody) (omega arith) c,
-      )
-
-  seen_by_other : (s : St) (k : History s) (id other : ℕ) (both w : Known S) → ¬ (other ≡ id) → get_elem? (set s.views id both) other ≡ some w → IsPrefix w.view.seen k.log
-  seen_by_other s k id other both w ne e = ⊎_elim (λ (t : (other ≡ id) × (both ≡ w)). absurd (ne t.0)) (λ (t : (other ≢ id) × (get_elem? s.views other ≡ some w)). (k.fits other w t.1).prefix) (at_set s.views id other both w e)
-
-  pub hear_keeps : (id other : ℕ) (v w : Known S) → w.view.number ≡ 0 → Joins Rule id v other w (hearing v w) (witness None [])
-  hear_keeps id other v w nobody s r at ne seat = let f = r.0.fits id v at in
-      joined s r id other v w (hearing v w) at refl refl refl refl
-      record { origin_is = f.origin_is; prefix = f.prefix; told = seen_by_other s r.0 id other (hearing v w) w ne seat; own_all = f.own_all; own_seen = f.own_seen; numbered = f.numbered }
-      (λ e. let h = r.0.inside id v at e in record { is_holder = h.is_holder; seen_all = h.seen_all; taken = h.taken; number_is = h.number_is })
-      seat nobody
-
-  pub agree_keeps : (id other : ℕ) (v w : Known S) → w.view.number ≡ 0 → IsPrefix v.view.seen w.view.seen → v.inside ≡ false → Joins Rule id v other w (agreeing v w) (witness None [])
-  agree_keeps id other v w nobody more out s r at ne seat = let k : History s = r.0 in let f = k.fits id v at in let there = seen_by_other s k id other (agreeing v w) w ne seat in
-      joined s r id other v w (agreeing v w) at refl refl refl refl
-      record { origin_is = f.origin_is; prefix = there; told = nothing_told k.log; own_all = f.own_all; own_seen = own_between v.view.number v.view.seen w.view.seen k.log v.view.own more there f.own_seen f.own_all; numbered = f.numbered }
-      (λ e. absurd (cc (e, out)))
-      seat nobody
-
-  -- no seat has the number that a seat without one is to get
-  free_number : (s : St) (k : History s) (id : ℕ) (v : Known S) → get_elem? s.views id ≡ some v → v.view.number ≡ 0 → IsUnused s.views (id + 1)
-  free_number s k id v at nobody = inr (λ j u e is. ⊎_elim (λ (z : u.view.number ≡ 0). omega arith)
-      (λ (z : u.view.number ≡ j + 1). let here : j ≡ id = omega arith in
-      let same : u ≡ v = some-injective u v (sym (subst (λ x. get_elem? s.views x ≡ some u) here e) ∙ at) in
-      let none : u.view.number ≡ 0 = ap (λ x. x.view.number) same ∙ nobody in omega arith)
-      ((k.fits j u e).numbered))
-
-  -- a seat with no number becomes a pass, which sees all
-  come : (s : St) (k : History s) (id new : ℕ) (v w : Known S) → get_elem? s.views id ≡ some v → v.view.number ≡ 0 → Fits origin k.log id w → w.inside ≡ false → History (stepped s 2 new id [] w keeps)
-  come s k id new v w at nobody fit out = let long = k.words in let same : get_or (set s.words 2 new) 1 0 ≡ lock s = get_or-set_other s.words 2 1 new 0 (λ e. omega arith) in record {
-    log = k.log;
-    holder = k.holder;
-    words = length-set s.words 2 new ∙ k.words;
-    slots = k.slots;
-    legal = k.legal;
-    position_is = get_or-set_other s.words 2 0 new 0 (λ e. omega arith) ∙ k.position_is;
-    fits = others (Fits origin k.log) s.views id w fit (λ j u _ e. k.fits j u e);
-    home = λ e. k.home (sym same ∙ e);
-    inside = subst (λ (z : ℕ). (j : ℕ) (u : Known S) → get_elem? (set s.views id w) j ≡ some u → u.inside ≡ true → Holds k.log z k.holder j u) (sym same)
-        (others (λ j u. u.inside ≡ true → Holds k.log (lock s) k.holder j u) s.views id w (λ on. absurd (cc (on, out))) (λ j u _ e. k.inside j u e));
-    unused = λ p e. k.unused p (unused_numbered s.views id v w at nobody p e);
-  }
-
-  admitted_word : (s : St) (r : Rule s) (id new : ℕ) (v w : Known S) → get_elem? s.views id ≡ some v → v.view.number ≡ 0 → w.view.number ≡ id + 1 → IsUnused s.views (id + 1) → w.view.turns ≡ [] → w.watched ≡ [] → Turned (set s.words 2 new) (set s.views id w)
-  admitted_word s r id new v w at nobody number free turns watched = let t = r.1 in let same : get_or (set s.words 2 new) 1 0 ≡ lock s = get_or-set_other s.words 2 1 new 0 (λ e. omega arith) in record {
-    turns = t.turns;
-    chained = t.chained;
-    word_is = same ∙ t.word_is;
-    bit = subst (λ n. n ≤ 1) (sym same) t.bit;
-    watched = others (λ _ u. IsPrefix u.watched t.turns) s.views id w (subst (λ x. IsPrefix x t.turns) (sym watched) (t.turns, refl)) (λ j u _ e. t.watched j u e);
-    own = others (λ _ u. holds_by u.view.number t.turns ≡ u.view.turns) s.views id w (ap (λ p. holds_by p t.turns) number ∙ (t.unused (id + 1) free ∙ sym turns)) (λ j u _ e. t.own j u e);
-    unused = λ p e. t.unused p (unused_numbered s.views id v w at nobody p e);
-  }
-
-  pub admit_keeps : (id n old : ℕ) → old < 63 → Allows Rule n id (counting (witness (Some origin) []) old, []) 2 (λ r. either (eqb r old) (old + 1) r) (admits grows (step n 2 old (old + 1) none) (counting (witness (Some origin) []) old, []))
-  admit_keeps id n old room s r wide at _ =
-      let k : History s = r.0 in
-      let v : Known S = counting (witness (Some origin) []) old in
-      let found : ℕ = get_or s.words 2 0 in
-      let long = k.words in
-      exchanged found old (old + 1) (λ x. (w : Known S) × (a : Act (Option S)) × Valid s.homes [] a × Rule (stepped s 2 x id [] w a) × admits grows (step n 2 old (old + 1) none) (v, []) found (w, carried_after [] a))
-      (λ e.
-      let free = free_number s k id v at refl in
-      let fresh : holds_by (id + 1) k.log ≡ [] = k.unused (id + 1) free in
-      let w : Known S = known (newcomer (id + 1) origin k.log) [] [] false found in
-      let now : get_or (set s.words 2 (old + 1)) 2 0 ≡ old + 1 = get_or-set_same s.words 2 (old + 1) 0 (omega arith) in (
-        w,
-        keeps,
-        tt,
-        (
-          come s k id (old + 1) v w at refl record { origin_is = λ o e'. same_origin o origin (sym e'); prefix = prefix_self k.log; told = nothing_told k.log; own_all = fresh; own_seen = fresh; numbered = inr refl } refl,
-          admitted_word s r id (old + 1) v w at refl refl free refl refl,
-          counted_on s.words (set s.words 2 (old + 1)) s.views id v w old at e now room refl (ap (λ b. cond b 0 1) (ne_eqb (id + 1) 0 (λ z. omega arith))) (omega arith) r.2,
-        ),
-        (
-          r.2.seen id v at,
-          r.2.few,
-          (λ _ o is. let same = same_origin origin o is in (id + 1, k.log, omega arith, (nothing_told k.log, subst (λ x. IsHistory grows x k.log) same k.legal, fresh), (λ i. (known (newcomer (id + 1) (same i) k.log) [] [] false found, [])))),
-          (λ ne. absurd (ne e)),
-        ),
-      ))
-      (λ ne. let w : Known S = counting v found in (
-        w,
-        keeps,
-        tt,
-        (
-          unmoved s k 2 id [] v w at refl (fits_same k.log id v w (k.fits id v at) refl refl refl refl refl) (λ e. absurd cc),
-          turned_same s.words (set s.words 2 found) s.views id v w at (still s.words 2 1) refl refl r.1 (r.1.watched id v at),
-          counted_same s.words (set s.words 2 found) s.views id v w at (still s.words 2 2) refl (le_refl found) r.2,
-        ),
-        (r.2.seen id v at, r.2.few, (λ e. absurd (ne e)), (λ _. refl)),
-      ))
-
-  pub opens : (ws : List ℕ) (xs : List (Option S)) (p : ℕ) → ws ≡ p ∷ 0 ∷ 0 ∷ [] → p ≡ position origin → xs ≡ Some origin ∷ [] → Rule (opening ws xs (witness (Some origin) []))
-  opens ws xs p words here slots = subst (λ (z : List ℕ × List (Option S)). Rule (opening z.0 z.1 (witness (Some origin) []))) (λ i. (sym words i, sym slots i)) (
-    record {
-      log = [];
-      holder = 0;
-      words = refl;
-      slots = refl;
-      legal = tt;
-      position_is = here;
-      fits = newest (Fits origin []) [] (witness (Some origin) [])
-          record { origin_is = λ o e. same_origin o origin (sym e); prefix = prefix_self []; told = prefix_self []; own_all = refl; own_seen = refl; numbered = inl refl } (λ i u at. absurd (some-ne-none u (sym at)));
-      home = λ _. refl;
-      inside = newest (λ i u. u.inside ≡ true → Holds [] 0 0 i u) [] (witness (Some origin) []) (λ on. absurd cc) (λ i u at. absurd (some-ne-none u (sym at)));
-      unused = λ p e. refl;
-    },
-    record {
-      turns = [];
-      chained = tt;
-      word_is = refl;
-      bit = omega arith;
-      watched = newest (λ _ u. IsPrefix u.watched []) [] (witness (Some origin) []) (prefix_self []) (λ i u at. absurd (some-ne-none u (sym at)));
-      own = newest (λ _ u. holds_by u.view.number [] ≡ u.view.turns) [] (witness (Some origin) []) refl (λ i u at. absurd (some-ne-none u (sym at)));
-      unused = λ p e. refl;
-    },
-    record { few = omega arith; count_is = refl; seen = newest (λ _ u. u.passes ≤ 0) [] (witness (Some origin) []) (omega arith) (λ i u at. absurd (some-ne-none u (sym at))) },
-  )
+  pub leave_keeps : (id n new : ℕ) (m : Sat S) (o left : S) → m.1 ≡ (0, Some left) ∷ [] → m.0.inside ≡ true → m.0.view.origin ≡ Some o → grows (end_of o m.0.view.seen) left → position (end_of o m.0.view.seen) ≤ position left
+      → new ≡ 2 * position left → position left < far → Allows Rule n id m 1 (λ _. new) (λ _. leaves (step n 1 new 0 none) m new)
+  leave_keeps id n new m o left has is from up later twice near =
+      subst (λ (x : Sat S). Allows Rule n id x 1 (λ _. new) (λ _. leaves (step n 1 new 0 none) x new)) (λ i. (m.0, sym has i)) (leave_inside id n new m.0 o left is from up later twice near)

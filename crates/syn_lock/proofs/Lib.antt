@@ -1,4 +1,6 @@
+pub mod Bits
 pub mod Histories
 pub mod Seats
 pub mod Turns
 pub mod Keeps
+pub mod Arrivals

@@ -1,5 +1,5 @@
 -- The history of the lock's word, and the count of passes, over each kind of step.
-use Rattle.std.proofs.Common.{◌≡◌, ◌≢◌, ℕ, ◌+◌, ◌≤◌, ◌<◌, List, [], ◌∷◌, ◌++◌, get_or, set, refl, ap, sym, ◌∙◌, subst, inl, arith}
+use Rattle.std.proofs.Common.{◌≡◌, ◌≢◌, ℕ, ◌+◌, ◌%◌, ◌≤◌, ◌<◌, List, [], ◌∷◌, ◌++◌, get_or, set, refl, ap, sym, ◌∙◌, subst, inl, arith}
 use mathlib.Core.Option.{some}
 use mathlib.Core.List.{IsPrefix}
 use lib.ListN.{get_elem?}
@@ -12,30 +12,28 @@ use Rattle.syn_lock.proofs.Seats.{newest, others, unused_set, unused_more, numbe
 
 module _ {S : Type 0} where
   -- a step that leaves the lock's word as it was
-  pub turned_same : (ws ws' : List ℕ) (l : List (Known S)) (id : ℕ) (v w : Known S) → get_elem? l id ≡ some v → get_or ws' 1 0 ≡ get_or ws 1 0
+  pub turned_same : (ws ws' : List ℕ) (l : List (Known S)) (id : ℕ) (v w : Known S) → get_elem? l id ≡ some v → get_or ws' 1 0 % 2 ≡ get_or ws 1 0 % 2
       → w.view.number ≡ v.view.number → w.view.turns ≡ v.view.turns → (t : Turned ws l) → IsPrefix w.watched t.turns → Turned ws' (set l id w)
   turned_same ws ws' l id v w at same number turns t watched = record {
     turns = t.turns;
     chained = t.chained;
     word_is = same ∙ t.word_is;
-    bit = subst (λ n. n ≤ 1) (sym same) t.bit;
     watched = others (λ _ u. IsPrefix u.watched t.turns) l id w watched (λ j u _ e. t.watched j u e);
     own = others (λ _ u. holds_by u.view.number t.turns ≡ u.view.turns) l id w (ap (λ p. holds_by p t.turns) number ∙ (t.own id v at ∙ sym turns)) (λ j u _ e. t.own j u e);
     unused = λ p e. t.unused p (unused_set l id v w at number p e);
   }
 
   -- a step of a pass on the lock's word
-  pub turned_on : (ws ws' : List ℕ) (l : List (Known S)) (id : ℕ) (v w : Known S) (found left : ℕ) → get_elem? l id ≡ some v → found ≡ get_or ws 1 0 → get_or ws' 1 0 ≡ left → left ≤ 1
+  pub turned_on : (ws ws' : List ℕ) (l : List (Known S)) (id : ℕ) (v w : Known S) (found left : ℕ) → get_elem? l id ≡ some v → found ≡ get_or ws 1 0 % 2 → get_or ws' 1 0 % 2 ≡ left
       → w.view.number ≡ v.view.number → v.view.number ≢ 0 → w.view.turns ≡ v.view.turns ++ hold v.view.number found left ∷ [] → ((j : ℕ) (u : Known S) → j ≢ id → get_elem? l j ≡ some u → v.view.number ≢ u.view.number)
       → (t : Turned ws l) → IsPrefix w.watched (t.turns ++ hold v.view.number found left ∷ []) → Turned ws' (set l id w)
-  turned_on ws ws' l id v w found left at was now one number some_number turns apart t watched =
+  turned_on ws ws' l id v w found left at was now number some_number turns apart t watched =
       let p = v.view.number in
       let turns' : List (Hold ℕ) = t.turns ++ hold p found left ∷ [] in
       let last : found ≡ end_of 0 t.turns = was ∙ t.word_is in record {
         turns = turns';
         chained = subst (λ (x : ℕ). IsWordHistory (t.turns ++ hold p x left ∷ [])) (sym last) (history-append (λ _ _. Unit {0}) 0 t.turns p left t.chained tt);
         word_is = now ∙ sym (end_of-append 0 t.turns (hold p found left));
-        bit = subst (λ n. n ≤ 1) (sym now) one;
         watched = others (λ _ u. IsPrefix u.watched turns') l id w watched (λ j u _ e. prefix_more u.watched t.turns (hold p found left ∷ []) (t.watched j u e));
         own = others (λ _ u. holds_by u.view.number turns' ≡ u.view.turns) l id w
             (ap (λ q. holds_by q turns') number ∙ (own_more p t.turns v.view.turns found left (t.own id v at) ∙ sym turns))
@@ -50,7 +48,6 @@ module _ {S : Type 0} where
     turns = t.turns;
     chained = t.chained;
     word_is = t.word_is;
-    bit = t.bit;
     watched = newest (λ _ u. IsPrefix u.watched t.turns) l w (subst (λ x. IsPrefix x t.turns) (sym watched) (t.turns, refl)) (λ j u e. t.watched j u e);
     own = newest (λ _ u. holds_by u.view.number t.turns ≡ u.view.turns) l w (ap (λ p. holds_by p t.turns) number ∙ (t.unused 0 (inl refl) ∙ sym turns)) (λ j u e. t.own j u e);
     unused = λ p e. t.unused p (unused_more l w p e);

@@ -12,7 +12,7 @@ ghost use Rattle.syn_lock.specs.Guards.{state_of, with_state, name_of_pass, know
 
 use crate::error::LockError;
 use crate::grows::Grows;
-use crate::own::{Own, Pass};
+use crate::own::{FAR, Own, Pass};
 use std::ops::{Deref, DerefMut};
 use std::sync::Wait;
 
@@ -62,8 +62,12 @@ impl<S: Grows> Own<S> {
     {
         let Guard { pass, state } = guard;
         let position = state.position();
-        self.publish(pass, state, position);
-        self.give(pass);
+        if position < FAR {
+            self.leave_near(pass, state, position);
+        } else {
+            self.publish(pass, state, position);
+            self.give(pass);
+        }
     }
 }
 

@@ -1,10 +1,12 @@
 //! The lock and its passes.
-ghost use Rattle.std.specs.Prelude.{◌≡◌, ℕ, ◌∷◌, ◌≤◌, [], true, false, Some, List, IfOk, IfErr, IfSome, MatchOption};
+ghost use Rattle.std.specs.Prelude.{◌≡◌, ℕ, ◌∷◌, ◌%◌, ◌≤◌, ◌<◌, [], true, false, Some, List, IfOk, IfErr, IfSome, MatchOption};
+ghost use Rattle.syn_lock.specs.Rule.{Tells, far};
 
 use crate::error::{LockError, Refused};
 use crate::grows::Grows;
 use crate::rule::{
-    Admit, Agree, Arrive, Confirm, Discipline, Give, Hear, Look, Publish, Take, Tell,
+    Admit, Agree, Arrive, Confirm, Discipline, Give, Hear, Leave, Look, LookFar, Publish, Take,
+    Tell,
 };
 use crate::view::Known;
 use atomic_table::{Seat, Table};
@@ -18,6 +20,9 @@ const POSITION: usize = 0;
 const LOCK: usize = 1;
 
 const PASSES: usize = 2;
+
+// Positions from this on do not fit beside the bit of the lock's word, and stand in the first word.
+pub(crate) const FAR: u64 = 1 << 63;
 
 /// The most passes that a lock gives out.
 pub const MOST_PASSES: u64 = 63;
@@ -41,6 +46,18 @@ pub struct Own<S: Grows> {
     ghost sized: { (table.shared.table_id.words ≡ 3) × (table.shared.table_id.slots ≡ 1) },
 }
 
+// The first two words of a free lock over a state of this position.
+fn words_of(position: u64) -> (u64, u64)
+    ensures free { result.1 % 2 ≡ 0 }
+    ensures tells { Tells result.0 result.1 position }
+{
+    if position < FAR {
+        (0, 2 * position)
+    } else {
+        (position, 0)
+    }
+}
+
 impl<S: Grows> Own<S> {
     ghost use Rattle.syn_lock.specs.declared.view.Hold.{Hold};
     ghost use mathlib.Core.List.{IsPrefix};
@@ -55,7 +72,8 @@ impl<S: Grows> Own<S> {
         ensures ok { IfOk result (λ own. origin_of own ≡ state) }
         ensures err { IfErr result (λ refused. (refused.error ≡ LockError.Memory) × (refused.value ≡ state)) }
     {
-        let words = [state.position(), 0, 0];
+        let (first, second) = words_of(state.position());
+        let words = [first, second, 0];
         let origin = Snapshot::of(&state);
         let Ok(mut slots) = Vec::with_capacity(alloc, 1) else {
             return Err(Refused {
@@ -154,7 +172,10 @@ impl<S: Grows> Own<S> {
         ensures told { IsPrefix pass.old.seat.me.0.told (view_of pass.new).seen }
         ensures position { result ≡ S.position (end_of (origin_of self.now) (view_of pass.new).seen) }
     {
-        self.table.shared.load::<Look>(&mut pass.seat, POSITION)
+        let shared = &self.table.shared;
+        let near = shared.load::<Look>(&mut pass.seat, LOCK);
+        let far = shared.load::<LookFar>(&mut pass.seat, POSITION);
+        if far == 0 { near / 2 } else { far }
     }
 
     // The pass is told what another has seen.
@@ -197,8 +218,8 @@ impl<S: Grows> Own<S> {
         ensures later { IfSome result (S.grows (end_of (origin_of self.now) (view_of pass.old).seen)) }
     {
         let shared = &self.table.shared;
-        let found = shared.compare_exchange::<Take>(&mut pass.seat, LOCK, 0, 1);
-        if found != 0 {
+        let found = shared.fetch_or::<Take>(&mut pass.seat, LOCK, 1);
+        if found % 2 != 0 {
             return None;
         }
         Some(shared.exchange(&mut pass.seat, 0, None).unwrap())
@@ -215,7 +236,7 @@ impl<S: Grows> Own<S> {
         let None = before else { unreachable!() };
     }
 
-    // Puts the state into the slot, and its position into the first word.
+    // Puts the state into the slot, and its position into the first word, which is for the far ones.
     pub(crate) fn publish(&self, pass: &mut Pass<S>, state: S, position: u64)
         requires ours { pass.old.seat.table_id ≡ id_of self.now }
         requires out { pass.old.seat.me.1 ≡ (0, None) ∷ [] }
@@ -223,6 +244,7 @@ impl<S: Grows> Own<S> {
         requires origin { (view_of pass.old).origin ≡ Some (origin_of self.now) }
         requires grown { S.grows (end_of (origin_of self.now) (view_of pass.old).seen) state }
         requires position { position ≡ S.position state }
+        requires far { far ≤ position }
         ensures same { pass.new.seat.table_id ≡ pass.old.seat.table_id }
         ensures inside { pass.new.seat.me.0.inside ≡ true }
         ensures put { pass.new.seat.me.1 ≡ (0, Some state) ∷ [] }
@@ -235,17 +257,37 @@ impl<S: Grows> Own<S> {
             .store::<Publish>(&mut pass.seat, POSITION, position);
     }
 
-    // Gives the lock back with the last state of the history.
+    // Gives the lock back with the last state of the history, whose position is far.
     pub(crate) fn give(&self, pass: &mut Pass<S>)
         requires ours { pass.old.seat.table_id ≡ id_of self.now }
         requires last { pass.old.seat.me.1 ≡ (0, Some (end_of (origin_of self.now) (view_of pass.old).seen)) ∷ [] }
         requires inside { pass.old.seat.me.0.inside ≡ true }
         requires origin { (view_of pass.old).origin ≡ Some (origin_of self.now) }
+        requires far { far ≤ S.position (end_of (origin_of self.now) (view_of pass.old).seen) }
         ensures same { pass.new.seat.table_id ≡ pass.old.seat.table_id }
         ensures outside { (pass.new.seat.me.1 ≡ []) × (pass.new.seat.me.0.inside ≡ false) }
         ensures given { view_of pass.new ≡ outside (view_of pass.old) }
     {
         self.table.shared.store::<Give>(&mut pass.seat, LOCK, 0);
+    }
+
+    // Puts the state into the slot, publishes its position and gives the lock back, in one step.
+    pub(crate) fn leave_near(&self, pass: &mut Pass<S>, state: S, position: u64)
+        requires ours { pass.old.seat.table_id ≡ id_of self.now }
+        requires out { pass.old.seat.me.1 ≡ (0, None) ∷ [] }
+        requires inside { pass.old.seat.me.0.inside ≡ true }
+        requires origin { (view_of pass.old).origin ≡ Some (origin_of self.now) }
+        requires grown { S.grows (end_of (origin_of self.now) (view_of pass.old).seen) state }
+        requires position { position ≡ S.position state }
+        requires near { position < far }
+        ensures same { pass.new.seat.table_id ≡ pass.old.seat.table_id }
+        ensures outside { (pass.new.seat.me.1 ≡ []) × (pass.new.seat.me.0.inside ≡ false) }
+        ensures left { view_of pass.new ≡ outside (published (origin_of self.now) (view_of pass.old) state) }
+    {
+        self.put(pass, state);
+        self.table
+            .shared
+            .store::<Leave>(&mut pass.seat, LOCK, 2 * position);
     }
 }
 

@@ -1,5 +1,5 @@
 // The rule of the lock's table, and what each of its steps tells.
-// Word 0 is the position of the state that was left last, word 1 is 0 while the lock is free and 1 while it is taken, and word 2 counts passes.
+// Word 1 is the lock's word: twice the position of the state that was left last, and 1 more while the lock is taken. A position from 2^63 on is word 0, which is 0 up to then. Word 2 counts passes.
 // Slot 0 has the state while the lock is free.
 use crate::grows::Grows;
 use crate::view::Known;
@@ -17,7 +17,7 @@ impl<S: Grows> TableRule<Option<S>, Known<S>, Snapshot<S>> for Discipline {
     ghost first = { λ key. witness (Some key.value) [] };
 }
 
-/// A compare-exchange of the lock's word, from 0 to 1.
+/// It sets the lowest bit of the lock's word.
 pub(crate) struct Take;
 
 impl<S: Grows> Play<Option<S>, Known<S>> for Take {
@@ -26,7 +26,7 @@ impl<S: Grows> Play<Option<S>, Known<S>> for Take {
     ghost then = { takes_lock S.grows };
 }
 
-/// A store of the new position.
+/// A store of the new position into word 0.
 pub(crate) struct Publish;
 
 impl<S: Grows> Play<Option<S>, Known<S>> for Publish {
@@ -44,13 +44,31 @@ impl<S: Grows> Play<Option<S>, Known<S>> for Give {
     ghost then = { gives_lock };
 }
 
-/// A load of the position.
+/// A store of twice the new position into the lock's word, which publishes it and gives the lock back.
+pub(crate) struct Leave;
+
+impl<S: Grows> Play<Option<S>, Known<S>> for Leave {
+    ghost use Rattle.syn_lock.specs.Rule.{leaves};
+
+    ghost then = { leaves };
+}
+
+/// A load of the lock's word.
 pub(crate) struct Look;
 
 impl<S: Grows> Play<Option<S>, Known<S>> for Look {
     ghost use Rattle.syn_lock.specs.Rule.{looks};
 
     ghost then = { looks S.position S.grows };
+}
+
+/// A load of word 0.
+pub(crate) struct LookFar;
+
+impl<S: Grows> Play<Option<S>, Known<S>> for LookFar {
+    ghost use Rattle.syn_lock.specs.Rule.{looks_far};
+
+    ghost then = { looks_far S.position S.grows };
 }
 
 /// A load that changes nothing.

@@ -60,6 +60,33 @@ fn position_is_the_last_one_left(rt: HostRuntime) -> Result<(), Fail> {
 }
 
 #[test]
+fn positions_of_all_64_bits(rt: HostRuntime) -> Result<(), Fail> {
+    let own = Own::new(
+        rt.alloc(),
+        Counter {
+            count: (1 << 63) - 2,
+        },
+    )
+    .map_err(|_| "memory")?;
+    let mut a = own.pass().map_err(|_| "a")?;
+    let mut b = own.pass().map_err(|_| "b")?;
+    assert_eq!(&rt; own.position(&mut b), (1 << 63) - 2);
+    assert!(&rt; try_add(&own, &mut a, 1).is_ok());
+    assert_eq!(&rt; own.position(&mut b), (1 << 63) - 1);
+    assert!(&rt; try_add(&own, &mut a, 1).is_ok());
+    assert_eq!(&rt; own.position(&mut b), 1 << 63);
+    assert!(&rt; try_add(&own, &mut a, 1).is_ok());
+    assert_eq!(&rt; own.position(&mut b), (1 << 63) + 1);
+    assert!(&rt; try_add(&own, &mut b, (1 << 63) - 2).is_ok());
+    assert!(&rt; matches!(try_add(&own, &mut b, 1), Err(AddError::TooMuch)));
+    assert_eq!(&rt; own.position(&mut a), u64::MAX);
+    let own = Own::new(rt.alloc(), Counter { count: u64::MAX }).map_err(|_| "memory")?;
+    let mut pass = own.pass().map_err(|_| "a pass")?;
+    assert_eq!(&rt; own.position(&mut pass), u64::MAX);
+    Ok(())
+}
+
+#[test]
 fn a_meeting_tells(rt: HostRuntime) -> Result<(), Fail> {
     let own = Own::new(rt.alloc(), Counter { count: 0 }).map_err(|_| "memory")?;
     let mut a = own.pass().map_err(|_| "a")?;

@@ -3,7 +3,8 @@ use mathlib.Core.List.{IsPrefix}
 use Rattle.syn_lock.specs.Rule.{Sat}
 use Rattle.syn_lock.specs.declared.view.Hold.{Hold}
 use Rattle.syn_lock.specs.Locks.{origin_of}
-use Rattle.syn_lock.proofs.Keeps.{tell_keeps, agree_keeps, confirm_keeps}
+use Rattle.syn_lock.proofs.Keeps.{confirm_keeps}
+use Rattle.syn_lock.proofs.Arrivals.{tell_keeps, agree_keeps}
 use Rattle.syn_lock.proofs.own.Own.agree.Goals as goal
 
 pub split_seat-note-requires : goal.split_seat-note-requires

@@ -5,7 +5,7 @@ use prog.Atomic.{either}
 use Rattle.syn_lock.specs.History.{IsHistory, holds_by}
 use Rattle.syn_lock.specs.Rule.{Sat, Lawful, admits}
 use Rattle.syn_lock.specs.Locks.{id_of, origin_of}
-use Rattle.syn_lock.proofs.Keeps.{arrive_keeps, admit_keeps}
+use Rattle.syn_lock.proofs.Arrivals.{arrive_keeps, admit_keeps}
 use Rattle.syn_lock.proofs.own.Own.pass.Goals as goal
 
 pub load_new_seat-given-requires : goal.load_new_seat-given-requires

@@ -16,7 +16,7 @@ store-requires g c =
       search rules,
       search rules,
       publish_keeps g.S.Grows.position g.S.Grows.grows o _ _ _ _ o c.args.state (ap (λ (m : Sat g.row.S.Denot). m.1) put) (ap (λ (k : Known g.row.S.Denot). k.inside) same ∙ c.requires.inside) (ap (λ (k : Known g.row.S.Denot). k.view.origin) same ∙ c.requires.origin)
-          (subst (λ (k : Known g.row.S.Denot). g.S.Grows.grows (end_of o k.view.seen) c.args.state) (sym same) c.requires.grown) c.requires.position,
+          (subst (λ (k : Known g.row.S.Denot). g.S.Grows.grows (end_of o k.view.seen) c.args.state) (sym same) c.requires.grown) c.requires.position c.requires.far,
     )
 
 pub returns : goal.returns
