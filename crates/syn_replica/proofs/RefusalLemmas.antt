@@ -36,7 +36,7 @@ put_at_name files n bytes tree name =
     ap₂ (λ a b. first_cause ((false, Root) ∷ (not a, NoParent) ∷ (b, IsDirectory) ∷ (not (fits_replica (replace (flat_tree files) (n ∷ []) (file bytes))), Full) ∷ [])) root_is file_is
     ∙ (ap (λ t. if not t then Some Full else None) fits ∙ elim (fits_files (entries (insert files n bytes))) as (λ t. (if not t then Some Full else None) ≡ (if t then None else Some Full)) [ true ↦ refl | false ↦ refl ])
 
-not_below : (files : FileMap) (n : Name) (q : Path) → is_directory (flat_tree files) (n ∷ q) ≡ false
+pub not_below : (files : FileMap) (n : Name) (q : Path) → is_directory (flat_tree files) (n ∷ q) ≡ false
 not_below files n [] = ap is_directory_content (get-flat files (n ∷ [])) ∙ no_directory (get files n)
 not_below files n (m ∷ q) = ap is_directory_content (get-flat files (n ∷ m ∷ q))
 
