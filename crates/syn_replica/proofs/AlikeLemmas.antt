@@ -1,11 +1,11 @@
 -- Puts that are spelled alike are one.
-use Rattle.std.proofs.Common.{◌≡◌, ◌<◌, ◌≤◌, ◌^◌, ℕ, eqb, Bool, true, false, List, [], ◌∷◌, ◌++◌, map, length, drop, fold, refl, sym, ap, ap₂, ◌∙◌, subst, append_assoc, append-nil, true≢false, arith}
+use Rattle.std.proofs.Common.{◌≡◌, ◌<◌, ◌^◌, ℕ, eqb, Bool, true, false, List, [], ◌∷◌, ◌++◌, map, length, drop, fold, refl, sym, ap, ap₂, ◌∙◌, subst, append_assoc, append-nil, true≢false, arith}
 use Rattle.std.specs.Int.{to_be_bytes, w32, w64}
 use Rattle.std.specs.List.{AllByRecursion}
 use Rattle.syn_model.specs.Path.{Bytes, Path, IsPath, path_spelling}
-use Rattle.syn_model.specs.Event.{Edit, Put, MakeDir, Remove, Event, Edited, Began, Replaced, IsLawfulEvent}
-use Rattle.syn_model.specs.Standing.{Standing, new_standing, standing_after, IsAllowedAt, AllAllowedAt}
-use Rattle.syn_model.specs.History.{History, IsAllowed, AllAllowed, IsHistory, tree_of, standing_of}
+use Rattle.syn_model.specs.Event.{Put, MakeDir, Remove, Event, Edited, Began, Replaced, IsLawfulEvent}
+use Rattle.syn_model.specs.Standing.{Standing, new_standing, standing_after, AllAllowedAt}
+use Rattle.syn_model.specs.History.{History, IsAllowed, AllAllowed, tree_of, standing_of}
 use Rattle.syn_model.specs.Spelling.{event_spelling}
 use Rattle.syn_model.proofs.StandingLemmas.{standing_steps}
 use Rattle.syn_wire.specs.Laws.{NoU32BeginsAnother, NoU64BeginsAnother, NoPathBeginsAnother}

@@ -1,9 +1,9 @@
 -- Why an edit is refused or allowed, by what the replica remembers.
-use Rattle.std.proofs.Common.{◌≡◌, ◌<◌, ◌≤◌, ◌⊎◌, ◌+◌, ◌-◌, ◌^◌, ℕ, true, List, [], ◌∷◌, length, refl, sym, ap, ap₂, ◌∙◌, subst, Option, Some, None, Result, Ok, Err, inl, inr, arith}
+use Rattle.std.proofs.Common.{◌≡◌, ◌<◌, ◌≤◌, ◌⊎◌, ◌+◌, ◌-◌, ◌^◌, ℕ, List, [], ◌∷◌, length, refl, sym, ap, ap₂, ◌∙◌, subst, Option, Some, None, Result, Ok, Err, inl, inr, arith}
 use Rattle.std.specs.Prelude.{IfErr, ◌++◌}
 use Rattle.std.specs.Int.{to_be_bytes, w32}
 use Rattle.syn_model.specs.Spelling.{event_spelling}
-use Rattle.std.specs.FinMap.{entries, insert}
+use Rattle.std.specs.FinMap.{insert}
 use Rattle.syn_disk.specs.declared.disk.Disk.{Ghosts}
 use Rattle.syn_model.specs.Path.{Bytes, Name, Path, IsPath, path_spelling}
 use Rattle.syn_model.specs.Tree.{IsTree}
@@ -17,7 +17,7 @@ use Rattle.syn_replica.specs.Files.{map_of}
 use Rattle.syn_replica.specs.Entries.{files_in}
 use Rattle.syn_replica.specs.Refusals.{refusal_of, IsOfEdit}
 use Rattle.syn_replica.specs.Admission.{refusal_by, IsAdmitted, IsAdmission, IsOfTree, IsOfCommit}
-use Rattle.syn_replica.specs.Replica.{Remembers, Stands, tree_shown, position_shown}
+use Rattle.syn_replica.specs.Replica.{Remembers, tree_shown, position_shown}
 use Rattle.syn_replica.specs.declared.files.Files.{Files}
 use Rattle.syn_replica.specs.declared.replica.Replica.{Replica}
 use Rattle.syn_replica.specs.declared.error.ReplicaError.{ReplicaError}

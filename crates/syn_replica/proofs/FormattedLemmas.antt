@@ -1,10 +1,10 @@
 -- An image spelled as that of a new replica is of its pair, and keeps nothing.
-use Rattle.std.proofs.Common.{◌≡◌, ◌<◌, ◌≤◌, ◌^◌, ◌-◌, ◌&&◌, ℕ, suc, Bool, true, false, nat_le, cond, List, [], ◌∷◌, ◌++◌, length, map, drop, flat_map, filter_map, fold, refl, sym, ap, ap₂, ◌∙◌, subst, Option, Some, None, IsSome, is_some, is_eq, true≢false, Ordering, Less, Equal, Greater, arith}
+use Rattle.std.proofs.Common.{◌≡◌, ◌<◌, ◌≤◌, ◌^◌, ◌&&◌, ℕ, suc, Bool, true, false, nat_le, cond, List, [], ◌∷◌, ◌++◌, length, drop, flat_map, filter_map, refl, sym, ap, ◌∙◌, subst, Option, Some, None, IsSome, is_eq, true≢false, Ordering, Less, Equal, Greater, arith}
 use Rattle.std.specs.Prelude.{option_map, option_and_then}
 use Rattle.std.specs.List.{cons_option}
 use Rattle.std.specs.Ordering.{ordering_then}
 use Rattle.std.specs.FinMap.{get, get-entries, find, entries, len, len-entries}
-use Rattle.std.specs.Int.{to_be_bytes, w16, w64}
+use Rattle.std.specs.Int.{to_be_bytes, w16}
 use Rattle.std.proofs.lemmas.Bool.{and_parts}
 use Rattle.std.proofs.lemmas.Bool.Decides.{nat_tests}
 use Rattle.syn_model.specs.Path.{Bytes, Name, Path, name_cmp, path_cmp, root, strip_prefix}
@@ -12,8 +12,8 @@ use Rattle.syn_model.specs.Tree.{Tree, Pair, Content, Directory, IsTree, empty_d
 use Rattle.syn_model.specs.Limits.{children, only_name, fits_replica, fits_part, fits_paths, tree_spelling_length, greatest, greatest_spelling}
 use Rattle.syn_model.specs.Event.{Token}
 use Rattle.syn_model.specs.Standing.{Touch, Standing, new_standing}
-use Rattle.syn_model.specs.Spelling.{spelling, spelling_within, content_spelling, entries_spelling, token_spelling}
-use Rattle.syn_model.specs.Image.{replica_front, image_spelling, last_token_spelling, touch_spelling, IsStanding}
+use Rattle.syn_model.specs.Spelling.{spelling, spelling_within, content_spelling, entries_spelling}
+use Rattle.syn_model.specs.Image.{image_spelling, last_token_spelling, touch_spelling, IsStanding}
 use Rattle.syn_model.proofs.PathLemmas.{none_some}
 use Rattle.syn_model.proofs.TreeLemmas.{same_tree}
 use Rattle.syn_model.proofs.HistoryLemmas.{get-at_root}

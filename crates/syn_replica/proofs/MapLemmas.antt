@@ -1,5 +1,5 @@
 -- Entries in order are a map from names to bytes.
-use Rattle.std.proofs.Common.{◌≡◌, ◌<◌, ℕ, T, Bool, true, false, zero, suc, List, [], ◌∷◌, ◌++◌, map, take, drop, ap₂, length, refl, sym, ap, ◌∙◌, subst, slice_index_or, Option}
+use Rattle.std.proofs.Common.{◌≡◌, ◌<◌, ℕ, T, Bool, true, false, zero, suc, List, [], ◌∷◌, ◌++◌, map, take, drop, ap₂, length, refl, sym, ap, ◌∙◌, subst, slice_index_or}
 use Rattle.std.specs.FinMap.{entries, get, insert, from_sorted, entries-from_sorted, get-from_sorted, entries-insert, same_entries_map, find, is_sorted}
 use Rattle.std.specs.FinMap.Entries.{put, is_sorted-put}
 use Rattle.std.specs.Prelude.{insert as list_insert}

@@ -1,16 +1,16 @@
 -- Payloads that are puts give a history.
-use Rattle.std.proofs.Common.{◌≡◌, ◌<◌, ◌≤◌, ◌^◌, ◌-◌, ◌+◌, ℕ, Bool, true, false, nat_le, if◌then◌else◌, List, [], ◌∷◌, ◌++◌, length, map, take, drop, refl, sym, ap, ap₂, ◌∙◌, subst, Option, Some, None, append_assoc, arith, slice_index_or}
+use Rattle.std.proofs.Common.{◌≡◌, ◌<◌, ◌^◌, ◌-◌, ◌+◌, ℕ, Bool, true, false, nat_le, if◌then◌else◌, List, [], ◌∷◌, ◌++◌, length, map, take, drop, refl, sym, ap, ap₂, ◌∙◌, subst, Option, Some, None, append_assoc, arith, slice_index_or}
 use Rattle.std.specs.Global.{Vec}
 use Rattle.std.specs.FinMap.{entries, insert, empty}
-use Rattle.std.proofs.lemmas.List.{length-append, length-map}
+use Rattle.std.proofs.lemmas.List.{length-append}
 use Rattle.std.proofs.lemmas.Bool.Decides.{nat_tests}
 use Rattle.syn_model.specs.Path.{Bytes, Name, Path, IsPath, IsName}
-use Rattle.syn_model.specs.Tree.{IsTree, replace, file}
+use Rattle.syn_model.specs.Tree.{IsTree}
 use Rattle.syn_model.specs.Limits.{greatest}
 use Rattle.syn_model.specs.Event.{Event, Edited, Began, Replaced, Put, MakeDir, Remove, AreBytes, after_edit}
 use Rattle.syn_model.specs.Refusal.{Refusal, Full, first_cause}
 use Rattle.syn_model.specs.Standing.{edit_causes, full_causes, full_position, edit_refusal}
-use Rattle.syn_model.specs.History.{History, IsAllowed, tree_of, event_refusal}
+use Rattle.syn_model.specs.History.{History, IsAllowed, tree_of}
 use Rattle.syn_model.specs.Spelling.{event_spelling}
 use Rattle.syn_model.specs.Image.{StandsFor}
 use Rattle.syn_replica.specs.Formatted.{formatted_image}
@@ -32,7 +32,7 @@ use Rattle.syn_replica.proofs.PlaceLemmas.{few}
 use Rattle.syn_replica.specs.Opening.{Holds, AddsEvent, IsOfMeaning, bytes_of_each}
 use Rattle.syn_replica.specs.declared.error.ReplicaError.{ReplicaError}
 use Rattle.syn_replica.specs.declared.error.ReplicaError.TheVariants.{NoParent, Absent, Root, Full, JournalFull, Device, Halted, Memory, NoImage, Damaged, WrongPair}
-use Rattle.syn_replica.proofs.FlatLemmas.{flat-empty, put-flat}
+use Rattle.syn_replica.proofs.FlatLemmas.{flat-empty}
 use Rattle.syn_replica.proofs.RefusalLemmas.{put_at_name, put_below}
 use Rattle.std.proofs.lemmas.List.Elements.{All-head}
 use Rattle.syn_model.proofs.PathLemmas.{none_some}

@@ -1,15 +1,14 @@
 -- What stands in a tree whose only directory is the root, and what a reading answers of it.
-use Rattle.std.proofs.Common.{◌≡◌, ◌≤◌, ◌↔◌, ℕ, Bool, true, false, List, [], ◌∷◌, length, map, refl, sym, ap, ◌∙◌, true≢false, Result, Ok, Err, Some, None, arith}
-use Rattle.std.specs.FinMap.{entries, get}
+use Rattle.std.proofs.Common.{◌≡◌, ◌≤◌, Bool, true, false, List, [], ◌∷◌, length, map, refl, sym, ap, ◌∙◌, true≢false, Result, Ok, Err, Some, arith}
+use Rattle.std.specs.FinMap.{entries}
 use Rattle.syn_model.specs.Path.{Bytes, Name, Path}
 use Rattle.syn_model.specs.Tree.{File, contents_of, Content, is_directory, is_directory_content}
 use Rattle.syn_model.specs.Refusal.{number}
-use Rattle.syn_model.proofs.PathLemmas.{none_some}
 use Rattle.syn_replica.specs.Contents.{names_in}
 use Rattle.syn_replica.specs.FileMap.{FileMap, flat_tree}
 use Rattle.syn_replica.specs.Refusals.{refusal_of}
 use Rattle.syn_replica.specs.declared.error.ReplicaError.{ReplicaError}
-use Rattle.syn_replica.specs.declared.error.ReplicaError.TheVariants.{NoParent, Absent, Root, Full, JournalFull, Device, Halted, Memory, NoImage, Damaged, WrongPair}
+use Rattle.syn_replica.specs.declared.error.ReplicaError.TheVariants.{Absent, Memory}
 use Rattle.syn_replica.proofs.FlatLemmas.{get-flat, children-root}
 use Rattle.syn_replica.proofs.RefusalLemmas.{not_below}
 

@@ -1,5 +1,5 @@
 -- What is looked at before an edit is made.
-use Rattle.std.specs.Prelude.{◌≡◌, ◌<◌, ℕ, true, List, [], ◌∷◌, ◌++◌, length, Option, Some, None, Result, Ok, Err}
+use Rattle.std.specs.Prelude.{◌≡◌, ◌<◌, ℕ, true, [], ◌∷◌, ◌++◌, length, Option, Some, None, Result, Ok, Err}
 use Rattle.std.specs.FinMap.{entries, insert}
 use Rattle.syn_model.specs.Path.{Bytes, Name, Path}
 use Rattle.syn_model.specs.Tree.{Tree}
@@ -11,7 +11,7 @@ use Rattle.syn_model.specs.Standing.{edit_causes, full_causes, full_position}
 use Rattle.syn_replica.specs.FileMap.{FileMap, fits_files}
 use Rattle.syn_replica.specs.Refusals.{refusal_of}
 use Rattle.syn_replica.specs.declared.error.ReplicaError.{ReplicaError}
-use Rattle.syn_replica.specs.declared.error.ReplicaError.TheVariants.{NoParent, Absent, Root, Full, JournalFull, Device, Halted, Memory, NoImage, Damaged, WrongPair}
+use Rattle.syn_replica.specs.declared.error.ReplicaError.TheVariants.{NoParent, Root, Full, JournalFull, Device, Memory}
 
 -- why an edit is refused by a tree and a position
 abbrev pub refusal_by : Tree → ℕ → Edit → Option Refusal

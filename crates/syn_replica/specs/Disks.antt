@@ -7,7 +7,7 @@ use Rattle.syn_model.specs.Image.{StandsFor}
 use Rattle.syn_replica.specs.Opening.{IsOtherPair}
 use Rattle.syn_replica.specs.Puts.{IsOfPuts}
 use Rattle.syn_replica.specs.declared.error.ReplicaError.{ReplicaError}
-use Rattle.syn_replica.specs.declared.error.ReplicaError.TheVariants.{NoParent, Absent, Root, Full, JournalFull, Device, Halted, Memory, NoImage, Damaged, WrongPair}
+use Rattle.syn_replica.specs.declared.error.ReplicaError.TheVariants.{Device, Memory, NoImage, Damaged, WrongPair}
 
 -- a replica disk of the pair stands for the history
 pub record DiskStands (pair : ℕ) (bytes : List ℕ) (history : History) : Type 0 where

@@ -1,5 +1,5 @@
 -- What the payloads of a formatted disk give.
-use Rattle.std.specs.Prelude.{◌≡◌, ◌≢◌, ◌<◌, ◌^◌, ℕ, List, length, map, Option, Some, None}
+use Rattle.std.specs.Prelude.{◌≡◌, ◌≢◌, ◌<◌, ◌^◌, ℕ, List, length, map, Option, Some}
 use Rattle.std.specs.Global.{Vec}
 use Rattle.syn_model.specs.Path.{Bytes}
 use Rattle.syn_model.specs.Tree.{Tree}
@@ -11,7 +11,7 @@ use Rattle.syn_replica.specs.FileMap.{FileMap, flat_tree}
 use Rattle.syn_replica.specs.Formatted.{formatted_image}
 use Rattle.syn_replica.specs.Puts.{IsPut, ArePayloadsOf}
 use Rattle.syn_replica.specs.declared.error.ReplicaError.{ReplicaError}
-use Rattle.syn_replica.specs.declared.error.ReplicaError.TheVariants.{NoParent, Absent, Root, Full, JournalFull, Device, Halted, Memory, NoImage, Damaged, WrongPair}
+use Rattle.syn_replica.specs.declared.error.ReplicaError.TheVariants.{Memory, Damaged, WrongPair}
 
 -- With these payloads a formatted disk stands for the history, which is of puts and leaves these files.
 pub record Holds (files : FileMap) (payloads : List Bytes) (history : History) : Type 0 where

@@ -1,9 +1,9 @@
 use Rattle.std.specs.FinMap.{entries, insert}
-use Rattle.std.proofs.Common.{◌≡◌, ◌∷◌, [], length, sym, ap, ap₂, ◌∙◌, subst, Some, true, true≢false, option_map, arith}
+use Rattle.std.proofs.Common.{◌≡◌, ◌∷◌, [], length, sym, ap, ap₂, ◌∙◌, subst, true, true≢false, option_map, arith}
 use Rattle.std.proofs.lemmas.List.Elements.{All-head}
 use Rattle.syn_model.specs.Path.{Name, Path, IsPath, IsName}
-use Rattle.syn_model.specs.Event.{Event, Edited, Put, after_event}
-use Rattle.syn_model.specs.History.{IsAllowed, tree_of}
+use Rattle.syn_model.specs.Event.{Edited, Put, after_event}
+use Rattle.syn_model.specs.History.{IsAllowed}
 use Rattle.syn_replica.specs.FileMap.{flat_tree, fits_files}
 use Rattle.syn_replica.specs.Files.{map_of}
 use Rattle.syn_replica.specs.Stored.{IsReadAs}

@@ -1,4 +1,4 @@
-use Rattle.std.proofs.Common.{◌≡◌, ◌+◌, ◌++◌, ◌∷◌, ℕ, length, length-append, refl, sym, ap, ◌∙◌, arith}
+use Rattle.std.proofs.Common.{◌≡◌, ◌+◌, ◌++◌, ℕ, length, length-append, refl, arith}
 use Rattle.std.specs.Int.{to_be_bytes, w32}
 use Rattle.syn_model.specs.Path.{Bytes, Path, path_spelling}
 use Rattle.syn_model.specs.Event.{Edited, Put}

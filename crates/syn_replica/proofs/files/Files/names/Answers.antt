@@ -1,4 +1,4 @@
-use Rattle.std.proofs.Common.{◌≡◌, ◌++◌, ◌∷◌, ◌+◌, [], List, Bool, false, map, take, length, sym, ap, ap₂, ◌∙◌, arith}
+use Rattle.std.proofs.Common.{◌++◌, ◌∷◌, [], List, Bool, false, map, take, sym, ap, ap₂, ◌∙◌}
 use Rattle.std.proofs.lemmas.List.{map_more, take_all}
 use Rattle.syn_model.specs.Path.{Name}
 use Rattle.syn_replica.specs.declared.files.FileEntry.{FileEntry}

@@ -1,8 +1,7 @@
-use Rattle.std.proofs.Common.{◌≡◌, ◌<◌, ◌≤◌, length, replicate, sym, ◌∙◌, subst, arith}
+use Rattle.std.proofs.Common.{◌<◌, ◌≤◌, length, replicate, subst}
 use Rattle.std.proofs.lemmas.List.{length-replicate}
 use Rattle.syn_model.specs.Event.{Edited, Put}
 use Rattle.syn_model.specs.Spelling.{event_spelling}
-use Rattle.syn_replica.specs.Replica.{room_shown}
 use Rattle.syn_replica.proofs.EditLemmas.{admitted_few}
 use Rattle.syn_replica.proofs.replica.Replica.admit.Goals as goal
 

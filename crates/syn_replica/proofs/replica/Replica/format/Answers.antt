@@ -1,6 +1,5 @@
-use Rattle.std.proofs.Common.{◌≡◌, ◌∷◌, [], sym, ap, ◌∙◌, subst, refl}
+use Rattle.std.proofs.Common.{[], sym, ap, ◌∙◌, subst, refl}
 use Rattle.syn_model.specs.Image.{StandsFor}
-use Rattle.syn_model.specs.History.{tree_of}
 use Rattle.syn_model.proofs.ImageLemmas.{formatted_stands}
 use Rattle.syn_replica.specs.FileMap.{flat_tree}
 use Rattle.syn_replica.proofs.FlatLemmas.{flat-empty}

@@ -1,9 +1,8 @@
-use Rattle.std.proofs.Common.{◌≡◌, ◌∷◌, [], sym, ap, ◌∙◌, subst, Some, None, option_map, length, List, ℕ, refl, true≢false, arith}
+use Rattle.std.proofs.Common.{◌≡◌, ◌∷◌, [], sym, ap, ◌∙◌, Some, None, refl, true≢false, arith}
 use Rattle.std.proofs.lemmas.Result.{err_from_is_err_and}
 use Rattle.syn_model.proofs.PathLemmas.{none_some}
 use Rattle.syn_replica.proofs.ReadingLemmas.{ok_err, memory_absent}
 use Rattle.std.specs.FinMap.{get}
-use Rattle.syn_model.specs.Path.{Path, Name}
 use Rattle.syn_model.specs.Tree.{File, contents_of}
 use Rattle.syn_replica.specs.Files.{map_of}
 use Rattle.syn_replica.specs.Replica.{tree_shown}

@@ -1,6 +1,5 @@
-use Rattle.std.proofs.Common.{◌≡◌, ◌≤◌, length, subst, [], sym, ap, ◌∙◌, true≢false, refl, arith}
+use Rattle.std.proofs.Common.{◌≡◌, ◌≤◌, length, subst, [], sym, ◌∙◌, true≢false, refl, arith}
 use Rattle.std.proofs.lemmas.Result.{err_from_is_err_and}
-use Rattle.syn_model.specs.Path.{Path}
 use Rattle.syn_replica.specs.Files.{map_of}
 use Rattle.syn_replica.proofs.RefusalLemmas.{none_of}
 use Rattle.syn_replica.proofs.ReadingLemmas.{root_is, root_names, no_directory_below, ok_err, memory_absent}

@@ -1,5 +1,4 @@
-use Rattle.std.proofs.Common.{◌≡◌, length, sym, ap, ◌∙◌, subst, refl, arith}
-use Rattle.syn_model.specs.Path.{Bytes}
+use Rattle.std.proofs.Common.{◌≡◌, length, sym, ap, subst, refl, arith}
 use Rattle.syn_model.specs.Image.{StandsFor}
 use Rattle.syn_journal.specs.Opened.{value_read}
 use Rattle.syn_replica.specs.FileMap.{flat_tree}

@@ -1,12 +1,11 @@
-use Rattle.std.proofs.Common.{◌≡◌, ◌<◌, ◌≤◌, ◌+◌, ◌^◌, ◌∷◌, [], length, List, ℕ, sym, ap, ◌∙◌, subst, refl, Err, Some, None, arith}
+use Rattle.std.proofs.Common.{◌≡◌, ◌<◌, ◌≤◌, ◌+◌, ◌^◌, length, sym, ap, ◌∙◌, subst, Err, arith}
 use Rattle.std.proofs.lemmas.Result.{err_from_is_err_and}
 use Rattle.syn_model.proofs.PathLemmas.{none_some}
 use Rattle.syn_model.specs.Event.{Edited, Put, AreBytes}
 use Rattle.syn_model.specs.Path.{IsPath}
 use Rattle.syn_model.specs.Spelling.{event_spelling}
 use Rattle.syn_replica.specs.FileMap.{flat_tree}
-use Rattle.syn_replica.specs.Admission.{refusal_by, IsAdmission}
-use Rattle.syn_replica.specs.Replica.{Stands, tree_shown, position_shown, journal_of}
+use Rattle.syn_replica.specs.Replica.{journal_of}
 use Rattle.syn_replica.proofs.EditLemmas.{admission_tree, admission_refused, shown_is_tree, same_refusal, allowed_by, put_gives, admitted_few, admission_full, admission_none, edit_of_admission, edit_of_commit, commit_has_room, memory_full, fits_half, too_long_twice, put_has_bytes}
 use Rattle.syn_replica.proofs.ReadingLemmas.{same_error}
 use Rattle.syn_journal.specs.Journal.{gate_of}
