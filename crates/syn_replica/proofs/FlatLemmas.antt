@@ -1,21 +1,21 @@
 -- Trees whose only directory is the root.
-use Rattle.std.proofs.Common.{◌≡◌, ℕ, suc, append-nil, ◌+◌, ◌≤◌, ◌<◌, T, Bool, true, false, cond, if◌then◌else◌, not, ◌&&◌, nat_le, List, [], ◌∷◌, ◌++◌, length, map, filter_map, refl, sym, ap, ap₂, ◌∙◌, subst, Option, Some, None, is_some, arith, Ordering, Less, Equal, Greater, is_eq, is_lt, true≢false}
+use Rattle.std.proofs.Common.{◌≡◌, ℕ, suc, append-nil, ◌+◌, ◌≤◌, T, Bool, true, false, cond, if◌then◌else◌, ◌&&◌, nat_le, List, [], ◌∷◌, ◌++◌, length, map, filter_map, refl, sym, ap, ap₂, ◌∙◌, subst, Option, Some, None, is_some, arith, Ordering, Less, Equal, Greater, is_eq, is_lt}
 use Rattle.std.specs.List.{list_all, cons_option, AllByRecursion}
-use Rattle.std.specs.Prelude.{sum_by, option_map, option_and_then, All}
+use Rattle.std.specs.Prelude.{sum_by, option_map, option_and_then}
 use Rattle.std.specs.Option.{option_map_or}
 use Rattle.std.specs.Ordering.{eq_by_cmp, ordering_then}
 use Rattle.syn_model.specs.History.{tree_of}
-use Rattle.std.specs.FinMap.{FinMap, empty, get-empty, entries, entries_sorted, entries-insert, entries-from_sorted, len, len-entries, get, insert, get-insert, get-entries, is_sorted, find}
+use Rattle.std.specs.FinMap.{empty, get-empty, entries, entries_sorted, entries-from_sorted, len, len-entries, get, insert, get-insert, get-entries, is_sorted, find}
 use Rattle.std.specs.FinMap.Entries.{below_all}
 use Rattle.std.specs.Cmp.{eq_by_cmp_equiv}
 use Rattle.std.proofs.lemmas.List.{length-map, append_assoc}
 use Rattle.std.proofs.lemmas.List.Elements.{All-head}
 use Rattle.std.proofs.lemmas.List.Sums.{sum_by-cons}
 use Rattle.std.proofs.lemmas.Bool.Decides.{nat_tests}
-use Rattle.syn_model.specs.Path.{Bytes, Name, Path, name_cmp, path_cmp, root, strip_prefix, IsName, path_spelling}
-use Rattle.syn_model.specs.Tree.{Tree, IsTree, Pair, Content, Directory, File, contents_of, file, replace, empty_directory}
+use Rattle.syn_model.specs.Path.{Bytes, Name, Path, name_cmp, path_cmp, root, strip_prefix, IsName}
+use Rattle.syn_model.specs.Tree.{IsTree, Pair, Content, Directory, File, contents_of, file, replace, empty_directory}
 use Rattle.syn_model.specs.Limits.{children, only_name, fits_replica, fits_content, fits_path, greatest_spelling, last_name_spelling_length, content_spelling_length, tree_spelling_length}
-use Rattle.syn_model.proofs.PathLemmas.{path_total, name_total, name_itself}
+use Rattle.syn_model.proofs.PathLemmas.{name_total, name_itself}
 use Rattle.syn_model.proofs.TreeLemmas.{same_tree, get-replace}
 use Rattle.syn_model.proofs.HistoryLemmas.{get-at_root}
 use Rattle.syn_replica.specs.FileMap.{FileMap, pair_of_file, flat_tree, fits_files, spelling_length, file_spelling_length}

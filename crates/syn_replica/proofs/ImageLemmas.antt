@@ -1,5 +1,5 @@
 -- The formatted image in its parts.
-use Rattle.std.proofs.Common.{◌≡◌, ◌<◌, ◌^◌, ℕ, true, [], ◌∷◌, ◌++◌, take, drop, sym, ap, ap₂, ◌∙◌}
+use Rattle.std.proofs.Common.{◌≡◌, ◌<◌, ◌^◌, ℕ, true, [], ◌∷◌, ◌++◌, take, drop, length, refl, sym, ap, ap₂, ◌∙◌, arith}
 use Rattle.std.specs.Prelude.{bytes_eq}
 use Rattle.std.proofs.lemmas.Slice.Eq.{bytes_eq-Decides}
 use Rattle.std.proofs.lemmas.List.{take-append-drop}
@@ -7,6 +7,11 @@ use Rattle.std.specs.Int.{to_be_bytes, w64}
 use Rattle.syn_model.specs.Path.{Bytes}
 use Rattle.syn_model.specs.Image.{replica_front}
 use Rattle.syn_model.proofs.RowLemmas.{spellings}
+use Rattle.syn_journal.specs.Layout.{longest_image}
+use Rattle.syn_journal.specs.Refusals.{IsFormatRefusal}
+use Rattle.syn_journal.specs.declared.error.JournalError.{JournalError}
+use Rattle.syn_journal.specs.declared.error.JournalError.TheVariants as journal
+use Rattle.syn_replica.specs.Refusals.{of_journal, IsOfFormat}
 use Rattle.syn_wire.specs.Laws.{NoU64BeginsAnother}
 use Rattle.syn_wire.specs.Reads.{BeginsWith}
 use Rattle.syn_replica.specs.Formatted.{formatted_image}
@@ -33,3 +38,19 @@ same_bytes a b h = (bytes_eq-Decides a b).0 h
 
 pub bytes_same : (a b : Bytes) → a ≡ b → bytes_eq a b ≡ true
 bytes_same a b e = (bytes_eq-Decides a b).1 e
+
+-- the image is short, so that no formatting is refused for its length
+length-formatted : (pair : ℕ) → length (formatted_image pair) ≡ 43
+length-formatted pair = ap length (formatted_parts pair)
+
+pub image_fits : (pair : ℕ) (image : Bytes) → image ≡ formatted_image pair → longest_image < length image → ⊥
+image_fits pair image e long = let count = ap length e ∙ length-formatted pair in absurd (omega (arith, count, long))
+
+pub format_refusal : (error : JournalError) → IsFormatRefusal error → (error ≡ journal.Full → ⊥) → IsOfFormat (of_journal error)
+format_refusal journal.Full h full = absurd (full refl)
+format_refusal journal.JournalFull h full = absurd h
+format_refusal journal.Device h full = tt
+format_refusal journal.Halted h full = absurd h
+format_refusal journal.Memory h full = tt
+format_refusal journal.NoImage h full = absurd h
+format_refusal journal.Damaged h full = absurd h

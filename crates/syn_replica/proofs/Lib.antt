@@ -4,6 +4,10 @@ pub mod MapLemmas
 pub mod PayloadLemmas
 pub mod ImageLemmas
 pub mod RefusalLemmas
+pub mod ReadingLemmas
 pub mod StandLemmas
 pub mod EditLemmas
+pub mod AlikeLemmas
+pub mod FormattedLemmas
 pub mod OpeningLemmas
+pub mod ShownLemmas

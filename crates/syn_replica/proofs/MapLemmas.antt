@@ -1,5 +1,5 @@
 -- Entries in order are a map from names to bytes.
-use Rattle.std.proofs.Common.{◌≡◌, ◌<◌, ℕ, T, Bool, true, false, zero, suc, List, [], ◌∷◌, ◌++◌, take, drop, ap₂, length, refl, sym, ap, ◌∙◌, subst, slice_index_or, Option}
+use Rattle.std.proofs.Common.{◌≡◌, ◌<◌, ℕ, T, Bool, true, false, zero, suc, List, [], ◌∷◌, ◌++◌, map, take, drop, ap₂, length, refl, sym, ap, ◌∙◌, subst, slice_index_or}
 use Rattle.std.specs.FinMap.{entries, get, insert, from_sorted, entries-from_sorted, get-from_sorted, entries-insert, same_entries_map, find, is_sorted}
 use Rattle.std.specs.FinMap.Entries.{put, is_sorted-put}
 use Rattle.std.specs.Prelude.{insert as list_insert}
@@ -63,3 +63,11 @@ files-insert es i y n b gap e = map-insert es i y ∙ (ap (list_insert (files_in
   where
     map-insert : (es : List FileEntry) (i : ℕ) (y : FileEntry) → files_in (list_insert es i y) ≡ list_insert (files_in es) i (file_of y)
     map-insert es i y = map-append file_of (take i es) (y ∷ drop i es) ∙ ap₂ (λ a b. a ++ file_of y ∷ b) (files-take i es) (files-drop i es)
+
+-- the names of the map are those of the entries
+pub names-in : (es : List FileEntry) → AreInOrder es → map {B = Name × Bool} (λ e. (e.name, false)) es ≡ map {B = Name × Bool} (λ file. (file.0, false)) (entries (from_sorted {R = name_cmp} (files_in es)))
+names-in es h = each es ∙ ap (map {B = Name × Bool} (λ file. (file.0, false))) (sym (entries-in es h))
+  where
+    each : (es : List FileEntry) → map {B = Name × Bool} (λ e. (e.name, false)) es ≡ map {B = Name × Bool} (λ file. (file.0, false)) (files_in es)
+    each [] = refl
+    each (e ∷ es) = ap (λ xs. (e.name, false) ∷ xs) (each es)

@@ -1,8 +1,8 @@
 -- What a file put at its place does to the list.
-use Rattle.std.proofs.Common.{◌≡◌, ℕ, zero, suc, ◌+◌, ◌<◌, ◌≤◌, Bool, true, false, cond, ◌&&◌, nat_le, List, [], ◌∷◌, ◌++◌, length, take, drop, refl, sym, ap, ap₂, ◌∙◌, subst, Option, Some, None, arith, Ordering, Less, Equal, Greater, is_lt, is_eq, set, true≢false, slice_index_or}
+use Rattle.std.proofs.Common.{◌≡◌, ℕ, zero, suc, ◌+◌, ◌<◌, ◌≤◌, Bool, true, false, cond, ◌&&◌, nat_le, List, [], ◌∷◌, length, refl, sym, ap, ap₂, ◌∙◌, Some, None, arith, Ordering, Less, Equal, Greater, is_lt, is_eq, set, true≢false, slice_index_or}
 use Rattle.std.specs.Prelude.{sum_by, insert}
 use Rattle.std.specs.List.{list_all}
-use Rattle.std.specs.Ordering.{ordering_reverse, eq_by_cmp}
+use Rattle.std.specs.Ordering.{ordering_reverse}
 use Rattle.std.specs.FinMap.{find, is_sorted}
 use Rattle.std.specs.FinMap.Entries.{put, by_order, below_all}
 use Rattle.std.proofs.lemmas.List.Sums.{sum_by-cons}

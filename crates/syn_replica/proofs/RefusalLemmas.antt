@@ -1,14 +1,13 @@
 -- Why a put is refused by a tree whose only directory is the root.
-use Rattle.std.proofs.Common.{◌≡◌, ◌<◌, ◌≤◌, slice_index_or, length, arith, ℕ, Bool, true, false, cond, if◌then◌else◌, not, List, [], ◌∷◌, refl, sym, ap, ap₂, ◌∙◌, subst, Option, Some, None, Ordering, Less, Equal, Greater}
+use Rattle.std.proofs.Common.{◌≡◌, ◌<◌, ◌≤◌, slice_index_or, length, arith, true, false, if◌then◌else◌, not, List, [], ◌∷◌, refl, sym, ap, ap₂, ◌∙◌, subst, Option, Some, None, Less, Equal, Greater}
 use Rattle.std.specs.Prelude.{option_map}
-use Rattle.std.specs.List.{AllByRecursion}
 use Rattle.std.specs.FinMap.{entries, get, insert, entries-insert}
 use Rattle.std.specs.FinMap.Entries.{put, by_order}
 use Rattle.syn_model.specs.Path.{Bytes, Name, Path, name_cmp, IsName, parent}
 use Rattle.syn_model.specs.Tree.{IsTree, file, contents_of, File, replace, is_directory, is_directory_content}
 use Rattle.syn_model.specs.Limits.{fits_replica}
 use Rattle.syn_model.specs.Event.{Put}
-use Rattle.syn_model.specs.Refusal.{Cause, first_cause, NoParent, IsDirectory, Root, Full}
+use Rattle.syn_model.specs.Refusal.{first_cause, NoParent, IsDirectory, Root, Full}
 use Rattle.syn_model.specs.Standing.{edit_refusal}
 use Rattle.syn_model.proofs.PathLemmas.{name_total}
 use Rattle.syn_replica.specs.FileMap.{FileMap, flat_tree, fits_files}
@@ -36,7 +35,7 @@ put_at_name files n bytes tree name =
     ap₂ (λ a b. first_cause ((false, Root) ∷ (not a, NoParent) ∷ (b, IsDirectory) ∷ (not (fits_replica (replace (flat_tree files) (n ∷ []) (file bytes))), Full) ∷ [])) root_is file_is
     ∙ (ap (λ t. if not t then Some Full else None) fits ∙ elim (fits_files (entries (insert files n bytes))) as (λ t. (if not t then Some Full else None) ≡ (if t then None else Some Full)) [ true ↦ refl | false ↦ refl ])
 
-not_below : (files : FileMap) (n : Name) (q : Path) → is_directory (flat_tree files) (n ∷ q) ≡ false
+pub not_below : (files : FileMap) (n : Name) (q : Path) → is_directory (flat_tree files) (n ∷ q) ≡ false
 not_below files n [] = ap is_directory_content (get-flat files (n ∷ [])) ∙ no_directory (get files n)
 not_below files n (m ∷ q) = ap is_directory_content (get-flat files (n ∷ m ∷ q))
 

@@ -1,8 +1,9 @@
 -- What a replica and its disk stand for goes on.
-use Rattle.std.proofs.Common.{◌≡◌, ◌≤◌, ◌⊎◌, ℕ, ◌+◌, List, [], ◌∷◌, ◌++◌, length, refl, sym, ap, ◌∙◌, subst, inl, inr}
+use Rattle.std.proofs.Common.{◌≡◌, ◌⊎◌, ℕ, ◌+◌, List, [], ◌∷◌, ◌++◌, sym, ap, ◌∙◌, subst, inl, inr, Result, Ok, Err}
 use Rattle.std.proofs.lemmas.List.{length-append}
 use Rattle.syn_disk.specs.declared.disk.Disk.{Ghosts}
-use Rattle.syn_journal.specs.Layout.{Value, with_payload, IsBeforeOrAfter}
+use Rattle.syn_journal.specs.Layout.{Value, Fault, meaning, with_payload, IsBeforeOrAfter}
+use Rattle.syn_journal.specs.Journal as journal
 use Rattle.syn_journal.specs.Stops.{LeavesOnly}
 use Rattle.syn_model.specs.Path.{Bytes}
 use Rattle.syn_model.specs.Event.{Event, after_event}
@@ -12,8 +13,9 @@ use Rattle.syn_model.specs.Image.{StandsFor}
 use Rattle.syn_model.proofs.HistoryLemmas.{allowed_goes_on, tree_of-append}
 use Rattle.syn_model.proofs.ImageLemmas.{payload_goes_on}
 use Rattle.syn_replica.specs.Disks.{DiskStands, StandsBeforeOrAfter}
+use Rattle.syn_replica.specs.Opening.{IsShownBy}
 use Rattle.syn_replica.specs.declared.replica.Replica.{Replica}
-use Rattle.syn_replica.specs.Replica.{Remembers, tree_shown, position_shown}
+use Rattle.syn_replica.specs.Replica.{Remembers, Stands, tree_shown, position_shown, pair_of, journal_of, disk_of}
 
 -- the payload of an allowed event takes the value one event on
 pub payload_stands : (pair : ℕ) (value : Value) (payload : Bytes) (history : History) (event : Event) → StandsFor pair value.image value.payloads history → IsAllowed history event → payload ≡ event_spelling event →
@@ -42,3 +44,30 @@ remembers_more old new history event r allowed tree position = record {
   tree = tree ∙ sym (tree_of-append history (event ∷ []));
   position = position ∙ (ap (λ n. n + 1) r.position ∙ sym (length-append history (event ∷ [])));
 }
+
+-- a disk means one value
+same_value : (d : Result Value Fault) (a b : Value) → d ≡ Ok a → d ≡ Ok b → a ≡ b
+same_value d a b x y = ap (λ r. value_or r a) (sym x ∙ y)
+  where
+    value_or : Result Value Fault → Value → Value
+    value_or (Ok value) other = value
+    value_or (Err fault) other = other
+
+-- what a replica shows of the one history that its disk gives, it shows of each
+pub stands_for_each : {D : Type 0} {disk : Ghosts D} (replica : Replica D disk) (value : Value) (bytes : List ℕ) (number shown : ℕ) (history : History) →
+    journal.Stands (journal_of replica) value → disk.seen (disk_of replica) ≡ bytes → pair_of replica ≡ shown → DiskStands number bytes history →
+    (StandsFor number value.image value.payloads history → IsShownBy number shown (tree_shown replica) (position_shown replica) history) →
+    (number ≡ pair_of replica) × Stands replica history
+stands_for_each replica value bytes number shown history runs seen pair d f =
+    let same = same_value _ d.value value d.means (ap meaning (sym seen) ∙ runs.means) in
+    let stands = subst (λ v. StandsFor number v.image v.payloads history) same d.stands in
+    let shows = f stands in
+    let of_pair : number ≡ pair_of replica = shows.pair ∙ sym pair in (
+      of_pair,
+      record {
+        remembers = record { lawful = stands.lawful; tree = shows.tree; position = shows.position };
+        value = value;
+        runs = runs;
+        means = subst (λ n. StandsFor n value.image value.payloads history) of_pair stands;
+      },
+    )

@@ -1,15 +1,17 @@
 -- What is looked at before an edit is made.
-use Rattle.std.specs.Prelude.{◌≡◌, ℕ, true, List, [], ◌∷◌, ◌++◌, length, Option, Some, None, Result, Ok, Err}
+use Rattle.std.specs.Prelude.{◌≡◌, ◌<◌, ℕ, true, [], ◌∷◌, ◌++◌, length, Option, Some, None, Result, Ok, Err}
 use Rattle.std.specs.FinMap.{entries, insert}
 use Rattle.syn_model.specs.Path.{Bytes, Name, Path}
 use Rattle.syn_model.specs.Tree.{Tree}
-use Rattle.syn_model.specs.Event.{Edit, after_edit}
+use Rattle.syn_model.specs.Event.{Event, Edit, after_edit}
+use Rattle.syn_model.specs.History.{History, event_refusal}
+use Rattle.syn_model.specs.Spelling.{event_spelling}
 use Rattle.syn_model.specs.Refusal.{Refusal, first_cause}
 use Rattle.syn_model.specs.Standing.{edit_causes, full_causes, full_position}
 use Rattle.syn_replica.specs.FileMap.{FileMap, fits_files}
 use Rattle.syn_replica.specs.Refusals.{refusal_of}
 use Rattle.syn_replica.specs.declared.error.ReplicaError.{ReplicaError}
-use Rattle.syn_replica.specs.declared.error.ReplicaError.TheVariants.{NoParent, Absent, Root, Full, JournalFull, Device, Halted, Memory, NoImage, Damaged, WrongPair}
+use Rattle.syn_replica.specs.declared.error.ReplicaError.TheVariants.{NoParent, Root, Full, JournalFull, Device, Memory}
 
 -- why an edit is refused by a tree and a position
 abbrev pub refusal_by : Tree → ℕ → Edit → Option Refusal
@@ -35,7 +37,11 @@ IsAdmission refusal (Err e) = (refusal ≡ Some (refusal_of e)) × IsOfTree e
 
 -- the refusals of a change
 abbrev pub IsOfCommit : ReplicaError → Type 0
-IsOfCommit JournalFull = Unit {0}
 IsOfCommit Device = Unit {0}
 IsOfCommit Memory = Unit {0}
 IsOfCommit _ = ⊥
+
+-- an event that is allowed by the tree, and for which there is no room
+pub record IsTooLong (history : History) (event : Event) (room : ℕ) : Type 0 where
+  pub not_refused : event_refusal history event ≡ None
+  pub long : room < length (event_spelling event)

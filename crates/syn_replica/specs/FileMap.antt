@@ -1,7 +1,7 @@
 -- The files of a tree whose only directory is the root: names with their bytes.
 use Rattle.std.specs.Prelude.{ℕ, ◌+◌, Bool, ◌&&◌, nat_le, List, [], ◌∷◌, length, map, sum_by}
 use Rattle.std.specs.List.{list_all}
-use Rattle.std.specs.FinMap.{FinMap, code, entries, len, from_sorted}
+use Rattle.std.specs.FinMap.{FinMap, code, entries, from_sorted}
 use Rattle.std.specs.Coded.{Coded, coded_ℕ, coded_list}
 use Rattle.syn_model.specs.Path.{Bytes, Name, name_cmp, root}
 use Rattle.syn_model.specs.Tree.{Tree, Pair, Directory, File, contents_of}

@@ -3,6 +3,8 @@ pub mod Place
 pub mod Entries
 pub mod Files
 pub mod Stored
+pub mod Formatted
+pub mod Puts
 pub mod Opening
 pub mod Contents
 pub mod Admission
@@ -10,5 +12,4 @@ pub mod Edits
 pub mod Disks
 pub mod Replica
 pub mod Refusals
-pub mod Formatted
 pub mod Payload

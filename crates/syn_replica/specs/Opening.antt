@@ -1,5 +1,5 @@
 -- What the payloads of a formatted disk give.
-use Rattle.std.specs.Prelude.{◌≡◌, ◌≢◌, ℕ, List, length, map, Option, Some, None}
+use Rattle.std.specs.Prelude.{◌≡◌, ◌≢◌, ◌<◌, ◌^◌, ℕ, List, length, map, Option, Some}
 use Rattle.std.specs.Global.{Vec}
 use Rattle.syn_model.specs.Path.{Bytes}
 use Rattle.syn_model.specs.Tree.{Tree}
@@ -9,11 +9,13 @@ use Rattle.syn_model.specs.Spelling.{event_spelling}
 use Rattle.syn_model.specs.Image.{StandsFor}
 use Rattle.syn_replica.specs.FileMap.{FileMap, flat_tree}
 use Rattle.syn_replica.specs.Formatted.{formatted_image}
+use Rattle.syn_replica.specs.Puts.{IsPut, ArePayloadsOf}
 use Rattle.syn_replica.specs.declared.error.ReplicaError.{ReplicaError}
-use Rattle.syn_replica.specs.declared.error.ReplicaError.TheVariants.{NoParent, Absent, Root, Full, JournalFull, Device, Halted, Memory, NoImage, Damaged, WrongPair}
+use Rattle.syn_replica.specs.declared.error.ReplicaError.TheVariants.{Memory, Damaged, WrongPair}
 
--- With these payloads a formatted disk stands for the history, which leaves these files.
+-- With these payloads a formatted disk stands for the history, which is of puts and leaves these files.
 pub record Holds (files : FileMap) (payloads : List Bytes) (history : History) : Type 0 where
+  pub are : ArePayloadsOf payloads history
   pub stands : (pair : ℕ) → StandsFor pair (formatted_image pair) payloads history
   pub tree : flat_tree files ≡ tree_of history
   pub position : length payloads ≡ length history
@@ -23,14 +25,22 @@ pub record AddsEvent (history : History) (payload : Bytes) (tree : Tree) : Type 
   pub event : Event
   pub spelled : payload ≡ event_spelling event
   pub allowed : IsAllowed history event
+  pub put : IsPut event
   pub gives : tree ≡ after_event (tree_of history) event
 
 abbrev pub bytes_of_each : List (Vec ℕ) → List Bytes
 bytes_of_each payloads = map (λ payload. payload.items) payloads
 
+-- what is shown, a pair, a tree and a position, is that of the history, and of its pair
+pub record IsShownBy (number shown : ℕ) (left : Tree) (count : ℕ) (history : History) : Type 0 where
+  pub pair : number ≡ shown
+  pub tree : left ≡ tree_of history
+  pub position : count ≡ length history
+
 -- another pair than the wanted one
 pub record IsOtherPair (image : Bytes) (wanted : Option ℕ) : Type 0 where
   pub pair : ℕ
+  pub fits : pair < 2 ^ 64
   pub asked : ℕ
   pub formatted : image ≡ formatted_image pair
   pub wanted_is : wanted ≡ Some asked

@@ -38,3 +38,26 @@ refusal_in (Err e) = Some (refusal_of e)
 abbrev pub CountsFailures : ReplicaError → ℕ → ℕ → Type 0
 CountsFailures Device old new = old < new
 CountsFailures _ old new = new ≡ old
+
+-- the refusals of each call
+abbrev pub IsOfFormat : ReplicaError → Type 0
+IsOfFormat Device = Unit {0}
+IsOfFormat Memory = Unit {0}
+IsOfFormat _ = ⊥
+
+abbrev pub IsOfEdit : ReplicaError → Type 0
+IsOfEdit NoParent = Unit {0}
+IsOfEdit Root = Unit {0}
+IsOfEdit Full = Unit {0}
+IsOfEdit JournalFull = Unit {0}
+IsOfEdit Device = Unit {0}
+IsOfEdit Halted = Unit {0}
+IsOfEdit Memory = Unit {0}
+IsOfEdit _ = ⊥
+
+-- the refusals of an opening of a disk of another pair: its own, and those that come first
+abbrev pub MayHideOtherPair : ReplicaError → Type 0
+MayHideOtherPair Device = Unit {0}
+MayHideOtherPair Memory = Unit {0}
+MayHideOtherPair WrongPair = Unit {0}
+MayHideOtherPair _ = ⊥

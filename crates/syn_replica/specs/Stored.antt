@@ -1,5 +1,5 @@
 -- A put as it is stored: the payload of a record.
-use Rattle.std.specs.Prelude.{◌≡◌, ◌≢◌, ◌<◌, ◌^◌, ℕ, List, length, Option, Some, None}
+use Rattle.std.specs.Prelude.{◌≡◌, ◌≢◌, ◌<◌, ◌^◌, ℕ, length, Option, Some, None}
 use Rattle.syn_model.specs.Path.{Bytes, Path, IsPath}
 use Rattle.syn_model.specs.Event.{Event, Edited, Put, AreBytes}
 use Rattle.syn_model.specs.Spelling.{event_spelling}

@@ -1,5 +1,5 @@
 //! The files of a replica whose only directory is the root.
-ghost use Rattle.std.specs.Prelude.{◌≡◌, ◌≤◌, ◌<◌, ◌+◌, ℕ, true, List, length, OnOk, OnErr, option_map, IfOk, IfErr, ◌^◌};
+ghost use Rattle.std.specs.Prelude.{◌≡◌, ◌≤◌, ◌<◌, ◌+◌, ℕ, true, false, List, length, map, OnOk, OnErr, option_map, IfOk, IfErr, ◌^◌};
 ghost use Rattle.std.specs.FinMap.{entries, get, insert, empty};
 ghost use Rattle.syn_replica.specs.FileMap.{fits_files, spelling_length};
 ghost use Rattle.syn_replica.specs.Entries.{AreInOrder, files_in};
@@ -60,7 +60,9 @@ impl Files {
     }
 
     /// The names in byte order; none of them is a directory.
-    pub(crate) fn names(&self, alloc: Global) -> Result<Vec<(Name, bool)>, PathError> {
+    pub(crate) fn names(&self, alloc: Global) -> Result<Vec<(Name, bool)>, PathError>
+        ensures { IfOk result (λ names. names.items ≡ map (λ file. (file.0, false)) (entries (map_of self.now))) }
+    {
         let mut names = Vec::with_capacity(alloc, self.entries.len())?;
         for entry in &self.entries {
             names.push((entry.name.copy(alloc)?, false))?;

@@ -15,3 +15,6 @@ pub use content::Content;
 pub use edit::Edit;
 pub use error::ReplicaError;
 pub use replica::Replica;
+
+#[cfg(test)]
+mod tests;

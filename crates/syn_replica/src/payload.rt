@@ -1,5 +1,6 @@
 //! A put as the payload of a record.
-ghost use Rattle.std.specs.Prelude.{◌≡◌, ◌<◌, ◌^◌, length, IfOk, option_map};
+ghost use Rattle.std.specs.Prelude.{◌≡◌, ◌<◌, ◌≤◌, ◌^◌, ℕ, List, length, IfOk, option_map};
+ghost use Rattle.syn_model.specs.Path.{path_spelling};
 ghost use Rattle.syn_model.specs.Event.{AreBytes, Edited, Put};
 ghost use Rattle.syn_model.specs.Spelling.{event_spelling};
 ghost use Rattle.syn_replica.specs.Stored.{IsReadAs};
@@ -18,6 +19,26 @@ pub(crate) struct StoredPut {
     pub(crate) user: u32,
     pub(crate) path: Path,
     pub(crate) bytes: Vec<u8>,
+}
+
+/// How many bytes the payload of a put of so many bytes has.
+pub(crate) fn put_len(path: &Path, size: usize) -> usize
+    requires { size < 2 ^ 32 }
+    ensures { (user : ℕ) (bytes : List ℕ) → length bytes ≡ size → result ≡ length (event_spelling (Edited user (Put path.now bytes))) }
+{
+    9 + path_len(path) + size
+}
+
+// How many bytes a path is spelled with.
+fn path_len(path: &Path) -> usize
+    ensures length { result ≡ length (path_spelling path.now) }
+    ensures brief { result ≤ 255 }
+{
+    let mut len = 1;
+    for name in path.names() {
+        len += 1 + name.as_str().len();
+    }
+    len
 }
 
 /// The payload: a kind, the user, the path, and the bytes with their length.

@@ -1,20 +1,22 @@
 //! A replica over a journal.
-ghost use Rattle.std.specs.Prelude.{◌≡◌, ◌≢◌, ◌⊎◌, ◌↔◌, ◌+◌, ◌-◌, ◌^◌, ◌<◌, ◌++◌, ◌∷◌, [], ℕ, List, length, OnOk, OnErr, IfOk, IfErr, IsErrAnd, MatchResult, Err, Some, None, true};
-ghost use Rattle.syn_model.specs.Tree.{IsTree};
+ghost use Rattle.std.specs.Prelude.{◌≡◌, ◌≢◌, ◌⊎◌, ◌↔◌, ◌+◌, ◌-◌, ◌^◌, ◌<◌, ◌≤◌, ◌++◌, ◌∷◌, [], ℕ, List, length, OnOk, OnErr, IfOk, IfErr, IsErrAnd, MatchResult, Err, Some, None, true, false};
+ghost use Rattle.syn_model.specs.Tree.{IsTree, is_directory};
 ghost use Rattle.syn_model.specs.Event.{Event, Put, Edited, after_event};
 ghost use Rattle.syn_model.specs.History.{History, IsAllowed, tree_of, event_refusal};
 ghost use Rattle.syn_model.specs.Refusal.{Refusal};
 ghost use Rattle.syn_model.specs.Spelling.{event_spelling};
 ghost use Rattle.syn_model.specs.Standing.{edit_refusal};
-ghost use Rattle.syn_replica.specs.Refusals.{refusal_in, refusal_of, CountsFailures};
-ghost use Rattle.syn_replica.specs.Admission.{refusal_by, IsAdmitted, IsAdmission, IsOfTree, IsOfCommit};
-ghost use Rattle.syn_replica.specs.Disks.{StandsBeforeOrAfter};
+ghost use Rattle.syn_replica.specs.Refusals.{refusal_in, refusal_of, CountsFailures, IsOfFormat, IsOfEdit, MayHideOtherPair};
+ghost use Rattle.syn_replica.specs.Admission.{refusal_by, IsAdmitted, IsAdmission, IsOfTree, IsOfCommit, IsTooLong};
+ghost use Rattle.syn_replica.specs.Disks.{DiskStands, StandsBeforeOrAfter, IsOfOtherPair, IsOpenRefusal};
 ghost use Rattle.syn_replica.specs.Edits.{event_by};
 ghost use Rattle.syn_replica.specs.FileMap.{flat_tree, fits_files};
 ghost use Rattle.syn_replica.specs.Files.{map_of, HasRoom};
 ghost use Rattle.syn_journal.specs.Stops.{LeavesOnly, Untouched};
 ghost use Rattle.std.specs.FinMap.{entries, get, insert};
-ghost use Rattle.syn_replica.specs.Contents.{content_of, IsOfReading};
+ghost use Rattle.syn_replica.specs.Contents.{content_of, names_in, IsOfReading};
+ghost use Rattle.syn_journal.specs.Journal.{gate_of};
+ghost use Rattle.syn_journal.specs.Layout.{half_size};
 
 use crate::content::Content;
 use crate::edit::Edit;
@@ -22,6 +24,7 @@ use crate::error::ReplicaError;
 use crate::files::Files;
 use crate::image::encode_image;
 use crate::opening::read_replica;
+use crate::payload::put_len;
 use crate::prepare::prepare;
 use std::alloc::Global;
 use syn_disk::Disk;
@@ -40,7 +43,7 @@ pub struct Replica<D: Disk> {
 }
 
 impl<D: Disk> Replica<D> {
-    ghost use Rattle.syn_replica.specs.Replica.{pair_of, tree_shown, position_shown, disk_of, journal_of, IsHalted, Remembers, Stands, SameMemory};
+    ghost use Rattle.syn_replica.specs.Replica.{pair_of, tree_shown, position_shown, disk_of, journal_of, room_shown, IsHalted, Remembers, Stands, SameMemory};
 
     /// Formats the disk as a replica of the pair, with no events.
     ///
@@ -49,6 +52,10 @@ impl<D: Disk> Replica<D> {
     pub fn format(alloc: Global, disk: D, pair: u64) -> Result<Replica<D>, (ReplicaError, D)>
         ensures formatted { IfOk result (λ replica. Stands replica []) }
         ensures pair { IfOk result (λ replica. pair_of replica ≡ pair) }
+        ensures refusals { IfErr result (λ refused. IsOfFormat refused.0) }
+        ensures unchanged { IfErr result (λ refused. (refused.0 ≡ ReplicaError.Device) ⊎ (refused.1 ≡ disk)) }
+        ensures failures { MatchResult result (λ replica. D.failures (disk_of replica) ≡ D.failures disk)
+            (λ refused. CountsFailures refused.0 (D.failures disk) (D.failures refused.1)) }
     {
         let image = match encode_image(alloc, pair) {
             Ok(image) => image,
@@ -72,6 +79,16 @@ impl<D: Disk> Replica<D> {
     /// the disk comes back. Nothing is written.
     pub fn open(alloc: Global, disk: D, pair: Option<u64>) -> Result<Replica<D>, (ReplicaError, D)>
         ensures opened { IfOk result (λ replica. (history : History) × Stands replica history) }
+
+        // It stands for each history that the disk stands for.
+        ensures each { IfOk result (λ replica. (number : ℕ) (history : History) → number < 2 ^ 64 → DiskStands number (D.seen disk) history
+            → (number ≡ pair_of replica) × Stands replica history) }
+        ensures wanted { IfOk result (λ replica. (asked : ℕ) → pair ≡ Some asked → asked ≡ pair_of replica) }
+
+        // Each refusal has its cause.
+        ensures refusals { IfErr result (λ refused. IsOpenRefusal refused.0 pair (D.seen disk)) }
+        ensures wrong_pair { IsOfOtherPair pair (D.seen disk) → IsErrAnd result (λ refused. MayHideOtherPair refused.0) }
+
         ensures untouched { MatchResult result
             (λ replica. Untouched D.seen D.may_leave D.moment D.left_since disk (disk_of replica))
             (λ refused. Untouched D.seen D.may_leave D.moment D.left_since disk refused.1) }
@@ -113,6 +130,20 @@ impl<D: Disk> Replica<D> {
         self.pair
     }
 
+    /// The length of the longest payload that still fits in the journal, or 0 where none does.
+    pub fn room(&self) -> usize
+        ensures { result ≡ room_shown self.now }
+    {
+        self.journal.room()
+    }
+
+    /// Whether a call was refused 9 since the replica was formatted or opened.
+    pub fn is_halted(&self) -> bool
+        ensures { (result ≡ true) ↔ IsHalted self.now }
+    {
+        self.journal.is_halted()
+    }
+
     /// The disk, as the last call left it.
     pub fn into_disk(self) -> D
         ensures { result ≡ disk_of self }
@@ -125,7 +156,7 @@ impl<D: Disk> Replica<D> {
     /// Refused 10 while the replica is halted, 5 where nothing is there, and 11 where memory is refused.
     pub fn get(&self, alloc: Global, path: &Path) -> Result<Content, ReplicaError>
         ensures found { IfOk result (λ content. get (tree_shown self.now) path.now ≡ Some (content_of content)) }
-        ensures absent { IfErr result (λ e. e ≡ ReplicaError.Absent → get (tree_shown self.now) path.now ≡ None) }
+        ensures absent { (result ≡ Err ReplicaError.Absent) ↔ (¬ IsHalted self.now × (get (tree_shown self.now) path.now ≡ None)) }
         ensures halted { (result ≡ Err ReplicaError.Halted) ↔ IsHalted self.now }
         ensures refusals { IfErr result IsOfReading }
     {
@@ -145,7 +176,12 @@ impl<D: Disk> Replica<D> {
     /// The names of the directory in byte order, with true for a directory.
     ///
     /// Refused 10 while the replica is halted, 5 where no directory is there, and 11 where memory is refused.
-    pub fn list(&self, alloc: Global, path: &Path) -> Result<Vec<(Name, bool)>, ReplicaError> {
+    pub fn list(&self, alloc: Global, path: &Path) -> Result<Vec<(Name, bool)>, ReplicaError>
+        ensures names { IfOk result (λ names. names.items ≡ names_in (tree_shown self.now) path.now) }
+        ensures absent { (result ≡ Err ReplicaError.Absent) ↔ (¬ IsHalted self.now × (is_directory (tree_shown self.now) path.now ≡ false)) }
+        ensures halted { (result ≡ Err ReplicaError.Halted) ↔ IsHalted self.now }
+        ensures refusals { IfErr result IsOfReading }
+    {
         if self.journal.is_halted() {
             return Err(ReplicaError::Halted);
         }
@@ -172,6 +208,11 @@ impl<D: Disk> Replica<D> {
             → IfErr result (λ e. IsOfTree e → event_refusal history (event_by user edit) ≡ Some (refusal_of e)) }
         ensures refused { (history : History) (why : Refusal) → Stands self.old history → event_refusal history (event_by user edit) ≡ Some why
             → IsErrAnd result (λ e. refusal_of e ≡ why) }
+
+        // Then comes JournalFull, exactly where the journal has no room for the event.
+        ensures full { (history : History) → Stands self.old history
+            → (result ≡ Err ReplicaError.JournalFull) ↔ IsTooLong history (event_by user edit) (room_shown self.old) }
+        ensures refusals { IfErr result IsOfEdit }
         ensures halted { (result ≡ Err ReplicaError.Halted) ↔ IsHalted self.old }
         ensures halts { result ≡ Err ReplicaError.Device → IsHalted self.new }
         ensures failures { MatchResult result (λ _. D.failures (disk_of self.new) ≡ D.failures (disk_of self.old))
@@ -204,6 +245,11 @@ impl<D: Disk> Replica<D> {
             → IfErr result (λ e. IsOfTree e → event_refusal history (Edited user (Put path bytes.items)) ≡ Some (refusal_of e)) }
         ensures refused { (history : History) (why : Refusal) → Stands self.old history → event_refusal history (Edited user (Put path bytes.items)) ≡ Some why
             → IsErrAnd result (λ e. refusal_of e ≡ why) }
+
+        // Then comes JournalFull, exactly where the journal has no room for the event.
+        ensures full { (history : History) → Stands self.old history
+            → (result ≡ Err ReplicaError.JournalFull) ↔ IsTooLong history (Edited user (Put path bytes.items)) (room_shown self.old) }
+        ensures refusals { IfErr result IsOfEdit }
         ensures halted { (result ≡ Err ReplicaError.Halted) ↔ IsHalted self.old }
         ensures halts { result ≡ Err ReplicaError.Device → IsHalted self.new }
         ensures failures { MatchResult result (λ _. D.failures (disk_of self.new) ≡ D.failures (disk_of self.old))
@@ -247,11 +293,17 @@ impl<D: Disk> Replica<D> {
             → IsAdmission (refusal_by (tree_shown self.now) (position_shown self.now) (Put path.now bytes)) result }
         ensures admitted { OnOk result (IsAdmitted (map_of self.now.files) path.now size) }
         ensures below { OnOk result (position_shown self.now < 2 ^ 64 - 1) }
+        ensures room { (user : ℕ) (bytes : List ℕ) → length bytes ≡ size → OnOk result (length (event_spelling (Edited user (Put path.now bytes))) ≤ room_shown self.now) }
+        ensures no_room { (user : ℕ) (bytes : List ℕ) → length bytes ≡ size
+            → IfErr result (λ e. e ≡ ReplicaError.JournalFull → room_shown self.now < length (event_spelling (Edited user (Put path.now bytes)))) }
         ensures cause { IfErr result (λ e. (IsOfTree e) ⊎ (e ≡ ReplicaError.JournalFull)) }
     {
         self.check(path, size)?;
         if self.position == u64::MAX {
             return Err(ReplicaError::Full);
+        }
+        if put_len(path, size) > self.journal.room() {
+            return Err(ReplicaError::JournalFull);
         }
         Ok(())
     }
@@ -267,6 +319,7 @@ impl<D: Disk> Replica<D> {
         requires room { HasRoom self.old.files }
         requires fits { fits_files (entries (insert (map_of self.old.files) name bytes.items)) ≡ true }
         requires below { position_shown self.old < 2 ^ 64 - 1 }
+        requires takes { gate_of (journal_of self.old) + 6 + length payload.now ≤ half_size }
         ensures acknowledged { (history : History) (event : Event) → Stands self.old history → IsAllowed history event → payload.now ≡ event_spelling event
             → flat_tree (insert (map_of self.old.files) name bytes.items) ≡ after_event (tree_of history) event
             → IfOk result (λ position. (position ≡ length history + 1) × Stands self.new (history ++ event ∷ [])) }

@@ -1,9 +1,9 @@
-use Rattle.std.proofs.Common.{◌≡◌, ◌+◌, ◌<◌, ℕ, List, length, Ordering, Equal, Less, Greater, subst, ap, sym, ◌∙◌, add-one, slice_index_or, arith}
+use Rattle.std.proofs.Common.{◌≡◌, ◌<◌, ℕ, List, length, Ordering, Equal, Less, Greater, subst, ap, sym, ◌∙◌, add-one, slice_index_or, arith}
 use Rattle.syn_model.specs.Path.{name_cmp}
 use Rattle.syn_replica.specs.Entries.{file_of, files_in}
 use Rattle.syn_replica.specs.declared.files.FileEntry.{FileEntry}
 use Rattle.syn_replica.proofs.MapLemmas.{file_at, counted}
-use Rattle.syn_replica.proofs.PlaceLemmas.{IsAfter, after-more, after-found, after-gap, after-end, found-within, gap-within}
+use Rattle.syn_replica.proofs.PlaceLemmas.{IsAfter, after-more, after-found, after-gap, after-end}
 use Rattle.syn_replica.proofs.files.place.Goals as goal
 
 -- the name at an index

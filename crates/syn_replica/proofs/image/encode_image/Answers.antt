@@ -1,4 +1,4 @@
-use Rattle.std.proofs.Common.{◌≡◌, ◌∷◌, ◌++◌, [], sym, ap, ap₂, ◌∙◌, append_assoc}
+use Rattle.std.proofs.Common.{◌++◌, sym, ap, ap₂, ◌∙◌, append_assoc}
 use Rattle.std.specs.Int.{to_be_bytes, w64}
 use Rattle.syn_model.specs.Image.{replica_front}
 use Rattle.syn_replica.specs.declared.image.TheConstants.{NO_EVENTS}

@@ -1,4 +1,4 @@
-use Rattle.std.proofs.Common.{◌≡◌, ◌<◌, ◌≤◌, ◌^◌, ◌-◌, ◌+◌, ◌∷◌, ◌++◌, [], length, take, List, ℕ, sym, ap, ◌∙◌, subst, arith}
+use Rattle.std.proofs.Common.{◌≡◌, ◌<◌, ◌≤◌, ◌^◌, ◌-◌, ◌+◌, ◌∷◌, ◌++◌, [], length, take, drop, List, ℕ, sym, ap, ◌∙◌, subst, arith}
 use Rattle.std.specs.Global.{Vec}
 use Rattle.std.proofs.lemmas.List.{length-map, map_more}
 use Rattle.std.proofs.lemmas.List.{length-take-le}
@@ -6,7 +6,9 @@ use Rattle.syn_model.specs.History.{History}
 use Rattle.syn_replica.specs.Files.{map_of}
 use Rattle.syn_replica.specs.FileMap.{flat_tree}
 use Rattle.syn_replica.specs.Opening.{Holds, AddsEvent, bytes_of_each}
-use Rattle.syn_replica.proofs.OpeningLemmas.{holds_nothing, holds_more}
+use Rattle.syn_replica.proofs.OpeningLemmas.{holds_nothing, holds_more, row_parts}
+use Rattle.std.proofs.lemmas.Result.{err_from_is_err_and}
+use Rattle.syn_replica.proofs.AlikeLemmas.{next_put, lawful_in}
 use Rattle.syn_replica.proofs.opening.files_of.Goals as goal
 
 at_most : (i n : ℕ) → i < n → i ≤ n
@@ -37,3 +39,17 @@ loop-payload-preserved c =
       subst (λ xs. Holds (map_of c.add_put.new.files) xs more.0)
           (sym (map_more (λ p. p.items) payloads i c.payload-item.result c.loop-payload-test.true ∙ ap (λ p. read ++ p.items ∷ []) (sym c.payload-item.is))) more.1,
     )
+
+pub returns-in_err-add_put-clause-damaged : goal.returns-in_err-add_put-clause-damaged
+returns-in_err-add_put-clause-damaged c =
+    let p = err_from_is_err_and c.from_residual.result c.from_residual.ensures.1 in
+    let laws = c.spelling_laws.ensures in
+    let i = c.loop-payload.payload-index in
+    let payloads = c.args.payloads.now in
+    let payload = c.payload-item.result in
+    let read = c.loop-payload.invariant.0 in
+    let holds = c.loop-payload.invariant.1 in
+    let parts = row_parts payloads i payload read c.loop-payload-test.true c.payload-item.is holds.are.spelled in
+    rw (p.1, p.2) (λ is history are.
+    let next = next_put laws.u32 laws.u64 laws.path [] history read payload.items (bytes_of_each (drop (i + 1) payloads)) are.lawful are.puts (lawful_in [] read holds.are.lawful) (sym are.spelled ∙ parts) in
+    c.in_err-add_put.ensures.damaged (bytes_of_each (take i payloads)) read next.0 holds next.2 (c.deref.ensures.value ∙ next.1) is next.3)

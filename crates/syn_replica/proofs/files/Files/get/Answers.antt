@@ -1,4 +1,4 @@
-use Rattle.std.proofs.Common.{◌≡◌, ◌<◌, ap, sym, ◌∙◌, subst, Some, length, arith}
+use Rattle.std.proofs.Common.{◌<◌, ap, sym, ◌∙◌, subst, Some, length}
 use Rattle.syn_replica.specs.Entries.{file_of, files_in}
 use Rattle.syn_replica.specs.Place.{IsFoundAt, IsGapAt}
 use Rattle.syn_replica.proofs.MapLemmas.{file_at, get-in}

@@ -1,4 +1,4 @@
-use Rattle.std.proofs.Common.{◌≡◌, refl, ap, sym, ◌∙◌, length}
+use Rattle.std.proofs.Common.{ap, ◌∙◌, length}
 use Rattle.std.specs.FinMap.{empty_of_len, len-entries, from_sorted, is_sorted}
 use Rattle.syn_model.specs.Path.{name_cmp}
 use Rattle.syn_replica.specs.Entries.{AreInOrder, files_in}

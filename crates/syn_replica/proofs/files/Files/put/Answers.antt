@@ -1,13 +1,10 @@
-use Rattle.std.proofs.Common.{◌≡◌, ◌<◌, ◌&&◌, nat_le, refl, ap, sym, subst, ◌∙◌, length, List, ℕ, true, arith, Vec, Global, slice_index_or, if◌then◌else◌, is_ok, Ok, Err}
+use Rattle.std.proofs.Common.{◌≡◌, ◌<◌, refl, ap, sym, subst, ◌∙◌, length, List, ℕ, true, arith, Vec, Global, slice_index_or, if◌then◌else◌, is_ok, Ok, Err}
 use Rattle.std.specs.Prelude.{Result, IsOk, insert}
-use Rattle.std.proofs.lemmas.Bool.{and_parts}
-use Rattle.std.proofs.lemmas.Bool.Decides.{nat_tests}
 use Rattle.std.proofs.Math.ListN.{set}
 use Rattle.std.specs.FinMap.Entries.{put}
-use Rattle.syn_model.specs.Path.{Bytes, Name, name_cmp}
-use Rattle.syn_model.specs.Limits.{greatest_spelling}
+use Rattle.syn_model.specs.Path.{Name, name_cmp}
 use Rattle.syn_replica.specs.FileMap.{fits_files, spelling_length}
-use Rattle.syn_replica.specs.Entries.{file_of, files_in}
+use Rattle.syn_replica.specs.Entries.{files_in}
 use Rattle.syn_replica.specs.Place.{IsFoundAt, IsGapAt}
 use Rattle.syn_replica.specs.declared.files.FileEntry.{FileEntry}
 use Rattle.syn_replica.proofs.MapLemmas.{entries-put, put-in_order, put-map, files-set, files-insert}

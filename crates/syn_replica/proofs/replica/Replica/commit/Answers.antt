@@ -1,8 +1,7 @@
-use Rattle.std.proofs.Common.{◌≡◌, ◌∷◌, ◌++◌, ◌+◌, [], ap, ◌∙◌, refl}
+use Rattle.std.proofs.Common.{◌+◌, ap, ◌∙◌, refl}
 use Rattle.syn_journal.specs.Layout.{with_payload, IsBeforeOrAfter}
 use Rattle.syn_replica.specs.Disks.{StandsBeforeOrAfter}
 use Rattle.syn_replica.specs.FileMap.{flat_tree}
-use Rattle.syn_replica.specs.Replica.{disk_of}
 use Rattle.syn_replica.proofs.StandLemmas.{payload_stands, stop_stands, leaves_weaker, remembers_more}
 use Rattle.syn_replica.proofs.replica.Replica.commit.Goals as goal
 

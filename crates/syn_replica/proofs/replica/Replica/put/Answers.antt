@@ -1,13 +1,15 @@
-use Rattle.std.proofs.Common.{◌≡◌, ◌<◌, ◌^◌, ◌∷◌, [], length, List, ℕ, sym, ap, ◌∙◌, subst, refl, Some, None, arith}
+use Rattle.std.proofs.Common.{◌≡◌, ◌<◌, ◌≤◌, ◌+◌, ◌^◌, length, sym, ap, ◌∙◌, subst, Err, arith}
 use Rattle.std.proofs.lemmas.Result.{err_from_is_err_and}
 use Rattle.syn_model.proofs.PathLemmas.{none_some}
 use Rattle.syn_model.specs.Event.{Edited, Put, AreBytes}
 use Rattle.syn_model.specs.Path.{IsPath}
 use Rattle.syn_model.specs.Spelling.{event_spelling}
 use Rattle.syn_replica.specs.FileMap.{flat_tree}
-use Rattle.syn_replica.specs.Admission.{refusal_by, IsAdmission}
-use Rattle.syn_replica.specs.Replica.{Stands, tree_shown, position_shown}
-use Rattle.syn_replica.proofs.EditLemmas.{admission_tree, admission_refused, shown_is_tree, same_refusal, allowed_by, put_gives, admitted_few}
+use Rattle.syn_replica.specs.Replica.{journal_of}
+use Rattle.syn_replica.proofs.EditLemmas.{admission_tree, admission_refused, shown_is_tree, same_refusal, allowed_by, put_gives, admitted_few, admission_full, admission_none, edit_of_admission, edit_of_commit, commit_has_room, memory_full, fits_half, too_long_twice, put_has_bytes}
+use Rattle.syn_replica.proofs.ReadingLemmas.{same_error}
+use Rattle.syn_journal.specs.Journal.{gate_of}
+use Rattle.syn_journal.specs.Layout.{half_size}
 use Rattle.syn_replica.proofs.replica.Replica.put.Goals as goal
 
 pub returns-in_err-admit-clause-by_tree : goal.returns-in_err-admit-clause-by_tree
@@ -81,3 +83,46 @@ returns-clause-any_moment g c history stands =
       runs = stands.runs;
       means = stands.means;
     }) allowed payload
+
+pub commit-requires-clause-takes : goal.commit-requires-clause-takes
+commit-requires-clause-takes g c =
+    let size : length c.args.bytes.items ≡ c.len.result = omega (arith, c.len.ensures, c.args.bytes.ok) in
+    let spelled = event_spelling (Edited c.args.user (Put c.args.path c.args.bytes.items)) in
+    let payload = c.deref-2.ensures.value ∙ (c.in_ok-name.ensures.payload ∙ ap (λ xs. event_spelling (Edited c.args.user (Put c.args.path xs))) c.deref.ensures.value) in
+    let room = c.in_ok-admit.ensures.room c.args.user c.args.bytes.items size in
+    subst (λ xs. gate_of (journal_of c.args.self.now) + 6 + length xs ≤ half_size) (sym payload) (fits_half half_size (gate_of (journal_of c.args.self.now)) (length spelled) (put_has_bytes c.args.user c.args.path c.args.bytes.items) room)
+
+pub returns-in_err-admit-clause-full : goal.returns-in_err-admit-clause-full
+returns-in_err-admit-clause-full g c history stands =
+    let p = err_from_is_err_and c.from_residual.result c.from_residual.ensures.1 in
+    let r = stands.remembers in
+    let size : length c.args.bytes.items ≡ c.len.result = omega (arith, c.len.ensures, c.args.bytes.ok) in
+    let answer = c.in_err-admit.ensures.answer (shown_is_tree c.args.self.now history r) c.args.bytes.items size in
+    let refusal = same_refusal c.args.self.now history r c.args.user c.args.path c.args.bytes.items in
+    rw (p.1, p.2) (
+      λ same.
+          let full = same_error _ _ same in
+          record { not_refused = sym refusal ∙ admission_none _ _ answer full; long = c.in_err-admit.ensures.no_room c.args.user c.args.bytes.items size full },
+      λ long. ap (λ e. Err e) (admission_full _ _ answer (refusal ∙ long.not_refused)),
+    )
+
+pub returns-in_err-name-clause-full : goal.returns-in_err-name-clause-full
+returns-in_err-name-clause-full g c history stands =
+    let p = err_from_is_err_and c.from_residual-in_err-name.result c.from_residual-in_err-name.ensures.1 in
+    let size : length c.args.bytes.items ≡ c.len.result = omega (arith, c.len.ensures, c.args.bytes.ok) in
+    let room = c.in_ok-admit.ensures.room c.args.user c.args.bytes.items size in
+    rw (p.1, p.2) (λ same. absurd (memory_full _ c.in_err-name.ensures.memory same), λ long. absurd (too_long_twice _ _ room long.long))
+
+pub returns-clause-full : goal.returns-clause-full
+returns-clause-full g c history stands =
+    let size : length c.args.bytes.items ≡ c.len.result = omega (arith, c.len.ensures, c.args.bytes.ok) in
+    let room = c.in_ok-admit.ensures.room c.args.user c.args.bytes.items size in
+    (λ same. absurd (commit_has_room _ c.commit.result c.commit.ensures.refusals same), λ long. absurd (too_long_twice _ _ room long.long))
+
+pub returns-in_err-admit-clause-refusals : goal.returns-in_err-admit-clause-refusals
+returns-in_err-admit-clause-refusals g c =
+    let p = err_from_is_err_and c.from_residual.result c.from_residual.ensures.1 in
+    rw (p.1, p.2) (edit_of_admission _ c.in_err-admit.ensures.cause)
+
+pub returns-clause-refusals : goal.returns-clause-refusals
+returns-clause-refusals g c = edit_of_commit _ c.commit.result c.commit.ensures.refusals

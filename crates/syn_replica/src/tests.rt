@@ -1,0 +1,241 @@
+//! Each call over a disk in memory: what stands after a stop, and each refusal.
+//!
+//! The helpers have no contracts and hand out plain values, so that a test is proved quickly. A put or an
+//! opening that was refused for want of memory is made again, so the tests can be run with an allocation failing.
+use super::*;
+use std::alloc::Global;
+use std::test::Fail;
+use syn_disk::{Arm, Cut, Disk, Leaves, Limit, MemDisk, Restart};
+use syn_path::Path;
+
+const PAIR: u64 = 7;
+
+type TestReplica = Replica<Cut<MemDisk>>;
+
+fn new_disk(alloc: Global, leaves: Leaves) -> Option<Cut<MemDisk>> {
+    let leaves = vec![in alloc; leaves].ok()?;
+    Some(Cut::new(MemDisk::new(alloc, leaves).ok()?))
+}
+
+fn formatted(alloc: Global, disk: Cut<MemDisk>) -> Option<TestReplica> {
+    match Replica::format(alloc, disk, PAIR) {
+        Ok(replica) => Some(replica),
+        Err(_) => None,
+    }
+}
+
+fn new_replica(alloc: Global) -> Option<TestReplica> {
+    formatted(alloc, new_disk(alloc, Leaves::Lose)?)
+}
+
+fn restarted(alloc: Global, replica: TestReplica) -> Option<TestReplica> {
+    match Replica::open(alloc, replica.into_disk().restart(), Some(PAIR)) {
+        Ok(replica) => Some(replica),
+        Err((ReplicaError::Memory, disk)) => Replica::open(alloc, disk, Some(PAIR)).ok(),
+        Err(_) => None,
+    }
+}
+
+// The refusal of an opening.
+fn open_number(alloc: Global, disk: Cut<MemDisk>, pair: Option<u64>) -> u8 {
+    match Replica::open(alloc, disk, pair) {
+        Ok(_) => 0,
+        Err((refusal, _)) => refusal.number(),
+    }
+}
+
+// A disk that was formatted, with these bytes written over it.
+fn written(alloc: Global, at: usize, bytes: &[u8; 7]) -> Option<Cut<MemDisk>> {
+    let mut disk = new_replica(alloc)?.into_disk();
+    if at < 100 {
+        let _ = disk.write(at, bytes);
+    }
+    Some(disk)
+}
+
+fn edit_of(alloc: Global, path: &str, bytes: &[u8]) -> Option<Edit> {
+    Some(Edit::Put(Path::parse(alloc, path).ok()?, bytes.to_vec(alloc).ok()?))
+}
+
+// The refusal of a put, or 0.
+fn put_once(alloc: Global, replica: &mut TestReplica, path: &str, bytes: &[u8]) -> u8 {
+    let Some(edit) = edit_of(alloc, path, bytes) else {
+        return 11;
+    };
+    match replica.edit(alloc, 1, edit) {
+        Ok(_) => 0,
+        Err(refusal) => refusal.number(),
+    }
+}
+
+// The refusal of a put, or 0. It is made again where memory was refused and the replica is as it was.
+fn put(alloc: Global, replica: &mut TestReplica, path: &str, bytes: &[u8]) -> u8 {
+    let before = (replica.position(), replica.room());
+    let answer = put_once(alloc, replica, path, bytes);
+    if answer == 11 && (replica.position(), replica.room()) == before {
+        put_once(alloc, replica, path, bytes)
+    } else {
+        answer
+    }
+}
+
+// The first byte of the file at the path, or the refusal.
+fn get(alloc: Global, replica: &TestReplica, path: &str) -> Result<u8, u8> {
+    let Ok(path) = Path::parse(alloc, path) else {
+        return Err(11);
+    };
+    match replica.get(alloc, &path) {
+        Ok(Content::File(bytes)) => Ok(bytes.first().copied().unwrap_or(0)),
+        Ok(Content::Dir) => Err(0),
+        Err(refusal) => Err(refusal.number()),
+    }
+}
+
+// How many names the directory has, or the refusal.
+fn list(alloc: Global, replica: &TestReplica, path: &str) -> Result<usize, u8> {
+    let Ok(path) = Path::parse(alloc, path) else {
+        return Err(11);
+    };
+    match replica.list(alloc, &path) {
+        Ok(names) => Ok(names.len()),
+        Err(refusal) => Err(refusal.number()),
+    }
+}
+
+#[test]
+fn puts_stand_after_a_restart(rt: HostRuntime) -> Result<(), Fail> {
+    let alloc = rt.alloc();
+    let Some(mut replica) = new_replica(alloc) else {
+        return Err("not formatted")?;
+    };
+    let answers = [
+        put(alloc, &mut replica, "b", &[2]),
+        put(alloc, &mut replica, "a", &[1]),
+        put(alloc, &mut replica, "b", &[3]),
+    ];
+    let Some(replica) = restarted(alloc, replica) else {
+        return Err("not opened")?;
+    };
+    let found = [get(alloc, &replica, "a"), get(alloc, &replica, "b")];
+    let shown = (
+        replica.position(),
+        replica.pair(),
+        list(alloc, &replica, "."),
+    );
+    assert_eq!(rt;
+        (answers, found, shown),
+        ([0; 3], [Ok(1), Ok(3)], (3, PAIR, Ok(2)))
+    );
+    Ok(())
+}
+
+#[test]
+fn a_refusal_of_the_tree_changes_nothing(rt: HostRuntime) -> Result<(), Fail> {
+    let alloc = rt.alloc();
+    let Some(mut replica) = new_replica(alloc) else {
+        return Err("not formatted")?;
+    };
+    put(alloc, &mut replica, "a", &[1]);
+    let room = replica.room();
+    let answers = [
+        put(alloc, &mut replica, ".", &[2]),
+        put(alloc, &mut replica, "a/b", &[2]),
+        put(alloc, &mut replica, "a", &[2; 16_385]),
+    ];
+    let found = [
+        get(alloc, &replica, "a"),
+        get(alloc, &replica, "b"),
+        get(alloc, &replica, "a/b"),
+    ];
+    let shown = (
+        replica.position(),
+        replica.room() == room,
+        list(alloc, &replica, "a"),
+    );
+    assert_eq!(rt;
+        (answers, found, shown),
+        ([6, 2, 7], [Ok(1), Err(5), Err(5)], (1, true, Err(5)))
+    );
+    Ok(())
+}
+
+// A disk of zeros, one of another pair, one whose image is cut short, and one whose only record is of one byte.
+#[test]
+fn other_disks_are_refused(rt: HostRuntime) -> Result<(), Fail> {
+    let alloc = rt.alloc();
+    let (Some(blank), Some(other), Some(short), Some(record)) = (
+        new_disk(alloc, Leaves::Lose),
+        written(alloc, 99, &[0; 7]),
+        written(alloc, 9, &[0, 0, 0, 4, 1, 2, 3]),
+        written(alloc, 56, &[0xa5, 0, 0, 0, 1, 1, 0]),
+    ) else {
+        return Err("no disk")?;
+    };
+    let answers = [
+        open_number(alloc, blank, None),
+        open_number(alloc, other, Some(8)),
+        open_number(alloc, short, None),
+        open_number(alloc, record, None),
+    ];
+    assert_eq!(rt; answers, [18, 20, 19, 19]);
+    Ok(())
+}
+
+// What becomes of a second put when the machine stops after so many calls of the disk, of which 7 are of the format and 4 of
+// the first put: its answer, and the file after a restart.
+fn after_a_stop(alloc: Global, calls: u64, leaves: Leaves) -> Option<(u8, Result<u8, u8>)> {
+    let mut disk = new_disk(alloc, leaves)?;
+    disk.arm(Arm::Stop(calls));
+    let mut replica = formatted(alloc, disk)?;
+    put(alloc, &mut replica, "a", &[1]);
+    let answer = put(alloc, &mut replica, "a", &[2]);
+    let replica = restarted(alloc, replica)?;
+    Some((answer, get(alloc, &replica, "a")))
+}
+
+#[test]
+fn a_stop_leaves_the_put_before_or_after(rt: HostRuntime) {
+    let alloc = rt.alloc();
+    let (lost, kept, answered) = (Some((9, Ok(1))), Some((9, Ok(2))), Some((0, Ok(2))));
+    for (leaves, third) in [
+        (Leaves::Lose, lost),
+        (Leaves::Keep, kept),
+        (Leaves::Noise, lost),
+    ] {
+        for (calls, wanted) in [
+            (11, lost),
+            (12, lost),
+            (13, lost),
+            (14, third),
+            (15, answered),
+        ] {
+            assert_eq!(rt; after_a_stop(alloc, calls, leaves), wanted);
+        }
+    }
+}
+
+fn fill(alloc: Global, replica: &mut TestReplica) -> bool {
+    let mut all = true;
+    for _ in 0..255 {
+        all &= put(alloc, replica, "a", &[1; 16_384]) == 0;
+    }
+    all
+}
+
+#[test]
+fn a_full_journal_refuses_a_put(rt: HostRuntime) -> Result<(), Fail> {
+    let alloc = rt.alloc();
+    let Some(mut replica) = new_replica(alloc) else {
+        return Err("not formatted")?;
+    };
+    let is_filled = fill(alloc, &mut replica);
+    let answers = [
+        put(alloc, &mut replica, "a", &[2; 16_384]),
+        put(alloc, &mut replica, "b", &[2]),
+    ];
+    assert_eq!(rt;
+        (is_filled, answers, get(alloc, &replica, "a")),
+        (true, [8, 0], Ok(1))
+    );
+    Ok(())
+}
