@@ -17,11 +17,11 @@ split a b r s l e = (
   sym (drop-append_seam a r) ∙ (ap₂ drop l e ∙ drop-append_seam b s),
 )
 
-abbrev first_or : Bytes → ℕ → ℕ
+abbrev pub first_or : Bytes → ℕ → ℕ
 first_or [] d = d
 first_or (x ∷ xs) d = x
 
-abbrev rest_of : Bytes → Bytes
+abbrev pub rest_of : Bytes → Bytes
 rest_of [] = []
 rest_of (x ∷ xs) = xs
 
