@@ -1,14 +1,14 @@
 -- The spelling of an event tells it.
-use Rattle.std.proofs.Common.{◌≡◌, ◌≢◌, ◌<◌, ◌^◌, ℕ, suc, true, List, [], ◌∷◌, ◌++◌, length, refl, sym, ap, ap₂, ◌∙◌, subst, Some, None, append_assoc, arith}
-use Rattle.std.specs.Int.{to_be_bytes, w16, w32, w64}
+use Rattle.std.proofs.Common.{◌≡◌, ◌≢◌, ◌<◌, ◌^◌, ℕ, true, ◌∷◌, ◌++◌, length, sym, ap, ◌∙◌, None, append_assoc, arith}
+use Rattle.std.specs.Int.{to_be_bytes, w32, w64}
 use Rattle.syn_model.specs.Path.{Bytes, Path, IsPath, path_spelling}
 use Rattle.syn_model.specs.Tree.{Tree, IsPart}
 use Rattle.syn_model.specs.Limits.{fits_part}
-use Rattle.syn_model.specs.Event.{Token, Event, Edited, Began, Replaced, Put, MakeDir, Remove, IsLawfulToken}
+use Rattle.syn_model.specs.Event.{Token, Edited, Began, Replaced, Put, MakeDir, Remove, IsLawfulToken}
 use Rattle.syn_model.specs.Spelling.{spelling, token_spelling, event_spelling}
 use Rattle.syn_model.specs.Laws.{NoSpellingBeginsAnother}
-use Rattle.syn_wire.specs.Reads.{BeginsWith, IsReading, NoneBeginsAnother}
-use Rattle.syn_wire.specs.Events.{Both, IsFile, IsNumber32, IsPlainEvent, IsSpelledEvent, both_spelling, file_spelling, number_spelling}
+use Rattle.syn_wire.specs.Reads.{IsReading, NoneBeginsAnother}
+use Rattle.syn_wire.specs.Events.{Both, IsFile, IsNumber32, IsPlainEvent, both_spelling, file_spelling, number_spelling}
 use Rattle.syn_wire.specs.Laws.{NoEventBeginsAnother}
 use Rattle.syn_wire.proofs.NameLemmas.{split, paths_tell, first_or, rest_of}
 use Rattle.syn_wire.proofs.NumberLemmas.{u32_tells, u64_tells}

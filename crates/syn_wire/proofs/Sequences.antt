@@ -1,5 +1,5 @@
 -- One value behind another.
-use Rattle.std.proofs.Common.{◌≡◌, ℕ, List, ◌++◌, refl, sym, ap, ap₂, ◌∙◌, Some, None, append_assoc}
+use Rattle.std.proofs.Common.{ℕ, List, ◌++◌, sym, ap, ap₂, ◌∙◌, None, append_assoc}
 use Rattle.syn_wire.specs.Reads.{BeginsWith, IsReading, NoneBeginsAnother}
 use Rattle.syn_wire.specs.Events.{Both, both_spelling}
 

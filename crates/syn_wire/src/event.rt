@@ -123,7 +123,10 @@ fn read_place(alloc: Global, bytes: &[u8]) -> Result<Option<(u32, Path, &[u8])>,
 }
 
 // A user, a path and the bytes of a file.
-fn read_placed_file(alloc: Global, bytes: &[u8]) -> Result<Option<(u32, Path, Vec<u8>, &[u8])>, WireError>
+fn read_placed_file(
+    alloc: Global,
+    bytes: &[u8],
+) -> Result<Option<(u32, Path, Vec<u8>, &[u8])>, WireError>
     ensures { IfOk result (λ read. IsReading (Both (Both IsNumber32 IsPath) IsFile) (both_spelling (both_spelling number_spelling path_spelling) file_spelling) bytes.now
         (option_map (λ found. (((found.0, found.1), found.2.items), found.3.now)) read)) }
 {
