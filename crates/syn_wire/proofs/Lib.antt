@@ -1,2 +1,5 @@
 pub mod NameLemmas
 pub mod NumberLemmas
+pub mod Sequences
+pub mod EventLemmas
+pub mod ByteLemmas

@@ -1,7 +1,6 @@
 -- The spelling of a name or of names tells them.
-use Rattle.std.proofs.Common.{◌≡◌, ℕ, zero, suc, ◌+◌, ◌-◌, slice_index_or, ◌<◌, ◌≤◌, List, [], ◌∷◌, ◌++◌, length, take, drop, refl, sym, ap, ap₂, ◌∙◌, subst, append_assoc, append-nil, arith}
-use Rattle.std.specs.Prelude.{All, Contains}
-use Rattle.std.specs.List.{flat_map}
+use Rattle.std.proofs.Common.{◌≡◌, ℕ, zero, suc, ◌+◌, ◌-◌, slice_index_or, ◌<◌, ◌≤◌, [], ◌∷◌, ◌++◌, length, take, drop, refl, sym, ap, ap₂, ◌∙◌, subst, append_assoc, append-nil, arith}
+use Rattle.std.specs.Prelude.{All}
 use Rattle.std.proofs.Math.Seq.{take-append_seam, drop-append_seam, take-length}
 use Rattle.std.proofs.lemmas.List.Elements.{All-head, All-tail, All-cons, All-nil, All-append}
 use Rattle.std.proofs.lemmas.List.{length-append}
@@ -17,11 +16,11 @@ split a b r s l e = (
   sym (drop-append_seam a r) ∙ (ap₂ drop l e ∙ drop-append_seam b s),
 )
 
-abbrev first_or : Bytes → ℕ → ℕ
+abbrev pub first_or : Bytes → ℕ → ℕ
 first_or [] d = d
 first_or (x ∷ xs) d = x
 
-abbrev rest_of : Bytes → Bytes
+abbrev pub rest_of : Bytes → Bytes
 rest_of [] = []
 rest_of (x ∷ xs) = xs
 

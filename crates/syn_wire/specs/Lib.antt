@@ -2,3 +2,4 @@ pub mod Refusals
 pub mod Reads
 pub mod Names
 pub mod Laws
+pub mod Events

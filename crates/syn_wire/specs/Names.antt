@@ -1,5 +1,5 @@
 -- How names are spelled: each with its length before it.
-use Rattle.std.specs.Prelude.{◌≡◌, ℕ, List, ◌∷◌, length, All}
+use Rattle.std.specs.Prelude.{◌≡◌, ℕ, ◌∷◌, length, All}
 use Rattle.std.specs.List.{flat_map}
 use Rattle.syn_model.specs.Path.{Bytes, Name, Path, IsName}
 

@@ -1,5 +1,5 @@
 -- What it is to read a value from the front of bytes.
-use Rattle.std.specs.Prelude.{◌≡◌, ℕ, ◌<◌, ◌^◌, List, ◌++◌, Option, Some, None}
+use Rattle.std.specs.Prelude.{◌≡◌, ℕ, List, ◌++◌, Option, Some, None}
 
 -- the bytes begin with the spelling of a lawful value, and the rest follows it
 pub record BeginsWith {V : Type 0} (IsLawful : V → Type 0) (spelling : V → List ℕ) (bytes : List ℕ) (value : V) (rest : List ℕ) : Type 0 where

@@ -3,13 +3,16 @@
 //! All numbers are big-endian. Each value has one spelling, and no spelling of a value begins another.
 #![tactic(auto)]
 
-ghost use Rattle.syn_wire.specs.Laws.{NoU16BeginsAnother, NoU32BeginsAnother, NoU64BeginsAnother, NoPathBeginsAnother};
+ghost use Rattle.syn_wire.specs.Laws.{NoU16BeginsAnother, NoU32BeginsAnother, NoU64BeginsAnother, NoPathBeginsAnother, NoEventBeginsAnother};
 
+mod bytes;
 mod error;
+mod event;
 mod number;
 mod path;
 
 pub use error::WireError;
+pub use event::{decode_event, encode_event};
 pub use number::{read_u16, read_u32, read_u64};
 pub use path::{decode_path, encode_path, write_path};
 
@@ -19,7 +22,10 @@ pub fn spelling_laws()
     ensures u32 { NoU32BeginsAnother }
     ensures u64 { NoU64BeginsAnother }
     ensures path { NoPathBeginsAnother }
-{}
+    ensures event { NoEventBeginsAnother }
+{
+    syn_model::spelling_laws();
+}
 
 #[cfg(test)]
 mod tests;

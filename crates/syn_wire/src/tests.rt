@@ -1,5 +1,12 @@
-use crate::{WireError, decode_path, encode_path, read_u16, read_u32, read_u64};
+ghost use Rattle.syn_history.specs.Events.{event_of};
+ghost use Rattle.syn_wire.specs.Events.{IsShort};
+
+use crate::{
+    WireError, decode_event, decode_path, encode_event, encode_path, read_u16, read_u32, read_u64,
+};
+use std::alloc::Global;
 use std::test::Fail;
+use syn_history::Event;
 use syn_path::Path;
 
 #[test]
@@ -49,4 +56,77 @@ fn numbers_are_big_endian(rt: HostRuntime) {
     assert_eq!(rt; read_u16(&bytes[7..]) == Some((515, &[])), true);
     assert_eq!(rt; read_u16(&bytes[8..]).is_none(), true);
     assert_eq!(rt; WireError::Memory.number(), 11);
+}
+
+fn is_same(one: &Event, other: &Event) -> bool {
+    match (one, other) {
+        (
+            Event::Put { user, path, bytes },
+            Event::Put {
+                user: u,
+                path: p,
+                bytes: b,
+            },
+        ) => user == u && path == p && bytes == b,
+        (Event::MakeDir { user, path }, Event::MakeDir { user: u, path: p })
+        | (Event::Remove { user, path }, Event::Remove { user: u, path: p }) => {
+            user == u && path == p
+        }
+        (Event::Began { session }, Event::Began { session: n }) => session == n,
+        _ => false,
+    }
+}
+
+// The event is spelled so, and is read from it again with what follows it.
+fn is_spelled(alloc: Global, event: &Event, wanted: &[u8]) -> Result<bool, Fail>
+    requires { IsShort (event_of event.now) }
+{
+    let mut bytes = encode_event(alloc, event)?;
+    if bytes.as_slice() != wanted {
+        return Ok(false);
+    }
+    bytes.push(7)?;
+    let Some((read, rest)) = decode_event(alloc, &bytes)? else {
+        return Ok(false);
+    };
+    Ok(is_same(&read, event) && rest == [7].as_slice())
+}
+
+#[test]
+fn events_are_kinds_with_what_they_have(rt: HostRuntime) -> Result<(), Fail> {
+    let alloc = rt.alloc();
+    let put = Event::Put {
+        user: 1,
+        path: Path::parse(alloc, "a")?,
+        bytes: vec![in alloc; 104, 105]?,
+    };
+    let spelling: &[u8] = &[1, 0, 0, 0, 1, 1, 1, 97, 0, 0, 0, 2, 104, 105];
+    assert!(rt; is_spelled(alloc, &put, spelling)?);
+    let made = Event::MakeDir {
+        user: 1,
+        path: Path::parse(alloc, "d")?,
+    };
+    assert!(rt; is_spelled(alloc, &made, &[2, 0, 0, 0, 1, 1, 1, 100])?);
+    let removed = Event::Remove {
+        user: 258,
+        path: Path::parse(alloc, ".")?,
+    };
+    assert!(rt; is_spelled(alloc, &removed, &[3, 0, 0, 1, 2, 0])?);
+    let began = Event::Began { session: 9 };
+    assert!(rt; is_spelled(alloc, &began, &[4, 0, 0, 0, 0, 0, 0, 0, 9])?);
+    Ok(())
+}
+
+#[test]
+fn some_bytes_begin_with_no_event(rt: HostRuntime) -> Result<(), Fail> {
+    let alloc = rt.alloc();
+    let kind: &[u8] = &[6, 0, 0, 0, 1, 0];
+    let user: &[u8] = &[2, 0, 0, 0];
+    let path: &[u8] = &[3, 0, 0, 0, 1, 1, 2, 46, 46];
+    let file: &[u8] = &[1, 0, 0, 0, 1, 1, 1, 97, 0, 0, 0, 2, 104];
+    let session: &[u8] = &[4, 0, 0, 0, 0, 0, 0, 0];
+    for bytes in [kind, user, path, file, session, &[]] {
+        assert_eq!(rt; decode_event(alloc, bytes)?.is_none(), true);
+    }
+    Ok(())
 }

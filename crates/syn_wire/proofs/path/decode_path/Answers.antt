@@ -1,4 +1,4 @@
-use Rattle.std.proofs.Common.{◌≡◌, ◌∷◌, ◌-◌, sym, subst, option_map, slice_index_or, take, drop, length}
+use Rattle.std.proofs.Common.{◌-◌, subst, option_map, slice_index_or, take, drop, length}
 use Rattle.syn_model.specs.Path.{IsPath, path_spelling}
 use Rattle.syn_wire.specs.Reads.{IsReading, BeginsWith}
 use Rattle.syn_wire.specs.Names.{AreNames, names_spelling}

@@ -1,4 +1,4 @@
-use Rattle.std.proofs.Common.{◌≡◌, ◌∷◌, ◌++◌, [], ap, sym, ◌∙◌, subst, option_map}
+use Rattle.std.proofs.Common.{◌++◌, ap, sym, ◌∙◌, subst, option_map}
 use Rattle.syn_model.specs.Path.{IsName}
 use Rattle.syn_wire.specs.Reads.{IsReading}
 use Rattle.syn_wire.specs.Names.{AreNames, name_spelling, names_spelling}

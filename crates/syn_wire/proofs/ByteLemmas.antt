@@ -1,0 +1,33 @@
+-- Bytes in parts.
+use Rattle.std.proofs.Common.{◌≡◌, ◌<◌, ℕ, [], ◌∷◌, ◌++◌, length, take, drop, sym, ap, ap₂, ◌∙◌, subst, append_assoc, slice_index_or, Fits, w8, arith}
+use Rattle.std.specs.Int.{to_be_bytes, w32}
+use Rattle.std.proofs.lemmas.List.{get_or_default, take-append-drop}
+use Rattle.std.proofs.lemmas.List.Elements.{All-head, All-tail, All-cons, All-nil}
+use Rattle.syn_model.specs.Path.{Bytes}
+use Rattle.syn_model.specs.Event.{AreBytes}
+use Rattle.syn_wire.specs.Events.{file_spelling}
+
+abbrev IsByte : ℕ → Type 0
+IsByte byte = byte < 256
+
+byte_fits : (n : ℕ) → Fits w8 n → n < 256
+byte_fits n h = omega (arith, h)
+
+-- what a slice of bytes has
+pub of_slice : (xs : Bytes) → ((i : ℕ) → Fits w8 (slice_index_or xs i 0)) → AreBytes xs
+of_slice xs fit k d l = subst (λ v. v < 256) (get_or_default xs k 0 d l) (byte_fits (slice_index_or xs k 0) (fit k))
+
+pub in_front : (xs ys : Bytes) → AreBytes (xs ++ ys) → AreBytes xs
+in_front [] ys h = All-nil IsByte
+in_front (x ∷ xs) ys h = All-cons IsByte x xs (All-head IsByte x (xs ++ ys) h) (in_front xs ys (All-tail IsByte x (xs ++ ys) h))
+
+pub behind : (xs ys : Bytes) → AreBytes (xs ++ ys) → AreBytes ys
+behind [] ys h = h
+behind (x ∷ xs) ys h = behind xs ys (All-tail IsByte x (xs ++ ys) h)
+
+-- a count with so many bytes behind it is the spelling of a file, and the rest follows
+pub file_spelled : (bytes after file rest : Bytes) (count : ℕ) → bytes ≡ to_be_bytes w32 count ++ after → file ≡ take count after → rest ≡ drop count after → length file ≡ count → bytes ≡ file_spelling file ++ rest
+file_spelled bytes after file rest count spelled front back counted =
+    spelled
+    ∙ (ap (λ xs. to_be_bytes w32 count ++ xs) (sym (take-append-drop count after) ∙ ap₂ (λ xs ys. xs ++ ys) (sym front) (sym back))
+    ∙ (sym (append_assoc (to_be_bytes w32 count) file rest) ∙ ap (λ n. (to_be_bytes w32 n ++ file) ++ rest) (sym counted)))

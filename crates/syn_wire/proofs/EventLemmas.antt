@@ -1,0 +1,145 @@
+-- The spelling of an event tells it.
+use Rattle.std.proofs.Common.{◌≡◌, ◌≢◌, ◌<◌, ◌^◌, ℕ, true, ◌∷◌, ◌++◌, length, sym, ap, ◌∙◌, None, append_assoc, arith}
+use Rattle.std.specs.Int.{to_be_bytes, w32, w64}
+use Rattle.syn_model.specs.Path.{Bytes, Path, IsPath, path_spelling}
+use Rattle.syn_model.specs.Tree.{Tree, IsPart}
+use Rattle.syn_model.specs.Limits.{fits_part}
+use Rattle.syn_model.specs.Event.{Token, Edited, Began, Replaced, Put, MakeDir, Remove, IsLawfulToken}
+use Rattle.syn_model.specs.Spelling.{spelling, token_spelling, event_spelling}
+use Rattle.syn_model.specs.Laws.{NoSpellingBeginsAnother}
+use Rattle.syn_wire.specs.Reads.{IsReading, NoneBeginsAnother}
+use Rattle.syn_wire.specs.Events.{Both, IsFile, IsNumber32, IsPlainEvent, both_spelling, file_spelling, number_spelling}
+use Rattle.syn_wire.specs.Laws.{NoEventBeginsAnother}
+use Rattle.syn_wire.proofs.NameLemmas.{split, paths_tell, first_or, rest_of}
+use Rattle.syn_wire.proofs.NumberLemmas.{u32_tells, u64_tells}
+use Rattle.syn_wire.proofs.Sequences.{both_tell}
+
+-- ---- parts
+
+pub file_tells : NoneBeginsAnother IsFile file_spelling
+file_tells v w r s hv hw e =
+    let count = u32_tells (length v) (length w) (v ++ r) (w ++ s) hv.brief hw.brief (sym (append_assoc (to_be_bytes w32 (length v)) v r) ∙ (e ∙ append_assoc (to_be_bytes w32 (length w)) w s)) in
+    split v w r s count.0 count.1
+
+abbrev pub IsNumber64 : ℕ → Type 0
+IsNumber64 n = n < 2 ^ 64
+
+abbrev pub number64_spelling : ℕ → Bytes
+number64_spelling n = to_be_bytes w64 n
+
+abbrev pub IsPlace : ℕ × Path → Type 0
+IsPlace = Both IsNumber32 IsPath
+
+abbrev pub place_spelling : ℕ × Path → Bytes
+place_spelling = both_spelling number_spelling path_spelling
+
+abbrev pub IsPutOf : (ℕ × Path) × Bytes → Type 0
+IsPutOf = Both IsPlace IsFile
+
+abbrev pub put_spelling : (ℕ × Path) × Bytes → Bytes
+put_spelling = both_spelling place_spelling file_spelling
+
+pub place_tells : NoneBeginsAnother IsPlace place_spelling
+place_tells = both_tell IsNumber32 IsPath number_spelling path_spelling u32_tells paths_tell
+
+put_tells : NoneBeginsAnother IsPutOf put_spelling
+put_tells = both_tell IsPlace IsFile place_spelling file_spelling place_tells file_tells
+
+token_tells : NoneBeginsAnother IsLawfulToken token_spelling
+token_tells v w r s hv hw e =
+    let both = both_tell IsNumber64 IsNumber32 number64_spelling number_spelling u64_tells u32_tells (v.session, v.item) (w.session, w.item) r s hv hw e in
+    (ap (λ p. record { session = p.0; item = p.1 }) both.0, both.1)
+
+abbrev IsBounded : Tree → Type 0
+IsBounded tree = IsPart tree × (fits_part tree ≡ true)
+
+abbrev IsRest : ℕ × Tree → Type 0
+IsRest = Both IsNumber64 IsBounded
+
+abbrev IsReplacement : Token × (Path × (ℕ × Tree)) → Type 0
+IsReplacement = Both IsLawfulToken (Both IsPath IsRest)
+
+abbrev replacement_spelling : Token × (Path × (ℕ × Tree)) → Bytes
+replacement_spelling = both_spelling token_spelling (both_spelling path_spelling (both_spelling number64_spelling spelling))
+
+replacement_tells : NoSpellingBeginsAnother → NoneBeginsAnother IsReplacement replacement_spelling
+replacement_tells trees =
+    both_tell IsLawfulToken (Both IsPath IsRest) token_spelling (both_spelling path_spelling (both_spelling number64_spelling spelling)) token_tells
+    (both_tell IsPath IsRest path_spelling (both_spelling number64_spelling spelling) paths_tell
+    (both_tell IsNumber64 IsBounded number64_spelling spelling u64_tells (λ t u r s ht hu e. trees t u r s ht.0 hu.0 ht.1 hu.1 e)))
+
+-- ---- kinds
+
+other_kind : {X : Type 0} (a b : ℕ) (x y : Bytes) → a ≢ b → a ∷ x ≡ b ∷ y → X
+other_kind a b x y differ e = absurd (differ (ap (λ z. first_or z 0) e))
+
+-- the parts of a put in a row
+pub put_parts : (user : ℕ) (path : Path) (bytes rest : Bytes) → event_spelling (Edited user (Put path bytes)) ++ rest ≡ 1 ∷ (put_spelling ((user, path), bytes) ++ rest)
+put_parts user path bytes rest = ap (λ xs. 1 ∷ (xs ++ rest)) (sym (append_assoc (number_spelling user) (path_spelling path) (file_spelling bytes)))
+
+pub event_tells : NoSpellingBeginsAnother → NoEventBeginsAnother
+event_tells trees (Edited u (Put p b)) (Edited v (Put q c)) r s hv hw e =
+    let same = put_tells ((u, p), b) ((v, q), c) r s
+    ((hv.0.0, hv.0.1.0), record { bytes = hv.0.1.1; brief = hv.1 }) ((hw.0.0, hw.0.1.0), record { bytes = hw.0.1.1; brief = hw.1 })
+    (ap rest_of (sym (put_parts u p b r) ∙ (e ∙ put_parts v q c s))) in
+    (ap (λ x. Edited x.0.0 (Put x.0.1 x.1)) same.0, same.1)
+event_tells trees (Edited a (Put b c)) (Edited w (MakeDir x)) r s hv hw e = other_kind 1 2 _ _ (λ same. omega (arith, same)) e
+event_tells trees (Edited a (Put b c)) (Edited w (Remove x)) r s hv hw e = other_kind 1 3 _ _ (λ same. omega (arith, same)) e
+event_tells trees (Edited a (Put b c)) (Began w) r s hv hw e = other_kind 1 4 _ _ (λ same. omega (arith, same)) e
+event_tells trees (Edited a (Put b c)) (Replaced w x y z) r s hv hw e = other_kind 1 5 _ _ (λ same. omega (arith, same)) e
+event_tells trees (Edited a (MakeDir b)) (Edited w (Put x y)) r s hv hw e = other_kind 2 1 _ _ (λ same. omega (arith, same)) e
+event_tells trees (Edited u (MakeDir p)) (Edited v (MakeDir q)) r s hv hw e =
+    let same = place_tells (u, p) (v, q) r s hv.0 hw.0 (ap rest_of e) in
+    (ap (λ x. Edited x.0 (MakeDir x.1)) same.0, same.1)
+event_tells trees (Edited a (MakeDir b)) (Edited w (Remove x)) r s hv hw e = other_kind 2 3 _ _ (λ same. omega (arith, same)) e
+event_tells trees (Edited a (MakeDir b)) (Began w) r s hv hw e = other_kind 2 4 _ _ (λ same. omega (arith, same)) e
+event_tells trees (Edited a (MakeDir b)) (Replaced w x y z) r s hv hw e = other_kind 2 5 _ _ (λ same. omega (arith, same)) e
+event_tells trees (Edited a (Remove b)) (Edited w (Put x y)) r s hv hw e = other_kind 3 1 _ _ (λ same. omega (arith, same)) e
+event_tells trees (Edited a (Remove b)) (Edited w (MakeDir x)) r s hv hw e = other_kind 3 2 _ _ (λ same. omega (arith, same)) e
+event_tells trees (Edited u (Remove p)) (Edited v (Remove q)) r s hv hw e =
+    let same = place_tells (u, p) (v, q) r s hv.0 hw.0 (ap rest_of e) in
+    (ap (λ x. Edited x.0 (Remove x.1)) same.0, same.1)
+event_tells trees (Edited a (Remove b)) (Began w) r s hv hw e = other_kind 3 4 _ _ (λ same. omega (arith, same)) e
+event_tells trees (Edited a (Remove b)) (Replaced w x y z) r s hv hw e = other_kind 3 5 _ _ (λ same. omega (arith, same)) e
+event_tells trees (Began a) (Edited w (Put x y)) r s hv hw e = other_kind 4 1 _ _ (λ same. omega (arith, same)) e
+event_tells trees (Began a) (Edited w (MakeDir x)) r s hv hw e = other_kind 4 2 _ _ (λ same. omega (arith, same)) e
+event_tells trees (Began a) (Edited w (Remove x)) r s hv hw e = other_kind 4 3 _ _ (λ same. omega (arith, same)) e
+event_tells trees (Began m) (Began n) r s hv hw e =
+    let same = u64_tells m n r s hv.0 hw.0 (ap rest_of e) in
+    (ap (λ x. Began x) same.0, same.1)
+event_tells trees (Began a) (Replaced w x y z) r s hv hw e = other_kind 4 5 _ _ (λ same. omega (arith, same)) e
+event_tells trees (Replaced a b c d) (Edited w (Put x y)) r s hv hw e = other_kind 5 1 _ _ (λ same. omega (arith, same)) e
+event_tells trees (Replaced a b c d) (Edited w (MakeDir x)) r s hv hw e = other_kind 5 2 _ _ (λ same. omega (arith, same)) e
+event_tells trees (Replaced a b c d) (Edited w (Remove x)) r s hv hw e = other_kind 5 3 _ _ (λ same. omega (arith, same)) e
+event_tells trees (Replaced a b c d) (Began w) r s hv hw e = other_kind 5 4 _ _ (λ same. omega (arith, same)) e
+event_tells trees (Replaced t p k new) (Replaced u q l old) r s hv hw e =
+    let same = replacement_tells trees (t, (p, (k, new))) (u, (q, (l, old))) r s
+    (hv.0.0, (hv.0.1, (hv.0.2, (hv.0.3, hv.1)))) (hw.0.0, (hw.0.1, (hw.0.2, (hw.0.3, hw.1)))) (ap rest_of e) in
+    (ap (λ x. Replaced x.0 x.1.0 x.1.1.0 x.1.1.1) same.0, same.1)
+
+-- ---- what is read behind a kind
+
+pub put_none : (fields : Bytes) → IsReading IsPutOf put_spelling fields None → IsReading IsPlainEvent event_spelling (1 ∷ fields) None
+put_none fields none (Edited user (Put path bytes)) rest begins =
+    none ((user, path), bytes) rest (record {
+      lawful = ((begins.lawful.0.0.0, begins.lawful.0.0.1.0), record { bytes = begins.lawful.0.0.1.1; brief = begins.lawful.0.1 });
+      spelled = ap rest_of (begins.spelled ∙ put_parts user path bytes rest);
+    })
+put_none fields none (Edited w (MakeDir x)) rest begins = other_kind 1 2 _ _ (λ same. omega (arith, same)) begins.spelled
+put_none fields none (Edited w (Remove x)) rest begins = other_kind 1 3 _ _ (λ same. omega (arith, same)) begins.spelled
+put_none fields none (Began w) rest begins = other_kind 1 4 _ _ (λ same. omega (arith, same)) begins.spelled
+put_none fields none (Replaced t p k new) rest begins = begins.lawful.1
+
+pub make_dir_none : (fields : Bytes) → IsReading IsPlace place_spelling fields None → IsReading IsPlainEvent event_spelling (2 ∷ fields) None
+make_dir_none fields none (Edited user (MakeDir path)) rest begins = none (user, path) rest (record { lawful = begins.lawful.0.0; spelled = ap rest_of begins.spelled })
+make_dir_none fields none (Edited w (Put x y)) rest begins = other_kind 2 1 _ _ (λ same. omega (arith, same)) begins.spelled
+make_dir_none fields none (Edited w (Remove x)) rest begins = other_kind 2 3 _ _ (λ same. omega (arith, same)) begins.spelled
+make_dir_none fields none (Began w) rest begins = other_kind 2 4 _ _ (λ same. omega (arith, same)) begins.spelled
+make_dir_none fields none (Replaced t p k new) rest begins = begins.lawful.1
+
+pub remove_none : (fields : Bytes) → IsReading IsPlace place_spelling fields None → IsReading IsPlainEvent event_spelling (3 ∷ fields) None
+remove_none fields none (Edited user (Remove path)) rest begins = none (user, path) rest (record { lawful = begins.lawful.0.0; spelled = ap rest_of begins.spelled })
+remove_none fields none (Edited w (Put x y)) rest begins = other_kind 3 1 _ _ (λ same. omega (arith, same)) begins.spelled
+remove_none fields none (Edited w (MakeDir x)) rest begins = other_kind 3 2 _ _ (λ same. omega (arith, same)) begins.spelled
+remove_none fields none (Began w) rest begins = other_kind 3 4 _ _ (λ same. omega (arith, same)) begins.spelled
+remove_none fields none (Replaced t p k new) rest begins = begins.lawful.1

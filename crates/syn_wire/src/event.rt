@@ -1,0 +1,149 @@
+//! Events.
+ghost use Rattle.std.specs.Prelude.{◌≡◌, ◌++◌, ◌∷◌, IfOk, OnOk, option_map};
+ghost use Rattle.syn_model.specs.Path.{IsPath, path_spelling};
+ghost use Rattle.syn_model.specs.Spelling.{event_spelling};
+ghost use Rattle.syn_history.specs.Events.{event_of};
+ghost use Rattle.syn_wire.specs.Events.{Both, IsFile, IsNumber32, IsPlainEvent, IsShort, both_spelling, file_spelling, number_spelling};
+ghost use Rattle.syn_wire.specs.Reads.{IsReading};
+
+use crate::bytes::{read_file, write_file};
+use crate::error::WireError;
+use crate::number::{read_u32, read_u64};
+use crate::path::{decode_path, write_path};
+use crate::spelling_laws;
+use std::alloc::Global;
+use syn_history::Event;
+use syn_path::Path;
+
+const PUT: u8 = 1;
+
+const MAKE_DIR: u8 = 2;
+
+const REMOVE: u8 = 3;
+
+const BEGAN: u8 = 4;
+
+/// The spelling of the event: its kind, and what it has.
+///
+/// Refused 11 where memory is refused.
+pub fn encode_event(alloc: Global, event: &Event) -> Result<Vec<u8>, WireError>
+    requires { IsShort (event_of event.now) }
+    ensures { IfOk result (λ bytes. bytes.items ≡ event_spelling (event_of event.now)) }
+{
+    let mut out = Vec::new(alloc);
+    match event {
+        Event::Put { user, path, bytes } => {
+            out.push(PUT)?;
+            write_place(&mut out, *user, path)?;
+            write_file(&mut out, bytes)?;
+        }
+        Event::MakeDir { user, path } => {
+            out.push(MAKE_DIR)?;
+            write_place(&mut out, *user, path)?;
+        }
+        Event::Remove { user, path } => {
+            out.push(REMOVE)?;
+            write_place(&mut out, *user, path)?;
+        }
+        Event::Began { session } => {
+            out.push(BEGAN)?;
+            out.extend_from_slice(&session.to_be_bytes())?;
+        }
+    }
+    Ok(out)
+}
+
+/// The event that the bytes begin with, and the rest; none where no front of them is the spelling of an event, or where
+/// it is that of a replacement, which is not read yet.
+///
+/// Refused 11 where memory is refused.
+pub fn decode_event(alloc: Global, bytes: &[u8]) -> Result<Option<(Event, &[u8])>, WireError>
+    ensures { IfOk result (λ read. IsReading IsPlainEvent event_spelling bytes.now (option_map (λ found. (event_of found.0, found.1.now)) read)) }
+{
+    let [kind, fields @ ..] = bytes else {
+        return Ok(None);
+    };
+    match *kind {
+        PUT => read_put(alloc, fields),
+        MAKE_DIR => read_make_dir(alloc, fields),
+        REMOVE => read_remove(alloc, fields),
+        BEGAN => Ok(read_began(fields)),
+        _ => Ok(None),
+    }
+}
+
+// What follows the kind of a put.
+fn read_put(alloc: Global, fields: &[u8]) -> Result<Option<(Event, &[u8])>, WireError>
+    ensures { IfOk result (λ read. IsReading IsPlainEvent event_spelling (PUT ∷ fields.now) (option_map (λ found. (event_of found.0, found.1.now)) read)) }
+{
+    match read_placed_file(alloc, fields)? {
+        Some((user, path, bytes, rest)) => Ok(Some((Event::Put { user, path, bytes }, rest))),
+        None => Ok(None),
+    }
+}
+
+fn read_make_dir(alloc: Global, fields: &[u8]) -> Result<Option<(Event, &[u8])>, WireError>
+    ensures { IfOk result (λ read. IsReading IsPlainEvent event_spelling (MAKE_DIR ∷ fields.now) (option_map (λ found. (event_of found.0, found.1.now)) read)) }
+{
+    match read_place(alloc, fields)? {
+        Some((user, path, rest)) => Ok(Some((Event::MakeDir { user, path }, rest))),
+        None => Ok(None),
+    }
+}
+
+fn read_remove(alloc: Global, fields: &[u8]) -> Result<Option<(Event, &[u8])>, WireError>
+    ensures { IfOk result (λ read. IsReading IsPlainEvent event_spelling (REMOVE ∷ fields.now) (option_map (λ found. (event_of found.0, found.1.now)) read)) }
+{
+    match read_place(alloc, fields)? {
+        Some((user, path, rest)) => Ok(Some((Event::Remove { user, path }, rest))),
+        None => Ok(None),
+    }
+}
+
+fn read_began(fields: &[u8]) -> Option<(Event, &[u8])>
+    ensures { IsReading IsPlainEvent event_spelling (BEGAN ∷ fields.now) (option_map (λ found. (event_of found.0, found.1.now)) result) }
+{
+    let (session, rest) = read_u64(fields)?;
+    Some((Event::Began { session }, rest))
+}
+
+// A user and a path.
+fn read_place(alloc: Global, bytes: &[u8]) -> Result<Option<(u32, Path, &[u8])>, WireError>
+    ensures { IfOk result (λ read. IsReading (Both IsNumber32 IsPath) (both_spelling number_spelling path_spelling) bytes.now
+        (option_map (λ found. ((found.0, found.1), found.2.now)) read)) }
+{
+    spelling_laws();
+    let Some((user, after)) = read_u32(bytes) else {
+        return Ok(None);
+    };
+    match decode_path(alloc, after)? {
+        Some((path, rest)) => Ok(Some((user, path, rest))),
+        None => Ok(None),
+    }
+}
+
+// A user, a path and the bytes of a file.
+fn read_placed_file(
+    alloc: Global,
+    bytes: &[u8],
+) -> Result<Option<(u32, Path, Vec<u8>, &[u8])>, WireError>
+    ensures { IfOk result (λ read. IsReading (Both (Both IsNumber32 IsPath) IsFile) (both_spelling (both_spelling number_spelling path_spelling) file_spelling) bytes.now
+        (option_map (λ found. (((found.0, found.1), found.2.items), found.3.now)) read)) }
+{
+    spelling_laws();
+    let Some((user, path, after)) = read_place(alloc, bytes)? else {
+        return Ok(None);
+    };
+    match read_file(alloc, after)? {
+        Some((file, rest)) => Ok(Some((user, path, file, rest))),
+        None => Ok(None),
+    }
+}
+
+// Adds a user and a path.
+fn write_place(out: &mut Vec<u8>, user: u32, path: &Path) -> Result<(), WireError>
+    ensures { OnOk result (out.new.items ≡ out.old.items ++ both_spelling number_spelling path_spelling (user, path.now)) }
+{
+    out.extend_from_slice(&user.to_be_bytes())?;
+    write_path(out, path)
+}
