@@ -10,7 +10,7 @@ use Rattle.syn_headline.specs.Acknowledged.{Grown, ArchiveGrown, stores_after}
 use Rattle.syn_headline.specs.Headline.{stores_of, RunsHoldArchive, RunsLeavePair}
 use Rattle.syn_headline.specs.Invariant.{Plans, Histories, IsSoundEvent, histories_of, IsHeld, IsHeldRecord, IsHarmless}
 use Rattle.syn_headline.proofs.SoundLemmas.{Extends, fold_one, held-grow, kept_held, kept_is_tree, kept_session}
-use Rattle.syn_headline.proofs.RunLemmas.{no_plans, start_kept, start_stands, run_kept}
+use Rattle.syn_headline.proofs.WholeRuns.{no_plans, start_kept, start_stands, run_kept}
 use Rattle.syn_headline.specs.World.{Up, side_of}
 use Rattle.syn_headline.proofs.StepLemmas.{if_some}
 use Rattle.syn_model.proofs.HistoryLemmas.{allowed_goes_on}

@@ -12,5 +12,6 @@ pub mod MoveLemmas
 pub mod StepLemmas
 pub mod TokenLemmas
 pub mod RunLemmas
+pub mod WholeRuns
 pub mod ArchiveLemmas
 pub mod RepeatLemmas

@@ -1,4 +1,4 @@
--- Each step of a run keeps the invariant, and each replacement is legal.
+-- Each step of a run keeps the invariant, and its replacements are legal.
 use Rattle.std.proofs.Common.{◌≡◌, ◌≤◌, ◌+◌, ℕ, Bool, List, [], ◌∷◌, ◌++◌, refl, sym, ap, ap₂, ◌∙◌, subst, Option, Some, None, append-nil, arith, inl, inr, ◌⊎◌, slice_get, ◌≢◌, map}
 use Rattle.std.specs.Prelude.{Contains, IfSome, IsSomeAnd}
 use Rattle.std.proofs.lemmas.List.{append_cancel_left}
@@ -8,24 +8,20 @@ use Rattle.syn_model.specs.Path.{Path}
 use Rattle.syn_model.specs.Tree.{Tree}
 use Rattle.syn_model.specs.Refusal.{Refusal, Device}
 use Rattle.syn_model.specs.Event.{Token, Edit, Event, Edited, Began, Replaced}
-use Rattle.syn_model.specs.History.{History, IsHistory, IsAllowed, last_session}
-use Rattle.syn_model.specs.Archive.{Kept, Session, CanKeep, after_kept, Held}
+use Rattle.syn_model.specs.History.{History, IsAllowed}
+use Rattle.syn_model.specs.Archive.{Kept, Session, CanKeep, after_kept}
 use Rattle.syn_headline.specs.Side.{Side, Served, Request, Begin, ListAt, Fetch, Stage, Replace, Reply, Refused, IsLawfulRequest}
 use Rattle.syn_headline.specs.Network.{Which, Left, Right, other, Sent, Message, Asks, Answers}
 use Rattle.syn_headline.specs.Planning.{Planned}
-use Rattle.syn_headline.specs.Acknowledged.{Ack, Happened, Kept_by, Stores, stores_after, history_of, IsLegal}
-use Rattle.syn_headline.specs.World.{Status, Up, Halted, Down, Machine, At, Coordinator, World, SideMachine, CoordinatorMachine, Running, Outstanding, outstanding, side_of, set_side, stopped, Step, Edits, Start, Deliver, Tick, Checkpoint, Fail, Stop, Open, Reopen, Writes, written, failed, cut, DoesEdit, edit_refused, edit_written, Opens, opened, recovered, not_opened, not_reopened, OpensArchive, archive_opened, archive_recovered, archive_not_opened, archive_not_reopened, ServesAs, serve_halted, WouldAdd, TakesRequest, answered, request_failed, request_cut, side_down, IsDueAfter, IsOver, IsExpected, HasPlan, GoesOnAs, ended, goes_on, GoesOnFrom, plan_of, StartsFrom, Waits, RunsOver, IsNext, IsNothing, CoordinatorGoes, TakesAnswer, taken, ignored, coordinator_down, Delivers, OpensMachine, cut_off, halted, Steps, Runs}
-use Rattle.syn_headline.specs.Headline.{stores_of, IsStart, EachReplacementIsLegal, StandsFor, RunsReplaceLegally, RunsUseTokensOnce, RunsOwe}
+use Rattle.syn_headline.specs.Acknowledged.{Ack, Happened, Kept_by, history_of, IsLegal}
+use Rattle.syn_headline.specs.World.{Status, Up, Halted, Down, Machine, At, Coordinator, World, SideMachine, CoordinatorMachine, Running, Outstanding, outstanding, side_of, set_side, stopped, Step, Edits, Start, Deliver, Tick, Checkpoint, Fail, Stop, Open, Reopen, Writes, written, failed, cut, DoesEdit, edit_refused, edit_written, Opens, opened, recovered, not_opened, not_reopened, OpensArchive, archive_opened, archive_recovered, archive_not_opened, archive_not_reopened, ServesAs, serve_halted, WouldAdd, TakesRequest, answered, request_failed, request_cut, side_down, IsDueAfter, IsOver, IsExpected, HasPlan, GoesOnAs, ended, goes_on, GoesOnFrom, plan_of, StartsFrom, RunsOver, IsNext, IsNothing, CoordinatorGoes, TakesAnswer, taken, ignored, coordinator_down, Delivers, OpensMachine, cut_off, halted, Steps}
+use Rattle.syn_headline.specs.Headline.{stores_of}
 use Rattle.syn_headline.specs.Invariant.{Plans, Histories, histories_of, IsSound, IsTrue, IsFresh, IsHarmless, IsSoundStaging, IsSoundEvent, IsSoundSide, IsSoundCoordinator, IsKept}
-use Rattle.syn_model.proofs.PathLemmas.{none_some}
-use Rattle.syn_headline.proofs.PlanLemmas.{answered-more}
 use Rattle.syn_headline.proofs.SoundLemmas.{set_plan, set_plan-grows, set_plan-here, sound-plan, sound-keep, kept_session}
 use Rattle.syn_headline.proofs.OutcomeLemmas.{Outcome, refuses, stages_first, stages_more, stages_again, any_outcome, outcome, halted_outcome}
 use Rattle.syn_headline.proofs.MoveLemmas.{on_both, refused_borne, outcome_moves, outcome_true, outcome_borne, outcome_staging, legal}
 use Rattle.syn_headline.proofs.HarmlessLemmas.{due_harmless}
 use Rattle.syn_headline.proofs.StepLemmas.{if_some, Says, nothing, reply, SideStep, side_keeps, coordinator_keeps, next_fresh, sides-later, sides-plan}
-use Rattle.syn_headline.proofs.TokenLemmas.{token_once}
-use Rattle.syn_headline.proofs.WorldLemmas.{step_stands}
 
 -- each acknowledged replacement of a step is the first of its events, and legal
 abbrev pub IsLegalStep : World → List Ack → Type 0
@@ -41,7 +37,7 @@ pub record Advances (old new : World) : Type 0 where
   pub acknowledges : new.acknowledged ≡ old.acknowledged ++ acks
   pub legal_step : IsLegalStep old acks
 
-not_nothing : (earlier later : List Ack) (a : Ack) → [] ≡ earlier ++ a ∷ later → ⊥
+pub not_nothing : (earlier later : List Ack) (a : Ack) → [] ≡ earlier ++ a ∷ later → ⊥
 not_nothing [] later a e = cc
 not_nothing (b ∷ earlier) later a e = cc
 
@@ -286,7 +282,7 @@ coordinator_advances plans old D R new g k = record {
   legal_step = kept_legal old g.kept;
 }
 
-abbrev HasItsPlan : Plans → Histories → Option Running → Type 0
+abbrev pub HasItsPlan : Plans → Histories → Option Running → Type 0
 HasItsPlan plans histories o = IfSome o (λ running. (plans running.session ≡ running.plan) × (running.plan ≡ [] → IsFresh histories running.session))
 
 runs_has : (plans : Plans) (histories : Histories) (r : Running) (plan : List Planned) → plans r.session ≡ plan → (plan ≡ [] → IsFresh histories r.session) → (o : Option Running) → GoesOnAs r plan o → HasItsPlan plans histories o
@@ -446,124 +442,3 @@ module _ (plans : Plans) (old : World) (k : IsKept plans old) (new : World) wher
   step_advances (Reopen machine) (inl e) = stays plans old new k e
   step_advances (Reopen machine) (inr (up, inl g)) = opens_machine machine g
   step_advances (Reopen machine) (inr (up, inr e)) = cut_advances machine e
-
--- Whole runs
-
-legal-more : (sent more : Sent) (side : Which) (stores : Stores) (token : Token) (path : Path) (since : ℕ) (u : Tree) → IsLegal sent side stores token path since u → IsLegal (sent ++ more) side stores token path since u
-legal-more sent more side stores token path since u h = record {
-  listed = (h.listed.0, answered-more sent more _ _ _ _ h.listed.1);
-  reached = h.reached;
-  untouched = h.untouched;
-  recorded = h.recorded;
-  source = record {
-    listed = h.source.listed;
-    was_listed = (h.source.was_listed.0, answered-more sent more _ _ _ _ h.source.was_listed.1);
-    position = h.source.position;
-    not_before = h.source.not_before;
-    reached = h.source.reached;
-    held = h.source.held;
-  };
-}
-
-split_at : (xs ys earlier : List Ack) (x : Ack) (later : List Ack) → xs ++ ys ≡ earlier ++ x ∷ later →
-    ((rest : List Ack) × (xs ≡ earlier ++ x ∷ rest)) ⊎ ((rest : List Ack) × (earlier ≡ xs ++ rest) × (ys ≡ rest ++ x ∷ later))
-split_at [] ys earlier x later e = inr (earlier, refl, e)
-split_at (a ∷ xs) ys [] x later e = let h : a ≡ x = cc in inl (xs, ap (λ b. b ∷ xs) h)
-split_at (a ∷ xs) ys (b ∷ earlier) x later e =
-    let h : a ≡ b = cc in
-    let t : xs ++ ys ≡ earlier ++ x ∷ later = cc in
-    elim (split_at xs ys earlier x later t) as (λ _. ((rest : List Ack) × (a ∷ xs ≡ b ∷ (earlier ++ x ∷ rest))) ⊎ ((rest : List Ack) × (b ∷ earlier ≡ a ∷ (xs ++ rest)) × (ys ≡ rest ++ x ∷ later))) [
-      | inl l ↦ inl (l.0, ap₂ (λ c cs. c ∷ cs) h l.1)
-      | inr r ↦ inr (r.0, ap₂ (λ c cs. c ∷ cs) (sym h) r.1, r.2)
-    ]
-
-stores_same : (a b : Stores) → a.left ≡ b.left → a.right ≡ b.right → a.archive ≡ b.archive → a ≡ b
-stores_same a b l r o = ap₂ (λ x y. record { left = x; right = y; archive = a.archive }) l r ∙ ap (λ x. record { left = b.left; right = b.right; archive = x }) o
-
-legal_extends : (before : Stores) (old new : World) → StandsFor before old → Advances old new → EachReplacementIsLegal before old → EachReplacementIsLegal before new
-legal_extends before old new stands a all earlier later side token path since u e =
-    subst (λ sent. IsLegal sent side (stores_after before earlier) token path since u) (sym a.sends)
-    (legal-more old.sent a.messages side (stores_after before earlier) token path since u
-    (elim (split_at old.acknowledged a.acks earlier (Happened side (Replaced token path since u)) later (sym a.acknowledges ∙ e)) as (λ _. IsLegal old.sent side (stores_after before earlier) token path since u) [
-      | inl l ↦ all earlier l.0 side token path since u l.1
-      | inr r ↦
-          let first = a.legal_step r.0 later side token path since u r.2 in
-          let at : stores_of old ≡ stores_after before earlier =
-          stores_same (stores_of old) (stores_after before old.acknowledged) stands.left stands.right stands.archive
-          ∙ ap (stores_after before) (sym (append-nil old.acknowledged) ∙ (ap (λ w. old.acknowledged ++ w) (sym first.0) ∙ sym r.1)) in
-          subst (λ s. IsLegal old.sent side s token path since u) at first.1
-    ]))
-
-runs_legally : (before : Stores) (steps : List Step) (plans : Plans) (old new : World) → IsKept plans old → StandsFor before old → EachReplacementIsLegal before old → Runs old steps new → EachReplacementIsLegal before new
-runs_legally before [] plans old new k stands all e = subst (EachReplacementIsLegal before) (sym e) all
-runs_legally before (step ∷ steps) plans old new k stands all g =
-    let a = step_advances plans old k g.0 step g.1 in
-    runs_legally before steps a.plans g.0 new a.kept (step_stands before old step g.0 stands g.1) (legal_extends before old g.0 stands a all) g.2
-
-nothing_sent : (sent : Sent) (m : Message) → sent ≡ [] → Contains sent m → ⊥
-nothing_sent sent m e c = let d : Contains [] m = subst (λ s. Contains s m) e c in omega (arith, d.1)
-
-abbrev pub no_plans : Plans
-no_plans session = []
-
-pub start_kept : (old : World) → IsStart old → IsKept no_plans old
-start_kept old s =
-    let p = s.pair in
-    let empty = s.nothing_yet.0 in
-    record {
-      sound = record {
-        lawful = λ side. elim side as (λ side. IsHistory (histories_of old side)) [ Left ↦ p.left | Right ↦ p.right ];
-        marks = p.marks;
-        begun = λ side. elim side as (λ side. last_session (histories_of old side) ≤ old.coordinator.archive.last_session) [ Left ↦ p.left_begun | Right ↦ p.right_begun ];
-        numbers = λ side session n a b c d. absurd (nothing_sent old.sent _ empty c);
-        repeats = λ side session m n a b c d. absurd (nothing_sent old.sent _ empty c);
-        asked = λ to session number request c. absurd (nothing_sent old.sent _ empty c);
-        known = λ from session number said c. absurd (nothing_sent old.sent _ empty c);
-        answered = λ from session number said request c d. absurd (nothing_sent old.sent _ empty c);
-        borne = λ from session number said request c d. absurd (nothing_sent old.sent _ empty c);
-        held = λ path content e side. let both = p.held path content e in elim side as (λ side. Held (histories_of old side) path content) [ Left ↦ both.0 | Right ↦ both.1 ];
-        planned = λ session. inl refl;
-        recorded = λ session item planned side path e w. absurd (none_some e);
-        used = λ side token planned path last e w. absurd (none_some e);
-      };
-      sides = λ side. elim side as (λ side. IsSoundSide no_plans (histories_of old) old.coordinator.archive side (side_of old side)) [
-        | Left ↦ record { staged = subst (λ o. IfSome o (IsSoundStaging no_plans (histories_of old) Left)) (sym s.left.1) tt; writing = subst (λ o. IfSome o (λ event. (old.left.status ≢ Up) × IsSoundEvent no_plans (histories_of old) old.coordinator.archive Left event)) (sym s.left.2) tt }
-        | Right ↦ record { staged = subst (λ o. IfSome o (IsSoundStaging no_plans (histories_of old) Right)) (sym s.right.1) tt; writing = subst (λ o. IfSome o (λ event. (old.right.status ≢ Up) × IsSoundEvent no_plans (histories_of old) old.coordinator.archive Right event)) (sym s.right.2) tt }
-      ];
-      coordinator = record {
-        running = subst (HasItsPlan no_plans (histories_of old)) (sym s.coordinator.1) tt;
-        runs_over = subst (RunsOver old.sent old.coordinator.archive) (sym s.coordinator.1) tt;
-        writing = subst (λ o. IfSome o (λ kept. (old.coordinator.status ≢ Up) × (old.coordinator.running ≡ None) × CanKeep old.coordinator.archive kept × IsHarmless no_plans (histories_of old) kept)) (sym s.coordinator.2) tt;
-      };
-    }
-
-pub start_stands : (old : World) → old.acknowledged ≡ [] → StandsFor (stores_of old) old
-start_stands old e = subst (λ acks. StandsFor (stores_of old) (record old { acknowledged = acks })) (sym e) (record {
-  left = sym (append-nil old.left.side.history);
-  right = sym (append-nil old.right.side.history);
-  archive = refl;
-})
-
--- in every run each replacement is legal
-pub runs_replace_legally : RunsReplaceLegally
-runs_replace_legally old new steps s g = runs_legally (stores_of old) steps no_plans old new (start_kept old s) (start_stands old s.nothing_yet.1)
-    (λ earlier later side token path since u e. absurd (not_nothing earlier later _ (sym s.nothing_yet.1 ∙ e))) g
-
--- the invariant after a whole run
-pub run_kept : (steps : List Step) (plans : Plans) (old new : World) → IsKept plans old → Runs old steps new → (later : Plans) × IsKept later new
-run_kept [] plans old new k e = (plans, subst (IsKept plans) (sym e) k)
-run_kept (step ∷ steps) plans old new k g = let a = step_advances plans old k g.0 step g.1 in run_kept steps a.plans g.0 new a.kept g.2
-
-pub runs_use_tokens_once : RunsUseTokensOnce
-runs_use_tokens_once old new steps s g side earlier later token path since u e =
-    token_once (histories_of new side) earlier later token path since u ((run_kept steps no_plans old new (start_kept old s) g).1.sound.lawful side) e
-
--- and what a session owes
-pub runs_owe : RunsOwe
-runs_owe old new steps s g =
-    let k = (run_kept steps no_plans old new (start_kept old s) g).1 in
-    (waits new.coordinator.running k.coordinator.runs_over, k.sound.repeats)
-  where
-    waits : (o : Option Running) → RunsOver new.sent new.coordinator.archive o → IfSome o Waits
-    waits None r = tt
-    waits (Some running) r = r.2
