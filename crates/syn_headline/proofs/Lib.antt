@@ -14,3 +14,6 @@ pub mod TokenLemmas
 pub mod RunLemmas
 pub mod ArchiveLemmas
 pub mod RepeatLemmas
+pub mod WitnessTrees
+pub mod WitnessMessages
+pub mod WitnessLemmas

@@ -4,6 +4,7 @@
 ghost use Rattle.syn_headline.specs.Laws.{ServesAllowed, RepeatsAreDone, LaterAreOld};
 ghost use Rattle.syn_headline.specs.Rows.{SideRows};
 ghost use Rattle.syn_headline.specs.Headline.{RunsStand, RunsReplaceLegally, RunsUseTokensOnce, RunsHoldArchive, RunsLeavePair, RunsOwe, FormattedIsPair};
+ghost use Rattle.syn_headline.specs.Witness.{OpenedIsStart, StopIsRecovered, SilenceEnds};
 
 /// A step of a side leaves its history or adds one allowed event, and answers as the worked examples say.
 pub fn side_laws()
@@ -22,4 +23,11 @@ pub fn run_laws()
     ensures archive { RunsHoldArchive }
     ensures pair { RunsLeavePair }
     ensures owe { RunsOwe }
+{}
+
+/// Runs from three formatted disks that the definitions allow: a stop and its recovery, and a session without answers.
+pub fn witnesses()
+    ensures start { OpenedIsStart }
+    ensures recovered { StopIsRecovered }
+    ensures ended { SilenceEnds }
 {}

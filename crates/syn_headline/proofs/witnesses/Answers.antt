@@ -1,0 +1,11 @@
+use Rattle.syn_headline.proofs.WitnessLemmas.{opened_is_start, stop_is_recovered, silence_ends}
+use Rattle.syn_headline.proofs.witnesses.Goals as goal
+
+pub returns-clause-start : goal.returns-clause-start
+returns-clause-start c = opened_is_start
+
+pub returns-clause-recovered : goal.returns-clause-recovered
+returns-clause-recovered c = stop_is_recovered
+
+pub returns-clause-ended : goal.returns-clause-ended
+returns-clause-ended c = silence_ends

@@ -1,0 +1,61 @@
+-- Runs that the definitions are to allow: from three formatted disks that have just been opened, each step of the world.
+use Rattle.std.specs.Prelude.{ℕ, ◌≡◌, List, [], ◌∷◌, None, Some, replicate}
+use Rattle.syn_model.specs.Rows.{a_name}
+use Rattle.syn_model.specs.Path.{Path}
+use Rattle.syn_model.specs.Refusal.{NoAnswer}
+use Rattle.syn_model.specs.Event.{Put, Edit, Edited}
+use Rattle.syn_model.specs.Archive.{Session}
+use Rattle.syn_headline.specs.Network.{Left, Right}
+use Rattle.syn_headline.specs.Acknowledged.{Ack, Happened, Kept_by}
+use Rattle.syn_headline.specs.Report.{Report, Incomplete}
+use Rattle.syn_headline.specs.World.{World, Machine, At, Step, Edits, Start, Tick, Open, Up, SideMachine, Runs}
+use Rattle.syn_headline.specs.Headline.{IsStart, formatted, stores_of}
+use Rattle.syn_headline.specs.Rows.{new_side}
+
+abbrev pub new_machine : SideMachine
+new_machine = record { status = Up; side = new_side; writing = None }
+
+-- three formatted disks of pair 7, opened
+abbrev pub opened_world : World
+opened_world = record {
+  pair = 7;
+  left = new_machine;
+  right = new_machine;
+  coordinator = record { status = Up; archive = formatted.archive; writing = None; running = None };
+  sent = [];
+  acknowledged = [];
+  reports = [];
+}
+
+abbrev pub OpenedIsStart : Type 0
+OpenedIsStart = IsStart opened_world
+
+-- a run from there that acknowledges and reports this, and ends well
+pub record IsWitness (steps : List Step) (acknowledged : List Ack) (reports : List (Report × ℕ)) (EndsWell : World → Type 0) : Type 0 where
+  pub new : World
+  pub runs : Runs opened_world steps new
+  pub acknowledged_then : new.acknowledged ≡ acknowledged
+  pub reported : new.reports ≡ reports
+  pub ends_well : EndsWell new
+
+-- the file `a` with the byte `1`
+abbrev pub a_path : Path
+a_path = a_name ∷ []
+
+abbrev pub put_one : Edit
+put_one = Put a_path (49 ∷ [])
+
+-- a stop cuts off an edit while it is written, and the opening recovers it
+abbrev pub StopIsRecovered : Type 0
+StopIsRecovered =
+    IsWitness (Edits Left 1 put_one ∷ Open (At Left) ∷ []) (Happened Left (Edited 1 put_one) ∷ []) []
+    (λ world. (world.left.status ≡ Up) × (world.left.side.history ≡ Edited 1 put_one ∷ []))
+
+-- a session that is never answered: its requests are sent again eight times, and the ninth tick ends it
+abbrev pub unanswered : Report
+unanswered = record { session = 1; end = Incomplete; ended = Some NoAnswer; done = 0; marked = 0; conflicts = []; refused = [] }
+
+abbrev pub SilenceEnds : Type 0
+SilenceEnds =
+    IsWitness (Start ∷ replicate 9 Tick) (Kept_by (Session 1) ∷ []) ((unanswered, 1) ∷ [])
+    (λ world. world.coordinator.running ≡ None)
