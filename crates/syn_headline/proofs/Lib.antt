@@ -17,3 +17,4 @@ pub mod RepeatLemmas
 pub mod WitnessTrees
 pub mod WitnessMessages
 pub mod WitnessLemmas
+pub mod WitnessScans

@@ -1,15 +1,19 @@
 -- Runs that the definitions are to allow: from three formatted disks that have just been opened, each step of the world.
-use Rattle.std.specs.Prelude.{ℕ, ◌≡◌, List, [], ◌∷◌, None, Some, replicate}
+use Rattle.std.specs.Prelude.{ℕ, ◌≡◌, List, [], ◌∷◌, None, Some, map, replicate}
 use Rattle.syn_model.specs.Rows.{a_name}
 use Rattle.syn_model.specs.Path.{Path}
 use Rattle.syn_model.specs.Refusal.{NoAnswer}
-use Rattle.syn_model.specs.Event.{Put, Edit, Edited}
-use Rattle.syn_model.specs.Archive.{Session}
+use Rattle.syn_model.specs.Event.{Put, Edit, Edited, Began, Replaced}
+use Rattle.syn_model.specs.Tree.{Tree, file, subtree}
+use Rattle.syn_model.specs.History.{tree_of}
+use Rattle.syn_model.specs.Mark.{mark}
+use Rattle.syn_model.specs.Archive.{Session, Recorded, new_archive}
 use Rattle.syn_headline.specs.Network.{Left, Right}
 use Rattle.syn_headline.specs.Acknowledged.{Ack, Happened, Kept_by}
-use Rattle.syn_headline.specs.Report.{Report, Incomplete}
-use Rattle.syn_headline.specs.World.{World, Machine, At, Step, Edits, Start, Tick, Open, Up, SideMachine, Runs}
-use Rattle.syn_headline.specs.Headline.{IsStart, formatted, stores_of}
+use Rattle.syn_headline.specs.Report.{Report, Complete, Incomplete}
+use Rattle.syn_headline.specs.World.{World, Machine, At, Step, Edits, Start, Deliver, Tick, Open, Up, SideMachine, Runs}
+use Rattle.syn_headline.specs.Headline.{IsStart, formatted, stores_of, IsQuietSession}
+use Rattle.syn_headline.specs.Side.{token_of}
 use Rattle.syn_headline.specs.Rows.{new_side}
 
 abbrev pub new_machine : SideMachine
@@ -59,3 +63,25 @@ abbrev pub SilenceEnds : Type 0
 SilenceEnds =
     IsWitness (Start ∷ replicate 9 Tick) (Kept_by (Session 1) ∷ []) ((unanswered, 1) ∷ [])
     (λ world. world.coordinator.running ≡ None)
+
+-- a session that went on to its end
+abbrev pub complete : ℕ → Report
+complete done = record { session = 1; end = Complete; ended = None; done = done; marked = 0; conflicts = []; refused = [] }
+
+abbrev pub one : Tree
+one = file (49 ∷ [])
+
+-- both sides have the file and the archive its mark, and the session is one of those that synchronize what they find
+pub record HasCarried (world : World) : Type 0 where
+  pub left : subtree (tree_of world.left.side.history) a_path ≡ one
+  pub right : subtree (tree_of world.right.side.history) a_path ≡ one
+  pub archive : subtree world.coordinator.archive.marks a_path ≡ mark one
+  pub quiet : IsQuietSession formatted world (complete 1) (record { left = Edited 1 put_one ∷ []; right = []; archive = new_archive }) (stores_of world)
+
+-- a session without loss carries a file that the left alone has: it sends the messages 0 to 13
+abbrev pub FileIsCarried : Type 0
+FileIsCarried =
+    IsWitness (Edits Left 1 put_one ∷ Start ∷ map Deliver (0 ∷ 1 ∷ 2 ∷ 3 ∷ 4 ∷ 5 ∷ 6 ∷ 7 ∷ 8 ∷ 9 ∷ 10 ∷ 11 ∷ 12 ∷ 13 ∷ []))
+    (Happened Left (Edited 1 put_one) ∷ Kept_by (Session 1) ∷ Happened Left (Began 1) ∷ Happened Right (Began 1)
+    ∷ Happened Right (Replaced (token_of 1 0) a_path 1 one) ∷ Kept_by (Recorded a_path (mark one)) ∷ [])
+    ((complete 1, 6) ∷ []) HasCarried
