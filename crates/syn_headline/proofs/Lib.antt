@@ -18,3 +18,5 @@ pub mod WitnessTrees
 pub mod WitnessMessages
 pub mod WitnessLemmas
 pub mod WitnessScans
+pub mod WitnessSteps
+pub mod WitnessSession

@@ -6,14 +6,15 @@ use Rattle.syn_model.specs.Tree.{File, Directory, contents_of, empty_directory, 
 use Rattle.syn_model.specs.Refusal.{NoAnswer}
 use Rattle.syn_model.specs.Event.{Event, Edited, Put}
 use Rattle.syn_model.specs.History.{tree_of, IsAllowed}
-use Rattle.syn_model.specs.Archive.{Session, Kept}
+use Rattle.syn_model.specs.Archive.{Session, new_archive}
 use Rattle.syn_headline.specs.Side.{Side, Request, Begin}
 use Rattle.syn_headline.specs.Network.{Which, Left, Right, Message, Asks, Answers, Sent, NumbersTell, AsksNothingTwice}
 use Rattle.syn_headline.specs.Acknowledged.{Happened, Kept_by}
-use Rattle.syn_headline.specs.World.{World, Status, SideMachine, CoordinatorMachine, Running, Outstanding, Machine, At, Coordinator, Step, Edits, Start, Tick, Open, Up, Halted, Down, Steps, Runs, Opens, Writes, DoesEdit, cut, edit_written, recovered, stopped, goes_on, ended, WasSent, IsOfSession, IsNothing, IsNext}
+use Rattle.syn_headline.specs.World.{World, Status, SideMachine, CoordinatorMachine, Running, Outstanding, Machine, At, Coordinator, Step, Edits, Start, Tick, Open, Up, Halted, Down, Steps, Runs, Opens, Writes, DoesEdit, cut, edit_written, recovered, stopped, goes_on, ended, WasSent, IsOfSession, IsNothing, IsNext, StartsFrom, GoesOnAs}
 use Rattle.syn_headline.specs.Witness.{new_machine, opened_world, OpenedIsStart, StopIsRecovered, SilenceEnds, a_path, put_one, unanswered}
 use Rattle.syn_headline.proofs.FormattedLemmas.{formatted_is_pair}
 use Rattle.syn_headline.proofs.WitnessTrees.{alone, with_file, root-entries, put-entries, fits_by, get_by, path_of_letter, one_byte, one_fits}
+use Rattle.syn_headline.proofs.WitnessSteps.{up_not_down, up_not_halted, goes, both_sent}
 use Rattle.syn_headline.proofs.WitnessMessages.{IsNumbered, numbers_tell, asks_once}
 
 pub opened_is_start : OpenedIsStart
@@ -35,17 +36,6 @@ edit_allowed =
       lawful = (omega arith, (path_of_letter, one_byte));
       not_refused = rw (get_by empty_directory alone [] old, get_by empty_directory alone a_path old, one_fits (replace empty_directory a_path (file (49 ∷ []))) new) refl;
     }
-
-abbrev is_up : Status → Type 0
-is_up Up = Unit {0}
-is_up Halted = ⊥
-is_up Down = ⊥
-
-up_not_down : Up ≢ Down
-up_not_down e = subst is_up e tt
-
-up_not_halted : Up ≢ Halted
-up_not_halted e = subst is_up e tt
 
 cut_world : World
 cut_world = record opened_world { left = stopped new_machine (Some (Edited 1 put_one)) }
@@ -114,50 +104,17 @@ begins_lawful running sent e =
 
 starts : Steps opened_world Start (waiting 0)
 unfolding begins
-starts = inr (refl, record {
-  machine = (waiting 0).coordinator;
-  kept = Session 1 ∷ [];
-  messages = Asks Left 1 0 (Begin 7) ∷ Asks Right 1 0 (Begin 7) ∷ [];
-  reports = [];
-  not_down = λ e. up_not_down e;
-  while_halted = λ e. absurd (up_not_halted e);
-  keeps = record {
-    due = All-cons (IsNext opened_world.coordinator.archive) (Session 1) [] refl (All-nil (IsNext opened_world.coordinator.archive));
-    can = (record { lawful = tt; not_refused = refl }, tt);
-    archive = refl;
-    writing = tt;
-  };
-  unless_up = λ e. refl;
-  runs_on = (refl, refl);
-  runs_over = (refl, begin_waits 0, inl refl);
-  numbers = begins_tell 1;
-  repeats = begins_once 1;
-  of_session = begins_lawful (waiting_for 0) [] refl;
-  silent_when_writing = λ some. absurd (true≢false (sym some));
-  silent_when_down = λ e. absurd (up_not_down e);
-  result = refl;
-})
+starts = inr (refl, goes opened_world (IsNext new_archive) (StartsFrom new_archive) (record { marks = empty_directory; last_session = 1 }) (Some (waiting_for 0)) (begins 1) (Session 1 ∷ []) []
+    refl (All-cons (IsNext new_archive) (Session 1) [] refl (All-nil (IsNext new_archive))) (record { lawful = tt; not_refused = refl }, tt) refl
+    (refl, refl) (refl, begin_waits 0, inl refl) (begins_tell 1) (begins_once 1) (begins_lawful (waiting_for 0) [] refl))
 
 resends : (resent : ℕ) → Steps (waiting resent) Tick (waiting (suc resent))
 unfolding begins
-resends resent = inr (record {
-  machine = (waiting (suc resent)).coordinator;
-  kept = [];
-  messages = Asks Left 1 0 (Begin 7) ∷ Asks Right 1 0 (Begin 7) ∷ [];
-  reports = [];
-  not_down = λ e. up_not_down e;
-  while_halted = λ e. absurd (up_not_halted e);
-  keeps = record { due = All-nil IsNothing; can = tt; archive = refl; writing = tt };
-  unless_up = λ e. refl;
-  runs_on = goes_on (waiting_for (suc resent)) refl refl;
-  runs_over = (refl, begin_waits (suc resent), inl refl);
-  numbers = begins_tell (suc (suc resent));
-  repeats = begins_once (suc (suc resent));
-  of_session = begins_lawful (waiting_for (suc resent)) (begins (suc resent)) refl;
-  silent_when_writing = λ some. absurd (true≢false (sym some));
-  silent_when_down = λ e. absurd (up_not_down e);
-  result = refl;
-})
+resends resent = inr (goes (waiting resent) IsNothing (GoesOnAs (waiting_for resent) []) (record { marks = empty_directory; last_session = 1 }) (Some (waiting_for (suc resent)))
+    (Asks Left 1 0 (Begin 7) ∷ Asks Right 1 0 (Begin 7) ∷ []) [] []
+    refl (All-nil IsNothing) tt refl
+    (goes_on (waiting_for (suc resent)) refl refl) (refl, begin_waits (suc resent), inl refl) (begins_tell (suc (suc resent))) (begins_once (suc (suc resent)))
+    (begins_lawful (waiting_for (suc resent)) (begins (suc resent)) refl))
 
 abbrev ended_world : ℕ → World
 ended_world resent = record (waiting resent) {
@@ -166,24 +123,11 @@ ended_world resent = record (waiting resent) {
 }
 
 gives_up : (resent : ℕ) → Steps (waiting resent) Tick (ended_world resent)
-gives_up resent = inr (record {
-  machine = (ended_world resent).coordinator;
-  kept = [];
-  messages = [];
-  reports = (unanswered, 1) ∷ [];
-  not_down = λ e. up_not_down e;
-  while_halted = λ e. absurd (up_not_halted e);
-  keeps = record { due = All-nil IsNothing; can = tt; archive = refl; writing = tt };
-  unless_up = λ e. refl;
-  runs_on = ended;
-  runs_over = tt;
-  numbers = subst NumbersTell (sym (append-nil (begins (suc resent)))) (begins_tell (suc resent));
-  repeats = subst AsksNothingTwice (sym (append-nil (begins (suc resent)))) (begins_once (suc resent));
-  of_session = refl;
-  silent_when_writing = λ some. absurd (true≢false (sym some));
-  silent_when_down = λ e. (refl, refl);
-  result = ap (λ sent. record (ended_world resent) { sent = sent }) (sym (append-nil (begins (suc resent))));
-})
+gives_up resent =
+    let same = append-nil (begins (suc resent)) in
+    subst (λ sent. Steps (waiting resent) Tick (record (ended_world resent) { sent = sent })) same
+    (inr (goes (waiting resent) IsNothing (GoesOnAs (waiting_for resent) []) (record { marks = empty_directory; last_session = 1 }) None [] [] ((unanswered, 1) ∷ [])
+    refl (All-nil IsNothing) tt refl ended tt (subst NumbersTell (sym same) (begins_tell (suc resent))) (subst AsksNothingTwice (sym same) (begins_once (suc resent))) refl))
 
 one_later : (m n : ℕ) → suc m + n ≡ m + suc n
 one_later m n = omega arith

@@ -1,5 +1,5 @@
 use Rattle.syn_headline.proofs.WitnessLemmas.{opened_is_start, stop_is_recovered, silence_ends}
-use Rattle.syn_headline.proofs.WitnessScans.{plan_is}
+use Rattle.syn_headline.proofs.WitnessSession.{carried}
 use Rattle.syn_headline.proofs.witnesses.Goals as goal
 
 pub returns-clause-start : goal.returns-clause-start

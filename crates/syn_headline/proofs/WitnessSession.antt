@@ -1,0 +1,246 @@
+-- A whole session over one file, step by step.
+use Rattle.std.proofs.Common.{◌≡◌, ◌≢◌, ℕ, ◌<◌, ◌≤◌, ◌^◌, zero, suc, ◌&&◌, nat_le, Bool, true, false, List, [], ◌∷◌, ◌++◌, map, take, drop, length, refl, sym, ap, ◌∙◌, subst, Option, Some, None, arith, inl, inr}
+use Rattle.std.specs.Prelude.{All, Contains, IsSomeAnd}
+use Rattle.std.specs.List.{AllByRecursion, list_all}
+use Rattle.std.specs.FinMap.{entries, get, len}
+use Rattle.std.proofs.lemmas.List.Elements.{All-nil, All-cons, All-from_recursion}
+use Rattle.syn_model.specs.Path.{Bytes, Path, IsName, IsPath, root}
+use Rattle.syn_model.specs.Tree.{Tree, IsPart, Directory, File, contents_of, empty_directory, file, at_root, replace, subtree, is_directory}
+use Rattle.syn_model.specs.Limits.{children, fits_part, fits_paths, fits_content, fits_path}
+use Rattle.syn_model.specs.Mark.{mark}
+use Rattle.syn_model.specs.Spelling.{spelling, spelling_within, content_spelling}
+use Rattle.syn_model.specs.Event.{Event, Edited, Began, Replaced, AreBytes}
+use Rattle.syn_model.specs.History.{History, tree_of}
+use Rattle.syn_model.specs.Archive.{Archive, Kept, Session, Recorded, CanKeep, new_archive}
+use Rattle.syn_model.specs.Decision.{ToRight}
+use Rattle.syn_model.specs.Dirty.{Scan}
+use Rattle.syn_model.proofs.TreeLemmas.{subtree-replace}
+use Rattle.syn_model.proofs.HistoryLemmas.{at_root-is_part, same_file}
+use Rattle.syn_headline.specs.Rows.{file_bytes, has_room}
+use Rattle.syn_headline.specs.Side.{Side, Staging, Request, Begin, ListAt, Fetch, Stage, Replace, Reply, Begun, Listed, NotDir, Piece, Staged, Done, Reads, answer, serve, token_of}
+use Rattle.syn_headline.specs.Network.{Which, Left, Right, Message, Asks, Answers, Sent, NumbersTell, AsksNothingTwice, WasAnswered}
+use Rattle.syn_headline.specs.Acknowledged.{Ack, Happened, Kept_by}
+use Rattle.syn_headline.specs.Planning.{Planned, Seen, IsPlanOf, IsScanOf, HasBegun, SeesBoth}
+use Rattle.syn_headline.specs.Report.{Report}
+use Rattle.syn_headline.specs.World.{World, SideMachine, Running, Outstanding, Machine, Step, Edits, Start, Deliver, Up, Steps, Runs, written, edit_written, IsOfSession, IsDue, done, IsNext, StartsFrom, GoesOnAs, goes_on, ended, TakesAnswer, taken, IsDueAfter, GoesOnFrom, IsOver, RunsOver}
+use Rattle.syn_headline.specs.Witness.{opened_world, a_path, put_one, one, complete}
+use Rattle.syn_headline.proofs.WitnessTrees.{alone, children_in, with_file, root-entries, put-entries, get_by, fits_archive_by, path_of_letter, one_byte, one_fits}
+use Rattle.syn_headline.proofs.WitnessScans.{left_history, right_history, left_scan, right_scan, left_marks_whole, right_marks_whole, left_root_only, right_root_only, left_root, right_root, left_part, plan_is, mark_is_part, one_marks-entries, digest}
+use Rattle.syn_headline.proofs.WitnessMessages.{IsNumbered, numbers_tell, asks_once, tell_before, once_before}
+use Rattle.syn_headline.proofs.WitnessSteps.{reads_nothing, serves, lists, goes, both_sent, after_call}
+use Rattle.syn_headline.proofs.WitnessLemmas.{edit_allowed}
+
+-- The sides, before and after
+abbrev pub left_side : Side
+left_side = record { history = left_history; staging = None }
+
+abbrev pub right_side : Side
+right_side = record { history = right_history; staging = None }
+
+abbrev pub right_staged : Side
+right_staged = record { history = right_history; staging = Some (record { token = token_of 1 0; bytes = file_bytes }) }
+
+abbrev pub right_done : Side
+right_done = record { history = right_history ++ Replaced (token_of 1 0) a_path 1 one ∷ []; staging = right_staged.staging }
+
+-- the messages of the whole session
+abbrev pub messages : Sent
+messages =
+    Asks Left 1 0 (Begin 7) ∷ Asks Right 1 0 (Begin 7) ∷ Answers Left 1 0 (Begun 2) ∷ Answers Right 1 0 (Begun 1)
+    ∷ Asks Left 1 1 (ListAt root) ∷ Asks Right 1 1 (ListAt root)
+    ∷ Answers Left 1 1 (Listed 2 (children left_scan.marks root)) ∷ Answers Right 1 1 (Listed 1 (children right_scan.marks root))
+    ∷ Asks Left 1 2 (Fetch a_path 2 0) ∷ Answers Left 1 2 (Piece 6 file_bytes)
+    ∷ Asks Right 1 2 (Stage 0 0 file_bytes) ∷ Answers Right 1 2 Staged
+    ∷ Asks Right 1 3 (Replace 0 a_path 1 6) ∷ Answers Right 1 3 Done ∷ []
+
+abbrev pub acks : List Ack
+acks =
+    Happened Left (Edited 1 put_one) ∷ Kept_by (Session 1) ∷ Happened Left (Began 1) ∷ Happened Right (Began 1)
+    ∷ Happened Right (Replaced (token_of 1 0) a_path 1 one) ∷ Kept_by (Recorded a_path (mark one)) ∷ []
+
+-- The plan
+abbrev pub planned : Planned
+planned = record { item = ToRight a_path; left = record { marks = mark one; since = 2 }; right = record { marks = subtree right_scan.marks a_path; since = 1 } }
+
+abbrev pub plan : List Planned
+plan = planned ∷ []
+
+-- a session that runs, where so much has been sent and acknowledged
+abbrev waits : ℕ → Request → Option Outstanding
+waits number request = Some (record { number = number; request = request; resent = 0 })
+
+abbrev runs_with : Option Outstanding → Option Outstanding → List Planned → Running
+runs_with left right plan = record { session = 1; left = left; right = right; plan = plan }
+
+abbrev begun_archive : Archive
+begun_archive = record { marks = empty_directory; last_session = 1 }
+
+abbrev recorded_archive : Archive
+recorded_archive = record { marks = replace empty_directory a_path (mark one); last_session = 1 }
+
+abbrev world : Side → Side → Archive → Option Running → ℕ → ℕ → World
+world left right archive running said acknowledged = record {
+  pair = 7;
+  left = record { status = Up; side = left; writing = None };
+  right = record { status = Up; side = right; writing = None };
+  coordinator = record { status = Up; archive = archive; writing = None; running = running };
+  sent = take said messages;
+  acknowledged = take acknowledged acks;
+  reports = [];
+}
+
+abbrev edited_side : Side
+edited_side = record { history = Edited 1 put_one ∷ []; staging = None }
+
+abbrev new_right : Side
+new_right = record { history = []; staging = None }
+
+abbrev edited_world : World
+edited_world = world edited_side new_right new_archive None 0 1
+
+abbrev both_begin : Running
+both_begin = runs_with (waits 0 (Begin 7)) (waits 0 (Begin 7)) []
+
+abbrev started : World
+started = world edited_side new_right begun_archive (Some both_begin) 2 2
+
+abbrev left_begun : World
+left_begun = world left_side new_right begun_archive (Some both_begin) 3 3
+
+abbrev both_begun : World
+both_begun = world left_side right_side begun_archive (Some both_begin) 4 4
+
+abbrev right_begins : Running
+right_begins = runs_with None (waits 0 (Begin 7)) []
+
+abbrev right_awaited : World
+right_awaited = world left_side right_side begun_archive (Some right_begins) 4 4
+
+abbrev both_list : Running
+both_list = runs_with (waits 1 (ListAt root)) (waits 1 (ListAt root)) []
+
+abbrev listing : World
+listing = world left_side right_side begun_archive (Some both_list) 6 4
+
+abbrev left_listed : World
+left_listed = world left_side right_side begun_archive (Some both_list) 7 4
+
+abbrev both_listed : World
+both_listed = world left_side right_side begun_archive (Some both_list) 8 4
+
+abbrev right_lists : Running
+right_lists = runs_with None (waits 1 (ListAt root)) []
+
+abbrev right_list_awaited : World
+right_list_awaited = world left_side right_side begun_archive (Some right_lists) 8 4
+
+abbrev left_fetches : Running
+left_fetches = runs_with (waits 2 (Fetch a_path 2 0)) None plan
+
+abbrev fetching : World
+fetching = world left_side right_side begun_archive (Some left_fetches) 9 4
+
+abbrev fetched : World
+fetched = world left_side right_side begun_archive (Some left_fetches) 10 4
+
+abbrev right_stages : Running
+right_stages = runs_with None (waits 2 (Stage 0 0 file_bytes)) plan
+
+abbrev staging : World
+staging = world left_side right_side begun_archive (Some right_stages) 11 4
+
+abbrev staged : World
+staged = world left_side right_staged begun_archive (Some right_stages) 12 4
+
+abbrev right_replaces : Running
+right_replaces = runs_with None (waits 3 (Replace 0 a_path 1 6)) plan
+
+abbrev replacing : World
+replacing = world left_side right_staged begun_archive (Some right_replaces) 13 4
+
+abbrev replaced : World
+replaced = world left_side right_done begun_archive (Some right_replaces) 14 5
+
+abbrev pub carried : World
+carried = record (world left_side right_done recorded_archive None 14 6) { reports = (complete 1, 6) ∷ [] }
+
+-- The numbers of its requests, by their kinds
+abbrev right_number : ℕ → ℕ
+right_number zero = 0
+right_number (suc zero) = 1
+right_number (suc (suc zero)) = 4
+right_number (suc (suc (suc zero))) = 2
+right_number (suc (suc (suc (suc kind)))) = 3
+
+abbrev number_of : Which → ℕ → ℕ
+number_of Left kind = kind
+number_of Right kind = right_number kind
+
+abbrev asked : Which → ℕ → Request
+asked side zero = Begin 7
+asked side (suc zero) = ListAt root
+asked Left (suc (suc number)) = Fetch a_path 2 0
+asked Right (suc (suc zero)) = Stage 0 0 file_bytes
+asked Right (suc (suc (suc number))) = Replace 0 a_path 1 6
+
+numbered : All (IsNumbered number_of asked) messages
+numbered = All-from_recursion (IsNumbered number_of asked) messages
+    ((refl, refl), ((refl, refl), (tt, (tt, ((refl, refl), ((refl, refl), (tt, (tt, ((refl, refl), (tt, ((refl, refl), (tt, ((refl, refl), (tt, tt))))))))))))))
+
+tells : (said : ℕ) → NumbersTell (take said messages)
+tells said = tell_before (take said messages) (drop said messages) (subst NumbersTell (sym (take_drop said messages)) (numbers_tell number_of asked messages numbered))
+
+once : (said : ℕ) → AsksNothingTwice (take said messages)
+once said = once_before (take said messages) (drop said messages) (subst AsksNothingTwice (sym (take_drop said messages)) (asks_once number_of asked messages numbered))
+
+-- The steps of the sides
+edits : Steps opened_world (Edits Left 1 put_one) edited_world
+edits = (edited_world.left, Edited 1 put_one ∷ [], edit_written edited_world.left (Edited 1 put_one ∷ []) refl edit_allowed written, refl)
+
+begins_left : Steps started (Deliver 0) left_begun
+begins_left = serves started Left 1 0 (Begin 7) None left_side (Begun 2) (Began 1 ∷ []) refl reads_nothing refl tt refl
+
+begins_right : Steps left_begun (Deliver 1) both_begun
+begins_right = serves left_begun Right 1 0 (Begin 7) None right_side (Begun 1) (Began 1 ∷ []) refl reads_nothing refl tt refl
+
+lists_left : Steps listing (Deliver 4) left_listed
+lists_left = serves listing Left 1 1 (ListAt root) None left_side (Listed 2 (children left_scan.marks root)) [] refl reads_nothing (lists left_side root left_root) tt refl
+
+lists_right : Steps left_listed (Deliver 5) both_listed
+lists_right = serves left_listed Right 1 1 (ListAt root) None right_side (Listed 1 (children right_scan.marks root)) [] refl reads_nothing (lists right_side root right_root) tt refl
+
+left_one : subtree (tree_of left_history) a_path ≡ one
+unfolding tree_of
+left_one = subtree-replace empty_directory a_path one
+
+one_spelling : spelling one ≡ file_bytes
+unfolding spelling_within
+one_spelling = ap (content_spelling (spelling_within (len one)) one) (get_by one ((root, File (contents_of (49 ∷ []))) ∷ []) root (root-entries (File (contents_of (49 ∷ [])))))
+
+piece_is : answer left_side (Piece 6 file_bytes) ≡ serve 7 has_room None left_side 1 (Fetch a_path 2 0)
+piece_is = ap (λ bytes. answer left_side (Piece (length bytes) (take 32768 (drop 0 bytes)))) (sym (ap spelling left_one ∙ one_spelling))
+
+fetches : Steps fetching (Deliver 8) fetched
+fetches = serves fetching Left 1 2 (Fetch a_path 2 0) None left_side (Piece 6 file_bytes) [] refl reads_nothing piece_is tt refl
+
+stages : Steps staging (Deliver 10) staged
+stages = serves staging Right 1 2 (Stage 0 0 file_bytes) None right_staged Staged [] refl reads_nothing refl tt refl
+
+one_whole : IsPart one
+one_whole = at_root-is_part (File (contents_of (49 ∷ []))) (λ contents e. subst AreBytes (same_file (contents_of (49 ∷ [])) contents e) one_byte)
+
+one_fits_part : fits_part one ≡ true
+one_fits_part = ap (λ es. list_all (λ pair. fits_content pair.1 && nat_le (length (children_in es pair.0)) 256) es) (root-entries (File (contents_of (49 ∷ []))))
+
+one_fits_paths : fits_paths one ≡ true
+one_fits_paths = ap (list_all (λ pair. fits_path pair.0)) (root-entries (File (contents_of (49 ∷ []))))
+
+done_is : answer right_done Done ≡ serve 7 has_room (Some one) right_staged 1 (Replace 0 a_path 1 6)
+unfolding tree_of
+done_is =
+    let old = root-entries Directory in
+    let new = put-entries empty_directory one (File (contents_of (49 ∷ []))) old (root-entries (File (contents_of (49 ∷ [])))) in
+    rw (get_by empty_directory alone root old, one_fits (replace empty_directory a_path one) new) refl
+
+replaces : Steps replacing (Deliver 12) replaced
+replaces = serves replacing Right 1 3 (Replace 0 a_path 1 6) (Some one) right_done Done (Replaced (token_of 1 0) a_path 1 one ∷ []) refl (one_whole, one_fits_part, one_fits_paths, one_spelling) done_is tt refl
