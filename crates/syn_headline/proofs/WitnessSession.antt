@@ -3,6 +3,7 @@ use Rattle.std.proofs.Common.{◌≡◌, ◌≢◌, ℕ, ◌<◌, ◌≤◌, ◌
 use Rattle.std.specs.Prelude.{All, Contains, IsSomeAnd}
 use Rattle.std.specs.List.{AllByRecursion, list_all}
 use Rattle.std.specs.FinMap.{entries, get, len}
+use Rattle.std.proofs.lemmas.List.{take-append-drop}
 use Rattle.std.proofs.lemmas.List.Elements.{All-nil, All-cons, All-from_recursion}
 use Rattle.syn_model.specs.Path.{Bytes, Path, IsName, IsPath, root}
 use Rattle.syn_model.specs.Tree.{Tree, IsPart, Directory, File, contents_of, empty_directory, file, at_root, replace, subtree, is_directory}
@@ -11,7 +12,7 @@ use Rattle.syn_model.specs.Mark.{mark}
 use Rattle.syn_model.specs.Spelling.{spelling, spelling_within, content_spelling}
 use Rattle.syn_model.specs.Event.{Event, Edited, Began, Replaced, AreBytes}
 use Rattle.syn_model.specs.History.{History, tree_of}
-use Rattle.syn_model.specs.Archive.{Archive, Kept, Session, Recorded, CanKeep, new_archive}
+use Rattle.syn_model.specs.Archive.{Archive, Kept, Session, Recorded, CanKeep, new_archive, archive_of}
 use Rattle.syn_model.specs.Decision.{ToRight}
 use Rattle.syn_model.specs.Dirty.{Scan}
 use Rattle.syn_model.proofs.TreeLemmas.{subtree-replace}
@@ -22,7 +23,7 @@ use Rattle.syn_headline.specs.Network.{Which, Left, Right, Message, Asks, Answer
 use Rattle.syn_headline.specs.Acknowledged.{Ack, Happened, Kept_by}
 use Rattle.syn_headline.specs.Planning.{Planned, Seen, IsPlanOf, IsScanOf, HasBegun, SeesBoth}
 use Rattle.syn_headline.specs.Report.{Report}
-use Rattle.syn_headline.specs.World.{World, SideMachine, Running, Outstanding, Machine, Step, Edits, Start, Deliver, Up, Steps, Runs, written, edit_written, IsOfSession, IsDue, done, IsNext, StartsFrom, GoesOnAs, goes_on, ended, TakesAnswer, taken, IsDueAfter, GoesOnFrom, IsOver, RunsOver}
+use Rattle.syn_headline.specs.World.{World, SideMachine, Running, Outstanding, Machine, Step, Edits, Start, Deliver, Up, Steps, Runs, written, edit_written, IsOfSession, IsDue, done, IsNext, StartsFrom, GoesOnAs, goes_on, ended, TakesAnswer, taken, IsDueAfter, GoesOnFrom, IsOver, RunsOver, IsExpected, HasPlan, AllCanKeep, AllOfSession}
 use Rattle.syn_headline.specs.Witness.{opened_world, a_path, put_one, one, complete}
 use Rattle.syn_headline.proofs.WitnessTrees.{alone, children_in, with_file, root-entries, put-entries, get_by, fits_archive_by, path_of_letter, one_byte, one_fits}
 use Rattle.syn_headline.proofs.WitnessScans.{left_history, right_history, left_scan, right_scan, left_marks_whole, right_marks_whole, left_root_only, right_root_only, left_root, right_root, left_part, plan_is, mark_is_part, one_marks-entries, digest}
@@ -188,10 +189,10 @@ numbered = All-from_recursion (IsNumbered number_of asked) messages
     ((refl, refl), ((refl, refl), (tt, (tt, ((refl, refl), ((refl, refl), (tt, (tt, ((refl, refl), (tt, ((refl, refl), (tt, ((refl, refl), (tt, tt))))))))))))))
 
 tells : (said : ℕ) → NumbersTell (take said messages)
-tells said = tell_before (take said messages) (drop said messages) (subst NumbersTell (sym (take_drop said messages)) (numbers_tell number_of asked messages numbered))
+tells said = tell_before (take said messages) (drop said messages) (subst NumbersTell (sym (take-append-drop said messages)) (numbers_tell number_of asked messages numbered))
 
 once : (said : ℕ) → AsksNothingTwice (take said messages)
-once said = once_before (take said messages) (drop said messages) (subst AsksNothingTwice (sym (take_drop said messages)) (asks_once number_of asked messages numbered))
+once said = once_before (take said messages) (drop said messages) (subst AsksNothingTwice (sym (take-append-drop said messages)) (asks_once number_of asked messages numbered))
 
 -- The steps of the sides
 edits : Steps opened_world (Edits Left 1 put_one) edited_world
@@ -244,3 +245,133 @@ done_is =
 
 replaces : Steps replacing (Deliver 12) replaced
 replaces = serves replacing Right 1 3 (Replace 0 a_path 1 6) (Some one) right_done Done (Replaced (token_of 1 0) a_path 1 one ∷ []) refl (one_whole, one_fits_part, one_fits_paths, one_spelling) done_is tt refl
+
+-- The plan is of what the sides listed
+abbrev scans : Which → Scan
+scans Left = left_scan
+scans Right = right_scan
+
+abbrev listed_at : Which → Path → ℕ
+listed_at Left path = 2
+listed_at Right path = 1
+
+have_begun : (side : Which) → HasBegun (take 8 messages) side 1
+have_begun Left = record { pair = 7; position = 2; begun = record { number = 0; asked = (0, omega arith, refl); answered = (2, omega arith, refl) } }
+have_begun Right = record { pair = 7; position = 1; begun = record { number = 0; asked = (1, omega arith, refl); answered = (3, omega arith, refl) } }
+
+none_there : (path : Path) → ¬ Contains [] path
+none_there path (k, less, e) = omega (arith, less)
+
+left_scanned : IsScanOf (take 8 messages) Left 1 left_scan (listed_at Left)
+left_scanned = record {
+  tree = left_marks_whole;
+  listed = λ path there stable. subst (λ at. WasAnswered (take 8 messages) Left 1 (ListAt at) (Listed 2 (children left_scan.marks at))) (sym (left_root_only path there))
+      (record { number = 1; asked = (4, omega arith, refl); answered = (6, omega arith, refl) });
+  ordered = λ path name there. omega arith;
+  not_dir = λ path c. absurd (none_there path c);
+  nothing_below = λ path c. absurd (none_there path c);
+}
+
+right_scanned : IsScanOf (take 8 messages) Right 1 right_scan (listed_at Right)
+right_scanned = record {
+  tree = right_marks_whole;
+  listed = λ path there stable. subst (λ at. WasAnswered (take 8 messages) Right 1 (ListAt at) (Listed 1 (children right_scan.marks at))) (sym (right_root_only path there))
+      (record { number = 1; asked = (5, omega arith, refl); answered = (7, omega arith, refl) });
+  ordered = λ path name there. omega arith;
+  not_dir = λ path c. absurd (none_there path c);
+  nothing_below = λ path c. absurd (none_there path c);
+}
+
+both_scanned : (side : Which) → IsScanOf (take 8 messages) side 1 (scans side) (listed_at side)
+both_scanned Left = left_scanned
+both_scanned Right = right_scanned
+
+sees : SeesBoth scans listed_at planned
+sees Left = (sym left_part, refl)
+sees Right = (refl, refl)
+
+plans : IsPlanOf (take 8 messages) 1 empty_directory plan
+plans = record {
+  scan = scans;
+  since = listed_at;
+  begun = have_begun;
+  scanned = both_scanned;
+  items = sym plan_is;
+  seen = All-cons (SeesBoth scans listed_at) planned [] sees (All-nil (SeesBoth scans listed_at));
+}
+
+-- The steps of the coordinator
+takes : (old : World) (from : Which) (number : ℕ) (reply : Reply) (plan : List Planned) (archive : Archive) (next : Option Running) (messages : List Message) (kept : List Kept) (reports : List (Report × ℕ)) →
+    old.coordinator.status ≡ Up → IsExpected old.coordinator.running from 1 number → HasPlan old.sent old.coordinator.archive old.coordinator.running plan →
+    All (IsDueAfter old.coordinator.running plan from reply) kept → AllCanKeep old.coordinator.archive kept → archive ≡ archive_of old.coordinator.archive kept →
+    GoesOnFrom old.coordinator.running plan next → IsOver from number next → RunsOver (old.sent ++ messages) archive next →
+    NumbersTell (old.sent ++ messages) → AsksNothingTwice (old.sent ++ messages) → AllOfSession old.sent next messages →
+    TakesAnswer old from 1 number reply (after_call old archive next messages kept reports)
+takes old from number reply plan archive next messages kept reports up expected has due can is on over runs tell twice of =
+    taken plan expected has (goes old (IsDueAfter old.coordinator.running plan from reply) (λ running. GoesOnFrom old.coordinator.running plan running × IsOver from number running)
+    archive next messages kept reports up due can is (on, over) runs tell twice of)
+
+starts : Steps edited_world Start started
+starts = inr (refl, goes edited_world (IsNext new_archive) (StartsFrom new_archive) begun_archive (Some both_begin) (take 2 messages) (Session 1 ∷ []) []
+    refl (All-cons (IsNext new_archive) (Session 1) [] refl (All-nil (IsNext new_archive))) (record { lawful = tt; not_refused = refl }, tt) refl
+    (refl, refl) (refl, both_sent (take 2 messages) both_begin (0, omega arith, refl) (1, omega arith, refl), inl refl) (tells 2) (once 2)
+    (All-from_recursion (IsOfSession [] both_begin) (take 2 messages) ((refl, (omega arith, omega arith), tt), ((refl, (omega arith, omega arith), tt), tt))))
+
+takes_left_begun : Steps both_begun (Deliver 2) right_awaited
+takes_left_begun = takes both_begun Left 0 (Begun 2) [] begun_archive (Some right_begins) [] [] [] refl (refl, refl) (inl refl) (All-nil (IsDue both_begin [] Left (Begun 2))) tt refl
+    (goes_on right_begins refl refl) tt (refl, both_sent (take 4 messages) right_begins tt (1, omega arith, refl), inr refl) (tells 4) (once 4)
+    (All-nil (IsOfSession (take 4 messages) right_begins))
+
+root_lawful : IsPath root
+root_lawful = record { names = All-nil IsName; not_deep = omega arith; not_long = omega arith }
+
+takes_right_begun : Steps right_awaited (Deliver 3) listing
+takes_right_begun = takes right_awaited Right 0 (Begun 1) [] begun_archive (Some both_list) (drop 4 (take 6 messages)) [] [] refl (refl, refl) (inl refl) (All-nil (IsDue right_begins [] Right (Begun 1))) tt refl
+    (goes_on both_list refl refl) (λ e. omega (arith, e)) (refl, both_sent (take 6 messages) both_list (4, omega arith, refl) (5, omega arith, refl), inl refl) (tells 6) (once 6)
+    (All-from_recursion (IsOfSession (take 4 messages) both_list) (drop 4 (take 6 messages)) ((refl, (omega arith, root_lawful), tt), ((refl, (omega arith, root_lawful), tt), tt)))
+
+takes_left_listing : Steps both_listed (Deliver 6) right_list_awaited
+takes_left_listing = takes both_listed Left 1 (Listed 2 (children left_scan.marks root)) [] begun_archive (Some right_lists) [] [] [] refl (refl, refl) (inl refl)
+    (All-nil (IsDue both_list [] Left (Listed 2 (children left_scan.marks root)))) tt refl
+    (goes_on right_lists refl refl) tt (refl, both_sent (take 8 messages) right_lists tt (5, omega arith, refl), inr refl) (tells 8) (once 8)
+    (All-nil (IsOfSession (take 8 messages) right_lists))
+
+takes_right_listing : Steps right_list_awaited (Deliver 7) fetching
+takes_right_listing = takes right_list_awaited Right 1 (Listed 1 (children right_scan.marks root)) plan begun_archive (Some left_fetches) (drop 8 (take 9 messages)) [] [] refl (refl, refl) (inr (refl, plans))
+    (All-nil (IsDue right_lists plan Right (Listed 1 (children right_scan.marks root)))) tt refl
+    (goes_on left_fetches refl refl) tt (refl, both_sent (take 9 messages) left_fetches (8, omega arith, refl) tt, inl refl) (tells 9) (once 9)
+    (All-from_recursion (IsOfSession (take 8 messages) left_fetches) (drop 8 (take 9 messages))
+    ((refl, (omega arith, (path_of_letter, omega arith, omega arith)), (0, planned, refl, refl, refl)), tt))
+
+bytes_lawful : AreBytes file_bytes
+bytes_lawful = All-from_recursion (λ byte. byte < 256) file_bytes (omega arith, (omega arith, (omega arith, (omega arith, (omega arith, (omega arith, tt))))))
+
+takes_piece : Steps fetched (Deliver 9) staging
+takes_piece = takes fetched Left 2 (Piece 6 file_bytes) plan begun_archive (Some right_stages) (drop 10 (take 11 messages)) [] [] refl (refl, refl) (inl refl)
+    (All-nil (IsDue left_fetches plan Left (Piece 6 file_bytes))) tt refl
+    (goes_on right_stages refl refl) tt (refl, both_sent (take 11 messages) right_stages tt (10, omega arith, refl), inr refl) (tells 11) (once 11)
+    (All-from_recursion (IsOfSession (take 10 messages) right_stages) (drop 10 (take 11 messages))
+    ((refl, (omega arith, (omega arith, omega arith, (omega arith, omega arith, bytes_lawful))),
+        (planned, refl, (6, record { number = 2; asked = (8, omega arith, refl); answered = (9, omega arith, refl) }))), tt))
+
+takes_staged : Steps staged (Deliver 11) replacing
+takes_staged = takes staged Right 2 Staged plan begun_archive (Some right_replaces) (drop 12 (take 13 messages)) [] [] refl (refl, refl) (inl refl)
+    (All-nil (IsDue right_stages plan Right Staged)) tt refl
+    (goes_on right_replaces refl refl) (λ e. omega (arith, e)) (refl, both_sent (take 13 messages) right_replaces tt (12, omega arith, refl), inr refl) (tells 13) (once 13)
+    (All-from_recursion (IsOfSession (take 12 messages) right_replaces) (drop 12 (take 13 messages))
+    ((refl, (omega arith, (omega arith, path_of_letter, omega arith, omega arith)),
+        (planned, refl, refl, refl, (0, file_bytes, record { number = 2; asked = (8, omega arith, refl); answered = (9, omega arith, refl) }))), tt))
+
+can_record : CanKeep begun_archive (Recorded a_path (mark one))
+can_record =
+    let old = root-entries Directory in
+    let new = put-entries empty_directory (mark one) (File digest) old one_marks-entries in
+    record {
+      lawful = (path_of_letter, mark_is_part);
+      not_refused = rw (get_by empty_directory alone root old, fits_archive_by (replace empty_directory a_path (mark one)) (with_file (File digest)) new) refl;
+    }
+
+takes_done : Steps replaced (Deliver 13) carried
+takes_done = takes replaced Right 3 Done plan recorded_archive None [] (Recorded a_path (mark one) ∷ []) ((complete 1, 6) ∷ []) refl (refl, refl) (inl refl)
+    (All-cons (IsDue right_replaces plan Right Done) (Recorded a_path (mark one)) [] (done _ 0 a_path 1 6 planned refl refl refl refl refl) (All-nil (IsDue right_replaces plan Right Done)))
+    (can_record, tt) refl ended tt tt (tells 14) (once 14) refl
