@@ -24,7 +24,8 @@ use Rattle.syn_headline.specs.Acknowledged.{Ack, Happened, Kept_by}
 use Rattle.syn_headline.specs.Planning.{Planned, Seen, IsPlanOf, IsScanOf, HasBegun, SeesBoth}
 use Rattle.syn_headline.specs.Report.{Report}
 use Rattle.syn_headline.specs.World.{World, SideMachine, Running, Outstanding, Machine, Step, Edits, Start, Deliver, Up, Steps, Runs, written, edit_written, IsOfSession, IsDue, done, IsNext, StartsFrom, GoesOnAs, goes_on, ended, TakesAnswer, taken, IsDueAfter, GoesOnFrom, IsOver, RunsOver, IsExpected, HasPlan, AllCanKeep, AllOfSession}
-use Rattle.syn_headline.specs.Witness.{opened_world, a_path, put_one, one, complete}
+use Rattle.syn_headline.specs.Witness.{opened_world, a_path, put_one, one, complete, FileIsCarried}
+use Rattle.syn_headline.specs.Headline.{IsQuietSession, IsNoEdit, formatted, stores_of}
 use Rattle.syn_headline.proofs.WitnessTrees.{alone, children_in, with_file, root-entries, put-entries, get_by, fits_archive_by, path_of_letter, one_byte, one_fits}
 use Rattle.syn_headline.proofs.WitnessScans.{left_history, right_history, left_scan, right_scan, left_marks_whole, right_marks_whole, left_root_only, right_root_only, left_root, right_root, left_part, plan_is, mark_is_part, one_marks-entries, digest}
 use Rattle.syn_headline.proofs.WitnessMessages.{IsNumbered, numbers_tell, asks_once, tell_before, once_before}
@@ -375,3 +376,36 @@ takes_done : Steps replaced (Deliver 13) carried
 takes_done = takes replaced Right 3 Done plan recorded_archive None [] (Recorded a_path (mark one) ∷ []) ((complete 1, 6) ∷ []) refl (refl, refl) (inl refl)
     (All-cons (IsDue right_replaces plan Right Done) (Recorded a_path (mark one)) [] (done _ 0 a_path 1 6 planned refl refl refl refl refl) (All-nil (IsDue right_replaces plan Right Done)))
     (can_record, tt) refl ended tt tt (tells 14) (once 14) refl
+
+right_one : subtree (tree_of right_done.history) a_path ≡ one
+unfolding tree_of
+right_one = subtree-replace empty_directory a_path one
+
+-- the session found the file on the left, and nothing on the right
+quiet : IsQuietSession formatted carried (complete 1) (record { left = Edited 1 put_one ∷ []; right = []; archive = new_archive }) (stores_of carried)
+quiet = record {
+  acks = 6;
+  reported = (0, omega arith, refl);
+  complete = refl;
+  at_end = refl;
+  left_side = record { later = []; begun = refl; no_edit = All-nil IsNoEdit };
+  right_side = record {
+    later = Replaced (token_of 1 0) a_path 1 one ∷ [];
+    begun = refl;
+    no_edit = All-cons IsNoEdit (Replaced (token_of 1 0) a_path 1 one) [] tt (All-nil IsNoEdit);
+  };
+  started = 1;
+  archive = refl;
+  taken = refl;
+}
+
+pub file_is_carried : FileIsCarried
+file_is_carried = record {
+  new = carried;
+  runs = (edited_world, edits, (started, starts, (left_begun, begins_left, (both_begun, begins_right, (right_awaited, takes_left_begun, (listing, takes_right_begun,
+      (left_listed, lists_left, (both_listed, lists_right, (right_list_awaited, takes_left_listing, (fetching, takes_right_listing, (fetched, fetches, (staging, takes_piece,
+      (staged, stages, (replacing, takes_staged, (replaced, replaces, (carried, takes_done, refl))))))))))))))));
+  acknowledged_then = refl;
+  reported = refl;
+  ends_well = record { left = left_one; right = right_one; archive = subtree-replace empty_directory a_path (mark one); quiet = quiet };
+}

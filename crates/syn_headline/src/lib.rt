@@ -4,7 +4,7 @@
 ghost use Rattle.syn_headline.specs.Laws.{ServesAllowed, RepeatsAreDone, LaterAreOld};
 ghost use Rattle.syn_headline.specs.Rows.{SideRows};
 ghost use Rattle.syn_headline.specs.Headline.{RunsStand, RunsReplaceLegally, RunsUseTokensOnce, RunsHoldArchive, RunsLeavePair, RunsOwe, FormattedIsPair};
-ghost use Rattle.syn_headline.specs.Witness.{OpenedIsStart, StopIsRecovered, SilenceEnds};
+ghost use Rattle.syn_headline.specs.Witness.{OpenedIsStart, StopIsRecovered, SilenceEnds, FileIsCarried};
 
 /// A step of a side leaves its history or adds one allowed event, and answers as the worked examples say.
 pub fn side_laws()
@@ -25,9 +25,10 @@ pub fn run_laws()
     ensures owe { RunsOwe }
 {}
 
-/// Runs from three formatted disks that the definitions allow: a stop and its recovery, and a session without answers.
+/// Runs from three formatted disks that the definitions allow: a stop and its recovery, a session without answers, and a whole one.
 pub fn witnesses()
     ensures start { OpenedIsStart }
     ensures recovered { StopIsRecovered }
     ensures ended { SilenceEnds }
+    ensures carried { FileIsCarried }
 {}

@@ -1,5 +1,5 @@
 use Rattle.syn_headline.proofs.WitnessLemmas.{opened_is_start, stop_is_recovered, silence_ends}
-use Rattle.syn_headline.proofs.WitnessSession.{carried}
+use Rattle.syn_headline.proofs.WitnessSession.{file_is_carried}
 use Rattle.syn_headline.proofs.witnesses.Goals as goal
 
 pub returns-clause-start : goal.returns-clause-start
@@ -10,3 +10,6 @@ returns-clause-recovered c = stop_is_recovered
 
 pub returns-clause-ended : goal.returns-clause-ended
 returns-clause-ended c = silence_ends
+
+pub returns-clause-carried : goal.returns-clause-carried
+returns-clause-carried c = file_is_carried
