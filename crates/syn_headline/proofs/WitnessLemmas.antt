@@ -1,20 +1,19 @@
 -- A stop with its recovery, and a session without answers.
-use Rattle.std.proofs.Common.{◌≡◌, ◌≢◌, ℕ, zero, suc, ◌<◌, ◌^◌, Bool, true, false, true≢false, List, [], ◌∷◌, ◌++◌, ◌+◌, replicate, append-nil, refl, sym, ap, ◌∙◌, subst, Some, None, arith, inl, inr}
+use Rattle.std.proofs.Common.{◌≡◌, ℕ, zero, suc, List, [], ◌∷◌, ◌++◌, ◌+◌, replicate, append-nil, refl, sym, subst, Some, None, arith, inl, inr}
 use Rattle.std.specs.Prelude.{All, Contains}
 use Rattle.std.proofs.lemmas.List.Elements.{All-nil, All-cons, All-append, All-from_recursion, Contains-append_right}
 use Rattle.syn_model.specs.Tree.{File, Directory, contents_of, empty_directory, file, replace}
-use Rattle.syn_model.specs.Refusal.{NoAnswer}
-use Rattle.syn_model.specs.Event.{Event, Edited, Put}
+use Rattle.syn_model.specs.Event.{Edited}
 use Rattle.syn_model.specs.History.{tree_of, IsAllowed}
 use Rattle.syn_model.specs.Archive.{Session, new_archive}
-use Rattle.syn_headline.specs.Side.{Side, Request, Begin}
-use Rattle.syn_headline.specs.Network.{Which, Left, Right, Message, Asks, Answers, Sent, NumbersTell, AsksNothingTwice}
+use Rattle.syn_headline.specs.Side.{Begin}
+use Rattle.syn_headline.specs.Network.{Which, Left, Right, Asks, Sent, NumbersTell, AsksNothingTwice}
 use Rattle.syn_headline.specs.Acknowledged.{Happened, Kept_by}
-use Rattle.syn_headline.specs.World.{World, Status, SideMachine, CoordinatorMachine, Running, Outstanding, Machine, At, Coordinator, Step, Edits, Start, Tick, Open, Up, Halted, Down, Steps, Runs, Opens, Writes, DoesEdit, cut, edit_written, recovered, stopped, goes_on, ended, WasSent, IsOfSession, IsNothing, IsNext, StartsFrom, GoesOnAs}
+use Rattle.syn_headline.specs.World.{World, Running, Outstanding, Step, Start, Tick, Up, Steps, Runs, cut, edit_written, recovered, stopped, goes_on, ended, WasSent, IsOfSession, IsNothing, IsNext, StartsFrom, GoesOnAs}
 use Rattle.syn_headline.specs.Witness.{new_machine, opened_world, OpenedIsStart, StopIsRecovered, SilenceEnds, a_path, put_one, unanswered}
 use Rattle.syn_headline.proofs.FormattedLemmas.{formatted_is_pair}
-use Rattle.syn_headline.proofs.WitnessTrees.{alone, with_file, root-entries, put-entries, fits_by, get_by, path_of_letter, one_byte, one_fits}
-use Rattle.syn_headline.proofs.WitnessSteps.{up_not_down, up_not_halted, goes, both_sent}
+use Rattle.syn_headline.proofs.WitnessTrees.{alone, root-entries, put-entries, get_by, path_of_letter, one_byte, one_fits}
+use Rattle.syn_headline.proofs.WitnessSteps.{goes}
 use Rattle.syn_headline.proofs.WitnessMessages.{IsNumbered, numbers_tell, asks_once}
 
 pub opened_is_start : OpenedIsStart
@@ -50,9 +49,11 @@ pub stop_is_recovered : StopIsRecovered
 unfolding cut_world recovered_world
 stop_is_recovered = record {
   new = recovered_world;
-  runs =
-      (cut_world, (stopped new_machine (Some (Edited 1 put_one)), [], edit_written _ [] refl edit_allowed cut, refl),
-      (recovered_world, inr (refl, (recovered_world.left, Edited 1 put_one ∷ [], recovered (Edited 1 put_one) refl edit_allowed, refl)), refl));
+  runs = (
+    cut_world,
+    (stopped new_machine (Some (Edited 1 put_one)), [], edit_written _ [] refl edit_allowed cut, refl),
+    (recovered_world, inr (refl, (recovered_world.left, Edited 1 put_one ∷ [], recovered (Edited 1 put_one) refl edit_allowed, refl)), refl),
+  );
   acknowledged_then = refl;
   reported = refl;
   ends_well = (refl, refl);
@@ -104,9 +105,12 @@ begins_lawful running sent e =
 
 starts : Steps opened_world Start (waiting 0)
 unfolding begins
-starts = inr (refl, goes opened_world (IsNext new_archive) (StartsFrom new_archive) (record { marks = empty_directory; last_session = 1 }) (Some (waiting_for 0)) (begins 1) (Session 1 ∷ []) []
-    refl (All-cons (IsNext new_archive) (Session 1) [] refl (All-nil (IsNext new_archive))) (record { lawful = tt; not_refused = refl }, tt) refl
-    (refl, refl) (refl, begin_waits 0, inl refl) (begins_tell 1) (begins_once 1) (begins_lawful (waiting_for 0) [] refl))
+starts = inr (
+  refl,
+  goes opened_world (IsNext new_archive) (StartsFrom new_archive) (record { marks = empty_directory; last_session = 1 }) (Some (waiting_for 0)) (begins 1) (Session 1 ∷ []) []
+      refl (All-cons (IsNext new_archive) (Session 1) [] refl (All-nil (IsNext new_archive))) (record { lawful = tt; not_refused = refl }, tt) refl
+      (refl, refl) (refl, begin_waits 0, inl refl) (begins_tell 1) (begins_once 1) (begins_lawful (waiting_for 0) [] refl),
+)
 
 resends : (resent : ℕ) → Steps (waiting resent) Tick (waiting (suc resent))
 unfolding begins

@@ -1,9 +1,9 @@
 -- The messages of the witness runs: on each side every kind of request has its own number.
-use Rattle.std.proofs.Common.{◌≡◌, ℕ, zero, suc, List, [], ◌∷◌, ◌++◌, refl, sym, ap, ◌∙◌, inl, inr}
-use Rattle.std.specs.Prelude.{All, Contains}
+use Rattle.std.proofs.Common.{◌≡◌, ℕ, ◌++◌, refl, sym, ap, ◌∙◌}
+use Rattle.std.specs.Prelude.{All}
 use Rattle.std.proofs.lemmas.List.Elements.{All-contains, Contains-append_left}
 use Rattle.syn_headline.specs.Side.{Request, Begin, ListAt, Fetch, Stage, Replace}
-use Rattle.syn_headline.specs.Network.{Which, Left, Right, Message, Asks, Answers, Sent, NumbersTell, AsksNothingTwice, IsRepeat}
+use Rattle.syn_headline.specs.Network.{Which, Message, Asks, Answers, Sent, NumbersTell, AsksNothingTwice, IsRepeat}
 
 abbrev pub kind : Request → ℕ
 kind (Begin pair) = 0

@@ -1,24 +1,22 @@
 -- What the scans of the witness session find, and its plan.
-use Rattle.std.proofs.Common.{◌≡◌, ◌≢◌, ℕ, suc, zero, ◌<◌, ◌≤◌, ◌+◌, ◌%◌, Bool, true, false, true≢false, not, cond, ◌&&◌, nat_le, List, [], ◌∷◌, ◌++◌, map, filter_map, flat_map, length, refl, sym, ap, ap₂, ◌∙◌, subst, Option, Some, None, arith, inl, inr}
-use Rattle.std.specs.Prelude.{All, Contains}
+use Rattle.std.proofs.Common.{◌≡◌, ℕ, suc, zero, ◌<◌, Bool, true, false, true≢false, cond, List, [], ◌∷◌, ◌++◌, map, filter_map, flat_map, length, refl, sym, ap, ap₂, ◌∙◌, subst, Some, None, arith, inr}
 use Rattle.std.specs.Ordering.{eq_by_cmp}
-use Rattle.std.specs.FinMap.{entries, empty, from_entries, keys, get, find, put, insert, entries-insert, len-entries, len-empty, same_entries_map}
+use Rattle.std.specs.FinMap.{entries, empty, from_entries, keys, find, put, entries-insert, len-entries, len-empty, same_entries_map}
 use Rattle.std.specs.Int.{byte_at, to_be_bytes, bytes_high_first, w32}
-use Rattle.std.proofs.lemmas.List.Elements.{All-nil, All-cons, All-append, All-from_recursion}
+use Rattle.std.proofs.lemmas.List.Elements.{All-nil, All-cons, All-append}
 use Rattle.sha2.specs.Sha256.{sha256, digest_bytes}
 use Rattle.syn_model.specs.Path.{Path, Name, IsName, root, child, path_cmp, name_cmp}
-use Rattle.syn_model.specs.Tree.{Tree, Pair, Content, IsPart, IsTree, Directory, File, Contents, contents_of, content_of, absent, at_root, file, empty_directory, replace, subtree, taken_off, is_directory, is_directory_content}
+use Rattle.syn_model.specs.Tree.{Tree, Pair, Content, IsPart, IsTree, Directory, File, Contents, contents_of, at_root, empty_directory, replace, subtree, taken_off, is_directory, is_directory_content}
 use Rattle.syn_model.specs.Limits.{children}
 use Rattle.syn_model.specs.Event.{Edited, Began, AreBytes}
 use Rattle.syn_model.specs.History.{History, tree_of}
-use Rattle.syn_model.specs.Mark.{mark, mark_of}
-use Rattle.syn_model.specs.Dirty.{Scan, is_same_tree, are_same_pairs, dirty}
-use Rattle.syn_model.specs.Decision.{Item, Decision, Do, GoOn, ToRight, decision}
-use Rattle.syn_model.specs.Plan.{items_from, names_below, with_items_below, most_names}
+use Rattle.syn_model.specs.Mark.{mark}
+use Rattle.syn_model.specs.Dirty.{Scan, is_same_tree, are_same_pairs}
+use Rattle.syn_model.specs.Decision.{Do, GoOn, ToRight, decision}
+use Rattle.syn_model.specs.Plan.{items_from, names_below, with_items_below}
 use Rattle.syn_model.specs.Plan.{plan as items_of}
 use Rattle.syn_model.specs.Rows.{a_name}
 use Rattle.syn_model.proofs.PathLemmas.{name_total, same_path}
-use Rattle.syn_model.proofs.TreeLemmas.{subtree-root}
 use Rattle.syn_model.proofs.SubtreeLemmas.{subtree_entries}
 use Rattle.syn_model.proofs.HistoryLemmas.{empty-is_tree, at_root-is_part, replace-is_tree, same_file}
 use Rattle.syn_headline.specs.Witness.{a_path, put_one, one}
@@ -138,8 +136,12 @@ directory_by : (t : Tree) (ts : List Pair) (path : Path) → entries t ≡ ts �
 directory_by t ts path e = ap is_directory_content (get_by t ts path e)
 
 goes_on_at_root : decision left_scan right_scan empty_directory root ≡ GoOn
-goes_on_at_root = rw (left_root_differs, directory_by left_scan.marks (with_file (File digest)) root left_marks-entries, directory_by right_scan.marks alone root right_marks-entries,
-    directory_by empty_directory alone root (root-entries Directory)) refl
+goes_on_at_root = rw (
+  left_root_differs,
+  directory_by left_scan.marks (with_file (File digest)) root left_marks-entries,
+  directory_by right_scan.marks alone root right_marks-entries,
+  directory_by empty_directory alone root (root-entries Directory),
+) refl
 
 left_differs : is_same_tree (subtree left_scan.marks a_path) (subtree empty_directory a_path) ≡ false
 left_differs = same_by _ _ ((root, File digest) ∷ []) [] (part-entries _ (with_file (File digest)) a_path left_marks-entries) (part-entries _ alone a_path (root-entries Directory))

@@ -1,29 +1,29 @@
 -- A whole session over one file, step by step.
-use Rattle.std.proofs.Common.{◌≡◌, ◌≢◌, ℕ, ◌<◌, ◌≤◌, ◌^◌, zero, suc, ◌&&◌, nat_le, Bool, true, false, List, [], ◌∷◌, ◌++◌, map, take, drop, length, refl, sym, ap, ◌∙◌, subst, Option, Some, None, arith, inl, inr}
-use Rattle.std.specs.Prelude.{All, Contains, IsSomeAnd}
-use Rattle.std.specs.List.{AllByRecursion, list_all}
-use Rattle.std.specs.FinMap.{entries, get, len}
+use Rattle.std.proofs.Common.{◌≡◌, ℕ, ◌<◌, zero, suc, ◌&&◌, nat_le, true, List, [], ◌∷◌, ◌++◌, take, drop, length, refl, sym, ap, ◌∙◌, subst, Option, Some, None, arith, inl, inr}
+use Rattle.std.specs.Prelude.{All, Contains}
+use Rattle.std.specs.List.{list_all}
+use Rattle.std.specs.FinMap.{len}
 use Rattle.std.proofs.lemmas.List.{take-append-drop}
 use Rattle.std.proofs.lemmas.List.Elements.{All-nil, All-cons, All-from_recursion}
-use Rattle.syn_model.specs.Path.{Bytes, Path, IsName, IsPath, root}
-use Rattle.syn_model.specs.Tree.{Tree, IsPart, Directory, File, contents_of, empty_directory, file, at_root, replace, subtree, is_directory}
+use Rattle.syn_model.specs.Path.{Path, IsName, IsPath, root}
+use Rattle.syn_model.specs.Tree.{IsPart, Directory, File, contents_of, empty_directory, replace, subtree}
 use Rattle.syn_model.specs.Limits.{children, fits_part, fits_paths, fits_content, fits_path}
 use Rattle.syn_model.specs.Mark.{mark}
 use Rattle.syn_model.specs.Spelling.{spelling, spelling_within, content_spelling}
-use Rattle.syn_model.specs.Event.{Event, Edited, Began, Replaced, AreBytes}
-use Rattle.syn_model.specs.History.{History, tree_of}
+use Rattle.syn_model.specs.Event.{Edited, Began, Replaced, AreBytes}
+use Rattle.syn_model.specs.History.{tree_of}
 use Rattle.syn_model.specs.Archive.{Archive, Kept, Session, Recorded, CanKeep, new_archive, archive_of}
 use Rattle.syn_model.specs.Decision.{ToRight}
 use Rattle.syn_model.specs.Dirty.{Scan}
 use Rattle.syn_model.proofs.TreeLemmas.{subtree-replace}
 use Rattle.syn_model.proofs.HistoryLemmas.{at_root-is_part, same_file}
 use Rattle.syn_headline.specs.Rows.{file_bytes, has_room}
-use Rattle.syn_headline.specs.Side.{Side, Staging, Request, Begin, ListAt, Fetch, Stage, Replace, Reply, Begun, Listed, NotDir, Piece, Staged, Done, Reads, answer, serve, token_of}
+use Rattle.syn_headline.specs.Side.{Side, Request, Begin, ListAt, Fetch, Stage, Replace, Reply, Begun, Listed, Piece, Staged, Done, answer, serve, token_of}
 use Rattle.syn_headline.specs.Network.{Which, Left, Right, Message, Asks, Answers, Sent, NumbersTell, AsksNothingTwice, WasAnswered}
 use Rattle.syn_headline.specs.Acknowledged.{Ack, Happened, Kept_by}
-use Rattle.syn_headline.specs.Planning.{Planned, Seen, IsPlanOf, IsScanOf, HasBegun, SeesBoth}
+use Rattle.syn_headline.specs.Planning.{Planned, IsPlanOf, IsScanOf, HasBegun, SeesBoth}
 use Rattle.syn_headline.specs.Report.{Report}
-use Rattle.syn_headline.specs.World.{World, SideMachine, Running, Outstanding, Machine, Step, Edits, Start, Deliver, Up, Steps, Runs, written, edit_written, IsOfSession, IsDue, done, IsNext, StartsFrom, GoesOnAs, goes_on, ended, TakesAnswer, taken, IsDueAfter, GoesOnFrom, IsOver, RunsOver, IsExpected, HasPlan, AllCanKeep, AllOfSession}
+use Rattle.syn_headline.specs.World.{World, Running, Outstanding, Edits, Start, Deliver, Up, Steps, written, edit_written, IsOfSession, IsDue, done, IsNext, StartsFrom, goes_on, ended, TakesAnswer, taken, IsDueAfter, GoesOnFrom, IsOver, RunsOver, IsExpected, HasPlan, AllCanKeep, AllOfSession}
 use Rattle.syn_headline.specs.Witness.{opened_world, a_path, put_one, one, complete, FileIsCarried}
 use Rattle.syn_headline.specs.Headline.{IsQuietSession, IsNoEdit, formatted, stores_of}
 use Rattle.syn_headline.proofs.WitnessTrees.{alone, children_in, with_file, root-entries, put-entries, get_by, fits_archive_by, path_of_letter, one_byte, one_fits}
@@ -313,10 +313,13 @@ takes old from number reply plan archive next messages kept reports up expected 
     archive next messages kept reports up due can is (on, over) runs tell twice of)
 
 starts : Steps edited_world Start started
-starts = inr (refl, goes edited_world (IsNext new_archive) (StartsFrom new_archive) begun_archive (Some both_begin) (take 2 messages) (Session 1 ∷ []) []
-    refl (All-cons (IsNext new_archive) (Session 1) [] refl (All-nil (IsNext new_archive))) (record { lawful = tt; not_refused = refl }, tt) refl
-    (refl, refl) (refl, both_sent (take 2 messages) both_begin (0, omega arith, refl) (1, omega arith, refl), inl refl) (tells 2) (once 2)
-    (All-from_recursion (IsOfSession [] both_begin) (take 2 messages) ((refl, (omega arith, omega arith), tt), ((refl, (omega arith, omega arith), tt), tt))))
+starts = inr (
+  refl,
+  goes edited_world (IsNext new_archive) (StartsFrom new_archive) begun_archive (Some both_begin) (take 2 messages) (Session 1 ∷ []) []
+      refl (All-cons (IsNext new_archive) (Session 1) [] refl (All-nil (IsNext new_archive))) (record { lawful = tt; not_refused = refl }, tt) refl
+      (refl, refl) (refl, both_sent (take 2 messages) both_begin (0, omega arith, refl) (1, omega arith, refl), inl refl) (tells 2) (once 2)
+      (All-from_recursion (IsOfSession [] both_begin) (take 2 messages) ((refl, (omega arith, omega arith), tt), ((refl, (omega arith, omega arith), tt), tt))),
+)
 
 takes_left_begun : Steps both_begun (Deliver 2) right_awaited
 takes_left_begun = takes both_begun Left 0 (Begun 2) [] begun_archive (Some right_begins) [] [] [] refl (refl, refl) (inl refl) (All-nil (IsDue both_begin [] Left (Begun 2))) tt refl
@@ -351,17 +354,27 @@ takes_piece : Steps fetched (Deliver 9) staging
 takes_piece = takes fetched Left 2 (Piece 6 file_bytes) plan begun_archive (Some right_stages) (drop 10 (take 11 messages)) [] [] refl (refl, refl) (inl refl)
     (All-nil (IsDue left_fetches plan Left (Piece 6 file_bytes))) tt refl
     (goes_on right_stages refl refl) tt (refl, both_sent (take 11 messages) right_stages tt (10, omega arith, refl), inr refl) (tells 11) (once 11)
-    (All-from_recursion (IsOfSession (take 10 messages) right_stages) (drop 10 (take 11 messages))
-    ((refl, (omega arith, (omega arith, omega arith, (omega arith, omega arith, bytes_lawful))),
-        (planned, refl, (6, record { number = 2; asked = (8, omega arith, refl); answered = (9, omega arith, refl) }))), tt))
+    (All-from_recursion (IsOfSession (take 10 messages) right_stages) (drop 10 (take 11 messages)) (
+      (
+        refl,
+        (omega arith, (omega arith, omega arith, (omega arith, omega arith, bytes_lawful))),
+        (planned, refl, (6, record { number = 2; asked = (8, omega arith, refl); answered = (9, omega arith, refl) })),
+      ),
+      tt,
+    ))
 
 takes_staged : Steps staged (Deliver 11) replacing
 takes_staged = takes staged Right 2 Staged plan begun_archive (Some right_replaces) (drop 12 (take 13 messages)) [] [] refl (refl, refl) (inl refl)
     (All-nil (IsDue right_stages plan Right Staged)) tt refl
     (goes_on right_replaces refl refl) (λ e. omega (arith, e)) (refl, both_sent (take 13 messages) right_replaces tt (12, omega arith, refl), inr refl) (tells 13) (once 13)
-    (All-from_recursion (IsOfSession (take 12 messages) right_replaces) (drop 12 (take 13 messages))
-    ((refl, (omega arith, (omega arith, path_of_letter, omega arith, omega arith)),
-        (planned, refl, refl, refl, (0, file_bytes, record { number = 2; asked = (8, omega arith, refl); answered = (9, omega arith, refl) }))), tt))
+    (All-from_recursion (IsOfSession (take 12 messages) right_replaces) (drop 12 (take 13 messages)) (
+      (
+        refl,
+        (omega arith, (omega arith, path_of_letter, omega arith, omega arith)),
+        (planned, refl, refl, refl, (0, file_bytes, record { number = 2; asked = (8, omega arith, refl); answered = (9, omega arith, refl) })),
+      ),
+      tt,
+    ))
 
 can_record : CanKeep begun_archive (Recorded a_path (mark one))
 can_record =
@@ -402,9 +415,55 @@ quiet = record {
 pub file_is_carried : FileIsCarried
 file_is_carried = record {
   new = carried;
-  runs = (edited_world, edits, (started, starts, (left_begun, begins_left, (both_begun, begins_right, (right_awaited, takes_left_begun, (listing, takes_right_begun,
-      (left_listed, lists_left, (both_listed, lists_right, (right_list_awaited, takes_left_listing, (fetching, takes_right_listing, (fetched, fetches, (staging, takes_piece,
-      (staged, stages, (replacing, takes_staged, (replaced, replaces, (carried, takes_done, refl))))))))))))))));
+  runs = (
+    edited_world,
+    edits,
+    (
+      started,
+      starts,
+      (
+        left_begun,
+        begins_left,
+        (
+          both_begun,
+          begins_right,
+          (
+            right_awaited,
+            takes_left_begun,
+            (
+              listing,
+              takes_right_begun,
+              (
+                left_listed,
+                lists_left,
+                (
+                  both_listed,
+                  lists_right,
+                  (
+                    right_list_awaited,
+                    takes_left_listing,
+                    (
+                      fetching,
+                      takes_right_listing,
+                      (
+                        fetched,
+                        fetches,
+                        (
+                          staging,
+                          takes_piece,
+                          (staged, stages, (replacing, takes_staged, (replaced, replaces, (carried, takes_done, refl)))),
+                        ),
+                      ),
+                    ),
+                  ),
+                ),
+              ),
+            ),
+          ),
+        ),
+      ),
+    ),
+  );
   acknowledged_then = refl;
   reported = refl;
   ends_well = record { left = left_one; right = right_one; archive = subtree-replace empty_directory a_path (mark one); quiet = quiet };

@@ -1,23 +1,21 @@
 -- A step of a witness run where no device fails and no machine stops.
-use Rattle.std.proofs.Common.{◌≡◌, ◌≢◌, ℕ, ◌<◌, Bool, true, false, true≢false, List, [], ◌∷◌, ◌++◌, map, length, if◌then◌else◌, refl, sym, ap, ◌∙◌, subst, Option, Some, None, arith, inl, inr}
-use Rattle.std.specs.Prelude.{All, Contains, IfSome, IsSome}
+use Rattle.std.proofs.Common.{◌≡◌, ◌≢◌, ℕ, true, true≢false, List, [], ◌∷◌, ◌++◌, map, length, if◌then◌else◌, refl, sym, ap, ◌∙◌, subst, Option, Some, None, arith, inl}
+use Rattle.std.specs.Prelude.{All, Contains, IfSome}
 use Rattle.std.specs.FinMap.{get, len}
 use Rattle.syn_model.specs.Path.{Path, root}
 use Rattle.syn_model.specs.Tree.{Tree, Content, Directory, File, is_directory}
 use Rattle.syn_model.specs.Limits.{children}
 use Rattle.syn_model.specs.Mark.{mark}
-use Rattle.syn_model.specs.Refusal.{Device}
 use Rattle.syn_model.specs.Event.{Event}
 use Rattle.syn_model.specs.History.{tree_of}
 use Rattle.syn_model.specs.Archive.{Archive, Kept, archive_of}
-use Rattle.syn_model.specs.Spelling.{content_spelling, spelling, spelling_within}
+use Rattle.syn_model.specs.Spelling.{content_spelling, spelling_within}
 use Rattle.syn_headline.specs.Rows.{has_room}
-use Rattle.syn_headline.specs.Side.{Side, Request, ListAt, Reply, Begun, Listed, NotDir, Piece, Staged, Done, Refused, Reads, answer, serve, list_at, staged_bytes}
+use Rattle.syn_headline.specs.Side.{Side, Request, Reply, Begun, Listed, NotDir, Piece, Staged, Done, Refused, Reads, answer, serve, list_at, staged_bytes}
 use Rattle.syn_headline.specs.Network.{Which, Left, Right, Message, Asks, Answers, Sent, NumbersTell, AsksNothingTwice}
 use Rattle.syn_headline.specs.Acknowledged.{Happened, Kept_by}
-use Rattle.syn_headline.specs.Planning.{Planned}
 use Rattle.syn_headline.specs.Report.{Report}
-use Rattle.syn_headline.specs.World.{World, Status, Up, Halted, Down, Running, TakesRequest, answered, ServesAs, TakesAnswer, taken, CoordinatorGoes, IsExpected, HasPlan, IsDueAfter, AllCanKeep, GoesOnFrom, IsOver, RunsOver, WasSent, AllOfSession, outstanding, side_of, set_side}
+use Rattle.syn_headline.specs.World.{World, Status, Up, Halted, Down, Running, TakesRequest, answered, ServesAs, CoordinatorGoes, AllCanKeep, RunsOver, WasSent, AllOfSession, side_of, set_side}
 
 abbrev is_up : Status → Type 0
 is_up Up = Unit {0}

@@ -11,7 +11,7 @@ use Rattle.syn_model.specs.Archive.{Session, Recorded, new_archive}
 use Rattle.syn_headline.specs.Network.{Left, Right}
 use Rattle.syn_headline.specs.Acknowledged.{Ack, Happened, Kept_by}
 use Rattle.syn_headline.specs.Report.{Report, Complete, Incomplete}
-use Rattle.syn_headline.specs.World.{World, Machine, At, Step, Edits, Start, Deliver, Tick, Open, Up, SideMachine, Runs}
+use Rattle.syn_headline.specs.World.{World, At, Step, Edits, Start, Deliver, Tick, Open, Up, SideMachine, Runs}
 use Rattle.syn_headline.specs.Headline.{IsStart, formatted, stores_of, IsQuietSession}
 use Rattle.syn_headline.specs.Side.{token_of}
 use Rattle.syn_headline.specs.Rows.{new_side}
