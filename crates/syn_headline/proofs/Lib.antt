@@ -15,6 +15,7 @@ pub mod RunLemmas
 pub mod ArchiveLemmas
 pub mod RepeatLemmas
 pub mod WitnessTrees
+pub mod WitnessFiles
 pub mod WitnessMessages
 pub mod WitnessLemmas
 pub mod WitnessScans

@@ -10,9 +10,10 @@ use Rattle.syn_headline.specs.Side.{Begin}
 use Rattle.syn_headline.specs.Network.{Which, Left, Right, Asks, Sent, NumbersTell, AsksNothingTwice}
 use Rattle.syn_headline.specs.Acknowledged.{Happened, Kept_by}
 use Rattle.syn_headline.specs.World.{World, Running, Outstanding, Step, Start, Tick, Up, Steps, Runs, cut, edit_written, recovered, stopped, goes_on, ended, WasSent, IsOfSession, IsNothing, IsNext, StartsFrom, GoesOnAs}
-use Rattle.syn_headline.specs.Witness.{new_machine, opened_world, OpenedIsStart, StopIsRecovered, SilenceEnds, a_path, put_one, unanswered}
+use Rattle.syn_headline.specs.Witness.{new_machine, opened_world, OpenedIsStart, StopIsRecovered, SilenceEnds, a_path, put_one, one, unanswered}
 use Rattle.syn_headline.proofs.FormattedLemmas.{formatted_is_pair}
-use Rattle.syn_headline.proofs.WitnessTrees.{alone, root-entries, put-entries, get_by, path_of_letter, one_byte, one_fits}
+use Rattle.syn_headline.proofs.WitnessTrees.{fits_by}
+use Rattle.syn_headline.proofs.WitnessFiles.{IsLetter, content, with_file, alone-entries, file-entries, put-entries, put_allowed}
 use Rattle.syn_headline.proofs.WitnessSteps.{goes}
 use Rattle.syn_headline.proofs.WitnessMessages.{IsNumbered, numbers_tell, asks_once}
 
@@ -25,16 +26,13 @@ opened_is_start = record {
   nothing_yet = (refl, refl, refl);
 }
 
+pub letter_a : IsLetter 97
+letter_a = record { ascii = omega arith; no_zero = λ e. omega (arith, e); no_dot = λ e. omega (arith, e); no_slash = λ e. omega (arith, e) }
+
 -- the edit is allowed on a new side
 pub edit_allowed : IsAllowed [] (Edited 1 put_one)
-unfolding tree_of
-edit_allowed =
-    let old = root-entries Directory in
-    let new = put-entries empty_directory (file (49 ∷ [])) (File (contents_of (49 ∷ []))) old (root-entries (File (contents_of (49 ∷ [])))) in
-    record {
-      lawful = (omega arith, (path_of_letter, one_byte));
-      not_refused = rw (get_by empty_directory alone [] old, get_by empty_directory alone a_path old, one_fits (replace empty_directory a_path (file (49 ∷ []))) new) refl;
-    }
+edit_allowed = put_allowed 1 97 49 (omega arith) letter_a (omega arith)
+    (fits_by (replace empty_directory a_path one) (with_file 97 (content (49 ∷ []))) (put-entries empty_directory one 97 (content (49 ∷ [])) alone-entries (file-entries (49 ∷ []))))
 
 cut_world : World
 cut_world = record opened_world { left = stopped new_machine (Some (Edited 1 put_one)) }

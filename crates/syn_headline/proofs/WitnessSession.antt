@@ -5,6 +5,7 @@ use Rattle.std.specs.List.{list_all}
 use Rattle.std.specs.FinMap.{len}
 use Rattle.std.proofs.lemmas.List.{take-append-drop}
 use Rattle.std.proofs.lemmas.List.Elements.{All-nil, All-cons, All-from_recursion}
+use Rattle.sha2.specs.Sha256.{sha256}
 use Rattle.syn_model.specs.Path.{Path, IsName, IsPath, root}
 use Rattle.syn_model.specs.Tree.{IsPart, Directory, File, contents_of, empty_directory, replace, subtree}
 use Rattle.syn_model.specs.Limits.{children, fits_part, fits_paths, fits_content, fits_path}
@@ -26,11 +27,12 @@ use Rattle.syn_headline.specs.Report.{Report}
 use Rattle.syn_headline.specs.World.{World, Running, Outstanding, Edits, Start, Deliver, Up, Steps, written, edit_written, IsOfSession, IsDue, done, IsNext, StartsFrom, goes_on, ended, TakesAnswer, taken, IsDueAfter, GoesOnFrom, IsOver, RunsOver, IsExpected, HasPlan, AllCanKeep, AllOfSession}
 use Rattle.syn_headline.specs.Witness.{opened_world, a_path, put_one, one, complete, FileIsCarried}
 use Rattle.syn_headline.specs.Headline.{IsQuietSession, IsNoEdit, formatted, stores_of}
-use Rattle.syn_headline.proofs.WitnessTrees.{alone, children_in, with_file, root-entries, put-entries, get_by, fits_archive_by, path_of_letter, one_byte, one_fits}
-use Rattle.syn_headline.proofs.WitnessScans.{left_history, right_history, left_scan, right_scan, left_marks_whole, right_marks_whole, left_root_only, right_root_only, left_root, right_root, left_part, plan_is, mark_is_part, one_marks-entries, digest}
+use Rattle.syn_headline.proofs.WitnessTrees.{get_by, fits_by, fits_archive_by}
+use Rattle.syn_headline.proofs.WitnessFiles.{alone, with_file, content, digest, alone-entries, file-entries, file_mark-entries, put-entries, marked_whole, alone_whole, root_only, root_alone, path_of_letter, one_byte, file_is_part, file_spelling, file_fits_part, file_fits_paths, mark_is_part}
+use Rattle.syn_headline.proofs.WitnessScans.{left_history, right_history, left_scan, right_scan, left-entries, right_marks-entries, left_marks-entries, left_root, right_root, left_part, plan_is}
 use Rattle.syn_headline.proofs.WitnessMessages.{IsNumbered, numbers_tell, asks_once, tell_before, once_before}
 use Rattle.syn_headline.proofs.WitnessSteps.{reads_nothing, serves, lists, goes, both_sent, after_call}
-use Rattle.syn_headline.proofs.WitnessLemmas.{edit_allowed}
+use Rattle.syn_headline.proofs.WitnessLemmas.{letter_a, edit_allowed}
 
 -- The sides, before and after
 abbrev pub left_side : Side
@@ -215,12 +217,8 @@ left_one : subtree (tree_of left_history) a_path ≡ one
 unfolding tree_of
 left_one = subtree-replace empty_directory a_path one
 
-one_spelling : spelling one ≡ file_bytes
-unfolding spelling_within
-one_spelling = ap (content_spelling (spelling_within (len one)) one) (get_by one ((root, File (contents_of (49 ∷ []))) ∷ []) root (root-entries (File (contents_of (49 ∷ [])))))
-
 piece_is : answer left_side (Piece 6 file_bytes) ≡ serve 7 has_room None left_side 1 (Fetch a_path 2 0)
-piece_is = ap (λ bytes. answer left_side (Piece (length bytes) (take 32768 (drop 0 bytes)))) (sym (ap spelling left_one ∙ one_spelling))
+piece_is = ap (λ bytes. answer left_side (Piece (length bytes) (take 32768 (drop 0 bytes)))) (sym (ap spelling left_one ∙ file_spelling (49 ∷ [])))
 
 fetches : Steps fetching (Deliver 8) fetched
 fetches = serves fetching Left 1 2 (Fetch a_path 2 0) None left_side (Piece 6 file_bytes) [] refl reads_nothing piece_is tt refl
@@ -228,24 +226,15 @@ fetches = serves fetching Left 1 2 (Fetch a_path 2 0) None left_side (Piece 6 fi
 stages : Steps staging (Deliver 10) staged
 stages = serves staging Right 1 2 (Stage 0 0 file_bytes) None right_staged Staged [] refl reads_nothing refl tt refl
 
-one_whole : IsPart one
-one_whole = at_root-is_part (File (contents_of (49 ∷ []))) (λ contents e. subst AreBytes (same_file (contents_of (49 ∷ [])) contents e) one_byte)
-
-one_fits_part : fits_part one ≡ true
-one_fits_part = ap (λ es. list_all (λ pair. fits_content pair.1 && nat_le (length (children_in es pair.0)) 256) es) (root-entries (File (contents_of (49 ∷ []))))
-
-one_fits_paths : fits_paths one ≡ true
-one_fits_paths = ap (list_all (λ pair. fits_path pair.0)) (root-entries (File (contents_of (49 ∷ []))))
-
 done_is : answer right_done Done ≡ serve 7 has_room (Some one) right_staged 1 (Replace 0 a_path 1 6)
 unfolding tree_of
 done_is =
-    let old = root-entries Directory in
-    let new = put-entries empty_directory one (File (contents_of (49 ∷ []))) old (root-entries (File (contents_of (49 ∷ [])))) in
-    rw (get_by empty_directory alone root old, one_fits (replace empty_directory a_path one) new) refl
+    let new = put-entries empty_directory one 97 (content (49 ∷ [])) alone-entries (file-entries (49 ∷ [])) in
+    let fits = fits_by (replace empty_directory a_path one) (with_file 97 (content (49 ∷ []))) new in
+    rw (get_by empty_directory alone root alone-entries, fits) refl
 
 replaces : Steps replacing (Deliver 12) replaced
-replaces = serves replacing Right 1 3 (Replace 0 a_path 1 6) (Some one) right_done Done (Replaced (token_of 1 0) a_path 1 one ∷ []) refl (one_whole, one_fits_part, one_fits_paths, one_spelling) done_is tt refl
+replaces = serves replacing Right 1 3 (Replace 0 a_path 1 6) (Some one) right_done Done (Replaced (token_of 1 0) a_path 1 one ∷ []) refl (file_is_part (49 ∷ []) (one_byte 49 (omega arith)), file_fits_part 49, file_fits_paths 49, file_spelling (49 ∷ [])) done_is tt refl
 
 -- The plan is of what the sides listed
 abbrev scans : Which → Scan
@@ -265,8 +254,8 @@ none_there path (k, less, e) = omega (arith, less)
 
 left_scanned : IsScanOf (take 8 messages) Left 1 left_scan (listed_at Left)
 left_scanned = record {
-  tree = left_marks_whole;
-  listed = λ path there stable. subst (λ at. WasAnswered (take 8 messages) Left 1 (ListAt at) (Listed 2 (children left_scan.marks at))) (sym (left_root_only path there))
+  tree = marked_whole (tree_of left_history) 97 (49 ∷ []) letter_a left-entries;
+  listed = λ path there stable. subst (λ at. WasAnswered (take 8 messages) Left 1 (ListAt at) (Listed 2 (children left_scan.marks at))) (sym (root_only left_scan.marks 97 (sha256 (49 ∷ [])) left_marks-entries path there))
       (record { number = 1; asked = (4, omega arith, refl); answered = (6, omega arith, refl) });
   ordered = λ path name there. omega arith;
   not_dir = λ path c. absurd (none_there path c);
@@ -275,8 +264,8 @@ left_scanned = record {
 
 right_scanned : IsScanOf (take 8 messages) Right 1 right_scan (listed_at Right)
 right_scanned = record {
-  tree = right_marks_whole;
-  listed = λ path there stable. subst (λ at. WasAnswered (take 8 messages) Right 1 (ListAt at) (Listed 1 (children right_scan.marks at))) (sym (right_root_only path there))
+  tree = alone_whole right_scan.marks right_marks-entries;
+  listed = λ path there stable. subst (λ at. WasAnswered (take 8 messages) Right 1 (ListAt at) (Listed 1 (children right_scan.marks at))) (sym (root_alone right_scan.marks right_marks-entries path there))
       (record { number = 1; asked = (5, omega arith, refl); answered = (7, omega arith, refl) });
   ordered = λ path name there. omega arith;
   not_dir = λ path c. absurd (none_there path c);
@@ -345,7 +334,7 @@ takes_right_listing = takes right_list_awaited Right 1 (Listed 1 (children right
     (All-nil (IsDue right_lists plan Right (Listed 1 (children right_scan.marks root)))) tt refl
     (goes_on left_fetches refl refl) tt (refl, both_sent (take 9 messages) left_fetches (8, omega arith, refl) tt, inl refl) (tells 9) (once 9)
     (All-from_recursion (IsOfSession (take 8 messages) left_fetches) (drop 8 (take 9 messages))
-    ((refl, (omega arith, (path_of_letter, omega arith, omega arith)), (0, planned, refl, refl, refl)), tt))
+    ((refl, (omega arith, (path_of_letter 97 letter_a, omega arith, omega arith)), (0, planned, refl, refl, refl)), tt))
 
 bytes_lawful : AreBytes file_bytes
 bytes_lawful = All-from_recursion (λ byte. byte < 256) file_bytes (omega arith, (omega arith, (omega arith, (omega arith, (omega arith, (omega arith, tt))))))
@@ -370,7 +359,7 @@ takes_staged = takes staged Right 2 Staged plan begun_archive (Some right_replac
     (All-from_recursion (IsOfSession (take 12 messages) right_replaces) (drop 12 (take 13 messages)) (
       (
         refl,
-        (omega arith, (omega arith, path_of_letter, omega arith, omega arith)),
+        (omega arith, (omega arith, path_of_letter 97 letter_a, omega arith, omega arith)),
         (planned, refl, refl, refl, (0, file_bytes, record { number = 2; asked = (8, omega arith, refl); answered = (9, omega arith, refl) })),
       ),
       tt,
@@ -378,11 +367,10 @@ takes_staged = takes staged Right 2 Staged plan begun_archive (Some right_replac
 
 can_record : CanKeep begun_archive (Recorded a_path (mark one))
 can_record =
-    let old = root-entries Directory in
-    let new = put-entries empty_directory (mark one) (File digest) old one_marks-entries in
+    let new = put-entries empty_directory (mark one) 97 (digest (49 ∷ [])) alone-entries (file_mark-entries (49 ∷ [])) in
     record {
-      lawful = (path_of_letter, mark_is_part);
-      not_refused = rw (get_by empty_directory alone root old, fits_archive_by (replace empty_directory a_path (mark one)) (with_file (File digest)) new) refl;
+      lawful = (path_of_letter 97 letter_a, mark_is_part (49 ∷ []));
+      not_refused = rw (get_by empty_directory alone root alone-entries, fits_archive_by (replace empty_directory a_path (mark one)) (with_file 97 (digest (49 ∷ []))) new) refl;
     }
 
 takes_done : Steps replaced (Deliver 13) carried

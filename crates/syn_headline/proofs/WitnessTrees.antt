@@ -7,13 +7,14 @@ use Rattle.std.proofs.lemmas.List.Elements.{All-nil, All-cons}
 use Rattle.std.specs.Str.{IsAscii}
 use Rattle.std.proofs.lemmas.Str.{IsUtf8-from_ascii}
 use Rattle.syn_model.specs.Path.{Path, Name, IsName, IsPath, root, path_cmp, strip_prefix, is_prefix}
-use Rattle.syn_model.specs.Tree.{Tree, Pair, Content, Directory, File, contents_of, absent, at_root, replace}
-use Rattle.syn_model.specs.Limits.{only_name, fits_content, fits_path, fits_replica, fits_archive, last_name_spelling_length, content_spelling_length}
+use Rattle.syn_model.specs.Tree.{Tree, Pair, Content, absent, at_root, replace, subtree, taken_off, is_directory, is_directory_content}
+use Rattle.syn_model.specs.Limits.{children, only_name, fits_content, fits_path, fits_replica, fits_archive, last_name_spelling_length, content_spelling_length}
 use Rattle.syn_model.specs.Event.{AreBytes}
 use Rattle.syn_model.specs.Mark.{mark, mark_of}
 use Rattle.syn_model.specs.Rows.{a_name}
 use Rattle.syn_model.proofs.PathLemmas.{path_total}
-use Rattle.syn_headline.specs.Witness.{a_path}
+use Rattle.syn_model.specs.Dirty.{is_same_tree, are_same_pairs}
+use Rattle.syn_model.proofs.SubtreeLemmas.{subtree_entries}
 
 no_length : (es : List Pair) → length es ≡ 0 → es ≡ []
 no_length [] e = refl
@@ -63,45 +64,15 @@ fits_by t ts e = ap₂ fits_in (len-entries t ∙ ap length e) e
 pub fits_archive_by : (t : Tree) (ts : List Pair) → entries t ≡ ts → fits_archive t ≡ (nat_le (length ts) 4096 && list_all (λ pair. fits_path pair.0) ts)
 fits_archive_by t ts e = ap₂ (λ n es. nat_le n 4096 && list_all (λ pair. fits_path pair.0) es) (len-entries t ∙ ap length e) e
 
--- lawful names and paths
-not_in_one : (a b : ℕ) → a ≢ b → ¬ Contains (a ∷ []) b
-not_in_one a b h (zero, k, e) = h e
-not_in_one a b h (suc n, k, e) = omega arith
+pub same_by : (t u : Tree) (ts us : List Pair) → entries t ≡ ts → entries u ≡ us → is_same_tree t u ≡ are_same_pairs ts us
+unfolding is_same_tree
+same_by t u ts us e f = ap₂ are_same_pairs e f
 
-letter_is_ascii : IsAscii a_name
-letter_is_ascii zero = omega arith
-letter_is_ascii (suc i) = omega arith
+pub part-entries : (t : Tree) (ts : List Pair) (path : Path) → entries t ≡ ts → entries (subtree t path) ≡ filter_map (taken_off path) ts
+part-entries t ts path e = subtree_entries t path ∙ ap (filter_map (taken_off path)) e
 
-pub name_of_letter : IsName a_name
-name_of_letter = record {
-  is_text = IsUtf8-from_ascii a_name letter_is_ascii;
-  not_empty = omega arith;
-  not_long = omega arith;
-  no_slash = not_in_one 97 47 (λ e. omega arith);
-  no_zero = not_in_one 97 0 (λ e. omega arith);
-  not_here = λ e. let h : 97 ≡ 46 = ap (λ n. get_or n 0 0) e in omega arith;
-  not_up = λ e. let h : 97 ≡ 46 = ap (λ n. get_or n 0 0) e in omega arith;
-}
+pub directory_by : (t : Tree) (ts : List Pair) (path : Path) → entries t ≡ ts → is_directory t path ≡ is_directory_content (find path_cmp path ts)
+directory_by t ts path e = ap is_directory_content (get_by t ts path e)
 
-pub path_of_letter : IsPath a_path
-path_of_letter = record {
-  names = All-cons IsName a_name [] name_of_letter (All-nil IsName);
-  not_deep = omega arith;
-  not_long = omega arith;
-}
-
-pub one_byte : AreBytes (49 ∷ [])
-one_byte = All-cons (λ byte. byte < 256) 49 [] (omega arith) (All-nil (λ byte. byte < 256))
-
--- the root alone, and with a file
-abbrev pub alone : List Pair
-alone = (root, Directory) ∷ []
-
-abbrev pub with_file : Content → List Pair
-with_file content = (root, Directory) ∷ (a_path, content) ∷ []
-
-pub put-entries : (t u : Tree) (content : Content) → entries t ≡ alone → entries u ≡ (root, content) ∷ [] → entries (replace t a_path u) ≡ with_file content
-put-entries t u content e f = replace-entries t a_path u alone ((root, content) ∷ []) e f
-
-pub one_fits : (t : Tree) → entries t ≡ with_file (File (contents_of (49 ∷ []))) → fits_replica t ≡ true
-one_fits t e = fits_by t (with_file (File (contents_of (49 ∷ [])))) e
+pub children_by : (t : Tree) (ts : List Pair) → entries t ≡ ts → children t root ≡ children_in ts root
+children_by t ts e = ap (λ es. children_in es root) e
