@@ -1,9 +1,9 @@
 -- The messages of the witness runs: on each side every kind of request has its own number.
-use Rattle.std.proofs.Common.{◌≡◌, ℕ, ◌++◌, refl, sym, ap, ◌∙◌}
+use Rattle.std.proofs.Common.{◌≡◌, ℕ, zero, suc, ◌++◌, refl, sym, ap, ◌∙◌}
 use Rattle.std.specs.Prelude.{All}
 use Rattle.std.proofs.lemmas.List.Elements.{All-contains, Contains-append_left}
 use Rattle.syn_headline.specs.Side.{Request, Begin, ListAt, Fetch, Stage, Replace}
-use Rattle.syn_headline.specs.Network.{Which, Message, Asks, Answers, Sent, NumbersTell, AsksNothingTwice, IsRepeat}
+use Rattle.syn_headline.specs.Network.{Which, Left, Right, Message, Asks, Answers, Sent, NumbersTell, AsksNothingTwice, IsRepeat}
 
 abbrev pub kind : Request → ℕ
 kind (Begin pair) = 0
@@ -59,3 +59,15 @@ tell_before sent more h side session n a b ca cb = h side session n a b (Contain
 
 pub once_before : (sent more : Sent) → AsksNothingTwice (sent ++ more) → AsksNothingTwice sent
 once_before sent more h side session m n a b ca cb r = h side session m n a b (Contains-append_left sent more _ ca) (Contains-append_left sent more _ cb) r
+
+-- the numbers in a session that stages on the right first
+abbrev right_number : ℕ → ℕ
+right_number zero = 0
+right_number (suc zero) = 1
+right_number (suc (suc zero)) = 4
+right_number (suc (suc (suc zero))) = 2
+right_number (suc (suc (suc (suc request)))) = 3
+
+abbrev pub number_of : Which → ℕ → ℕ
+number_of Left request = request
+number_of Right request = right_number request

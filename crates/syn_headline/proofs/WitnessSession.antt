@@ -30,8 +30,8 @@ use Rattle.syn_headline.specs.Headline.{IsQuietSession, IsNoEdit, formatted, sto
 use Rattle.syn_headline.proofs.WitnessTrees.{get_by, fits_by, fits_archive_by}
 use Rattle.syn_headline.proofs.WitnessFiles.{alone, with_file, content, digest, alone-entries, file-entries, file_mark-entries, put-entries, marked_whole, alone_whole, root_only, root_alone, path_of_letter, one_byte, file_is_part, file_spelling, file_fits_part, file_fits_paths, mark_is_part}
 use Rattle.syn_headline.proofs.WitnessScans.{left_history, right_history, left_scan, right_scan, left-entries, right_marks-entries, left_marks-entries, left_root, right_root, left_part, plan_is}
-use Rattle.syn_headline.proofs.WitnessMessages.{IsNumbered, numbers_tell, asks_once, tell_before, once_before}
-use Rattle.syn_headline.proofs.WitnessSteps.{reads_nothing, serves, lists, goes, both_sent, after_call}
+use Rattle.syn_headline.proofs.WitnessMessages.{number_of, IsNumbered, numbers_tell, asks_once, tell_before, once_before}
+use Rattle.syn_headline.proofs.WitnessSteps.{waits, runs_with, world_of, takes, reads_nothing, serves, lists, goes, both_sent, after_call}
 use Rattle.syn_headline.proofs.WitnessLemmas.{letter_a, edit_allowed}
 
 -- The sides, before and after
@@ -69,13 +69,6 @@ planned = record { item = ToRight a_path; left = record { marks = mark one; sinc
 abbrev pub plan : List Planned
 plan = planned ∷ []
 
--- a session that runs, where so much has been sent and acknowledged
-abbrev waits : ℕ → Request → Option Outstanding
-waits number request = Some (record { number = number; request = request; resent = 0 })
-
-abbrev runs_with : Option Outstanding → Option Outstanding → List Planned → Running
-runs_with left right plan = record { session = 1; left = left; right = right; plan = plan }
-
 abbrev begun_archive : Archive
 begun_archive = record { marks = empty_directory; last_session = 1 }
 
@@ -83,15 +76,7 @@ abbrev recorded_archive : Archive
 recorded_archive = record { marks = replace empty_directory a_path (mark one); last_session = 1 }
 
 abbrev world : Side → Side → Archive → Option Running → ℕ → ℕ → World
-world left right archive running said acknowledged = record {
-  pair = 7;
-  left = record { status = Up; side = left; writing = None };
-  right = record { status = Up; side = right; writing = None };
-  coordinator = record { status = Up; archive = archive; writing = None; running = running };
-  sent = take said messages;
-  acknowledged = take acknowledged acks;
-  reports = [];
-}
+world = world_of messages acks
 
 abbrev edited_side : Side
 edited_side = record { history = Edited 1 put_one ∷ []; staging = None }
@@ -167,18 +152,6 @@ replaced = world left_side right_done begun_archive (Some right_replaces) 14 5
 
 abbrev pub carried : World
 carried = record (world left_side right_done recorded_archive None 14 6) { reports = (complete 1, 6) ∷ [] }
-
--- The numbers of its requests, by their kinds
-abbrev right_number : ℕ → ℕ
-right_number zero = 0
-right_number (suc zero) = 1
-right_number (suc (suc zero)) = 4
-right_number (suc (suc (suc zero))) = 2
-right_number (suc (suc (suc (suc kind)))) = 3
-
-abbrev number_of : Which → ℕ → ℕ
-number_of Left kind = kind
-number_of Right kind = right_number kind
 
 abbrev asked : Which → ℕ → Request
 asked side zero = Begin 7
@@ -291,16 +264,6 @@ plans = record {
 }
 
 -- The steps of the coordinator
-takes : (old : World) (from : Which) (number : ℕ) (reply : Reply) (plan : List Planned) (archive : Archive) (next : Option Running) (messages : List Message) (kept : List Kept) (reports : List (Report × ℕ)) →
-    old.coordinator.status ≡ Up → IsExpected old.coordinator.running from 1 number → HasPlan old.sent old.coordinator.archive old.coordinator.running plan →
-    All (IsDueAfter old.coordinator.running plan from reply) kept → AllCanKeep old.coordinator.archive kept → archive ≡ archive_of old.coordinator.archive kept →
-    GoesOnFrom old.coordinator.running plan next → IsOver from number next → RunsOver (old.sent ++ messages) archive next →
-    NumbersTell (old.sent ++ messages) → AsksNothingTwice (old.sent ++ messages) → AllOfSession old.sent next messages →
-    TakesAnswer old from 1 number reply (after_call old archive next messages kept reports)
-takes old from number reply plan archive next messages kept reports up expected has due can is on over runs tell twice of =
-    taken plan expected has (goes old (IsDueAfter old.coordinator.running plan from reply) (λ running. GoesOnFrom old.coordinator.running plan running × IsOver from number running)
-    archive next messages kept reports up due can is (on, over) runs tell twice of)
-
 starts : Steps edited_world Start started
 starts = inr (
   refl,

@@ -1,5 +1,5 @@
 -- A step of a witness run where no device fails and no machine stops.
-use Rattle.std.proofs.Common.{◌≡◌, ◌≢◌, ℕ, true, true≢false, List, [], ◌∷◌, ◌++◌, map, length, if◌then◌else◌, refl, sym, ap, ◌∙◌, subst, Option, Some, None, arith, inl}
+use Rattle.std.proofs.Common.{◌≡◌, ◌≢◌, ℕ, true, true≢false, List, [], ◌∷◌, ◌++◌, map, take, length, if◌then◌else◌, refl, sym, ap, ◌∙◌, subst, Option, Some, None, arith, inl}
 use Rattle.std.specs.Prelude.{All, Contains, IfSome}
 use Rattle.std.specs.FinMap.{get, len}
 use Rattle.syn_model.specs.Path.{Path, root}
@@ -13,9 +13,10 @@ use Rattle.syn_model.specs.Spelling.{content_spelling, spelling_within}
 use Rattle.syn_headline.specs.Rows.{has_room}
 use Rattle.syn_headline.specs.Side.{Side, Request, Reply, Begun, Listed, NotDir, Piece, Staged, Done, Refused, Reads, answer, serve, list_at, staged_bytes}
 use Rattle.syn_headline.specs.Network.{Which, Left, Right, Message, Asks, Answers, Sent, NumbersTell, AsksNothingTwice}
-use Rattle.syn_headline.specs.Acknowledged.{Happened, Kept_by}
+use Rattle.syn_headline.specs.Acknowledged.{Ack, Happened, Kept_by}
+use Rattle.syn_headline.specs.Planning.{Planned}
 use Rattle.syn_headline.specs.Report.{Report}
-use Rattle.syn_headline.specs.World.{World, Status, Up, Halted, Down, Running, TakesRequest, answered, ServesAs, CoordinatorGoes, AllCanKeep, RunsOver, WasSent, AllOfSession, side_of, set_side}
+use Rattle.syn_headline.specs.World.{World, Outstanding, Status, Up, Halted, Down, Running, TakesRequest, answered, ServesAs, CoordinatorGoes, AllCanKeep, RunsOver, WasSent, AllOfSession, side_of, set_side, TakesAnswer, taken, IsExpected, HasPlan, IsDueAfter, GoesOnFrom, IsOver}
 
 abbrev is_up : Status → Type 0
 is_up Up = Unit {0}
@@ -112,3 +113,33 @@ pub both_sent : (sent : Sent) (running : Running) → IfSome running.left (λ wa
     IfSome running.right (λ waiting. Contains sent (Asks Right running.session waiting.number waiting.request)) → WasSent sent running
 both_sent sent running l r Left = l
 both_sent sent running l r Right = r
+
+-- a session that runs
+abbrev pub waits : ℕ → Request → Option Outstanding
+waits number request = Some (record { number = number; request = request; resent = 0 })
+
+abbrev pub runs_with : Option Outstanding → Option Outstanding → List Planned → Running
+runs_with left right plan = record { session = 1; left = left; right = right; plan = plan }
+
+-- a world without failures, where so many of the messages have been sent and so much of the rest acknowledged
+abbrev pub world_of : Sent → List Ack → Side → Side → Archive → Option Running → ℕ → ℕ → World
+world_of messages acks left right archive running said acknowledged = record {
+  pair = 7;
+  left = record { status = Up; side = left; writing = None };
+  right = record { status = Up; side = right; writing = None };
+  coordinator = record { status = Up; archive = archive; writing = None; running = running };
+  sent = take said messages;
+  acknowledged = take acknowledged acks;
+  reports = [];
+}
+
+-- the coordinator takes an answer that it waits for
+pub takes : (old : World) (from : Which) (number : ℕ) (reply : Reply) (plan : List Planned) (archive : Archive) (next : Option Running) (messages : List Message) (kept : List Kept) (reports : List (Report × ℕ)) →
+    old.coordinator.status ≡ Up → IsExpected old.coordinator.running from 1 number → HasPlan old.sent old.coordinator.archive old.coordinator.running plan →
+    All (IsDueAfter old.coordinator.running plan from reply) kept → AllCanKeep old.coordinator.archive kept → archive ≡ archive_of old.coordinator.archive kept →
+    GoesOnFrom old.coordinator.running plan next → IsOver from number next → RunsOver (old.sent ++ messages) archive next →
+    NumbersTell (old.sent ++ messages) → AsksNothingTwice (old.sent ++ messages) → AllOfSession old.sent next messages →
+    TakesAnswer old from 1 number reply (after_call old archive next messages kept reports)
+takes old from number reply plan archive next messages kept reports up expected has due can is on over runs tell twice of =
+    taken plan expected has (goes old (IsDueAfter old.coordinator.running plan from reply) (λ running. GoesOnFrom old.coordinator.running plan running × IsOver from number running)
+    archive next messages kept reports up due can is (on, over) runs tell twice of)
