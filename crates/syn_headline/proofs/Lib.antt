@@ -21,3 +21,5 @@ pub mod WitnessLemmas
 pub mod WitnessScans
 pub mod WitnessSteps
 pub mod WitnessSession
+pub mod ExchangeScans
+pub mod ExchangeSides

@@ -94,13 +94,14 @@ no_entries : (es : List (Name × Content)) → length es ≡ 0 → es ≡ []
 no_entries [] e = refl
 no_entries (x ∷ es) e = absurd (omega arith)
 
-abbrev names_of : List (Name × Content) → List Name
+abbrev pub names_of : List (Name × Content) → List Name
 names_of es = keys (from_entries {X = Content} {R = name_cmp} es)
 
+pub no_names : entries (empty {X = Content} {R = name_cmp}) ≡ []
+no_names = no_entries (entries (empty {X = Content} {R = name_cmp})) (sym (len-entries (empty {X = Content} {R = name_cmp})) ∙ len-empty name_cmp Content)
+
 one_name_of : (content : Content) → names_of ((a_name, content) ∷ []) ≡ a_name ∷ []
-one_name_of content =
-    let none : entries (empty {X = Content} {R = name_cmp}) ≡ [] = no_entries _ (sym (len-entries (empty {X = Content} {R = name_cmp})) ∙ len-empty name_cmp Content) in
-    ap (map (λ e. e.0)) (entries-insert name_total empty a_name content ∙ ap (put name_cmp a_name content) none)
+one_name_of content = ap (map (λ e. e.0)) (entries-insert name_total empty a_name content ∙ ap (put name_cmp a_name content) no_names)
 
 one_name : names_below left_scan right_scan empty_directory root ≡ a_name ∷ []
 one_name =

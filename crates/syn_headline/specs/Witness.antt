@@ -85,3 +85,33 @@ FileIsCarried =
     (Happened Left (Edited 1 put_one) ∷ Kept_by (Session 1) ∷ Happened Left (Began 1) ∷ Happened Right (Began 1)
     ∷ Happened Right (Replaced (token_of 1 0) a_path 1 one) ∷ Kept_by (Recorded a_path (mark one)) ∷ [])
     ((complete 1, 6) ∷ []) HasCarried
+
+-- the file `b` with the byte `2`
+abbrev pub b_path : Path
+b_path = (98 ∷ []) ∷ []
+
+abbrev pub put_two : Edit
+put_two = Put b_path (50 ∷ [])
+
+abbrev pub two : Tree
+two = file (50 ∷ [])
+
+-- the tree, or the archive's marks, have the two files, or their marks
+pub record HasBoth (tree first second : Tree) : Type 0 where
+  pub first_there : subtree tree a_path ≡ first
+  pub second_there : subtree tree b_path ≡ second
+
+pub record HasExchanged (world : World) : Type 0 where
+  pub left : HasBoth (tree_of world.left.side.history) one two
+  pub right : HasBoth (tree_of world.right.side.history) one two
+  pub archive : HasBoth world.coordinator.archive.marks (mark one) (mark two)
+  pub quiet : IsQuietSession formatted world (complete 2) (record { left = Edited 1 put_one ∷ []; right = Edited 2 put_two ∷ []; archive = new_archive }) (stores_of world)
+
+-- each side has a file that the other lacks, and a session carries both: it sends the messages 0 to 19
+abbrev pub FilesAreExchanged : Type 0
+FilesAreExchanged =
+    IsWitness (Edits Left 1 put_one ∷ Edits Right 2 put_two ∷ Start ∷ map Deliver (0 ∷ 1 ∷ 2 ∷ 3 ∷ 4 ∷ 5 ∷ 6 ∷ 7 ∷ 8 ∷ 9 ∷ 10 ∷ 11 ∷ 12 ∷ 13 ∷ 14 ∷ 15 ∷ 16 ∷ 17 ∷ 18 ∷ 19 ∷ []))
+    (Happened Left (Edited 1 put_one) ∷ Happened Right (Edited 2 put_two) ∷ Kept_by (Session 1) ∷ Happened Left (Began 1) ∷ Happened Right (Began 1)
+    ∷ Happened Right (Replaced (token_of 1 0) a_path 2 one) ∷ Kept_by (Recorded a_path (mark one))
+    ∷ Happened Left (Replaced (token_of 1 1) b_path 2 two) ∷ Kept_by (Recorded b_path (mark two)) ∷ [])
+    ((complete 2, 9) ∷ []) HasExchanged

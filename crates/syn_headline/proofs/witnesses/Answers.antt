@@ -1,5 +1,6 @@
 use Rattle.syn_headline.proofs.WitnessLemmas.{opened_is_start, stop_is_recovered, silence_ends}
 use Rattle.syn_headline.proofs.WitnessSession.{file_is_carried}
+use Rattle.syn_headline.proofs.ExchangeSides.{exchanged}
 use Rattle.syn_headline.proofs.witnesses.Goals as goal
 
 pub returns-clause-start : goal.returns-clause-start
