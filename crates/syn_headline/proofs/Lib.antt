@@ -23,3 +23,4 @@ pub mod WitnessSteps
 pub mod WitnessSession
 pub mod ExchangeScans
 pub mod ExchangeSides
+pub mod ExchangeLemmas

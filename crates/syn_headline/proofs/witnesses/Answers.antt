@@ -1,6 +1,6 @@
 use Rattle.syn_headline.proofs.WitnessLemmas.{opened_is_start, stop_is_recovered, silence_ends}
 use Rattle.syn_headline.proofs.WitnessSession.{file_is_carried}
-use Rattle.syn_headline.proofs.ExchangeSides.{exchanged}
+use Rattle.syn_headline.proofs.ExchangeLemmas.{files_are_exchanged}
 use Rattle.syn_headline.proofs.witnesses.Goals as goal
 
 pub returns-clause-start : goal.returns-clause-start
@@ -14,3 +14,6 @@ returns-clause-ended c = silence_ends
 
 pub returns-clause-carried : goal.returns-clause-carried
 returns-clause-carried c = file_is_carried
+
+pub returns-clause-exchanged : goal.returns-clause-exchanged
+returns-clause-exchanged c = files_are_exchanged
