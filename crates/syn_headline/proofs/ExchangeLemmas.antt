@@ -1,20 +1,20 @@
 -- A session that carries one file each way: the steps of the coordinator, and the whole run.
 use Rattle.std.proofs.Common.{◌≡◌, ◌<◌, List, [], ◌∷◌, take, drop, refl, sym, subst, Some, None, arith, inl, inr}
-use Rattle.std.specs.Prelude.{ℕ, All, Contains}
+use Rattle.std.specs.Prelude.{ℕ, Contains}
 use Rattle.std.specs.FinMap.{entries}
 use Rattle.std.proofs.lemmas.List.Elements.{All-nil, All-cons, All-from_recursion}
 use Rattle.sha2.specs.Sha256.{sha256}
 use Rattle.syn_model.specs.Path.{Path, IsName, IsPath, root}
-use Rattle.syn_model.specs.Tree.{Tree, Pair, Directory, empty_directory, replace, subtree}
+use Rattle.syn_model.specs.Tree.{Pair, Directory, empty_directory, replace}
 use Rattle.syn_model.specs.Limits.{children}
 use Rattle.syn_model.specs.Mark.{mark}
-use Rattle.syn_model.specs.Event.{Edited, Began, Replaced, AreBytes}
+use Rattle.syn_model.specs.Event.{Edited, Replaced, AreBytes}
 use Rattle.syn_model.specs.History.{tree_of}
 use Rattle.syn_model.specs.Archive.{Session, Recorded, CanKeep, new_archive}
 use Rattle.syn_model.specs.Dirty.{Scan}
 use Rattle.syn_model.proofs.TreeLemmas.{subtree-replace}
 use Rattle.syn_headline.specs.Rows.{file_bytes}
-use Rattle.syn_headline.specs.Side.{Begin, ListAt, Fetch, Begun, Listed, Piece, Staged, Done, token_of}
+use Rattle.syn_headline.specs.Side.{ListAt, Begun, Listed, Piece, Staged, Done, token_of}
 use Rattle.syn_headline.specs.Network.{Which, Left, Right, WasAnswered}
 use Rattle.syn_headline.specs.Planning.{IsPlanOf, IsScanOf, HasBegun, SeesBoth}
 use Rattle.syn_headline.specs.World.{Start, Deliver, Steps, IsOfSession, IsDue, done, IsNext, StartsFrom, goes_on, ended}
@@ -26,7 +26,7 @@ use Rattle.syn_headline.proofs.WitnessScans.{left_history, left_scan, left-entri
 use Rattle.syn_headline.proofs.ExchangeScans.{right_history, right_scan, right-entries, right_marks-entries, right_part, plan_is}
 use Rattle.syn_headline.proofs.WitnessSteps.{goes, takes, both_sent}
 use Rattle.syn_headline.proofs.WitnessLemmas.{letter_a}
-use Rattle.syn_headline.proofs.ExchangeSides.{two_bytes, left_side, right_side, right_done, left_done, begun_archive, first_archive, both_archive, messages, acks, first_planned, second_planned, plan, both_begin, right_begins, both_list, right_lists, left_fetches, right_stages, right_replaces, right_fetches, left_stages, left_replaces, first_edited, both_edited, started, left_begun, both_begun, right_awaited, listing, left_listed, both_listed, right_list_awaited, fetching, fetched, staging, staged, replacing, replaced, second_fetching, second_fetched, second_staging, second_staged, second_replacing, second_replaced, exchanged, tells, once, edits_left, letter_b, edits_right, begins_left, begins_right, lists_left, lists_right, stays, fetches_first, stages_first, replaces_first, fetches_second, stages_second, replaces_second}
+use Rattle.syn_headline.proofs.ExchangeSides.{two_bytes, right_done, left_done, begun_archive, first_archive, both_archive, messages, first_planned, second_planned, plan, both_begin, right_begins, both_list, right_lists, left_fetches, right_stages, right_replaces, right_fetches, left_stages, left_replaces, first_edited, both_edited, started, left_begun, both_begun, right_awaited, listing, left_listed, both_listed, right_list_awaited, fetching, fetched, staging, staged, replacing, replaced, second_fetching, second_fetched, second_staging, second_staged, second_replacing, second_replaced, exchanged, tells, once, edits_left, letter_b, edits_right, begins_left, begins_right, lists_left, lists_right, stays, fetches_first, stages_first, replaces_first, fetches_second, stages_second, replaces_second}
 
 -- The plan is of what the sides listed
 abbrev scans : Which → Scan
@@ -242,10 +242,83 @@ quiet = record {
 pub files_are_exchanged : FilesAreExchanged
 files_are_exchanged = record {
   new = exchanged;
-  runs = (first_edited, edits_left, (both_edited, edits_right, (started, starts, (left_begun, begins_left, (both_begun, begins_right, (right_awaited, takes_left_begun, (listing, takes_right_begun,
-      (left_listed, lists_left, (both_listed, lists_right, (right_list_awaited, takes_left_listing, (fetching, takes_right_listing, (fetched, fetches_first, (staging, takes_first_piece,
-      (staged, stages_first, (replacing, takes_first_staged, (replaced, replaces_first, (second_fetching, takes_first_done, (second_fetched, fetches_second, (second_staging, takes_second_piece,
-      (second_staged, stages_second, (second_replacing, takes_second_staged, (second_replaced, replaces_second, (exchanged, takes_second_done, refl)))))))))))))))))))))));
+  runs = (
+    first_edited,
+    edits_left,
+    (
+      both_edited,
+      edits_right,
+      (
+        started,
+        starts,
+        (
+          left_begun,
+          begins_left,
+          (
+            both_begun,
+            begins_right,
+            (
+              right_awaited,
+              takes_left_begun,
+              (
+                listing,
+                takes_right_begun,
+                (
+                  left_listed,
+                  lists_left,
+                  (
+                    both_listed,
+                    lists_right,
+                    (
+                      right_list_awaited,
+                      takes_left_listing,
+                      (
+                        fetching,
+                        takes_right_listing,
+                        (
+                          fetched,
+                          fetches_first,
+                          (
+                            staging,
+                            takes_first_piece,
+                            (
+                              staged,
+                              stages_first,
+                              (
+                                replacing,
+                                takes_first_staged,
+                                (
+                                  replaced,
+                                  replaces_first,
+                                  (
+                                    second_fetching,
+                                    takes_first_done,
+                                    (
+                                      second_fetched,
+                                      fetches_second,
+                                      (
+                                        second_staging,
+                                        takes_second_piece,
+                                        (second_staged, stages_second, (second_replacing, takes_second_staged, (second_replaced, replaces_second, (exchanged, takes_second_done, refl)))),
+                                      ),
+                                    ),
+                                  ),
+                                ),
+                              ),
+                            ),
+                          ),
+                        ),
+                      ),
+                    ),
+                  ),
+                ),
+              ),
+            ),
+          ),
+        ),
+      ),
+    ),
+  );
   acknowledged_then = refl;
   reported = refl;
   ends_well = record { left = left_has; right = right_has; archive = archive_has; quiet = quiet };

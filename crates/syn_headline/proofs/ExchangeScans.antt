@@ -1,8 +1,8 @@
 -- What the scans find where each side has a file that the other lacks, and the plan of their session.
-use Rattle.std.proofs.Common.{◌≡◌, ℕ, suc, List, [], ◌∷◌, ◌++◌, map, flat_map, refl, sym, ap, ap₂, ◌∙◌, length, arith}
-use Rattle.std.specs.Prelude.{Bool, true, false}
-use Rattle.std.specs.FinMap.{entries, empty, from_entries, keys, put, entries-insert, len-entries, len-empty, same_entries_map, insert}
-use Rattle.syn_model.specs.Path.{Bytes, Name, root, child, name_cmp}
+use Rattle.std.proofs.Common.{◌≡◌, ℕ, suc, [], ◌∷◌, ◌++◌, map, flat_map, refl, sym, ap, ap₂, ◌∙◌}
+use Rattle.std.specs.Prelude.{true, false}
+use Rattle.std.specs.FinMap.{entries, empty, put, entries-insert, same_entries_map, insert}
+use Rattle.syn_model.specs.Path.{Name, root, child, name_cmp}
 use Rattle.syn_model.specs.Tree.{Content, empty_directory, subtree, is_directory}
 use Rattle.syn_model.specs.Event.{Edited, Began}
 use Rattle.syn_model.specs.History.{History, tree_of}
@@ -13,7 +13,7 @@ use Rattle.syn_model.specs.Plan.{items_from, names_below, with_items_below}
 use Rattle.syn_model.specs.Plan.{plan as items_of}
 use Rattle.syn_model.specs.Rows.{a_name}
 use Rattle.syn_model.proofs.PathLemmas.{name_total}
-use Rattle.syn_headline.specs.Witness.{a_path, b_path, put_two, one, two}
+use Rattle.syn_headline.specs.Witness.{a_path, b_path, put_two, two}
 use Rattle.syn_headline.proofs.WitnessTrees.{same_by, part-entries, directory_by, children_by}
 use Rattle.syn_headline.proofs.WitnessFiles.{content, digest, alone, with_file, alone-entries, file-entries, file_mark-entries, marked-entries, put-entries}
 use Rattle.syn_headline.proofs.WitnessScans.{left_scan, left_marks-entries, names_of, no_names}

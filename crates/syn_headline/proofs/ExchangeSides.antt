@@ -1,8 +1,8 @@
 -- The worlds of a session that carries one file each way, and the steps of its sides.
-use Rattle.std.proofs.Common.{◌≡◌, ℕ, ◌<◌, zero, suc, true, false, List, [], ◌∷◌, ◌++◌, take, drop, length, refl, sym, ap, ◌∙◌, subst, Option, Some, None, arith, inl, inr}
+use Rattle.std.proofs.Common.{◌≡◌, ℕ, zero, suc, true, false, List, [], ◌∷◌, ◌++◌, take, drop, length, refl, sym, ap, ◌∙◌, subst, Option, Some, None, arith}
 use Rattle.std.specs.Prelude.{All}
 use Rattle.std.proofs.lemmas.List.{take-append-drop}
-use Rattle.std.proofs.lemmas.List.Elements.{All-nil, All-cons, All-from_recursion}
+use Rattle.std.proofs.lemmas.List.Elements.{All-from_recursion}
 use Rattle.syn_model.specs.Path.{Bytes, Path, root, comparable}
 use Rattle.syn_model.specs.Tree.{Tree, Pair, Content, Directory, empty_directory, replace, subtree}
 use Rattle.syn_model.specs.Limits.{children, fits_replica}
@@ -18,7 +18,7 @@ use Rattle.syn_headline.specs.Side.{Side, Request, Begin, ListAt, Fetch, Stage, 
 use Rattle.syn_headline.specs.Network.{Which, Left, Right, Asks, Answers, Sent, NumbersTell, AsksNothingTwice}
 use Rattle.syn_headline.specs.Acknowledged.{Ack, Happened, Kept_by}
 use Rattle.syn_headline.specs.Planning.{Planned}
-use Rattle.syn_headline.specs.World.{World, Running, Edits, Deliver, Up, Steps, written, edit_written}
+use Rattle.syn_headline.specs.World.{World, Running, Edits, Deliver, Steps, written, edit_written}
 use Rattle.syn_headline.specs.Witness.{opened_world, a_path, b_path, put_one, put_two, one, two, complete}
 use Rattle.syn_headline.proofs.WitnessTrees.{replace-entries, fits_by}
 use Rattle.syn_headline.proofs.WitnessFiles.{IsLetter, content, with_file, alone-entries, file-entries, put-entries, put_allowed, one_byte, file_is_part, file_spelling, file_fits_part, file_fits_paths}

@@ -2,9 +2,9 @@
 use Rattle.std.proofs.Common.{◌≡◌, ℕ, zero, suc, List, [], ◌∷◌, ◌++◌, ◌+◌, replicate, append-nil, refl, sym, subst, Some, None, arith, inl, inr}
 use Rattle.std.specs.Prelude.{All, Contains}
 use Rattle.std.proofs.lemmas.List.Elements.{All-nil, All-cons, All-append, All-from_recursion, Contains-append_right}
-use Rattle.syn_model.specs.Tree.{File, Directory, contents_of, empty_directory, file, replace}
+use Rattle.syn_model.specs.Tree.{empty_directory, replace}
 use Rattle.syn_model.specs.Event.{Edited}
-use Rattle.syn_model.specs.History.{tree_of, IsAllowed}
+use Rattle.syn_model.specs.History.{IsAllowed}
 use Rattle.syn_model.specs.Archive.{Session, new_archive}
 use Rattle.syn_headline.specs.Side.{Begin}
 use Rattle.syn_headline.specs.Network.{Which, Left, Right, Asks, Sent, NumbersTell, AsksNothingTwice}

@@ -1,24 +1,17 @@
 -- What the scans of the witness session find, and its plan.
-use Rattle.std.proofs.Common.{◌≡◌, ℕ, suc, zero, ◌<◌, Bool, true, false, true≢false, cond, List, [], ◌∷◌, ◌++◌, map, filter_map, flat_map, length, refl, sym, ap, ap₂, ◌∙◌, subst, Some, None, arith, inr}
-use Rattle.std.specs.Ordering.{eq_by_cmp}
-use Rattle.std.specs.FinMap.{entries, empty, from_entries, keys, find, put, entries-insert, len-entries, len-empty, same_entries_map}
-use Rattle.std.specs.Int.{byte_at, to_be_bytes, bytes_high_first, w32}
-use Rattle.std.proofs.lemmas.List.Elements.{All-nil, All-cons, All-append}
-use Rattle.sha2.specs.Sha256.{sha256, digest_bytes}
-use Rattle.syn_model.specs.Path.{Bytes, Path, Name, IsName, root, child, path_cmp, name_cmp}
-use Rattle.syn_model.specs.Tree.{Tree, Pair, Content, IsPart, IsTree, Directory, File, Contents, contents_of, at_root, empty_directory, replace, subtree, taken_off, is_directory, is_directory_content}
-use Rattle.syn_model.specs.Limits.{children}
-use Rattle.syn_model.specs.Event.{Edited, Began, AreBytes}
+use Rattle.std.proofs.Common.{◌≡◌, ℕ, suc, true, false, List, [], ◌∷◌, ◌++◌, map, flat_map, length, refl, sym, ap, ap₂, ◌∙◌, arith}
+use Rattle.std.specs.FinMap.{entries, empty, from_entries, keys, put, entries-insert, len-entries, len-empty, same_entries_map}
+use Rattle.syn_model.specs.Path.{Bytes, Name, root, child, name_cmp}
+use Rattle.syn_model.specs.Tree.{Content, empty_directory, subtree, is_directory}
+use Rattle.syn_model.specs.Event.{Edited, Began}
 use Rattle.syn_model.specs.History.{History, tree_of}
 use Rattle.syn_model.specs.Mark.{mark}
-use Rattle.syn_model.specs.Dirty.{Scan, is_same_tree, are_same_pairs}
+use Rattle.syn_model.specs.Dirty.{Scan, is_same_tree}
 use Rattle.syn_model.specs.Decision.{Do, GoOn, ToRight, decision}
 use Rattle.syn_model.specs.Plan.{items_from, names_below, with_items_below}
 use Rattle.syn_model.specs.Plan.{plan as items_of}
 use Rattle.syn_model.specs.Rows.{a_name}
-use Rattle.syn_model.proofs.PathLemmas.{name_total, same_path}
-use Rattle.syn_model.proofs.SubtreeLemmas.{subtree_entries}
-use Rattle.syn_model.proofs.HistoryLemmas.{empty-is_tree, at_root-is_part, replace-is_tree, same_file}
+use Rattle.syn_model.proofs.PathLemmas.{name_total}
 use Rattle.syn_headline.specs.Witness.{a_path, put_one, one}
 use Rattle.syn_headline.proofs.WitnessTrees.{mark-entries, same_by, part-entries, directory_by, children_by}
 use Rattle.syn_headline.proofs.WitnessFiles.{content, digest, alone, with_file, alone-entries, file-entries, file_mark-entries, marked-entries, put-entries}

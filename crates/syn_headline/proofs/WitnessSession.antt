@@ -1,37 +1,33 @@
 -- A whole session over one file, step by step.
-use Rattle.std.proofs.Common.{◌≡◌, ℕ, ◌<◌, zero, suc, ◌&&◌, nat_le, true, List, [], ◌∷◌, ◌++◌, take, drop, length, refl, sym, ap, ◌∙◌, subst, Option, Some, None, arith, inl, inr}
+use Rattle.std.proofs.Common.{◌≡◌, ℕ, ◌<◌, zero, suc, List, [], ◌∷◌, ◌++◌, take, drop, length, refl, sym, ap, ◌∙◌, subst, Option, Some, None, arith, inl, inr}
 use Rattle.std.specs.Prelude.{All, Contains}
-use Rattle.std.specs.List.{list_all}
-use Rattle.std.specs.FinMap.{len}
 use Rattle.std.proofs.lemmas.List.{take-append-drop}
 use Rattle.std.proofs.lemmas.List.Elements.{All-nil, All-cons, All-from_recursion}
 use Rattle.sha2.specs.Sha256.{sha256}
 use Rattle.syn_model.specs.Path.{Path, IsName, IsPath, root}
-use Rattle.syn_model.specs.Tree.{IsPart, Directory, File, contents_of, empty_directory, replace, subtree}
-use Rattle.syn_model.specs.Limits.{children, fits_part, fits_paths, fits_content, fits_path}
+use Rattle.syn_model.specs.Tree.{empty_directory, replace, subtree}
+use Rattle.syn_model.specs.Limits.{children}
 use Rattle.syn_model.specs.Mark.{mark}
-use Rattle.syn_model.specs.Spelling.{spelling, spelling_within, content_spelling}
+use Rattle.syn_model.specs.Spelling.{spelling}
 use Rattle.syn_model.specs.Event.{Edited, Began, Replaced, AreBytes}
 use Rattle.syn_model.specs.History.{tree_of}
-use Rattle.syn_model.specs.Archive.{Archive, Kept, Session, Recorded, CanKeep, new_archive, archive_of}
+use Rattle.syn_model.specs.Archive.{Archive, Session, Recorded, CanKeep, new_archive}
 use Rattle.syn_model.specs.Decision.{ToRight}
 use Rattle.syn_model.specs.Dirty.{Scan}
 use Rattle.syn_model.proofs.TreeLemmas.{subtree-replace}
-use Rattle.syn_model.proofs.HistoryLemmas.{at_root-is_part, same_file}
 use Rattle.syn_headline.specs.Rows.{file_bytes, has_room}
-use Rattle.syn_headline.specs.Side.{Side, Request, Begin, ListAt, Fetch, Stage, Replace, Reply, Begun, Listed, Piece, Staged, Done, answer, serve, token_of}
-use Rattle.syn_headline.specs.Network.{Which, Left, Right, Message, Asks, Answers, Sent, NumbersTell, AsksNothingTwice, WasAnswered}
+use Rattle.syn_headline.specs.Side.{Side, Request, Begin, ListAt, Fetch, Stage, Replace, Begun, Listed, Piece, Staged, Done, answer, serve, token_of}
+use Rattle.syn_headline.specs.Network.{Which, Left, Right, Asks, Answers, Sent, NumbersTell, AsksNothingTwice, WasAnswered}
 use Rattle.syn_headline.specs.Acknowledged.{Ack, Happened, Kept_by}
 use Rattle.syn_headline.specs.Planning.{Planned, IsPlanOf, IsScanOf, HasBegun, SeesBoth}
-use Rattle.syn_headline.specs.Report.{Report}
-use Rattle.syn_headline.specs.World.{World, Running, Outstanding, Edits, Start, Deliver, Up, Steps, written, edit_written, IsOfSession, IsDue, done, IsNext, StartsFrom, goes_on, ended, TakesAnswer, taken, IsDueAfter, GoesOnFrom, IsOver, RunsOver, IsExpected, HasPlan, AllCanKeep, AllOfSession}
+use Rattle.syn_headline.specs.World.{World, Running, Edits, Start, Deliver, Steps, written, edit_written, IsOfSession, IsDue, done, IsNext, StartsFrom, goes_on, ended}
 use Rattle.syn_headline.specs.Witness.{opened_world, a_path, put_one, one, complete, FileIsCarried}
 use Rattle.syn_headline.specs.Headline.{IsQuietSession, IsNoEdit, formatted, stores_of}
 use Rattle.syn_headline.proofs.WitnessTrees.{get_by, fits_by, fits_archive_by}
 use Rattle.syn_headline.proofs.WitnessFiles.{alone, with_file, content, digest, alone-entries, file-entries, file_mark-entries, put-entries, marked_whole, alone_whole, root_only, root_alone, path_of_letter, one_byte, file_is_part, file_spelling, file_fits_part, file_fits_paths, mark_is_part}
 use Rattle.syn_headline.proofs.WitnessScans.{left_history, right_history, left_scan, right_scan, left-entries, right_marks-entries, left_marks-entries, left_root, right_root, left_part, plan_is}
 use Rattle.syn_headline.proofs.WitnessMessages.{number_of, IsNumbered, numbers_tell, asks_once, tell_before, once_before}
-use Rattle.syn_headline.proofs.WitnessSteps.{waits, runs_with, world_of, takes, reads_nothing, serves, lists, goes, both_sent, after_call}
+use Rattle.syn_headline.proofs.WitnessSteps.{waits, runs_with, world_of, takes, reads_nothing, serves, lists, goes, both_sent}
 use Rattle.syn_headline.proofs.WitnessLemmas.{letter_a, edit_allowed}
 
 -- The sides, before and after

@@ -1,17 +1,12 @@
 -- The trees of the witness runs, by their entries.
-use Rattle.std.proofs.Common.{◌≡◌, ◌≢◌, ℕ, suc, zero, ◌<◌, ◌+◌, Bool, true, not, ◌&&◌, nat_le, List, [], ◌∷◌, ◌++◌, map, filter, filter_map, length, refl, sym, ap, ap₂, ◌∙◌, arith}
-use Rattle.std.specs.Prelude.{Contains, sum_by, get_or, option_map, option_and_then}
+use Rattle.std.proofs.Common.{◌≡◌, ℕ, ◌+◌, Bool, not, ◌&&◌, nat_le, List, [], ◌∷◌, ◌++◌, map, filter, filter_map, length, refl, sym, ap, ap₂, ◌∙◌, arith}
+use Rattle.std.specs.Prelude.{sum_by, option_map, option_and_then}
 use Rattle.std.specs.List.{list_all}
 use Rattle.std.specs.FinMap.{entries, empty, from_entries, get, get-entries, find, put, entries-insert, len-entries, len-empty}
-use Rattle.std.proofs.lemmas.List.Elements.{All-nil, All-cons}
-use Rattle.std.specs.Str.{IsAscii}
-use Rattle.std.proofs.lemmas.Str.{IsUtf8-from_ascii}
-use Rattle.syn_model.specs.Path.{Path, Name, IsName, IsPath, root, path_cmp, strip_prefix, is_prefix}
+use Rattle.syn_model.specs.Path.{Path, Name, root, path_cmp, strip_prefix, is_prefix}
 use Rattle.syn_model.specs.Tree.{Tree, Pair, Content, absent, at_root, replace, subtree, taken_off, is_directory, is_directory_content}
 use Rattle.syn_model.specs.Limits.{children, only_name, fits_content, fits_path, fits_replica, fits_archive, last_name_spelling_length, content_spelling_length}
-use Rattle.syn_model.specs.Event.{AreBytes}
 use Rattle.syn_model.specs.Mark.{mark, mark_of}
-use Rattle.syn_model.specs.Rows.{a_name}
 use Rattle.syn_model.proofs.PathLemmas.{path_total}
 use Rattle.syn_model.specs.Dirty.{is_same_tree, are_same_pairs}
 use Rattle.syn_model.proofs.SubtreeLemmas.{subtree_entries}
