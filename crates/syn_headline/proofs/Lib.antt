@@ -24,3 +24,4 @@ pub mod WitnessSession
 pub mod ExchangeScans
 pub mod ExchangeSides
 pub mod ExchangeLemmas
+pub mod MarkedScans

@@ -1,5 +1,5 @@
 -- A whole session over one file, step by step.
-use Rattle.std.proofs.Common.{◌≡◌, ℕ, ◌<◌, zero, suc, List, [], ◌∷◌, ◌++◌, take, drop, length, refl, sym, ap, ◌∙◌, subst, Option, Some, None, arith, inl, inr}
+use Rattle.std.proofs.Common.{◌≡◌, map, ℕ, ◌<◌, zero, suc, List, [], ◌∷◌, ◌++◌, take, drop, length, refl, sym, ap, ◌∙◌, subst, Option, Some, None, arith, inl, inr}
 use Rattle.std.specs.Prelude.{All, Contains}
 use Rattle.std.proofs.lemmas.List.{take-append-drop}
 use Rattle.std.proofs.lemmas.List.Elements.{All-nil, All-cons, All-from_recursion}
@@ -20,14 +20,14 @@ use Rattle.syn_headline.specs.Side.{Side, Request, Begin, ListAt, Fetch, Stage, 
 use Rattle.syn_headline.specs.Network.{Which, Left, Right, Asks, Answers, Sent, NumbersTell, AsksNothingTwice, WasAnswered}
 use Rattle.syn_headline.specs.Acknowledged.{Ack, Happened, Kept_by}
 use Rattle.syn_headline.specs.Planning.{Planned, IsPlanOf, IsScanOf, HasBegun, SeesBoth}
-use Rattle.syn_headline.specs.World.{World, Running, Edits, Start, Deliver, Steps, written, edit_written, IsOfSession, IsDue, done, IsNext, StartsFrom, goes_on, ended}
+use Rattle.syn_headline.specs.World.{World, Running, Edits, Start, Deliver, Steps, written, edit_written, IsOfSession, IsDue, done, IsNext, StartsFrom, goes_on, ended, Runs}
 use Rattle.syn_headline.specs.Witness.{opened_world, a_path, put_one, one, complete, FileIsCarried}
 use Rattle.syn_headline.specs.Headline.{IsQuietSession, IsNoEdit, formatted, stores_of}
 use Rattle.syn_headline.proofs.WitnessTrees.{get_by, fits_by, fits_archive_by}
 use Rattle.syn_headline.proofs.WitnessFiles.{alone, with_file, content, digest, alone-entries, file-entries, file_mark-entries, put-entries, marked_whole, alone_whole, root_only, root_alone, path_of_letter, one_byte, file_is_part, file_spelling, file_fits_part, file_fits_paths, mark_is_part}
 use Rattle.syn_headline.proofs.WitnessScans.{left_history, right_history, left_scan, right_scan, left-entries, right_marks-entries, left_marks-entries, left_root, right_root, left_part, plan_is}
 use Rattle.syn_headline.proofs.WitnessMessages.{number_of, IsNumbered, numbers_tell, asks_once, tell_before, once_before}
-use Rattle.syn_headline.proofs.WitnessSteps.{waits, runs_with, world_of, takes, reads_nothing, serves, lists, goes, both_sent}
+use Rattle.syn_headline.proofs.WitnessSteps.{runs_on_from, waits, runs_with, world_of, takes, reads_nothing, serves, lists, goes, both_sent}
 use Rattle.syn_headline.proofs.WitnessLemmas.{letter_a, edit_allowed}
 
 -- The sides, before and after
@@ -65,7 +65,7 @@ planned = record { item = ToRight a_path; left = record { marks = mark one; sinc
 abbrev pub plan : List Planned
 plan = planned ∷ []
 
-abbrev begun_archive : Archive
+abbrev pub begun_archive : Archive
 begun_archive = record { marks = empty_directory; last_session = 1 }
 
 abbrev recorded_archive : Archive
@@ -137,26 +137,26 @@ staging = world left_side right_side begun_archive (Some right_stages) 11 4
 abbrev staged : World
 staged = world left_side right_staged begun_archive (Some right_stages) 12 4
 
-abbrev right_replaces : Running
+abbrev pub right_replaces : Running
 right_replaces = runs_with None (waits 3 (Replace 0 a_path 1 6)) plan
 
 abbrev replacing : World
 replacing = world left_side right_staged begun_archive (Some right_replaces) 13 4
 
-abbrev replaced : World
+abbrev pub replaced : World
 replaced = world left_side right_done begun_archive (Some right_replaces) 14 5
 
 abbrev pub carried : World
 carried = record (world left_side right_done recorded_archive None 14 6) { reports = (complete 1, 6) ∷ [] }
 
-abbrev asked : Which → ℕ → Request
+abbrev pub asked : Which → ℕ → Request
 asked side zero = Begin 7
 asked side (suc zero) = ListAt root
 asked Left (suc (suc number)) = Fetch a_path 2 0
 asked Right (suc (suc zero)) = Stage 0 0 file_bytes
 asked Right (suc (suc (suc number))) = Replace 0 a_path 1 6
 
-numbered : All (IsNumbered number_of asked) messages
+pub numbered : All (IsNumbered number_of asked) messages
 numbered = All-from_recursion (IsNumbered number_of asked) messages
     ((refl, refl), ((refl, refl), (tt, (tt, ((refl, refl), ((refl, refl), (tt, (tt, ((refl, refl), (tt, ((refl, refl), (tt, ((refl, refl), (tt, tt))))))))))))))
 
@@ -218,7 +218,7 @@ have_begun : (side : Which) → HasBegun (take 8 messages) side 1
 have_begun Left = record { pair = 7; position = 2; begun = record { number = 0; asked = (0, omega arith, refl); answered = (2, omega arith, refl) } }
 have_begun Right = record { pair = 7; position = 1; begun = record { number = 0; asked = (1, omega arith, refl); answered = (3, omega arith, refl) } }
 
-none_there : (path : Path) → ¬ Contains [] path
+pub none_there : (path : Path) → ¬ Contains [] path
 none_there path (k, less, e) = omega (arith, less)
 
 left_scanned : IsScanOf (take 8 messages) Left 1 left_scan (listed_at Left)
@@ -274,7 +274,7 @@ takes_left_begun = takes both_begun Left 0 (Begun 2) [] begun_archive (Some righ
     (goes_on right_begins refl refl) tt (refl, both_sent (take 4 messages) right_begins tt (1, omega arith, refl), inr refl) (tells 4) (once 4)
     (All-nil (IsOfSession (take 4 messages) right_begins))
 
-root_lawful : IsPath root
+pub root_lawful : IsPath root
 root_lawful = record { names = All-nil IsName; not_deep = omega arith; not_long = omega arith }
 
 takes_right_begun : Steps right_awaited (Deliver 3) listing
@@ -359,58 +359,26 @@ quiet = record {
   taken = refl;
 }
 
+-- the run, up to what the coordinator has yet to take
+begins : Runs opened_world (Edits Left 1 put_one ∷ Start ∷ map Deliver (0 ∷ 1 ∷ 2 ∷ [])) right_awaited
+begins = (edited_world, edits, (started, starts, (left_begun, begins_left, (both_begun, begins_right, (right_awaited, takes_left_begun, refl)))))
+
+lists_both : Runs right_awaited (map Deliver (3 ∷ 4 ∷ 5 ∷ 6 ∷ 7 ∷ [])) fetching
+lists_both = (listing, takes_right_begun, (left_listed, lists_left, (both_listed, lists_right, (right_list_awaited, takes_left_listing, (fetching, takes_right_listing, refl)))))
+
+carries : Runs fetching (map Deliver (8 ∷ 9 ∷ 10 ∷ 11 ∷ 12 ∷ [])) replaced
+carries = (fetched, fetches, (staging, takes_piece, (staged, stages, (replacing, takes_staged, (replaced, replaces, refl)))))
+
+pub run_to_done : Runs opened_world (Edits Left 1 put_one ∷ Start ∷ map Deliver (0 ∷ 1 ∷ 2 ∷ 3 ∷ 4 ∷ 5 ∷ 6 ∷ 7 ∷ 8 ∷ 9 ∷ 10 ∷ 11 ∷ 12 ∷ [])) replaced
+run_to_done =
+    runs_on_from opened_world right_awaited replaced (Edits Left 1 put_one ∷ Start ∷ map Deliver (0 ∷ 1 ∷ 2 ∷ [])) (map Deliver (3 ∷ 4 ∷ 5 ∷ 6 ∷ 7 ∷ 8 ∷ 9 ∷ 10 ∷ 11 ∷ 12 ∷ [])) begins
+    (runs_on_from right_awaited fetching replaced (map Deliver (3 ∷ 4 ∷ 5 ∷ 6 ∷ 7 ∷ [])) (map Deliver (8 ∷ 9 ∷ 10 ∷ 11 ∷ 12 ∷ [])) lists_both carries)
+
 pub file_is_carried : FileIsCarried
 file_is_carried = record {
   new = carried;
-  runs = (
-    edited_world,
-    edits,
-    (
-      started,
-      starts,
-      (
-        left_begun,
-        begins_left,
-        (
-          both_begun,
-          begins_right,
-          (
-            right_awaited,
-            takes_left_begun,
-            (
-              listing,
-              takes_right_begun,
-              (
-                left_listed,
-                lists_left,
-                (
-                  both_listed,
-                  lists_right,
-                  (
-                    right_list_awaited,
-                    takes_left_listing,
-                    (
-                      fetching,
-                      takes_right_listing,
-                      (
-                        fetched,
-                        fetches,
-                        (
-                          staging,
-                          takes_piece,
-                          (staged, stages, (replacing, takes_staged, (replaced, replaces, (carried, takes_done, refl)))),
-                        ),
-                      ),
-                    ),
-                  ),
-                ),
-              ),
-            ),
-          ),
-        ),
-      ),
-    ),
-  );
+  runs = runs_on_from opened_world replaced carried (Edits Left 1 put_one ∷ Start ∷ map Deliver (0 ∷ 1 ∷ 2 ∷ 3 ∷ 4 ∷ 5 ∷ 6 ∷ 7 ∷ 8 ∷ 9 ∷ 10 ∷ 11 ∷ 12 ∷ [])) (Deliver 13 ∷ []) run_to_done
+      (carried, takes_done, refl);
   acknowledged_then = refl;
   reported = refl;
   ends_well = record { left = left_one; right = right_one; archive = subtree-replace empty_directory a_path (mark one); quiet = quiet };

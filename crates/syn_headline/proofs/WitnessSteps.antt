@@ -16,7 +16,7 @@ use Rattle.syn_headline.specs.Network.{Which, Left, Right, Message, Asks, Answer
 use Rattle.syn_headline.specs.Acknowledged.{Ack, Happened, Kept_by}
 use Rattle.syn_headline.specs.Planning.{Planned}
 use Rattle.syn_headline.specs.Report.{Report}
-use Rattle.syn_headline.specs.World.{World, Outstanding, Status, Up, Halted, Down, Running, TakesRequest, answered, ServesAs, CoordinatorGoes, AllCanKeep, RunsOver, WasSent, AllOfSession, side_of, set_side, TakesAnswer, taken, IsExpected, HasPlan, IsDueAfter, GoesOnFrom, IsOver}
+use Rattle.syn_headline.specs.World.{World, Outstanding, Status, Up, Halted, Down, Running, TakesRequest, answered, ServesAs, CoordinatorGoes, AllCanKeep, RunsOver, WasSent, AllOfSession, side_of, set_side, TakesAnswer, taken, IsExpected, HasPlan, IsDueAfter, GoesOnFrom, IsOver, Step, Runs}
 
 abbrev is_up : Status → Type 0
 is_up Up = Unit {0}
@@ -143,3 +143,8 @@ pub takes : (old : World) (from : Which) (number : ℕ) (reply : Reply) (plan : 
 takes old from number reply plan archive next messages kept reports up expected has due can is on over runs tell twice of =
     taken plan expected has (goes old (IsDueAfter old.coordinator.running plan from reply) (λ running. GoesOnFrom old.coordinator.running plan running × IsOver from number running)
     archive next messages kept reports up due can is (on, over) runs tell twice of)
+
+-- one run after another
+pub runs_on_from : (old between new : World) (steps more : List Step) → Runs old steps between → Runs between more new → Runs old (steps ++ more) new
+runs_on_from old between new [] more h k = subst (λ w. Runs w more new) h k
+runs_on_from old between new (step ∷ steps) more h k = (h.0, h.1, runs_on_from h.0 between new steps more h.2 k)

@@ -1,18 +1,18 @@
 -- Runs that the definitions are to allow: from three formatted disks that have just been opened, each step of the world.
-use Rattle.std.specs.Prelude.{ℕ, ◌≡◌, List, [], ◌∷◌, None, Some, map, replicate}
+use Rattle.std.specs.Prelude.{ℕ, ◌≡◌, List, [], ◌∷◌, ◌++◌, None, Some, map, replicate}
 use Rattle.syn_model.specs.Rows.{a_name}
 use Rattle.syn_model.specs.Path.{Path}
 use Rattle.syn_model.specs.Refusal.{NoAnswer}
 use Rattle.syn_model.specs.Event.{Put, Edit, Edited, Began, Replaced}
-use Rattle.syn_model.specs.Tree.{Tree, file, subtree}
-use Rattle.syn_model.specs.History.{tree_of}
+use Rattle.syn_model.specs.Tree.{Tree, file, subtree, empty_directory}
+use Rattle.syn_model.specs.History.{tree_of, tree_at}
 use Rattle.syn_model.specs.Mark.{mark}
 use Rattle.syn_model.specs.Archive.{Session, Recorded, new_archive}
 use Rattle.syn_headline.specs.Network.{Left, Right}
-use Rattle.syn_headline.specs.Acknowledged.{Ack, Happened, Kept_by}
+use Rattle.syn_headline.specs.Acknowledged.{Ack, Happened, Kept_by, Stores}
 use Rattle.syn_headline.specs.Report.{Report, Complete, Incomplete}
-use Rattle.syn_headline.specs.World.{World, At, Step, Edits, Start, Deliver, Tick, Open, Up, SideMachine, Runs}
-use Rattle.syn_headline.specs.Headline.{IsStart, formatted, stores_of, IsQuietSession}
+use Rattle.syn_headline.specs.World.{World, At, Step, Edits, Start, Deliver, Stop, Coordinator, Tick, Open, Up, SideMachine, Runs}
+use Rattle.syn_headline.specs.Headline.{IsStart, formatted, stores_of, IsQuietSession, UntouchedSince}
 use Rattle.syn_headline.specs.Side.{token_of}
 use Rattle.syn_headline.specs.Rows.{new_side}
 
@@ -115,3 +115,33 @@ FilesAreExchanged =
     ∷ Happened Right (Replaced (token_of 1 0) a_path 2 one) ∷ Kept_by (Recorded a_path (mark one))
     ∷ Happened Left (Replaced (token_of 1 1) b_path 2 two) ∷ Kept_by (Recorded b_path (mark two)) ∷ [])
     ((complete 2, 9) ∷ []) HasExchanged
+
+-- a session that marked what it found on both sides
+abbrev pub marked_later : Report
+marked_later = record { session = 2; end = Complete; ended = None; done = 0; marked = 1; conflicts = []; refused = [] }
+
+-- what the second session found
+abbrev pub found_later : Stores
+found_later = record {
+  left = Edited 1 put_one ∷ Began 1 ∷ [];
+  right = Began 1 ∷ Replaced (token_of 1 0) a_path 1 one ∷ [];
+  archive = record { marks = empty_directory; last_session = 1 };
+}
+
+-- nothing touched the source since it was fetched at 2, nor the target since it was replaced, and the session marks it
+pub record IsMarkedLater (world : World) : Type 0 where
+  pub fetched : one ≡ subtree (tree_at found_later.left 2) a_path
+  pub source : UntouchedSince 2 found_later.left a_path
+  pub target : UntouchedSince 2 found_later.right a_path
+  pub quiet : IsQuietSession formatted world marked_later found_later (stores_of world)
+  pub archive : subtree world.coordinator.archive.marks a_path ≡ mark one
+
+-- a coordinator stops before it takes what was done, and the next session marks what was carried
+abbrev pub CarriedIsMarkedLater : Type 0
+CarriedIsMarkedLater =
+    IsWitness (Edits Left 1 put_one ∷ Start ∷ map Deliver (0 ∷ 1 ∷ 2 ∷ 3 ∷ 4 ∷ 5 ∷ 6 ∷ 7 ∷ 8 ∷ 9 ∷ 10 ∷ 11 ∷ 12 ∷ [])
+    ++ (Stop Coordinator 0 ∷ Open Coordinator ∷ Start ∷ map Deliver (14 ∷ 15 ∷ 16 ∷ 17 ∷ 18 ∷ 19 ∷ 20 ∷ 21 ∷ [])))
+    (Happened Left (Edited 1 put_one) ∷ Kept_by (Session 1) ∷ Happened Left (Began 1) ∷ Happened Right (Began 1)
+    ∷ Happened Right (Replaced (token_of 1 0) a_path 1 one) ∷ Kept_by (Session 2) ∷ Happened Left (Began 2) ∷ Happened Right (Began 2)
+    ∷ Kept_by (Recorded a_path (mark one)) ∷ [])
+    ((marked_later, 9) ∷ []) IsMarkedLater

@@ -1,6 +1,7 @@
 use Rattle.syn_headline.proofs.WitnessLemmas.{opened_is_start, stop_is_recovered, silence_ends}
 use Rattle.syn_headline.proofs.WitnessSession.{file_is_carried}
 use Rattle.syn_headline.proofs.ExchangeLemmas.{files_are_exchanged}
+use Rattle.syn_headline.proofs.MarkedScans.{plan_is}
 use Rattle.syn_headline.proofs.witnesses.Goals as goal
 
 pub returns-clause-start : goal.returns-clause-start
