@@ -25,3 +25,4 @@ pub mod ExchangeScans
 pub mod ExchangeSides
 pub mod ExchangeLemmas
 pub mod MarkedScans
+pub mod MarkedLemmas

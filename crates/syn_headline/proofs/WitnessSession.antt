@@ -84,7 +84,7 @@ abbrev edited_world : World
 edited_world = world edited_side new_right new_archive None 0 1
 
 abbrev both_begin : Running
-both_begin = runs_with (waits 0 (Begin 7)) (waits 0 (Begin 7)) []
+both_begin = runs_with 1 (waits 0 (Begin 7)) (waits 0 (Begin 7)) []
 
 abbrev started : World
 started = world edited_side new_right begun_archive (Some both_begin) 2 2
@@ -96,13 +96,13 @@ abbrev both_begun : World
 both_begun = world left_side right_side begun_archive (Some both_begin) 4 4
 
 abbrev right_begins : Running
-right_begins = runs_with None (waits 0 (Begin 7)) []
+right_begins = runs_with 1 None (waits 0 (Begin 7)) []
 
 abbrev right_awaited : World
 right_awaited = world left_side right_side begun_archive (Some right_begins) 4 4
 
 abbrev both_list : Running
-both_list = runs_with (waits 1 (ListAt root)) (waits 1 (ListAt root)) []
+both_list = runs_with 1 (waits 1 (ListAt root)) (waits 1 (ListAt root)) []
 
 abbrev listing : World
 listing = world left_side right_side begun_archive (Some both_list) 6 4
@@ -114,13 +114,13 @@ abbrev both_listed : World
 both_listed = world left_side right_side begun_archive (Some both_list) 8 4
 
 abbrev right_lists : Running
-right_lists = runs_with None (waits 1 (ListAt root)) []
+right_lists = runs_with 1 None (waits 1 (ListAt root)) []
 
 abbrev right_list_awaited : World
 right_list_awaited = world left_side right_side begun_archive (Some right_lists) 8 4
 
 abbrev left_fetches : Running
-left_fetches = runs_with (waits 2 (Fetch a_path 2 0)) None plan
+left_fetches = runs_with 1 (waits 2 (Fetch a_path 2 0)) None plan
 
 abbrev fetching : World
 fetching = world left_side right_side begun_archive (Some left_fetches) 9 4
@@ -129,7 +129,7 @@ abbrev fetched : World
 fetched = world left_side right_side begun_archive (Some left_fetches) 10 4
 
 abbrev right_stages : Running
-right_stages = runs_with None (waits 2 (Stage 0 0 file_bytes)) plan
+right_stages = runs_with 1 None (waits 2 (Stage 0 0 file_bytes)) plan
 
 abbrev staging : World
 staging = world left_side right_side begun_archive (Some right_stages) 11 4
@@ -138,7 +138,7 @@ abbrev staged : World
 staged = world left_side right_staged begun_archive (Some right_stages) 12 4
 
 abbrev pub right_replaces : Running
-right_replaces = runs_with None (waits 3 (Replace 0 a_path 1 6)) plan
+right_replaces = runs_with 1 None (waits 3 (Replace 0 a_path 1 6)) plan
 
 abbrev replacing : World
 replacing = world left_side right_staged begun_archive (Some right_replaces) 13 4
@@ -270,7 +270,7 @@ starts = inr (
 )
 
 takes_left_begun : Steps both_begun (Deliver 2) right_awaited
-takes_left_begun = takes both_begun Left 0 (Begun 2) [] begun_archive (Some right_begins) [] [] [] refl (refl, refl) (inl refl) (All-nil (IsDue both_begin [] Left (Begun 2))) tt refl
+takes_left_begun = takes 1 both_begun Left 0 (Begun 2) [] begun_archive (Some right_begins) [] [] [] refl (refl, refl) (inl refl) (All-nil (IsDue both_begin [] Left (Begun 2))) tt refl
     (goes_on right_begins refl refl) tt (refl, both_sent (take 4 messages) right_begins tt (1, omega arith, refl), inr refl) (tells 4) (once 4)
     (All-nil (IsOfSession (take 4 messages) right_begins))
 
@@ -278,18 +278,18 @@ pub root_lawful : IsPath root
 root_lawful = record { names = All-nil IsName; not_deep = omega arith; not_long = omega arith }
 
 takes_right_begun : Steps right_awaited (Deliver 3) listing
-takes_right_begun = takes right_awaited Right 0 (Begun 1) [] begun_archive (Some both_list) (drop 4 (take 6 messages)) [] [] refl (refl, refl) (inl refl) (All-nil (IsDue right_begins [] Right (Begun 1))) tt refl
+takes_right_begun = takes 1 right_awaited Right 0 (Begun 1) [] begun_archive (Some both_list) (drop 4 (take 6 messages)) [] [] refl (refl, refl) (inl refl) (All-nil (IsDue right_begins [] Right (Begun 1))) tt refl
     (goes_on both_list refl refl) (λ e. omega (arith, e)) (refl, both_sent (take 6 messages) both_list (4, omega arith, refl) (5, omega arith, refl), inl refl) (tells 6) (once 6)
     (All-from_recursion (IsOfSession (take 4 messages) both_list) (drop 4 (take 6 messages)) ((refl, (omega arith, root_lawful), tt), ((refl, (omega arith, root_lawful), tt), tt)))
 
 takes_left_listing : Steps both_listed (Deliver 6) right_list_awaited
-takes_left_listing = takes both_listed Left 1 (Listed 2 (children left_scan.marks root)) [] begun_archive (Some right_lists) [] [] [] refl (refl, refl) (inl refl)
+takes_left_listing = takes 1 both_listed Left 1 (Listed 2 (children left_scan.marks root)) [] begun_archive (Some right_lists) [] [] [] refl (refl, refl) (inl refl)
     (All-nil (IsDue both_list [] Left (Listed 2 (children left_scan.marks root)))) tt refl
     (goes_on right_lists refl refl) tt (refl, both_sent (take 8 messages) right_lists tt (5, omega arith, refl), inr refl) (tells 8) (once 8)
     (All-nil (IsOfSession (take 8 messages) right_lists))
 
 takes_right_listing : Steps right_list_awaited (Deliver 7) fetching
-takes_right_listing = takes right_list_awaited Right 1 (Listed 1 (children right_scan.marks root)) plan begun_archive (Some left_fetches) (drop 8 (take 9 messages)) [] [] refl (refl, refl) (inr (refl, plans))
+takes_right_listing = takes 1 right_list_awaited Right 1 (Listed 1 (children right_scan.marks root)) plan begun_archive (Some left_fetches) (drop 8 (take 9 messages)) [] [] refl (refl, refl) (inr (refl, plans))
     (All-nil (IsDue right_lists plan Right (Listed 1 (children right_scan.marks root)))) tt refl
     (goes_on left_fetches refl refl) tt (refl, both_sent (take 9 messages) left_fetches (8, omega arith, refl) tt, inl refl) (tells 9) (once 9)
     (All-from_recursion (IsOfSession (take 8 messages) left_fetches) (drop 8 (take 9 messages))
@@ -299,7 +299,7 @@ bytes_lawful : AreBytes file_bytes
 bytes_lawful = All-from_recursion (λ byte. byte < 256) file_bytes (omega arith, (omega arith, (omega arith, (omega arith, (omega arith, (omega arith, tt))))))
 
 takes_piece : Steps fetched (Deliver 9) staging
-takes_piece = takes fetched Left 2 (Piece 6 file_bytes) plan begun_archive (Some right_stages) (drop 10 (take 11 messages)) [] [] refl (refl, refl) (inl refl)
+takes_piece = takes 1 fetched Left 2 (Piece 6 file_bytes) plan begun_archive (Some right_stages) (drop 10 (take 11 messages)) [] [] refl (refl, refl) (inl refl)
     (All-nil (IsDue left_fetches plan Left (Piece 6 file_bytes))) tt refl
     (goes_on right_stages refl refl) tt (refl, both_sent (take 11 messages) right_stages tt (10, omega arith, refl), inr refl) (tells 11) (once 11)
     (All-from_recursion (IsOfSession (take 10 messages) right_stages) (drop 10 (take 11 messages)) (
@@ -312,7 +312,7 @@ takes_piece = takes fetched Left 2 (Piece 6 file_bytes) plan begun_archive (Some
     ))
 
 takes_staged : Steps staged (Deliver 11) replacing
-takes_staged = takes staged Right 2 Staged plan begun_archive (Some right_replaces) (drop 12 (take 13 messages)) [] [] refl (refl, refl) (inl refl)
+takes_staged = takes 1 staged Right 2 Staged plan begun_archive (Some right_replaces) (drop 12 (take 13 messages)) [] [] refl (refl, refl) (inl refl)
     (All-nil (IsDue right_stages plan Right Staged)) tt refl
     (goes_on right_replaces refl refl) (λ e. omega (arith, e)) (refl, both_sent (take 13 messages) right_replaces tt (12, omega arith, refl), inr refl) (tells 13) (once 13)
     (All-from_recursion (IsOfSession (take 12 messages) right_replaces) (drop 12 (take 13 messages)) (
@@ -333,7 +333,7 @@ can_record =
     }
 
 takes_done : Steps replaced (Deliver 13) carried
-takes_done = takes replaced Right 3 Done plan recorded_archive None [] (Recorded a_path (mark one) ∷ []) ((complete 1, 6) ∷ []) refl (refl, refl) (inl refl)
+takes_done = takes 1 replaced Right 3 Done plan recorded_archive None [] (Recorded a_path (mark one) ∷ []) ((complete 1, 6) ∷ []) refl (refl, refl) (inl refl)
     (All-cons (IsDue right_replaces plan Right Done) (Recorded a_path (mark one)) [] (done _ 0 a_path 1 6 planned refl refl refl refl refl) (All-nil (IsDue right_replaces plan Right Done)))
     (can_record, tt) refl ended tt tt (tells 14) (once 14) refl
 

@@ -118,8 +118,8 @@ both_sent sent running l r Right = r
 abbrev pub waits : ℕ → Request → Option Outstanding
 waits number request = Some (record { number = number; request = request; resent = 0 })
 
-abbrev pub runs_with : Option Outstanding → Option Outstanding → List Planned → Running
-runs_with left right plan = record { session = 1; left = left; right = right; plan = plan }
+abbrev pub runs_with : ℕ → Option Outstanding → Option Outstanding → List Planned → Running
+runs_with session left right plan = record { session = session; left = left; right = right; plan = plan }
 
 -- a world without failures, where so many of the messages have been sent and so much of the rest acknowledged
 abbrev pub world_of : Sent → List Ack → Side → Side → Archive → Option Running → ℕ → ℕ → World
@@ -134,13 +134,13 @@ world_of messages acks left right archive running said acknowledged = record {
 }
 
 -- the coordinator takes an answer that it waits for
-pub takes : (old : World) (from : Which) (number : ℕ) (reply : Reply) (plan : List Planned) (archive : Archive) (next : Option Running) (messages : List Message) (kept : List Kept) (reports : List (Report × ℕ)) →
-    old.coordinator.status ≡ Up → IsExpected old.coordinator.running from 1 number → HasPlan old.sent old.coordinator.archive old.coordinator.running plan →
+pub takes : (session : ℕ) (old : World) (from : Which) (number : ℕ) (reply : Reply) (plan : List Planned) (archive : Archive) (next : Option Running) (messages : List Message) (kept : List Kept) (reports : List (Report × ℕ)) →
+    old.coordinator.status ≡ Up → IsExpected old.coordinator.running from session number → HasPlan old.sent old.coordinator.archive old.coordinator.running plan →
     All (IsDueAfter old.coordinator.running plan from reply) kept → AllCanKeep old.coordinator.archive kept → archive ≡ archive_of old.coordinator.archive kept →
     GoesOnFrom old.coordinator.running plan next → IsOver from number next → RunsOver (old.sent ++ messages) archive next →
     NumbersTell (old.sent ++ messages) → AsksNothingTwice (old.sent ++ messages) → AllOfSession old.sent next messages →
-    TakesAnswer old from 1 number reply (after_call old archive next messages kept reports)
-takes old from number reply plan archive next messages kept reports up expected has due can is on over runs tell twice of =
+    TakesAnswer old from session number reply (after_call old archive next messages kept reports)
+takes session old from number reply plan archive next messages kept reports up expected has due can is on over runs tell twice of =
     taken plan expected has (goes old (IsDueAfter old.coordinator.running plan from reply) (λ running. GoesOnFrom old.coordinator.running plan running × IsOver from number running)
     archive next messages kept reports up due can is (on, over) runs tell twice of)
 

@@ -4,7 +4,7 @@
 ghost use Rattle.syn_headline.specs.Laws.{ServesAllowed, RepeatsAreDone, LaterAreOld};
 ghost use Rattle.syn_headline.specs.Rows.{SideRows};
 ghost use Rattle.syn_headline.specs.Headline.{RunsStand, RunsReplaceLegally, RunsUseTokensOnce, RunsHoldArchive, RunsLeavePair, RunsOwe, FormattedIsPair};
-ghost use Rattle.syn_headline.specs.Witness.{OpenedIsStart, StopIsRecovered, SilenceEnds, FileIsCarried, FilesAreExchanged};
+ghost use Rattle.syn_headline.specs.Witness.{OpenedIsStart, StopIsRecovered, SilenceEnds, FileIsCarried, FilesAreExchanged, CarriedIsMarkedLater};
 
 /// A step of a side leaves its history or adds one allowed event, and answers as the worked examples say.
 pub fn side_laws()
@@ -32,4 +32,5 @@ pub fn witnesses()
     ensures ended { SilenceEnds }
     ensures carried { FileIsCarried }
     ensures exchanged { FilesAreExchanged }
+    ensures marked { CarriedIsMarkedLater }
 {}

@@ -1,7 +1,7 @@
 use Rattle.syn_headline.proofs.WitnessLemmas.{opened_is_start, stop_is_recovered, silence_ends}
 use Rattle.syn_headline.proofs.WitnessSession.{file_is_carried}
 use Rattle.syn_headline.proofs.ExchangeLemmas.{files_are_exchanged}
-use Rattle.syn_headline.proofs.MarkedScans.{plan_is}
+use Rattle.syn_headline.proofs.MarkedLemmas.{carried_is_marked_later}
 use Rattle.syn_headline.proofs.witnesses.Goals as goal
 
 pub returns-clause-start : goal.returns-clause-start
@@ -18,3 +18,6 @@ returns-clause-carried c = file_is_carried
 
 pub returns-clause-exchanged : goal.returns-clause-exchanged
 returns-clause-exchanged c = files_are_exchanged
+
+pub returns-clause-marked : goal.returns-clause-marked
+returns-clause-marked c = carried_is_marked_later
