@@ -1,5 +1,5 @@
 -- A session that carries one file each way: the steps of the coordinator, and the whole run.
-use Rattle.std.proofs.Common.{◌≡◌, ◌<◌, List, [], ◌∷◌, take, drop, refl, sym, subst, Some, None, arith, inl, inr}
+use Rattle.std.proofs.Common.{◌≡◌, ◌<◌, List, [], ◌∷◌, map, take, drop, refl, sym, subst, Some, None, arith, inl, inr}
 use Rattle.std.specs.Prelude.{ℕ, Contains}
 use Rattle.std.specs.FinMap.{entries}
 use Rattle.std.proofs.lemmas.List.Elements.{All-nil, All-cons, All-from_recursion}
@@ -17,14 +17,14 @@ use Rattle.syn_headline.specs.Rows.{file_bytes}
 use Rattle.syn_headline.specs.Side.{ListAt, Begun, Listed, Piece, Staged, Done, token_of}
 use Rattle.syn_headline.specs.Network.{Which, Left, Right, WasAnswered}
 use Rattle.syn_headline.specs.Planning.{IsPlanOf, IsScanOf, HasBegun, SeesBoth}
-use Rattle.syn_headline.specs.World.{Start, Deliver, Steps, IsOfSession, IsDue, done, IsNext, StartsFrom, goes_on, ended}
+use Rattle.syn_headline.specs.World.{Edits, Runs, Start, Deliver, Steps, IsOfSession, IsDue, done, IsNext, StartsFrom, goes_on, ended}
 use Rattle.syn_headline.specs.Headline.{IsQuietSession, IsNoEdit, formatted, stores_of}
-use Rattle.syn_headline.specs.Witness.{a_path, b_path, put_one, put_two, one, two, complete, HasBoth, FilesAreExchanged}
+use Rattle.syn_headline.specs.Witness.{opened_world, a_path, b_path, put_one, put_two, one, two, complete, HasBoth, FilesAreExchanged}
 use Rattle.syn_headline.proofs.WitnessTrees.{get_by, replace-entries, fits_archive_by}
 use Rattle.syn_headline.proofs.WitnessFiles.{alone, with_file, digest, alone-entries, file_mark-entries, put-entries, marked_whole, root_only, path_of_letter, mark_is_part}
 use Rattle.syn_headline.proofs.WitnessScans.{left_history, left_scan, left-entries, left_marks-entries, left_part}
 use Rattle.syn_headline.proofs.ExchangeScans.{right_history, right_scan, right-entries, right_marks-entries, right_part, plan_is}
-use Rattle.syn_headline.proofs.WitnessSteps.{goes, takes, both_sent}
+use Rattle.syn_headline.proofs.WitnessSteps.{runs_on_from, goes, takes, both_sent}
 use Rattle.syn_headline.proofs.WitnessLemmas.{letter_a}
 use Rattle.syn_headline.proofs.ExchangeSides.{two_bytes, right_done, left_done, begun_archive, first_archive, both_archive, messages, first_planned, second_planned, plan, both_begin, right_begins, both_list, right_lists, left_fetches, right_stages, right_replaces, right_fetches, left_stages, left_replaces, first_edited, both_edited, started, left_begun, both_begun, right_awaited, listing, left_listed, both_listed, right_list_awaited, fetching, fetched, staging, staged, replacing, replaced, second_fetching, second_fetched, second_staging, second_staged, second_replacing, second_replaced, exchanged, tells, once, edits_left, letter_b, edits_right, begins_left, begins_right, lists_left, lists_right, stays, fetches_first, stages_first, replaces_first, fetches_second, stages_second, replaces_second}
 
@@ -239,86 +239,25 @@ quiet = record {
   taken = refl;
 }
 
+begins : Runs opened_world (Edits Left 1 put_one ∷ Edits Right 2 put_two ∷ Start ∷ map Deliver (0 ∷ 1 ∷ 2 ∷ 3 ∷ [])) listing
+begins = (first_edited, edits_left, (both_edited, edits_right, (started, starts, (left_begun, begins_left, (both_begun, begins_right, (right_awaited, takes_left_begun, (listing, takes_right_begun, refl)))))))
+
+lists_both : Runs listing (map Deliver (4 ∷ 5 ∷ 6 ∷ 7 ∷ [])) fetching
+lists_both = (left_listed, lists_left, (both_listed, lists_right, (right_list_awaited, takes_left_listing, (fetching, takes_right_listing, refl))))
+
+carries_first : Runs fetching (map Deliver (8 ∷ 9 ∷ 10 ∷ 11 ∷ 12 ∷ 13 ∷ [])) second_fetching
+carries_first = (fetched, fetches_first, (staging, takes_first_piece, (staged, stages_first, (replacing, takes_first_staged, (replaced, replaces_first, (second_fetching, takes_first_done, refl))))))
+
+carries_second : Runs second_fetching (map Deliver (14 ∷ 15 ∷ 16 ∷ 17 ∷ 18 ∷ 19 ∷ [])) exchanged
+carries_second =
+    (second_fetched, fetches_second, (second_staging, takes_second_piece, (second_staged, stages_second, (second_replacing, takes_second_staged, (second_replaced, replaces_second, (exchanged, takes_second_done, refl))))))
+
 pub files_are_exchanged : FilesAreExchanged
 files_are_exchanged = record {
   new = exchanged;
-  runs = (
-    first_edited,
-    edits_left,
-    (
-      both_edited,
-      edits_right,
-      (
-        started,
-        starts,
-        (
-          left_begun,
-          begins_left,
-          (
-            both_begun,
-            begins_right,
-            (
-              right_awaited,
-              takes_left_begun,
-              (
-                listing,
-                takes_right_begun,
-                (
-                  left_listed,
-                  lists_left,
-                  (
-                    both_listed,
-                    lists_right,
-                    (
-                      right_list_awaited,
-                      takes_left_listing,
-                      (
-                        fetching,
-                        takes_right_listing,
-                        (
-                          fetched,
-                          fetches_first,
-                          (
-                            staging,
-                            takes_first_piece,
-                            (
-                              staged,
-                              stages_first,
-                              (
-                                replacing,
-                                takes_first_staged,
-                                (
-                                  replaced,
-                                  replaces_first,
-                                  (
-                                    second_fetching,
-                                    takes_first_done,
-                                    (
-                                      second_fetched,
-                                      fetches_second,
-                                      (
-                                        second_staging,
-                                        takes_second_piece,
-                                        (second_staged, stages_second, (second_replacing, takes_second_staged, (second_replaced, replaces_second, (exchanged, takes_second_done, refl)))),
-                                      ),
-                                    ),
-                                  ),
-                                ),
-                              ),
-                            ),
-                          ),
-                        ),
-                      ),
-                    ),
-                  ),
-                ),
-              ),
-            ),
-          ),
-        ),
-      ),
-    ),
-  );
+  runs = runs_on_from opened_world listing exchanged (Edits Left 1 put_one ∷ Edits Right 2 put_two ∷ Start ∷ map Deliver (0 ∷ 1 ∷ 2 ∷ 3 ∷ [])) (map Deliver (4 ∷ 5 ∷ 6 ∷ 7 ∷ 8 ∷ 9 ∷ 10 ∷ 11 ∷ 12 ∷ 13 ∷ 14 ∷ 15 ∷ 16 ∷ 17 ∷ 18 ∷ 19 ∷ [])) begins
+      (runs_on_from listing fetching exchanged (map Deliver (4 ∷ 5 ∷ 6 ∷ 7 ∷ [])) (map Deliver (8 ∷ 9 ∷ 10 ∷ 11 ∷ 12 ∷ 13 ∷ 14 ∷ 15 ∷ 16 ∷ 17 ∷ 18 ∷ 19 ∷ [])) lists_both
+      (runs_on_from fetching second_fetching exchanged (map Deliver (8 ∷ 9 ∷ 10 ∷ 11 ∷ 12 ∷ 13 ∷ [])) (map Deliver (14 ∷ 15 ∷ 16 ∷ 17 ∷ 18 ∷ 19 ∷ [])) carries_first carries_second));
   acknowledged_then = refl;
   reported = refl;
   ends_well = record { left = left_has; right = right_has; archive = archive_has; quiet = quiet };

@@ -25,7 +25,9 @@ pub fn run_laws()
     ensures owe { RunsOwe }
 {}
 
-/// Runs from three formatted disks that the definitions allow: a stop and its recovery, a session without answers, and a whole one.
+/// Runs from three formatted disks, step by step, that the definitions of a run allow: a stop while an edit is written and its
+/// recovery, a session that nobody answers, a whole session over one file, one that carries a file each way, and one that marks
+/// what an earlier session carried and did not record.
 pub fn witnesses()
     ensures start { OpenedIsStart }
     ensures recovered { StopIsRecovered }
