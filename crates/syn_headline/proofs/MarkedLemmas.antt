@@ -1,15 +1,15 @@
 -- A coordinator that stops before it takes what was done, and the session that marks it.
-use Rattle.std.proofs.Common.{◌≡◌, ℕ, ◌<◌, false, List, [], ◌∷◌, ◌++◌, map, take, drop, refl, sym, subst, Option, Some, None, arith, inl, inr}
-use Rattle.std.specs.Prelude.{All, Contains}
+use Rattle.std.proofs.Common.{◌≡◌, ℕ, false, List, [], ◌∷◌, ◌++◌, map, take, drop, refl, sym, subst, Option, Some, None, arith, inl, inr}
+use Rattle.std.specs.Prelude.{All}
 use Rattle.std.proofs.lemmas.List.{take-append-drop}
 use Rattle.std.proofs.lemmas.List.Elements.{All-nil, All-cons, All-append, All-from_recursion}
 use Rattle.sha2.specs.Sha256.{sha256}
 use Rattle.syn_model.specs.Path.{Path, root}
-use Rattle.syn_model.specs.Tree.{empty_directory, replace, subtree}
+use Rattle.syn_model.specs.Tree.{empty_directory, replace}
 use Rattle.syn_model.specs.Limits.{children}
 use Rattle.syn_model.specs.Mark.{mark}
-use Rattle.syn_model.specs.Event.{Event, Edited, Began, Replaced, touches}
-use Rattle.syn_model.specs.History.{tree_of, tree_at}
+use Rattle.syn_model.specs.Event.{Edited, Began, Replaced, touches}
+use Rattle.syn_model.specs.History.{tree_of}
 use Rattle.syn_model.specs.Archive.{Archive, Session, Recorded, CanKeep}
 use Rattle.syn_model.specs.Decision.{MarkSame}
 use Rattle.syn_model.specs.Dirty.{Scan}
@@ -27,7 +27,7 @@ use Rattle.syn_headline.proofs.WitnessFiles.{alone, with_file, digest, alone-ent
 use Rattle.syn_headline.proofs.WitnessMessages.{IsNumbered, number_of, numbers_tell, asks_once, tell_before, once_before}
 use Rattle.syn_headline.proofs.WitnessSteps.{waits, runs_with, world_of, reads_nothing, serves, lists, goes, takes, both_sent, runs_on_from}
 use Rattle.syn_headline.proofs.WitnessLemmas.{letter_a}
-use Rattle.syn_headline.proofs.WitnessSession.{replaced, right_replaces, begun_archive, left_side, right_done, asked, numbered, root_lawful, none_there, run_to_done}
+use Rattle.syn_headline.proofs.WitnessSession.{replaced, begun_archive, left_side, right_done, asked, numbered, root_lawful, none_there, run_to_done}
 use Rattle.syn_headline.proofs.WitnessSession.{messages as first_messages}
 use Rattle.syn_headline.proofs.MarkedScans.{left_history, right_history, left_scan, right_scan, left-entries, right-entries, left_marks-entries, right_marks-entries, left_root, right_root, left_part, right_part, plan_is}
 

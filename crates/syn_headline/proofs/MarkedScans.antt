@@ -1,5 +1,5 @@
 -- What the scans find where both sides have the file and the archive lacks it, and the plan of that session.
-use Rattle.std.proofs.Common.{◌≡◌, ℕ, suc, true, false, List, [], ◌∷◌, ◌++◌, map, flat_map, refl, sym, ap, ap₂, ◌∙◌}
+use Rattle.std.proofs.Common.{◌≡◌, ℕ, suc, true, false, [], ◌∷◌, ◌++◌, map, flat_map, refl, sym, ap, ap₂, ◌∙◌}
 use Rattle.std.specs.FinMap.{entries, empty, put, insert, entries-insert, same_entries_map}
 use Rattle.syn_model.specs.Path.{root, child, name_cmp}
 use Rattle.syn_model.specs.Tree.{Tree, Content, empty_directory, subtree, is_directory}
