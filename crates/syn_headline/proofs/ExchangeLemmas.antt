@@ -258,6 +258,7 @@ files_are_exchanged = record {
   runs = runs_on_from opened_world listing exchanged (Edits Left 1 put_one ∷ Edits Right 2 put_two ∷ Start ∷ map Deliver (0 ∷ 1 ∷ 2 ∷ 3 ∷ [])) (map Deliver (4 ∷ 5 ∷ 6 ∷ 7 ∷ 8 ∷ 9 ∷ 10 ∷ 11 ∷ 12 ∷ 13 ∷ 14 ∷ 15 ∷ 16 ∷ 17 ∷ 18 ∷ 19 ∷ [])) begins
       (runs_on_from listing fetching exchanged (map Deliver (4 ∷ 5 ∷ 6 ∷ 7 ∷ [])) (map Deliver (8 ∷ 9 ∷ 10 ∷ 11 ∷ 12 ∷ 13 ∷ 14 ∷ 15 ∷ 16 ∷ 17 ∷ 18 ∷ 19 ∷ [])) lists_both
       (runs_on_from fetching second_fetching exchanged (map Deliver (8 ∷ 9 ∷ 10 ∷ 11 ∷ 12 ∷ 13 ∷ [])) (map Deliver (14 ∷ 15 ∷ 16 ∷ 17 ∷ 18 ∷ 19 ∷ [])) carries_first carries_second));
+  sent = refl;
   acknowledged_then = refl;
   reported = refl;
   ends_well = record { left = left_has; right = right_has; archive = archive_has; quiet = quiet };

@@ -268,6 +268,7 @@ carried_is_marked_later = record {
   runs = runs_on_from opened_world replaced marked (Edits Left 1 put_one ∷ Start ∷ map Deliver (0 ∷ 1 ∷ 2 ∷ 3 ∷ 4 ∷ 5 ∷ 6 ∷ 7 ∷ 8 ∷ 9 ∷ 10 ∷ 11 ∷ 12 ∷ []))
       (Stop Coordinator 0 ∷ Open Coordinator ∷ Start ∷ map Deliver (14 ∷ 15 ∷ 16 ∷ 17 ∷ 18 ∷ 19 ∷ 20 ∷ 21 ∷ [])) run_to_done
       (runs_on_from replaced both_begun marked (Stop Coordinator 0 ∷ Open Coordinator ∷ Start ∷ map Deliver (14 ∷ 15 ∷ [])) (map Deliver (16 ∷ 17 ∷ 18 ∷ 19 ∷ 20 ∷ 21 ∷ [])) begins_again marks);
+  sent = refl;
   acknowledged_then = refl;
   reported = refl;
   ends_well = is_marked;

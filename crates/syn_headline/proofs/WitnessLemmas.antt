@@ -52,6 +52,7 @@ stop_is_recovered = record {
     (stopped new_machine (Some (Edited 1 put_one)), [], edit_written _ [] refl edit_allowed cut, refl),
     (recovered_world, inr (refl, (recovered_world.left, Edited 1 put_one ∷ [], recovered (Edited 1 put_one) refl edit_allowed, refl)), refl),
   );
+  sent = refl;
   acknowledged_then = refl;
   reported = refl;
   ends_well = (refl, refl);
@@ -143,9 +144,11 @@ ticks (suc times) resent more last h =
     (waiting (suc resent), resends resent, ticks times (suc resent) more last (subst (λ n. Runs (waiting n) more last) (one_later times resent) h))
 
 pub silence_ends : SilenceEnds
+unfolding begins
 silence_ends = record {
   new = ended_world 8;
   runs = (waiting 0, starts, ticks 8 0 (Tick ∷ []) (ended_world 8) (ended_world 8, gives_up 8, refl));
+  sent = refl;
   acknowledged_then = refl;
   reported = refl;
   ends_well = refl;

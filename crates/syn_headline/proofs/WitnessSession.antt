@@ -379,6 +379,7 @@ file_is_carried = record {
   new = carried;
   runs = runs_on_from opened_world replaced carried (Edits Left 1 put_one ∷ Start ∷ map Deliver (0 ∷ 1 ∷ 2 ∷ 3 ∷ 4 ∷ 5 ∷ 6 ∷ 7 ∷ 8 ∷ 9 ∷ 10 ∷ 11 ∷ 12 ∷ [])) (Deliver 13 ∷ []) run_to_done
       (carried, takes_done, refl);
+  sent = refl;
   acknowledged_then = refl;
   reported = refl;
   ends_well = record { left = left_one; right = right_one; archive = subtree-replace empty_directory a_path (mark one); quiet = quiet };

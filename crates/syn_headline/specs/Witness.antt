@@ -1,5 +1,5 @@
 -- Runs that the definitions are to allow: from three formatted disks that have just been opened, each step of the world.
-use Rattle.std.specs.Prelude.{ℕ, ◌≡◌, List, [], ◌∷◌, ◌++◌, None, Some, map, replicate}
+use Rattle.std.specs.Prelude.{ℕ, ◌≡◌, List, [], ◌∷◌, ◌++◌, None, Some, map, length, replicate}
 use Rattle.syn_model.specs.Rows.{a_name}
 use Rattle.syn_model.specs.Path.{Path}
 use Rattle.syn_model.specs.Refusal.{NoAnswer}
@@ -34,10 +34,11 @@ opened_world = record {
 abbrev pub OpenedIsStart : Type 0
 OpenedIsStart = IsStart opened_world
 
--- a run from there that acknowledges and reports this, and ends well
-pub record IsWitness (steps : List Step) (acknowledged : List Ack) (reports : List (Report × ℕ)) (EndsWell : World → Type 0) : Type 0 where
+-- a run from there that sends so many messages, acknowledges and reports this, and ends well
+pub record IsWitness (steps : List Step) (messages : ℕ) (acknowledged : List Ack) (reports : List (Report × ℕ)) (EndsWell : World → Type 0) : Type 0 where
   pub new : World
   pub runs : Runs opened_world steps new
+  pub sent : length new.sent ≡ messages
   pub acknowledged_then : new.acknowledged ≡ acknowledged
   pub reported : new.reports ≡ reports
   pub ends_well : EndsWell new
@@ -52,7 +53,7 @@ put_one = Put a_path (49 ∷ [])
 -- a stop cuts off an edit while it is written, and the opening recovers it
 abbrev pub StopIsRecovered : Type 0
 StopIsRecovered =
-    IsWitness (Edits Left 1 put_one ∷ Open (At Left) ∷ []) (Happened Left (Edited 1 put_one) ∷ []) []
+    IsWitness (Edits Left 1 put_one ∷ Open (At Left) ∷ []) 0 (Happened Left (Edited 1 put_one) ∷ []) []
     (λ world. (world.left.status ≡ Up) × (world.left.side.history ≡ Edited 1 put_one ∷ []))
 
 -- a session that is never answered: its requests are sent again eight times, and the ninth tick ends it
@@ -61,7 +62,7 @@ unanswered = record { session = 1; end = Incomplete; ended = Some NoAnswer; done
 
 abbrev pub SilenceEnds : Type 0
 SilenceEnds =
-    IsWitness (Start ∷ replicate 9 Tick) (Kept_by (Session 1) ∷ []) ((unanswered, 1) ∷ [])
+    IsWitness (Start ∷ replicate 9 Tick) 18 (Kept_by (Session 1) ∷ []) ((unanswered, 1) ∷ [])
     (λ world. world.coordinator.running ≡ None)
 
 -- a session that went on to its end
@@ -78,10 +79,10 @@ pub record HasCarried (world : World) : Type 0 where
   pub archive : subtree world.coordinator.archive.marks a_path ≡ mark one
   pub quiet : IsQuietSession formatted world (complete 1) (record { left = Edited 1 put_one ∷ []; right = []; archive = new_archive }) (stores_of world)
 
--- a session without loss carries a file that the left alone has: it sends the messages 0 to 13
+-- a session without loss carries a file that the left alone has
 abbrev pub FileIsCarried : Type 0
 FileIsCarried =
-    IsWitness (Edits Left 1 put_one ∷ Start ∷ map Deliver (0 ∷ 1 ∷ 2 ∷ 3 ∷ 4 ∷ 5 ∷ 6 ∷ 7 ∷ 8 ∷ 9 ∷ 10 ∷ 11 ∷ 12 ∷ 13 ∷ []))
+    IsWitness (Edits Left 1 put_one ∷ Start ∷ map Deliver (0 ∷ 1 ∷ 2 ∷ 3 ∷ 4 ∷ 5 ∷ 6 ∷ 7 ∷ 8 ∷ 9 ∷ 10 ∷ 11 ∷ 12 ∷ 13 ∷ [])) 14
     (Happened Left (Edited 1 put_one) ∷ Kept_by (Session 1) ∷ Happened Left (Began 1) ∷ Happened Right (Began 1)
     ∷ Happened Right (Replaced (token_of 1 0) a_path 1 one) ∷ Kept_by (Recorded a_path (mark one)) ∷ [])
     ((complete 1, 6) ∷ []) HasCarried
@@ -107,10 +108,10 @@ pub record HasExchanged (world : World) : Type 0 where
   pub archive : HasBoth world.coordinator.archive.marks (mark one) (mark two)
   pub quiet : IsQuietSession formatted world (complete 2) (record { left = Edited 1 put_one ∷ []; right = Edited 2 put_two ∷ []; archive = new_archive }) (stores_of world)
 
--- each side has a file that the other lacks, and a session carries both: it sends the messages 0 to 19
+-- each side has a file that the other lacks, and a session carries both
 abbrev pub FilesAreExchanged : Type 0
 FilesAreExchanged =
-    IsWitness (Edits Left 1 put_one ∷ Edits Right 2 put_two ∷ Start ∷ map Deliver (0 ∷ 1 ∷ 2 ∷ 3 ∷ 4 ∷ 5 ∷ 6 ∷ 7 ∷ 8 ∷ 9 ∷ 10 ∷ 11 ∷ 12 ∷ 13 ∷ 14 ∷ 15 ∷ 16 ∷ 17 ∷ 18 ∷ 19 ∷ []))
+    IsWitness (Edits Left 1 put_one ∷ Edits Right 2 put_two ∷ Start ∷ map Deliver (0 ∷ 1 ∷ 2 ∷ 3 ∷ 4 ∷ 5 ∷ 6 ∷ 7 ∷ 8 ∷ 9 ∷ 10 ∷ 11 ∷ 12 ∷ 13 ∷ 14 ∷ 15 ∷ 16 ∷ 17 ∷ 18 ∷ 19 ∷ [])) 20
     (Happened Left (Edited 1 put_one) ∷ Happened Right (Edited 2 put_two) ∷ Kept_by (Session 1) ∷ Happened Left (Began 1) ∷ Happened Right (Began 1)
     ∷ Happened Right (Replaced (token_of 1 0) a_path 2 one) ∷ Kept_by (Recorded a_path (mark one))
     ∷ Happened Left (Replaced (token_of 1 1) b_path 2 two) ∷ Kept_by (Recorded b_path (mark two)) ∷ [])
@@ -140,7 +141,7 @@ pub record IsMarkedLater (world : World) : Type 0 where
 abbrev pub CarriedIsMarkedLater : Type 0
 CarriedIsMarkedLater =
     IsWitness (Edits Left 1 put_one ∷ Start ∷ map Deliver (0 ∷ 1 ∷ 2 ∷ 3 ∷ 4 ∷ 5 ∷ 6 ∷ 7 ∷ 8 ∷ 9 ∷ 10 ∷ 11 ∷ 12 ∷ [])
-    ++ (Stop Coordinator 0 ∷ Open Coordinator ∷ Start ∷ map Deliver (14 ∷ 15 ∷ 16 ∷ 17 ∷ 18 ∷ 19 ∷ 20 ∷ 21 ∷ [])))
+    ++ (Stop Coordinator 0 ∷ Open Coordinator ∷ Start ∷ map Deliver (14 ∷ 15 ∷ 16 ∷ 17 ∷ 18 ∷ 19 ∷ 20 ∷ 21 ∷ []))) 22
     (Happened Left (Edited 1 put_one) ∷ Kept_by (Session 1) ∷ Happened Left (Began 1) ∷ Happened Right (Began 1)
     ∷ Happened Right (Replaced (token_of 1 0) a_path 1 one) ∷ Kept_by (Session 2) ∷ Happened Left (Began 2) ∷ Happened Right (Began 2)
     ∷ Kept_by (Recorded a_path (mark one)) ∷ [])
