@@ -9,3 +9,4 @@ pub mod Invariant
 pub mod Headline
 pub mod Laws
 pub mod Rows
+pub mod Witness

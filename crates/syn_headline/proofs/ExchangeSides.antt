@@ -1,0 +1,304 @@
+-- The worlds of a session that carries one file each way, and the steps of its sides.
+use Rattle.std.proofs.Common.{◌≡◌, ℕ, zero, suc, true, false, List, [], ◌∷◌, ◌++◌, take, drop, length, refl, sym, ap, ◌∙◌, subst, Option, Some, None, arith}
+use Rattle.std.specs.Prelude.{All}
+use Rattle.std.proofs.lemmas.List.{take-append-drop}
+use Rattle.std.proofs.lemmas.List.Elements.{All-from_recursion}
+use Rattle.syn_model.specs.Path.{Bytes, Path, root, comparable}
+use Rattle.syn_model.specs.Tree.{Tree, Pair, Content, Directory, empty_directory, replace, subtree}
+use Rattle.syn_model.specs.Limits.{children, fits_replica}
+use Rattle.syn_model.specs.Mark.{mark}
+use Rattle.syn_model.specs.Spelling.{spelling}
+use Rattle.syn_model.specs.Event.{Edited, Began, Replaced}
+use Rattle.syn_model.specs.History.{tree_of, IsAllowed}
+use Rattle.syn_model.specs.Archive.{Archive, Session, Recorded, new_archive}
+use Rattle.syn_model.specs.Decision.{ToLeft, ToRight}
+use Rattle.syn_model.proofs.TreeLemmas.{subtree-replace, subtree-replace_other}
+use Rattle.syn_headline.specs.Rows.{file_bytes, has_room}
+use Rattle.syn_headline.specs.Side.{Side, Request, Begin, ListAt, Fetch, Stage, Replace, Begun, Listed, Piece, Staged, Done, answer, serve, token_of}
+use Rattle.syn_headline.specs.Network.{Which, Left, Right, Asks, Answers, Sent, NumbersTell, AsksNothingTwice}
+use Rattle.syn_headline.specs.Acknowledged.{Ack, Happened, Kept_by}
+use Rattle.syn_headline.specs.Planning.{Planned}
+use Rattle.syn_headline.specs.World.{World, Running, Edits, Deliver, Steps, written, edit_written}
+use Rattle.syn_headline.specs.Witness.{opened_world, a_path, b_path, put_one, put_two, one, two, complete}
+use Rattle.syn_headline.proofs.WitnessTrees.{replace-entries, fits_by}
+use Rattle.syn_headline.proofs.WitnessFiles.{IsLetter, content, with_file, alone-entries, file-entries, put-entries, put_allowed, one_byte, file_is_part, file_spelling, file_fits_part, file_fits_paths}
+use Rattle.syn_headline.proofs.WitnessScans.{left_history, left_scan, left-entries, left_root}
+use Rattle.syn_headline.proofs.ExchangeScans.{right_history, right_scan, right-entries, right_root}
+use Rattle.syn_headline.proofs.WitnessMessages.{IsNumbered, number_of, numbers_tell, asks_once, tell_before, once_before}
+use Rattle.syn_headline.proofs.WitnessSteps.{waits, runs_with, world_of, reads_nothing, serves, lists}
+use Rattle.syn_headline.proofs.WitnessLemmas.{edit_allowed}
+
+abbrev pub two_bytes : Bytes
+two_bytes = 1 ∷ 0 ∷ 0 ∷ 0 ∷ 1 ∷ 50 ∷ []
+
+-- The sides and the archive, step by step
+abbrev pub left_edited : Side
+left_edited = record { history = Edited 1 put_one ∷ []; staging = None }
+
+abbrev pub right_edited : Side
+right_edited = record { history = Edited 2 put_two ∷ []; staging = None }
+
+abbrev pub new_right : Side
+new_right = record { history = []; staging = None }
+
+abbrev pub left_side : Side
+left_side = record { history = left_history; staging = None }
+
+abbrev pub right_side : Side
+right_side = record { history = right_history; staging = None }
+
+abbrev pub right_staged : Side
+right_staged = record { history = right_history; staging = Some (record { token = token_of 1 0; bytes = file_bytes }) }
+
+abbrev pub right_done : Side
+right_done = record { history = right_history ++ Replaced (token_of 1 0) a_path 2 one ∷ []; staging = right_staged.staging }
+
+abbrev pub left_staged : Side
+left_staged = record { history = left_history; staging = Some (record { token = token_of 1 1; bytes = two_bytes }) }
+
+abbrev pub left_done : Side
+left_done = record { history = left_history ++ Replaced (token_of 1 1) b_path 2 two ∷ []; staging = left_staged.staging }
+
+abbrev pub begun_archive : Archive
+begun_archive = record { marks = empty_directory; last_session = 1 }
+
+abbrev pub first_archive : Archive
+first_archive = record { marks = replace empty_directory a_path (mark one); last_session = 1 }
+
+abbrev pub both_archive : Archive
+both_archive = record { marks = replace first_archive.marks b_path (mark two); last_session = 1 }
+
+-- the messages of the whole session
+abbrev pub messages : Sent
+messages =
+    Asks Left 1 0 (Begin 7) ∷ Asks Right 1 0 (Begin 7) ∷ Answers Left 1 0 (Begun 2) ∷ Answers Right 1 0 (Begun 2)
+    ∷ Asks Left 1 1 (ListAt root) ∷ Asks Right 1 1 (ListAt root)
+    ∷ Answers Left 1 1 (Listed 2 (children left_scan.marks root)) ∷ Answers Right 1 1 (Listed 2 (children right_scan.marks root))
+    ∷ Asks Left 1 2 (Fetch a_path 2 0) ∷ Answers Left 1 2 (Piece 6 file_bytes)
+    ∷ Asks Right 1 2 (Stage 0 0 file_bytes) ∷ Answers Right 1 2 Staged
+    ∷ Asks Right 1 3 (Replace 0 a_path 2 6) ∷ Answers Right 1 3 Done
+    ∷ Asks Right 1 4 (Fetch b_path 2 0) ∷ Answers Right 1 4 (Piece 6 two_bytes)
+    ∷ Asks Left 1 3 (Stage 1 0 two_bytes) ∷ Answers Left 1 3 Staged
+    ∷ Asks Left 1 4 (Replace 1 b_path 2 6) ∷ Answers Left 1 4 Done ∷ []
+
+abbrev pub acks : List Ack
+acks =
+    Happened Left (Edited 1 put_one) ∷ Happened Right (Edited 2 put_two) ∷ Kept_by (Session 1) ∷ Happened Left (Began 1) ∷ Happened Right (Began 1)
+    ∷ Happened Right (Replaced (token_of 1 0) a_path 2 one) ∷ Kept_by (Recorded a_path (mark one))
+    ∷ Happened Left (Replaced (token_of 1 1) b_path 2 two) ∷ Kept_by (Recorded b_path (mark two)) ∷ []
+
+-- The plan
+abbrev pub first_planned : Planned
+first_planned = record { item = ToRight a_path; left = record { marks = mark one; since = 2 }; right = record { marks = subtree right_scan.marks a_path; since = 2 } }
+
+abbrev pub second_planned : Planned
+second_planned = record { item = ToLeft b_path; left = record { marks = subtree left_scan.marks b_path; since = 2 }; right = record { marks = mark two; since = 2 } }
+
+abbrev pub plan : List Planned
+plan = first_planned ∷ second_planned ∷ []
+
+-- The worlds, one after each step
+abbrev pub world : Side → Side → Archive → Option Running → ℕ → ℕ → World
+world = world_of messages acks
+
+abbrev pub both_begin : Running
+both_begin = runs_with 1 (waits 0 (Begin 7)) (waits 0 (Begin 7)) []
+
+abbrev pub right_begins : Running
+right_begins = runs_with 1 None (waits 0 (Begin 7)) []
+
+abbrev pub both_list : Running
+both_list = runs_with 1 (waits 1 (ListAt root)) (waits 1 (ListAt root)) []
+
+abbrev pub right_lists : Running
+right_lists = runs_with 1 None (waits 1 (ListAt root)) []
+
+abbrev pub left_fetches : Running
+left_fetches = runs_with 1 (waits 2 (Fetch a_path 2 0)) None plan
+
+abbrev pub right_stages : Running
+right_stages = runs_with 1 None (waits 2 (Stage 0 0 file_bytes)) plan
+
+abbrev pub right_replaces : Running
+right_replaces = runs_with 1 None (waits 3 (Replace 0 a_path 2 6)) plan
+
+abbrev pub right_fetches : Running
+right_fetches = runs_with 1 None (waits 4 (Fetch b_path 2 0)) plan
+
+abbrev pub left_stages : Running
+left_stages = runs_with 1 (waits 3 (Stage 1 0 two_bytes)) None plan
+
+abbrev pub left_replaces : Running
+left_replaces = runs_with 1 (waits 4 (Replace 1 b_path 2 6)) None plan
+
+abbrev pub first_edited : World
+first_edited = world left_edited new_right new_archive None 0 1
+
+abbrev pub both_edited : World
+both_edited = world left_edited right_edited new_archive None 0 2
+
+abbrev pub started : World
+started = world left_edited right_edited begun_archive (Some both_begin) 2 3
+
+abbrev pub left_begun : World
+left_begun = world left_side right_edited begun_archive (Some both_begin) 3 4
+
+abbrev pub both_begun : World
+both_begun = world left_side right_side begun_archive (Some both_begin) 4 5
+
+abbrev pub right_awaited : World
+right_awaited = world left_side right_side begun_archive (Some right_begins) 4 5
+
+abbrev pub listing : World
+listing = world left_side right_side begun_archive (Some both_list) 6 5
+
+abbrev pub left_listed : World
+left_listed = world left_side right_side begun_archive (Some both_list) 7 5
+
+abbrev pub both_listed : World
+both_listed = world left_side right_side begun_archive (Some both_list) 8 5
+
+abbrev pub right_list_awaited : World
+right_list_awaited = world left_side right_side begun_archive (Some right_lists) 8 5
+
+abbrev pub fetching : World
+fetching = world left_side right_side begun_archive (Some left_fetches) 9 5
+
+abbrev pub fetched : World
+fetched = world left_side right_side begun_archive (Some left_fetches) 10 5
+
+abbrev pub staging : World
+staging = world left_side right_side begun_archive (Some right_stages) 11 5
+
+abbrev pub staged : World
+staged = world left_side right_staged begun_archive (Some right_stages) 12 5
+
+abbrev pub replacing : World
+replacing = world left_side right_staged begun_archive (Some right_replaces) 13 5
+
+abbrev pub replaced : World
+replaced = world left_side right_done begun_archive (Some right_replaces) 14 6
+
+abbrev pub second_fetching : World
+second_fetching = world left_side right_done first_archive (Some right_fetches) 15 7
+
+abbrev pub second_fetched : World
+second_fetched = world left_side right_done first_archive (Some right_fetches) 16 7
+
+abbrev pub second_staging : World
+second_staging = world left_side right_done first_archive (Some left_stages) 17 7
+
+abbrev pub second_staged : World
+second_staged = world left_staged right_done first_archive (Some left_stages) 18 7
+
+abbrev pub second_replacing : World
+second_replacing = world left_staged right_done first_archive (Some left_replaces) 19 7
+
+abbrev pub second_replaced : World
+second_replaced = world left_done right_done first_archive (Some left_replaces) 20 8
+
+abbrev pub exchanged : World
+exchanged = record (world left_done right_done both_archive None 20 9) { reports = (complete 2, 9) ∷ [] }
+
+-- The numbers of its requests
+abbrev asked : Which → ℕ → Request
+asked side zero = Begin 7
+asked side (suc zero) = ListAt root
+asked Left (suc (suc zero)) = Fetch a_path 2 0
+asked Left (suc (suc (suc zero))) = Stage 1 0 two_bytes
+asked Left (suc (suc (suc (suc number)))) = Replace 1 b_path 2 6
+asked Right (suc (suc zero)) = Stage 0 0 file_bytes
+asked Right (suc (suc (suc zero))) = Replace 0 a_path 2 6
+asked Right (suc (suc (suc (suc number)))) = Fetch b_path 2 0
+
+numbered : All (IsNumbered number_of asked) messages
+numbered = All-from_recursion (IsNumbered number_of asked) messages
+    ((refl, refl), ((refl, refl), (tt, (tt, ((refl, refl), ((refl, refl), (tt, (tt, ((refl, refl), (tt, ((refl, refl), (tt, ((refl, refl), (tt, ((refl, refl), (tt, ((refl, refl), (tt, ((refl, refl), (tt, tt))))))))))))))))))))
+
+pub tells : (said : ℕ) → NumbersTell (take said messages)
+tells said = tell_before (take said messages) (drop said messages) (subst NumbersTell (sym (take-append-drop said messages)) (numbers_tell number_of asked messages numbered))
+
+pub once : (said : ℕ) → AsksNothingTwice (take said messages)
+once said = once_before (take said messages) (drop said messages) (subst AsksNothingTwice (sym (take-append-drop said messages)) (asks_once number_of asked messages numbered))
+
+-- The steps of the sides
+pub edits_left : Steps opened_world (Edits Left 1 put_one) first_edited
+edits_left = (first_edited.left, Edited 1 put_one ∷ [], edit_written first_edited.left (Edited 1 put_one ∷ []) refl edit_allowed written, refl)
+
+pub letter_b : IsLetter 98
+letter_b = record { ascii = omega arith; no_zero = λ e. omega (arith, e); no_dot = λ e. omega (arith, e); no_slash = λ e. omega (arith, e) }
+
+second_allowed : IsAllowed [] (Edited 2 put_two)
+second_allowed = put_allowed 2 98 50 (omega arith) letter_b (omega arith)
+    (fits_by (replace empty_directory b_path two) (with_file 98 (content (50 ∷ []))) (put-entries empty_directory two 98 (content (50 ∷ [])) alone-entries (file-entries (50 ∷ []))))
+
+pub edits_right : Steps first_edited (Edits Right 2 put_two) both_edited
+edits_right = (both_edited.right, Edited 2 put_two ∷ [], edit_written both_edited.right (Edited 2 put_two ∷ []) refl second_allowed written, refl)
+
+pub begins_left : Steps started (Deliver 0) left_begun
+begins_left = serves started Left 1 0 (Begin 7) None left_side (Begun 2) (Began 1 ∷ []) refl reads_nothing refl tt refl
+
+pub begins_right : Steps left_begun (Deliver 1) both_begun
+begins_right = serves left_begun Right 1 0 (Begin 7) None right_side (Begun 2) (Began 1 ∷ []) refl reads_nothing refl tt refl
+
+pub lists_left : Steps listing (Deliver 4) left_listed
+lists_left = serves listing Left 1 1 (ListAt root) None left_side (Listed 2 (children left_scan.marks root)) [] refl reads_nothing (lists left_side root left_root) tt refl
+
+pub lists_right : Steps left_listed (Deliver 5) both_listed
+lists_right = serves left_listed Right 1 1 (ListAt root) None right_side (Listed 2 (children right_scan.marks root)) [] refl reads_nothing (lists right_side root right_root) tt refl
+
+-- what was put there stays as something is put beside it
+pub stays : (t first second : Tree) (p q : Path) → comparable q p ≡ false → subtree (replace (replace t p first) q second) p ≡ first
+stays t first second p q apart = subtree-replace_other (replace t p first) q second p apart ∙ subtree-replace t p first
+
+left_first : subtree (tree_of left_history) a_path ≡ one
+unfolding tree_of
+left_first = subtree-replace empty_directory a_path one
+
+first_piece : answer left_side (Piece 6 file_bytes) ≡ serve 7 has_room None left_side 1 (Fetch a_path 2 0)
+first_piece = ap (λ bytes. answer left_side (Piece (length bytes) (take 32768 (drop 0 bytes)))) (sym (ap spelling left_first ∙ file_spelling (49 ∷ [])))
+
+pub fetches_first : Steps fetching (Deliver 8) fetched
+fetches_first = serves fetching Left 1 2 (Fetch a_path 2 0) None left_side (Piece 6 file_bytes) [] refl reads_nothing first_piece tt refl
+
+pub stages_first : Steps staging (Deliver 10) staged
+stages_first = serves staging Right 1 2 (Stage 0 0 file_bytes) None right_staged Staged [] refl reads_nothing refl tt refl
+
+abbrev with_both : Content → Content → List Pair
+with_both first second = (root, Directory) ∷ (a_path, first) ∷ (b_path, second) ∷ []
+
+right_fits : fits_replica (replace (tree_of right_history) a_path one) ≡ true
+right_fits = fits_by (replace (tree_of right_history) a_path one) (with_both (content (49 ∷ [])) (content (50 ∷ [])))
+    (replace-entries (tree_of right_history) a_path one (with_file 98 (content (50 ∷ []))) ((root, content (49 ∷ [])) ∷ []) right-entries (file-entries (49 ∷ [])))
+
+first_done : answer right_done Done ≡ serve 7 has_room (Some one) right_staged 1 (Replace 0 a_path 2 6)
+first_done = rw (right_root, right_fits) refl
+
+pub replaces_first : Steps replacing (Deliver 12) replaced
+replaces_first = serves replacing Right 1 3 (Replace 0 a_path 2 6) (Some one) right_done Done (Replaced (token_of 1 0) a_path 2 one ∷ []) refl
+    (file_is_part (49 ∷ []) (one_byte 49 (omega arith)), file_fits_part 49, file_fits_paths 49, file_spelling (49 ∷ [])) first_done tt refl
+
+pub right_second : subtree (tree_of right_done.history) b_path ≡ two
+unfolding tree_of
+right_second = stays empty_directory two one b_path a_path refl
+
+second_piece : answer right_done (Piece 6 two_bytes) ≡ serve 7 has_room None right_done 1 (Fetch b_path 2 0)
+second_piece = ap (λ bytes. answer right_done (Piece (length bytes) (take 32768 (drop 0 bytes)))) (sym (ap spelling right_second ∙ file_spelling (50 ∷ [])))
+
+pub fetches_second : Steps second_fetching (Deliver 14) second_fetched
+fetches_second = serves second_fetching Right 1 4 (Fetch b_path 2 0) (Some one) right_done (Piece 6 two_bytes) [] refl
+    (file_is_part (49 ∷ []) (one_byte 49 (omega arith)), file_fits_part 49, file_fits_paths 49, file_spelling (49 ∷ [])) second_piece tt refl
+
+pub stages_second : Steps second_staging (Deliver 16) second_staged
+stages_second = serves second_staging Left 1 3 (Stage 1 0 two_bytes) None left_staged Staged [] refl reads_nothing refl tt refl
+
+left_fits : fits_replica (replace (tree_of left_history) b_path two) ≡ true
+left_fits = fits_by (replace (tree_of left_history) b_path two) (with_both (content (49 ∷ [])) (content (50 ∷ [])))
+    (replace-entries (tree_of left_history) b_path two (with_file 97 (content (49 ∷ []))) ((root, content (50 ∷ [])) ∷ []) left-entries (file-entries (50 ∷ [])))
+
+second_done : answer left_done Done ≡ serve 7 has_room (Some two) left_staged 1 (Replace 1 b_path 2 6)
+second_done = rw (left_root, left_fits) refl
+
+pub replaces_second : Steps second_replacing (Deliver 18) second_replaced
+replaces_second = serves second_replacing Left 1 4 (Replace 1 b_path 2 6) (Some two) left_done Done (Replaced (token_of 1 1) b_path 2 two ∷ []) refl
+    (file_is_part (50 ∷ []) (one_byte 50 (omega arith)), file_fits_part 50, file_fits_paths 50, file_spelling (50 ∷ [])) second_done tt refl

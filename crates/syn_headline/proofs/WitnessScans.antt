@@ -1,0 +1,112 @@
+-- What the scans of the witness session find, and its plan.
+use Rattle.std.proofs.Common.{◌≡◌, ℕ, suc, true, false, List, [], ◌∷◌, ◌++◌, map, flat_map, length, refl, sym, ap, ap₂, ◌∙◌, arith}
+use Rattle.std.specs.FinMap.{entries, empty, from_entries, keys, put, entries-insert, len-entries, len-empty, same_entries_map}
+use Rattle.syn_model.specs.Path.{Bytes, Name, root, child, name_cmp}
+use Rattle.syn_model.specs.Tree.{Content, empty_directory, subtree, is_directory}
+use Rattle.syn_model.specs.Event.{Edited, Began}
+use Rattle.syn_model.specs.History.{History, tree_of}
+use Rattle.syn_model.specs.Mark.{mark}
+use Rattle.syn_model.specs.Dirty.{Scan, is_same_tree}
+use Rattle.syn_model.specs.Decision.{Do, GoOn, ToRight, decision}
+use Rattle.syn_model.specs.Plan.{items_from, names_below, with_items_below}
+use Rattle.syn_model.specs.Plan.{plan as items_of}
+use Rattle.syn_model.specs.Rows.{a_name}
+use Rattle.syn_model.proofs.PathLemmas.{name_total}
+use Rattle.syn_headline.specs.Witness.{a_path, put_one, one}
+use Rattle.syn_headline.proofs.WitnessTrees.{mark-entries, same_by, part-entries, directory_by, children_by}
+use Rattle.syn_headline.proofs.WitnessFiles.{content, digest, alone, with_file, alone-entries, file-entries, file_mark-entries, marked-entries, put-entries}
+
+-- what each side has as it is listed
+abbrev pub left_history : History
+left_history = Edited 1 put_one ∷ Began 1 ∷ []
+
+abbrev pub right_history : History
+right_history = Began 1 ∷ []
+
+abbrev one_bytes : Bytes
+one_bytes = 49 ∷ []
+
+abbrev one_digest : Content
+one_digest = digest one_bytes
+
+pub left-entries : entries (tree_of left_history) ≡ with_file 97 (content one_bytes)
+unfolding tree_of
+left-entries = put-entries empty_directory one 97 (content one_bytes) alone-entries (file-entries one_bytes)
+
+pub right-entries : entries (tree_of right_history) ≡ alone
+unfolding tree_of
+right-entries = alone-entries
+
+pub left_marks-entries : entries (mark (tree_of left_history)) ≡ with_file 97 one_digest
+left_marks-entries = marked-entries (tree_of left_history) 97 one_bytes left-entries
+
+pub right_marks-entries : entries (mark (tree_of right_history)) ≡ alone
+right_marks-entries = mark-entries (tree_of right_history) alone right-entries
+
+pub left_root : is_directory (tree_of left_history) root ≡ true
+left_root = directory_by (tree_of left_history) (with_file 97 (content one_bytes)) root left-entries
+
+pub right_root : is_directory (tree_of right_history) root ≡ true
+right_root = directory_by (tree_of right_history) alone root right-entries
+
+-- The plan
+abbrev pub left_scan : Scan
+left_scan = record { marks = mark (tree_of left_history); unstable = [] }
+
+abbrev pub right_scan : Scan
+right_scan = record { marks = mark (tree_of right_history); unstable = [] }
+
+pub left_part : subtree (mark (tree_of left_history)) a_path ≡ mark one
+left_part = same_entries_map _ _ (part-entries (mark (tree_of left_history)) (with_file 97 one_digest) a_path left_marks-entries ∙ sym (file_mark-entries one_bytes))
+
+-- at the root both differ from a new archive or not, and the plan goes on
+left_root_differs : is_same_tree (subtree left_scan.marks root) (subtree empty_directory root) ≡ false
+left_root_differs = same_by _ _ (with_file 97 one_digest) alone (part-entries _ (with_file 97 one_digest) root left_marks-entries) (part-entries _ alone root alone-entries)
+
+goes_on_at_root : decision left_scan right_scan empty_directory root ≡ GoOn
+goes_on_at_root = rw (
+  left_root_differs,
+  directory_by left_scan.marks (with_file 97 one_digest) root left_marks-entries,
+  directory_by right_scan.marks alone root right_marks-entries,
+  directory_by empty_directory alone root alone-entries,
+) refl
+
+left_differs : is_same_tree (subtree left_scan.marks a_path) (subtree empty_directory a_path) ≡ false
+left_differs = same_by _ _ ((root, one_digest) ∷ []) [] (part-entries _ (with_file 97 one_digest) a_path left_marks-entries) (part-entries _ alone a_path alone-entries)
+
+right_same : is_same_tree (subtree right_scan.marks a_path) (subtree empty_directory a_path) ≡ true
+right_same = same_by _ _ [] [] (part-entries _ alone a_path right_marks-entries) (part-entries _ alone a_path alone-entries)
+
+sides_differ : is_same_tree (subtree left_scan.marks a_path) (subtree right_scan.marks a_path) ≡ false
+sides_differ = same_by _ _ ((root, one_digest) ∷ []) [] (part-entries _ (with_file 97 one_digest) a_path left_marks-entries) (part-entries _ alone a_path right_marks-entries)
+
+carries_to_right : decision left_scan right_scan empty_directory a_path ≡ Do (ToRight a_path)
+carries_to_right = rw (left_differs, right_same, sides_differ, directory_by left_scan.marks (with_file 97 one_digest) a_path left_marks-entries) refl
+
+no_entries : (es : List (Name × Content)) → length es ≡ 0 → es ≡ []
+no_entries [] e = refl
+no_entries (x ∷ es) e = absurd (omega arith)
+
+abbrev pub names_of : List (Name × Content) → List Name
+names_of es = keys (from_entries {X = Content} {R = name_cmp} es)
+
+pub no_names : entries (empty {X = Content} {R = name_cmp}) ≡ []
+no_names = no_entries (entries (empty {X = Content} {R = name_cmp})) (sym (len-entries (empty {X = Content} {R = name_cmp})) ∙ len-empty name_cmp Content)
+
+one_name_of : (content : Content) → names_of ((a_name, content) ∷ []) ≡ a_name ∷ []
+one_name_of content = ap (map (λ e. e.0)) (entries-insert name_total empty a_name content ∙ ap (put name_cmp a_name content) no_names)
+
+one_name : names_below left_scan right_scan empty_directory root ≡ a_name ∷ []
+one_name =
+    ap names_of (ap₂ (λ xs ys. xs ++ ys) (children_by left_scan.marks (with_file 97 one_digest) left_marks-entries)
+    (ap₂ (λ xs ys. xs ++ ys) (children_by right_scan.marks alone right_marks-entries) (children_by empty_directory alone alone-entries)))
+    ∙ one_name_of one_digest
+
+from_root : (levels : ℕ) → items_from (suc (suc levels)) left_scan right_scan empty_directory root ≡ ToRight a_path ∷ []
+from_root levels =
+    ap (λ o. with_items_below o (flat_map (λ name. items_from (suc levels) left_scan right_scan empty_directory (child root name)) (names_below left_scan right_scan empty_directory root))) goes_on_at_root
+    ∙ (ap (flat_map (λ name. items_from (suc levels) left_scan right_scan empty_directory (child root name))) one_name
+    ∙ ap (λ o. with_items_below o (flat_map (λ name. items_from levels left_scan right_scan empty_directory (child a_path name)) (names_below left_scan right_scan empty_directory a_path)) ++ []) carries_to_right)
+
+pub plan_is : items_of left_scan right_scan empty_directory ≡ ToRight a_path ∷ []
+plan_is = from_root 15

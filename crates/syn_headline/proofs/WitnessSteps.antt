@@ -1,0 +1,150 @@
+-- A step of a witness run where no device fails and no machine stops.
+use Rattle.std.proofs.Common.{◌≡◌, ◌≢◌, ℕ, true, true≢false, List, [], ◌∷◌, ◌++◌, map, take, length, if◌then◌else◌, refl, sym, ap, ◌∙◌, subst, Option, Some, None, arith, inl}
+use Rattle.std.specs.Prelude.{All, Contains, IfSome}
+use Rattle.std.specs.FinMap.{get, len}
+use Rattle.syn_model.specs.Path.{Path, root}
+use Rattle.syn_model.specs.Tree.{Tree, Content, Directory, File, is_directory}
+use Rattle.syn_model.specs.Limits.{children}
+use Rattle.syn_model.specs.Mark.{mark}
+use Rattle.syn_model.specs.Event.{Event}
+use Rattle.syn_model.specs.History.{tree_of}
+use Rattle.syn_model.specs.Archive.{Archive, Kept, archive_of}
+use Rattle.syn_model.specs.Spelling.{content_spelling, spelling_within}
+use Rattle.syn_headline.specs.Rows.{has_room}
+use Rattle.syn_headline.specs.Side.{Side, Request, Reply, Begun, Listed, NotDir, Piece, Staged, Done, Refused, Reads, answer, serve, list_at, staged_bytes}
+use Rattle.syn_headline.specs.Network.{Which, Left, Right, Message, Asks, Answers, Sent, NumbersTell, AsksNothingTwice}
+use Rattle.syn_headline.specs.Acknowledged.{Ack, Happened, Kept_by}
+use Rattle.syn_headline.specs.Planning.{Planned}
+use Rattle.syn_headline.specs.Report.{Report}
+use Rattle.syn_headline.specs.World.{World, Outstanding, Status, Up, Halted, Down, Running, TakesRequest, answered, ServesAs, CoordinatorGoes, AllCanKeep, RunsOver, WasSent, AllOfSession, side_of, set_side, TakesAnswer, taken, IsExpected, HasPlan, IsDueAfter, GoesOnFrom, IsOver, Step, Runs}
+
+abbrev is_up : Status → Type 0
+is_up Up = Unit {0}
+is_up Halted = ⊥
+is_up Down = ⊥
+
+pub up_not_down : Up ≢ Down
+up_not_down e = subst is_up e tt
+
+pub up_not_halted : Up ≢ Halted
+up_not_halted e = subst is_up e tt
+
+-- no spelling is empty
+not_nil : {X : Type 0} (x : X) (xs : List X) → x ∷ xs ≢ []
+not_nil x xs e = let h = ap length e in omega (arith, h)
+
+some_spelling : (spell : Tree → List ℕ) (tree : Tree) (content : Option Content) → content_spelling spell tree content ≢ []
+some_spelling spell tree None = not_nil 0 []
+some_spelling spell tree (Some (File contents)) = not_nil 1 _
+some_spelling spell tree (Some Directory) = not_nil 2 _
+
+pub reads_nothing : Reads [] None
+unfolding spelling_within
+reads_nothing tree part fits paths = some_spelling (spelling_within (len tree)) tree (get tree root)
+
+-- an answer that is no refusal
+abbrev is_granted : Reply → Type 0
+is_granted (Begun position) = Unit {0}
+is_granted (Listed position entries) = Unit {0}
+is_granted (NotDir position) = Unit {0}
+is_granted (Piece total bytes) = Unit {0}
+is_granted Staged = Unit {0}
+is_granted Done = Unit {0}
+is_granted (Refused why) = ⊥
+
+abbrev pub after_answer : World → Which → ℕ → ℕ → Side → Reply → List Event → World
+after_answer old which session number side reply events = record (set_side old which (record (side_of old which) { side = side })) {
+  sent = old.sent ++ Answers which session number reply ∷ [];
+  acknowledged = old.acknowledged ++ map (λ event. Happened which event) events;
+}
+
+pub serves : (old : World) (which : Which) (session number : ℕ) (request : Request) (read : Option Tree) (side : Side) (reply : Reply) (events : List Event) →
+    (side_of old which).status ≡ Up → Reads (staged_bytes (side_of old which).side.staging) read → answer side reply ≡ serve old.pair has_room read (side_of old which).side session request →
+    is_granted reply → side.history ≡ (side_of old which).side.history ++ events → TakesRequest old which session number request (after_answer old which session number side reply events)
+serves old which session number request read side reply events up reads is granted added = answered (record {
+  has_room = has_room;
+  served = answer side reply;
+  events = events;
+  serves = subst (λ status. ServesAs status old.pair has_room (side_of old which).side session request (answer side reply)) (sym up) (inl (read, reads, is));
+  no_failure = λ e. subst is_granted e granted;
+  added = added;
+  result = refl;
+})
+
+-- a listing of a directory
+pub lists : (side : Side) (path : Path) → is_directory (tree_of side.history) path ≡ true →
+    answer side (Listed (length side.history) (children (mark (tree_of side.history)) path)) ≡ list_at side path
+lists side path h = sym (ap (λ b. answer side (if b then Listed (length side.history) (children (mark (tree_of side.history)) path) else NotDir (length side.history))) h)
+
+abbrev pub after_call : World → Archive → Option Running → List Message → List Kept → List (Report × ℕ) → World
+after_call old archive running messages kept reports = record old {
+  coordinator = record { status = Up; archive = archive; writing = None; running = running };
+  sent = old.sent ++ messages;
+  acknowledged = old.acknowledged ++ map Kept_by kept;
+  reports = old.reports ++ reports;
+}
+
+-- a call of the coordinator, up before and after
+pub goes : (old : World) (IsDue_now : Kept → Type 0) (RunsOn : Option Running → Type 0) (archive : Archive) (running : Option Running) (messages : List Message) (kept : List Kept) (reports : List (Report × ℕ)) →
+    old.coordinator.status ≡ Up → All IsDue_now kept → AllCanKeep old.coordinator.archive kept → archive ≡ archive_of old.coordinator.archive kept →
+    RunsOn running → RunsOver (old.sent ++ messages) archive running → NumbersTell (old.sent ++ messages) → AsksNothingTwice (old.sent ++ messages) → AllOfSession old.sent running messages →
+    CoordinatorGoes old IsDue_now RunsOn (after_call old archive running messages kept reports)
+goes old IsDue_now RunsOn archive running messages kept reports up due can is on over tell once of = record {
+  machine = record { status = Up; archive = archive; writing = None; running = running };
+  kept = kept;
+  messages = messages;
+  reports = reports;
+  not_down = λ e. up_not_down (sym up ∙ e);
+  while_halted = λ e. absurd (up_not_halted (sym up ∙ e));
+  keeps = record { due = due; can = can; archive = is; writing = tt };
+  unless_up = λ e. refl;
+  runs_on = on;
+  runs_over = over;
+  numbers = tell;
+  repeats = once;
+  of_session = of;
+  silent_when_writing = λ some. absurd (true≢false (sym some));
+  silent_when_down = λ e. absurd (up_not_down e);
+  result = refl;
+}
+
+-- what waits on either side was sent
+pub both_sent : (sent : Sent) (running : Running) → IfSome running.left (λ waiting. Contains sent (Asks Left running.session waiting.number waiting.request)) →
+    IfSome running.right (λ waiting. Contains sent (Asks Right running.session waiting.number waiting.request)) → WasSent sent running
+both_sent sent running l r Left = l
+both_sent sent running l r Right = r
+
+-- a session that runs
+abbrev pub waits : ℕ → Request → Option Outstanding
+waits number request = Some (record { number = number; request = request; resent = 0 })
+
+abbrev pub runs_with : ℕ → Option Outstanding → Option Outstanding → List Planned → Running
+runs_with session left right plan = record { session = session; left = left; right = right; plan = plan }
+
+-- a world without failures, where so many of the messages have been sent and so much of the rest acknowledged
+abbrev pub world_of : Sent → List Ack → Side → Side → Archive → Option Running → ℕ → ℕ → World
+world_of messages acks left right archive running said acknowledged = record {
+  pair = 7;
+  left = record { status = Up; side = left; writing = None };
+  right = record { status = Up; side = right; writing = None };
+  coordinator = record { status = Up; archive = archive; writing = None; running = running };
+  sent = take said messages;
+  acknowledged = take acknowledged acks;
+  reports = [];
+}
+
+-- the coordinator takes an answer that it waits for
+pub takes : (session : ℕ) (old : World) (from : Which) (number : ℕ) (reply : Reply) (plan : List Planned) (archive : Archive) (next : Option Running) (messages : List Message) (kept : List Kept) (reports : List (Report × ℕ)) →
+    old.coordinator.status ≡ Up → IsExpected old.coordinator.running from session number → HasPlan old.sent old.coordinator.archive old.coordinator.running plan →
+    All (IsDueAfter old.coordinator.running plan from reply) kept → AllCanKeep old.coordinator.archive kept → archive ≡ archive_of old.coordinator.archive kept →
+    GoesOnFrom old.coordinator.running plan next → IsOver from number next → RunsOver (old.sent ++ messages) archive next →
+    NumbersTell (old.sent ++ messages) → AsksNothingTwice (old.sent ++ messages) → AllOfSession old.sent next messages →
+    TakesAnswer old from session number reply (after_call old archive next messages kept reports)
+takes session old from number reply plan archive next messages kept reports up expected has due can is on over runs tell twice of =
+    taken plan expected has (goes old (IsDueAfter old.coordinator.running plan from reply) (λ running. GoesOnFrom old.coordinator.running plan running × IsOver from number running)
+    archive next messages kept reports up due can is (on, over) runs tell twice of)
+
+-- one run after another
+pub runs_on_from : (old between new : World) (steps more : List Step) → Runs old steps between → Runs between more new → Runs old (steps ++ more) new
+runs_on_from old between new [] more h k = subst (λ w. Runs w more new) h k
+runs_on_from old between new (step ∷ steps) more h k = (h.0, h.1, runs_on_from h.0 between new steps more h.2 k)

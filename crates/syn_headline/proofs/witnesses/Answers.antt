@@ -1,0 +1,23 @@
+use Rattle.syn_headline.proofs.WitnessLemmas.{opened_is_start, stop_is_recovered, silence_ends}
+use Rattle.syn_headline.proofs.WitnessSession.{file_is_carried}
+use Rattle.syn_headline.proofs.ExchangeLemmas.{files_are_exchanged}
+use Rattle.syn_headline.proofs.MarkedLemmas.{carried_is_marked_later}
+use Rattle.syn_headline.proofs.witnesses.Goals as goal
+
+pub returns-clause-start : goal.returns-clause-start
+returns-clause-start c = opened_is_start
+
+pub returns-clause-recovered : goal.returns-clause-recovered
+returns-clause-recovered c = stop_is_recovered
+
+pub returns-clause-ended : goal.returns-clause-ended
+returns-clause-ended c = silence_ends
+
+pub returns-clause-carried : goal.returns-clause-carried
+returns-clause-carried c = file_is_carried
+
+pub returns-clause-exchanged : goal.returns-clause-exchanged
+returns-clause-exchanged c = files_are_exchanged
+
+pub returns-clause-marked : goal.returns-clause-marked
+returns-clause-marked c = carried_is_marked_later

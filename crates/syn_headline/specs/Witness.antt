@@ -1,0 +1,148 @@
+-- Runs that the definitions are to allow: from three formatted disks that have just been opened, each step of the world.
+use Rattle.std.specs.Prelude.{ℕ, ◌≡◌, List, [], ◌∷◌, ◌++◌, None, Some, map, length, replicate}
+use Rattle.syn_model.specs.Rows.{a_name}
+use Rattle.syn_model.specs.Path.{Path}
+use Rattle.syn_model.specs.Refusal.{NoAnswer}
+use Rattle.syn_model.specs.Event.{Put, Edit, Edited, Began, Replaced}
+use Rattle.syn_model.specs.Tree.{Tree, file, subtree, empty_directory}
+use Rattle.syn_model.specs.History.{tree_of, tree_at}
+use Rattle.syn_model.specs.Mark.{mark}
+use Rattle.syn_model.specs.Archive.{Session, Recorded, new_archive}
+use Rattle.syn_headline.specs.Network.{Left, Right}
+use Rattle.syn_headline.specs.Acknowledged.{Ack, Happened, Kept_by, Stores}
+use Rattle.syn_headline.specs.Report.{Report, Complete, Incomplete}
+use Rattle.syn_headline.specs.World.{World, At, Step, Edits, Start, Deliver, Stop, Coordinator, Tick, Open, Up, SideMachine, Runs}
+use Rattle.syn_headline.specs.Headline.{IsStart, formatted, stores_of, IsQuietSession, UntouchedSince}
+use Rattle.syn_headline.specs.Side.{token_of}
+use Rattle.syn_headline.specs.Rows.{new_side}
+
+abbrev pub new_machine : SideMachine
+new_machine = record { status = Up; side = new_side; writing = None }
+
+-- three formatted disks of pair 7, opened
+abbrev pub opened_world : World
+opened_world = record {
+  pair = 7;
+  left = new_machine;
+  right = new_machine;
+  coordinator = record { status = Up; archive = formatted.archive; writing = None; running = None };
+  sent = [];
+  acknowledged = [];
+  reports = [];
+}
+
+abbrev pub OpenedIsStart : Type 0
+OpenedIsStart = IsStart opened_world
+
+-- a run from there that sends so many messages, acknowledges and reports this, and ends well
+pub record IsWitness (steps : List Step) (messages : ℕ) (acknowledged : List Ack) (reports : List (Report × ℕ)) (EndsWell : World → Type 0) : Type 0 where
+  pub new : World
+  pub runs : Runs opened_world steps new
+  pub sent : length new.sent ≡ messages
+  pub acknowledged_then : new.acknowledged ≡ acknowledged
+  pub reported : new.reports ≡ reports
+  pub ends_well : EndsWell new
+
+-- the file `a` with the byte `1`
+abbrev pub a_path : Path
+a_path = a_name ∷ []
+
+abbrev pub put_one : Edit
+put_one = Put a_path (49 ∷ [])
+
+-- a stop cuts off an edit while it is written, and the opening recovers it
+abbrev pub StopIsRecovered : Type 0
+StopIsRecovered =
+    IsWitness (Edits Left 1 put_one ∷ Open (At Left) ∷ []) 0 (Happened Left (Edited 1 put_one) ∷ []) []
+    (λ world. (world.left.status ≡ Up) × (world.left.side.history ≡ Edited 1 put_one ∷ []))
+
+-- a session that is never answered: its requests are sent again eight times, and the ninth tick ends it
+abbrev pub unanswered : Report
+unanswered = record { session = 1; end = Incomplete; ended = Some NoAnswer; done = 0; marked = 0; conflicts = []; refused = [] }
+
+abbrev pub SilenceEnds : Type 0
+SilenceEnds =
+    IsWitness (Start ∷ replicate 9 Tick) 18 (Kept_by (Session 1) ∷ []) ((unanswered, 1) ∷ [])
+    (λ world. world.coordinator.running ≡ None)
+
+-- a session that went on to its end
+abbrev pub complete : ℕ → Report
+complete done = record { session = 1; end = Complete; ended = None; done = done; marked = 0; conflicts = []; refused = [] }
+
+abbrev pub one : Tree
+one = file (49 ∷ [])
+
+-- both sides have the file and the archive its mark, and the session is one of those that synchronize what they find
+pub record HasCarried (world : World) : Type 0 where
+  pub left : subtree (tree_of world.left.side.history) a_path ≡ one
+  pub right : subtree (tree_of world.right.side.history) a_path ≡ one
+  pub archive : subtree world.coordinator.archive.marks a_path ≡ mark one
+  pub quiet : IsQuietSession formatted world (complete 1) (record { left = Edited 1 put_one ∷ []; right = []; archive = new_archive }) (stores_of world)
+
+-- a session without loss carries a file that the left alone has
+abbrev pub FileIsCarried : Type 0
+FileIsCarried =
+    IsWitness (Edits Left 1 put_one ∷ Start ∷ map Deliver (0 ∷ 1 ∷ 2 ∷ 3 ∷ 4 ∷ 5 ∷ 6 ∷ 7 ∷ 8 ∷ 9 ∷ 10 ∷ 11 ∷ 12 ∷ 13 ∷ [])) 14
+    (Happened Left (Edited 1 put_one) ∷ Kept_by (Session 1) ∷ Happened Left (Began 1) ∷ Happened Right (Began 1)
+    ∷ Happened Right (Replaced (token_of 1 0) a_path 1 one) ∷ Kept_by (Recorded a_path (mark one)) ∷ [])
+    ((complete 1, 6) ∷ []) HasCarried
+
+-- the file `b` with the byte `2`
+abbrev pub b_path : Path
+b_path = (98 ∷ []) ∷ []
+
+abbrev pub put_two : Edit
+put_two = Put b_path (50 ∷ [])
+
+abbrev pub two : Tree
+two = file (50 ∷ [])
+
+-- the tree, or the archive's marks, have the two files, or their marks
+pub record HasBoth (tree first second : Tree) : Type 0 where
+  pub first_there : subtree tree a_path ≡ first
+  pub second_there : subtree tree b_path ≡ second
+
+pub record HasExchanged (world : World) : Type 0 where
+  pub left : HasBoth (tree_of world.left.side.history) one two
+  pub right : HasBoth (tree_of world.right.side.history) one two
+  pub archive : HasBoth world.coordinator.archive.marks (mark one) (mark two)
+  pub quiet : IsQuietSession formatted world (complete 2) (record { left = Edited 1 put_one ∷ []; right = Edited 2 put_two ∷ []; archive = new_archive }) (stores_of world)
+
+-- each side has a file that the other lacks, and a session carries both
+abbrev pub FilesAreExchanged : Type 0
+FilesAreExchanged =
+    IsWitness (Edits Left 1 put_one ∷ Edits Right 2 put_two ∷ Start ∷ map Deliver (0 ∷ 1 ∷ 2 ∷ 3 ∷ 4 ∷ 5 ∷ 6 ∷ 7 ∷ 8 ∷ 9 ∷ 10 ∷ 11 ∷ 12 ∷ 13 ∷ 14 ∷ 15 ∷ 16 ∷ 17 ∷ 18 ∷ 19 ∷ [])) 20
+    (Happened Left (Edited 1 put_one) ∷ Happened Right (Edited 2 put_two) ∷ Kept_by (Session 1) ∷ Happened Left (Began 1) ∷ Happened Right (Began 1)
+    ∷ Happened Right (Replaced (token_of 1 0) a_path 2 one) ∷ Kept_by (Recorded a_path (mark one))
+    ∷ Happened Left (Replaced (token_of 1 1) b_path 2 two) ∷ Kept_by (Recorded b_path (mark two)) ∷ [])
+    ((complete 2, 9) ∷ []) HasExchanged
+
+-- a session that marked what it found on both sides
+abbrev pub marked_later : Report
+marked_later = record { session = 2; end = Complete; ended = None; done = 0; marked = 1; conflicts = []; refused = [] }
+
+-- what the second session found
+abbrev pub found_later : Stores
+found_later = record {
+  left = Edited 1 put_one ∷ Began 1 ∷ [];
+  right = Began 1 ∷ Replaced (token_of 1 0) a_path 1 one ∷ [];
+  archive = record { marks = empty_directory; last_session = 1 };
+}
+
+-- nothing touched the source since it was fetched at 2, nor the target since it was replaced, and the session marks it
+pub record IsMarkedLater (world : World) : Type 0 where
+  pub fetched : one ≡ subtree (tree_at found_later.left 2) a_path
+  pub source : UntouchedSince 2 found_later.left a_path
+  pub target : UntouchedSince 2 found_later.right a_path
+  pub quiet : IsQuietSession formatted world marked_later found_later (stores_of world)
+  pub archive : subtree world.coordinator.archive.marks a_path ≡ mark one
+
+-- a coordinator stops before it takes what was done, and the next session marks what was carried
+abbrev pub CarriedIsMarkedLater : Type 0
+CarriedIsMarkedLater =
+    IsWitness (Edits Left 1 put_one ∷ Start ∷ map Deliver (0 ∷ 1 ∷ 2 ∷ 3 ∷ 4 ∷ 5 ∷ 6 ∷ 7 ∷ 8 ∷ 9 ∷ 10 ∷ 11 ∷ 12 ∷ [])
+    ++ (Stop Coordinator 0 ∷ Open Coordinator ∷ Start ∷ map Deliver (14 ∷ 15 ∷ 16 ∷ 17 ∷ 18 ∷ 19 ∷ 20 ∷ 21 ∷ []))) 22
+    (Happened Left (Edited 1 put_one) ∷ Kept_by (Session 1) ∷ Happened Left (Began 1) ∷ Happened Right (Began 1)
+    ∷ Happened Right (Replaced (token_of 1 0) a_path 1 one) ∷ Kept_by (Session 2) ∷ Happened Left (Began 2) ∷ Happened Right (Began 2)
+    ∷ Kept_by (Recorded a_path (mark one)) ∷ [])
+    ((marked_later, 9) ∷ []) IsMarkedLater
