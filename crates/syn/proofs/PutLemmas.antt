@@ -32,8 +32,8 @@ longer bytes left e =
     elim (nat_le (length left) most) as (λ b. nat_le (length left) most ≡ b → (bytes ≡ left) ⊎ ((16384 < length bytes) × (16384 < length left))) [
       | true ↦ λ brief. inl (e ∙ take_all most left (leb-true (length left) most brief))
       | false ↦ λ no.
-        let long : most < length left = leb-false (length left) most no in
-        inr (subst (λ b. 16384 < length b) (sym e) (cut_length left long), omega (arith, long))
+          let long : most < length left = leb-false (length left) most no in
+          inr (subst (λ b. 16384 < length b) (sym e) (cut_length left long), omega (arith, long))
     ] refl
 
 -- what is no longer than a file may be was read whole
