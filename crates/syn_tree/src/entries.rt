@@ -1,0 +1,108 @@
+ghost use Rattle.std.specs.Prelude.{◌≡◌, true, IfSome, IfNone, IsTrue, ◌↔◌};
+ghost use Rattle.std.specs.FinMap.{entries};
+ghost use Rattle.syn_model.specs.Tree.{IsTree, empty_directory};
+ghost use Rattle.syn_model.specs.Limits.{fits_part, fits_paths};
+ghost use Rattle.syn_tree.specs.Pairs.{rooted};
+ghost use Rattle.syn_tree.specs.Entries.{AreEntries};
+
+use crate::content::Found;
+use crate::entry::Entry;
+use crate::list::{LONGEST_FILE, MOST_CHILDREN, are_rising, count_children, find};
+use std::alloc::Global;
+use std::marker::Model;
+
+/// What stands below a directory, in path order: 256 entries a directory, 16,384 bytes a file, and each path,
+/// taken from the directory, within the limits of a path. The number of nodes and their size are limits of a whole tree alone.
+/// Contracts see it as the tree with that directory as its root.
+#[derive(Debug, Drop)]
+pub struct Entries {
+    list: Vec<Entry>,
+}
+
+impl Model for Entries {
+    ghost use Rattle.syn_model.specs.Tree.{Tree, coded_tree};
+
+    ghost Value = { Tree };
+
+    ghost coded = { coded_tree };
+
+    ghost use Rattle.syn_tree.specs.Pairs.{tree_with};
+    ghost use Rattle.syn_tree.specs.Entries.{AreEntries};
+
+    ghost view = { λ e. tree_with e.list.items };
+
+    ghost invariant = { λ e. AreEntries e.list.items };
+}
+
+impl Entries {
+    /// Nothing below a directory.
+    pub fn new(alloc: Global) -> Entries
+        ensures { result ≡ empty_directory }
+    {
+        Entries {
+            list: Vec::new(alloc),
+        }
+    }
+
+    /// These entries, where they stand in path order, each below a directory, and keep the limits; else none.
+    pub fn from_vec(list: Vec<Entry>) -> Option<Entries>
+        ensures some { IfSome result (λ all. rooted list.items ≡ entries all) }
+        ensures none { IfNone result (¬ AreEntries list.items) }
+    {
+        if are_entries(&list) {
+            Some(Entries { list })
+        } else {
+            None
+        }
+    }
+
+    /// The entries in path order.
+    pub fn as_slice(&self) -> &[Entry]
+        ensures all { rooted result.now ≡ entries self.now }
+        ensures tree { IsTree self.now }
+        ensures part { fits_part self.now ≡ true }
+        ensures paths { fits_paths self.now ≡ true }
+    {
+        self.list.as_slice()
+    }
+
+    /// The entries in path order.
+    pub fn into_vec(self) -> Vec<Entry>
+        ensures all { rooted result.items ≡ entries self }
+        ensures tree { IsTree self }
+        ensures part { fits_part self ≡ true }
+        ensures paths { fits_paths self ≡ true }
+    {
+        self.list
+    }
+}
+
+/// The entries make a tree within the limits of each file, directory and path.
+fn are_entries(list: &[Entry]) -> bool
+    ensures { IsTrue result ↔ AreEntries list.now }
+{
+    if !are_rising(list) {
+        return false;
+    }
+    for entry in list {
+        if !stands_among(list, entry) {
+            return false;
+        }
+    }
+    count_children(list, &[]) <= MOST_CHILDREN
+}
+
+/// The entry stands in a directory, and keeps the limits of a file or a directory.
+fn stands_among(list: &[Entry], entry: &Entry) -> bool {
+    let names = entry.path().names();
+    let [above @ .., _] = names else {
+        return false;
+    };
+    let Some(Found::Dir) = find(list, above) else {
+        return false;
+    };
+    match entry.content() {
+        Found::File(bytes) => bytes.len() <= LONGEST_FILE,
+        Found::Dir => count_children(list, names) <= MOST_CHILDREN,
+    }
+}
