@@ -1,0 +1,5 @@
+pub mod OrderLemmas
+pub mod RisingLemmas
+pub mod PointLemmas
+pub mod SpliceLemmas
+pub mod FindLemmas

@@ -1,10 +1,11 @@
 //! Entries in path order.
 ghost use Rattle.std.specs.Prelude.{◌≡◌, ◌≤◌, ◌<◌, ◌+◌, ◌++◌, ◌∷◌, length, count_by, option_map, IfSome, IfNone, IsTrue, ◌↔◌, vec_len, vec_capacity};
+ghost use Rattle.std.specs.Ordering.{eq_by_cmp};
 ghost use Rattle.std.specs.FinMap.{find};
 ghost use Rattle.syn_model.specs.Path.{path_cmp, parent, IsPath};
 ghost use Rattle.syn_model.specs.Limits.{last_name_spelling_length};
 ghost use Rattle.syn_tree.specs.Contents.{found_content};
-ghost use Rattle.syn_tree.specs.Pairs.{rooted, AreRising, before, within, behind, is_child, pair_spelling_length, spelling_length};
+ghost use Rattle.syn_tree.specs.Pairs.{rooted, AreRising, is_before, is_within, before, within, behind, is_child, pair_spelling_length, spelling_length};
 
 use crate::content::Found;
 use crate::entry::Entry;
@@ -34,12 +35,33 @@ pub(crate) fn are_rising(list: &[Entry]) -> bool
     true
 }
 
+/// The entry stands before the path of these names.
+fn is_before(entry: &Entry, names: &[Name]) -> bool
+    ensures { result ≡ is_before names.now entry.now }
+{
+    entry.path().names().cmp(&names) == Ordering::Less
+}
+
+/// The entry stands at the path of these names.
+fn is_at(entry: &Entry, names: &[Name]) -> bool
+    ensures { result ≡ eq_by_cmp path_cmp entry.now.0 names.now }
+{
+    entry.path().names().cmp(&names) == Ordering::Equal
+}
+
+/// The entry stands at or below the path.
+fn is_within(entry: &Entry, at: &Path) -> bool
+    ensures { result ≡ is_within at.now entry.now }
+{
+    at.is_prefix(entry.path())
+}
+
 /// How many entries stand before the path of these names.
 pub(crate) fn count_before(list: &[Entry], names: &[Name]) -> usize
     requires { AreRising list.now }
     ensures { result ≡ length (before names.now list.now) }
 {
-    list.partition_point(|entry| entry.path().names().cmp(&names) == Ordering::Less)
+    list.partition_point(|entry| is_before(entry, names))
 }
 
 /// How many entries stand before the path, and how many before or within it.
@@ -49,7 +71,8 @@ pub(crate) fn range(list: &[Entry], at: &Path) -> (usize, usize)
     ensures end { result.1 ≡ length (before at.now list.now) + length (within at.now list.now) }
 {
     let start = count_before(list, at.names());
-    let below = list[start..].partition_point(|entry| at.is_prefix(entry.path()));
+    let (_, others) = list.split_at(start);
+    let below = others.partition_point(|entry| is_within(entry, at));
     (start, start + below)
 }
 
@@ -62,9 +85,13 @@ pub(crate) fn find<'a>(list: &'a [Entry], names: &[Name]) -> Option<Found<'a>>
         return Some(Found::Dir);
     }
     let at = count_before(list, names);
-    match list.get(at) {
-        Some(entry) if entry.path().names() == names => Some(entry.content()),
-        _ => None,
+    let Some(entry) = list.get(at) else {
+        return None;
+    };
+    if is_at(entry, names) {
+        Some(entry.content())
+    } else {
+        None
     }
 }
 
@@ -133,7 +160,7 @@ pub(crate) fn splice(list: &mut Vec<Entry>, at: &Path, added: Vec<Entry>)
 {
     let mut added = added;
     let start = count_before(list, at.names());
-    list.retain(|entry| !at.is_prefix(entry.path()));
+    list.retain(|entry| !is_within(entry, at));
     let others = list.len() - start;
     list.rotate_left(start);
     let _ = list.append(&mut added);
