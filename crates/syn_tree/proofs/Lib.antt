@@ -3,3 +3,4 @@ pub mod RisingLemmas
 pub mod PointLemmas
 pub mod SpliceLemmas
 pub mod FindLemmas
+pub mod TreeLemmas
