@@ -4,3 +4,4 @@ pub mod PointLemmas
 pub mod SpliceLemmas
 pub mod FindLemmas
 pub mod TreeLemmas
+pub mod ParentLemmas

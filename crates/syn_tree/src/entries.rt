@@ -7,7 +7,7 @@ ghost use Rattle.syn_tree.specs.Entries.{AreEntries};
 
 use crate::content::Found;
 use crate::entry::Entry;
-use crate::list::{LONGEST_FILE, MOST_CHILDREN, are_rising, count_children, find};
+use crate::list::{LONGEST_FILE, MOST_CHILDREN, are_rising, count_children, is_directory};
 use std::alloc::Global;
 use std::marker::Model;
 
@@ -98,9 +98,9 @@ fn stands_among(list: &[Entry], entry: &Entry) -> bool {
     let [above @ .., _] = names else {
         return false;
     };
-    let Some(Found::Dir) = find(list, above) else {
+    if !is_directory(list, above) {
         return false;
-    };
+    }
     match entry.content() {
         Found::File(bytes) => bytes.len() <= LONGEST_FILE,
         Found::Dir => count_children(list, names) <= MOST_CHILDREN,

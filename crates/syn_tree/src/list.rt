@@ -1,8 +1,9 @@
 //! Entries in path order.
-ghost use Rattle.std.specs.Prelude.{◌≡◌, ◌≤◌, ◌<◌, ◌+◌, ◌++◌, ◌∷◌, length, count_by, option_map, IfSome, IfNone, IsTrue, ◌↔◌, vec_len, vec_capacity};
+ghost use Rattle.std.specs.Prelude.{◌≡◌, ◌≤◌, ◌<◌, ◌+◌, ◌^◌, ◌++◌, ◌∷◌, length, count_by, option_map, IfSome, IfNone, IsTrue, ◌↔◌, vec_len, vec_capacity};
 ghost use Rattle.std.specs.Ordering.{eq_by_cmp};
 ghost use Rattle.std.specs.FinMap.{find};
 ghost use Rattle.syn_model.specs.Path.{path_cmp, parent, IsPath};
+ghost use Rattle.syn_model.specs.Tree.{is_directory_content};
 ghost use Rattle.syn_model.specs.Limits.{last_name_spelling_length};
 ghost use Rattle.syn_tree.specs.Contents.{found_content};
 ghost use Rattle.syn_tree.specs.Pairs.{rooted, AreRising, is_before, is_within, before, within, behind, is_child, pair_spelling_length, spelling_length};
@@ -95,13 +96,25 @@ pub(crate) fn find<'a>(list: &'a [Entry], names: &[Name]) -> Option<Found<'a>>
     }
 }
 
+/// A directory stands at the path of these names.
+pub(crate) fn is_directory(list: &[Entry], names: &[Name]) -> bool
+    requires { AreRising (rooted list.now) }
+    ensures { result ≡ is_directory_content (find path_cmp names.now (rooted list.now)) }
+{
+    match find(list, names) {
+        Some(Found::Dir) => true,
+        Some(Found::File(_)) => false,
+        None => false,
+    }
+}
+
 /// The path is one name longer than the names above it.
 pub(crate) fn is_child(above: &[Name], path: &Path) -> bool
     ensures { result ≡ is_child above.now path.now }
 {
     match path.names() {
         [] => false,
-        [before @ .., _] => before == above,
+        [before @ .., _] => before.cmp(&above) == Ordering::Equal,
     }
 }
 
@@ -128,6 +141,7 @@ pub(crate) fn name_spelled(path: &Path) -> usize
 /// How many bytes spell the entry, without what is below it.
 pub(crate) fn entry_spelled(entry: &Entry) -> usize
     ensures length { result ≡ pair_spelling_length entry.now }
+    ensures fits { result < 2 ^ 63 + 128 }
 {
     let name = name_spelled(entry.path());
     match entry.content() {

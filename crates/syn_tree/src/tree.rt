@@ -21,7 +21,7 @@ use crate::entries::Entries;
 use crate::entry::Entry;
 use crate::error::TreeError;
 use crate::list::{
-    LONGEST_FILE, LONGEST_SPELLING, MOST_CHILDREN, count_children, find, name_spelled, range,
+    LONGEST_FILE, LONGEST_SPELLING, MOST_CHILDREN, count_children, find, is_directory, name_spelled, range,
     spelled, splice,
 };
 use crate::node::Node;
@@ -106,9 +106,10 @@ impl Tree {
         let [above @ .., _] = path.names() else {
             return Err(TreeError::Root);
         };
-        match find(&self.list, above) {
-            Some(Found::Dir) => Ok(()),
-            _ => Err(TreeError::NoParent),
+        if is_directory(&self.list, above) {
+            Ok(())
+        } else {
+            Err(TreeError::NoParent)
         }
     }
 

@@ -1,16 +1,15 @@
-use Rattle.std.proofs.Common.{rules, ◌≡◌, ◌≤◌, ◌<◌, ◌+◌, ◌++◌, ◌∷◌, length, count_by, option_map, IfSome, IfNone, IsTrue, ◌↔◌, vec_len, vec_capacity, ℕ, ◌-◌, ◌*◌, ◌/◌, ◌%◌, Bool, true, false, nat_eq, nat_lt, List, [], slice_index_or, slice_set, bit_and, bit_or, Fits, w8, w32, w64, Bor, MutBor}
+use Rattle.std.proofs.Common.{rules, ◌≡◌, ◌≤◌, ◌<◌, ◌-◌, take, sym, ap, ◌∙◌, subst, length, arith}
 use Rattle.std.specs.Ordering.{eq_by_cmp}
-use Rattle.std.specs.FinMap.{find}
-use Rattle.syn_model.specs.Path.{path_cmp, parent, IsPath}
-use Rattle.syn_model.specs.Limits.{last_name_spelling_length}
-use Rattle.syn_tree.specs.Contents.{found_content}
-use Rattle.syn_tree.specs.Pairs.{rooted, AreRising, is_before, is_within, before, behind, is_child, pair_spelling_length, spelling_length}
+use Rattle.syn_model.specs.Path.{Path, path_cmp}
+use Rattle.syn_tree.specs.Pairs.{is_child}
+use Rattle.syn_tree.proofs.ParentLemmas.{child-take, no_child}
 use Rattle.syn_tree.proofs.list.is_child.Goals as goal
 
--- src/list.rt:99:1
 pub returns-in-empty : goal.returns-in-empty
-returns-in-empty c = ?
+returns-in-empty c = sym (no_child c.args.above.now c.args.path.now (subst (λ q. length q < 1) c.names.ensures.names c.in-empty.len_below))
 
--- src/list.rt:99:1
 pub returns-in-len1-up : goal.returns-in-len1-up
-returns-in-len1-up c = ?
+returns-in-len1-up c =
+    let names = c.names.result.now in
+    let same : c.eq.result ≡ eq_by_cmp path_cmp (take (length names - 1) names) c.args.above.now = search rules in
+    same ∙ (child-take c.args.above.now names (length names - 1) (omega (arith, c.in-len1-up.len_at_least)) ∙ ap (λ q. is_child c.args.above.now q) c.names.ensures.names)

@@ -1,29 +1,22 @@
-use Rattle.std.proofs.Common.{rules, ◌≡◌, ◌≤◌, ◌<◌, ◌+◌, ◌++◌, ◌∷◌, length, count_by, option_map, IfSome, IfNone, IsTrue, ◌↔◌, vec_len, vec_capacity, ℕ, ◌-◌, ◌*◌, ◌/◌, ◌%◌, Bool, true, false, nat_eq, nat_lt, List, [], slice_index_or, slice_set, bit_and, bit_or, Fits, w8, w32, w64, Bor, MutBor}
-use Rattle.std.specs.Ordering.{eq_by_cmp}
-use Rattle.std.specs.FinMap.{find}
-use Rattle.syn_model.specs.Path.{path_cmp, parent, IsPath}
-use Rattle.syn_model.specs.Limits.{last_name_spelling_length}
-use Rattle.syn_tree.specs.Contents.{found_content}
-use Rattle.syn_tree.specs.Pairs.{rooted, AreRising, is_before, is_within, before, behind, is_child, pair_spelling_length, spelling_length}
+use Rattle.std.proofs.Common.{rules, ◌≡◌, ◌≤◌, ◌<◌, ◌+◌, ◌^◌, take, drop, ap, sym, subst, ◌∙◌, arith, length}
+use Rattle.std.proofs.Math.Seq.{take-length}
+use Rattle.std.proofs.lemmas.List.Sums.{sum_by_more, sum_by_more_le}
+use Rattle.syn_tree.specs.Pairs.{spelling_length, pair_spelling_length}
 use Rattle.syn_tree.proofs.list.spelled.Goals as goal
 
--- src/list.rt:145:5
-pub loop-entry-init : goal.loop-entry-init
-loop-entry-init c = ?
+pub returns-then-size-gt-LONGEST_SPELLING-clause-none : goal.returns-then-size-gt-LONGEST_SPELLING-clause-none
+returns-then-size-gt-LONGEST_SPELLING-clause-none c =
+    let within = sum_by_more_le pair_spelling_length c.args.list.now c.loop-entry.entry-index c.entry-item.result c.loop-entry-test.true in
+    let same = ap pair_spelling_length c.entry-item.is in
+    omega (arith, within, same, c.loop-entry.invariant.0, c.entry_spelled-size.ensures.length, c.if-size-gt-LONGEST_SPELLING.true)
 
--- src/list.rt:146:9
-pub overflow_add-size : goal.overflow_add-size
-overflow_add-size c = ?
-
--- src/list.rt:148:13
-pub returns-then-size-gt-LONGEST_SPELLING-clause-none :
-    goal.returns-then-size-gt-LONGEST_SPELLING-clause-none
-returns-then-size-gt-LONGEST_SPELLING-clause-none c = ?
-
--- src/list.rt:145:5
 pub loop-entry-preserved : goal.loop-entry-preserved
-loop-entry-preserved c = ?
+loop-entry-preserved c =
+    let more = sum_by_more pair_spelling_length c.args.list.now c.loop-entry.entry-index c.entry-item.result c.loop-entry-test.true in
+    let same = ap pair_spelling_length c.entry-item.is in
+    (omega (arith, more, same, c.loop-entry.invariant.0, c.entry_spelled-size.ensures.length), c.if-size-gt-LONGEST_SPELLING.false)
 
--- src/list.rt:140:1
 pub returns-clause-some : goal.returns-clause-some
-returns-clause-some c = ?
+returns-clause-some c =
+    let ended : c.loop-entry.entry-index ≡ length c.args.list.now = omega (arith, c.loop-entry-test.false, c.loop-entry.auto.entry-index-end) in
+    (c.loop-entry.invariant.0 ∙ ap spelling_length (ap (λ n. take n c.args.list.now) ended ∙ take-length c.args.list.now), c.loop-entry.invariant.1)

@@ -1,28 +1,28 @@
-use Rattle.std.proofs.Common.{rules, ◌≡◌, ◌≢◌, ℕ, List, true, false, Some, None, length, option_map, IfOk, IfErr, OnOk, OnErr, ◌+◌, ◌-◌, ◌*◌, ◌<◌, ◌≤◌, ◌/◌, ◌%◌, Bool, nat_eq, nat_lt, [], ◌∷◌, ◌++◌, slice_index_or, slice_set, bit_and, bit_or, Fits, w8, w32, w64, Bor, MutBor}
-use Rattle.std.specs.FinMap.{entries, get, len}
-use Rattle.syn_model.specs.Tree.{Tree as Pairs}
-use Rattle.syn_model.specs.Tree.{IsTree, empty_directory, is_directory, is_present, subtree, replace}
-use Rattle.syn_model.specs.Event.{Put, MakeDir, Remove, after_edit}
-use Rattle.syn_model.specs.Limits.{fits_replica, tree_spelling_length}
-use Rattle.syn_model.specs.Refusal.{first_cause}
-use Rattle.syn_model.specs.Standing.{edit_refusal, place_causes}
-use Rattle.syn_tree.specs.Contents.{found_content}
-use Rattle.syn_tree.specs.Nodes.{part_of}
-use Rattle.syn_tree.specs.Edits.{edit_of}
-use Rattle.syn_tree.specs.Pairs.{rooted}
-use Rattle.syn_tree.specs.Change.{IsPreparedFor, after_change}
-use Rattle.syn_tree.specs.Lists.{listing, replace_refusal, IsMeasured}
-use Rattle.syn_tree.specs.Refusals.{refusal_of, refusal_in}
+use Rattle.std.proofs.Common.{◌≡◌, ◌≤◌, ◌-◌, ◌+◌, take, sym, ap, ap₂, ◌∙◌, subst, length, Bool, true, false, Some, None, if◌then◌else◌, arith}
+use Rattle.std.specs.FinMap.{find, get}
+use Rattle.syn_model.specs.Path.{Path, path_cmp, parent}
+use Rattle.syn_model.specs.Tree.{Tree, is_directory, is_directory_content}
+use Rattle.syn_model.specs.Refusal.{NoParent}
+use Rattle.syn_tree.specs.Pairs.{Pairs, AreRising, rooted, tree_with}
+use Rattle.syn_tree.proofs.TreeLemmas.{get-with}
+use Rattle.syn_tree.proofs.ParentLemmas.{parent-take, not_root, place_answer}
 use Rattle.syn_tree.proofs.tree.Tree.check_place.Goals as goal
 
--- src/tree.rt:103:5
-pub returns-in-Some-Dir : goal.returns-in-Some-Dir
-returns-in-Some-Dir c = ?
+shown : (t : Tree) (es ds : Pairs) (names path : Path) (found : Bool) → AreRising (rooted es) → tree_with es ≡ t → ds ≡ es → names ≡ path → 1 ≤ length names →
+    found ≡ is_directory_content (find path_cmp (take (length names - 1) names) (rooted ds)) → found ≡ is_directory t (parent path)
+shown t es ds names path found rising is same named long e =
+    e ∙ (ap is_directory_content (ap₂ (λ p xs. find path_cmp p (rooted xs)) (parent-take names (length names - 1) (omega (arith, long)) ∙ ap parent named) same
+    ∙ (sym (get-with es (parent path) rising) ∙ ap (λ u. get u (parent path)) is)))
 
--- src/tree.rt:103:5
-pub returns-in_default-find : goal.returns-in_default-find
-returns-in_default-find c = ?
+pub returns-then-is_directory : goal.returns-then-is_directory
+returns-then-is_directory c =
+    let answer = shown c.args.self.now c.self.inside.list.items c.deref.result.now c.names.result.now c.args.path.now c.is_directory.result c.self.invariant.rising c.self.view_is c.deref.ensures.value c.names.ensures.names c.in-len1-up.len_at_least c.is_directory.ensures in
+    let free = not_root c.args.path.now (subst (λ q. 1 ≤ length q) c.names.ensures.names c.in-len1-up.len_at_least) in
+    sym (place_answer c.args.self.now c.args.path.now free ∙ ap (λ b. if b then None else Some NoParent) (sym answer ∙ c.if-is_directory.true))
 
--- src/tree.rt:103:5
-pub returns-in_default-find-2 : goal.returns-in_default-find-2
-returns-in_default-find-2 c = ?
+pub returns-else-is_directory : goal.returns-else-is_directory
+returns-else-is_directory c =
+    let answer = shown c.args.self.now c.self.inside.list.items c.deref.result.now c.names.result.now c.args.path.now c.is_directory.result c.self.invariant.rising c.self.view_is c.deref.ensures.value c.names.ensures.names c.in-len1-up.len_at_least c.is_directory.ensures in
+    let free = not_root c.args.path.now (subst (λ q. 1 ≤ length q) c.names.ensures.names c.in-len1-up.len_at_least) in
+    sym (place_answer c.args.self.now c.args.path.now free ∙ ap (λ b. if b then None else Some NoParent) (sym answer ∙ c.if-is_directory.false))
+
