@@ -5,3 +5,7 @@ pub mod SpliceLemmas
 pub mod FindLemmas
 pub mod TreeLemmas
 pub mod ParentLemmas
+pub mod CountLemmas
+pub mod FitLemmas
+pub mod PartLemmas
+pub mod MeasureLemmas

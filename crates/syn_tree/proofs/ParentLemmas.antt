@@ -9,7 +9,7 @@ use Rattle.syn_model.specs.Tree.{Tree, Content, Directory, File, is_directory, i
 use Rattle.syn_model.specs.Limits.{only_name}
 use Rattle.syn_model.specs.Refusal.{Refusal, Root, NoParent, first_cause}
 use Rattle.syn_model.specs.Standing.{place_causes}
-use Rattle.syn_model.proofs.PathLemmas.{name_total, then_rest}
+use Rattle.syn_model.proofs.PathLemmas.{name_total, then_rest, none_some}
 use Rattle.syn_tree.specs.Pairs.{is_child}
 
 pub parent-take : (q : Path) (k : ℕ) → k + 1 ≡ length q → take k q ≡ parent q
@@ -54,3 +54,14 @@ pub place_answer : (t : Tree) (q : Path) → is_root q ≡ false → first_cause
 place_answer t q h =
     ap (λ b. if b then Some Root else first_cause ((not (is_directory t (parent q)), NoParent) ∷ [])) h
     ∙ elim (is_directory t (parent q)) as (λ b. (if not b then Some NoParent else None) ≡ (if b then None else Some NoParent)) [ true ↦ refl | false ↦ refl ]
+
+pub place_free : (t : Tree) (q : Path) → first_cause (place_causes t q) ≡ None → (is_root q ≡ false) × (is_directory t (parent q) ≡ true)
+place_free t q h = by_root (is_root q) refl (is_directory t (parent q)) refl
+  where
+    by_root : (a : Bool) → is_root q ≡ a → (b : Bool) → is_directory t (parent q) ≡ b → (is_root q ≡ false) × (is_directory t (parent q) ≡ true)
+    by_root true is b is' = absurd (none_some (sym h ∙ place_root t q is))
+    by_root false is true is' = (is, is')
+    by_root false is false is' = absurd (none_some (sym h ∙ (place_answer t q is ∙ ap (λ b. if b then None else Some NoParent) is')))
+
+pub place_allowed : (t : Tree) (q : Path) → is_root q ≡ false → is_directory t (parent q) ≡ true → first_cause (place_causes t q) ≡ None
+place_allowed t q h k = place_answer t q h ∙ ap (λ b. if b then None else Some NoParent) k

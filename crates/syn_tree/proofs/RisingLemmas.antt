@@ -17,8 +17,8 @@ use Rattle.syn_tree.proofs.OrderLemmas.{less_of, not_before, before_more, betwee
 abbrev pub Each : {X : Type 0} → (X → Bool) → List X → Type 0
 Each p xs = AllByRecursion (λ x. p x ≡ true) xs
 
-abbrev pub None : {X : Type 0} → (X → Bool) → List X → Type 0
-None p xs = AllByRecursion (λ x. p x ≡ false) xs
+abbrev pub NoneOf : {X : Type 0} → (X → Bool) → List X → Type 0
+NoneOf p xs = AllByRecursion (λ x. p x ≡ false) xs
 
 pub each-append : {X : Type 0} (P : X → Type 0) (xs ys : List X) → AllByRecursion P xs → AllByRecursion P ys → AllByRecursion P (xs ++ ys)
 each-append P [] ys h k = k
@@ -31,15 +31,15 @@ each-map P Q f (x ∷ xs) h = (f x h.0, each-map P Q f xs h.1)
 pub each-filter : {X : Type 0} (p : X → Bool) (xs : List X) → Each p (filter p xs)
 each-filter p [] = tt
 each-filter p (x ∷ xs) = elim (p x) as (λ b. p x ≡ b → Each p (cond b (x ∷ filter p xs) (filter p xs))) [
-    | true ↦ λ e. (e, each-filter p xs)
-    | false ↦ λ e. each-filter p xs
-  ] refl
+  | true ↦ λ e. (e, each-filter p xs)
+  | false ↦ λ e. each-filter p xs
+] refl
 
 pub filter-keeps : {X : Type 0} (p : X → Bool) (xs : List X) → Each p xs → filter p xs ≡ xs
 filter-keeps p [] h = refl
 filter-keeps p (x ∷ xs) h = ap (λ b. cond b (x ∷ filter p xs) (filter p xs)) h.0 ∙ ap (λ ys. x ∷ ys) (filter-keeps p xs h.1)
 
-pub filter-drops : {X : Type 0} (p : X → Bool) (xs : List X) → None p xs → filter p xs ≡ []
+pub filter-drops : {X : Type 0} (p : X → Bool) (xs : List X) → NoneOf p xs → filter p xs ≡ []
 filter-drops p [] h = refl
 filter-drops p (x ∷ xs) h = ap (λ b. cond b (x ∷ filter p xs) (filter p xs)) h.0 ∙ filter-drops p xs h.1
 
@@ -99,14 +99,14 @@ rising-under at [] h = tt
 rising-under at (e ∷ es) h = (after-under at e.0 es h.0, rising-under at es h.1)
 
 -- no pair stands before the place where an earlier one does not
-pub none_before : (at p : Path) (es : Pairs) → After p es → is_lt (path_cmp p at) ≡ false → None (is_before at) es
+pub none_before : (at p : Path) (es : Pairs) → After p es → is_lt (path_cmp p at) ≡ false → NoneOf (is_before at) es
 none_before at p es h low = each-map (λ e. path_cmp p e.0 ≡ Less) (λ e. is_before at e ≡ false) (λ e less. never e less (is_before at e) refl) es h
   where
     never : (e : Pair) → path_cmp p e.0 ≡ Less → (b : Bool) → is_before at e ≡ b → b ≡ false
     never e less true k = absurd (true≢false (sym (before_more p e.0 at less k) ∙ low))
     never e less false k = refl
 
-none_within : (at p : Path) (es : Pairs) → After p es → is_lt (path_cmp p at) ≡ false → is_prefix at p ≡ false → None (is_within at) es
+none_within : (at p : Path) (es : Pairs) → After p es → is_lt (path_cmp p at) ≡ false → is_prefix at p ≡ false → NoneOf (is_within at) es
 none_within at p es h low out = each-map (λ e. path_cmp p e.0 ≡ Less) (λ e. is_within at e ≡ false) (λ e less. never e less (is_within at e) refl) es h
   where
     never : (e : Pair) → path_cmp p e.0 ≡ Less → (b : Bool) → is_within at e ≡ b → b ≡ false
@@ -137,7 +137,7 @@ three_parts at (e ∷ es) h =
     inside false k is = refl
 
 -- what is in the parts
-pub before_out : (at : Path) (es : Pairs) → None (is_within at) (before at es)
+pub before_out : (at : Path) (es : Pairs) → NoneOf (is_within at) (before at es)
 before_out at es = each-map (λ e. is_before at e ≡ true) (λ e. is_within at e ≡ false) (λ e is. never e is (is_within at e) refl) (before at es) (each-filter (is_before at) es)
   where
     never : (e : Pair) → is_before at e ≡ true → (b : Bool) → is_within at e ≡ b → b ≡ false
@@ -152,7 +152,7 @@ neither false false h = (refl, refl)
 pub behind_parts : (at : Path) (es : Pairs) → AllByRecursion (λ e. (is_before at e ≡ false) × (is_within at e ≡ false)) (behind at es)
 behind_parts at es = each-map (λ e. is_behind at e ≡ true) (λ e. (is_before at e ≡ false) × (is_within at e ≡ false)) (λ e h. neither (is_before at e) (is_within at e) h) (behind at es) (each-filter (is_behind at) es)
 
-pub behind_out : (at : Path) (es : Pairs) → None (is_within at) (behind at es)
+pub behind_out : (at : Path) (es : Pairs) → NoneOf (is_within at) (behind at es)
 behind_out at es = each-map (λ e. (is_before at e ≡ false) × (is_within at e ≡ false)) (λ e. is_within at e ≡ false) (λ e h. h.1) (behind at es) (behind_parts at es)
 
 -- without what is at and below the place
@@ -162,13 +162,13 @@ outside at es h =
     ap (filter others) (three_parts at es h)
     ∙ (filter-append others (before at es) (within at es ++ behind at es)
     ∙ ap₂ (λ xs ys. xs ++ ys) (filter-keeps others (before at es) (turned (before at es) (before_out at es)))
-      (filter-append others (within at es) (behind at es)
-      ∙ ap₂ (λ xs ys. xs ++ ys) (filter-drops others (within at es) (dropped (within at es) (each-filter (is_within at) es))) (filter-keeps others (behind at es) (turned (behind at es) (behind_out at es)))))
+    (filter-append others (within at es) (behind at es)
+    ∙ ap₂ (λ xs ys. xs ++ ys) (filter-drops others (within at es) (dropped (within at es) (each-filter (is_within at) es))) (filter-keeps others (behind at es) (turned (behind at es) (behind_out at es)))))
   where
-    turned : (xs : Pairs) → None (is_within at) xs → Each (λ e. not (is_within at e)) xs
+    turned : (xs : Pairs) → NoneOf (is_within at) xs → Each (λ e. not (is_within at e)) xs
     turned xs k = each-map (λ e. is_within at e ≡ false) (λ e. not (is_within at e) ≡ true) (λ e x. ap not x) xs k
 
-    dropped : (xs : Pairs) → Each (is_within at) xs → None (λ e. not (is_within at e)) xs
+    dropped : (xs : Pairs) → Each (is_within at) xs → NoneOf (λ e. not (is_within at e)) xs
     dropped xs k = each-map (λ e. is_within at e ≡ true) (λ e. not (is_within at e) ≡ false) (λ e x. ap not x) xs k
 
 -- what takes the place of the part at and below a path
@@ -196,7 +196,7 @@ rising-replaced at es us h k =
     (each-map (λ e. is_before at e ≡ true) (λ e. After e.0 (under at us ++ behind at es)) (λ e x. each-append (λ f. path_cmp e.0 f.0 ≡ Less) (under at us) (behind at es) (before_all_under at e.0 us x) (before_all_behind at e.0 es x)) (before at es) (each-filter (is_before at) es))
 
 -- none of those in the part or behind it stands before the place
-pub none_after : (at : Path) (es : Pairs) → None (is_before at) (within at es ++ behind at es)
+pub none_after : (at : Path) (es : Pairs) → NoneOf (is_before at) (within at es ++ behind at es)
 none_after at es = each-append (λ e. is_before at e ≡ false) (within at es) (behind at es)
     (each-map (λ e. is_within at e ≡ true) (λ e. is_before at e ≡ false) (λ e h. not_before at e.0 h) (within at es) (each-filter (is_within at) es))
     (each-map (λ e. (is_before at e ≡ false) × (is_within at e ≡ false)) (λ e. is_before at e ≡ false) (λ e h. h.0) (behind at es) (behind_parts at es))

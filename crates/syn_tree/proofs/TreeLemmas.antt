@@ -84,9 +84,9 @@ entries-replace t at u =
     let whole = replaced at (entries t) (entries u) in
     let rising = rising-replaced at (entries t) (entries u) (rising-entries t) (rising-entries u) in
     ap entries (same_tree (replace t at u) (from_sorted whole) (λ q.
-        get-replace t at u q
-        ∙ (elim (strip_prefix at q) as (λ o. option_map_or (λ r. get u r) o (get t q) ≡ option_map_or (λ r. find path_cmp r (entries u)) o (find path_cmp q (entries t))) [ None ↦ get-entries t q | Some r ↦ get-entries u r ]
-        ∙ (sym (find-replaced at q (entries t) (entries u)) ∙ sym (get-rising whole q rising)))))
+    get-replace t at u q
+    ∙ (elim (strip_prefix at q) as (λ o. option_map_or (λ r. get u r) o (get t q) ≡ option_map_or (λ r. find path_cmp r (entries u)) o (find path_cmp q (entries t))) [ None ↦ get-entries t q | Some r ↦ get-entries u r ]
+    ∙ (sym (find-replaced at q (entries t) (entries u)) ∙ sym (get-rising whole q rising)))))
     ∙ entries-rising whole rising
 
 -- the pairs at and below a path, each with the path taken off

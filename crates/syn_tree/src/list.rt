@@ -65,16 +65,15 @@ pub(crate) fn count_before(list: &[Entry], names: &[Name]) -> usize
     list.partition_point(|entry| is_before(entry, names))
 }
 
-/// How many entries stand before the path, and how many before or within it.
-pub(crate) fn range(list: &[Entry], at: &Path) -> (usize, usize)
+/// The entries at and below the path.
+pub(crate) fn part_at<'a>(list: &'a [Entry], at: &Path) -> &'a [Entry]
     requires { AreRising list.now }
-    ensures start { result.0 ≡ length (before at.now list.now) }
-    ensures end { result.1 ≡ length (before at.now list.now) + length (within at.now list.now) }
+    ensures { result.now ≡ within at.now list.now }
 {
-    let start = count_before(list, at.names());
-    let (_, others) = list.split_at(start);
+    let (_, others) = list.split_at(count_before(list, at.names()));
     let below = others.partition_point(|entry| is_within(entry, at));
-    (start, start + below)
+    let (part, _) = others.split_at(below);
+    part
 }
 
 /// What stands at the path of these names, of entries below a root directory.
@@ -118,6 +117,16 @@ pub(crate) fn is_child(above: &[Name], path: &Path) -> bool
     }
 }
 
+/// The names of the parent; of the root, none.
+pub(crate) fn parent_names(path: &Path) -> &[Name]
+    ensures { result.now ≡ parent path.now }
+{
+    match path.names() {
+        [] => path.names(),
+        [above @ .., _] => above,
+    }
+}
+
 /// How many entries stand in the directory of these names.
 pub(crate) fn count_children(list: &[Entry], above: &[Name]) -> usize
     ensures { result ≡ count_by (λ pair. is_child above.now pair.0) list.now }
@@ -150,8 +159,20 @@ pub(crate) fn entry_spelled(entry: &Entry) -> usize
     }
 }
 
+/// How many bytes spell the entries.
+pub(crate) fn spelled(list: &[Entry]) -> usize
+    requires { spelling_length list.now ≤ 524288 }
+    ensures { result ≡ spelling_length list.now }
+{
+    let mut size = 0;
+    for entry in list {
+        size += entry_spelled(entry);
+    }
+    size
+}
+
 /// How many bytes spell the entries; none where that is more than the longest spelling of a tree.
-pub(crate) fn spelled(list: &[Entry]) -> Option<usize>
+pub(crate) fn measured(list: &[Entry]) -> Option<usize>
     ensures some { IfSome result (λ size. (size ≡ spelling_length list.now) × (size ≤ 524288)) }
     ensures none { IfNone result (524288 < spelling_length list.now) }
 {

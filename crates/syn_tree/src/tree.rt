@@ -1,4 +1,4 @@
-ghost use Rattle.std.specs.Prelude.{◌≡◌, ◌≢◌, ℕ, List, true, false, Some, None, length, option_map, IfOk, IfErr, OnOk, OnErr};
+ghost use Rattle.std.specs.Prelude.{◌≡◌, ◌≢◌, ◌<◌, ◌^◌, ◌&&◌, ◌||◌, not, nat_le, nat_lt, count_by, ℕ, List, true, false, Some, None, length, option_map, IfOk, IfErr, OnOk, OnErr};
 ghost use Rattle.std.specs.FinMap.{entries, get, len};
 ghost use Rattle.syn_model.specs.Tree.{Tree as Pairs, IsTree, empty_directory, is_directory, is_present, subtree, replace};
 ghost use Rattle.syn_model.specs.Event.{Put, MakeDir, Remove, after_edit};
@@ -8,7 +8,8 @@ ghost use Rattle.syn_model.specs.Standing.{edit_refusal, place_causes};
 ghost use Rattle.syn_tree.specs.Contents.{found_content};
 ghost use Rattle.syn_tree.specs.Nodes.{part_of};
 ghost use Rattle.syn_tree.specs.Edits.{edit_of};
-ghost use Rattle.syn_tree.specs.Pairs.{rooted};
+ghost use Rattle.syn_model.specs.Path.{parent};
+ghost use Rattle.syn_tree.specs.Pairs.{rooted, is_child};
 ghost use Rattle.syn_tree.specs.Change.{IsPreparedFor, after_change};
 ghost use Rattle.syn_tree.specs.Lists.{listing, replace_refusal, IsMeasured};
 ghost use Rattle.syn_tree.specs.Refusals.{refusal_of, refusal_in};
@@ -21,8 +22,8 @@ use crate::entries::Entries;
 use crate::entry::Entry;
 use crate::error::TreeError;
 use crate::list::{
-    LONGEST_FILE, LONGEST_SPELLING, MOST_CHILDREN, count_children, find, is_directory, name_spelled, range,
-    spelled, splice,
+    LONGEST_FILE, LONGEST_SPELLING, MOST_CHILDREN, count_children, find, is_directory, measured,
+    name_spelled, parent_names, part_at, spelled, splice,
 };
 use crate::node::Node;
 use std::alloc::Global;
@@ -115,22 +116,16 @@ impl Tree {
 
     /// Whether the limits are kept where so many nodes, spelled with so many bytes, take the place of what is at the path.
     fn fits(&self, path: &Path, nodes: usize, size: usize) -> bool
-        requires { first_cause (place_causes self.now path.now) ≡ None }
+        requires place { first_cause (place_causes self.now path.now) ≡ None }
+        requires nodes { nodes < 2 ^ 62 }
+        requires size { size < 2 ^ 62 }
         ensures { (new : Pairs) → IsMeasured path.now new nodes size → result ≡ fits_replica (replace self.now path.now new) }
     {
-        let [above @ .., _] = path.names() else {
-            return false;
-        };
-        let (start, end) = range(&self.list, path);
-        let Some(removed) = spelled(&self.list[start..end]) else {
-            return false;
-        };
-        if nodes > MOST_BELOW || size > LONGEST_SPELLING {
-            return false;
-        }
-        self.list.len() - (end - start) + nodes <= MOST_BELOW
-            && self.spelled - removed + size <= LONGEST_SPELLING
-            && (start < end || nodes == 0 || count_children(&self.list, above) < MOST_CHILDREN)
+        let part = part_at(&self.list, path);
+        let count = self.list.len() - part.len() + nodes;
+        let length = self.spelled - spelled(part) + size;
+        let room = has_room(&self.list, path, !part.is_empty(), nodes);
+        is_within_limits(count, length, room)
     }
 
     /// Why the edit is refused, with no change and no memory taken.
@@ -221,7 +216,7 @@ impl Tree {
         self.check_place(path)?;
         let at = path.copy(alloc)?;
         let added = placed(alloc, path, new)?;
-        let Some(size) = spelled(&added) else {
+        let Some(size) = measured(&added) else {
             return Err(TreeError::Full);
         };
         if self.fits(path, added.len(), size) {
@@ -237,8 +232,7 @@ impl Tree {
         ensures { self.new ≡ after_change self.old change }
     {
         let (at, added, size) = change.into_parts();
-        let (start, end) = range(&self.list, &at);
-        let removed = spelled(&self.list[start..end]).unwrap_or(0);
+        let removed = spelled(part_at(&self.list, &at));
         self.spelled = self.spelled - removed + size;
         splice(&mut self.list, &at, added);
     }
@@ -303,8 +297,7 @@ impl Tree {
                 Ok(Some(Node::File(bytes)))
             }
             Some(Found::Dir) => {
-                let (start, end) = range(&self.list, path);
-                let list = below(alloc, &self.list[start..end], path.names().len())?;
+                let list = below(alloc, part_at(&self.list, path), path.names().len())?;
                 Ok(Entries::from_vec(list).map(Node::Dir))
             }
         }
@@ -319,7 +312,7 @@ impl Tree {
         ensures refused { IfErr result (λ e. e ≢ TreeError.Memory → (e ≡ TreeError.Full) × (fits_replica entries ≡ false)) }
     {
         let mut list = entries.into_vec();
-        let Some(below) = spelled(&list) else {
+        let Some(below) = measured(&list) else {
             return Err(TreeError::Full);
         };
         let spelled = below + 3;
@@ -329,4 +322,18 @@ impl Tree {
         list.reserve(MOST_BELOW - list.len())?;
         Ok(Tree { list, spelled })
     }
+}
+
+/// So many nodes below the root, so many bytes and so many names in each directory are allowed.
+fn is_within_limits(count: usize, length: usize, room: bool) -> bool
+    ensures { result ≡ (nat_le count 1023 && nat_le length 524288 && room) }
+{
+    count <= MOST_BELOW && length <= LONGEST_SPELLING && room
+}
+
+/// The directory of the path has a place for what is put there, where something stands there or it has not the most entries.
+fn has_room(list: &[Entry], path: &Path, stands: bool, nodes: usize) -> bool
+    ensures { result ≡ (stands || (not (nat_lt 0 nodes) || nat_lt (count_by (λ pair. is_child (parent path.now) pair.0) list.now) 256)) }
+{
+    stands || nodes == 0 || count_children(list, parent_names(path)) < MOST_CHILDREN
 }

@@ -30,7 +30,7 @@ rotate_left-requires c =
     omega (arith, start, ap length parts, length-append (before at es) (behind at es), c.retain.new.self.ok)
 
 pub returns-clause-items : goal.returns-clause-items
-returns-clause-items c = 
+returns-clause-items c =
     let at = c.args.at.now in
     let es = c.args.list.now.items in
     let kept = filter_same _ (λ e. not (is_within at e)) _ (λ x b f' k. search rules) _ _ c.retain.ensures.filtered in

@@ -25,4 +25,3 @@ returns-else-is_directory c =
     let answer = shown c.args.self.now c.self.inside.list.items c.deref.result.now c.names.result.now c.args.path.now c.is_directory.result c.self.invariant.rising c.self.view_is c.deref.ensures.value c.names.ensures.names c.in-len1-up.len_at_least c.is_directory.ensures in
     let free = not_root c.args.path.now (subst (λ q. 1 ≤ length q) c.names.ensures.names c.in-len1-up.len_at_least) in
     sym (place_answer c.args.self.now c.args.path.now free ∙ ap (λ b. if b then None else Some NoParent) (sym answer ∙ c.if-is_directory.false))
-
