@@ -164,7 +164,7 @@ none_of at p h = by_case (strip_prefix at p) h
     by_case None k = refl
     by_case (Some x) k = absurd (true≢false k)
 
-is_dir : (o : Option Content) → is_directory_content o ≡ true → o ≡ Some Directory
+pub is_dir : (o : Option Content) → is_directory_content o ≡ true → o ≡ Some Directory
 is_dir None h = absurd (true≢false (sym h))
 is_dir (Some Directory) h = refl
 is_dir (Some (File c)) h = absurd (true≢false (sym h))

@@ -9,3 +9,5 @@ pub mod CountLemmas
 pub mod FitLemmas
 pub mod PartLemmas
 pub mod MeasureLemmas
+pub mod MakeLemmas
+pub mod ChangeLemmas

@@ -21,7 +21,7 @@ use Rattle.syn_tree.proofs.PartLemmas.{present_root, present_within, within_root
 at_most : (n : ℕ) → nat_le n 524288 ≡ true → n ≤ 524288
 at_most n h = grind (arith, nat_tests)
 
-at_most_nodes : (n : ℕ) → nat_le n 1024 ≡ true → n ≤ 1024
+pub at_most_nodes : (n : ℕ) → nat_le n 1024 ≡ true → n ≤ 1024
 at_most_nodes n h = grind (arith, nat_tests)
 
 -- the size of a tree that keeps the limits

@@ -14,7 +14,7 @@ use Rattle.syn_tree.proofs.TreeLemmas.{taken, within-taken, entries-subtree, ris
 use Rattle.syn_tree.proofs.CountLemmas.{no_root, present_taken, kids, kids-cons}
 use Rattle.syn_tree.proofs.ParentLemmas.{no_child}
 
-length_under : (at : Path) (us : Pairs) → length (under at us) ≡ length us
+pub length_under : (at : Path) (us : Pairs) → length (under at us) ≡ length us
 length_under at [] = refl
 length_under at (u ∷ us) = ap suc (length_under at us)
 

@@ -2,6 +2,7 @@
 use Rattle.std.specs.Prelude.{Option, Some, None}
 use Rattle.syn_model.specs.Tree.{Directory, File, contents_of}
 use Rattle.syn_model.specs.Tree as model
+use Rattle.syn_model.specs.Event.{AreBytes}
 use Rattle.syn_tree.specs.declared.content.Content.{Content}
 use Rattle.syn_tree.specs.declared.content.Content.TheVariants as has
 use Rattle.syn_tree.specs.declared.content.Found.{Found}
@@ -14,3 +15,8 @@ content_of has.Dir = Directory
 abbrev pub found_content : Found → model.Content
 found_content (found.File bytes) = File (contents_of bytes.now)
 found_content found.Dir = Directory
+
+-- its bytes are bytes
+abbrev pub IsLawful : model.Content → Type 0
+IsLawful Directory = Unit {0}
+IsLawful (File contents) = AreBytes contents.bytes

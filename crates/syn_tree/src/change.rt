@@ -1,6 +1,6 @@
 ghost use Rattle.std.specs.Prelude.{◌≡◌, IfOk, IfErr};
 ghost use Rattle.syn_model.specs.Tree.{absent, at_root};
-ghost use Rattle.syn_tree.specs.Contents.{content_of};
+ghost use Rattle.syn_tree.specs.Contents.{content_of, IsLawful};
 
 use crate::content::Content;
 use crate::entry::Entry;
@@ -52,6 +52,7 @@ impl Change {
 
     /// This content alone will stand at the path. Refused 11 where memory is refused.
     pub(crate) fn one(alloc: Global, path: Path, content: Content) -> Result<Change, TreeError>
+        requires { IsLawful (content_of content) }
         ensures at { IfOk result (λ change. change.at ≡ path) }
         ensures new { IfOk result (λ change. change.new ≡ at_root (content_of content)) }
         ensures memory { IfErr result (λ e. e ≡ TreeError.Memory) }

@@ -1,6 +1,7 @@
 //! File trees: what stands at each path, and the edits that change it.
 #![tactic(auto)]
 
+mod bytes;
 mod change;
 mod content;
 mod copies;

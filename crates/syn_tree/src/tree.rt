@@ -14,6 +14,7 @@ ghost use Rattle.syn_tree.specs.Change.{IsPreparedFor, after_change};
 ghost use Rattle.syn_tree.specs.Lists.{listing, replace_refusal, IsMeasured};
 ghost use Rattle.syn_tree.specs.Refusals.{refusal_of, refusal_in};
 
+use crate::bytes::are_bytes;
 use crate::change::Change;
 use crate::content::{Content, Found};
 use crate::copies::{below, children, placed};
@@ -192,7 +193,10 @@ impl Tree {
     {
         self.check(&edit)?;
         match edit {
-            Edit::Put(path, bytes) => Change::one(alloc, path, Content::File(bytes)),
+            Edit::Put(path, bytes) => {
+                are_bytes(&bytes);
+                Change::one(alloc, path, Content::File(bytes))
+            }
             Edit::MakeDir(path) => Change::one(alloc, path, Content::Dir),
             Edit::Remove(path) => Ok(Change::none(alloc, path)),
         }

@@ -38,4 +38,12 @@ returns c new of =
     let ds = c.self.inside.list.items in
     let at = c.args.path.now in
     let part = c.part_at-part.ensures ∙ ap (within at) c.deref.ensures.value in
-    ?
+    let place = subst (λ t. first_cause (place_causes t at) ≡ None) (sym c.self.view_is) c.requires.place in
+    let count = c.len.result - length c.part_at-part.result.now + c.args.nodes in
+    let long = c.self.inside.spelled - c.spelled.result + c.args.size in
+    let same = c.len.ensures in
+    let counts : count ≡ length ds - length (within at ds) + c.args.nodes = omega (arith, ap length part, same, c.self.inside.list.ok) in
+    let longs : long ≡ c.self.inside.spelled - spelling_length (within at ds) + c.args.size = omega (arith, ap spelling_length part, c.spelled.ensures) in
+    let rooms = c.has_room-room.ensures ∙ ap₂ (λ b xs. not b || (not (nat_lt 0 c.args.nodes) || nat_lt (kids (parent at) xs) 256)) (c.is_empty.ensures ∙ ap (λ xs. length xs == 0) part) c.deref-2.ensures.value in
+    c.is_within_limits.ensures ∙ (measured ds c.self.inside.spelled _ at new c.args.nodes c.args.size count long c.has_room-room.result c.self.invariant place of counts longs rooms
+    ∙ ap (λ t. fits_replica (replace t at new)) c.self.view_is)
