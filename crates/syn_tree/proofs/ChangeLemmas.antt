@@ -1,11 +1,12 @@
 -- What is added at a place, as pairs.
-use Rattle.std.proofs.Common.{◌≡◌, ◌+◌, ℕ, Bool, true, false, true≢false, List, [], ◌∷◌, ◌++◌, refl, sym, ap, ap₂, ◌∙◌, subst, append-nil, arith}
-use Rattle.std.specs.FinMap.{entries, from_sorted}
+use Rattle.std.proofs.Common.{◌≡◌, ◌+◌, ℕ, Bool, true, false, true≢false, List, [], ◌∷◌, ◌++◌, refl, sym, ap, ap₂, ◌∙◌, subst, Option, Some, None, is_some, append-nil, arith}
+use Rattle.std.specs.FinMap.{entries, from_sorted, get, get-empty}
 use Rattle.std.proofs.lemmas.List.Sums.{sum_by-cons}
-use Rattle.syn_model.specs.Path.{Bytes, Path, IsPath}
+use Rattle.syn_model.specs.Path.{Bytes, Path, path_cmp, IsPath}
 use Rattle.syn_model.specs.Tree.{Tree, Content, Contents, Directory, File, IsPart, at_root, absent}
 use Rattle.syn_model.specs.Event.{AreBytes}
-use Rattle.syn_model.proofs.HistoryLemmas.{at_root-is_part, absent-is_part}
+use Rattle.syn_model.proofs.HistoryLemmas.{at_root-is_part}
+use Rattle.syn_model.proofs.PathLemmas.{none_some}
 use Rattle.syn_tree.specs.Contents.{IsLawful}
 use Rattle.syn_tree.specs.Pairs.{Pairs, under, spelling_length, pair_spelling_length}
 use Rattle.syn_tree.specs.Change.{taken_from, ArePlaced}
@@ -30,11 +31,27 @@ under_one at content pairs e = e ∙ (ap (λ p. (p, content) ∷ []) (sym (appen
 pub under_none : (at : Path) (pairs : Pairs) → pairs ≡ [] → pairs ≡ under at (entries absent)
 under_none at pairs e = e ∙ ap (under at) (sym entries-absent)
 
-is_dir : Content → Bool
+content_or : Option Content → Content
+content_or None = Directory
+content_or (Some c) = c
+
+is_some_some : (o : Option Content) → is_some o ≡ true → o ≡ Some (content_or o)
+unfolding content_or
+is_some_some None h = absurd (true≢false (sym h))
+is_some_some (Some c) h = refl
+
+pub nothing_part : IsPart absent
+nothing_part = record {
+  parents = λ p n r h. absurd (none_some (sym (get-empty path_cmp (p ++ n ∷ r)) ∙ is_some_some (get absent (p ++ n ∷ r)) h));
+  names = λ p h. absurd (none_some (sym (get-empty path_cmp p) ∙ is_some_some (get absent p) h));
+  bytes = λ p contents h. absurd (none_some (sym (get-empty path_cmp p) ∙ h));
+}
+
+abbrev is_dir : Content → Bool
 is_dir Directory = true
 is_dir (File c) = false
 
-bytes_in : Content → Contents → Bytes
+abbrev bytes_in : Content → Contents → Bytes
 bytes_in Directory d = d.bytes
 bytes_in (File c) d = c.bytes
 

@@ -5,6 +5,7 @@ ghost use Rattle.syn_tree.specs.Contents.{content_of, IsLawful};
 use crate::content::Content;
 use crate::entry::Entry;
 use crate::error::TreeError;
+use crate::lawful::is_path;
 use crate::list::entry_spelled;
 use std::alloc::Global;
 use std::marker::Model;
@@ -43,6 +44,7 @@ impl Change {
         ensures at { result.at ≡ path }
         ensures new { result.new ≡ absent }
     {
+        is_path(&path);
         Change {
             at: path,
             added: Vec::new(alloc),

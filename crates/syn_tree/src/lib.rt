@@ -1,7 +1,6 @@
 //! File trees: what stands at each path, and the edits that change it.
 #![tactic(auto)]
 
-mod bytes;
 mod change;
 mod content;
 mod copies;
@@ -9,6 +8,7 @@ mod edit;
 mod entries;
 mod entry;
 mod error;
+mod lawful;
 mod list;
 mod node;
 mod tree;

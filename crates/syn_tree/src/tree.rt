@@ -14,7 +14,7 @@ ghost use Rattle.syn_tree.specs.Change.{IsPreparedFor, after_change};
 ghost use Rattle.syn_tree.specs.Lists.{listing, replace_refusal, IsMeasured};
 ghost use Rattle.syn_tree.specs.Refusals.{refusal_of, refusal_in};
 
-use crate::bytes::are_bytes;
+use crate::lawful::are_bytes;
 use crate::change::Change;
 use crate::content::{Content, Found};
 use crate::copies::{below, children, placed};

@@ -1,6 +1,6 @@
 use Rattle.std.proofs.Common.{rules, ◌≡◌, ◌<◌, ℕ, subst, arith, slice_index_or, Fits, w8}
 use Rattle.std.proofs.lemmas.List.{get_or_default}
-use Rattle.syn_tree.proofs.bytes.are_bytes.Goals as goal
+use Rattle.syn_tree.proofs.lawful.are_bytes.Goals as goal
 
 byte_fits : (n : ℕ) → Fits w8 n → n < 256
 byte_fits n h = omega arith
