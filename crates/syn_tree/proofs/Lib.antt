@@ -11,3 +11,4 @@ pub mod PartLemmas
 pub mod MeasureLemmas
 pub mod MakeLemmas
 pub mod ChangeLemmas
+pub mod CheckLemmas

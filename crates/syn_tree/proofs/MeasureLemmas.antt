@@ -66,7 +66,7 @@ measured ds s cap at u nodes size count long room kept place of counts longs roo
     let size_of = spelling_replaced at (rooted ds) (entries u) rising in
     let much : long ≡ spelling_length (replaced at (rooted ds) (entries u)) = omega (arith, size_of, ap spelling_length inner, longs, of.spelled, kept.counted, part_size ds s cap at kept free.0) in
     let stands : not (length (within at ds) == 0) ≡ is_present t at = some_there (length (within at ds)) ∙ sym (present_within t at kept.tree.part.parents ∙ ap (λ xs. nat_lt 0 (length (within at xs))) es ∙ ap (λ xs. nat_lt 0 (length xs)) inner) in
-    let put : nat_lt 0 nodes ≡ is_present u root = sym (present_root u of.part.parents ∙ ap (nat_lt 0) (sym (len-entries u) ∙ of.count)) in
+    let put : nat_lt 0 nodes ≡ is_present u root = sym (present_root u of.parents ∙ ap (nat_lt 0) (sym (len-entries u) ∙ of.count)) in
     let children : kids (parent at) ds ≡ kids (parent at) (entries t) = sym (ap (kids (parent at)) es ∙ kids_rooted (parent at) ds) in
     let roomy : room ≡ has_room t at u = rooms ∙ (ap₂ (λ a b. a || (not b || nat_lt (kids (parent at) ds) 256)) stands put ∙ ap (λ n. is_present t at || (not (is_present u root) || nat_lt n 256)) children) in
     ap₂ (λ a b. a && b) (ap₂ (λ a b. a && b) (sym (one_less count) ∙ ap (λ n. nat_le n 1024) many) (ap (λ n. nat_le n 524288) much)) roomy

@@ -3,7 +3,7 @@ use Rattle.std.specs.Prelude.{◌≡◌, ℕ, Bool, true, List, ◌++◌, map, O
 use Rattle.std.specs.List.{list_all}
 use Rattle.std.specs.FinMap.{entries, len}
 use Rattle.syn_model.specs.Path.{Name, Path}
-use Rattle.syn_model.specs.Tree.{Tree, IsPart, is_directory_content}
+use Rattle.syn_model.specs.Tree.{Tree, HasParents, is_directory_content}
 use Rattle.syn_model.specs.Limits.{children, fits_part, fits_path}
 use Rattle.syn_model.specs.Refusal.{Refusal, first_cause}
 use Rattle.syn_model.specs.Standing.{place_causes, full_causes}
@@ -20,7 +20,7 @@ replace_refusal tree path new = first_cause (place_causes tree path ++ full_caus
 
 -- what is measured of a part that is to stand at a path: its nodes and its size, where it keeps the other limits
 pub record IsMeasured (at : Path) (new : Tree) (nodes size : ℕ) : Type 0 where
-  pub part : IsPart new
+  pub parents : HasParents new
   pub count : len new ≡ nodes
   pub spelled : spelling_length (under at (entries new)) ≡ size
   pub limits : fits_part new ≡ true

@@ -140,6 +140,7 @@ pub(crate) fn count_children(list: &[Entry], above: &[Name]) -> usize
 pub(crate) fn name_spelled(path: &Path) -> usize
     ensures length { result ≡ last_name_spelling_length path.now }
     ensures short { result ≤ 65 }
+    ensures lawful { IsPath path.now }
 {
     match path.names().last() {
         Some(name) => 1 + name.as_str().len(),

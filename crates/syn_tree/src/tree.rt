@@ -144,20 +144,32 @@ impl Tree {
         }
     }
 
+    /// A directory is at the path.
+    fn is_directory_at(&self, path: &Path) -> bool
+        ensures { result ≡ is_directory self.now path.now }
+    {
+        is_directory(&self.list, path.names())
+    }
+
+    /// Why a file of so many bytes is not put.
     fn check_put(&self, path: &Path, size: usize) -> Result<(), TreeError>
         ensures { (bytes : List ℕ) → length bytes ≡ size → refusal_in result ≡ edit_refusal self.now (Put path.now bytes) }
     {
         self.check_place(path)?;
-        if let Some(Found::Dir) = self.get(path) {
+        if self.is_directory_at(path) {
             return Err(TreeError::IsDirectory);
         }
-        if size <= LONGEST_FILE && self.fits(path, 1, name_spelled(path) + 5 + size) {
+        if size > LONGEST_FILE {
+            return Err(TreeError::Full);
+        }
+        if self.fits(path, 1, name_spelled(path) + 5 + size) {
             Ok(())
         } else {
             Err(TreeError::Full)
         }
     }
 
+    /// Why a directory is not made.
     fn check_make_dir(&self, path: &Path) -> Result<(), TreeError>
         ensures { refusal_in result ≡ edit_refusal self.now (MakeDir path.now) }
     {
@@ -172,6 +184,7 @@ impl Tree {
         }
     }
 
+    /// Why nothing is removed.
     fn check_remove(&self, path: &Path) -> Result<(), TreeError>
         ensures { refusal_in result ≡ edit_refusal self.now (Remove path.now) }
     {
@@ -179,6 +192,8 @@ impl Tree {
         if self.get(path).is_none() {
             return Err(TreeError::Absent);
         }
+        // what is left keeps the limits that the whole kept
+        let _ = self.entries();
         Ok(())
     }
 
