@@ -43,10 +43,10 @@ pub remove_answer : (t : Tree) (p : Path) → first_cause (place_causes t p) ≡
 remove_answer t p place there = let free = place_free t p place in causes Absent (is_root p) (is_directory t (parent p)) (not (is_present t p)) (fits_replica (replace t p absent)) free.0 free.1 (ap not there)
 
 -- one content alone keeps the limits where it does itself
-one_parents : (content : Content) → HasParents (at_root content)
+pub one_parents : (content : Content) → HasParents (at_root content)
 one_parents content p n r h = absurd (true≢false (sym h ∙ ap is_some (get-below_root content p n r)))
 
-path_fits : (q : Path) → IsPath q → fits_path q ≡ true
+pub path_fits : (q : Path) → IsPath q → fits_path q ≡ true
 path_fits q h = ap₂ (λ a b. a && b) (deep (length q) h.not_deep) (long (length (path_spelling q)) h.not_long)
   where
     deep : (n : ℕ) → n ≤ 16 → nat_le n 16 ≡ true
@@ -55,7 +55,7 @@ path_fits q h = ap₂ (λ a b. a && b) (deep (length q) h.not_deep) (long (lengt
     long : (n : ℕ) → n ≤ 255 → nat_le n 255 ≡ true
     long n k = grind (arith, nat_tests)
 
-one_fits : (content : Content) → fits_content content ≡ true → fits_part (at_root content) ≡ true
+pub one_fits : (content : Content) → fits_content content ≡ true → fits_part (at_root content) ≡ true
 one_fits content h =
     part-pairs (at_root content) ∙ (ap (λ es. list_all (pair_fits es) es) (entries-one content) ∙ ap (λ b. (b && true) && true) h)
 

@@ -12,3 +12,4 @@ pub mod MeasureLemmas
 pub mod MakeLemmas
 pub mod ChangeLemmas
 pub mod CheckLemmas
+pub mod EmptyLemmas
