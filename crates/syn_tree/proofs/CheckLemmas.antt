@@ -15,7 +15,7 @@ use Rattle.syn_model.proofs.PathLemmas.{none_some, strip_prefix-append}
 use Rattle.syn_model.proofs.HistoryLemmas.{get-at_root, get-below_root}
 use Rattle.syn_model.proofs.TreeLemmas.{within}
 use Rattle.syn_tree.specs.Pairs.{Pairs, under, spelling_length}
-use Rattle.syn_tree.specs.Lists.{IsMeasured}
+use Rattle.syn_tree.specs.Lists.{IsMeasured, replace_refusal}
 use Rattle.syn_tree.proofs.RisingLemmas.{replaced}
 use Rattle.syn_tree.proofs.TreeLemmas.{entries-one, entries-absent, rising-entries}
 use Rattle.syn_tree.proofs.CountLemmas.{kids}
@@ -105,7 +105,7 @@ rest_fits t at h place =
     let room : has_room t at absent ≡ true = ap (λ b. is_present t at || (not b || nat_lt (kids (parent at) (entries t)) 256)) (ap is_some (get-entries absent root ∙ ap (find path_cmp root) none)) ∙ or_true (is_present t at) in
     fits-replaced t at absent h (part-pairs absent ∙ ap (λ es. list_all (pair_fits es) es) none) (ap (λ es. list_all (λ pair. fits_path pair.0) (under at es)) none) free.0 free.1
     ∙ ap₂ (λ a b. a && b) (ap₂ (λ a b. a && b) (less_nodes (length (replaced at (entries t) (entries absent))) (length (entries t)) fewer (sym (ap (λ n. nat_le n 1024) (len-entries t)) ∙ both.0))
-        (less_size (spelling_length (replaced at (entries t) (entries absent))) (spelling_length (entries t)) smaller both.1)) room
+    (less_size (spelling_length (replaced at (entries t) (entries absent))) (spelling_length (entries t)) smaller both.1)) room
 
 -- something was found exactly where something is
 pub found_present : {X : Type 0} (f : X → Content) (t : Tree) (p : Path) (o : Option X) → option_map f o ≡ get t p → is_some o ≡ is_present t p
@@ -114,3 +114,10 @@ found_present {X = X} f t p o e = mapped o ∙ ap is_some e
     mapped : (o : Option X) → is_some o ≡ is_some (option_map f o)
     mapped None = refl
     mapped (Some x) = refl
+
+pub replace_answer : (t : Tree) (p : Path) (u : Tree) → first_cause (place_causes t p) ≡ None → replace_refusal t p u ≡ (if fits_replica (replace t p u) then None else Some Full)
+replace_answer t p u place =
+    let free = place_free t p place in
+    ap (λ x. if x then Some Root else (if not (is_directory t (parent p)) then Some NoParent else (if not (fits_replica (replace t p u)) then Some Full else None))) free.0
+    ∙ (ap (λ x. if not x then Some NoParent else (if not (fits_replica (replace t p u)) then Some Full else None)) free.1
+    ∙ elim (fits_replica (replace t p u)) as (λ x. (if not x then Some Full else None) ≡ (if x then None else Some Full)) [ true ↦ refl | false ↦ refl ])

@@ -13,3 +13,4 @@ pub mod MakeLemmas
 pub mod ChangeLemmas
 pub mod CheckLemmas
 pub mod EmptyLemmas
+pub mod PlaceableLemmas

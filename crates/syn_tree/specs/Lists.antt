@@ -1,14 +1,14 @@
 -- What a tree shows of a directory, and what is measured before a change.
-use Rattle.std.specs.Prelude.{◌≡◌, ℕ, Bool, true, List, ◌++◌, map, Option, Some}
+use Rattle.std.specs.Prelude.{◌≡◌, ℕ, Bool, true, false, List, ◌++◌, map, Option, Some}
 use Rattle.std.specs.List.{list_all}
 use Rattle.std.specs.FinMap.{entries, len}
-use Rattle.syn_model.specs.Path.{Name, Path}
-use Rattle.syn_model.specs.Tree.{Tree, HasParents, is_directory_content}
-use Rattle.syn_model.specs.Limits.{children, fits_part, fits_path}
+use Rattle.syn_model.specs.Path.{Name, Path, IsPath}
+use Rattle.syn_model.specs.Tree.{Tree, HasParents, IsPart, is_directory_content}
+use Rattle.syn_model.specs.Limits.{children, fits_part, fits_path, fits_replica}
 use Rattle.syn_model.specs.Refusal.{Refusal, first_cause}
 use Rattle.syn_model.specs.Standing.{place_causes, full_causes}
 use Rattle.syn_model.specs.Tree as model
-use Rattle.syn_tree.specs.Pairs.{under, spelling_length}
+use Rattle.syn_tree.specs.Pairs.{Pairs, under, spelling_length}
 
 -- the names in a directory, each with whether it is a directory
 abbrev pub listing : Tree → Path → List (Name × Bool)
@@ -25,3 +25,15 @@ pub record IsMeasured (at : Path) (new : Tree) (nodes size : ℕ) : Type 0 where
   pub spelled : spelling_length (under at (entries new)) ≡ size
   pub limits : fits_part new ≡ true
   pub paths : list_all (λ pair. fits_path pair.0) (under at (entries new)) ≡ true
+
+-- the pairs are those of a part below the path, which keeps its own limits there
+pub record IsPlaceable (at : Path) (new : Tree) (pairs : Pairs) : Type 0 where
+  pub path : IsPath at
+  pub part : IsPart new
+  pub placed : pairs ≡ under at (entries new)
+  pub limits : fits_part new ≡ true
+  pub paths : list_all (λ pair. fits_path pair.0) (under at (entries new)) ≡ true
+
+-- no tree keeps its limits with the part at the path
+abbrev pub FitsNowhere : Path → Tree → Type 0
+FitsNowhere at new = (tree : Tree) → fits_replica (model.replace tree at new) ≡ false

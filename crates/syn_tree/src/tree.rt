@@ -14,7 +14,6 @@ ghost use Rattle.syn_tree.specs.Change.{IsPreparedFor, after_change};
 ghost use Rattle.syn_tree.specs.Lists.{listing, replace_refusal, IsMeasured};
 ghost use Rattle.syn_tree.specs.Refusals.{refusal_of, refusal_in};
 
-use crate::lawful::are_bytes;
 use crate::change::Change;
 use crate::content::{Content, Found};
 use crate::copies::{below, children, placed};
@@ -22,6 +21,7 @@ use crate::edit::Edit;
 use crate::entries::Entries;
 use crate::entry::Entry;
 use crate::error::TreeError;
+use crate::lawful::are_bytes;
 use crate::list::{
     LONGEST_FILE, LONGEST_SPELLING, MOST_CHILDREN, count_children, find, is_directory, measured,
     name_spelled, parent_names, part_at, spelled, splice,
