@@ -14,3 +14,4 @@ pub mod ChangeLemmas
 pub mod CheckLemmas
 pub mod EmptyLemmas
 pub mod PlaceableLemmas
+pub mod ListingLemmas

@@ -34,8 +34,8 @@ nowhere_paths at u h t =
     let es = entries t in
     let fit : Pair → Bool = λ pair. fits_path pair.0 in
     let none : fits_paths (replace t at u) ≡ false =
-        ap paths_fit (entries-replace t at u) ∙ (list_all-append fit (before at es) (under at (entries u) ++ behind at es)
-        ∙ (ap (λ b. paths_fit (before at es) && b) (list_all-append fit (under at (entries u)) (behind at es) ∙ ap (λ b. b && paths_fit (behind at es)) h) ∙ and_false (paths_fit (before at es)))) in
+    ap paths_fit (entries-replace t at u) ∙ (list_all-append fit (before at es) (under at (entries u) ++ behind at es)
+    ∙ (ap (λ b. paths_fit (before at es) && b) (list_all-append fit (under at (entries u)) (behind at es) ∙ ap (λ b. b && paths_fit (behind at es)) h) ∙ and_false (paths_fit (before at es)))) in
     ap (λ b. (nat_le (len (replace t at u)) 1024 && nat_le (tree_spelling_length (replace t at u)) greatest_spelling && fits_part (replace t at u)) && b) none
     ∙ and_false (nat_le (len (replace t at u)) 1024 && nat_le (tree_spelling_length (replace t at u)) greatest_spelling && fits_part (replace t at u))
 

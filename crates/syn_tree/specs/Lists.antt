@@ -1,10 +1,10 @@
 -- What a tree shows of a directory, and what is measured before a change.
-use Rattle.std.specs.Prelude.{◌≡◌, ℕ, Bool, true, false, List, ◌++◌, map, Option, Some}
+use Rattle.std.specs.Prelude.{◌≡◌, ℕ, Bool, true, false, List, ◌++◌, map, Option, Some, None, option_map, option_and_then, filter_map, if◌then◌else◌}
 use Rattle.std.specs.List.{list_all}
 use Rattle.std.specs.FinMap.{entries, len}
-use Rattle.syn_model.specs.Path.{Name, Path, IsPath}
-use Rattle.syn_model.specs.Tree.{Tree, HasParents, IsPart, is_directory_content}
-use Rattle.syn_model.specs.Limits.{children, fits_part, fits_path, fits_replica}
+use Rattle.syn_model.specs.Path.{Name, Path, IsPath, strip_prefix, is_root}
+use Rattle.syn_model.specs.Tree.{Tree, Pair, HasParents, IsPart, is_directory_content}
+use Rattle.syn_model.specs.Limits.{only_name, children, fits_part, fits_path, fits_replica}
 use Rattle.syn_model.specs.Refusal.{Refusal, first_cause}
 use Rattle.syn_model.specs.Standing.{place_causes, full_causes}
 use Rattle.syn_model.specs.Tree as model
@@ -37,3 +37,15 @@ pub record IsPlaceable (at : Path) (new : Tree) (pairs : Pairs) : Type 0 where
 -- no tree keeps its limits with the part at the path
 abbrev pub FitsNowhere : Path → Tree → Type 0
 FitsNowhere at new = (tree : Tree) → fits_replica (model.replace tree at new) ≡ false
+
+-- the names among the pairs that are children of the path, each with whether it is a directory
+abbrev pub child_names : Path → Pairs → List (Name × Bool)
+child_names path pairs =
+    filter_map (λ pair. option_map (λ name. (name, is_directory_content (Some pair.1))) (option_and_then only_name (strip_prefix path pair.0))) pairs
+
+-- a pair below the path, without the path before its own
+abbrev pub below_off : Path → Pair → Option Pair
+below_off at pair = option_and_then (λ rest. if is_root rest then None else Some (rest, pair.1)) (strip_prefix at pair.0)
+
+abbrev pub stripped : Path → Pairs → Pairs
+stripped at pairs = filter_map (below_off at) pairs

@@ -1,5 +1,5 @@
 //! Entries with another beginning of their paths.
-ghost use Rattle.std.specs.Prelude.{◌≡◌, ◌≢◌, ◌++◌, true, false, IfOk, IfErr, OnOk};
+ghost use Rattle.std.specs.Prelude.{◌≡◌, ◌≢◌, ◌++◌, ◌∷◌, [], true, false, IfOk, IfErr, OnOk};
 ghost use Rattle.std.specs.List.{list_all};
 ghost use Rattle.syn_model.specs.Path.{IsPath};
 ghost use Rattle.syn_model.specs.Tree.{file};
@@ -7,16 +7,17 @@ ghost use Rattle.syn_model.specs.Limits.{fits_path};
 ghost use Rattle.syn_tree.specs.Contents.{content_of, found_content};
 ghost use Rattle.syn_tree.specs.Nodes.{part_of};
 ghost use Rattle.syn_tree.specs.Pairs.{under};
-ghost use Rattle.syn_tree.specs.Lists.{IsPlaceable, FitsNowhere};
+ghost use Rattle.syn_tree.specs.Lists.{IsPlaceable, FitsNowhere, stripped, child_names};
 
 use crate::content::{Content, Found};
 use crate::entries::Entries;
 use crate::entry::Entry;
 use crate::error::TreeError;
 use crate::lawful::{are_bytes, is_path};
-use crate::list::{LONGEST_FILE, is_child};
+use crate::list::LONGEST_FILE;
 use crate::node::Node;
 use std::alloc::Global;
+use std::cmp::Ordering;
 use syn_path::{Name, Path, PathError};
 
 /// Equal names, put behind those that are there. Refused 11 where memory is refused, and for no other cause.
@@ -117,37 +118,74 @@ fn push_under(
     Ok(())
 }
 
-/// The entries below a path with so many names, without these.
-pub(crate) fn below(alloc: Global, list: &[Entry], depth: usize) -> Result<Vec<Entry>, TreeError> {
+/// The entries below the path, each without the path before its own. Refused 11 where memory is refused, and for no other cause.
+pub(crate) fn below(alloc: Global, list: &[Entry], at: &Path) -> Result<Vec<Entry>, TreeError>
+    ensures ok { IfOk result (λ copies. copies.items ≡ stripped at.now list.now) }
+    ensures memory { IfErr result (λ e. e ≡ TreeError.Memory) }
+{
     let mut copies = Vec::new(alloc);
     for entry in list {
-        let names = entry.path().names();
-        if names.len() > depth {
-            let path = joined(alloc, &[], &names[depth..])?;
-            let content = copy_content(alloc, entry.content())?;
-            copies.push(Entry::new(path, content))?;
-        }
+        push_below(alloc, &mut copies, at, entry)?;
     }
     Ok(copies)
 }
 
-/// The names in the directory of these names, each with whether it is a directory.
+/// Puts an entry below the path behind those that are there, without the path before its own.
+fn push_below(
+    alloc: Global,
+    copies: &mut Vec<Entry>,
+    at: &Path,
+    entry: &Entry,
+) -> Result<(), TreeError>
+    ensures ok { OnOk result (copies.new.items ≡ copies.old.items ++ stripped at.now (entry.now ∷ [])) }
+    ensures memory { IfErr result (λ e. e ≡ TreeError.Memory) }
+{
+    let names = entry.path().names();
+    let depth = at.names().len();
+    if names.len() <= depth || !at.is_prefix(entry.path()) {
+        return Ok(());
+    }
+    let (_, rest) = names.split_at(depth);
+    let path = joined(alloc, &[], rest)?;
+    let content = copy_content(alloc, entry.content())?;
+    copies.push(Entry::new(path, content))?;
+    Ok(())
+}
+
+/// The names in the directory of these names, each with whether it is a directory. Refused 11 where memory is refused.
 pub(crate) fn children(
     alloc: Global,
     list: &[Entry],
     above: &[Name],
-) -> Result<Vec<(Name, bool)>, TreeError> {
+) -> Result<Vec<(Name, bool)>, TreeError>
+    ensures ok { IfOk result (λ names. names.items ≡ child_names above.now list.now) }
+    ensures memory { IfErr result (λ e. e ≡ TreeError.Memory) }
+{
     let mut names = Vec::new(alloc);
     for entry in list {
-        if is_child(above, entry.path()) {
-            if let Some(name) = entry.path().names().last() {
-                let directory = match entry.content() {
-                    Found::Dir => true,
-                    Found::File(_) => false,
-                };
-                names.push((name.copy(alloc)?, directory))?;
-            }
-        }
+        push_child(alloc, &mut names, above, entry)?;
     }
     Ok(names)
+}
+
+/// Puts the name of an entry in the directory of these names behind those that are there.
+fn push_child(
+    alloc: Global,
+    names: &mut Vec<(Name, bool)>,
+    above: &[Name],
+    entry: &Entry,
+) -> Result<(), TreeError>
+    ensures ok { OnOk result (names.new.items ≡ names.old.items ++ child_names above.now (entry.now ∷ [])) }
+    ensures memory { IfErr result (λ e. e ≡ TreeError.Memory) }
+{
+    let is_directory = entry.content().is_directory();
+    match entry.path().names() {
+        [] => Ok(()),
+        [before @ .., name] => {
+            if before.cmp(&above) == Ordering::Equal {
+                names.push((name.copy(alloc)?, is_directory))?;
+            }
+            Ok(())
+        }
+    }
 }

@@ -2,7 +2,7 @@ ghost use Rattle.std.specs.Prelude.{◌≡◌, true, IfSome, IfNone, IsTrue, ◌
 ghost use Rattle.std.specs.FinMap.{entries};
 ghost use Rattle.syn_model.specs.Tree.{IsTree, empty_directory};
 ghost use Rattle.syn_model.specs.Limits.{fits_part, fits_paths};
-ghost use Rattle.syn_tree.specs.Pairs.{rooted};
+ghost use Rattle.syn_tree.specs.Pairs.{rooted, tree_with};
 ghost use Rattle.syn_tree.specs.Entries.{AreEntries};
 
 use crate::content::Found;
@@ -42,6 +42,14 @@ impl Entries {
         Entries {
             list: Vec::new(alloc),
         }
+    }
+
+    /// These entries, which are lawful.
+    pub(crate) fn lawful(list: Vec<Entry>) -> Entries
+        requires { AreEntries list.items }
+        ensures { result ≡ tree_with list.items }
+    {
+        Entries { list }
     }
 
     /// These entries, where they stand in path order, each below a directory, and keep the limits; else none.

@@ -316,8 +316,8 @@ impl Tree {
                 Ok(Some(Node::File(bytes)))
             }
             Some(Found::Dir) => {
-                let list = below(alloc, part_at(&self.list, path), path.names().len())?;
-                Ok(Entries::from_vec(list).map(Node::Dir))
+                let list = below(alloc, &self.list, path)?;
+                Ok(Some(Node::Dir(Entries::lawful(list))))
             }
         }
     }

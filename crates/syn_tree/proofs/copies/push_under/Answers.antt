@@ -47,9 +47,9 @@ returns-in_err-path-clause-full c =
     let lawful : IsPath x.0 = subst IsPath moved c.names-in-loop-entry.ensures.lawful in
     let parts = c.loop-entry.invariant.whole ∙ ap (λ xs. c.loop-entry.yielded ++ xs) c.in-Some.ensures.steps.0 in
     rw (p.1, p.2) (refused c.in_err-path.field-0.0 (λ bad.
-        ap (λ xs. paths_fit (under at xs)) parts
-        ∙ paths-fail at c.loop-entry.yielded x _ (no_path at x.0 c.names.ensures.lawful.names lawful.names
-            (subst (λ q. ¬ IsPath q) (ap₂ (λ y z. y ++ z) c.names.ensures.names below) (c.in_err-path.ensures.bad bad)) _ refl)))
+    ap (λ xs. paths_fit (under at xs)) parts
+    ∙ paths-fail at c.loop-entry.yielded x _ (no_path at x.0 c.names.ensures.lawful.names lawful.names
+    (subst (λ q. ¬ IsPath q) (ap₂ (λ y z. y ++ z) c.names.ensures.names below) (c.in_err-path.ensures.bad bad)) _ refl)))
 
 pub loop-entry-preserved : goal.loop-entry-preserved
 loop-entry-preserved c =

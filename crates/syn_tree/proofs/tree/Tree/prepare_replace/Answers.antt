@@ -19,7 +19,7 @@ returns-in_err-added-clause-refused c =
     let t = c.args.self.now in
     let place = sym c.check_place.ensures ∙ ap refusal_in c.in_ok-check_place.was in
     rw (p.1, p.2) (λ other. let full = c.in_err-added.ensures.full other in
-        replace_answer t c.args.path.now (part_of c.args.new) place ∙ (ap (λ b. if b then None else Some Full) (full.1 t) ∙ sym (ap (λ e. Some (refusal_of e)) full.0)))
+    replace_answer t c.args.path.now (part_of c.args.new) place ∙ (ap (λ b. if b then None else Some Full) (full.1 t) ∙ sym (ap (λ e. Some (refusal_of e)) full.0)))
 
 pub returns-in_default-clause-refused : goal.returns-in_default-clause-refused
 returns-in_default-clause-refused c other =
