@@ -15,3 +15,4 @@ pub mod CheckLemmas
 pub mod EmptyLemmas
 pub mod PlaceableLemmas
 pub mod ListingLemmas
+pub mod WholeLemmas

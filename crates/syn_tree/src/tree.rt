@@ -335,7 +335,10 @@ impl Tree {
             return Err(TreeError::Full);
         };
         let spelled = below + 3;
-        if list.len() > MOST_BELOW || spelled > LONGEST_SPELLING {
+        if spelled > LONGEST_SPELLING {
+            return Err(TreeError::Full);
+        }
+        if list.len() > MOST_BELOW {
             return Err(TreeError::Full);
         }
         list.reserve(MOST_BELOW - list.len())?;
