@@ -16,3 +16,4 @@ pub mod EmptyLemmas
 pub mod PlaceableLemmas
 pub mod ListingLemmas
 pub mod WholeLemmas
+pub mod StripLemmas

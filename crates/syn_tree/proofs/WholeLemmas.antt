@@ -46,7 +46,7 @@ module _ (u : Tree) (ds : Pairs) (all : rooted ds ≡ entries u) where
       ap (λ b. nat_le (len u) 1024 && b && fits_part u && fits_paths u) (ap (λ n. nat_le n 524288) size_of ∙ large (3 + spelling_length ds) (omega (arith, h)))
       ∙ ap (λ a. a && fits_part u && fits_paths u) (and_false (nat_le (len u) 1024))
 
-  whole_rising : AreRising (rooted ds)
+  pub whole_rising : AreRising (rooted ds)
   whole_rising = are_rising (rooted ds) (subst Rising (sym all) (rising-entries u))
 
   pub whole_tree : tree_with ds ≡ u

@@ -140,12 +140,13 @@ fn push_below(
     ensures ok { OnOk result (copies.new.items ≡ copies.old.items ++ stripped at.now (entry.now ∷ [])) }
     ensures memory { IfErr result (λ e. e ≡ TreeError.Memory) }
 {
-    let names = entry.path().names();
-    let depth = at.names().len();
-    if names.len() <= depth || !at.is_prefix(entry.path()) {
+    if !at.is_prefix(entry.path()) {
         return Ok(());
     }
-    let (_, rest) = names.split_at(depth);
+    let (_, rest) = entry.path().names().split_at(at.names().len());
+    if rest.is_empty() {
+        return Ok(());
+    }
     let path = joined(alloc, &[], rest)?;
     let content = copy_content(alloc, entry.content())?;
     copies.push(Entry::new(path, content))?;

@@ -1,22 +1,19 @@
-use Rattle.std.proofs.Common.{rules, ◌≡◌, ◌≢◌, ◌++◌, ◌∷◌, [], true, false, IfOk, IfErr, OnOk, ℕ, ◌+◌, ◌-◌, ◌*◌, ◌<◌, ◌≤◌, length, ◌/◌, ◌%◌, Bool, nat_eq, nat_lt, List, slice_index_or, slice_set, bit_and, bit_or, Fits, w8, w32, w64, Bor, MutBor}
-use Rattle.std.specs.List.{list_all}
-use Rattle.syn_model.specs.Path.{IsPath}
-use Rattle.syn_model.specs.Tree.{file}
-use Rattle.syn_model.specs.Limits.{fits_path}
-use Rattle.syn_tree.specs.Contents.{content_of, found_content}
-use Rattle.syn_tree.specs.Nodes.{part_of}
-use Rattle.syn_tree.specs.Pairs.{under}
-use Rattle.syn_tree.specs.Lists.{IsPlaceable, FitsNowhere, stripped, child_names}
+use Rattle.std.proofs.Common.{◌≡◌, ◌≤◌, ◌++◌, ◌∷◌, [], take, length, sym, ap, ◌∙◌, arith}
+use Rattle.std.proofs.Math.Seq.{take-length}
+use Rattle.syn_tree.specs.Lists.{stripped}
+use Rattle.syn_tree.proofs.StripLemmas.{strip_more}
 use Rattle.syn_tree.proofs.copies.below.Goals as goal
 
--- src/copies.rt:127:5
 pub loop-entry-init : goal.loop-entry-init
-loop-entry-init c = ?
+loop-entry-init c = c.new-copies.ensures.items
 
--- src/copies.rt:127:5
 pub loop-entry-preserved : goal.loop-entry-preserved
-loop-entry-preserved c = ?
+loop-entry-preserved c =
+    let at = c.args.at.now in
+    c.in_ok-push_below.ensures.ok ∙ (ap (λ xs. xs ++ stripped at (c.entry-item.result ∷ [])) c.loop-entry.invariant
+    ∙ sym (strip_more at c.args.list.now c.loop-entry.entry-index c.entry-item.result c.loop-entry-test.true c.entry-item.is))
 
--- src/copies.rt:122:1
 pub returns-clause-ok : goal.returns-clause-ok
-returns-clause-ok c = ?
+returns-clause-ok c =
+    let ended : c.loop-entry.entry-index ≡ length c.args.list.now = omega (arith, c.loop-entry-test.false, c.loop-entry.auto.entry-index-end) in
+    c.loop-entry.invariant ∙ ap (stripped c.args.at.now) (ap (λ n. take n c.args.list.now) ended ∙ take-length c.args.list.now)

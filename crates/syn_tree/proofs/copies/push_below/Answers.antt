@@ -1,18 +1,27 @@
-use Rattle.std.proofs.Common.{rules, ◌≡◌, ◌≢◌, ◌++◌, ◌∷◌, [], true, false, IfOk, IfErr, OnOk, ℕ, ◌+◌, ◌-◌, ◌*◌, ◌<◌, ◌≤◌, length, ◌/◌, ◌%◌, Bool, nat_eq, nat_lt, List, slice_index_or, slice_set, bit_and, bit_or, Fits, w8, w32, w64, Bor, MutBor}
-use Rattle.std.specs.List.{list_all}
-use Rattle.syn_model.specs.Path.{IsPath}
-use Rattle.syn_model.specs.Tree.{file}
-use Rattle.syn_model.specs.Limits.{fits_path}
-use Rattle.syn_tree.specs.Contents.{content_of, found_content}
-use Rattle.syn_tree.specs.Nodes.{part_of}
-use Rattle.syn_tree.specs.Pairs.{under}
-use Rattle.syn_tree.specs.Lists.{IsPlaceable, FitsNowhere, stripped, child_names}
+use Rattle.std.proofs.Common.{◌≡◌, ◌≤◌, ◌<◌, ◌+◌, ◌==◌, ◌++◌, ◌∷◌, [], true, false, drop, length, refl, sym, ap, ap₂, ◌∙◌, subst, append-nil, arith}
+use Rattle.std.proofs.lemmas.Result.{err_from_is_err_and}
+use Rattle.syn_model.specs.Path.{Path, IsPath, is_prefix}
+use Rattle.syn_model.specs.Tree.{Pair, Content}
+use Rattle.syn_tree.proofs.StripLemmas.{strip_beside, strip_itself, strip_below, prefix_shorter, prefix_whole, rest_lawful}
 use Rattle.syn_tree.proofs.copies.push_below.Goals as goal
 
--- src/copies.rt:146:9
-pub returns-then-names-depth-clause-ok : goal.returns-then-names-depth-clause-ok
-returns-then-names-depth-clause-ok c = ?
+pub returns-then-is_empty-clause-ok : goal.returns-then-is_empty-clause-ok
+returns-then-is_empty-clause-ok c =
+    let at = c.args.at.now in
+    let x = c.args.entry.now in
+    let inside = ap (is_prefix at) (sym c.path.ensures) ∙ (sym c.is_prefix.ensures.value ∙ c.if-not-is_prefix.false) in
+    let rest = c.split_at.ensures.back ∙ ap₂ drop (ap length c.names-2.ensures.names) (c.names.ensures.names ∙ c.path-2.ensures) in
+    let empty = ap (λ q. length q == 0) (sym rest) ∙ (sym c.is_empty.ensures ∙ c.if-is_empty.true) in
+    sym (ap (λ xs. c.args.copies.now.items ++ xs) (strip_itself at x inside empty) ∙ append-nil c.args.copies.now.items)
 
--- src/copies.rt:134:1
 pub returns-clause-ok : goal.returns-clause-ok
-returns-clause-ok c = ?
+returns-clause-ok c =
+    let at = c.args.at.now in
+    let x = c.args.entry.now in
+    let inside = ap (is_prefix at) (sym c.path.ensures) ∙ (sym c.is_prefix.ensures.value ∙ c.if-not-is_prefix.false) in
+    let rest = c.split_at.ensures.back ∙ ap₂ drop (ap length c.names-2.ensures.names) (c.names.ensures.names ∙ c.path-2.ensures) in
+    let some = ap (λ q. length q == 0) (sym rest) ∙ (sym c.is_empty.ensures ∙ c.if-is_empty.false) in
+    let path : c.in_ok-path.path ≡ drop (length at) x.0 = c.in_ok-path.ensures.ok.0 ∙ rest in
+    let content = c.in_ok-content.ensures.ok ∙ c.content.ensures in
+    let entry : c.new.result ≡ (drop (length at) x.0, x.1) = c.new.ensures ∙ ap₂ (λ (p : Path) (d : Content). (p, d)) path content in
+    c.in_ok-push.ensures.items ∙ ap (λ xs. c.args.copies.now.items ++ xs) (ap (λ (y : Pair). y ∷ []) entry ∙ sym (strip_below at x inside some))
