@@ -2,7 +2,7 @@
 use Rattle.std.proofs.Common.{◌≡◌, ◌≤◌, ◌<◌, ◌+◌, ℕ, suc, Bool, true, false, cond, not, ◌&&◌, ◌==◌, nat_le, if◌then◌else◌, List, [], ◌∷◌, ◌++◌, filter, filter_map, length, length-append, take, drop, refl, sym, ap, ap₂, ◌∙◌, subst, Option, Some, None, is_some, IsSome, slice_index_or, All, is_lt, append-nil, append_assoc, true≢false, arith}
 use Rattle.std.specs.Prelude.{option_map, option_and_then, flat_map}
 use Rattle.std.specs.List.{cons_option, list_all}
-use Rattle.std.specs.FinMap.{entries, get, get-entries, find}
+use Rattle.std.specs.FinMap.{entries, get, get-entries, get-empty, find}
 use Rattle.std.proofs.Math.Seq.{drop-append_seam}
 use Rattle.std.proofs.lemmas.Bool.{and_parts}
 use Rattle.std.proofs.lemmas.Bool.Decides.{nat_tests}
@@ -11,10 +11,12 @@ use Rattle.std.proofs.lemmas.List.{take_more}
 use Rattle.std.proofs.lemmas.List.Elements.{filter_map-append, All-drop}
 use Rattle.std.proofs.lemmas.List.Folds.{list_all-append}
 use Rattle.syn_model.specs.Path.{Name, Path, IsName, IsPath, path_cmp, root, is_root, strip_prefix, is_prefix, path_spelling}
-use Rattle.syn_model.specs.Tree.{Tree, Content, Pair, Directory, IsTree, IsPart, subtree, taken_off}
+use Rattle.syn_model.specs.Tree.{Tree, Content, Contents, Pair, Directory, File, HasParents, IsTree, IsPart, absent, at_root, subtree, taken_off, is_directory_content}
+use Rattle.syn_model.proofs.HistoryLemmas.{get-at_root}
+use Rattle.std.specs.Ordering.{eq_by_cmp}
 use Rattle.syn_model.specs.Limits.{fits_path, fits_content, fits_part, fits_paths}
 use Rattle.syn_model.proofs.PathLemmas.{strip_prefix-append, is_prefix-is, some_same, none_some}
-use Rattle.syn_model.proofs.TreeLemmas.{get-subtree}
+use Rattle.syn_model.proofs.TreeLemmas.{same_tree, get-subtree}
 use Rattle.syn_tree.specs.Pairs.{Pairs, rooted, is_within, before, within, behind, under}
 use Rattle.syn_tree.specs.Lists.{below_off, stripped}
 use Rattle.syn_tree.specs.Entries.{AreEntries}
@@ -191,3 +193,29 @@ stripped_lawful t at ds copies all tree part paths dir e =
       part = ap fits_part same ∙ subtree_part t at part;
       paths = ap fits_paths same ∙ subtree_paths t at paths;
     }
+
+none_of : (o : Option Content) → is_some o ≡ false → o ≡ None
+none_of None h = refl
+none_of (Some c) h = absurd (true≢false h)
+
+-- nothing stands below a path where no directory is
+nothing_below : (t : Tree) (at : Path) (n : Name) (r : Path) → HasParents t → is_directory_content (get t at) ≡ false → get t (at ++ n ∷ r) ≡ None
+nothing_below t at n r parents other = none_of (get t (at ++ n ∷ r)) (by_case (is_some (get t (at ++ n ∷ r))) refl)
+  where
+    by_case : (b : Bool) → is_some (get t (at ++ n ∷ r)) ≡ b → b ≡ false
+    by_case true e = absurd (true≢false (sym (ap is_directory_content (parents at n r e)) ∙ other))
+    by_case false e = refl
+
+pub subtree_none : (t : Tree) (at : Path) → HasParents t → get t at ≡ None → absent ≡ subtree t at
+subtree_none t at parents none = same_tree absent (subtree t at) (λ q. get-empty path_cmp q ∙ sym (get-subtree t at q ∙ by_path q))
+  where
+    by_path : (q : Path) → get t (at ++ q) ≡ None
+    by_path [] = ap (get t) (append-nil at) ∙ none
+    by_path (n ∷ r) = nothing_below t at n r parents (ap is_directory_content none)
+
+pub subtree_file : (t : Tree) (at : Path) (contents : Contents) → HasParents t → get t at ≡ Some (File contents) → at_root (File contents) ≡ subtree t at
+subtree_file t at contents parents here = same_tree (at_root (File contents)) (subtree t at) (λ q. get-at_root (File contents) q ∙ (by_path q ∙ sym (get-subtree t at q)))
+  where
+    by_path : (q : Path) → cond (eq_by_cmp path_cmp q root) (Some (File contents)) None ≡ get t (at ++ q)
+    by_path [] = sym (ap (get t) (append-nil at) ∙ here)
+    by_path (n ∷ r) = sym (nothing_below t at n r parents (ap is_directory_content here))
