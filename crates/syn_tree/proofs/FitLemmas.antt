@@ -29,7 +29,7 @@ all-same f g e (x ∷ xs) = ap₂ (λ a b. a && b) (e x) (all-same f g e xs)
 pub part-pairs : (t : Tree) → fits_part t ≡ list_all (pair_fits (entries t)) (entries t)
 part-pairs t = all-same (λ pair. fits_content pair.1 && nat_le (length (children t pair.0)) 256) (pair_fits (entries t)) (λ pair. ap (λ n. fits_content pair.1 && nat_le n 256) (length-children t pair.0)) (entries t)
 
-each_of : {X : Type 0} (p : X → Bool) (xs : List X) → list_all p xs ≡ true → Each p xs
+pub each_of : {X : Type 0} (p : X → Bool) (xs : List X) → list_all p xs ≡ true → Each p xs
 each_of p [] h = tt
 each_of p (x ∷ xs) h = let both = and_parts (p x) (list_all p xs) h in (both.0, each_of p xs both.1)
 
@@ -37,7 +37,7 @@ pub all_of : {X : Type 0} (p : X → Bool) (xs : List X) → Each p xs → list_
 all_of p [] h = refl
 all_of p (x ∷ xs) h = ap₂ (λ a b. a && b) h.0 (all_of p xs h.1)
 
-each-both : {X : Type 0} (P Q : X → Type 0) (xs : List X) → AllByRecursion P xs → AllByRecursion Q xs → AllByRecursion (λ x. P x × Q x) xs
+pub each-both : {X : Type 0} (P Q : X → Type 0) (xs : List X) → AllByRecursion P xs → AllByRecursion Q xs → AllByRecursion (λ x. P x × Q x) xs
 each-both P Q [] h k = tt
 each-both P Q (x ∷ xs) h k = ((h.0, k.0), each-both P Q xs h.1 k.1)
 

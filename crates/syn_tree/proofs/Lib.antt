@@ -17,3 +17,4 @@ pub mod PlaceableLemmas
 pub mod ListingLemmas
 pub mod WholeLemmas
 pub mod StripLemmas
+pub mod LawfulLemmas

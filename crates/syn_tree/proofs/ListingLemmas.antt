@@ -28,7 +28,7 @@ pub listed : (above path : Path) (k : ℕ) (name : Name) (x : Pair) → path ≡
     child_names above (x ∷ []) ≡ (name, is_directory_content (Some x.1)) ∷ []
 listed above path k name x is long last same =
     let whole : path ≡ above ++ name ∷ [] =
-        sym (take-length path) ∙ (ap (λ n. take n path) (sym long) ∙ (take_more path k name (omega (arith, long)) ∙ ap₂ (λ p n. p ++ n ∷ []) (same_path (take k path) above same) (sym last))) in
+    sym (take-length path) ∙ (ap (λ n. take n path) (sym long) ∙ (take_more path k name (omega (arith, long)) ∙ ap₂ (λ p n. p ++ n ∷ []) (same_path (take k path) above same) (sym last))) in
     let rest : strip_prefix above x.0 ≡ Some (name ∷ []) = ap (strip_prefix above) (sym is ∙ whole) ∙ strip_prefix-append above (name ∷ []) in
     ap (λ o. cons_option (option_map (λ n. (n, is_directory_content (Some x.1))) (option_and_then only_name o)) []) rest
 

@@ -1,13 +1,20 @@
-ghost use Rattle.std.specs.Prelude.{◌≡◌, true, IfSome, IfNone, IsTrue, ◌↔◌};
+ghost use Rattle.std.specs.Prelude.{◌≡◌, true, IfSome, IfNone, IsTrue};
 ghost use Rattle.std.specs.FinMap.{entries};
 ghost use Rattle.syn_model.specs.Tree.{IsTree, empty_directory};
 ghost use Rattle.syn_model.specs.Limits.{fits_part, fits_paths};
 ghost use Rattle.syn_tree.specs.Pairs.{rooted, tree_with};
-ghost use Rattle.syn_tree.specs.Entries.{AreEntries};
+ghost use Rattle.std.specs.List.{list_all};
+ghost use Rattle.syn_model.specs.Limits.{fits_content};
+ghost use Rattle.syn_tree.specs.Contents.{IsLawful};
+ghost use Rattle.syn_tree.specs.Pairs.{AreRising};
+ghost use Rattle.syn_tree.specs.Entries.{AreEntries, stands_in, IsLawfulPair, AreLawful};
 
 use crate::content::Found;
 use crate::entry::Entry;
-use crate::list::{LONGEST_FILE, MOST_CHILDREN, are_rising, count_children, is_directory};
+use crate::lawful::are_bytes;
+use crate::list::{
+    LONGEST_FILE, MOST_CHILDREN, are_rising, count_children, is_directory, parent_names,
+};
 use std::alloc::Global;
 use std::marker::Model;
 
@@ -27,7 +34,11 @@ impl Model for Entries {
     ghost coded = { coded_tree };
 
     ghost use Rattle.syn_tree.specs.Pairs.{tree_with};
-    ghost use Rattle.syn_tree.specs.Entries.{AreEntries};
+    ghost use Rattle.std.specs.List.{list_all};
+    ghost use Rattle.syn_model.specs.Limits.{fits_content};
+    ghost use Rattle.syn_tree.specs.Contents.{IsLawful};
+    ghost use Rattle.syn_tree.specs.Pairs.{AreRising};
+    ghost use Rattle.syn_tree.specs.Entries.{AreEntries, stands_in, IsLawfulPair, AreLawful};
 
     ghost view = { λ e. tree_with e.list.items };
 
@@ -57,11 +68,16 @@ impl Entries {
         ensures some { IfSome result (λ all. rooted list.items ≡ entries all) }
         ensures none { IfNone result (¬ AreEntries list.items) }
     {
-        if are_entries(&list) {
-            Some(Entries { list })
-        } else {
-            None
+        if !are_rising(&list) {
+            return None;
         }
+        if !all_stand(&list) {
+            return None;
+        }
+        if count_children(&list, &[]) > MOST_CHILDREN {
+            return None;
+        }
+        Some(Entries { list })
     }
 
     /// The entries in path order.
@@ -85,32 +101,42 @@ impl Entries {
     }
 }
 
-/// The entries make a tree within the limits of each file, directory and path.
-fn are_entries(list: &[Entry]) -> bool
-    ensures { IsTrue result ↔ AreEntries list.now }
+/// Each of the entries stands in a directory, and keeps the limits of a file and a directory.
+fn all_stand(list: &[Entry]) -> bool
+    requires { AreRising (rooted list.now) }
+    ensures value { result ≡ list_all (stands_in list.now) list.now }
+    ensures lawful { IsTrue result → AreLawful list.now }
 {
-    if !are_rising(list) {
-        return false;
-    }
     for entry in list {
         if !stands_among(list, entry) {
             return false;
         }
     }
-    count_children(list, &[]) <= MOST_CHILDREN
+    true
 }
 
-/// The entry stands in a directory, and keeps the limits of a file or a directory.
-fn stands_among(list: &[Entry], entry: &Entry) -> bool {
-    let names = entry.path().names();
-    let [above @ .., _] = names else {
-        return false;
-    };
-    if !is_directory(list, above) {
-        return false;
-    }
+/// The entry stands in a directory, and keeps the limits of a file and a directory.
+fn stands_among(list: &[Entry], entry: &Entry) -> bool
+    requires { AreRising (rooted list.now) }
+    ensures value { result ≡ stands_in list.now entry.now }
+    ensures lawful { IsLawfulPair entry.now }
+{
+    let placed = is_directory(list, parent_names(entry.path()));
+    let brief = is_brief(entry);
+    let few = count_children(list, entry.path().names()) <= MOST_CHILDREN;
+    placed && brief && few
+}
+
+/// The entry is a directory, or a file within its limit.
+fn is_brief(entry: &Entry) -> bool
+    ensures value { result ≡ fits_content entry.now.1 }
+    ensures lawful { IsLawful entry.now.1 }
+{
     match entry.content() {
-        Found::File(bytes) => bytes.len() <= LONGEST_FILE,
-        Found::Dir => count_children(list, names) <= MOST_CHILDREN,
+        Found::File(bytes) => {
+            are_bytes(bytes);
+            bytes.len() <= LONGEST_FILE
+        }
+        Found::Dir => true,
     }
 }

@@ -1,6 +1,6 @@
 //! Entries in path order.
 ghost use Rattle.std.specs.Prelude.{◌≡◌, ◌≤◌, ◌<◌, ◌+◌, ◌^◌, ◌++◌, ◌∷◌, length, count_by, option_map, IfSome, IfNone, IsTrue, ◌↔◌, vec_len, vec_capacity};
-ghost use Rattle.std.specs.Ordering.{eq_by_cmp};
+ghost use Rattle.std.specs.Ordering.{eq_by_cmp, is_lt};
 ghost use Rattle.std.specs.FinMap.{find};
 ghost use Rattle.syn_model.specs.Path.{path_cmp, parent, IsPath};
 ghost use Rattle.syn_model.specs.Tree.{is_directory_content};
@@ -28,12 +28,19 @@ pub(crate) fn are_rising(list: &[Entry]) -> bool
 {
     let mut last: &[Name] = &[];
     for entry in list {
-        if last.cmp(&entry.path().names()) != Ordering::Less {
+        if !comes_before(last, entry.path()) {
             return false;
         }
         last = entry.path().names();
     }
     true
+}
+
+/// The path of these names stands before the other.
+fn comes_before(names: &[Name], path: &Path) -> bool
+    ensures { result ≡ is_lt (path_cmp names.now path.now) }
+{
+    names.cmp(&path.names()) == Ordering::Less
 }
 
 /// The entry stands before the path of these names.

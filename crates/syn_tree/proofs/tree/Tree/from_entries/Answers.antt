@@ -21,7 +21,7 @@ invariant_of-result c =
     let same = c.in_ok-reserve.ensures.items in
     let size = c.in-Some.ensures.some.0 ∙ ap spelling_length (c.deref.ensures.value ∙ sym same) in
     let fits = whole_fits c.args.entries ds c.into_vec-list.ensures.all c.into_vec-list.ensures.part c.into_vec-list.ensures.paths
-        (omega (arith, c.if-len-gt-MOST_BELOW.false, c.len.ensures, c.into_vec-list.result.ok)) (omega (arith, c.in-Some.ensures.some.0 ∙ ap spelling_length c.deref.ensures.value, c.if-spelled-gt-LONGEST_SPELLING.false)) in
+    (omega (arith, c.if-len-gt-MOST_BELOW.false, c.len.ensures, c.into_vec-list.result.ok)) (omega (arith, c.in-Some.ensures.some.0 ∙ ap spelling_length c.deref.ensures.value, c.if-spelled-gt-LONGEST_SPELLING.false)) in
     whole_kept c.args.entries c.reserve.new.self.items (ap rooted same ∙ c.into_vec-list.ensures.all) _ _ c.into_vec-list.ensures.tree fits (ap (λ n. n + 3) size)
     (omega (arith, c.in_ok-reserve.ensures.ok, c.in_ok-reserve.ensures.len, c.len-2.ensures, c.len.ensures, c.if-len-gt-MOST_BELOW.false))
 
