@@ -72,17 +72,20 @@ module _ (ds : Pairs) (rising : AreRising (rooted ds)) where
 
   closed_of : list_all (stands_in ds) ds ≡ true → Closed
   unfolding Closed
-  closed_of h = (refl, each-map (λ e. stands_in ds e ≡ true) (λ e. find path_cmp (parent e.0) (rooted ds) ≡ Some Directory)
-      (λ e k. is_dir (find path_cmp (parent e.0) (rooted ds)) (and_parts (is_directory_content (find path_cmp (parent e.0) (rooted ds))) (fits_content e.1) (and_parts (is_directory_content (find path_cmp (parent e.0) (rooted ds)) && fits_content e.1) (nat_le (kids e.0 ds) 256) k).0).0)
-      ds (each_of (stands_in ds) ds h))
+  closed_of h = (
+    refl,
+    each-map (λ e. stands_in ds e ≡ true) (λ e. find path_cmp (parent e.0) (rooted ds) ≡ Some Directory)
+        (λ e k. is_dir (find path_cmp (parent e.0) (rooted ds)) (and_parts (is_directory_content (find path_cmp (parent e.0) (rooted ds))) (fits_content e.1) (and_parts (is_directory_content (find path_cmp (parent e.0) (rooted ds)) && fits_content e.1) (nat_le (kids e.0 ds) 256) k).0).0)
+        ds (each_of (stands_in ds) ds h),
+  )
 
   fits_of : list_all (stands_in ds) ds ≡ true → nat_le (kids [] ds) 256 ≡ true → fits_part (tree_with ds) ≡ true
   fits_of h few =
       part-pairs (tree_with ds) ∙ (ap (λ es. list_all (pair_fits es) es) (entries-with ds rising)
       ∙ ap₂ (λ a b. a && b) (ap (λ n. nat_le n 256) (kids_rooted [] ds) ∙ few) (all_of (pair_fits (rooted ds)) ds (each-map (λ e. stands_in ds e ≡ true) (λ e. pair_fits (rooted ds) e ≡ true)
-          (λ e k. let both = and_parts (is_directory_content (find path_cmp (parent e.0) (rooted ds)) && fits_content e.1) (nat_le (kids e.0 ds) 256) k in
-              ap₂ (λ a b. a && b) (and_parts (is_directory_content (find path_cmp (parent e.0) (rooted ds))) (fits_content e.1) both.0).1 (ap (λ n. nat_le n 256) (kids_rooted e.0 ds) ∙ both.1))
-          ds (each_of (stands_in ds) ds h))))
+      (λ e k. let both = and_parts (is_directory_content (find path_cmp (parent e.0) (rooted ds)) && fits_content e.1) (nat_le (kids e.0 ds) 256) k in
+      ap₂ (λ a b. a && b) (and_parts (is_directory_content (find path_cmp (parent e.0) (rooted ds))) (fits_content e.1) both.0).1 (ap (λ n. nat_le n 256) (kids_rooted e.0 ds) ∙ both.1))
+      ds (each_of (stands_in ds) ds h))))
 
   pub are_entries : AreLawful ds → list_all (stands_in ds) ds ≡ true → nat_le (kids [] ds) 256 ≡ true → AreEntries ds
   are_entries lawful h few = record {
@@ -95,11 +98,12 @@ module _ (ds : Pairs) (rising : AreRising (rooted ds)) where
 -- each of the pairs is found at its path
 each_found : (es : Pairs) → Rising es → AllByRecursion (λ e. find path_cmp e.0 es ≡ Some e.1) es
 each_found [] h = tt
-each_found (x ∷ es) h =
-    (ap (λ b. cond b (Some x.1) (find path_cmp x.0 es)) (path_itself x.0),
-     each-map (λ e. (path_cmp x.0 e.0 ≡ Less) × (find path_cmp e.0 es ≡ Some e.1)) (λ e. find path_cmp e.0 (x ∷ es) ≡ Some e.1)
-        (λ e k. ap (λ o. cond (is_eq o) (Some x.1) (find path_cmp e.0 es)) (path_total.antisymm e.0 x.0 ∙ ap ordering_reverse k.0) ∙ k.1)
-        es (each-both (λ e. path_cmp x.0 e.0 ≡ Less) (λ e. find path_cmp e.0 es ≡ Some e.1) es h.0 (each_found es h.1)))
+each_found (x ∷ es) h = (
+  ap (λ b. cond b (Some x.1) (find path_cmp x.0 es)) (path_itself x.0),
+  each-map (λ e. (path_cmp x.0 e.0 ≡ Less) × (find path_cmp e.0 es ≡ Some e.1)) (λ e. find path_cmp e.0 (x ∷ es) ≡ Some e.1)
+      (λ e k. ap (λ o. cond (is_eq o) (Some x.1) (find path_cmp e.0 es)) (path_total.antisymm e.0 x.0 ∙ ap ordering_reverse k.0) ∙ k.1)
+      es (each-both (λ e. path_cmp x.0 e.0 ≡ Less) (λ e. find path_cmp e.0 es ≡ Some e.1) es h.0 (each_found es h.1)),
+)
 
 below_root : (q : Path) → path_cmp root q ≡ Less → is_root q ≡ false
 below_root [] h = absurd (true≢false (sym (ap is_lt h)))
@@ -112,9 +116,10 @@ entries_stand ds h =
     let found = (each_found (rooted ds) rising).1 in
     let fits = each_of (pair_fits (rooted ds)) (rooted ds) (ap (λ es. list_all (pair_fits es) es) (sym (entries-with ds h.rising)) ∙ (sym (part-pairs (tree_with ds)) ∙ h.part)) in
     let here = each-both (λ e. path_cmp root e.0 ≡ Less) (λ e. (find path_cmp e.0 (rooted ds) ≡ Some e.1) × (pair_fits (rooted ds) e ≡ true)) ds rising.0
-        (each-both (λ e. find path_cmp e.0 (rooted ds) ≡ Some e.1) (λ e. pair_fits (rooted ds) e ≡ true) ds found fits.1) in
-    (all_of (stands_in ds) ds (each-map (λ e. (path_cmp root e.0 ≡ Less) × ((find path_cmp e.0 (rooted ds) ≡ Some e.1) × (pair_fits (rooted ds) e ≡ true))) (λ e. stands_in ds e ≡ true) (λ e k. one e k.0 k.1.0 k.1.1) ds here),
-     sym (ap (λ n. nat_le n 256) (kids_rooted [] ds)) ∙ (and_parts true (nat_le (kids [] (rooted ds)) 256) fits.0).1)
+    (each-both (λ e. find path_cmp e.0 (rooted ds) ≡ Some e.1) (λ e. pair_fits (rooted ds) e ≡ true) ds found fits.1) in (
+      all_of (stands_in ds) ds (each-map (λ e. (path_cmp root e.0 ≡ Less) × ((find path_cmp e.0 (rooted ds) ≡ Some e.1) × (pair_fits (rooted ds) e ≡ true))) (λ e. stands_in ds e ≡ true) (λ e k. one e k.0 k.1.0 k.1.1) ds here),
+      sym (ap (λ n. nat_le n 256) (kids_rooted [] ds)) ∙ (and_parts true (nat_le (kids [] (rooted ds)) 256) fits.0).1,
+    )
   where
     one : (e : Pair) → path_cmp root e.0 ≡ Less → find path_cmp e.0 (rooted ds) ≡ Some e.1 → pair_fits (rooted ds) e ≡ true → stands_in ds e ≡ true
     one e low there fit =

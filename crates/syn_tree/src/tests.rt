@@ -39,14 +39,14 @@ fn number(answer: Result<(), TreeError>) -> u8 {
 
 // The length of the spelling, counted anew.
 fn spelled(tree: &Tree) -> usize {
-    let mut size = 3;
+    let mut size: usize = 3;
     for entry in tree.entries() {
         if let Some(name) = entry.path().names().last() {
-            size += 1 + name.as_str().len();
+            size = size.wrapping_add(1).wrapping_add(name.as_str().len());
         }
         match entry.content() {
-            Found::File(bytes) => size += 5 + bytes.len(),
-            Found::Dir => size += 3,
+            Found::File(bytes) => size = size.wrapping_add(5).wrapping_add(bytes.len()),
+            Found::Dir => size = size.wrapping_add(3),
         }
     }
     size
@@ -200,9 +200,11 @@ fn a_subtree_is_put_elsewhere(rt: HostRuntime) -> Result<(), Fail> {
         printed(rt, &tree)?.as_str(),
         "d/ d/a/ d/a/c=5 d/b=3 e/ e/a/ e/a/c=5 e/b=3 "
     );
-    tree.replace(alloc, &d, tree.subtree(alloc, &Path::parse(alloc, "d/b")?)?)?;
+    let part = tree.subtree(alloc, &Path::parse(alloc, "d/b")?)?;
+    tree.replace(alloc, &d, part)?;
     assert_eq!(rt; printed(rt, &tree)?.as_str(), "d=3 e/ e/a/ e/a/c=5 e/b=3 ");
-    tree.replace(alloc, &d, tree.subtree(alloc, &Path::parse(alloc, "f")?)?)?;
+    let none = tree.subtree(alloc, &Path::parse(alloc, "f")?)?;
+    tree.replace(alloc, &d, none)?;
     assert_eq!(rt; printed(rt, &tree)?.as_str(), "e/ e/a/ e/a/c=5 e/b=3 ");
     assert_eq!(rt; number(tree.replace(alloc, &Path::root(alloc), None)), 6);
     assert_eq!(rt;

@@ -22,9 +22,10 @@ loop-entry-preserved c =
     let i = c.loop-entry.entry-index in
     let x = c.entry-item.result in
     let stands = ap (stands_in list) (sym c.entry-item.is) ∙ (sym c.stands_among.ensures.value ∙ c.if-not-stands_among.false) in
-    let more = take_more list i x c.loop-entry-test.true ∙ ap (λ y. take i list ++ y ∷ []) (sym c.entry-item.is) in
-    (list_all_more (stands_in list) list i x c.loop-entry-test.true ∙ ap₂ (λ a b. a && b) c.loop-entry.invariant.0 stands,
-     subst AreLawful (sym more) (each-append IsLawfulPair (take i list) (x ∷ []) c.loop-entry.invariant.1 (c.stands_among.ensures.lawful, tt)))
+    let more = take_more list i x c.loop-entry-test.true ∙ ap (λ y. take i list ++ y ∷ []) (sym c.entry-item.is) in (
+      list_all_more (stands_in list) list i x c.loop-entry-test.true ∙ ap₂ (λ a b. a && b) c.loop-entry.invariant.0 stands,
+      subst AreLawful (sym more) (each-append IsLawfulPair (take i list) (x ∷ []) c.loop-entry.invariant.1 (c.stands_among.ensures.lawful, tt)),
+    )
 
 pub returns-clause-value : goal.returns-clause-value
 returns-clause-value c =

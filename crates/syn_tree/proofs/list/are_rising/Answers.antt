@@ -24,9 +24,10 @@ loop-entry-preserved c =
     let x = c.entry-item.result in
     let less = less_of (path_cmp c.loop-entry.last.now x.0) (ap (λ p. is_lt (path_cmp c.loop-entry.last.now p)) (sym c.path.ensures) ∙ (sym c.comes_before.ensures ∙ c.if-not-comes_before.false)) in
     let more = ap rooted (take_more list c.loop-entry.entry-index x c.loop-entry-test.true ∙ ap (λ y. take c.loop-entry.entry-index list ++ y ∷ []) (sym c.entry-item.is)) in
-    let last = c.names-last.ensures.names ∙ c.path-in-loop-entry.ensures in
-    (record { front = rooted (take c.loop-entry.entry-index list); content = x.1; parts = more ∙ ap (λ p. rooted (take c.loop-entry.entry-index list) ++ (p, x.1) ∷ []) (sym last) },
-     subst Rising (sym more) (rising-more (rooted (take c.loop-entry.entry-index list)) c.loop-entry.last.now x c.loop-entry.invariant.1 c.loop-entry.invariant.0 less))
+    let last = c.names-last.ensures.names ∙ c.path-in-loop-entry.ensures in (
+      record { front = rooted (take c.loop-entry.entry-index list); content = x.1; parts = more ∙ ap (λ p. rooted (take c.loop-entry.entry-index list) ++ (p, x.1) ∷ []) (sym last) },
+      subst Rising (sym more) (rising-more (rooted (take c.loop-entry.entry-index list)) c.loop-entry.last.now x c.loop-entry.invariant.1 c.loop-entry.invariant.0 less),
+    )
 
 pub returns : goal.returns
 returns c =
