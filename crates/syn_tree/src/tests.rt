@@ -144,7 +144,10 @@ fn a_tree_keeps_its_limits(rt: HostRuntime) -> Result<(), Fail> {
     }
     // 3 bytes for the root, 8 and the bytes for each file
     let left = 524_280_usize.wrapping_sub(large.spelling_length());
-    assert_eq!(rt; applied(rt, &mut large, put(rt, "xx", left + 1)?)?, 7);
+    assert_eq!(rt;
+        applied(rt, &mut large, put(rt, "xx", left.wrapping_add(1))?)?,
+        7
+    );
     assert_eq!(rt; applied(rt, &mut large, put(rt, "xx", left)?)?, 0);
     assert_eq!(rt; large.spelling_length(), 524_288);
     Ok(())
