@@ -1,0 +1,57 @@
+-- What stands at a path, where the pairs before it are counted.
+use Rattle.std.proofs.Common.{◌≡◌, ◌≢◌, ◌<◌, ◌+◌, ℕ, zero, suc, Bool, true, false, cond, List, [], ◌∷◌, length, slice_index_or, refl, sym, ap, ◌∙◌, subst, Option, Some, None, Ordering, Less, Equal, Greater, is_lt, is_eq, true≢false, arith}
+use Rattle.std.specs.Ordering.{eq_by_cmp, ordering_reverse}
+use Rattle.std.specs.FinMap.{find}
+use Rattle.syn_model.specs.Path.{Name, Path, path_cmp}
+use Rattle.syn_model.specs.Tree.{Pair, Content}
+use Rattle.syn_model.proofs.PathLemmas.{path_total, same_path, path_itself}
+use Rattle.syn_tree.specs.Pairs.{Pairs, is_before, before}
+use Rattle.syn_tree.proofs.OrderLemmas.{less_of}
+use Rattle.syn_tree.proofs.RisingLemmas.{Rising, After, none_before, filter-drops, each-map}
+
+-- nothing is found where each path comes later
+pub find_after : (q : Path) (es : Pairs) → After q es → find path_cmp q es ≡ None
+find_after q [] h = refl
+find_after q (e ∷ es) h = ap (λ o. cond (is_eq o) (Some e.1) (find path_cmp q es)) h.0 ∙ find_after q es h.1
+
+-- a pair that stands before is not the one that is sought
+pub find_later : (q : Path) (e : Pair) (es : Pairs) → is_before q e ≡ true → find path_cmp q (e ∷ es) ≡ find path_cmp q es
+find_later q e es h = ap (λ o. cond (is_eq o) (Some e.1) (find path_cmp q es)) (path_total.antisymm q e.0 ∙ ap ordering_reverse (less_of (path_cmp e.0 q) h))
+
+after_more : (q p : Path) (es : Pairs) → path_cmp q p ≡ Less → After p es → After q es
+after_more q p es less h = each-map (λ e. path_cmp p e.0 ≡ Less) (λ e. path_cmp q e.0 ≡ Less) (λ e k. path_total.trans q p e.0 less k) es h
+
+none_there : (q : Path) (e : Pair) (es : Pairs) → After e.0 es → is_before q e ≡ false → before q es ≡ []
+none_there q e es h low = filter-drops (is_before q) es (none_before q e.0 es h low)
+
+pub found : (q : Path) (es : Pairs) (d : Pair) → Rising es → length (before q es) < length es → (slice_index_or es (length (before q es)) d).0 ≡ q → find path_cmp q es ≡ Some (slice_index_or es (length (before q es)) d).1
+found q [] d h l e = absurd (omega arith)
+found q (x ∷ es) d h l e =
+    elim (is_before q x) as (λ b. is_before q x ≡ b → length (cond b (x ∷ before q es) (before q es)) < suc (length es) → (slice_index_or (x ∷ es) (length (cond b (x ∷ before q es) (before q es))) d).0 ≡ q → find path_cmp q (x ∷ es) ≡ Some (slice_index_or (x ∷ es) (length (cond b (x ∷ before q es) (before q es))) d).1) [
+      | true ↦ λ less l e. find_later q x es less ∙ found q es d h.1 (omega arith) e
+      | false ↦ λ low l e.
+          let none = ap length (none_there q x es h.0 low) in
+          let same : x.0 ≡ q = sym (ap (λ n. (slice_index_or (x ∷ es) n d).0) none) ∙ e in
+          ap (λ b. cond b (Some x.1) (find path_cmp q es)) (ap (eq_by_cmp path_cmp q) same ∙ path_itself q) ∙ sym (ap (λ n. Some (slice_index_or (x ∷ es) n d).1) none)
+    ] refl l e
+
+pub missing : (q : Path) (es : Pairs) (d : Pair) → Rising es → (length (before q es) < length es → (slice_index_or es (length (before q es)) d).0 ≢ q) → find path_cmp q es ≡ None
+missing q [] d h e = refl
+missing q (x ∷ es) d h e =
+    elim (is_before q x) as (λ b. is_before q x ≡ b → (length (cond b (x ∷ before q es) (before q es)) < suc (length es) → (slice_index_or (x ∷ es) (length (cond b (x ∷ before q es) (before q es))) d).0 ≢ q) → find path_cmp q (x ∷ es) ≡ None) [
+      | true ↦ λ less e. find_later q x es less ∙ missing q es d h.1 (λ l. e (omega arith))
+      | false ↦ λ low e.
+          let none = ap length (none_there q x es h.0 low) in
+          let other : x.0 ≢ q = λ same. e (omega (arith, none)) (ap (λ n. (slice_index_or (x ∷ es) n d).0) none ∙ same) in
+          different (eq_by_cmp path_cmp q x.0) refl other ∙ find_after q es (later (path_cmp q x.0) refl low other)
+    ] refl e
+  where
+    different : (b : Bool) → eq_by_cmp path_cmp q x.0 ≡ b → x.0 ≢ q → find path_cmp q (x ∷ es) ≡ find path_cmp q es
+    different true same other = absurd (other (sym (same_path q x.0 same)))
+    different false same other = ap (λ b. cond b (Some x.1) (find path_cmp q es)) same
+
+    -- it comes later, and so do all behind it
+    later : (o : Ordering) → path_cmp q x.0 ≡ o → is_before q x ≡ false → x.0 ≢ q → After q es
+    later Less less low other = after_more q x.0 es less h.0
+    later Equal same low other = absurd (other (sym (same_path q x.0 (ap is_eq same))))
+    later Greater more low other = absurd (true≢false (sym (ap is_lt (path_total.antisymm x.0 q ∙ ap ordering_reverse more)) ∙ low))

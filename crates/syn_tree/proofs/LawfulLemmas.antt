@@ -1,0 +1,167 @@
+-- Entries that were looked at one by one make a lawful whole, and a lawful whole passes.
+use Rattle.std.proofs.Common.{◌≡◌, ◌≤◌, ◌<◌, ◌+◌, ℕ, zero, suc, Bool, true, false, cond, not, ◌&&◌, nat_le, List, [], ◌∷◌, ◌++◌, length, length-append, take, refl, sym, ap, ap₂, ◌∙◌, subst, Option, Some, None, is_some, IsSome, slice_index_or, Ordering, Less, is_lt, is_eq, drop, All, append-nil, append_assoc, true≢false, arith}
+use Rattle.std.specs.List.{list_all, AllByRecursion}
+use Rattle.std.specs.Ordering.{eq_by_cmp, ordering_reverse}
+use Rattle.std.specs.FinMap.{find, entries, get, get-entries}
+use Rattle.std.proofs.lemmas.Bool.{and_parts}
+use Rattle.std.proofs.lemmas.List.{take_more, take-append-drop}
+use Rattle.std.proofs.lemmas.List.Elements.{All-nil}
+use Rattle.syn_model.specs.Path.{Name, Path, IsName, IsPath, path_cmp, root, is_root, parent}
+use Rattle.syn_model.specs.Tree.{Tree, Content, Contents, Pair, Directory, File, IsTree, IsPart, HasParents, is_directory_content}
+use Rattle.syn_model.specs.Event.{AreBytes}
+use Rattle.syn_model.specs.Limits.{fits_content, fits_path, fits_part, fits_paths}
+use Rattle.syn_model.proofs.PathLemmas.{path_total, same_path, some_same, none_some, path_itself, parent-append}
+use Rattle.syn_tree.specs.Contents.{IsLawful}
+use Rattle.syn_tree.specs.Pairs.{Pairs, rooted, tree_with, AreRising}
+use Rattle.syn_tree.specs.Entries.{AreEntries, stands_in, IsLawfulPair, AreLawful}
+use Rattle.syn_tree.proofs.RisingLemmas.{Rising, After, rising_of, are_rising, rising-append, Each, each-map, each-append}
+use Rattle.syn_tree.proofs.FindLemmas.{find_after}
+use Rattle.syn_tree.proofs.TreeLemmas.{entries-with, get-with}
+use Rattle.syn_tree.proofs.CountLemmas.{kids, child_is, child_of_parent}
+use Rattle.syn_tree.proofs.FitLemmas.{part-pairs, pair_fits, all_of, each_of, each-both, is_dir}
+use Rattle.syn_tree.proofs.PartLemmas.{kids_rooted}
+use Rattle.syn_tree.proofs.CheckLemmas.{path_fits}
+
+-- what holds of each pair holds of what is found
+each-find : (P : Path → Content → Type 0) (q : Path) (c : Content) (es : Pairs) → AllByRecursion (λ e. P e.0 e.1) es → find path_cmp q es ≡ Some c → P q c
+each-find P q c [] h e = absurd (none_some e)
+each-find P q c (x ∷ es) h e = by_path (eq_by_cmp path_cmp q x.0) refl (each-find P q c es h.1) e
+  where
+    by_path : (b : Bool) → eq_by_cmp path_cmp q x.0 ≡ b → (find path_cmp q es ≡ Some c → P q c) → cond b (Some x.1) (find path_cmp q es) ≡ Some c → P q c
+    by_path true same rest is = subst (λ p. P p c) (sym (same_path q x.0 same)) (subst (P x.0) (some_same is) h.0)
+    by_path false same rest is = rest is
+
+content_or : Option Content → Content
+content_or None = Directory
+content_or (Some c) = c
+
+some_is : (o : Option Content) → is_some o ≡ true → o ≡ Some (content_or o)
+unfolding content_or
+some_is None h = absurd (true≢false (sym h))
+some_is (Some c) h = refl
+
+length_parent : (m : Name) (w : Path) → suc (length (parent (m ∷ w))) ≡ length (m ∷ w)
+length_parent m [] = refl
+length_parent m (n ∷ w) = ap suc (length_parent n w)
+
+module _ (ds : Pairs) (rising : AreRising (rooted ds)) where
+  -- each path but the root has its parent
+  Closed : Type 0
+  Closed = AllByRecursion (λ e. find path_cmp (parent e.0) (rooted ds) ≡ Some Directory) (rooted ds)
+
+  parent_of : Closed → (q : Path) → IsSome (find path_cmp q (rooted ds)) → find path_cmp (parent q) (rooted ds) ≡ Some Directory
+  unfolding Closed
+  parent_of h q is = each-find (λ p c. find path_cmp (parent p) (rooted ds) ≡ Some Directory) q (content_or (find path_cmp q (rooted ds))) (rooted ds) h (some_is (find path_cmp q (rooted ds)) is)
+
+  climbs : Closed → (k : ℕ) (p : Path) (n : Name) (w : Path) → length w ≡ k → IsSome (find path_cmp (p ++ n ∷ w) (rooted ds)) → find path_cmp p (rooted ds) ≡ Some Directory
+  climbs h k p n [] e is = ap (λ q. find path_cmp q (rooted ds)) (sym (parent-append p n [] ∙ append-nil p)) ∙ parent_of h (p ++ n ∷ []) is
+  climbs h zero p n (m ∷ w) e is = absurd (omega arith)
+  climbs h (suc k) p n (m ∷ w) e is =
+      let up : find path_cmp (p ++ n ∷ parent (m ∷ w)) (rooted ds) ≡ Some Directory = ap (λ q. find path_cmp q (rooted ds)) (sym (parent-append p n (m ∷ w))) ∙ parent_of h (p ++ n ∷ m ∷ w) is in
+      climbs h k p n (parent (m ∷ w)) (let long = length_parent m w in omega (arith, long, e)) (ap is_some up)
+
+  lawful_tree : Closed → AreLawful ds → IsTree (tree_with ds)
+  lawful_tree h lawful = record {
+    rooted = get-with ds root rising;
+    part = record {
+      parents = λ p n r is. get-with ds p rising ∙ climbs h (length r) p n r refl (subst IsSome (get-with ds (p ++ n ∷ r) rising) is);
+      names = λ p is. each-find (λ q c. All IsName q) p (content_or (find path_cmp p (rooted ds))) (rooted ds) (All-nil IsName, each-map IsLawfulPair (λ e. All IsName e.0) (λ e k. k.0.names) ds lawful) (some_is (find path_cmp p (rooted ds)) (subst IsSome (get-with ds p rising) is));
+      bytes = λ p contents is. each-find (λ q c. IsLawful c) p (File contents) (rooted ds) (tt, each-map IsLawfulPair (λ e. IsLawful e.1) (λ e k. k.1) ds lawful) (sym (get-with ds p rising) ∙ is);
+    };
+  }
+
+  closed_of : list_all (stands_in ds) ds ≡ true → Closed
+  unfolding Closed
+  closed_of h = (
+    refl,
+    each-map (λ e. stands_in ds e ≡ true) (λ e. find path_cmp (parent e.0) (rooted ds) ≡ Some Directory)
+        (λ e k. is_dir (find path_cmp (parent e.0) (rooted ds)) (and_parts (is_directory_content (find path_cmp (parent e.0) (rooted ds))) (fits_content e.1) (and_parts (is_directory_content (find path_cmp (parent e.0) (rooted ds)) && fits_content e.1) (nat_le (kids e.0 ds) 256) k).0).0)
+        ds (each_of (stands_in ds) ds h),
+  )
+
+  fits_of : list_all (stands_in ds) ds ≡ true → nat_le (kids [] ds) 256 ≡ true → fits_part (tree_with ds) ≡ true
+  fits_of h few =
+      part-pairs (tree_with ds) ∙ (ap (λ es. list_all (pair_fits es) es) (entries-with ds rising)
+      ∙ ap₂ (λ a b. a && b) (ap (λ n. nat_le n 256) (kids_rooted [] ds) ∙ few) (all_of (pair_fits (rooted ds)) ds (each-map (λ e. stands_in ds e ≡ true) (λ e. pair_fits (rooted ds) e ≡ true)
+      (λ e k. let both = and_parts (is_directory_content (find path_cmp (parent e.0) (rooted ds)) && fits_content e.1) (nat_le (kids e.0 ds) 256) k in
+      ap₂ (λ a b. a && b) (and_parts (is_directory_content (find path_cmp (parent e.0) (rooted ds))) (fits_content e.1) both.0).1 (ap (λ n. nat_le n 256) (kids_rooted e.0 ds) ∙ both.1))
+      ds (each_of (stands_in ds) ds h))))
+
+  pub are_entries : AreLawful ds → list_all (stands_in ds) ds ≡ true → nat_le (kids [] ds) 256 ≡ true → AreEntries ds
+  are_entries lawful h few = record {
+    rising = rising;
+    tree = lawful_tree (closed_of h) lawful;
+    part = fits_of h few;
+    paths = ap (list_all (λ pair. fits_path pair.0)) (entries-with ds rising) ∙ all_of (λ pair. fits_path pair.0) ds (each-map IsLawfulPair (λ e. fits_path e.0 ≡ true) (λ e k. path_fits e.0 k.0) ds lawful);
+  }
+
+-- each of the pairs is found at its path
+each_found : (es : Pairs) → Rising es → AllByRecursion (λ e. find path_cmp e.0 es ≡ Some e.1) es
+each_found [] h = tt
+each_found (x ∷ es) h = (
+  ap (λ b. cond b (Some x.1) (find path_cmp x.0 es)) (path_itself x.0),
+  each-map (λ e. (path_cmp x.0 e.0 ≡ Less) × (find path_cmp e.0 es ≡ Some e.1)) (λ e. find path_cmp e.0 (x ∷ es) ≡ Some e.1)
+      (λ e k. ap (λ o. cond (is_eq o) (Some x.1) (find path_cmp e.0 es)) (path_total.antisymm e.0 x.0 ∙ ap ordering_reverse k.0) ∙ k.1)
+      es (each-both (λ e. path_cmp x.0 e.0 ≡ Less) (λ e. find path_cmp e.0 es ≡ Some e.1) es h.0 (each_found es h.1)),
+)
+
+below_root : (q : Path) → path_cmp root q ≡ Less → is_root q ≡ false
+below_root [] h = absurd (true≢false (sym (ap is_lt h)))
+below_root (n ∷ q) h = refl
+
+-- a lawful whole passes
+pub entries_stand : (ds : Pairs) → AreEntries ds → (list_all (stands_in ds) ds ≡ true) × (nat_le (kids [] ds) 256 ≡ true)
+entries_stand ds h =
+    let rising = rising_of (rooted ds) h.rising in
+    let found = (each_found (rooted ds) rising).1 in
+    let fits = each_of (pair_fits (rooted ds)) (rooted ds) (ap (λ es. list_all (pair_fits es) es) (sym (entries-with ds h.rising)) ∙ (sym (part-pairs (tree_with ds)) ∙ h.part)) in
+    let here = each-both (λ e. path_cmp root e.0 ≡ Less) (λ e. (find path_cmp e.0 (rooted ds) ≡ Some e.1) × (pair_fits (rooted ds) e ≡ true)) ds rising.0
+    (each-both (λ e. find path_cmp e.0 (rooted ds) ≡ Some e.1) (λ e. pair_fits (rooted ds) e ≡ true) ds found fits.1) in (
+      all_of (stands_in ds) ds (each-map (λ e. (path_cmp root e.0 ≡ Less) × ((find path_cmp e.0 (rooted ds) ≡ Some e.1) × (pair_fits (rooted ds) e ≡ true))) (λ e. stands_in ds e ≡ true) (λ e k. one e k.0 k.1.0 k.1.1) ds here),
+      sym (ap (λ n. nat_le n 256) (kids_rooted [] ds)) ∙ (and_parts true (nat_le (kids [] (rooted ds)) 256) fits.0).1,
+    )
+  where
+    one : (e : Pair) → path_cmp root e.0 ≡ Less → find path_cmp e.0 (rooted ds) ≡ Some e.1 → pair_fits (rooted ds) e ≡ true → stands_in ds e ≡ true
+    one e low there fit =
+        let split = child_is (parent e.0) e.0 (child_of_parent e.0 (below_root e.0 low)) in
+        let some : IsSome (get (tree_with ds) (parent e.0 ++ split.0 ∷ [])) = ap is_some (ap (get (tree_with ds)) (sym split.1) ∙ (get-with ds e.0 h.rising ∙ there)) in
+        let up = sym (get-with ds (parent e.0) h.rising) ∙ h.tree.part.parents (parent e.0) split.0 [] some in
+        let both = and_parts (fits_content e.1) (nat_le (kids e.0 (rooted ds)) 256) fit in
+        ap₂ (λ a b. a && b) (ap₂ (λ a b. a && b) (ap is_directory_content up) both.0) (sym (ap (λ n. nat_le n 256) (kids_rooted e.0 ds)) ∙ both.1)
+
+-- the last of the pairs
+pub record IsLast (pairs : Pairs) (last : Path) : Type 0 where
+  pub front : Pairs
+  pub content : Content
+  pub parts : pairs ≡ front ++ (last, content) ∷ []
+
+after_last : (p : Path) (front : Pairs) (last : Path) (c : Content) → After p (front ++ (last, c) ∷ []) → path_cmp p last ≡ Less
+after_last p [] last c h = h.0
+after_last p (e ∷ front) last c h = after_last p front last c h.1
+
+all_before : (q last : Path) (c : Content) (front : Pairs) → Rising (front ++ (last, c) ∷ []) → path_cmp last q ≡ Less → AllByRecursion (λ e. path_cmp e.0 q ≡ Less) (front ++ (last, c) ∷ [])
+all_before q last c [] h k = (k, tt)
+all_before q last c (e ∷ front) h k = (path_total.trans e.0 last q (after_last e.0 front last c h.0) k, all_before q last c front h.1 k)
+
+pub rising-more : (es : Pairs) (last : Path) (x : Pair) → Rising es → IsLast es last → path_cmp last x.0 ≡ Less → Rising (es ++ x ∷ [])
+rising-more es last x h is k =
+    rising-append es (x ∷ []) h (tt, tt)
+    (each-map (λ e. path_cmp e.0 x.0 ≡ Less) (λ e. After e.0 (x ∷ [])) (λ e l. (l, tt)) es (subst (AllByRecursion (λ e. path_cmp e.0 x.0 ≡ Less)) (sym is.parts) (all_before x.0 last is.content is.front (subst Rising is.parts h) k)))
+
+rising_front : (xs ys : Pairs) → Rising (xs ++ ys) → Rising xs
+rising_front [] ys h = tt
+rising_front (x ∷ xs) ys h = (after_front x.0 xs ys h.0, rising_front xs ys h.1)
+  where
+    after_front : (p : Path) (xs ys : Pairs) → After p (xs ++ ys) → After p xs
+    after_front p [] ys h = tt
+    after_front p (x ∷ xs) ys h = (h.0, after_front p xs ys h.1)
+
+next_less : (front : Pairs) (last : Path) (c : Content) (x : Pair) → Rising ((front ++ (last, c) ∷ []) ++ x ∷ []) → path_cmp last x.0 ≡ Less
+next_less [] last c x h = h.0.0
+next_less (e ∷ front) last c x h = next_less front last c x h.1
+
+-- a pair behind the last of those before it
+pub rising-next : (list : Pairs) (i : ℕ) (x : Pair) (last : Path) → i < length list → x ≡ slice_index_or list i x → IsLast (rooted (take i list)) last → AreRising (rooted list) → path_cmp last x.0 ≡ Less
+rising-next list i x last l is before rising =
+    let parts : list ≡ (take i list ++ x ∷ []) ++ drop (i + 1) list = sym (take-append-drop (i + 1) list) ∙ ap (λ xs. xs ++ drop (i + 1) list) (take_more list i x l ∙ ap (λ y. take i list ++ y ∷ []) (sym is)) in
+    next_less before.front last before.content x (subst Rising (ap (λ xs. xs ++ x ∷ []) before.parts) (rising_front (rooted (take i list) ++ x ∷ []) (drop (i + 1) list) (subst Rising (ap rooted parts) (rising_of (rooted list) rising))))

@@ -1,0 +1,27 @@
+use Rattle.std.proofs.Common.{◌≡◌, ◌≤◌, ◌<◌, ◌+◌, ◌==◌, ◌++◌, ◌∷◌, [], true, false, drop, length, refl, sym, ap, ap₂, ◌∙◌, subst, append-nil, arith}
+use Rattle.std.proofs.lemmas.Result.{err_from_is_err_and}
+use Rattle.syn_model.specs.Path.{Path, IsPath, is_prefix}
+use Rattle.syn_model.specs.Tree.{Pair, Content}
+use Rattle.syn_tree.proofs.StripLemmas.{strip_beside, strip_itself, strip_below, prefix_shorter, prefix_whole, rest_lawful}
+use Rattle.syn_tree.proofs.copies.push_below.Goals as goal
+
+pub returns-then-is_empty-clause-ok : goal.returns-then-is_empty-clause-ok
+returns-then-is_empty-clause-ok c =
+    let at = c.args.at.now in
+    let x = c.args.entry.now in
+    let inside = ap (is_prefix at) (sym c.path.ensures) ∙ (sym c.is_prefix.ensures.value ∙ c.if-not-is_prefix.false) in
+    let rest = c.split_at.ensures.back ∙ ap₂ drop (ap length c.names-2.ensures.names) (c.names.ensures.names ∙ c.path-2.ensures) in
+    let empty = ap (λ q. length q == 0) (sym rest) ∙ (sym c.is_empty.ensures ∙ c.if-is_empty.true) in
+    sym (ap (λ xs. c.args.copies.now.items ++ xs) (strip_itself at x inside empty) ∙ append-nil c.args.copies.now.items)
+
+pub returns-clause-ok : goal.returns-clause-ok
+returns-clause-ok c =
+    let at = c.args.at.now in
+    let x = c.args.entry.now in
+    let inside = ap (is_prefix at) (sym c.path.ensures) ∙ (sym c.is_prefix.ensures.value ∙ c.if-not-is_prefix.false) in
+    let rest = c.split_at.ensures.back ∙ ap₂ drop (ap length c.names-2.ensures.names) (c.names.ensures.names ∙ c.path-2.ensures) in
+    let some = ap (λ q. length q == 0) (sym rest) ∙ (sym c.is_empty.ensures ∙ c.if-is_empty.false) in
+    let path : c.in_ok-path.path ≡ drop (length at) x.0 = c.in_ok-path.ensures.ok.0 ∙ rest in
+    let content = c.in_ok-content.ensures.ok ∙ c.content.ensures in
+    let entry : c.new.result ≡ (drop (length at) x.0, x.1) = c.new.ensures ∙ ap₂ (λ (p : Path) (d : Content). (p, d)) path content in
+    c.in_ok-push.ensures.items ∙ ap (λ xs. c.args.copies.now.items ++ xs) (ap (λ (y : Pair). y ∷ []) entry ∙ sym (strip_below at x inside some))

@@ -1,0 +1,7 @@
+use Rattle.std.proofs.Common.{◌≡◌, sym, ap, ◌∙◌}
+use Rattle.std.specs.FinMap.{entries}
+use Rattle.syn_tree.proofs.TreeLemmas.{entries-with}
+use Rattle.syn_tree.proofs.entries.Entries.into_vec.Goals as goal
+
+pub returns-clause-all : goal.returns-clause-all
+returns-clause-all c = sym (entries-with c.self.inside.list.items c.self.invariant.rising) ∙ ap entries c.self.view_is

@@ -1,0 +1,22 @@
+-- What stands at a path, and what is found there, as the model has it.
+use Rattle.std.specs.Prelude.{Option, Some, None}
+use Rattle.syn_model.specs.Tree.{Directory, File, contents_of}
+use Rattle.syn_model.specs.Tree as model
+use Rattle.syn_model.specs.Event.{AreBytes}
+use Rattle.syn_tree.specs.declared.content.Content.{Content}
+use Rattle.syn_tree.specs.declared.content.Content.TheVariants as has
+use Rattle.syn_tree.specs.declared.content.Found.{Found}
+use Rattle.syn_tree.specs.declared.content.Found.TheVariants as found
+
+abbrev pub content_of : Content → model.Content
+content_of (has.File bytes) = File (contents_of bytes.items)
+content_of has.Dir = Directory
+
+abbrev pub found_content : Found → model.Content
+found_content (found.File bytes) = File (contents_of bytes.now)
+found_content found.Dir = Directory
+
+-- its bytes are bytes
+abbrev pub IsLawful : model.Content → Type 0
+IsLawful Directory = Unit {0}
+IsLawful (File contents) = AreBytes contents.bytes

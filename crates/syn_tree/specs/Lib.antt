@@ -1,0 +1,9 @@
+pub mod Contents
+pub mod Pairs
+pub mod Entries
+pub mod Nodes
+pub mod Edits
+pub mod Change
+pub mod Kept
+pub mod Lists
+pub mod Refusals

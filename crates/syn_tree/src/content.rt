@@ -1,0 +1,33 @@
+ghost use Rattle.std.specs.Prelude.{◌≡◌, Some};
+ghost use Rattle.syn_model.specs.Tree.{is_directory_content};
+ghost use Rattle.syn_tree.specs.Contents.{found_content};
+
+/// What stands at a path.
+#[derive(Debug, Drop)]
+pub enum Content {
+    /// A file, with its bytes.
+    File(Vec<u8>),
+    /// A directory.
+    Dir,
+}
+
+/// What was found at a path.
+#[derive(Debug, Drop)]
+pub enum Found<'a> {
+    /// A file, with its bytes.
+    File(&'a [u8]),
+    /// A directory.
+    Dir,
+}
+
+impl Found<'_> {
+    /// Whether it is a directory.
+    pub fn is_directory(&self) -> bool
+        ensures { result ≡ is_directory_content (Some (found_content self.now)) }
+    {
+        match self {
+            Found::File(_) => false,
+            Found::Dir => true,
+        }
+    }
+}

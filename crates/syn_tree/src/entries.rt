@@ -1,0 +1,142 @@
+ghost use Rattle.std.specs.Prelude.{◌≡◌, true, IfSome, IfNone, IsTrue};
+ghost use Rattle.std.specs.FinMap.{entries};
+ghost use Rattle.syn_model.specs.Tree.{IsTree, empty_directory};
+ghost use Rattle.syn_model.specs.Limits.{fits_part, fits_paths};
+ghost use Rattle.syn_tree.specs.Pairs.{rooted, tree_with};
+ghost use Rattle.std.specs.List.{list_all};
+ghost use Rattle.syn_model.specs.Limits.{fits_content};
+ghost use Rattle.syn_tree.specs.Contents.{IsLawful};
+ghost use Rattle.syn_tree.specs.Pairs.{AreRising};
+ghost use Rattle.syn_tree.specs.Entries.{AreEntries, stands_in, IsLawfulPair, AreLawful};
+
+use crate::content::Found;
+use crate::entry::Entry;
+use crate::lawful::are_bytes;
+use crate::list::{
+    LONGEST_FILE, MOST_CHILDREN, are_rising, count_children, is_directory, parent_names,
+};
+use std::alloc::Global;
+use std::marker::Model;
+
+/// What stands below a directory, in path order: 256 entries a directory, 16,384 bytes a file, and each path,
+/// taken from the directory, within the limits of a path. The number of nodes and their size are limits of a whole tree alone.
+/// Contracts see it as the tree with that directory as its root.
+#[derive(Debug, Drop)]
+pub struct Entries {
+    list: Vec<Entry>,
+}
+
+impl Model for Entries {
+    ghost use Rattle.syn_model.specs.Tree.{Tree, coded_tree};
+
+    ghost Value = { Tree };
+
+    ghost coded = { coded_tree };
+
+    ghost use Rattle.syn_tree.specs.Pairs.{tree_with};
+    ghost use Rattle.std.specs.List.{list_all};
+    ghost use Rattle.syn_model.specs.Limits.{fits_content};
+    ghost use Rattle.syn_tree.specs.Contents.{IsLawful};
+    ghost use Rattle.syn_tree.specs.Pairs.{AreRising};
+    ghost use Rattle.syn_tree.specs.Entries.{AreEntries, stands_in, IsLawfulPair, AreLawful};
+
+    ghost view = { λ e. tree_with e.list.items };
+
+    ghost invariant = { λ e. AreEntries e.list.items };
+}
+
+impl Entries {
+    /// Nothing below a directory.
+    pub fn new(alloc: Global) -> Entries
+        ensures { result ≡ empty_directory }
+    {
+        Entries {
+            list: Vec::new(alloc),
+        }
+    }
+
+    /// These entries, which are lawful.
+    pub(crate) fn lawful(list: Vec<Entry>) -> Entries
+        requires { AreEntries list.items }
+        ensures { result ≡ tree_with list.items }
+    {
+        Entries { list }
+    }
+
+    /// These entries, where they stand in path order, each below a directory, and keep the limits; else none.
+    pub fn from_vec(list: Vec<Entry>) -> Option<Entries>
+        ensures some { IfSome result (λ all. rooted list.items ≡ entries all) }
+        ensures none { IfNone result (¬ AreEntries list.items) }
+    {
+        if !are_rising(&list) {
+            return None;
+        }
+        if !all_stand(&list) {
+            return None;
+        }
+        if count_children(&list, &[]) > MOST_CHILDREN {
+            return None;
+        }
+        Some(Entries { list })
+    }
+
+    /// The entries in path order.
+    pub fn as_slice(&self) -> &[Entry]
+        ensures all { rooted result.now ≡ entries self.now }
+        ensures tree { IsTree self.now }
+        ensures part { fits_part self.now ≡ true }
+        ensures paths { fits_paths self.now ≡ true }
+    {
+        self.list.as_slice()
+    }
+
+    /// The entries in path order.
+    pub fn into_vec(self) -> Vec<Entry>
+        ensures all { rooted result.items ≡ entries self }
+        ensures tree { IsTree self }
+        ensures part { fits_part self ≡ true }
+        ensures paths { fits_paths self ≡ true }
+    {
+        self.list
+    }
+}
+
+/// Each of the entries stands in a directory, and keeps the limits of a file and a directory.
+fn all_stand(list: &[Entry]) -> bool
+    requires { AreRising (rooted list.now) }
+    ensures value { result ≡ list_all (stands_in list.now) list.now }
+    ensures lawful { IsTrue result → AreLawful list.now }
+{
+    for entry in list {
+        if !stands_among(list, entry) {
+            return false;
+        }
+    }
+    true
+}
+
+/// The entry stands in a directory, and keeps the limits of a file and a directory.
+fn stands_among(list: &[Entry], entry: &Entry) -> bool
+    requires { AreRising (rooted list.now) }
+    ensures value { result ≡ stands_in list.now entry.now }
+    ensures lawful { IsLawfulPair entry.now }
+{
+    let placed = is_directory(list, parent_names(entry.path()));
+    let brief = is_brief(entry);
+    let few = count_children(list, entry.path().names()) <= MOST_CHILDREN;
+    placed && brief && few
+}
+
+/// The entry is a directory, or a file within its limit.
+fn is_brief(entry: &Entry) -> bool
+    ensures value { result ≡ fits_content entry.now.1 }
+    ensures lawful { IsLawful entry.now.1 }
+{
+    match entry.content() {
+        Found::File(bytes) => {
+            are_bytes(bytes);
+            bytes.len() <= LONGEST_FILE
+        }
+        Found::Dir => true,
+    }
+}

@@ -1,0 +1,211 @@
+//! Entries in path order.
+ghost use Rattle.std.specs.Prelude.{◌≡◌, ◌≤◌, ◌<◌, ◌+◌, ◌^◌, ◌++◌, ◌∷◌, length, count_by, option_map, IfSome, IfNone, IsTrue, ◌↔◌, vec_len, vec_capacity};
+ghost use Rattle.std.specs.Ordering.{eq_by_cmp, is_lt};
+ghost use Rattle.std.specs.FinMap.{find};
+ghost use Rattle.syn_model.specs.Path.{path_cmp, parent, IsPath};
+ghost use Rattle.syn_model.specs.Tree.{is_directory_content};
+ghost use Rattle.syn_model.specs.Limits.{last_name_spelling_length};
+ghost use Rattle.syn_tree.specs.Contents.{found_content};
+ghost use Rattle.syn_tree.specs.Pairs.{rooted, AreRising, is_before, is_within, before, within, behind, is_child, pair_spelling_length, spelling_length};
+
+use crate::content::Found;
+use crate::entry::Entry;
+use std::cmp::Ordering;
+use syn_path::{Name, Path};
+
+/// The most bytes of the spelling of a replica's tree.
+pub(crate) const LONGEST_SPELLING: usize = 524_288;
+
+/// The most entries of a directory.
+pub(crate) const MOST_CHILDREN: usize = 256;
+
+/// The most bytes of a file.
+pub(crate) const LONGEST_FILE: usize = 16_384;
+
+/// The paths strictly rise, from the root's on.
+pub(crate) fn are_rising(list: &[Entry]) -> bool
+    ensures { IsTrue result ↔ AreRising (rooted list.now) }
+{
+    let mut last: &[Name] = &[];
+    for entry in list {
+        if !comes_before(last, entry.path()) {
+            return false;
+        }
+        last = entry.path().names();
+    }
+    true
+}
+
+/// The path of these names stands before the other.
+fn comes_before(names: &[Name], path: &Path) -> bool
+    ensures { result ≡ is_lt (path_cmp names.now path.now) }
+{
+    names.cmp(&path.names()) == Ordering::Less
+}
+
+/// The entry stands before the path of these names.
+fn is_before(entry: &Entry, names: &[Name]) -> bool
+    ensures { result ≡ is_before names.now entry.now }
+{
+    entry.path().names().cmp(&names) == Ordering::Less
+}
+
+/// The entry stands at the path of these names.
+fn is_at(entry: &Entry, names: &[Name]) -> bool
+    ensures { result ≡ eq_by_cmp path_cmp entry.now.0 names.now }
+{
+    entry.path().names().cmp(&names) == Ordering::Equal
+}
+
+/// The entry stands at or below the path.
+fn is_within(entry: &Entry, at: &Path) -> bool
+    ensures { result ≡ is_within at.now entry.now }
+{
+    at.is_prefix(entry.path())
+}
+
+/// How many entries stand before the path of these names.
+pub(crate) fn count_before(list: &[Entry], names: &[Name]) -> usize
+    requires { AreRising list.now }
+    ensures { result ≡ length (before names.now list.now) }
+{
+    list.partition_point(|entry| is_before(entry, names))
+}
+
+/// The entries at and below the path.
+pub(crate) fn part_at<'a>(list: &'a [Entry], at: &Path) -> &'a [Entry]
+    requires { AreRising list.now }
+    ensures { result.now ≡ within at.now list.now }
+{
+    let (_, others) = list.split_at(count_before(list, at.names()));
+    let below = others.partition_point(|entry| is_within(entry, at));
+    let (part, _) = others.split_at(below);
+    part
+}
+
+/// What stands at the path of these names, of entries below a root directory.
+pub(crate) fn find<'a>(list: &'a [Entry], names: &[Name]) -> Option<Found<'a>>
+    requires { AreRising (rooted list.now) }
+    ensures { option_map (λ found. found_content found) result ≡ find path_cmp names.now (rooted list.now) }
+{
+    if names.is_empty() {
+        return Some(Found::Dir);
+    }
+    let at = count_before(list, names);
+    let Some(entry) = list.get(at) else {
+        return None;
+    };
+    if is_at(entry, names) {
+        Some(entry.content())
+    } else {
+        None
+    }
+}
+
+/// A directory stands at the path of these names.
+pub(crate) fn is_directory(list: &[Entry], names: &[Name]) -> bool
+    requires { AreRising (rooted list.now) }
+    ensures { result ≡ is_directory_content (find path_cmp names.now (rooted list.now)) }
+{
+    match find(list, names) {
+        Some(Found::Dir) => true,
+        Some(Found::File(_)) => false,
+        None => false,
+    }
+}
+
+/// The path is one name longer than the names above it.
+pub(crate) fn is_child(above: &[Name], path: &Path) -> bool
+    ensures { result ≡ is_child above.now path.now }
+{
+    match path.names() {
+        [] => false,
+        [before @ .., _] => before.cmp(&above) == Ordering::Equal,
+    }
+}
+
+/// The names of the parent; of the root, none.
+pub(crate) fn parent_names(path: &Path) -> &[Name]
+    ensures { result.now ≡ parent path.now }
+{
+    match path.names() {
+        [] => path.names(),
+        [above @ .., _] => above,
+    }
+}
+
+/// How many entries stand in the directory of these names.
+pub(crate) fn count_children(list: &[Entry], above: &[Name]) -> usize
+    ensures { result ≡ count_by (λ pair. is_child above.now pair.0) list.now }
+{
+    list.iter()
+        .filter(|entry| is_child(above, entry.path()))
+        .count()
+}
+
+/// How many bytes spell the last name with its length; none for the root.
+pub(crate) fn name_spelled(path: &Path) -> usize
+    ensures length { result ≡ last_name_spelling_length path.now }
+    ensures short { result ≤ 65 }
+    ensures lawful { IsPath path.now }
+{
+    match path.names().last() {
+        Some(name) => 1 + name.as_str().len(),
+        None => 0,
+    }
+}
+
+/// How many bytes spell the entry, without what is below it.
+pub(crate) fn entry_spelled(entry: &Entry) -> usize
+    ensures length { result ≡ pair_spelling_length entry.now }
+    ensures fits { result < 2 ^ 63 + 128 }
+{
+    let name = name_spelled(entry.path());
+    match entry.content() {
+        Found::File(bytes) => name + 5 + bytes.len(),
+        Found::Dir => name + 3,
+    }
+}
+
+/// How many bytes spell the entries.
+pub(crate) fn spelled(list: &[Entry]) -> usize
+    requires { spelling_length list.now ≤ 524288 }
+    ensures { result ≡ spelling_length list.now }
+{
+    let mut size = 0;
+    for entry in list {
+        size += entry_spelled(entry);
+    }
+    size
+}
+
+/// How many bytes spell the entries; none where that is more than the longest spelling of a tree.
+pub(crate) fn measured(list: &[Entry]) -> Option<usize>
+    ensures some { IfSome result (λ size. (size ≡ spelling_length list.now) × (size ≤ 524288)) }
+    ensures none { IfNone result (524288 < spelling_length list.now) }
+{
+    let mut size = 0;
+    for entry in list {
+        size += entry_spelled(entry);
+        if size > LONGEST_SPELLING {
+            return None;
+        }
+    }
+    Some(size)
+}
+
+/// Takes out what is at and below the path, and puts these entries there.
+pub(crate) fn splice(list: &mut Vec<Entry>, at: &Path, added: Vec<Entry>)
+    requires rising { AreRising list.old.items }
+    requires room { length (before at.now list.old.items) + length (behind at.now list.old.items) + vec_len added ≤ vec_capacity list.old }
+    ensures items { list.new.items ≡ before at.now list.old.items ++ (added.items ++ behind at.now list.old.items) }
+    ensures room { vec_capacity list.old ≤ vec_capacity list.new }
+{
+    let mut added = added;
+    let start = count_before(list, at.names());
+    list.retain(|entry| !is_within(entry, at));
+    let others = list.len() - start;
+    list.rotate_left(start);
+    let _ = list.append(&mut added);
+    list.rotate_left(others);
+}
