@@ -411,7 +411,7 @@ module _ (plans : Plans) (old : World) (k : IsKept plans old) (new : World) wher
   opens_machine Coordinator g = opens_archive g.0 g.1 g.2 g.3
 
   answer_advances : (from : Which) (session number : ℕ) (said : Reply) → Contains old.sent (Answers from session number said) → TakesAnswer old from session number said new → Advances old new
-  answer_advances from session number said c (taken plan expected made g) = take_with from session number said plan c old.coordinator.running refl expected made g
+  answer_advances from session number said c (taken plan expected made g reports) = take_with from session number said plan c old.coordinator.running refl expected made g
   answer_advances from session number said c (ignored x e) = stays plans old new k e
   answer_advances from session number said c (coordinator_down d e) = stays plans old new k e
 
@@ -430,7 +430,7 @@ module _ (plans : Plans) (old : World) (k : IsKept plans old) (new : World) wher
   step_advances Start (inr g) = start_advances g.1
   step_advances (Deliver message) g = delivers_advances (slice_get old.sent message) (was_sent message) g
   step_advances Tick (inl e) = stays plans old new k e
-  step_advances Tick (inr g) = tick_with old.coordinator.running refl g
+  step_advances Tick (inr g) = tick_with old.coordinator.running refl g.0
   step_advances (Checkpoint machine) (inl e) = stays plans old new k e
   step_advances (Checkpoint machine) (inr (inl e)) = halt_advances machine e
   step_advances (Checkpoint machine) (inr (inr e)) = cut_advances machine e

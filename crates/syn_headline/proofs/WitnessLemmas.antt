@@ -14,7 +14,7 @@ use Rattle.syn_headline.specs.Witness.{new_machine, opened_world, OpenedIsStart,
 use Rattle.syn_headline.proofs.FormattedLemmas.{formatted_is_pair}
 use Rattle.syn_headline.proofs.WitnessTrees.{fits_by}
 use Rattle.syn_headline.proofs.WitnessFiles.{IsLetter, content, with_file, alone-entries, file-entries, put-entries, put_allowed}
-use Rattle.syn_headline.proofs.WitnessSteps.{goes}
+use Rattle.syn_headline.proofs.WitnessSteps.{goes, up_not_down}
 use Rattle.syn_headline.proofs.WitnessMessages.{IsNumbered, numbers_tell, asks_once}
 
 pub opened_is_start : OpenedIsStart
@@ -109,15 +109,19 @@ starts = inr (
   goes opened_world (IsNext new_archive) (StartsFrom new_archive) (record { marks = empty_directory; last_session = 1 }) (Some (waiting_for 0)) (begins 1) (Session 1 ∷ []) []
       refl (All-cons (IsNext new_archive) (Session 1) [] refl (All-nil (IsNext new_archive))) (record { lawful = tt; not_refused = refl }, tt) refl
       (refl, refl) (refl, begin_waits 0, inl refl) (begins_tell 1) (begins_once 1) (begins_lawful (waiting_for 0) [] refl),
+  refl,
 )
 
 resends : (resent : ℕ) → Steps (waiting resent) Tick (waiting (suc resent))
 unfolding begins
-resends resent = inr (goes (waiting resent) IsNothing (GoesOnAs (waiting_for resent) []) (record { marks = empty_directory; last_session = 1 }) (Some (waiting_for (suc resent)))
-    (Asks Left 1 0 (Begin 7) ∷ Asks Right 1 0 (Begin 7) ∷ []) [] []
-    refl (All-nil IsNothing) tt refl
-    (goes_on (waiting_for (suc resent)) refl refl) (refl, begin_waits (suc resent), inl refl) (begins_tell (suc (suc resent))) (begins_once (suc (suc resent)))
-    (begins_lawful (waiting_for (suc resent)) (begins (suc resent)) refl))
+resends resent = inr (
+  goes (waiting resent) IsNothing (GoesOnAs (waiting_for resent) []) (record { marks = empty_directory; last_session = 1 }) (Some (waiting_for (suc resent)))
+      (Asks Left 1 0 (Begin 7) ∷ Asks Right 1 0 (Begin 7) ∷ []) [] []
+      refl (All-nil IsNothing) tt refl
+      (goes_on (waiting_for (suc resent)) refl refl) (refl, begin_waits (suc resent), inl refl) (begins_tell (suc (suc resent))) (begins_once (suc (suc resent)))
+      (begins_lawful (waiting_for (suc resent)) (begins (suc resent)) refl),
+  inl refl,
+)
 
 abbrev ended_world : ℕ → World
 ended_world resent = record (waiting resent) {
@@ -129,8 +133,11 @@ gives_up : (resent : ℕ) → Steps (waiting resent) Tick (ended_world resent)
 gives_up resent =
     let same = append-nil (begins (suc resent)) in
     subst (λ sent. Steps (waiting resent) Tick (record (ended_world resent) { sent = sent })) same
-    (inr (goes (waiting resent) IsNothing (GoesOnAs (waiting_for resent) []) (record { marks = empty_directory; last_session = 1 }) None [] [] ((unanswered, 1) ∷ [])
-    refl (All-nil IsNothing) tt refl ended tt (subst NumbersTell (sym same) (begins_tell (suc resent))) (subst AsksNothingTwice (sym same) (begins_once (suc resent))) refl))
+    (inr (
+      goes (waiting resent) IsNothing (GoesOnAs (waiting_for resent) []) (record { marks = empty_directory; last_session = 1 }) None [] [] ((unanswered, 1) ∷ [])
+          refl (All-nil IsNothing) tt refl ended tt (subst NumbersTell (sym same) (begins_tell (suc resent))) (subst AsksNothingTwice (sym same) (begins_once (suc resent))) refl,
+      inr (waiting_for resent, unanswered, refl, refl, up_not_down, refl, (refl, refl, inl refl)),
+    ))
 
 one_later : (m n : ℕ) → suc m + n ≡ m + suc n
 one_later m n = omega arith

@@ -16,7 +16,7 @@ use Rattle.syn_headline.specs.Network.{Which, Left, Right, Message, Asks, Answer
 use Rattle.syn_headline.specs.Acknowledged.{Ack, Happened, Kept_by}
 use Rattle.syn_headline.specs.Planning.{Planned}
 use Rattle.syn_headline.specs.Report.{Report}
-use Rattle.syn_headline.specs.World.{World, Outstanding, Status, Up, Halted, Down, Running, TakesRequest, answered, ServesAs, CoordinatorGoes, AllCanKeep, RunsOver, WasSent, AllOfSession, side_of, set_side, TakesAnswer, taken, IsExpected, HasPlan, IsDueAfter, GoesOnFrom, IsOver, Step, Runs}
+use Rattle.syn_headline.specs.World.{World, Outstanding, Status, Up, Halted, Down, Running, TakesRequest, answered, ServesAs, CoordinatorGoes, AllCanKeep, RunsOver, WasSent, AllOfSession, side_of, set_side, TakesAnswer, taken, IsExpected, HasPlan, IsDueAfter, GoesOnFrom, IsOver, Reports, EndsTaken, Step, Runs}
 
 abbrev is_up : Status → Type 0
 is_up Up = Unit {0}
@@ -136,13 +136,15 @@ world_of messages acks left right archive running said acknowledged = record {
 -- the coordinator takes an answer that it waits for
 pub takes : (session : ℕ) (old : World) (from : Which) (number : ℕ) (reply : Reply) (plan : List Planned) (archive : Archive) (next : Option Running) (messages : List Message) (kept : List Kept) (reports : List (Report × ℕ)) →
     old.coordinator.status ≡ Up → IsExpected old.coordinator.running from session number → HasPlan old.sent old.coordinator.archive old.coordinator.running plan →
+    Reports old (after_call old archive next messages kept reports) (EndsTaken old (after_call old archive next messages kept reports) from plan reply) →
     All (IsDueAfter old.coordinator.running plan from reply) kept → AllCanKeep old.coordinator.archive kept → archive ≡ archive_of old.coordinator.archive kept →
     GoesOnFrom old.coordinator.running plan next → IsOver from number next → RunsOver (old.sent ++ messages) archive next →
     NumbersTell (old.sent ++ messages) → AsksNothingTwice (old.sent ++ messages) → AllOfSession old.sent next messages →
     TakesAnswer old from session number reply (after_call old archive next messages kept reports)
-takes session old from number reply plan archive next messages kept reports up expected has due can is on over runs tell twice of =
+takes session old from number reply plan archive next messages kept reports up expected has ends due can is on over runs tell twice of =
     taken plan expected has (goes old (IsDueAfter old.coordinator.running plan from reply) (λ running. GoesOnFrom old.coordinator.running plan running × IsOver from number running)
     archive next messages kept reports up due can is (on, over) runs tell twice of)
+    ends
 
 -- one run after another
 pub runs_on_from : (old between new : World) (steps more : List Step) → Runs old steps between → Runs between more new → Runs old (steps ++ more) new

@@ -141,7 +141,7 @@ takes_request before old which session number request new s (request_cut c) = si
 takes_request before old which session number request new s (side_down d e) = same_world before old new s e
 
 takes_answer : (before : Stores) (old : World) (from : Which) (session number : ℕ) (reply : Reply) (new : World) → StandsFor before old → TakesAnswer old from session number reply new → StandsFor before new
-takes_answer before old from session number reply new s (taken plan x made g) = coordinator_steps before old _ _ new s g
+takes_answer before old from session number reply new s (taken plan x made g reports) = coordinator_steps before old _ _ new s g
 takes_answer before old from session number reply new s (ignored x e) = same_world before old new s e
 takes_answer before old from session number reply new s (coordinator_down d e) = same_world before old new s e
 
@@ -168,7 +168,7 @@ step_stands before old Start new s (inl e) = same_world before old new s e
 step_stands before old Start new s (inr g) = coordinator_steps before old _ _ new s g.1
 step_stands before old (Deliver message) new s g = delivers before old (slice_get old.sent message) new s g
 step_stands before old Tick new s (inl e) = same_world before old new s e
-step_stands before old Tick new s (inr g) = coordinator_steps before old _ _ new s g
+step_stands before old Tick new s (inr g) = coordinator_steps before old _ _ new s g.0
 step_stands before old (Checkpoint machine) new s (inl e) = same_world before old new s e
 step_stands before old (Checkpoint machine) new s (inr (inl e)) = halt_stands before old machine new s e
 step_stands before old (Checkpoint machine) new s (inr (inr e)) = cut_stands before old machine new s e

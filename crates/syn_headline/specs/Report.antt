@@ -1,7 +1,14 @@
 -- What a session reports as it ends.
-use Rattle.std.specs.Prelude.{ℕ, List, Option}
+use Rattle.std.specs.Prelude.{ℕ, ◌≡◌, ◌⊎◌, List, [], ◌∷◌, ◌++◌, filter_map, fold, Option, Some, None, Contains, IfSome, All, Any}
 use Rattle.syn_model.specs.Path.{Path}
-use Rattle.syn_model.specs.Refusal.{Refusal}
+use Rattle.syn_model.specs.Refusal.{Refusal, JournalFull, Device, Halted, Memory, TooLarge, BadMessage}
+use Rattle.syn_model.specs.Tree.{Tree}
+use Rattle.syn_model.specs.Archive.{Kept, Session, Recorded, RecordedDir}
+use Rattle.syn_model.specs.Decision.{Item, ToLeft, ToRight, MarkSame, MarkDir, Conflict}
+use Rattle.syn_headline.specs.Side.{Request, Begin, ListAt, Fetch, Stage, Replace, Reply, Refused}
+use Rattle.syn_headline.specs.Network.{Sent}
+use Rattle.syn_headline.specs.Acknowledged.{Ack, kept_in}
+use Rattle.syn_headline.specs.Planning.{Planned, IsPlanOf}
 
 pub data End : Type 0 where
   Complete : End
@@ -15,3 +22,59 @@ pub record Report : Type 0 where
   pub marked : ℕ
   pub conflicts : List Path
   pub refused : List (Refusal × Path)
+
+-- a Begin or a listing was asked for
+abbrev pub IsOpening : Request → Type 0
+IsOpening (Begin pair) = Unit {0}
+IsOpening (ListAt path) = Unit {0}
+IsOpening (Fetch path since offset) = ⊥
+IsOpening (Stage item offset bytes) = ⊥
+IsOpening (Replace item path since size) = ⊥
+
+-- why a session may end early as an answer is taken
+pub data MayEnd (asked : Option Request) (reply : Reply) : Refusal → Type 0 where
+  opening_refused : (request : Request) (why : Refusal) → asked ≡ Some request → IsOpening request → reply ≡ Refused why → MayEnd asked reply why
+  too_large : MayEnd asked reply TooLarge
+  bad_message : MayEnd asked reply BadMessage
+  archive_full : MayEnd asked reply JournalFull
+  archive_fails : MayEnd asked reply Device
+  archive_halted : MayEnd asked reply Halted
+  no_memory : MayEnd asked reply Memory
+
+-- what the archive kept since the last session's number
+abbrev pub since_start : List Kept → Kept → List Kept
+since_start kept (Session session) = []
+since_start kept (Recorded path marks) = kept ++ Recorded path marks ∷ []
+since_start kept (RecordedDir path) = kept ++ RecordedDir path ∷ []
+
+abbrev pub kept_in_session : List Ack → List Kept
+kept_in_session acks = fold since_start [] (filter_map kept_in acks)
+
+abbrev pub IsRecordOf : Path → Kept → Type 0
+IsRecordOf path (Recorded at marks) = at ≡ path
+IsRecordOf path (RecordedDir at) = ⊥
+IsRecordOf path (Session session) = ⊥
+
+-- the item is recorded, a conflict or refused
+abbrev pub IsSettled : List Kept → Report → Item → Type 0
+IsSettled kept report (MarkDir path) = Contains kept (RecordedDir path) ⊎ Any (λ refused. refused.1 ≡ path) report.refused
+IsSettled kept report (Conflict path) = Contains report.conflicts path
+IsSettled kept report (ToLeft path) = Any (IsRecordOf path) kept ⊎ Any (λ refused. refused.1 ≡ path) report.refused
+IsSettled kept report (ToRight path) = Any (IsRecordOf path) kept ⊎ Any (λ refused. refused.1 ≡ path) report.refused
+IsSettled kept report (MarkSame path) = Any (IsRecordOf path) kept ⊎ Any (λ refused. refused.1 ≡ path) report.refused
+
+abbrev pub conflict_at : Item → Option Path
+conflict_at (Conflict path) = Some path
+conflict_at (ToLeft path) = None
+conflict_at (ToRight path) = None
+conflict_at (MarkSame path) = None
+conflict_at (MarkDir path) = None
+
+-- A session that ends as an answer is taken has a cause, or it has settled each item of its plan
+pub record EndsAs (sent : Sent) (session : ℕ) (plan : List Planned) (kept : List Kept) (asked : Option Request) (reply : Reply) (report : Report) : Type 0 where
+  pub session_is : report.session ≡ session
+  pub cause : IfSome report.ended (MayEnd asked reply)
+  pub complete : report.end ≡ Complete → (report.ended ≡ None) × (report.refused ≡ [])
+  pub made : report.ended ≡ None → (found : Tree) × IsPlanOf sent session found plan
+  pub settled : report.ended ≡ None → All (λ planned. IsSettled kept report planned.item) plan
+  pub conflicts : report.ended ≡ None → report.conflicts ≡ filter_map (λ planned. conflict_at planned.item) plan

@@ -1,5 +1,5 @@
 -- Three machines and the network between them, and what a step may do.
-use Rattle.std.specs.Prelude.{ℕ, ◌+◌, ◌≡◌, ◌≢◌, ◌⊎◌, Bool, List, [], ◌∷◌, ◌++◌, slice_get, map, Option, Some, None, Contains, IfSome, IsSome, IsSomeAnd, All}
+use Rattle.std.specs.Prelude.{ℕ, ◌+◌, ◌≡◌, ◌≢◌, ◌⊎◌, Bool, List, [], ◌∷◌, ◌++◌, slice_get, map, Option, Some, None, Contains, IfSome, IsSome, IsSomeAnd, All, length, option_map}
 use Rattle.syn_model.specs.Path.{Path}
 use Rattle.syn_model.specs.Refusal.{Refusal, Device}
 use Rattle.syn_model.specs.Refusal as why
@@ -11,7 +11,7 @@ use Rattle.syn_headline.specs.Network.{Which, Left, Right, other, Message, Asks,
 use Rattle.syn_headline.specs.Acknowledged.{Ack, Happened, Kept_by}
 use Rattle.syn_headline.specs.Planning.{Planned, seen_on, IsPlanOf, WritesTo, IsFetched, IsTotal}
 use Rattle.syn_model.specs.Decision.{MarkSame, MarkDir}
-use Rattle.syn_headline.specs.Report.{Report}
+use Rattle.syn_headline.specs.Report.{Report, Incomplete, EndsAs, kept_in_session}
 
 pub data Machine : Type 0 where
   At : (side : Which) → Machine
@@ -286,10 +286,26 @@ IsDueAfter (Some running) plan from reply kept = IsDue running plan from reply k
 abbrev pub IsOver : Which → ℕ → Option Running → Type 0
 IsOver from number running = IfSome running (λ running. IfSome (outstanding running from) (λ waiting. waiting.number ≢ number))
 
+-- the reports stay, or the session that ran is over and reports how it ended
+abbrev pub Reports : World → World → (Running → Report → Type 0) → Type 0
+Reports old new Ends =
+    (new.reports ≡ old.reports)
+    ⊎ ((running : Running) × (report : Report) × (old.coordinator.running ≡ Some running) × (new.coordinator.running ≡ None) × (new.coordinator.status ≢ Down)
+    × (new.reports ≡ old.reports ++ (report, length new.acknowledged) ∷ []) × Ends running report)
+
+abbrev pub EndsTaken : World → World → Which → List Planned → Reply → Running → Report → Type 0
+EndsTaken old new from plan reply running report =
+    EndsAs old.sent running.session plan (kept_in_session new.acknowledged) (option_map (λ waiting. waiting.request) (outstanding running from)) reply report
+
+-- nobody answers, or memory is refused
+abbrev pub EndsUnanswered : Running → Report → Type 0
+EndsUnanswered running report = (report.session ≡ running.session) × (report.end ≡ Incomplete) × ((report.ended ≡ Some why.NoAnswer) ⊎ (report.ended ≡ Some why.Memory))
+
 -- the coordinator takes an answer, or ignores one that it does not wait for
 pub data TakesAnswer (old : World) (from : Which) (session number : ℕ) (reply : Reply) (new : World) : Type 0 where
   taken : (plan : List Planned) → IsExpected old.coordinator.running from session number → HasPlan old.sent old.coordinator.archive old.coordinator.running plan →
-      CoordinatorGoes old (IsDueAfter old.coordinator.running plan from reply) (λ running. GoesOnFrom old.coordinator.running plan running × IsOver from number running) new → TakesAnswer old from session number reply new
+      CoordinatorGoes old (IsDueAfter old.coordinator.running plan from reply) (λ running. GoesOnFrom old.coordinator.running plan running × IsOver from number running) new →
+      Reports old new (EndsTaken old new from plan reply) → TakesAnswer old from session number reply new
   ignored : (IsExpected old.coordinator.running from session number → ⊥) → new ≡ old → TakesAnswer old from session number reply new
   coordinator_down : old.coordinator.status ≡ Down → new ≡ old → TakesAnswer old from session number reply new
 
@@ -340,9 +356,10 @@ Checkpoints old machine new = (new ≡ old) ⊎ ((new ≡ halted old machine) �
 -- One step. A device may fail and a machine may stop within any call, of which Fail and Stop say when
 abbrev pub Steps : World → Step → World → Type 0
 Steps old (Edits side user edit) new = SideGoes old side (DoesEdit (side_of old side) user edit) [] new
-Steps old Start new = (new ≡ old) ⊎ ((old.coordinator.running ≡ None) × CoordinatorGoes old (IsNext old.coordinator.archive) (StartsFrom old.coordinator.archive) new)
+Steps old Start new = (new ≡ old) ⊎ ((old.coordinator.running ≡ None) × CoordinatorGoes old (IsNext old.coordinator.archive) (StartsFrom old.coordinator.archive) new × (new.reports ≡ old.reports))
 Steps old (Deliver message) new = Delivers old (slice_get old.sent message) new
-Steps old Tick new = (new ≡ old) ⊎ CoordinatorGoes old IsNothing (GoesOnFrom old.coordinator.running (plan_of old.coordinator.running)) new
+Steps old Tick new =
+    (new ≡ old) ⊎ (CoordinatorGoes old IsNothing (GoesOnFrom old.coordinator.running (plan_of old.coordinator.running)) new × Reports old new EndsUnanswered)
 Steps old (Checkpoint machine) new = Checkpoints old machine new
 Steps old (Fail machine call) new = new ≡ old
 Steps old (Stop machine call) new = (new ≡ old) ⊎ (new ≡ cut_off old machine)
