@@ -15,15 +15,3 @@ pub mod RunLemmas
 pub mod WholeRuns
 pub mod ArchiveLemmas
 pub mod RepeatLemmas
-pub mod WitnessTrees
-pub mod WitnessFiles
-pub mod WitnessMessages
-pub mod WitnessLemmas
-pub mod WitnessScans
-pub mod WitnessSteps
-pub mod WitnessSession
-pub mod ExchangeScans
-pub mod ExchangeSides
-pub mod ExchangeLemmas
-pub mod MarkedScans
-pub mod MarkedLemmas

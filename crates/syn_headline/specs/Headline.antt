@@ -8,7 +8,7 @@ use Rattle.syn_model.specs.Mark.{mark, AreApart}
 use Rattle.syn_model.specs.Archive.{Archive, new_archive, Session, BothHeld}
 use Rattle.syn_model.specs.Dirty.{Paths, dirty}
 use Rattle.syn_model.specs.Reconcile.{is_directory_in_both, is_relevant, is_settled, IsSynchronization, IsReconciledArchive}
-use Rattle.syn_headline.specs.Network.{Which, Left, Right, other, NumbersTell, AsksNothingTwice}
+use Rattle.syn_headline.specs.Network.{Which, Left, Right, other, AsksNothingTwice}
 use Rattle.syn_headline.specs.Acknowledged.{Ack, Happened, Kept_by, Stores, history_of, stores_after, Grown, ArchiveGrown, IsLegal}
 use Rattle.syn_headline.specs.Report.{Report, Complete}
 use Rattle.syn_headline.specs.World.{World, Step, Runs, Up, Waits, side_of}
@@ -156,22 +156,6 @@ formatted = record { left = []; right = []; archive = new_archive }
 
 abbrev pub FormattedIsPair : Type 0
 FormattedIsPair = IsPair formatted
-
--- Without stops, and with devices that do not fail: the layers compose
-pub record Composes (before : Stores) (world : World) : Type 0 where
-  pub replaced : EachReplacementIsLegal before world
-  pub archived : EachEntryWasHeld before world
-  pub synchronized : CompleteSessionsSynchronize before world
-  pub conflicts : ReportsItsConflicts before world
-  pub once : EachTokenOnce world
-
--- What is also proved of runs with stops
-pub record Continues (before : Stores) (world : World) : Type 0 where
-  pub once : EachTokenOnce world
-  pub repeats : AsksNothingTwice world.sent
-  pub numbers : NumbersTell world.sent
-  pub waits : IfSome world.coordinator.running Waits
-  pub carried : CarriedIsMarked before world
 
 -- In every run from a world that has just been opened, with stops and failing devices, each replacement is legal
 abbrev pub RunsReplaceLegally : Type 0

@@ -8,4 +8,3 @@ pub mod Invariant
 pub mod Headline
 pub mod Laws
 pub mod Rows
-pub mod Witness

@@ -14,10 +14,10 @@ use Rattle.syn_model.specs.Rows.{a_name}
 use Rattle.syn_model.proofs.PathLemmas.{name_total}
 use Rattle.syn_model.proofs.DirtyLemmas.{tree_itself}
 use Rattle.syn_headline.specs.Side.{token_of}
-use Rattle.syn_headline.specs.Witness.{a_path, put_one, one}
-use Rattle.syn_headline.proofs.WitnessTrees.{same_by, part-entries, directory_by, children_by}
-use Rattle.syn_headline.proofs.WitnessFiles.{content, digest, alone, with_file, alone-entries, file-entries, file_mark-entries, marked-entries, put-entries}
-use Rattle.syn_headline.proofs.WitnessScans.{names_of, no_names}
+use Rattle.syn_witness.specs.Witness.{a_path, put_one, one}
+use Rattle.syn_witness.proofs.WitnessTrees.{same_by, part-entries, directory_by, children_by}
+use Rattle.syn_witness.proofs.WitnessFiles.{content, digest, alone, with_file, alone-entries, file-entries, file_mark-entries, marked-entries, put-entries}
+use Rattle.syn_witness.proofs.WitnessScans.{names_of, no_names}
 
 abbrev pub left_history : History
 left_history = Edited 1 put_one ∷ Began 1 ∷ Began 2 ∷ []

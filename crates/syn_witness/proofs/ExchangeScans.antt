@@ -13,10 +13,10 @@ use Rattle.syn_model.specs.Plan.{items_from, names_below, with_items_below}
 use Rattle.syn_model.specs.Plan.{plan as items_of}
 use Rattle.syn_model.specs.Rows.{a_name}
 use Rattle.syn_model.proofs.PathLemmas.{name_total}
-use Rattle.syn_headline.specs.Witness.{a_path, b_path, put_two, two}
-use Rattle.syn_headline.proofs.WitnessTrees.{same_by, part-entries, directory_by, children_by}
-use Rattle.syn_headline.proofs.WitnessFiles.{content, digest, alone, with_file, alone-entries, file-entries, file_mark-entries, marked-entries, put-entries}
-use Rattle.syn_headline.proofs.WitnessScans.{left_scan, left_marks-entries, names_of, no_names}
+use Rattle.syn_witness.specs.Witness.{a_path, b_path, put_two, two}
+use Rattle.syn_witness.proofs.WitnessTrees.{same_by, part-entries, directory_by, children_by}
+use Rattle.syn_witness.proofs.WitnessFiles.{content, digest, alone, with_file, alone-entries, file-entries, file_mark-entries, marked-entries, put-entries}
+use Rattle.syn_witness.proofs.WitnessScans.{left_scan, left_marks-entries, names_of, no_names}
 
 abbrev pub right_history : History
 right_history = Edited 2 put_two ∷ Began 1 ∷ []

@@ -22,15 +22,15 @@ use Rattle.syn_headline.specs.Acknowledged.{Ack, Happened, Kept_by}
 use Rattle.syn_headline.specs.Planning.{Planned, IsPlanOf, IsScanOf, HasBegun, SeesBoth}
 use Rattle.syn_headline.specs.World.{World, Coordinator, Running, Down, Edits, Start, Deliver, Stop, Open, Steps, Runs, IsOfSession, IsDue, same, IsNext, StartsFrom, goes_on, ended, archive_opened, EndsTaken}
 use Rattle.syn_headline.specs.Headline.{IsQuietSession, IsNoEdit, formatted, stores_of}
-use Rattle.syn_headline.specs.Witness.{opened_world, a_path, put_one, one, marked_later, found_later, IsMarkedLater, CarriedIsMarkedLater}
-use Rattle.syn_headline.proofs.WitnessTrees.{get_by, fits_archive_by}
-use Rattle.syn_headline.proofs.WitnessFiles.{alone, with_file, digest, alone-entries, file_mark-entries, put-entries, marked_whole, root_only, path_of_letter, one_byte, file_is_part, file_spelling, file_fits_part, file_fits_paths, mark_is_part}
-use Rattle.syn_headline.proofs.WitnessMessages.{IsNumbered, number_of, numbers_tell, asks_once, tell_before, once_before}
-use Rattle.syn_headline.proofs.WitnessSteps.{waits, runs_with, world_of, reads_nothing, serves, lists, goes, takes, both_sent, runs_on_from, up_not_down}
-use Rattle.syn_headline.proofs.WitnessLemmas.{letter_a}
-use Rattle.syn_headline.proofs.WitnessSession.{replaced, begun_archive, left_side, right_done, asked, numbered, root_lawful, none_there, run_to_done}
-use Rattle.syn_headline.proofs.WitnessSession.{messages as first_messages}
-use Rattle.syn_headline.proofs.MarkedScans.{left_history, right_history, left_scan, right_scan, left-entries, right-entries, left_marks-entries, right_marks-entries, left_root, right_root, left_part, right_part, plan_is}
+use Rattle.syn_witness.specs.Witness.{opened_world, a_path, put_one, one, marked_later, found_later, IsMarkedLater, CarriedIsMarkedLater}
+use Rattle.syn_witness.proofs.WitnessTrees.{get_by, fits_archive_by}
+use Rattle.syn_witness.proofs.WitnessFiles.{alone, with_file, digest, alone-entries, file_mark-entries, put-entries, marked_whole, root_only, path_of_letter, one_byte, file_is_part, file_spelling, file_fits_part, file_fits_paths, mark_is_part}
+use Rattle.syn_witness.proofs.WitnessMessages.{IsNumbered, number_of, numbers_tell, asks_once, tell_before, once_before}
+use Rattle.syn_witness.proofs.WitnessSteps.{waits, runs_with, world_of, reads_nothing, serves, lists, goes, takes, both_sent, runs_on_from, up_not_down}
+use Rattle.syn_witness.proofs.WitnessLemmas.{letter_a}
+use Rattle.syn_witness.proofs.WitnessSession.{replaced, begun_archive, left_side, right_done, asked, numbered, root_lawful, none_there, run_to_done}
+use Rattle.syn_witness.proofs.WitnessSession.{messages as first_messages}
+use Rattle.syn_witness.proofs.MarkedScans.{left_history, right_history, left_scan, right_scan, left-entries, right-entries, left_marks-entries, right_marks-entries, left_root, right_root, left_part, right_part, plan_is}
 
 abbrev left_begun_side : Side
 left_begun_side = record { history = left_history; staging = None }

@@ -12,9 +12,9 @@ use Rattle.syn_model.specs.Plan.{items_from, names_below, with_items_below}
 use Rattle.syn_model.specs.Plan.{plan as items_of}
 use Rattle.syn_model.specs.Rows.{a_name}
 use Rattle.syn_model.proofs.PathLemmas.{name_total}
-use Rattle.syn_headline.specs.Witness.{a_path, put_one, one}
-use Rattle.syn_headline.proofs.WitnessTrees.{mark-entries, same_by, part-entries, directory_by, children_by}
-use Rattle.syn_headline.proofs.WitnessFiles.{content, digest, alone, with_file, alone-entries, file-entries, file_mark-entries, marked-entries, put-entries}
+use Rattle.syn_witness.specs.Witness.{a_path, put_one, one}
+use Rattle.syn_witness.proofs.WitnessTrees.{mark-entries, same_by, part-entries, directory_by, children_by}
+use Rattle.syn_witness.proofs.WitnessFiles.{content, digest, alone, with_file, alone-entries, file-entries, file_mark-entries, marked-entries, put-entries}
 
 -- what each side has as it is listed
 abbrev pub left_history : History

@@ -23,14 +23,14 @@ use Rattle.syn_headline.specs.Network.{Which, Left, Right, Asks, Answers, Sent, 
 use Rattle.syn_headline.specs.Acknowledged.{Ack, Happened, Kept_by}
 use Rattle.syn_headline.specs.Planning.{Planned, IsPlanOf, IsScanOf, HasBegun, SeesBoth}
 use Rattle.syn_headline.specs.World.{World, Running, Edits, Start, Deliver, Steps, written, edit_written, IsOfSession, IsDue, done, IsNext, StartsFrom, goes_on, ended, Runs, EndsTaken}
-use Rattle.syn_headline.specs.Witness.{opened_world, a_path, put_one, one, complete, FileIsCarried}
+use Rattle.syn_witness.specs.Witness.{opened_world, a_path, put_one, one, complete, FileIsCarried}
 use Rattle.syn_headline.specs.Headline.{IsQuietSession, IsNoEdit, formatted, stores_of}
-use Rattle.syn_headline.proofs.WitnessTrees.{get_by, fits_by, fits_archive_by}
-use Rattle.syn_headline.proofs.WitnessFiles.{alone, with_file, content, digest, alone-entries, file-entries, file_mark-entries, put-entries, marked_whole, alone_whole, root_only, root_alone, path_of_letter, one_byte, file_is_part, file_spelling, file_fits_part, file_fits_paths, mark_is_part}
-use Rattle.syn_headline.proofs.WitnessScans.{left_history, right_history, left_scan, right_scan, left-entries, right_marks-entries, left_marks-entries, left_root, right_root, left_part, plan_is}
-use Rattle.syn_headline.proofs.WitnessMessages.{number_of, IsNumbered, numbers_tell, asks_once, tell_before, once_before}
-use Rattle.syn_headline.proofs.WitnessSteps.{runs_on_from, waits, runs_with, world_of, takes, reads_nothing, serves, lists, goes, both_sent, up_not_down}
-use Rattle.syn_headline.proofs.WitnessLemmas.{letter_a, edit_allowed}
+use Rattle.syn_witness.proofs.WitnessTrees.{get_by, fits_by, fits_archive_by}
+use Rattle.syn_witness.proofs.WitnessFiles.{alone, with_file, content, digest, alone-entries, file-entries, file_mark-entries, put-entries, marked_whole, alone_whole, root_only, root_alone, path_of_letter, one_byte, file_is_part, file_spelling, file_fits_part, file_fits_paths, mark_is_part}
+use Rattle.syn_witness.proofs.WitnessScans.{left_history, right_history, left_scan, right_scan, left-entries, right_marks-entries, left_marks-entries, left_root, right_root, left_part, plan_is}
+use Rattle.syn_witness.proofs.WitnessMessages.{number_of, IsNumbered, numbers_tell, asks_once, tell_before, once_before}
+use Rattle.syn_witness.proofs.WitnessSteps.{runs_on_from, waits, runs_with, world_of, takes, reads_nothing, serves, lists, goes, both_sent, up_not_down}
+use Rattle.syn_witness.proofs.WitnessLemmas.{letter_a, edit_allowed}
 
 -- The sides, before and after
 abbrev pub left_side : Side

@@ -21,14 +21,14 @@ use Rattle.syn_headline.specs.Network.{Which, Left, Right, WasAnswered}
 use Rattle.syn_headline.specs.Planning.{IsPlanOf, IsScanOf, HasBegun, SeesBoth}
 use Rattle.syn_headline.specs.World.{Edits, Runs, Start, Deliver, Steps, IsOfSession, IsDue, done, IsNext, StartsFrom, goes_on, ended, EndsTaken}
 use Rattle.syn_headline.specs.Headline.{IsQuietSession, IsNoEdit, formatted, stores_of}
-use Rattle.syn_headline.specs.Witness.{opened_world, a_path, b_path, put_one, put_two, one, two, complete, HasBoth, FilesAreExchanged}
-use Rattle.syn_headline.proofs.WitnessTrees.{get_by, replace-entries, fits_archive_by}
-use Rattle.syn_headline.proofs.WitnessFiles.{alone, with_file, digest, alone-entries, file_mark-entries, put-entries, marked_whole, root_only, path_of_letter, mark_is_part}
-use Rattle.syn_headline.proofs.WitnessScans.{left_history, left_scan, left-entries, left_marks-entries, left_part}
-use Rattle.syn_headline.proofs.ExchangeScans.{right_history, right_scan, right-entries, right_marks-entries, right_part, plan_is}
-use Rattle.syn_headline.proofs.WitnessSteps.{runs_on_from, goes, takes, both_sent, up_not_down}
-use Rattle.syn_headline.proofs.WitnessLemmas.{letter_a}
-use Rattle.syn_headline.proofs.ExchangeSides.{two_bytes, right_done, left_done, begun_archive, first_archive, both_archive, messages, first_planned, second_planned, plan, both_begin, right_begins, both_list, right_lists, left_fetches, right_stages, right_replaces, right_fetches, left_stages, left_replaces, first_edited, both_edited, started, left_begun, both_begun, right_awaited, listing, left_listed, both_listed, right_list_awaited, fetching, fetched, staging, staged, replacing, replaced, second_fetching, second_fetched, second_staging, second_staged, second_replacing, second_replaced, exchanged, tells, once, edits_left, letter_b, edits_right, begins_left, begins_right, lists_left, lists_right, stays, fetches_first, stages_first, replaces_first, fetches_second, stages_second, replaces_second}
+use Rattle.syn_witness.specs.Witness.{opened_world, a_path, b_path, put_one, put_two, one, two, complete, HasBoth, FilesAreExchanged}
+use Rattle.syn_witness.proofs.WitnessTrees.{get_by, replace-entries, fits_archive_by}
+use Rattle.syn_witness.proofs.WitnessFiles.{alone, with_file, digest, alone-entries, file_mark-entries, put-entries, marked_whole, root_only, path_of_letter, mark_is_part}
+use Rattle.syn_witness.proofs.WitnessScans.{left_history, left_scan, left-entries, left_marks-entries, left_part}
+use Rattle.syn_witness.proofs.ExchangeScans.{right_history, right_scan, right-entries, right_marks-entries, right_part, plan_is}
+use Rattle.syn_witness.proofs.WitnessSteps.{runs_on_from, goes, takes, both_sent, up_not_down}
+use Rattle.syn_witness.proofs.WitnessLemmas.{letter_a}
+use Rattle.syn_witness.proofs.ExchangeSides.{two_bytes, right_done, left_done, begun_archive, first_archive, both_archive, messages, first_planned, second_planned, plan, both_begin, right_begins, both_list, right_lists, left_fetches, right_stages, right_replaces, right_fetches, left_stages, left_replaces, first_edited, both_edited, started, left_begun, both_begun, right_awaited, listing, left_listed, both_listed, right_list_awaited, fetching, fetched, staging, staged, replacing, replaced, second_fetching, second_fetched, second_staging, second_staged, second_replacing, second_replaced, exchanged, tells, once, edits_left, letter_b, edits_right, begins_left, begins_right, lists_left, lists_right, stays, fetches_first, stages_first, replaces_first, fetches_second, stages_second, replaces_second}
 
 -- The plan is of what the sides listed
 abbrev scans : Which → Scan

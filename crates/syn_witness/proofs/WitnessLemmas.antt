@@ -10,12 +10,12 @@ use Rattle.syn_headline.specs.Side.{Begin}
 use Rattle.syn_headline.specs.Network.{Which, Left, Right, Asks, Sent, NumbersTell, AsksNothingTwice}
 use Rattle.syn_headline.specs.Acknowledged.{Happened, Kept_by}
 use Rattle.syn_headline.specs.World.{World, Running, Outstanding, Step, Start, Tick, Up, Steps, Runs, cut, edit_written, recovered, stopped, goes_on, ended, WasSent, IsOfSession, IsNothing, IsNext, StartsFrom, GoesOnAs}
-use Rattle.syn_headline.specs.Witness.{new_machine, opened_world, OpenedIsStart, StopIsRecovered, SilenceEnds, a_path, put_one, one, unanswered}
+use Rattle.syn_witness.specs.Witness.{new_machine, opened_world, OpenedIsStart, StopIsRecovered, SilenceEnds, a_path, put_one, one, unanswered}
 use Rattle.syn_headline.proofs.FormattedLemmas.{formatted_is_pair}
-use Rattle.syn_headline.proofs.WitnessTrees.{fits_by}
-use Rattle.syn_headline.proofs.WitnessFiles.{IsLetter, content, with_file, alone-entries, file-entries, put-entries, put_allowed}
-use Rattle.syn_headline.proofs.WitnessSteps.{goes, up_not_down}
-use Rattle.syn_headline.proofs.WitnessMessages.{IsNumbered, numbers_tell, asks_once}
+use Rattle.syn_witness.proofs.WitnessTrees.{fits_by}
+use Rattle.syn_witness.proofs.WitnessFiles.{IsLetter, content, with_file, alone-entries, file-entries, put-entries, put_allowed}
+use Rattle.syn_witness.proofs.WitnessSteps.{goes, up_not_down}
+use Rattle.syn_witness.proofs.WitnessMessages.{IsNumbered, numbers_tell, asks_once}
 
 pub opened_is_start : OpenedIsStart
 opened_is_start = record {

@@ -18,7 +18,7 @@ use Rattle.syn_model.specs.Mark.{mark}
 use Rattle.syn_model.specs.Spelling.{spelling, spelling_within, content_spelling}
 use Rattle.syn_model.proofs.PathLemmas.{same_path}
 use Rattle.syn_model.proofs.HistoryLemmas.{empty-is_tree, at_root-is_part, replace-is_tree, same_file}
-use Rattle.syn_headline.proofs.WitnessTrees.{root-entries, replace-entries, mark-entries, get_by, children_in}
+use Rattle.syn_witness.proofs.WitnessTrees.{root-entries, replace-entries, mark-entries, get_by, children_in}
 
 -- lawful names and paths
 pub record IsLetter (n : ℕ) : Type 0 where

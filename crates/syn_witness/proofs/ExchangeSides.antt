@@ -19,14 +19,14 @@ use Rattle.syn_headline.specs.Network.{Which, Left, Right, Asks, Answers, Sent, 
 use Rattle.syn_headline.specs.Acknowledged.{Ack, Happened, Kept_by}
 use Rattle.syn_headline.specs.Planning.{Planned}
 use Rattle.syn_headline.specs.World.{World, Running, Edits, Deliver, Steps, written, edit_written}
-use Rattle.syn_headline.specs.Witness.{opened_world, a_path, b_path, put_one, put_two, one, two, complete}
-use Rattle.syn_headline.proofs.WitnessTrees.{replace-entries, fits_by}
-use Rattle.syn_headline.proofs.WitnessFiles.{IsLetter, content, with_file, alone-entries, file-entries, put-entries, put_allowed, one_byte, file_is_part, file_spelling, file_fits_part, file_fits_paths}
-use Rattle.syn_headline.proofs.WitnessScans.{left_history, left_scan, left-entries, left_root}
-use Rattle.syn_headline.proofs.ExchangeScans.{right_history, right_scan, right-entries, right_root}
-use Rattle.syn_headline.proofs.WitnessMessages.{IsNumbered, number_of, numbers_tell, asks_once, tell_before, once_before}
-use Rattle.syn_headline.proofs.WitnessSteps.{waits, runs_with, world_of, reads_nothing, serves, lists}
-use Rattle.syn_headline.proofs.WitnessLemmas.{edit_allowed}
+use Rattle.syn_witness.specs.Witness.{opened_world, a_path, b_path, put_one, put_two, one, two, complete}
+use Rattle.syn_witness.proofs.WitnessTrees.{replace-entries, fits_by}
+use Rattle.syn_witness.proofs.WitnessFiles.{IsLetter, content, with_file, alone-entries, file-entries, put-entries, put_allowed, one_byte, file_is_part, file_spelling, file_fits_part, file_fits_paths}
+use Rattle.syn_witness.proofs.WitnessScans.{left_history, left_scan, left-entries, left_root}
+use Rattle.syn_witness.proofs.ExchangeScans.{right_history, right_scan, right-entries, right_root}
+use Rattle.syn_witness.proofs.WitnessMessages.{IsNumbered, number_of, numbers_tell, asks_once, tell_before, once_before}
+use Rattle.syn_witness.proofs.WitnessSteps.{waits, runs_with, world_of, reads_nothing, serves, lists}
+use Rattle.syn_witness.proofs.WitnessLemmas.{edit_allowed}
 
 abbrev pub two_bytes : Bytes
 two_bytes = 1 ∷ 0 ∷ 0 ∷ 0 ∷ 1 ∷ 50 ∷ []

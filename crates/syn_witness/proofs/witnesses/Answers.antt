@@ -1,8 +1,8 @@
-use Rattle.syn_headline.proofs.WitnessLemmas.{opened_is_start, stop_is_recovered, silence_ends}
-use Rattle.syn_headline.proofs.WitnessSession.{file_is_carried}
-use Rattle.syn_headline.proofs.ExchangeLemmas.{files_are_exchanged}
-use Rattle.syn_headline.proofs.MarkedLemmas.{carried_is_marked_later}
-use Rattle.syn_headline.proofs.witnesses.Goals as goal
+use Rattle.syn_witness.proofs.WitnessLemmas.{opened_is_start, stop_is_recovered, silence_ends}
+use Rattle.syn_witness.proofs.WitnessSession.{file_is_carried}
+use Rattle.syn_witness.proofs.ExchangeLemmas.{files_are_exchanged}
+use Rattle.syn_witness.proofs.MarkedLemmas.{carried_is_marked_later}
+use Rattle.syn_witness.proofs.witnesses.Goals as goal
 
 pub returns-clause-start : goal.returns-clause-start
 returns-clause-start c = opened_is_start
