@@ -1,5 +1,5 @@
 //! The events of a replica's history.
-ghost use Rattle.std.specs.Prelude.{◌≡◌, IfOk};
+ghost use Rattle.std.specs.Prelude.{◌≡◌, IfOk, IfErr};
 ghost use Rattle.syn_history.specs.Events.{event_of};
 
 use std::alloc::Global;
@@ -33,9 +33,10 @@ pub enum Event {
 }
 
 impl Event {
-    /// An equal event. Refused 11 where memory is refused.
+    /// An equal event. Refused 11 where memory is refused, and for no other cause.
     pub fn copy(&self, alloc: Global) -> Result<Event, PathError>
-        ensures { IfOk result (λ event. event_of event ≡ event_of self.now) }
+        ensures ok { IfOk result (λ event. event_of event ≡ event_of self.now) }
+        ensures memory { IfErr result (λ e. e ≡ PathError.BadPath → ⊥) }
     {
         Ok(match self {
             Event::Put { user, path, bytes } => Event::Put {
