@@ -1,6 +1,7 @@
 use crate::{Event, Token};
 use std::test::Fail;
 use syn_path::Path;
+use syn_tree::Edit;
 
 #[test]
 fn tokens_go_by_session_and_item(rt: HostRuntime) {
@@ -24,12 +25,15 @@ fn tokens_go_by_session_and_item(rt: HostRuntime) {
 #[test]
 fn a_copy_has_what_its_source_has(rt: HostRuntime) -> Result<(), Fail> {
     let alloc = rt.alloc();
-    let put = Event::Put {
+    let put = Event::Edited {
         user: 3,
-        path: Path::parse(alloc, "d/f")?,
-        bytes: vec![in alloc; 104, 105]?,
+        edit: Edit::Put(Path::parse(alloc, "d/f")?, vec![in alloc; 104, 105]?),
     };
-    let Event::Put { user, path, bytes } = put.copy(alloc)? else {
+    let Event::Edited {
+        user,
+        edit: Edit::Put(path, bytes),
+    } = put.copy(alloc)?
+    else {
         return Err(Fail::from("another kind"));
     };
     assert_eq!(rt; user, 3);

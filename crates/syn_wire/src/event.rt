@@ -1,7 +1,9 @@
 //! Events.
-ghost use Rattle.std.specs.Prelude.{◌≡◌, ◌++◌, ◌∷◌, IfOk, OnOk, option_map};
+ghost use Rattle.std.specs.Prelude.{◌≡◌, ◌++◌, ◌∷◌, ℕ, length, IfOk, OnOk, option_map};
 ghost use Rattle.syn_model.specs.Path.{IsPath, path_spelling};
+ghost use Rattle.syn_model.specs.Event.{Edited};
 ghost use Rattle.syn_model.specs.Spelling.{event_spelling};
+ghost use Rattle.syn_tree.specs.Edits.{edit_of};
 ghost use Rattle.syn_history.specs.Events.{event_of};
 ghost use Rattle.syn_wire.specs.Events.{Both, IsFile, IsNumber32, IsPlainEvent, IsShort, both_spelling, file_spelling, number_spelling};
 ghost use Rattle.syn_wire.specs.Reads.{IsReading};
@@ -9,11 +11,12 @@ ghost use Rattle.syn_wire.specs.Reads.{IsReading};
 use crate::bytes::{read_file, write_file};
 use crate::error::WireError;
 use crate::number::{read_u32, read_u64};
-use crate::path::{decode_path, write_path};
+use crate::path::{decode_path, path_length, write_path};
 use crate::spelling_laws;
 use std::alloc::Global;
 use syn_history::Event;
 use syn_path::Path;
+use syn_tree::Edit;
 
 const PUT: u8 = 1;
 
@@ -30,27 +33,52 @@ pub fn encode_event(alloc: Global, event: &Event) -> Result<Vec<u8>, WireError>
     requires { IsShort (event_of event.now) }
     ensures { IfOk result (λ bytes. bytes.items ≡ event_spelling (event_of event.now)) }
 {
-    let mut out = Vec::new(alloc);
     match event {
-        Event::Put { user, path, bytes } => {
-            out.push(PUT)?;
-            write_place(&mut out, *user, path)?;
-            write_file(&mut out, bytes)?;
-        }
-        Event::MakeDir { user, path } => {
-            out.push(MAKE_DIR)?;
-            write_place(&mut out, *user, path)?;
-        }
-        Event::Remove { user, path } => {
-            out.push(REMOVE)?;
-            write_place(&mut out, *user, path)?;
-        }
+        Event::Edited { user, edit } => encode_edit(alloc, *user, edit),
         Event::Began { session } => {
+            let mut out = Vec::new(alloc);
             out.push(BEGAN)?;
             out.extend_from_slice(&session.to_be_bytes())?;
+            Ok(out)
+        }
+    }
+}
+
+/// The spelling of the event that the user made the edit.
+///
+/// Refused 11 where memory is refused.
+pub fn encode_edit(alloc: Global, user: u32, edit: &Edit) -> Result<Vec<u8>, WireError>
+    requires { IsShort (Edited user (edit_of edit.now)) }
+    ensures { IfOk result (λ bytes. bytes.items ≡ event_spelling (Edited user (edit_of edit.now))) }
+{
+    let mut out = Vec::new(alloc);
+    match edit {
+        Edit::Put(path, bytes) => {
+            out.push(PUT)?;
+            write_place(&mut out, user, path)?;
+            write_file(&mut out, bytes)?;
+        }
+        Edit::MakeDir(path) => {
+            out.push(MAKE_DIR)?;
+            write_place(&mut out, user, path)?;
+        }
+        Edit::Remove(path) => {
+            out.push(REMOVE)?;
+            write_place(&mut out, user, path)?;
         }
     }
     Ok(out)
+}
+
+/// How many bytes spell the event that a user made the edit.
+pub fn edit_length(edit: &Edit) -> usize
+    ensures { (user : ℕ) → result ≡ length (event_spelling (Edited user (edit_of edit.now))) }
+{
+    match edit {
+        Edit::Put(path, bytes) => 9 + path_length(path) + bytes.len(),
+        Edit::MakeDir(path) => 5 + path_length(path),
+        Edit::Remove(path) => 5 + path_length(path),
+    }
 }
 
 /// The event that the bytes begin with, and the rest; none where no front of them is the spelling of an event, or where
@@ -77,7 +105,13 @@ fn read_put(alloc: Global, fields: &[u8]) -> Result<Option<(Event, &[u8])>, Wire
     ensures { IfOk result (λ read. IsReading IsPlainEvent event_spelling (PUT ∷ fields.now) (option_map (λ found. (event_of found.0, found.1.now)) read)) }
 {
     match read_placed_file(alloc, fields)? {
-        Some((user, path, bytes, rest)) => Ok(Some((Event::Put { user, path, bytes }, rest))),
+        Some((user, path, bytes, rest)) => Ok(Some((
+            Event::Edited {
+                user,
+                edit: Edit::Put(path, bytes),
+            },
+            rest,
+        ))),
         None => Ok(None),
     }
 }
@@ -86,7 +120,13 @@ fn read_make_dir(alloc: Global, fields: &[u8]) -> Result<Option<(Event, &[u8])>,
     ensures { IfOk result (λ read. IsReading IsPlainEvent event_spelling (MAKE_DIR ∷ fields.now) (option_map (λ found. (event_of found.0, found.1.now)) read)) }
 {
     match read_place(alloc, fields)? {
-        Some((user, path, rest)) => Ok(Some((Event::MakeDir { user, path }, rest))),
+        Some((user, path, rest)) => Ok(Some((
+            Event::Edited {
+                user,
+                edit: Edit::MakeDir(path),
+            },
+            rest,
+        ))),
         None => Ok(None),
     }
 }
@@ -95,7 +135,13 @@ fn read_remove(alloc: Global, fields: &[u8]) -> Result<Option<(Event, &[u8])>, W
     ensures { IfOk result (λ read. IsReading IsPlainEvent event_spelling (REMOVE ∷ fields.now) (option_map (λ found. (event_of found.0, found.1.now)) read)) }
 {
     match read_place(alloc, fields)? {
-        Some((user, path, rest)) => Ok(Some((Event::Remove { user, path }, rest))),
+        Some((user, path, rest)) => Ok(Some((
+            Event::Edited {
+                user,
+                edit: Edit::Remove(path),
+            },
+            rest,
+        ))),
         None => Ok(None),
     }
 }

@@ -12,7 +12,7 @@ mod number;
 mod path;
 
 pub use error::WireError;
-pub use event::{decode_event, encode_event};
+pub use event::{decode_event, edit_length, encode_edit, encode_event};
 pub use number::{read_u16, read_u32, read_u64};
 pub use path::{decode_path, encode_path, write_path};
 

@@ -1,5 +1,5 @@
 //! Names and paths.
-ghost use Rattle.std.specs.Prelude.{◌≡◌, ◌++◌, IfOk, OnOk, option_map};
+ghost use Rattle.std.specs.Prelude.{◌≡◌, ◌≤◌, ◌++◌, length, IfOk, OnOk, option_map};
 ghost use Rattle.syn_model.specs.Path.{IsName, IsPath, path_spelling};
 ghost use Rattle.syn_wire.specs.Reads.{IsReading};
 ghost use Rattle.syn_wire.specs.Names.{AreNames, name_spelling, names_spelling};
@@ -50,6 +50,18 @@ pub fn write_path(out: &mut Vec<u8>, path: &Path) -> Result<(), WireError>
         out.extend_from_slice(text.as_bytes())?;
     }
     Ok(())
+}
+
+// How many bytes spell the path.
+pub(crate) fn path_length(path: &Path) -> usize
+    ensures length { result ≡ length (path_spelling path.now) }
+    ensures brief { result ≤ 255 }
+{
+    let mut length = 1;
+    for name in path.names() {
+        length += 1 + name.as_str().len();
+    }
+    length
 }
 
 // So many names.

@@ -2,12 +2,14 @@ ghost use Rattle.syn_history.specs.Events.{event_of};
 ghost use Rattle.syn_wire.specs.Events.{IsShort};
 
 use crate::{
-    WireError, decode_event, decode_path, encode_event, encode_path, read_u16, read_u32, read_u64,
+    WireError, decode_event, decode_path, edit_length, encode_event, encode_path, read_u16,
+    read_u32, read_u64,
 };
 use std::alloc::Global;
 use std::test::Fail;
 use syn_history::Event;
 use syn_path::Path;
+use syn_tree::Edit;
 
 #[test]
 fn a_path_is_a_count_and_names_with_their_lengths(rt: HostRuntime) -> Result<(), Fail> {
@@ -58,19 +60,19 @@ fn numbers_are_big_endian(rt: HostRuntime) {
     assert_eq!(rt; WireError::Memory.number(), 11);
 }
 
+fn is_same_edit(one: &Edit, other: &Edit) -> bool {
+    match (one, other) {
+        (Edit::Put(path, bytes), Edit::Put(p, b)) => path == p && bytes == b,
+        (Edit::MakeDir(path), Edit::MakeDir(p)) | (Edit::Remove(path), Edit::Remove(p)) => path
+            == p,
+        _ => false,
+    }
+}
+
 fn is_same(one: &Event, other: &Event) -> bool {
     match (one, other) {
-        (
-            Event::Put { user, path, bytes },
-            Event::Put {
-                user: u,
-                path: p,
-                bytes: b,
-            },
-        ) => user == u && path == p && bytes == b,
-        (Event::MakeDir { user, path }, Event::MakeDir { user: u, path: p })
-        | (Event::Remove { user, path }, Event::Remove { user: u, path: p }) => {
-            user == u && path == p
+        (Event::Edited { user, edit }, Event::Edited { user: u, edit: e }) => {
+            user == u && is_same_edit(edit, e)
         }
         (Event::Began { session }, Event::Began { session: n }) => session == n,
         _ => false,
@@ -95,25 +97,37 @@ fn is_spelled(alloc: Global, event: &Event, wanted: &[u8]) -> Result<bool, Fail>
 #[test]
 fn events_are_kinds_with_what_they_have(rt: HostRuntime) -> Result<(), Fail> {
     let alloc = rt.alloc();
-    let put = Event::Put {
+    let put = Event::Edited {
         user: 1,
-        path: Path::parse(alloc, "a")?,
-        bytes: vec![in alloc; 104, 105]?,
+        edit: Edit::Put(Path::parse(alloc, "a")?, vec![in alloc; 104, 105]?),
     };
     let spelling: &[u8] = &[1, 0, 0, 0, 1, 1, 1, 97, 0, 0, 0, 2, 104, 105];
     assert!(rt; is_spelled(alloc, &put, spelling)?);
-    let made = Event::MakeDir {
+    let made = Event::Edited {
         user: 1,
-        path: Path::parse(alloc, "d")?,
+        edit: Edit::MakeDir(Path::parse(alloc, "d")?),
     };
     assert!(rt; is_spelled(alloc, &made, &[2, 0, 0, 0, 1, 1, 1, 100])?);
-    let removed = Event::Remove {
+    let removed = Event::Edited {
         user: 258,
-        path: Path::parse(alloc, ".")?,
+        edit: Edit::Remove(Path::parse(alloc, ".")?),
     };
     assert!(rt; is_spelled(alloc, &removed, &[3, 0, 0, 1, 2, 0])?);
     let began = Event::Began { session: 9 };
     assert!(rt; is_spelled(alloc, &began, &[4, 0, 0, 0, 0, 0, 0, 0, 9])?);
+    Ok(())
+}
+
+#[test]
+fn the_length_of_an_edit_is_known_before_it_is_spelled(rt: HostRuntime) -> Result<(), Fail> {
+    let alloc = rt.alloc();
+    let put = Edit::Put(Path::parse(alloc, "d/f")?, vec![in alloc; 104, 105]?);
+    let made = Edit::MakeDir(Path::parse(alloc, "d")?);
+    let removed = Edit::Remove(Path::parse(alloc, ".")?);
+    assert_eq!(rt;
+        [edit_length(&put), edit_length(&made), edit_length(&removed)],
+        [16, 8, 6]
+    );
     Ok(())
 }
 
