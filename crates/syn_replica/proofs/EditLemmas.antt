@@ -1,34 +1,48 @@
 -- Why an edit is refused or allowed, by what the replica remembers.
-use Rattle.std.proofs.Common.{◌≡◌, ◌<◌, ◌≤◌, ◌⊎◌, ◌+◌, ◌-◌, ◌^◌, ℕ, List, [], ◌∷◌, length, refl, sym, ap, ap₂, ◌∙◌, subst, Option, Some, None, Result, Ok, Err, inl, inr, arith}
+use Rattle.std.proofs.Common.{◌≡◌, ◌≢◌, ◌<◌, ◌≤◌, ◌⊎◌, ◌+◌, ◌-◌, ◌^◌, ℕ, Bool, true, false, List, [], ◌∷◌, length, refl, sym, ap, ap₂, ◌∙◌, subst, true≢false, Option, Some, None, Result, Ok, Err, inl, inr, arith}
 use Rattle.std.specs.Prelude.{IfErr, ◌++◌}
 use Rattle.std.specs.Int.{to_be_bytes, w32}
-use Rattle.syn_model.specs.Spelling.{event_spelling}
-use Rattle.std.specs.FinMap.{insert}
 use Rattle.syn_disk.specs.declared.disk.Disk.{Ghosts}
-use Rattle.syn_model.specs.Path.{Bytes, Name, Path, IsPath, path_spelling}
-use Rattle.syn_model.specs.Tree.{IsTree}
-use Rattle.syn_model.specs.Event.{Put, Edited, AreBytes, after_event}
-use Rattle.syn_model.specs.Refusal.{Refusal, number}
-use Rattle.syn_model.specs.History.{History, IsAllowed, tree_of, event_refusal}
-use Rattle.syn_model.proofs.PathLemmas.{some_same, none_some}
-use Rattle.syn_model.proofs.HistoryLemmas.{history-is_tree}
-use Rattle.syn_replica.specs.FileMap.{FileMap, flat_tree, fits_files}
-use Rattle.syn_replica.specs.Files.{map_of}
-use Rattle.syn_replica.specs.Entries.{files_in}
-use Rattle.syn_replica.specs.Refusals.{refusal_of, IsOfEdit}
-use Rattle.syn_replica.specs.Admission.{refusal_by, IsAdmitted, IsAdmission, IsOfTree, IsOfCommit}
+use Rattle.syn_model.specs.Path.{path_spelling}
+use Rattle.syn_model.specs.Tree.{Tree}
+use Rattle.syn_model.specs.Event.{Edit, Put, MakeDir, Remove, Edited, IsLawfulEdit, after_edit}
+use Rattle.syn_model.specs.Refusal.{Refusal, number, first_cause}
+use Rattle.syn_model.specs.Standing.{edit_causes, full_causes, full_position, edit_refusal}
+use Rattle.syn_model.specs.Spelling.{event_spelling}
+use Rattle.syn_model.specs.History.{History, IsAllowed, event_refusal}
+use Rattle.syn_tree.specs.Refusals.{refusal_of as tree_refusal}
+use Rattle.syn_tree.specs.declared.error.TreeError.{TreeError}
+use Rattle.syn_tree.specs.declared.error.TreeError.TheVariants as tree
+use Rattle.syn_replica.specs.Refusals.{refusal_of, of_tree, IsOfEdit}
+use Rattle.syn_replica.specs.Admission.{refusal_by, IsAdmission, IsOfTree, IsOfCommit}
 use Rattle.syn_replica.specs.Replica.{Remembers, tree_shown, position_shown}
-use Rattle.syn_replica.specs.declared.files.Files.{Files}
 use Rattle.syn_replica.specs.declared.replica.Replica.{Replica}
 use Rattle.syn_replica.specs.declared.error.ReplicaError.{ReplicaError}
-use Rattle.syn_replica.specs.declared.error.ReplicaError.TheVariants.{NoParent, Absent, Root, Full, JournalFull, Device, Halted, Memory, NoImage, Damaged, WrongPair}
-use Rattle.syn_replica.proofs.FlatLemmas.{put-flat}
-use Rattle.syn_replica.proofs.MapLemmas.{entries-put}
-use Rattle.syn_replica.proofs.PlaceLemmas.{few}
-use Rattle.syn_replica.proofs.ReadingLemmas.{ok_err, same_error}
+use Rattle.syn_replica.specs.declared.error.ReplicaError.TheVariants.{NoParent, IsDirectory, Exists, Absent, Root, Full, JournalFull, Device, Halted, Memory, NoImage, Damaged, WrongPair}
+use Rattle.syn_replica.proofs.CauseLemmas.{none_some, some_same}
+
+is_ok : {X : Type 0} → Result X ReplicaError → Bool
+is_ok (Ok x) = true
+is_ok (Err e) = false
+
+pub ok_err : {X : Type 0} (x : X) (e : ReplicaError) → Ok x ≡ Err e → ⊥
+unfolding is_ok
+ok_err {X} x e same = true≢false (ap is_ok same)
+
+error_or : {X : Type 0} → Result X ReplicaError → ReplicaError → ReplicaError
+error_or (Ok x) other = other
+error_or (Err e) other = e
+
+pub same_error : {X : Type 0} (a b : ReplicaError) → ◌≡◌ {A = Result X ReplicaError} (Err a) (Err b) → a ≡ b
+unfolding error_or
+same_error {X} a b same = ap {A = Result X ReplicaError} (λ r. error_or r a) same
+
+-- ---- what an admission answers
 
 pub admission_tree : (r : Option Refusal) (e : ReplicaError) → IsAdmission r (Err e) → IsOfTree e → r ≡ Some (refusal_of e)
 admission_tree r NoParent h t = h.0
+admission_tree r IsDirectory h t = h.0
+admission_tree r Exists h t = h.0
 admission_tree r Absent h t = h.0
 admission_tree r Root h t = h.0
 admission_tree r Full h t = h.0
@@ -42,6 +56,8 @@ admission_tree r WrongPair h t = h.0
 
 pub admission_refused : (r : Option Refusal) (e : ReplicaError) (why : Refusal) → IsAdmission r (Err e) → r ≡ Some why → refusal_of e ≡ why
 admission_refused r NoParent why h t = some_same (sym h.0 ∙ t)
+admission_refused r IsDirectory why h t = some_same (sym h.0 ∙ t)
+admission_refused r Exists why h t = some_same (sym h.0 ∙ t)
 admission_refused r Absent why h t = some_same (sym h.0 ∙ t)
 admission_refused r Root why h t = some_same (sym h.0 ∙ t)
 admission_refused r Full why h t = some_same (sym h.0 ∙ t)
@@ -53,35 +69,11 @@ admission_refused r NoImage why h t = some_same (sym h.0 ∙ t)
 admission_refused r Damaged why h t = some_same (sym h.0 ∙ t)
 admission_refused r WrongPair why h t = some_same (sym h.0 ∙ t)
 
-module _ {D : Type 0} {disk : Ghosts D} (replica : Replica D disk) (history : History) (r : Remembers replica history) where
-  pub shown_is_tree : IsTree (tree_shown replica)
-  shown_is_tree = subst IsTree (sym r.tree) (history-is_tree history r.lawful)
-
-  pub same_refusal : (user : ℕ) (path : Path) (bytes : Bytes) → refusal_by (tree_shown replica) (position_shown replica) (Put path bytes) ≡ event_refusal history (Edited user (Put path bytes))
-  same_refusal user path bytes = ap₂ (λ tree position. refusal_by tree position (Put path bytes)) r.tree r.position
-
-  pub allowed_by : (user : ℕ) (path : Path) (bytes : Bytes) → user < 2 ^ 32 → IsPath path → AreBytes bytes → refusal_by (tree_shown replica) (position_shown replica) (Put path bytes) ≡ None → IsAllowed history (Edited user (Put path bytes))
-  allowed_by user path bytes hu hp hb none = record { lawful = (hu, (hp, hb)); not_refused = sym (same_refusal user path bytes) ∙ none }
-
-  pub put_gives : (user : ℕ) (path : Path) (name : Name) (bytes : Bytes) (files : FileMap) → files ≡ map_of replica.files → path ≡ name ∷ [] → flat_tree (insert files name bytes) ≡ after_event (tree_of history) (Edited user (Put path bytes))
-  put_gives user path name bytes files same is =
-      put-flat files name bytes
-      ∙ ap₂ (λ tree p. after_event tree (Edited user (Put p bytes))) (ap flat_tree same ∙ r.tree) (sym is)
-
-one : (p : Path) → length p ≡ 1 → (n : Name) × (p ≡ n ∷ [])
-one [] e = absurd (omega arith)
-one (n ∷ []) e = (n, refl)
-one (n ∷ m ∷ p) e = absurd (omega arith)
-
--- what is admitted has few bytes
-pub admitted_few : (files : Files) (path : Path) (size : ℕ) (bytes : Bytes) → IsAdmitted (map_of files) path size → length bytes ≡ size → length bytes < 4294967296
-admitted_few files path size bytes a e =
-    let name = one path a.named in
-    few name.0 bytes (files_in files.entries.items) files.fit (sym (ap fits_files (entries-put files.entries.items name.0 bytes files.in_order)) ∙ a.fits name.0 bytes name.1 e)
-
 -- JournalFull alone is answered where the tree and the position allow the edit
 pub admission_full : (r : Option Refusal) (e : ReplicaError) → IsAdmission r (Err e) → r ≡ None → e ≡ JournalFull
 admission_full r NoParent h none = absurd (none_some (sym none ∙ h.0))
+admission_full r IsDirectory h none = absurd (none_some (sym none ∙ h.0))
+admission_full r Exists h none = absurd (none_some (sym none ∙ h.0))
 admission_full r Absent h none = absurd (none_some (sym none ∙ h.0))
 admission_full r Root h none = absurd (none_some (sym none ∙ h.0))
 admission_full r Full h none = absurd (none_some (sym none ∙ h.0))
@@ -96,10 +88,20 @@ admission_full r WrongPair h none = absurd (none_some (sym none ∙ h.0))
 pub admission_none : (r : Option Refusal) (e : ReplicaError) → IsAdmission r (Err e) → e ≡ JournalFull → r ≡ None
 admission_none r e h same = subst (λ x. IsAdmission r (Err x)) same h
 
--- each refusal of a part of an edit is one of an edit
+module _ {D : Type 0} {disk : Ghosts D} (replica : Replica D disk) (history : History) (r : Remembers replica history) where
+  pub same_refusal : (user : ℕ) (edit : Edit) → refusal_by (tree_shown replica) (position_shown replica) edit ≡ event_refusal history (Edited user edit)
+  same_refusal user edit = ap₂ (λ tree position. refusal_by tree position edit) r.tree r.position
+
+  pub allowed_by : (user : ℕ) (edit : Edit) → user < 2 ^ 32 → IsLawfulEdit edit → refusal_by (tree_shown replica) (position_shown replica) edit ≡ None → IsAllowed history (Edited user edit)
+  allowed_by user edit hu he none = record { lawful = (hu, he); not_refused = sym (same_refusal user edit) ∙ none }
+
+-- ---- each refusal of a part of an edit is one of an edit
+
 edit_of_tree : (e : ReplicaError) → IsOfTree e → IsOfEdit e
 edit_of_tree NoParent h = tt
-edit_of_tree Absent h = absurd h
+edit_of_tree IsDirectory h = tt
+edit_of_tree Exists h = tt
+edit_of_tree Absent h = tt
 edit_of_tree Root h = tt
 edit_of_tree Full h = tt
 edit_of_tree JournalFull h = tt
@@ -116,6 +118,8 @@ edit_of_admission e (inr h) = subst IsOfEdit (sym h) tt
 
 commit_edit : (e : ReplicaError) → IsOfCommit e → IsOfEdit e
 commit_edit NoParent h = absurd h
+commit_edit IsDirectory h = absurd h
+commit_edit Exists h = absurd h
 commit_edit Absent h = absurd h
 commit_edit Root h = absurd h
 commit_edit Full h = absurd h
@@ -141,11 +145,33 @@ module _ {X : Type 0} (H : Type 0) where
 pub memory_full : {X : Type 0} (e : ReplicaError) → e ≡ Memory → ◌≡◌ {A = Result X ReplicaError} (Err e) (Err JournalFull) → ⊥
 memory_full {X} e memory same = let numbers = ap (λ e. number (refusal_of e)) (sym memory ∙ same_error e JournalFull same) in absurd (omega (arith, numbers))
 
+pub memory_absent : {X : Type 0} → ◌≡◌ {A = Result X ReplicaError} (Err Memory) (Err Absent) → ⊥
+memory_absent {X} same = let numbers = ap (λ e. number (refusal_of e)) (same_error Memory Absent same) in absurd (omega (arith, numbers))
+
+-- errors of different numbers are different
+differ : (a b : TreeError) → (number (tree_refusal a) ≡ number (tree_refusal b) → ⊥) → a ≡ b → ⊥
+differ a b numbers same = numbers (ap (λ e. number (tree_refusal e)) same)
+
+-- a listing that the tree refuses as absent is refused so, and else for want of memory
+pub absent_of_tree : {X : Type 0} (H D : Type 0) (e : TreeError) → (e ≢ tree.Memory → (e ≡ tree.Absent) × D) → (H → ⊥) →
+    (◌≡◌ {A = Result X ReplicaError} (Err (of_tree e)) (Err Absent) → (H → ⊥) × D) × ((H → ⊥) × D → ◌≡◌ {A = Result X ReplicaError} (Err (of_tree e)) (Err Absent))
+absent_of_tree H D tree.Absent h runs = (λ e. (runs, (h (λ same. differ tree.Absent tree.Memory (λ n. omega (arith, n)) same)).1), λ b. refl)
+absent_of_tree H D tree.Memory h runs = (λ e. absurd (memory_absent e), λ b. ?)
+absent_of_tree H D tree.NoParent h runs = absurd (differ tree.NoParent tree.Absent (λ n. omega (arith, n)) (h (λ same. differ tree.NoParent tree.Memory (λ n. omega (arith, n)) same)).0)
+absent_of_tree H D tree.IsDirectory h runs = absurd (differ tree.IsDirectory tree.Absent (λ n. omega (arith, n)) (h (λ same. differ tree.IsDirectory tree.Memory (λ n. omega (arith, n)) same)).0)
+absent_of_tree H D tree.Exists h runs = absurd (differ tree.Exists tree.Absent (λ n. omega (arith, n)) (h (λ same. differ tree.Exists tree.Memory (λ n. omega (arith, n)) same)).0)
+absent_of_tree H D tree.Root h runs = absurd (differ tree.Root tree.Absent (λ n. omega (arith, n)) (h (λ same. differ tree.Root tree.Memory (λ n. omega (arith, n)) same)).0)
+absent_of_tree H D tree.Full h runs = absurd (differ tree.Full tree.Absent (λ n. omega (arith, n)) (h (λ same. differ tree.Full tree.Memory (λ n. omega (arith, n)) same)).0)
+
+-- ---- room for a payload
+
 some_bytes : (x : ℕ) (xs : List ℕ) → 1 ≤ length (x ∷ xs)
 some_bytes x xs = omega arith
 
-pub put_has_bytes : (user : ℕ) (path : Path) (bytes : Bytes) → 1 ≤ length (event_spelling (Edited user (Put path bytes)))
-put_has_bytes user path bytes = some_bytes 1 (to_be_bytes w32 user ++ (path_spelling path ++ (to_be_bytes w32 (length bytes) ++ bytes)))
+pub edit_has_bytes : (user : ℕ) (edit : Edit) → 1 ≤ length (event_spelling (Edited user edit))
+edit_has_bytes user (Put path bytes) = some_bytes 1 (to_be_bytes w32 user ++ (path_spelling path ++ (to_be_bytes w32 (length bytes) ++ bytes)))
+edit_has_bytes user (MakeDir path) = some_bytes 2 (to_be_bytes w32 user ++ path_spelling path)
+edit_has_bytes user (Remove path) = some_bytes 3 (to_be_bytes w32 user ++ path_spelling path)
 
 -- a payload that fits in the room fits in the half
 pub fits_half : (half gate n : ℕ) → 1 ≤ n → n ≤ half - gate - 6 → gate + 6 + n ≤ half

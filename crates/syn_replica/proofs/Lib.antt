@@ -1,10 +1,5 @@
-pub mod FlatLemmas
-pub mod PlaceLemmas
-pub mod MapLemmas
-pub mod PayloadLemmas
 pub mod ImageLemmas
-pub mod RefusalLemmas
-pub mod ReadingLemmas
+pub mod CauseLemmas
 pub mod StandLemmas
 pub mod EditLemmas
 pub mod AlikeLemmas

@@ -5,28 +5,27 @@ use Rattle.syn_disk.specs.declared.disk.Disk.{Ghosts}
 use Rattle.syn_journal.specs.Layout.{Value, Fault, meaning, with_payload, IsBeforeOrAfter}
 use Rattle.syn_journal.specs.Journal as journal
 use Rattle.syn_journal.specs.Stops.{LeavesOnly}
+use Rattle.syn_model.specs.Laws.{AllowedGoesOn, PayloadGoesOn, StandingSteps}
 use Rattle.syn_model.specs.Path.{Bytes}
 use Rattle.syn_model.specs.Event.{Event, after_event}
 use Rattle.syn_model.specs.History.{History, IsAllowed, tree_of}
 use Rattle.syn_model.specs.Spelling.{event_spelling}
 use Rattle.syn_model.specs.Image.{StandsFor}
-use Rattle.syn_model.proofs.HistoryLemmas.{allowed_goes_on, tree_of-append}
-use Rattle.syn_model.proofs.ImageLemmas.{payload_goes_on}
 use Rattle.syn_replica.specs.Disks.{DiskStands, StandsBeforeOrAfter}
 use Rattle.syn_replica.specs.Opening.{IsShownBy}
 use Rattle.syn_replica.specs.declared.replica.Replica.{Replica}
 use Rattle.syn_replica.specs.Replica.{Remembers, Stands, tree_shown, position_shown, pair_of, journal_of, disk_of}
 
 -- the payload of an allowed event takes the value one event on
-pub payload_stands : (pair : ℕ) (value : Value) (payload : Bytes) (history : History) (event : Event) → StandsFor pair value.image value.payloads history → IsAllowed history event → payload ≡ event_spelling event →
+pub payload_stands : PayloadGoesOn → (pair : ℕ) (value : Value) (payload : Bytes) (history : History) (event : Event) → StandsFor pair value.image value.payloads history → IsAllowed history event → payload ≡ event_spelling event →
     StandsFor pair value.image (value.payloads ++ payload ∷ []) (history ++ event ∷ [])
-payload_stands pair value payload history event stands allowed e =
-    subst (λ p. StandsFor pair value.image (value.payloads ++ p ∷ []) (history ++ event ∷ [])) (sym e) (payload_goes_on pair value.image value.payloads history event stands allowed)
+payload_stands goes_on pair value payload history event stands allowed e =
+    subst (λ p. StandsFor pair value.image (value.payloads ++ p ∷ []) (history ++ event ∷ [])) (sym e) (goes_on pair value.image value.payloads history event stands allowed)
 
-pub stop_stands : (pair : ℕ) (value : Value) (payload : Bytes) (history : History) (event : Event) → StandsFor pair value.image value.payloads history → IsAllowed history event → payload ≡ event_spelling event →
+pub stop_stands : PayloadGoesOn → (pair : ℕ) (value : Value) (payload : Bytes) (history : History) (event : Event) → StandsFor pair value.image value.payloads history → IsAllowed history event → payload ≡ event_spelling event →
     (bytes : Bytes) → IsBeforeOrAfter value payload bytes → StandsBeforeOrAfter pair history event bytes
-stop_stands pair value payload history event stands allowed e bytes (inl m) = inl (record { value = value; means = m; stands = stands })
-stop_stands pair value payload history event stands allowed e bytes (inr m) = inr (record { value = with_payload value payload; means = m; stands = payload_stands pair value payload history event stands allowed e })
+stop_stands goes_on pair value payload history event stands allowed e bytes (inl m) = inl (record { value = value; means = m; stands = stands })
+stop_stands goes_on pair value payload history event stands allowed e bytes (inr m) = inr (record { value = with_payload value payload; means = m; stands = payload_stands goes_on pair value payload history event stands allowed e })
 
 -- what a stop leaves has more than was said of it
 pub leaves_weaker : {D : Type 0} (moment : D → ℕ) (left_since : D → ℕ → List ℕ → Type 0) (old new : D) (P Q : List ℕ → Type 0) → ((c : List ℕ) → P c → Q c) → LeavesOnly moment left_since old new P → LeavesOnly moment left_since old new Q
@@ -37,11 +36,11 @@ leaves_weaker moment left_since old new P Q f l = record {
 }
 
 -- with the event the replica remembers the longer history
-pub remembers_more : {D : Type 0} {disk : Ghosts D} (old new : Replica D disk) (history : History) (event : Event) → Remembers old history → IsAllowed history event →
+pub remembers_more : AllowedGoesOn → StandingSteps → {D : Type 0} {disk : Ghosts D} (old new : Replica D disk) (history : History) (event : Event) → Remembers old history → IsAllowed history event →
     tree_shown new ≡ after_event (tree_of history) event → position_shown new ≡ position_shown old + 1 → Remembers new (history ++ event ∷ [])
-remembers_more old new history event r allowed tree position = record {
-  lawful = allowed_goes_on history event r.lawful allowed;
-  tree = tree ∙ sym (tree_of-append history (event ∷ []));
+remembers_more goes_on steps old new history event r allowed tree position = record {
+  lawful = goes_on history event r.lawful allowed;
+  tree = tree ∙ sym (ap (λ s. s.tree) (steps history event));
   position = position ∙ (ap (λ n. n + 1) r.position ∙ sym (length-append history (event ∷ [])));
 }
 

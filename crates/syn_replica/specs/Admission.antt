@@ -1,30 +1,25 @@
 -- What is looked at before an edit is made.
-use Rattle.std.specs.Prelude.{◌≡◌, ◌<◌, ℕ, true, [], ◌∷◌, ◌++◌, length, Option, Some, None, Result, Ok, Err}
-use Rattle.std.specs.FinMap.{entries, insert}
-use Rattle.syn_model.specs.Path.{Bytes, Name, Path}
+use Rattle.std.specs.Prelude.{◌≡◌, ◌<◌, ℕ, ◌++◌, length, Option, Some, None, Result, Ok, Err}
 use Rattle.syn_model.specs.Tree.{Tree}
 use Rattle.syn_model.specs.Event.{Event, Edit, after_edit}
 use Rattle.syn_model.specs.History.{History, event_refusal}
 use Rattle.syn_model.specs.Spelling.{event_spelling}
 use Rattle.syn_model.specs.Refusal.{Refusal, first_cause}
 use Rattle.syn_model.specs.Standing.{edit_causes, full_causes, full_position}
-use Rattle.syn_replica.specs.FileMap.{FileMap, fits_files}
 use Rattle.syn_replica.specs.Refusals.{refusal_of}
 use Rattle.syn_replica.specs.declared.error.ReplicaError.{ReplicaError}
-use Rattle.syn_replica.specs.declared.error.ReplicaError.TheVariants.{NoParent, Root, Full, JournalFull, Device, Memory}
+use Rattle.syn_replica.specs.declared.error.ReplicaError.TheVariants.{NoParent, IsDirectory, Exists, Absent, Root, Full, JournalFull, Device, Memory}
 
 -- why an edit is refused by a tree and a position
 abbrev pub refusal_by : Tree → ℕ → Edit → Option Refusal
 refusal_by tree position edit = first_cause (edit_causes tree edit ++ (full_causes (after_edit tree edit) ++ full_position position))
 
--- the path is a name in the root, and a file of so many bytes there keeps the limits
-pub record IsAdmitted (files : FileMap) (path : Path) (size : ℕ) : Type 0 where
-  pub named : length path ≡ 1
-  pub fits : (name : Name) (bytes : Bytes) → path ≡ name ∷ [] → length bytes ≡ size → fits_files (entries (insert files name bytes)) ≡ true
-
 -- the refusals that a tree or a position is the cause of
 abbrev pub IsOfTree : ReplicaError → Type 0
 IsOfTree NoParent = Unit {0}
+IsOfTree IsDirectory = Unit {0}
+IsOfTree Exists = Unit {0}
+IsOfTree Absent = Unit {0}
 IsOfTree Root = Unit {0}
 IsOfTree Full = Unit {0}
 IsOfTree _ = ⊥

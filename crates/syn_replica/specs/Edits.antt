@@ -1,12 +1,8 @@
--- An edit as the model has it.
+-- An edit of a user as an event.
 use Rattle.std.specs.Prelude.{ℕ}
 use Rattle.syn_model.specs.Event.{Event, Edited}
-use Rattle.syn_model.specs.Event as model
-use Rattle.syn_replica.specs.declared.edit.Edit.{Edit}
-use Rattle.syn_replica.specs.declared.edit.Edit.TheVariants.{Put}
-
-abbrev pub edit_of : Edit → model.Edit
-edit_of (Put path bytes) = model.Put path bytes.items
+use Rattle.syn_tree.specs.Edits.{edit_of}
+use Rattle.syn_tree.specs.declared.edit.Edit.{Edit}
 
 abbrev pub event_by : ℕ → Edit → Event
 event_by user edit = Edited user (edit_of edit)

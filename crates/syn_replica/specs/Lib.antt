@@ -1,15 +1,8 @@
-pub mod FileMap
-pub mod Place
-pub mod Entries
-pub mod Files
-pub mod Stored
 pub mod Formatted
-pub mod Puts
+pub mod OfEdits
 pub mod Opening
-pub mod Contents
 pub mod Admission
 pub mod Edits
 pub mod Disks
 pub mod Replica
 pub mod Refusals
-pub mod Payload

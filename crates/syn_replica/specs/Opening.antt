@@ -1,23 +1,23 @@
 -- What the payloads of a formatted disk give.
-use Rattle.std.specs.Prelude.{◌≡◌, ◌≢◌, ◌<◌, ◌^◌, ℕ, List, length, map, Option, Some}
+use Rattle.std.specs.Prelude.{◌≡◌, ◌≢◌, ◌<◌, ◌^◌, ℕ, List, length, map, Option, Some, None}
 use Rattle.std.specs.Global.{Vec}
 use Rattle.syn_model.specs.Path.{Bytes}
 use Rattle.syn_model.specs.Tree.{Tree}
-use Rattle.syn_model.specs.Event.{Event, after_event}
+use Rattle.syn_model.specs.Event.{Edit, Event, Edited, after_event}
 use Rattle.syn_model.specs.History.{History, IsAllowed, tree_of}
 use Rattle.syn_model.specs.Spelling.{event_spelling}
 use Rattle.syn_model.specs.Image.{StandsFor}
-use Rattle.syn_replica.specs.FileMap.{FileMap, flat_tree}
+use Rattle.syn_wire.specs.Events.{IsSpelledEvent}
 use Rattle.syn_replica.specs.Formatted.{formatted_image}
-use Rattle.syn_replica.specs.Puts.{IsPut, ArePayloadsOf}
+use Rattle.syn_replica.specs.OfEdits.{IsEdit, ArePayloadsOf}
 use Rattle.syn_replica.specs.declared.error.ReplicaError.{ReplicaError}
 use Rattle.syn_replica.specs.declared.error.ReplicaError.TheVariants.{Memory, Damaged, WrongPair}
 
--- With these payloads a formatted disk stands for the history, which is of puts and leaves these files.
-pub record Holds (files : FileMap) (payloads : List Bytes) (history : History) : Type 0 where
+-- With these payloads a formatted disk stands for the history, which is of edits and leaves this tree.
+pub record Holds (tree : Tree) (payloads : List Bytes) (history : History) : Type 0 where
   pub are : ArePayloadsOf payloads history
   pub stands : (pair : ℕ) → StandsFor pair (formatted_image pair) payloads history
-  pub tree : flat_tree files ≡ tree_of history
+  pub left : tree ≡ tree_of history
   pub position : length payloads ≡ length history
 
 -- one more payload is an allowed event, which leaves this tree
@@ -25,8 +25,13 @@ pub record AddsEvent (history : History) (payload : Bytes) (tree : Tree) : Type 
   pub event : Event
   pub spelled : payload ≡ event_spelling event
   pub allowed : IsAllowed history event
-  pub put : IsPut event
+  pub edit : IsEdit event
   pub gives : tree ≡ after_event (tree_of history) event
+
+-- what a payload is read as: the edit that it spells, or nothing where it spells none
+abbrev pub IsEditOf : Bytes → Option Edit → Type 0
+IsEditOf payload (Some edit) = (user : ℕ) × IsSpelledEvent (Edited user edit) × (payload ≡ event_spelling (Edited user edit))
+IsEditOf payload None = (user : ℕ) (edit : Edit) → IsSpelledEvent (Edited user edit) → payload ≢ event_spelling (Edited user edit)
 
 abbrev pub bytes_of_each : List (Vec ℕ) → List Bytes
 bytes_of_each payloads = map (λ payload. payload.items) payloads

@@ -1,14 +1,18 @@
 -- Why a call of a replica is refused, as a refusal of the product.
-use Rattle.std.specs.Prelude.{◌≡◌, ◌<◌, ℕ, Result, Ok, Err, Option, Some, None}
+use Rattle.std.specs.Prelude.{◌≡◌, ◌<◌, ℕ}
 use Rattle.syn_model.specs.Refusal.{Refusal}
 use Rattle.syn_model.specs.Refusal as why
+use Rattle.syn_tree.specs.declared.error.TreeError.{TreeError}
+use Rattle.syn_tree.specs.declared.error.TreeError.TheVariants as tree
 use Rattle.syn_journal.specs.declared.error.JournalError.{JournalError}
 use Rattle.syn_journal.specs.declared.error.JournalError.TheVariants as journal
 use Rattle.syn_replica.specs.declared.error.ReplicaError.{ReplicaError}
-use Rattle.syn_replica.specs.declared.error.ReplicaError.TheVariants.{NoParent, Absent, Root, Full, JournalFull, Device, Halted, Memory, NoImage, Damaged, WrongPair}
+use Rattle.syn_replica.specs.declared.error.ReplicaError.TheVariants.{NoParent, IsDirectory, Exists, Absent, Root, Full, JournalFull, Device, Halted, Memory, NoImage, Damaged, WrongPair}
 
 abbrev pub refusal_of : ReplicaError → Refusal
 refusal_of NoParent = why.NoParent
+refusal_of IsDirectory = why.IsDirectory
+refusal_of Exists = why.Exists
 refusal_of Absent = why.Absent
 refusal_of Root = why.Root
 refusal_of Full = why.Full
@@ -20,6 +24,15 @@ refusal_of NoImage = why.NoImage
 refusal_of Damaged = why.Damaged
 refusal_of WrongPair = why.WrongPair
 
+abbrev pub of_tree : TreeError → ReplicaError
+of_tree tree.NoParent = NoParent
+of_tree tree.IsDirectory = IsDirectory
+of_tree tree.Exists = Exists
+of_tree tree.Absent = Absent
+of_tree tree.Root = Root
+of_tree tree.Full = Full
+of_tree tree.Memory = Memory
+
 abbrev pub of_journal : JournalError → ReplicaError
 of_journal journal.Full = Full
 of_journal journal.JournalFull = JournalFull
@@ -28,11 +41,6 @@ of_journal journal.Halted = Halted
 of_journal journal.Memory = Memory
 of_journal journal.NoImage = NoImage
 of_journal journal.Damaged = Damaged
-
--- why a call was refused, if it was
-abbrev pub refusal_in : {X : Type 0} → Result X ReplicaError → Option Refusal
-refusal_in (Ok x) = None
-refusal_in (Err e) = Some (refusal_of e)
 
 -- Device is answered where the count of failed calls grew, and any other refusal where it did not
 abbrev pub CountsFailures : ReplicaError → ℕ → ℕ → Type 0
@@ -47,6 +55,9 @@ IsOfFormat _ = ⊥
 
 abbrev pub IsOfEdit : ReplicaError → Type 0
 IsOfEdit NoParent = Unit {0}
+IsOfEdit IsDirectory = Unit {0}
+IsOfEdit Exists = Unit {0}
+IsOfEdit Absent = Unit {0}
 IsOfEdit Root = Unit {0}
 IsOfEdit Full = Unit {0}
 IsOfEdit JournalFull = Unit {0}
@@ -54,6 +65,12 @@ IsOfEdit Device = Unit {0}
 IsOfEdit Halted = Unit {0}
 IsOfEdit Memory = Unit {0}
 IsOfEdit _ = ⊥
+
+abbrev pub IsOfReading : ReplicaError → Type 0
+IsOfReading Halted = Unit {0}
+IsOfReading Absent = Unit {0}
+IsOfReading Memory = Unit {0}
+IsOfReading _ = ⊥
 
 -- the refusals of an opening of a disk of another pair: its own, and those that come first
 abbrev pub MayHideOtherPair : ReplicaError → Type 0

@@ -7,8 +7,6 @@ use Rattle.syn_journal.specs.Layout.{Value, half_size}
 use Rattle.syn_model.specs.Tree.{Tree}
 use Rattle.syn_model.specs.History.{History, IsHistory, tree_of}
 use Rattle.syn_model.specs.Image.{StandsFor}
-use Rattle.syn_replica.specs.FileMap.{flat_tree}
-use Rattle.syn_replica.specs.Files.{map_of}
 use Rattle.syn_replica.specs.declared.replica.Replica.{Replica}
 
 module _ {D : Type 0} {disk : Ghosts D} (replica : Replica D disk) where
@@ -16,7 +14,7 @@ module _ {D : Type 0} {disk : Ghosts D} (replica : Replica D disk) where
   pair_of = replica.pair
 
   abbrev pub tree_shown : Tree
-  tree_shown = flat_tree (map_of replica.files)
+  tree_shown = replica.tree
 
   abbrev pub position_shown : ℕ
   position_shown = replica.position

@@ -4,7 +4,7 @@ ghost use Rattle.syn_replica.specs.Refusals.{refusal_of, of_journal};
 
 use std::alloc::{AllocError, AllocFailed};
 use syn_journal::JournalError;
-use syn_path::PathError;
+use syn_tree::TreeError;
 use syn_wire::WireError;
 use thiserror::Error;
 
@@ -14,6 +14,12 @@ pub enum ReplicaError {
     /// The parent is not a directory.
     #[error("NoParent")]
     NoParent,
+    /// A directory is there, where a file is put.
+    #[error("IsDirectory")]
+    IsDirectory,
+    /// Something is there, where a directory is made.
+    #[error("Exists")]
+    Exists,
     /// Nothing is there, or no directory where one is listed.
     #[error("Absent")]
     Absent,
@@ -53,6 +59,8 @@ impl ReplicaError {
     {
         match self {
             ReplicaError::NoParent => 2,
+            ReplicaError::IsDirectory => 3,
+            ReplicaError::Exists => 4,
             ReplicaError::Absent => 5,
             ReplicaError::Root => 6,
             ReplicaError::Full => 7,
@@ -72,6 +80,8 @@ impl ReplicaError {
     {
         match self {
             ReplicaError::NoParent => "NoParent",
+            ReplicaError::IsDirectory => "IsDirectory",
+            ReplicaError::Exists => "Exists",
             ReplicaError::Absent => "Absent",
             ReplicaError::Root => "Root",
             ReplicaError::Full => "Full",
@@ -105,15 +115,22 @@ impl From<JournalError> for ReplicaError {
     }
 }
 
-/// A copy of a path or a name is refused for want of memory alone.
-impl From<PathError> for ReplicaError {
+impl From<TreeError> for ReplicaError {
     ghost use Rattle.std.specs.Prelude.{◌≡◌};
-    ghost use Rattle.syn_replica.specs.declared.error.ReplicaError.TheVariants.{Memory};
+    ghost use Rattle.syn_replica.specs.Refusals.{of_tree};
 
-    ghost from_gives = { λ _ e. e ≡ Memory };
+    ghost from_gives = { λ refused e. e ≡ of_tree refused };
 
-    fn from(_error: PathError) -> ReplicaError {
-        ReplicaError::Memory
+    fn from(error: TreeError) -> ReplicaError {
+        match error {
+            TreeError::NoParent => ReplicaError::NoParent,
+            TreeError::IsDirectory => ReplicaError::IsDirectory,
+            TreeError::Exists => ReplicaError::Exists,
+            TreeError::Absent => ReplicaError::Absent,
+            TreeError::Root => ReplicaError::Root,
+            TreeError::Full => ReplicaError::Full,
+            TreeError::Memory => ReplicaError::Memory,
+        }
     }
 }
 

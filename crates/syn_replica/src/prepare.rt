@@ -1,36 +1,35 @@
 //! What an edit needs before the first device call: all its memory.
-ghost use Rattle.std.specs.Prelude.{◌≡◌, ◌<◌, ◌^◌, ◌∷◌, [], length, IfOk, IfErr, OnOk};
-ghost use Rattle.syn_model.specs.Event.{AreBytes, Edited, Put};
+ghost use Rattle.std.specs.Prelude.{◌≡◌, None, IfOk, IfErr, OnOk};
+ghost use Rattle.syn_model.specs.Event.{Edited, IsLawfulEdit, after_edit};
 ghost use Rattle.syn_model.specs.Spelling.{event_spelling};
-ghost use Rattle.syn_replica.specs.Files.{map_of, HasRoom};
+ghost use Rattle.syn_model.specs.Standing.{edit_refusal};
+ghost use Rattle.syn_tree.specs.Change.{IsPreparedFor, after_change};
+ghost use Rattle.syn_tree.specs.Edits.{edit_of};
 
 use crate::error::ReplicaError;
-use crate::files::Files;
-use crate::payload::encode_put;
 use std::alloc::Global;
-use syn_path::{Name, Path};
+use syn_model::history_laws;
+use syn_tree::{Change, Edit, Tree};
+use syn_wire::encode_edit;
 
-/// The name in the root and the payload of a put, with room for its file.
+/// The payload of the edit, and the change of the tree that it makes.
 ///
 /// Refused 11 where memory is refused.
 pub(crate) fn prepare(
     alloc: Global,
-    files: &mut Files,
+    tree: &Tree,
     user: u32,
-    path: &Path,
-    bytes: &[u8],
-) -> Result<(Name, Vec<u8>), ReplicaError>
-    requires named { length path.now ≡ 1 }
-    requires brief { length bytes.now < 2 ^ 32 }
-    ensures same { map_of files.new ≡ map_of files.old }
-    ensures room { OnOk result (HasRoom files.new) }
-    ensures name { IfOk result (λ made. path.now ≡ made.0 ∷ []) }
-    ensures payload { IfOk result (λ made. made.1.items ≡ event_spelling (Edited user (Put path.now bytes.now))) }
-    ensures bytes { OnOk result (AreBytes bytes.now) }
+    edit: Edit,
+) -> Result<(Vec<u8>, Change), ReplicaError>
+    requires { edit_refusal tree.now (edit_of edit) ≡ None }
+    ensures payload { IfOk result (λ made. made.0.items ≡ event_spelling (Edited user (edit_of edit))) }
+    ensures ready { IfOk result (λ made. IsPreparedFor tree.now made.1) }
+    ensures gives { IfOk result (λ made. after_change tree.now made.1 ≡ after_edit tree.now (edit_of edit)) }
+    ensures lawful { OnOk result (IsLawfulEdit (edit_of edit)) }
     ensures memory { IfErr result (λ e. e ≡ ReplicaError.Memory) }
 {
-    let name = path.names()[0].copy(alloc)?;
-    let payload = encode_put(alloc, user, path, bytes)?;
-    files.reserve()?;
-    Ok((name, payload))
+    history_laws();
+    let payload = encode_edit(alloc, user, &edit)?;
+    let change = tree.prepare(alloc, edit)?;
+    Ok((payload, change))
 }

@@ -1,44 +1,43 @@
 //! A replica over a journal.
-ghost use Rattle.std.specs.Prelude.{◌≡◌, ◌≢◌, ◌⊎◌, ◌↔◌, ◌+◌, ◌-◌, ◌^◌, ◌<◌, ◌≤◌, ◌++◌, ◌∷◌, [], ℕ, List, length, OnOk, OnErr, IfOk, IfErr, IsErrAnd, MatchResult, Err, Some, None, true, false};
-ghost use Rattle.syn_model.specs.Tree.{IsTree, is_directory};
-ghost use Rattle.syn_model.specs.Event.{Event, Put, Edited, after_event};
+ghost use Rattle.std.specs.Prelude.{◌≡◌, ◌≢◌, ◌⊎◌, ◌↔◌, ◌+◌, ◌-◌, ◌^◌, ◌<◌, ◌≤◌, ◌++◌, ◌∷◌, [], ℕ, length, OnOk, OnErr, IfOk, IfErr, IsErrAnd, MatchResult, Err, Some, None, true, false};
+ghost use Rattle.std.specs.FinMap.{get};
+ghost use Rattle.syn_model.specs.Tree.{is_directory, empty_directory};
+ghost use Rattle.syn_model.specs.Event.{Event, after_event};
 ghost use Rattle.syn_model.specs.History.{History, IsAllowed, tree_of, event_refusal};
 ghost use Rattle.syn_model.specs.Refusal.{Refusal};
 ghost use Rattle.syn_model.specs.Spelling.{event_spelling};
 ghost use Rattle.syn_model.specs.Standing.{edit_refusal};
-ghost use Rattle.syn_replica.specs.Refusals.{refusal_in, refusal_of, CountsFailures, IsOfFormat, IsOfEdit, MayHideOtherPair};
-ghost use Rattle.syn_replica.specs.Admission.{refusal_by, IsAdmitted, IsAdmission, IsOfTree, IsOfCommit, IsTooLong};
-ghost use Rattle.syn_replica.specs.Disks.{DiskStands, StandsBeforeOrAfter, IsOfOtherPair, IsOpenRefusal};
-ghost use Rattle.syn_replica.specs.Edits.{event_by};
-ghost use Rattle.syn_replica.specs.FileMap.{flat_tree, fits_files};
-ghost use Rattle.syn_replica.specs.Files.{map_of, HasRoom};
-ghost use Rattle.syn_journal.specs.Stops.{LeavesOnly, Untouched};
-ghost use Rattle.std.specs.FinMap.{entries, get, insert};
-ghost use Rattle.syn_replica.specs.Contents.{content_of, names_in, IsOfReading};
+ghost use Rattle.syn_tree.specs.Change.{IsPreparedFor, after_change};
+ghost use Rattle.syn_tree.specs.Contents.{content_of};
+ghost use Rattle.syn_tree.specs.Edits.{edit_of};
+ghost use Rattle.syn_tree.specs.Lists.{listing};
 ghost use Rattle.syn_journal.specs.Journal.{gate_of};
 ghost use Rattle.syn_journal.specs.Layout.{half_size};
+ghost use Rattle.syn_journal.specs.Stops.{LeavesOnly, Untouched};
+ghost use Rattle.syn_replica.specs.Refusals.{refusal_of, CountsFailures, IsOfFormat, IsOfEdit, IsOfReading, MayHideOtherPair};
+ghost use Rattle.syn_replica.specs.Admission.{refusal_by, IsAdmission, IsOfTree, IsOfCommit, IsTooLong};
+ghost use Rattle.syn_replica.specs.Disks.{DiskStands, StandsBeforeOrAfter, IsOfOtherPair, IsOpenRefusal};
+ghost use Rattle.syn_replica.specs.Edits.{event_by};
+ghost use Rattle.syn_replica.specs.Formatted.{formatted_image};
 
-use crate::content::Content;
-use crate::edit::Edit;
 use crate::error::ReplicaError;
-use crate::files::Files;
 use crate::image::encode_image;
 use crate::opening::read_replica;
-use crate::payload::put_len;
 use crate::prepare::prepare;
 use std::alloc::Global;
 use syn_disk::Disk;
 use syn_journal::{Journal, Opened};
+use syn_model::history_laws;
 use syn_path::{Name, Path};
+use syn_tree::{Change, Content, Edit, Found, Tree};
+use syn_wire::edit_length;
 
 /// A replica of a file tree: a history of edits that outlives stops of its machine.
-///
-/// Its tree has the root as its only directory for now.
 #[derive(Drop)]
 pub struct Replica<D: Disk> {
     journal: Journal<D>,
     pair: u64,
-    files: Files,
+    tree: Tree,
     position: u64,
 }
 
@@ -57,15 +56,16 @@ impl<D: Disk> Replica<D> {
         ensures failures { MatchResult result (λ replica. D.failures (disk_of replica) ≡ D.failures disk)
             (λ refused. CountsFailures refused.0 (D.failures disk) (D.failures refused.1)) }
     {
-        let image = match encode_image(alloc, pair) {
-            Ok(image) => image,
-            Err(error) => return Err((ReplicaError::from(error), disk)),
+        history_laws();
+        let (image, tree) = match blank(alloc, pair) {
+            Ok(made) => made,
+            Err(error) => return Err((error, disk)),
         };
         match Journal::format(alloc, disk, &image) {
             Ok(journal) => Ok(Replica {
                 journal,
                 pair,
-                files: Files::new(alloc),
+                tree,
                 position: 0,
             }),
             Err((error, disk)) => Err((ReplicaError::from(error), disk)),
@@ -74,8 +74,7 @@ impl<D: Disk> Replica<D> {
 
     /// Opens what the disk holds.
     ///
-    /// Refused 9 where a device call fails, 18 where the disk holds no image, 19 where it means nothing that a replica
-    /// with files in its root holds, 20 where it is of another pair than the one given, and 11 where memory is refused;
+    /// Refused 9 where a device call fails, 18 where the disk holds no image, 19 where it means no history of edits, 20 where it is of another pair than the one given, and 11 where memory is refused;
     /// the disk comes back. Nothing is written.
     pub fn open(alloc: Global, disk: D, pair: Option<u64>) -> Result<Replica<D>, (ReplicaError, D)>
         ensures opened { IfOk result (λ replica. (history : History) × Stands replica history) }
@@ -106,10 +105,10 @@ impl<D: Disk> Replica<D> {
         } = opened;
         let position = records.len() as u64;
         match read_replica(alloc, &image, pair, &records) {
-            Ok((pair, files)) => Ok(Replica {
+            Ok((pair, tree)) => Ok(Replica {
                 journal,
                 pair,
-                files,
+                tree,
                 position,
             }),
             Err(error) => Err((error, journal.into_disk())),
@@ -121,6 +120,13 @@ impl<D: Disk> Replica<D> {
         ensures { result ≡ position_shown self.now }
     {
         self.position
+    }
+
+    /// The tree, as it stands in memory.
+    pub fn tree(&self) -> &Tree
+        ensures { result.now ≡ tree_shown self.now }
+    {
+        &self.tree
     }
 
     /// The number of the pair.
@@ -163,13 +169,10 @@ impl<D: Disk> Replica<D> {
         if self.journal.is_halted() {
             return Err(ReplicaError::Halted);
         }
-        match path.names() {
-            [] => Ok(Content::Dir),
-            [name] => match self.files.get(name) {
-                Some(bytes) => Ok(Content::File(bytes.to_vec(alloc)?)),
-                None => Err(ReplicaError::Absent),
-            },
-            _ => Err(ReplicaError::Absent),
+        match self.tree.get(path) {
+            Some(Found::File(bytes)) => Ok(Content::File(bytes.to_vec(alloc)?)),
+            Some(Found::Dir) => Ok(Content::Dir),
+            None => Err(ReplicaError::Absent),
         }
     }
 
@@ -177,7 +180,7 @@ impl<D: Disk> Replica<D> {
     ///
     /// Refused 10 while the replica is halted, 5 where no directory is there, and 11 where memory is refused.
     pub fn list(&self, alloc: Global, path: &Path) -> Result<Vec<(Name, bool)>, ReplicaError>
-        ensures names { IfOk result (λ names. names.items ≡ names_in (tree_shown self.now) path.now) }
+        ensures names { IfOk result (λ names. names.items ≡ listing (tree_shown self.now) path.now) }
         ensures absent { (result ≡ Err ReplicaError.Absent) ↔ (¬ IsHalted self.now × (is_directory (tree_shown self.now) path.now ≡ false)) }
         ensures halted { (result ≡ Err ReplicaError.Halted) ↔ IsHalted self.now }
         ensures refusals { IfErr result IsOfReading }
@@ -185,18 +188,17 @@ impl<D: Disk> Replica<D> {
         if self.journal.is_halted() {
             return Err(ReplicaError::Halted);
         }
-        match path.names() {
-            [] => Ok(self.files.names(alloc)?),
-            _ => Err(ReplicaError::Absent),
-        }
+        Ok(self.tree.list(alloc, path)?)
     }
 
     /// Makes the edit, and answers the new position.
     ///
-    /// Refused 10 while the replica is halted; 6 for the root, 2 where the parent is not a directory, 7 where the result
-    /// would pass a limit; 8 where the record does not fit in the journal, 11 where memory is refused, and 9 where a
-    /// device call fails. After 9 the replica is halted and remembers what it had; after any other refusal it is as it
-    /// was. Whenever the machine stops, the disk has the events before the call, or those and this one.
+    /// Refused 10 while the replica is halted; 6 for the root, 2 where the parent is not a directory, 3 where a file
+    /// would take the place of a directory, 4 where a directory would be made where something is, 5 where nothing is
+    /// there to remove, 7 where the result would pass a limit; 8 where the record does not fit in the journal, 11 where
+    /// memory is refused, and 9 where a device call fails. After 9 the replica is halted and remembers what it had;
+    /// after any other refusal it is as it was. Whenever the machine stops, the disk has the events before the call, or
+    /// those and this one.
     pub fn edit(&mut self, alloc: Global, user: u32, edit: Edit) -> Result<u64, ReplicaError>
         ensures acknowledged { (history : History) → Stands self.old history
             → IfOk result (λ position. (position ≡ length history + 1) × Stands self.new (history ++ event_by user edit ∷ [])) }
@@ -223,105 +225,41 @@ impl<D: Disk> Replica<D> {
         ensures unchanged { (history : History) → Stands self.old history
             → IfErr result (λ e. (e ≡ ReplicaError.Device) ⊎ Stands self.new history) }
     {
-        let (path, bytes) = edit.into_put();
-        self.put(alloc, user, path, bytes)
-    }
-
-    // The same for the one kind of edit that there is.
-    fn put(
-        &mut self,
-        alloc: Global,
-        user: u32,
-        path: Path,
-        bytes: Vec<u8>,
-    ) -> Result<u64, ReplicaError>
-        ensures acknowledged { (history : History) → Stands self.old history
-            → IfOk result (λ position. (position ≡ length history + 1) × Stands self.new (history ++ Edited user (Put path bytes.items) ∷ [])) }
-        ensures any_moment { (history : History) → Stands self.old history
-            → LeavesOnly D.moment D.left_since (disk_of self.old) (disk_of self.new) (StandsBeforeOrAfter (pair_of self.old) history (Edited user (Put path bytes.items))) }
-
-        // Each refusal has its cause, and the causes of the tree come first.
-        ensures by_tree { (history : History) → Stands self.old history
-            → IfErr result (λ e. IsOfTree e → event_refusal history (Edited user (Put path bytes.items)) ≡ Some (refusal_of e)) }
-        ensures refused { (history : History) (why : Refusal) → Stands self.old history → event_refusal history (Edited user (Put path bytes.items)) ≡ Some why
-            → IsErrAnd result (λ e. refusal_of e ≡ why) }
-
-        // Then comes JournalFull, exactly where the journal has no room for the event.
-        ensures full { (history : History) → Stands self.old history
-            → (result ≡ Err ReplicaError.JournalFull) ↔ IsTooLong history (Edited user (Put path bytes.items)) (room_shown self.old) }
-        ensures refusals { IfErr result IsOfEdit }
-        ensures halted { (result ≡ Err ReplicaError.Halted) ↔ IsHalted self.old }
-        ensures halts { result ≡ Err ReplicaError.Device → IsHalted self.new }
-        ensures failures { MatchResult result (λ _. D.failures (disk_of self.new) ≡ D.failures (disk_of self.old))
-            (λ e. CountsFailures e (D.failures (disk_of self.old)) (D.failures (disk_of self.new))) }
-
-        // What stays after a refusal.
-        ensures remembers { (history : History) → Remembers self.old history → IfErr result (λ _. Remembers self.new history) }
-        ensures unchanged { (history : History) → Stands self.old history
-            → IfErr result (λ e. (e ≡ ReplicaError.Device) ⊎ Stands self.new history) }
-    {
+        history_laws();
         if self.journal.is_halted() {
             return Err(ReplicaError::Halted);
         }
-        self.admit(&path, bytes.len())?;
-        let (name, payload) = prepare(alloc, &mut self.files, user, &path, &bytes)?;
-        self.commit(alloc, &payload, name, bytes)
+        self.admit(&edit)?;
+        let (payload, change) = prepare(alloc, &self.tree, user, edit)?;
+        self.commit(alloc, &payload, change)
     }
 
-    // Why a put of so many bytes is refused by the tree.
-    fn check(&self, path: &Path, size: usize) -> Result<(), ReplicaError>
-        ensures tree { IsTree (tree_shown self.now) → (bytes : List ℕ) → length bytes ≡ size → refusal_in result ≡ edit_refusal (tree_shown self.now) (Put path.now bytes) }
-        ensures admitted { OnOk result (IsAdmitted (map_of self.now.files) path.now size) }
-        ensures cause { IfErr result IsOfTree }
-    {
-        match path.names() {
-            [] => Err(ReplicaError::Root),
-            [name] => {
-                if self.files.fits(name, size) {
-                    Ok(())
-                } else {
-                    Err(ReplicaError::Full)
-                }
-            }
-            _ => Err(ReplicaError::NoParent),
-        }
-    }
-
-    // Why a put of so many bytes is refused before anything is made for it.
-    fn admit(&self, path: &Path, size: usize) -> Result<(), ReplicaError>
-        ensures answer { IsTree (tree_shown self.now) → (bytes : List ℕ) → length bytes ≡ size
-            → IsAdmission (refusal_by (tree_shown self.now) (position_shown self.now) (Put path.now bytes)) result }
-        ensures admitted { OnOk result (IsAdmitted (map_of self.now.files) path.now size) }
+    // Why an edit is refused before anything is made for it.
+    fn admit(&self, edit: &Edit) -> Result<(), ReplicaError>
+        ensures answer { IsAdmission (refusal_by (tree_shown self.now) (position_shown self.now) (edit_of edit.now)) result }
+        ensures allowed { OnOk result (edit_refusal (tree_shown self.now) (edit_of edit.now) ≡ None) }
         ensures below { OnOk result (position_shown self.now < 2 ^ 64 - 1) }
-        ensures room { (user : ℕ) (bytes : List ℕ) → length bytes ≡ size → OnOk result (length (event_spelling (Edited user (Put path.now bytes))) ≤ room_shown self.now) }
-        ensures no_room { (user : ℕ) (bytes : List ℕ) → length bytes ≡ size
-            → IfErr result (λ e. e ≡ ReplicaError.JournalFull → room_shown self.now < length (event_spelling (Edited user (Put path.now bytes)))) }
+        ensures room { (user : ℕ) → OnOk result (length (event_spelling (event_by user edit.now)) ≤ room_shown self.now) }
+        ensures no_room { (user : ℕ) → IfErr result (λ e. e ≡ ReplicaError.JournalFull → room_shown self.now < length (event_spelling (event_by user edit.now))) }
         ensures cause { IfErr result (λ e. (IsOfTree e) ⊎ (e ≡ ReplicaError.JournalFull)) }
     {
-        self.check(path, size)?;
+        self.tree.check(edit)?;
         if self.position == u64::MAX {
             return Err(ReplicaError::Full);
         }
-        if put_len(path, size) > self.journal.room() {
+        if edit_length(edit) > self.journal.room() {
             return Err(ReplicaError::JournalFull);
         }
         Ok(())
     }
 
-    // Writes a prepared put, and puts its file.
-    fn commit(
-        &mut self,
-        alloc: Global,
-        payload: &[u8],
-        name: Name,
-        bytes: Vec<u8>,
-    ) -> Result<u64, ReplicaError>
-        requires room { HasRoom self.old.files }
-        requires fits { fits_files (entries (insert (map_of self.old.files) name bytes.items)) ≡ true }
+    // Writes a prepared edit, and makes its change of the tree.
+    fn commit(&mut self, alloc: Global, payload: &[u8], change: Change) -> Result<u64, ReplicaError>
+        requires ready { IsPreparedFor (tree_shown self.old) change }
         requires below { position_shown self.old < 2 ^ 64 - 1 }
         requires takes { gate_of (journal_of self.old) + 6 + length payload.now ≤ half_size }
         ensures acknowledged { (history : History) (event : Event) → Stands self.old history → IsAllowed history event → payload.now ≡ event_spelling event
-            → flat_tree (insert (map_of self.old.files) name bytes.items) ≡ after_event (tree_of history) event
+            → after_change (tree_shown self.old) change ≡ after_event (tree_of history) event
             → IfOk result (λ position. (position ≡ length history + 1) × Stands self.new (history ++ event ∷ [])) }
         ensures any_moment { (history : History) (event : Event) → Stands self.old history → IsAllowed history event → payload.now ≡ event_spelling event
             → LeavesOnly D.moment D.left_since (disk_of self.old) (disk_of self.new) (StandsBeforeOrAfter (pair_of self.old) history event) }
@@ -332,9 +270,21 @@ impl<D: Disk> Replica<D> {
         ensures remembers { IfErr result (λ _. SameMemory self.old self.new) }
         ensures unchanged { IfErr result (λ e. (e ≡ ReplicaError.Device) ⊎ (journal_of self.new ≡ journal_of self.old)) }
     {
+        history_laws();
         self.journal.append(alloc, payload)?;
-        self.files.put(name, bytes);
+        self.tree.make(change);
         self.position += 1;
         Ok(self.position)
     }
+}
+
+// The image of a replica with no events, and its tree.
+fn blank(alloc: Global, pair: u64) -> Result<(Vec<u8>, Tree), ReplicaError>
+    ensures image { IfOk result (λ made. made.0.items ≡ formatted_image pair) }
+    ensures tree { IfOk result (λ made. made.1 ≡ empty_directory) }
+    ensures memory { IfErr result (λ e. e ≡ ReplicaError.Memory) }
+{
+    let image = encode_image(alloc, pair)?;
+    let tree = Tree::new(alloc)?;
+    Ok((image, tree))
 }

@@ -7,6 +7,7 @@ use std::alloc::Global;
 use std::test::Fail;
 use syn_disk::{Arm, Cut, Disk, Leaves, Limit, MemDisk, Restart};
 use syn_path::Path;
+use syn_tree::{Content, Edit};
 
 const PAIR: u64 = 7;
 
@@ -53,13 +54,28 @@ fn written(alloc: Global, at: usize, bytes: &[u8; 7]) -> Option<Cut<MemDisk>> {
     Some(disk)
 }
 
-fn edit_of(alloc: Global, path: &str, bytes: &[u8]) -> Option<Edit> {
-    Some(Edit::Put(Path::parse(alloc, path).ok()?, bytes.to_vec(alloc).ok()?))
+// What a test asks for.
+#[derive(Clone, Copy)]
+enum Ask<'a> {
+    Put(&'a str, &'a [u8]),
+    MakeDir(&'a str),
+    Remove(&'a str),
 }
 
-// The refusal of a put, or 0.
-fn put_once(alloc: Global, replica: &mut TestReplica, path: &str, bytes: &[u8]) -> u8 {
-    let Some(edit) = edit_of(alloc, path, bytes) else {
+fn edit_of(alloc: Global, ask: Ask<'_>) -> Option<Edit> {
+    match ask {
+        Ask::Put(path, bytes) => Some(Edit::Put(
+            Path::parse(alloc, path).ok()?,
+            bytes.to_vec(alloc).ok()?,
+        )),
+        Ask::MakeDir(path) => Some(Edit::MakeDir(Path::parse(alloc, path).ok()?)),
+        Ask::Remove(path) => Some(Edit::Remove(Path::parse(alloc, path).ok()?)),
+    }
+}
+
+// The refusal of an edit, or 0.
+fn edit_once(alloc: Global, replica: &mut TestReplica, ask: Ask<'_>) -> u8 {
+    let Some(edit) = edit_of(alloc, ask) else {
         return 11;
     };
     match replica.edit(alloc, 1, edit) {
@@ -68,15 +84,19 @@ fn put_once(alloc: Global, replica: &mut TestReplica, path: &str, bytes: &[u8]) 
     }
 }
 
-// The refusal of a put, or 0. It is made again where memory was refused and the replica is as it was.
-fn put(alloc: Global, replica: &mut TestReplica, path: &str, bytes: &[u8]) -> u8 {
+// The refusal of an edit, or 0. It is made again where memory was refused and the replica is as it was.
+fn edit(alloc: Global, replica: &mut TestReplica, ask: Ask<'_>) -> u8 {
     let before = (replica.position(), replica.room());
-    let answer = put_once(alloc, replica, path, bytes);
+    let answer = edit_once(alloc, replica, ask);
     if answer == 11 && (replica.position(), replica.room()) == before {
-        put_once(alloc, replica, path, bytes)
+        edit_once(alloc, replica, ask)
     } else {
         answer
     }
+}
+
+fn put(alloc: Global, replica: &mut TestReplica, path: &str, bytes: &[u8]) -> u8 {
+    edit(alloc, replica, Ask::Put(path, bytes))
 }
 
 // The first byte of the file at the path, or the refusal.
@@ -135,13 +155,23 @@ fn a_refusal_of_the_tree_changes_nothing(rt: HostRuntime) -> Result<(), Fail> {
     let Some(mut replica) = new_replica(alloc) else {
         return Err("not formatted")?;
     };
-    put(alloc, &mut replica, "a", &[1]);
+    let mut made = [0; 2];
+    made[0] = put(alloc, &mut replica, "a", &[1]);
+    made[1] = edit(alloc, &mut replica, Ask::MakeDir("d"));
     let room = replica.room();
-    let answers = [
-        put(alloc, &mut replica, ".", &[2]),
-        put(alloc, &mut replica, "a/b", &[2]),
-        put(alloc, &mut replica, "a", &[2; 16_385]),
+    let refused = [
+        Ask::Put(".", &[2]),
+        Ask::Remove("."),
+        Ask::Put("a/b", &[2]),
+        Ask::Put("d", &[2]),
+        Ask::MakeDir("a"),
+        Ask::Remove("b"),
+        Ask::Put("a", &[2; 16_385]),
     ];
+    let mut answers = [0; 7];
+    for (answer, ask) in answers.iter_mut().zip(refused) {
+        *answer = edit(alloc, &mut replica, ask);
+    }
     let found = [
         get(alloc, &replica, "a"),
         get(alloc, &replica, "b"),
@@ -153,8 +183,52 @@ fn a_refusal_of_the_tree_changes_nothing(rt: HostRuntime) -> Result<(), Fail> {
         list(alloc, &replica, "a"),
     );
     assert_eq!(rt;
+        (made, answers, found, shown),
+        (
+            [0; 2],
+            [6, 6, 2, 3, 4, 5, 7],
+            [Ok(1), Err(5), Err(5)],
+            (2, true, Err(5))
+        )
+    );
+    Ok(())
+}
+
+#[test]
+fn directories_stand_after_a_restart(rt: HostRuntime) -> Result<(), Fail> {
+    let alloc = rt.alloc();
+    let Some(mut replica) = new_replica(alloc) else {
+        return Err("not formatted")?;
+    };
+    let asks = [
+        Ask::MakeDir("d"),
+        Ask::Put("d/f", &[1]),
+        Ask::MakeDir("d/e"),
+        Ask::Put("d/e/g", &[2]),
+        Ask::Put("de", &[3]),
+        Ask::Remove("d/e"),
+    ];
+    let mut answers = [0; 6];
+    for (answer, ask) in answers.iter_mut().zip(asks) {
+        *answer = edit(alloc, &mut replica, ask);
+    }
+    let Some(replica) = restarted(alloc, replica) else {
+        return Err("not opened")?;
+    };
+    let found = [
+        get(alloc, &replica, "d/f"),
+        get(alloc, &replica, "de"),
+        get(alloc, &replica, "d/e/g"),
+    ];
+    let shown = (
+        replica.position(),
+        list(alloc, &replica, "."),
+        list(alloc, &replica, "d"),
+        list(alloc, &replica, "d/e"),
+    );
+    assert_eq!(rt;
         (answers, found, shown),
-        ([6, 2, 7], [Ok(1), Err(5), Err(5)], (1, true, Err(5)))
+        ([0; 6], [Ok(1), Ok(3), Err(5)], (6, Ok(2), Ok(1), Err(5)))
     );
     Ok(())
 }

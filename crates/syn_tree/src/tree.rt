@@ -1,4 +1,4 @@
-ghost use Rattle.std.specs.Prelude.{◌≡◌, ◌≢◌, ◌<◌, ◌^◌, ◌&&◌, ◌||◌, not, nat_le, nat_lt, count_by, ℕ, List, true, false, Some, None, length, option_map, IfOk, IfErr, OnOk, OnErr};
+ghost use Rattle.std.specs.Prelude.{◌≡◌, ◌≢◌, ◌↔◌, ◌⊎◌, Err, ◌<◌, ◌^◌, ◌&&◌, ◌||◌, not, nat_le, nat_lt, count_by, ℕ, List, true, false, Some, None, length, option_map, IfOk, IfErr, OnOk, OnErr};
 ghost use Rattle.std.specs.FinMap.{entries, get, len};
 ghost use Rattle.syn_model.specs.Tree.{Tree as Pairs, IsTree, empty_directory, is_directory, is_present, subtree, replace};
 ghost use Rattle.syn_model.specs.Event.{Put, MakeDir, Remove, after_edit};
@@ -296,7 +296,8 @@ impl Tree {
     pub fn list(&self, alloc: Global, path: &Path) -> Result<Vec<(Name, bool)>, TreeError>
         ensures names { IfOk result (λ names. names.items ≡ listing self.now path.now) }
         ensures directory { OnOk result (is_directory self.now path.now ≡ true) }
-        ensures absent { IfErr result (λ e. e ≢ TreeError.Memory → (e ≡ TreeError.Absent) × (is_directory self.now path.now ≡ false)) }
+        ensures absent { (result ≡ Err TreeError.Absent) ↔ (is_directory self.now path.now ≡ false) }
+        ensures refusals { IfErr result (λ e. (e ≡ TreeError.Absent) ⊎ (e ≡ TreeError.Memory)) }
     {
         match self.get(path) {
             Some(Found::Dir) => children(alloc, &self.list, path.names()),

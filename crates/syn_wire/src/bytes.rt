@@ -1,5 +1,6 @@
 //! Bytes with their length.
 ghost use Rattle.std.specs.Prelude.{◌≡◌, ◌<◌, ◌^◌, ◌++◌, length, IfOk, OnOk, option_map};
+ghost use Rattle.syn_model.specs.Event.{AreBytes};
 ghost use Rattle.syn_wire.specs.Events.{IsFile, file_spelling};
 ghost use Rattle.syn_wire.specs.Reads.{IsReading};
 
@@ -25,7 +26,8 @@ pub(crate) fn read_file(alloc: Global, bytes: &[u8]) -> Result<Option<(Vec<u8>, 
 // Adds the bytes behind their length.
 pub(crate) fn write_file(out: &mut Vec<u8>, file: &[u8]) -> Result<(), WireError>
     requires { length file.now < 2 ^ 32 }
-    ensures { OnOk result (out.new.items ≡ out.old.items ++ file_spelling file.now) }
+    ensures added { OnOk result (out.new.items ≡ out.old.items ++ file_spelling file.now) }
+    ensures lawful { AreBytes file.now }
 {
     out.extend_from_slice(&(file.len() as u32).to_be_bytes())?;
     out.extend_from_slice(file)?;

@@ -1,7 +1,7 @@
 //! Events.
 ghost use Rattle.std.specs.Prelude.{◌≡◌, ◌++◌, ◌∷◌, ℕ, length, IfOk, OnOk, option_map};
 ghost use Rattle.syn_model.specs.Path.{IsPath, path_spelling};
-ghost use Rattle.syn_model.specs.Event.{Edited};
+ghost use Rattle.syn_model.specs.Event.{Edited, IsLawfulEdit};
 ghost use Rattle.syn_model.specs.Spelling.{event_spelling};
 ghost use Rattle.syn_tree.specs.Edits.{edit_of};
 ghost use Rattle.syn_history.specs.Events.{event_of};
@@ -49,7 +49,8 @@ pub fn encode_event(alloc: Global, event: &Event) -> Result<Vec<u8>, WireError>
 /// Refused 11 where memory is refused.
 pub fn encode_edit(alloc: Global, user: u32, edit: &Edit) -> Result<Vec<u8>, WireError>
     requires { IsShort (Edited user (edit_of edit.now)) }
-    ensures { IfOk result (λ bytes. bytes.items ≡ event_spelling (Edited user (edit_of edit.now))) }
+    ensures spelling { IfOk result (λ bytes. bytes.items ≡ event_spelling (Edited user (edit_of edit.now))) }
+    ensures lawful { OnOk result (IsLawfulEdit (edit_of edit.now)) }
 {
     let mut out = Vec::new(alloc);
     match edit {
@@ -188,7 +189,8 @@ fn read_placed_file(
 
 // Adds a user and a path.
 fn write_place(out: &mut Vec<u8>, user: u32, path: &Path) -> Result<(), WireError>
-    ensures { OnOk result (out.new.items ≡ out.old.items ++ both_spelling number_spelling path_spelling (user, path.now)) }
+    ensures added { OnOk result (out.new.items ≡ out.old.items ++ both_spelling number_spelling path_spelling (user, path.now)) }
+    ensures lawful { OnOk result (IsPath path.now) }
 {
     out.extend_from_slice(&user.to_be_bytes())?;
     write_path(out, path)

@@ -40,7 +40,8 @@ pub fn encode_path(alloc: Global, path: &Path) -> Result<Vec<u8>, WireError>
 
 /// Adds the spelling of the path. Refused 11 where memory is refused; a beginning of it may then have been added.
 pub fn write_path(out: &mut Vec<u8>, path: &Path) -> Result<(), WireError>
-    ensures { OnOk result (out.new.items ≡ out.old.items ++ path_spelling path.now) }
+    ensures added { OnOk result (out.new.items ≡ out.old.items ++ path_spelling path.now) }
+    ensures lawful { IsPath path.now }
 {
     let names = path.names();
     out.push(names.len() as u8)?;

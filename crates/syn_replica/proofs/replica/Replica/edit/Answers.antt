@@ -1,30 +1,51 @@
-use Rattle.std.proofs.Common.{◌≡◌, ◌↔◌, Err, sym, ap, ◌∙◌, subst, Some}
-use Rattle.std.specs.Prelude.{IfErr}
-use Rattle.syn_journal.specs.Stops.{LeavesOnly}
-use Rattle.syn_model.specs.Event.{Edited}
-use Rattle.syn_model.specs.History.{event_refusal}
-use Rattle.syn_replica.specs.Disks.{StandsBeforeOrAfter}
-use Rattle.syn_replica.specs.Replica.{disk_of, room_shown}
-use Rattle.syn_replica.specs.Admission.{IsOfTree, IsTooLong}
-use Rattle.syn_replica.specs.declared.error.ReplicaError.TheVariants.{JournalFull}
-use Rattle.syn_replica.specs.Refusals.{refusal_of}
+use Rattle.std.proofs.Common.{◌≡◌, ◌<◌, ◌≤◌, ◌+◌, ◌^◌, length, sym, ap, ◌∙◌, subst, Err, arith}
+use Rattle.std.proofs.lemmas.Result.{err_from_is_err_and}
+use Rattle.syn_model.specs.Event.{after_edit}
+use Rattle.syn_model.specs.Spelling.{event_spelling}
+use Rattle.syn_tree.specs.Edits.{edit_of}
+use Rattle.syn_replica.specs.Edits.{event_by}
+use Rattle.syn_replica.specs.Replica.{journal_of}
+use Rattle.syn_replica.proofs.CauseLemmas.{none_some}
+use Rattle.syn_replica.proofs.EditLemmas.{same_error, admission_tree, admission_refused, admission_full, admission_none, same_refusal, allowed_by, edit_of_admission, edit_of_commit, commit_has_room, memory_full, edit_has_bytes, fits_half, too_long_twice}
+use Rattle.syn_journal.specs.Journal.{gate_of}
+use Rattle.syn_journal.specs.Layout.{half_size}
 use Rattle.syn_replica.proofs.replica.Replica.edit.Goals as goal
+
+pub returns-in_err-admit-clause-by_tree : goal.returns-in_err-admit-clause-by_tree
+returns-in_err-admit-clause-by_tree g c history stands =
+    let p = err_from_is_err_and c.from_residual.result c.from_residual.ensures.1 in
+    rw (p.1, p.2) (λ of_tree. sym (same_refusal c.args.self.now history stands.remembers c.args.user (edit_of c.args.edit)) ∙ admission_tree _ _ c.in_err-admit.ensures.answer of_tree)
+
+pub returns-in_err-admit-clause-refused : goal.returns-in_err-admit-clause-refused
+returns-in_err-admit-clause-refused g c history why stands e =
+    let p = err_from_is_err_and c.from_residual.result c.from_residual.ensures.1 in
+    rw (p.1, p.2) (admission_refused _ _ why c.in_err-admit.ensures.answer (same_refusal c.args.self.now history stands.remembers c.args.user (edit_of c.args.edit) ∙ e))
+
+pub returns-in_err-admit-clause-full : goal.returns-in_err-admit-clause-full
+returns-in_err-admit-clause-full g c history stands =
+    let p = err_from_is_err_and c.from_residual.result c.from_residual.ensures.1 in
+    let refusal = same_refusal c.args.self.now history stands.remembers c.args.user (edit_of c.args.edit) in
+    rw (p.1, p.2) (
+      λ same.
+          let full = same_error _ _ same in
+          record { not_refused = sym refusal ∙ admission_none _ _ c.in_err-admit.ensures.answer full; long = c.in_err-admit.ensures.no_room c.args.user full },
+      λ long. ap (λ e. Err e) (admission_full _ _ c.in_err-admit.ensures.answer (refusal ∙ long.not_refused)),
+    )
+
+pub returns-clause-acknowledged : goal.returns-clause-acknowledged
+returns-clause-acknowledged g c history stands =
+    let r = stands.remembers in
+    let event = event_by c.args.user c.args.edit in
+    let user : c.args.user < 2 ^ 32 = omega (arith, c.ranges.user.fits) in
+    let allowed = allowed_by c.args.self.now history r c.args.user (edit_of c.args.edit) user c.in_ok-payload.ensures.lawful c.in_ok-admit.ensures.answer in
+    let payload = c.deref.ensures.value ∙ c.in_ok-payload.ensures.payload in
+    c.commit.ensures.acknowledged history event stands allowed payload (c.in_ok-payload.ensures.gives ∙ ap (λ tree. after_edit tree (edit_of c.args.edit)) r.tree)
 
 pub returns-clause-any_moment : goal.returns-clause-any_moment
 returns-clause-any_moment g c history stands =
-    subst (λ e. LeavesOnly g.D.Disk.moment g.D.Disk.left_since (disk_of c.args.self.now) (disk_of c.put.new.self) (StandsBeforeOrAfter c.args.self.now.pair history (Edited c.args.user e)))
-    (sym c.into_put-path.ensures) (c.put.ensures.any_moment history stands)
-
-pub returns-clause-by_tree : goal.returns-clause-by_tree
-returns-clause-by_tree g c history stands =
-    subst (λ e. IfErr c.put.result (λ r. IsOfTree r → event_refusal history (Edited c.args.user e) ≡ Some (refusal_of r)))
-    (sym c.into_put-path.ensures) (c.put.ensures.by_tree history stands)
-
-pub returns-clause-refused : goal.returns-clause-refused
-returns-clause-refused g c history why stands e =
-    c.put.ensures.refused history why stands (ap (λ edit. event_refusal history (Edited c.args.user edit)) (sym c.into_put-path.ensures) ∙ e)
-
-pub returns-clause-full : goal.returns-clause-full
-returns-clause-full g c history stands =
-    subst (λ e. (c.put.result ≡ Err JournalFull) ↔ IsTooLong history (Edited c.args.user e) (room_shown c.args.self.now))
-    (sym c.into_put-path.ensures) (c.put.ensures.full history stands)
+    let r = stands.remembers in
+    let event = event_by c.args.user c.args.edit in
+    let user : c.args.user < 2 ^ 32 = omega (arith, c.ranges.user.fits) in
+    let allowed = allowed_by c.args.self.now history r c.args.user (edit_of c.args.edit) user c.in_ok-payload.ensures.lawful c.in_ok-admit.ensures.answer in
+    let payload = c.deref.ensures.value ∙ c.in_ok-payload.ensures.payload in
+    c.commit.ensures.any_moment history event stands allowed payload

@@ -1,0 +1,96 @@
+-- What it says that an event has no cause to be refused.
+use Rattle.std.proofs.Common.{◌≡◌, ◌<◌, ◌≤◌, ◌^◌, ◌-◌, ℕ, Bool, true, false, not, nat_le, ◌&&◌, if◌then◌else◌, List, [], ◌∷◌, ◌++◌, length, refl, sym, ap, ◌∙◌, subst, Option, Some, None, true≢false, arith}
+use Rattle.std.specs.FinMap.{len}
+use Rattle.std.proofs.lemmas.Bool.{and_parts}
+use Rattle.std.proofs.lemmas.Bool.Decides.{nat_tests}
+use Rattle.syn_model.specs.Laws.{PutFits, ReplacedIsThere, SubtreeFits}
+use Rattle.syn_model.specs.Tree.{Tree, replace}
+use Rattle.syn_model.specs.Limits.{fits_replica, fits_part, fits_paths, tree_spelling_length, greatest, greatest_spelling}
+use Rattle.syn_model.specs.Event.{Put, MakeDir, Remove, Edit, Event, Edited, Began, Replaced, after_edit, IsLawfulEvent}
+use Rattle.syn_model.specs.Refusal.{Refusal, Full, OldSession, Cause, first_cause}
+use Rattle.syn_model.specs.Standing.{Standing, standing_after, edit_causes, place_causes, full_causes, full_position, is_old, IsAllowedAt, AllAllowedAt}
+use Rattle.syn_model.specs.History.{History, IsAllowed, AllAllowed, standing_of}
+use Rattle.std.specs.List.{AllByRecursion}
+use Rattle.syn_wire.specs.Events.{IsShort, IsSpelledEvent}
+
+is_there : Option Refusal → Bool
+is_there None = false
+is_there (Some why) = true
+
+pub none_some : {why : Refusal} → ◌≡◌ {A = Option Refusal} None (Some why) → ⊥
+unfolding is_there
+none_some e = true≢false (sym (ap is_there e))
+
+pub some_same : {a b : Refusal} → Some a ≡ Some b → a ≡ b
+some_same {a} {b} e = ap (λ o. or_else o a) e
+  where
+    or_else : Option Refusal → Refusal → Refusal
+    or_else None d = d
+    or_else (Some why) d = why
+
+-- of causes in a row none holds just where none of each part does
+pub no_cause : (a b : List Cause) → first_cause (a ++ b) ≡ None → (first_cause a ≡ None) × (first_cause b ≡ None)
+no_cause [] b e = (refl, e)
+no_cause ((true, why) ∷ a) b e = absurd (none_some (sym e))
+no_cause ((false, why) ∷ a) b e = no_cause a b e
+
+pub no_causes : (a b : List Cause) → first_cause a ≡ None → first_cause b ≡ None → first_cause (a ++ b) ≡ None
+no_causes [] b e f = f
+no_causes ((true, why) ∷ a) b e f = absurd (none_some (sym e))
+no_causes ((false, why) ∷ a) b e f = no_causes a b e f
+
+-- and the first of some causes is the first of them with others behind
+pub first_stays : (a b : List Cause) (why : Refusal) → first_cause a ≡ Some why → first_cause (a ++ b) ≡ Some why
+first_stays [] b why e = absurd (none_some e)
+first_stays ((true, other) ∷ a) b why e = e
+first_stays ((false, other) ∷ a) b why e = first_stays a b why e
+
+pub fits_where : (tree : Tree) → first_cause (full_causes tree) ≡ None → fits_replica tree ≡ true
+fits_where tree e = by_test (fits_replica tree) e
+  where
+    by_test : (b : Bool) → first_cause ((not b, Full) ∷ []) ≡ None → b ≡ true
+    by_test true e = refl
+    by_test false e = absurd (none_some (sym e))
+
+pub below_greatest : (n : ℕ) → n < 2 ^ 64 - 1 → first_cause (full_position n) ≡ None
+below_greatest n h = ap (λ b. if b then Some Full else None) (below n h)
+  where
+    below : (n : ℕ) → n < 2 ^ 64 - 1 → nat_le greatest n ≡ false
+    below n h = grind (arith, nat_tests)
+
+pub part_fits : (tree : Tree) → fits_replica tree ≡ true → fits_part tree ≡ true
+part_fits tree fits =
+    let size = nat_le (tree_spelling_length tree) greatest_spelling in
+    let first = and_parts (nat_le (len tree) 1024 && size && fits_part tree) (fits_paths tree) fits in
+    (and_parts (nat_le (len tree) 1024 && size) (fits_part tree) first.0).1
+
+-- what is put by an allowed event has few bytes
+module _ (put : PutFits) (there : ReplacedIsThere) (below : SubtreeFits) where
+  few : (n : ℕ) → n ≤ 16384 → n < 2 ^ 32
+  few n h = omega (arith, h)
+
+  pub short_edit : (tree : Tree) (user : ℕ) (edit : Edit) → first_cause (full_causes (after_edit tree edit)) ≡ None → IsShort (Edited user edit)
+  short_edit tree user (Put path bytes) e = few (length bytes) (put tree path bytes (fits_where (after_edit tree (Put path bytes)) e))
+  short_edit tree user (MakeDir path) e = tt
+  short_edit tree user (Remove path) e = tt
+
+  pub short_at : (standing : Standing) (event : Event) → IsAllowedAt standing event → IsShort event
+  short_at s (Edited user edit) allowed =
+      let full = no_cause (edit_causes s.tree edit) (full_causes (after_edit s.tree edit) ++ full_position s.position) allowed.not_refused in
+      short_edit s.tree user edit (no_cause (full_causes (after_edit s.tree edit)) (full_position s.position) full.1).0
+  short_at s (Began session) allowed = tt
+  short_at s (Replaced token path since new) allowed =
+      let after = replace s.tree path new in
+      let full = no_cause ((is_old s.session s.token token, OldSession) ∷ place_causes s.tree path) (full_causes after ++ full_position s.position) allowed.not_refused in
+      let fits = fits_where after (no_cause (full_causes after) (full_position s.position) full.1).0 in
+      subst (λ t. fits_part t ≡ true) (there s.tree path new) (below after path (part_fits after fits))
+
+  -- each event that is allowed in turn is spelled
+  pub spelled_at : (standing : Standing) (events : List Event) → AllAllowedAt standing events → AllByRecursion IsSpelledEvent events
+  spelled_at standing [] all = tt
+  spelled_at standing (event ∷ events) all = ((all.0.lawful, short_at standing event all.0), spelled_at (standing_after standing event) events all.1)
+
+  pub spelled_in : (done events : History) → AllAllowed done events → AllByRecursion IsSpelledEvent events
+  spelled_in done [] all = tt
+  spelled_in done (event ∷ events) all =
+      ((all.0.lawful, short_at (standing_of done) event (record { lawful = all.0.lawful; not_refused = all.0.not_refused })), spelled_in (done ++ event ∷ []) events all.1)
