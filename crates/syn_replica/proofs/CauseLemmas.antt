@@ -1,12 +1,12 @@
 -- What it says that an event has no cause to be refused.
-use Rattle.std.proofs.Common.{◌≡◌, ◌<◌, ◌≤◌, ◌^◌, ◌-◌, ℕ, Bool, true, false, not, nat_le, ◌&&◌, if◌then◌else◌, List, [], ◌∷◌, ◌++◌, length, refl, sym, ap, ◌∙◌, subst, Option, Some, None, true≢false, arith}
+use Rattle.std.proofs.Common.{◌≡◌, ◌<◌, ◌≤◌, ◌^◌, ◌-◌, ℕ, Bool, true, false, not, nat_le, ◌&&◌, if◌then◌else◌, List, [], ◌∷◌, ◌++◌, length, refl, sym, ap, subst, Option, Some, None, true≢false, arith}
 use Rattle.std.specs.FinMap.{len}
 use Rattle.std.proofs.lemmas.Bool.{and_parts}
 use Rattle.std.proofs.lemmas.Bool.Decides.{nat_tests}
 use Rattle.syn_model.specs.Laws.{PutFits, ReplacedIsThere, SubtreeFits}
 use Rattle.syn_model.specs.Tree.{Tree, replace}
 use Rattle.syn_model.specs.Limits.{fits_replica, fits_part, fits_paths, tree_spelling_length, greatest, greatest_spelling}
-use Rattle.syn_model.specs.Event.{Put, MakeDir, Remove, Edit, Event, Edited, Began, Replaced, after_edit, IsLawfulEvent}
+use Rattle.syn_model.specs.Event.{Put, MakeDir, Remove, Edit, Event, Edited, Began, Replaced, after_edit}
 use Rattle.syn_model.specs.Refusal.{Refusal, Full, OldSession, Cause, first_cause}
 use Rattle.syn_model.specs.Standing.{Standing, standing_after, edit_causes, place_causes, full_causes, full_position, is_old, IsAllowedAt, AllAllowedAt}
 use Rattle.syn_model.specs.History.{History, IsAllowed, AllAllowed, standing_of}
@@ -90,7 +90,10 @@ module _ (put : PutFits) (there : ReplacedIsThere) (below : SubtreeFits) where
   spelled_at standing [] all = tt
   spelled_at standing (event ∷ events) all = ((all.0.lawful, short_at standing event all.0), spelled_at (standing_after standing event) events all.1)
 
+  pub short_in : (history : History) (event : Event) → IsAllowed history event → IsSpelledEvent event
+  short_in history event allowed = (allowed.lawful, short_at (standing_of history) event (record { lawful = allowed.lawful; not_refused = allowed.not_refused }))
+
   pub spelled_in : (done events : History) → AllAllowed done events → AllByRecursion IsSpelledEvent events
   spelled_in done [] all = tt
   spelled_in done (event ∷ events) all =
-      ((all.0.lawful, short_at (standing_of done) event (record { lawful = all.0.lawful; not_refused = all.0.not_refused })), spelled_in (done ++ event ∷ []) events all.1)
+      (short_in done event all.0, spelled_in (done ++ event ∷ []) events all.1)

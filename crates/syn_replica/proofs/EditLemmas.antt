@@ -1,13 +1,11 @@
 -- Why an edit is refused or allowed, by what the replica remembers.
-use Rattle.std.proofs.Common.{◌≡◌, ◌≢◌, ◌<◌, ◌≤◌, ◌⊎◌, ◌+◌, ◌-◌, ◌^◌, ℕ, Bool, true, false, List, [], ◌∷◌, length, refl, sym, ap, ap₂, ◌∙◌, subst, true≢false, Option, Some, None, Result, Ok, Err, inl, inr, arith}
+use Rattle.std.proofs.Common.{◌≡◌, ◌<◌, ◌≤◌, ◌⊎◌, ◌+◌, ◌-◌, ◌^◌, ℕ, Bool, true, false, List, ◌∷◌, length, refl, sym, ap, ap₂, ◌∙◌, subst, true≢false, Option, Some, None, Result, Ok, Err, inl, inr, arith}
 use Rattle.std.specs.Prelude.{IfErr, ◌++◌}
 use Rattle.std.specs.Int.{to_be_bytes, w32}
 use Rattle.syn_disk.specs.declared.disk.Disk.{Ghosts}
 use Rattle.syn_model.specs.Path.{path_spelling}
-use Rattle.syn_model.specs.Tree.{Tree}
-use Rattle.syn_model.specs.Event.{Edit, Put, MakeDir, Remove, Edited, IsLawfulEdit, after_edit}
-use Rattle.syn_model.specs.Refusal.{Refusal, number, first_cause}
-use Rattle.syn_model.specs.Standing.{edit_causes, full_causes, full_position, edit_refusal}
+use Rattle.syn_model.specs.Event.{Edit, Put, MakeDir, Remove, Edited, IsLawfulEdit}
+use Rattle.syn_model.specs.Refusal.{Refusal, number}
 use Rattle.syn_model.specs.Spelling.{event_spelling}
 use Rattle.syn_model.specs.History.{History, IsAllowed, event_refusal}
 use Rattle.syn_tree.specs.Refusals.{refusal_of as tree_refusal}
@@ -152,16 +150,19 @@ memory_absent {X} same = let numbers = ap (λ e. number (refusal_of e)) (same_er
 differ : (a b : TreeError) → (number (tree_refusal a) ≡ number (tree_refusal b) → ⊥) → a ≡ b → ⊥
 differ a b numbers same = numbers (ap (λ e. number (tree_refusal e)) same)
 
+tree_error_or : {X : Type 0} → Result X TreeError → TreeError → TreeError
+tree_error_or (Ok x) other = other
+tree_error_or (Err e) other = e
+
 -- a listing that the tree refuses as absent is refused so, and else for want of memory
-pub absent_of_tree : {X : Type 0} (H D : Type 0) (e : TreeError) → (e ≢ tree.Memory → (e ≡ tree.Absent) × D) → (H → ⊥) →
-    (◌≡◌ {A = Result X ReplicaError} (Err (of_tree e)) (Err Absent) → (H → ⊥) × D) × ((H → ⊥) × D → ◌≡◌ {A = Result X ReplicaError} (Err (of_tree e)) (Err Absent))
-absent_of_tree H D tree.Absent h runs = (λ e. (runs, (h (λ same. differ tree.Absent tree.Memory (λ n. omega (arith, n)) same)).1), λ b. refl)
-absent_of_tree H D tree.Memory h runs = (λ e. absurd (memory_absent e), λ b. ?)
-absent_of_tree H D tree.NoParent h runs = absurd (differ tree.NoParent tree.Absent (λ n. omega (arith, n)) (h (λ same. differ tree.NoParent tree.Memory (λ n. omega (arith, n)) same)).0)
-absent_of_tree H D tree.IsDirectory h runs = absurd (differ tree.IsDirectory tree.Absent (λ n. omega (arith, n)) (h (λ same. differ tree.IsDirectory tree.Memory (λ n. omega (arith, n)) same)).0)
-absent_of_tree H D tree.Exists h runs = absurd (differ tree.Exists tree.Absent (λ n. omega (arith, n)) (h (λ same. differ tree.Exists tree.Memory (λ n. omega (arith, n)) same)).0)
-absent_of_tree H D tree.Root h runs = absurd (differ tree.Root tree.Absent (λ n. omega (arith, n)) (h (λ same. differ tree.Root tree.Memory (λ n. omega (arith, n)) same)).0)
-absent_of_tree H D tree.Full h runs = absurd (differ tree.Full tree.Absent (λ n. omega (arith, n)) (h (λ same. differ tree.Full tree.Memory (λ n. omega (arith, n)) same)).0)
+pub absent_of_tree : {X Y : Type 0} (H D : Type 0) (e : TreeError) → (◌≡◌ {A = Result X TreeError} (Err e) (Err tree.Absent) → D) × (D → ◌≡◌ {A = Result X TreeError} (Err e) (Err tree.Absent)) → (e ≡ tree.Absent) ⊎ (e ≡ tree.Memory) → (H → ⊥) →
+    (◌≡◌ {A = Result Y ReplicaError} (Err (of_tree e)) (Err Absent) → (H → ⊥) × D) × ((H → ⊥) × D → ◌≡◌ {A = Result Y ReplicaError} (Err (of_tree e)) (Err Absent))
+unfolding tree_error_or
+absent_of_tree {X} {Y} H D e h (inl absent) runs = (λ same. (runs, h.0 (ap (λ x. Err x) absent)), λ b. ap (λ x. Err (of_tree x)) absent)
+absent_of_tree {X} {Y} H D e h (inr memory) runs = (
+  λ same. absurd (memory_absent (ap (λ x. Err (of_tree x)) (sym memory) ∙ same)),
+  λ b. absurd (differ tree.Memory tree.Absent (λ n. omega (arith, n)) (sym memory ∙ ap {A = Result X TreeError} (λ r. tree_error_or r e) (h.1 b.1))),
+)
 
 -- ---- room for a payload
 

@@ -1,7 +1,7 @@
 -- An image spelled as that of a new replica is of its pair, and keeps nothing.
-use Rattle.std.proofs.Common.{◌≡◌, ◌<◌, ◌≤◌, ◌^◌, ℕ, Bool, true, false, eqb, List, [], ◌∷◌, ◌++◌, length, drop, flat_map, refl, sym, ap, ◌∙◌, subst, Option, Some, None, true≢false, arith}
+use Rattle.std.proofs.Common.{◌≡◌, ◌<◌, ◌≤◌, ◌^◌, ℕ, true, false, eqb, List, [], ◌∷◌, ◌++◌, length, drop, flat_map, refl, sym, ap, ◌∙◌, subst, Option, Some, None, true≢false, arith}
 use Rattle.syn_model.specs.Laws.{NoSpellingBeginsAnother}
-use Rattle.syn_model.specs.Path.{Bytes, Path}
+use Rattle.syn_model.specs.Path.{Bytes}
 use Rattle.syn_model.specs.Tree.{Tree, IsTree, empty_directory}
 use Rattle.syn_model.specs.Limits.{fits_replica, greatest}
 use Rattle.syn_model.specs.Event.{Token}

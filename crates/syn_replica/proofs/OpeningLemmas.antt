@@ -1,5 +1,5 @@
 -- Payloads that are edits give a history.
-use Rattle.std.proofs.Common.{◌≡◌, ◌<◌, ◌^◌, ◌-◌, ◌+◌, ℕ, List, [], ◌∷◌, ◌++◌, length, map, take, drop, refl, sym, ap, ap₂, ◌∙◌, subst, Some, None, append_assoc, append-nil, arith, slice_index_or}
+use Rattle.std.proofs.Common.{◌≡◌, ◌<◌, ◌^◌, ◌-◌, ◌+◌, ℕ, List, [], ◌∷◌, ◌++◌, length, map, take, drop, refl, sym, ap, ap₂, ◌∙◌, subst, Some, None, append_assoc, append-nil, slice_index_or}
 use Rattle.std.specs.Global.{Vec}
 use Rattle.std.specs.List.{AllByRecursion}
 use Rattle.std.proofs.lemmas.List.{length-append, map-append, map_more, take-append-drop}
@@ -17,7 +17,7 @@ use Rattle.syn_wire.specs.Laws.{NoEventBeginsAnother}
 use Rattle.syn_wire.specs.Reads.{IsReading}
 use Rattle.syn_replica.specs.Formatted.{formatted_image}
 use Rattle.syn_replica.specs.OfEdits.{IsEdit}
-use Rattle.syn_replica.specs.Opening.{Holds, AddsEvent, IsOfMeaning, bytes_of_each}
+use Rattle.syn_replica.specs.Opening.{Holds, AddsEvent, IsEditOf, IsOfMeaning, bytes_of_each}
 use Rattle.syn_replica.specs.Refusals.{CountsFailures}
 use Rattle.syn_replica.specs.declared.error.ReplicaError.{ReplicaError}
 use Rattle.syn_replica.specs.declared.error.ReplicaError.TheVariants.{NoParent, IsDirectory, Exists, Absent, Root, Full, JournalFull, Device, Halted, Memory, NoImage, Damaged, WrongPair}
@@ -69,6 +69,20 @@ module _ (events_tell : NoEventBeginsAnother) (payload : Bytes) (user : ℕ) (ed
       edit_in d (Edited u x) = x
       edit_in d (Began session) = d
       edit_in d (Replaced token path since new) = d
+
+pub edit_is_read : (payload : Bytes) (event : Event) → IsEdit event → IsSpelledEvent event → payload ≡ event_spelling event → ¬ IsEditOf payload None
+edit_is_read payload (Edited user edit) h spelled e none = none user edit spelled e
+edit_is_read payload (Began session) h spelled e none = h
+edit_is_read payload (Replaced token path since new) h spelled e none = h
+
+-- and the tree does not refuse it where it is allowed
+pub read_not_refused : NoEventBeginsAnother → (payload : Bytes) (tree : Tree) (history : History) (payloads : List Bytes) → Holds tree payloads history → (event : Event) → IsEdit event → IsSpelledEvent event → payload ≡ event_spelling event → IsAllowed history event →
+    (by : ℕ) (read : Edit) → IsSpelledEvent (Edited by read) → payload ≡ event_spelling (Edited by read) → edit_refusal tree read ≡ None
+read_not_refused tell payload tree history payloads holds (Edited user edit) h spelled e allowed by read g f =
+    let same = (same_edit tell payload user edit spelled e read by g f).1 in
+    ap (edit_refusal tree) same ∙ not_refused tree history payloads holds user edit allowed
+read_not_refused tell payload tree history payloads holds (Began session) h spelled e allowed by read g f = absurd h
+read_not_refused tell payload tree history payloads holds (Replaced token path since new) h spelled e allowed by read g f = absurd h
 
 one_more : (history : History) (event : Event) → AllByRecursion IsEdit history → IsEdit event → AllByRecursion IsEdit (history ++ event ∷ [])
 one_more [] event all edit = (edit, tt)

@@ -3,6 +3,7 @@ ghost use Rattle.std.specs.Prelude.{◌≡◌, IfOk};
 ghost use Rattle.syn_replica.specs.Formatted.{formatted_image, IsFormattedOf};
 
 use std::alloc::Global;
+use syn_model::worked_rows;
 use syn_wire::{WireError, read_u64, spelling_laws};
 
 /// The letters and the version that an image begins with.
@@ -17,6 +18,7 @@ const NO_EVENTS: [u8; 30] = [
 pub(crate) fn encode_image(alloc: Global, pair: u64) -> Result<Vec<u8>, WireError>
     ensures { IfOk result (λ image. image.items ≡ formatted_image pair) }
 {
+    worked_rows();
     let mut image = Vec::new(alloc);
     image.extend_from_slice(&FRONT)?;
     image.extend_from_slice(&pair.to_be_bytes())?;
@@ -29,6 +31,7 @@ pub(crate) fn decode_image(image: &[u8]) -> Option<u64>
     ensures { IsFormattedOf image.now result }
 {
     spelling_laws();
+    worked_rows();
     let after_front = image.strip_prefix(&FRONT)?;
     let (pair, rest) = read_u64(after_front)?;
     if rest == NO_EVENTS.as_slice() {

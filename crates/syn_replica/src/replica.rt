@@ -27,7 +27,7 @@ use crate::prepare::prepare;
 use std::alloc::Global;
 use syn_disk::Disk;
 use syn_journal::{Journal, Opened};
-use syn_model::history_laws;
+use syn_model::{history_laws, worked_rows};
 use syn_path::{Name, Path};
 use syn_tree::{Change, Content, Edit, Found, Tree};
 use syn_wire::edit_length;
@@ -57,6 +57,7 @@ impl<D: Disk> Replica<D> {
             (λ refused. CountsFailures refused.0 (D.failures disk) (D.failures refused.1)) }
     {
         history_laws();
+        worked_rows();
         let (image, tree) = match blank(alloc, pair) {
             Ok(made) => made,
             Err(error) => return Err((error, disk)),

@@ -11,4 +11,4 @@ returns c =
     let second = c.in_ok-extend_from_slice-2.ensures.items in
     let third = c.in_ok-extend_from_slice-3.ensures.items in
     third ∙ (ap (λ xs. xs ++ NO_EVENTS) (second ∙ ap₂ (λ xs ys. xs ++ ys) (first ∙ ap (λ xs. xs ++ replica_front) c.new-image.ensures.items) c.to_be_bytes.ensures)
-    ∙ (append_assoc replica_front (to_be_bytes w64 c.args.pair) NO_EVENTS ∙ sym (formatted_parts c.args.pair)))
+    ∙ (append_assoc replica_front (to_be_bytes w64 c.args.pair) NO_EVENTS ∙ sym (formatted_parts c.worked_rows.ensures.spellings c.args.pair)))

@@ -1,14 +1,9 @@
-use Rattle.std.proofs.Common.{◌≡◌, ◌<◌, ◌≤◌, ◌+◌, ◌^◌, length, sym, ap, ◌∙◌, subst, Err, arith}
+use Rattle.std.proofs.Common.{◌<◌, ◌^◌, sym, ap, ◌∙◌, Err, arith}
 use Rattle.std.proofs.lemmas.Result.{err_from_is_err_and}
 use Rattle.syn_model.specs.Event.{after_edit}
-use Rattle.syn_model.specs.Spelling.{event_spelling}
 use Rattle.syn_tree.specs.Edits.{edit_of}
 use Rattle.syn_replica.specs.Edits.{event_by}
-use Rattle.syn_replica.specs.Replica.{journal_of}
-use Rattle.syn_replica.proofs.CauseLemmas.{none_some}
-use Rattle.syn_replica.proofs.EditLemmas.{same_error, admission_tree, admission_refused, admission_full, admission_none, same_refusal, allowed_by, edit_of_admission, edit_of_commit, commit_has_room, memory_full, edit_has_bytes, fits_half, too_long_twice}
-use Rattle.syn_journal.specs.Journal.{gate_of}
-use Rattle.syn_journal.specs.Layout.{half_size}
+use Rattle.syn_replica.proofs.EditLemmas.{same_error, admission_tree, admission_refused, admission_full, admission_none, same_refusal, allowed_by}
 use Rattle.syn_replica.proofs.replica.Replica.edit.Goals as goal
 
 pub returns-in_err-admit-clause-by_tree : goal.returns-in_err-admit-clause-by_tree
