@@ -10,9 +10,9 @@ use Rattle.clap.specs.declared.parser.matches.ArgMatches.TheViews.{out-ArgMatche
 use Rattle.clap.proofs.OnLiterals.{clap_on_literals}
 use Rattle.clap.proofs.WalkLemmas.{first_value-rows}
 use Rattle.syn.specs.App.{syn_app}
-use Rattle.syn.specs.Reads.{Asks, AsksHelp, HasText, IfUsage, IsMistake, IsRequest, IsFormat, IsPut, IsValue, NothingReads, Reads, ReadsRows}
+use Rattle.syn.specs.Reads.{Asks, AsksHelp, HasText, IfUsage, IsMistake, IsRequest, IsFormat, IsEdit, IsValue, NothingReads, Reads, ReadsRows}
 use Rattle.syn.specs.declared.line.Line.{Line}
-use Rattle.syn.specs.declared.line.Line.TheVariants.{Format, Put, Show}
+use Rattle.syn.specs.declared.line.Line.TheVariants.{Format, Put, MakeDir, Remove, Show}
 use Rattle.syn.specs.declared.line.LineError.{LineError}
 use Rattle.syn.specs.declared.line.LineError.TheVariants.{Usage, Value, Memory}
 
@@ -80,40 +80,58 @@ pub value_is : {T : Type 0} (r : Result T LineError) (P Q : Type 0) → OnErr r 
 value_is (Ok x) P Q p h = tt
 value_is (Err e) P Q p h = λ _. h p
 
--- the names of the commands differ
-format_is_not_put : codes "format" ≡ codes "put" → ⊥
-format_is_not_put e = let bad : ◌≡◌ {A = ℕ} 102 112 = ap (λ (t : List ℕ). slice_index t 0) e in absurd (omega arith)
-
-format_is_not_show : codes "format" ≡ codes "show" → ⊥
-format_is_not_show e = let bad : ◌≡◌ {A = ℕ} 102 115 = ap (λ (t : List ℕ). slice_index t 0) e in absurd (omega arith)
-
-put_is_not_show : codes "put" ≡ codes "show" → ⊥
-put_is_not_show e = let bad : ◌≡◌ {A = ℕ} 112 115 = ap (λ (t : List ℕ). slice_index t 0) e in absurd (omega arith)
+-- the names of the commands differ by their first letters
+differ : (a b : Text) → (slice_index a 0 ≡ slice_index b 0 → ⊥) → a ≡ b → ⊥
+differ a b letters e = letters (ap (λ (t : List ℕ). slice_index t 0) e)
 
 pub only_format : (name : Text) (rows : List Row) → name ≡ codes "format"
     → ((pair : ℕ) (file : Text) → IsFormat rows pair file → ⊥) → NothingReads (Some (name, rows))
 only_format name rows same none (Format pair file) read = none pair file.now read.1
-only_format name rows same none (Put file user path) read = format_is_not_put (sym same ∙ read.0)
-only_format name rows same none (Show file path) read = format_is_not_show (sym same ∙ read.0)
+only_format name rows same none (Put file user path) read = differ (codes "format") (codes "put") (λ (e : 102 ≡ 112). omega (arith, e)) (sym same ∙ read.0)
+only_format name rows same none (MakeDir file user path) read = differ (codes "format") (codes "mkdir") (λ (e : 102 ≡ 109). omega (arith, e)) (sym same ∙ read.0)
+only_format name rows same none (Remove file user path) read = differ (codes "format") (codes "rm") (λ (e : 102 ≡ 114). omega (arith, e)) (sym same ∙ read.0)
+only_format name rows same none (Show file path) read = differ (codes "format") (codes "show") (λ (e : 102 ≡ 115). omega (arith, e)) (sym same ∙ read.0)
 
 pub only_put : (name : Text) (rows : List Row) → name ≡ codes "put"
-    → ((file : Text) (user : ℕ) (path : Text) → IsPut rows file user path → ⊥) → NothingReads (Some (name, rows))
-only_put name rows same none (Format pair file) read = format_is_not_put (sym (sym same ∙ read.0))
+    → ((file : Text) (user : ℕ) (path : Text) → IsEdit rows file user path → ⊥) → NothingReads (Some (name, rows))
+only_put name rows same none (Format pair file) read = differ (codes "put") (codes "format") (λ (e : 112 ≡ 102). omega (arith, e)) (sym same ∙ read.0)
 only_put name rows same none (Put file user path) read = none file.now user path.now read.1
-only_put name rows same none (Show file path) read = put_is_not_show (sym same ∙ read.0)
+only_put name rows same none (MakeDir file user path) read = differ (codes "put") (codes "mkdir") (λ (e : 112 ≡ 109). omega (arith, e)) (sym same ∙ read.0)
+only_put name rows same none (Remove file user path) read = differ (codes "put") (codes "rm") (λ (e : 112 ≡ 114). omega (arith, e)) (sym same ∙ read.0)
+only_put name rows same none (Show file path) read = differ (codes "put") (codes "show") (λ (e : 112 ≡ 115). omega (arith, e)) (sym same ∙ read.0)
+
+pub only_make_dir : (name : Text) (rows : List Row) → name ≡ codes "mkdir"
+    → ((file : Text) (user : ℕ) (path : Text) → IsEdit rows file user path → ⊥) → NothingReads (Some (name, rows))
+only_make_dir name rows same none (Format pair file) read = differ (codes "mkdir") (codes "format") (λ (e : 109 ≡ 102). omega (arith, e)) (sym same ∙ read.0)
+only_make_dir name rows same none (Put file user path) read = differ (codes "mkdir") (codes "put") (λ (e : 109 ≡ 112). omega (arith, e)) (sym same ∙ read.0)
+only_make_dir name rows same none (MakeDir file user path) read = none file.now user path.now read.1
+only_make_dir name rows same none (Remove file user path) read = differ (codes "mkdir") (codes "rm") (λ (e : 109 ≡ 114). omega (arith, e)) (sym same ∙ read.0)
+only_make_dir name rows same none (Show file path) read = differ (codes "mkdir") (codes "show") (λ (e : 109 ≡ 115). omega (arith, e)) (sym same ∙ read.0)
+
+pub only_remove : (name : Text) (rows : List Row) → name ≡ codes "rm"
+    → ((file : Text) (user : ℕ) (path : Text) → IsEdit rows file user path → ⊥) → NothingReads (Some (name, rows))
+only_remove name rows same none (Format pair file) read = differ (codes "rm") (codes "format") (λ (e : 114 ≡ 102). omega (arith, e)) (sym same ∙ read.0)
+only_remove name rows same none (Put file user path) read = differ (codes "rm") (codes "put") (λ (e : 114 ≡ 112). omega (arith, e)) (sym same ∙ read.0)
+only_remove name rows same none (MakeDir file user path) read = differ (codes "rm") (codes "mkdir") (λ (e : 114 ≡ 109). omega (arith, e)) (sym same ∙ read.0)
+only_remove name rows same none (Remove file user path) read = none file.now user path.now read.1
+only_remove name rows same none (Show file path) read = differ (codes "rm") (codes "show") (λ (e : 114 ≡ 115). omega (arith, e)) (sym same ∙ read.0)
 
 pub only_show : (name : Text) (rows : List Row) → name ≡ codes "show"
     → ((file : Text) → HasText rows (codes "FILE") file → ⊥) → NothingReads (Some (name, rows))
-only_show name rows same none (Format pair file) read = format_is_not_show (sym (sym same ∙ read.0))
-only_show name rows same none (Put file user path) read = put_is_not_show (sym (sym same ∙ read.0))
+only_show name rows same none (Format pair file) read = differ (codes "show") (codes "format") (λ (e : 115 ≡ 102). omega (arith, e)) (sym same ∙ read.0)
+only_show name rows same none (Put file user path) read = differ (codes "show") (codes "put") (λ (e : 115 ≡ 112). omega (arith, e)) (sym same ∙ read.0)
+only_show name rows same none (MakeDir file user path) read = differ (codes "show") (codes "mkdir") (λ (e : 115 ≡ 109). omega (arith, e)) (sym same ∙ read.0)
+only_show name rows same none (Remove file user path) read = differ (codes "show") (codes "rm") (λ (e : 115 ≡ 114). omega (arith, e)) (sym same ∙ read.0)
 only_show name rows same none (Show file path) read = none file.now read.1
 
 -- any other name is no command's
-pub other_name : (name : Text) (rows : List Row) → (name ≡ codes "format" → ⊥) → (name ≡ codes "put" → ⊥) → (name ≡ codes "show" → ⊥)
+pub other_name : (name : Text) (rows : List Row) → (name ≡ codes "format" → ⊥) → (name ≡ codes "put" → ⊥) → (name ≡ codes "mkdir" → ⊥) → (name ≡ codes "rm" → ⊥) → (name ≡ codes "show" → ⊥)
     → NothingReads (Some (name, rows))
-other_name name rows no_format no_put no_show (Format pair file) read = no_format read.0
-other_name name rows no_format no_put no_show (Put file user path) read = no_put read.0
-other_name name rows no_format no_put no_show (Show file path) read = no_show read.0
+other_name name rows no_format no_put no_make_dir no_remove no_show (Format pair file) read = no_format read.0
+other_name name rows no_format no_put no_make_dir no_remove no_show (Put file user path) read = no_put read.0
+other_name name rows no_format no_put no_make_dir no_remove no_show (MakeDir file user path) read = no_make_dir read.0
+other_name name rows no_format no_put no_make_dir no_remove no_show (Remove file user path) read = no_remove read.0
+other_name name rows no_format no_put no_make_dir no_remove no_show (Show file path) read = no_show read.0
 
 -- what is told where the help is asked for
 pub is_asked : (error : LineError) (words : List Text) → IsRequest error

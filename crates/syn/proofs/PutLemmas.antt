@@ -1,9 +1,9 @@
 -- A put of an input of which at most one byte more is read than a file may have.
-use Rattle.std.proofs.Common.{◌≡◌, ◌⊎◌, inl, inr, ◌<◌, ◌≤◌, ◌+◌, ◌++◌, ◌∷◌, ◌∙◌, ℕ, Bool, true, false, not, nat_le, [], List, length, take, Option, Some, sym, ap, subst, refl, true≢false, arith}
+use Rattle.std.proofs.Common.{◌≡◌, ◌⊎◌, inl, inr, ◌<◌, ◌≤◌, ◌++◌, ◌∷◌, ◌∙◌, ℕ, Bool, true, false, not, nat_le, [], List, length, take, Option, Some, sym, ap, subst, refl, arith}
 use Rattle.std.specs.Option.{IfSome}
 use Rattle.std.proofs.lemmas.Bool.{leb-true, leb-false}
 use Rattle.std.proofs.lemmas.List.{take_all, length-take-le}
-use Rattle.syn_model.specs.Event.{Event, Edited, Put, after_edit}
+use Rattle.syn_model.specs.Event.{Edited, Put, after_edit}
 use Rattle.syn_model.specs.History.{History, IsHistory, tree_of, event_refusal}
 use Rattle.syn_model.specs.Limits.{fits_replica}
 use Rattle.syn_model.specs.Path.{Bytes, Path}

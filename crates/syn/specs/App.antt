@@ -9,6 +9,10 @@ required_rule id = record (new_rule id) { required = true }
 abbrev pub word_app : Text → List Text → App
 word_app name ids = fold (λ app id. with_rule app (required_rule id)) (new_app name) ids
 
+-- an edit of a file, by a user, at a path
+abbrev pub edit_app : Text → App
+edit_app name = word_app name (codes "FILE" ∷ codes "USER" ∷ codes "PATH" ∷ [])
+
 abbrev pub show_app : App
 show_app = with_rule (word_app (codes "show") (codes "FILE" ∷ [])) (new_rule (codes "PATH"))
 
@@ -21,7 +25,9 @@ abbrev pub requiring : App → App
 requiring app = record app { top = record app.top { subcommand_required = true } }
 
 abbrev pub syn_app : App
-syn_app = with_subcommand (with_subcommand (with_subcommand (requiring (versioned (new_app (codes "syn"))))
+syn_app = with_subcommand (with_subcommand (with_subcommand (with_subcommand (with_subcommand (requiring (versioned (new_app (codes "syn"))))
     (word_app (codes "format") (codes "KIND" ∷ codes "PAIR" ∷ codes "FILE" ∷ [])).top)
-    (word_app (codes "put") (codes "FILE" ∷ codes "USER" ∷ codes "PATH" ∷ [])).top)
+    (edit_app (codes "put")).top)
+    (edit_app (codes "mkdir")).top)
+    (edit_app (codes "rm")).top)
     show_app.top

@@ -1,10 +1,42 @@
 -- The lines that the program prints.
-use Rattle.std.specs.Prelude.{ℕ, List, length, ◌++◌, codes}
+use Rattle.std.specs.Prelude.{ℕ, Bool, ◌&&◌, nat_lt, List, length, filter, flat_map, ◌++◌, codes}
 use Rattle.std.specs.Fmt.{decimal}
+use Rattle.std.specs.FinMap.{entries}
 use Rattle.hex.specs.Hex.{encode_lower}
 use Rattle.sha2.specs.Sha256.{sha256}
+use Rattle.syn_model.specs.Path.{Path, is_prefix}
+use Rattle.syn_model.specs.Tree.{Tree, Pair, Content, Directory, File}
 use Rattle.syn_path.specs.Paths.{printed_form}
 
 -- the line of a file: its path, its length, and its digest in lower case hexadecimal digits
 abbrev pub file_line : List (List ℕ) → List ℕ → List ℕ
 file_line path bytes = codes "f " ++ (printed_form path ++ (codes " " ++ (decimal (length bytes) ++ (codes " " ++ (encode_lower (sha256 bytes) ++ codes "\n")))))
+
+-- the line of a directory
+abbrev pub directory_line : List (List ℕ) → List ℕ
+directory_line path = codes "d " ++ (printed_form path ++ codes "\n")
+
+abbrev pub content_line : Path → Content → List ℕ
+content_line path Directory = directory_line path
+content_line path (File contents) = file_line path contents.bytes
+
+-- a path lies below another, but not at it
+abbrev pub is_below : Path → Path → Bool
+is_below at path = is_prefix at path && nat_lt (length at) (length path)
+
+-- the lines of those pairs that stand below a path
+abbrev pub lines_of : Path → List Pair → List ℕ
+lines_of at pairs = flat_map (λ pair. content_line pair.0 pair.1) (filter (λ pair. is_below at pair.0) pairs)
+
+-- of all in a tree, in path order
+abbrev pub lines_below : Tree → Path → List ℕ
+lines_below tree at = lines_of at (entries tree)
+
+-- the first line of an image
+abbrev pub image_line : ℕ → ℕ → List ℕ
+image_line pair position = codes "replica pair " ++ (decimal pair ++ (codes " position " ++ (decimal position ++ codes "\n")))
+
+-- what is printed of a path: the bytes of a file, or the lines of what is below a directory
+abbrev pub content_shown : Tree → Path → Content → List ℕ
+content_shown tree path Directory = lines_below tree path
+content_shown tree path (File contents) = contents.bytes

@@ -6,7 +6,7 @@ use Rattle.clap.specs.declared.error.Error.{Error}
 use Rattle.clap.specs.declared.error.kind.ErrorKind.TheVariants.{DisplayHelp, DisplayVersion}
 use Rattle.syn.specs.App.{syn_app}
 use Rattle.syn.specs.declared.line.Line.{Line}
-use Rattle.syn.specs.declared.line.Line.TheVariants.{Format, Put, Show}
+use Rattle.syn.specs.declared.line.Line.TheVariants.{Format, Put, MakeDir, Remove, Show}
 use Rattle.syn.specs.declared.line.LineError.{LineError}
 use Rattle.syn.specs.declared.line.LineError.TheVariants.{Usage, Value, Memory}
 
@@ -28,13 +28,15 @@ HasNumber bits rows id n = (text : Text) × HasText rows id text × IsNumber bit
 abbrev pub IsFormat : List Row → ℕ → Text → Type 0
 IsFormat rows pair file = HasText rows (codes "KIND") (codes "replica") × HasNumber 64 rows (codes "PAIR") pair × HasText rows (codes "FILE") file
 
-abbrev pub IsPut : List Row → Text → ℕ → Text → Type 0
-IsPut rows file user path = HasText rows (codes "FILE") file × HasNumber 32 rows (codes "USER") user × HasText rows (codes "PATH") path
+abbrev pub IsEdit : List Row → Text → ℕ → Text → Type 0
+IsEdit rows file user path = HasText rows (codes "FILE") file × HasNumber 32 rows (codes "USER") user × HasText rows (codes "PATH") path
 
 -- the line is that of the subcommand and its rows
 abbrev pub ReadsRows : Text → List Row → Line → Type 0
 ReadsRows name rows (Format pair file) = (name ≡ codes "format") × IsFormat rows pair file.now
-ReadsRows name rows (Put file user path) = (name ≡ codes "put") × IsPut rows file.now user path.now
+ReadsRows name rows (Put file user path) = (name ≡ codes "put") × IsEdit rows file.now user path.now
+ReadsRows name rows (MakeDir file user path) = (name ≡ codes "mkdir") × IsEdit rows file.now user path.now
+ReadsRows name rows (Remove file user path) = (name ≡ codes "rm") × IsEdit rows file.now user path.now
 ReadsRows name rows (Show file path) =
     (name ≡ codes "show") × HasText rows (codes "FILE") file.now × (first_of (codes "PATH") rows ≡ option_map (λ p. p.now) path)
 

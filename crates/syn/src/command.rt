@@ -17,6 +17,7 @@ use std::os::unix::fs::FileExt;
 use syn_disk::{DISK_SIZE, FileDisk};
 use syn_path::Path;
 use syn_replica::Replica;
+use syn_tree::Edit;
 
 /// Carries out what the words ask for, of which the first is the program's own name. What is asked for goes to
 /// `output`, and why it is refused to `errors`.
@@ -100,6 +101,16 @@ where
         }
         Line::Put { file, user, path } => {
             let position = put(alloc, files, file, user, path, input)?;
+            writeln!(output, "ok {position}")?;
+        }
+        Line::MakeDir { file, user, path } => {
+            let made = Edit::MakeDir(Path::parse(alloc, path)?);
+            let position = edit(alloc, files, file, user, made)?;
+            writeln!(output, "ok {position}")?;
+        }
+        Line::Remove { file, user, path } => {
+            let removed = Edit::Remove(Path::parse(alloc, path)?);
+            let position = edit(alloc, files, file, user, removed)?;
             writeln!(output, "ok {position}")?;
         }
         Line::Show { file, path } => show(alloc, files, file, path, output)?,
@@ -188,6 +199,21 @@ where
     let path = Path::parse(alloc, path)?;
     let mut replica = open(alloc, files, file)?;
     put_input(alloc, &mut replica, user, path, input)
+}
+
+/// Makes the edit in the file, and answers the new position.
+fn edit<F: Files>(
+    alloc: Global,
+    files: &F,
+    file: &str,
+    user: u32,
+    edit: Edit,
+) -> Result<u64, Refusal>
+where
+    F::File: FileExt,
+{
+    let mut replica = open(alloc, files, file)?;
+    Ok(replica.edit(alloc, user, edit)?)
 }
 
 /// Prints what stands in the file, or at the path.

@@ -16,6 +16,18 @@ pub enum Line<'a> {
         user: u32,
         path: &'a str,
     },
+    /// Makes a directory at the path, for the user.
+    MakeDir {
+        file: &'a str,
+        user: u32,
+        path: &'a str,
+    },
+    /// Removes what stands at the path, with all below it, for the user.
+    Remove {
+        file: &'a str,
+        user: u32,
+        path: &'a str,
+    },
     /// Prints the whole image, or what stands at the path.
     Show {
         file: &'a str,

@@ -15,7 +15,8 @@ use std::io::Read;
 use syn_disk::Disk;
 use syn_model::history_laws;
 use syn_path::Path;
-use syn_replica::{Edit, Replica};
+use syn_replica::Replica;
+use syn_tree::Edit;
 
 /// How many bytes of the input are read at most: one more than a file may have.
 const MOST_INPUT: u64 = 16_385;

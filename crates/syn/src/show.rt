@@ -1,7 +1,12 @@
 //! What `syn show` prints.
-ghost use Rattle.std.specs.Prelude.{◌≡◌, IfOk};
+ghost use Rattle.std.specs.Prelude.{◌≡◌, ◌⊎◌, ◌++◌, ◌∷◌, [], true, IfOk, IfErr, OnOk, Some, None};
+ghost use Rattle.std.specs.FinMap.{get};
+ghost use Rattle.std.specs.Io.KnownBytes.{Appends};
 ghost use Rattle.std.specs.String.{string_bytes};
-ghost use Rattle.syn.specs.Printed.{file_line};
+ghost use Rattle.syn_model.specs.Tree.{Content, is_present};
+ghost use Rattle.syn_replica.specs.Replica.{pair_of, position_shown, tree_shown};
+ghost use Rattle.syn.specs.Printed.{content_line, content_shown, directory_line, file_line, image_line, is_below, lines_below, lines_of};
+ghost use Rattle.syn.specs.Refusals.{number_of, IsOfStream};
 
 use crate::refusal::Refusal;
 use sha2::{Digest, Sha256};
@@ -9,53 +14,110 @@ use std::alloc::{AllocError, Global};
 use std::io::Write;
 use syn_disk::Disk;
 use syn_path::Path;
-use syn_replica::{Content, Replica};
+use syn_replica::{Replica, ReplicaError};
+use syn_tree::{Entry, Found, Tree};
 
 /// Prints the whole image: a line with its numbers, and a line for each path but the root, in path order.
+///
+/// Refused 9 where the output cannot be written, and 11 where memory is refused.
 pub fn show_image<D: Disk, W: Write>(
     alloc: Global,
     replica: &Replica<D>,
     output: &mut W,
-) -> Result<(), Refusal> {
-    let (pair, position) = (replica.pair(), replica.position());
-    writeln!(output, "replica pair {pair} position {position}")?;
-    show_below(alloc, replica, &Path::root(alloc), output)
+) -> Result<(), Refusal>
+    ensures printed { OnOk result (Appends (W.contents output.old) (W.contents output.new)
+        (image_line (pair_of replica.now) (position_shown replica.now) ++ lines_below (tree_shown replica.now) [])) }
+    ensures stream { IfErr result IsOfStream }
+{
+    let line = image_line(alloc, replica.pair(), replica.position())?;
+    output.write_all(line.as_bytes())?;
+    show_below(alloc, replica.tree(), &Path::root(alloc), output)
 }
 
 /// Prints the bytes of the file at the path, or the lines of what is below the directory there.
+///
+/// Refused 5 where nothing is there, 9 where the output cannot be written, and 11 where memory is refused.
 pub fn show_path<D: Disk, W: Write>(
     alloc: Global,
     replica: &Replica<D>,
     path: &Path,
     output: &mut W,
-) -> Result<(), Refusal> {
-    match replica.get(alloc, path)? {
-        Content::File(bytes) => Ok(output.write_all(&bytes)?),
-        Content::Dir => show_below(alloc, replica, path, output),
+) -> Result<(), Refusal>
+    ensures printed { (content : Content) → get (tree_shown replica.now) path.now ≡ Some content
+        → OnOk result (Appends (W.contents output.old) (W.contents output.new) (content_shown (tree_shown replica.now) path.now content)) }
+    ensures found { OnOk result (is_present (tree_shown replica.now) path.now ≡ true) }
+    ensures refusals { IfErr result (λ e. ((number_of e ≡ 5) × (get (tree_shown replica.now) path.now ≡ None)) ⊎ IsOfStream e) }
+{
+    let tree = replica.tree();
+    match tree.get(path) {
+        Some(Found::File(bytes)) => Ok(output.write_all(bytes)?),
+        Some(Found::Dir) => show_below(alloc, tree, path, output),
+        None => Err(Refusal::Replica(ReplicaError::Absent)),
     }
 }
 
 /// Prints a line for each path below the directory, in path order.
-fn show_below<D: Disk, W: Write>(
+fn show_below<W: Write>(
     alloc: Global,
-    replica: &Replica<D>,
+    tree: &Tree,
     directory: &Path,
     output: &mut W,
-) -> Result<(), Refusal> {
-    for (name, _) in &replica.list(alloc, directory)? {
-        let path = directory.child(alloc, name)?;
-        match replica.get(alloc, &path)? {
-            Content::File(bytes) => {
-                let line = file_line(alloc, &path, &bytes)?;
-                output.write_all(line.as_bytes())?;
-            }
-            Content::Dir => {
-                writeln!(output, "d {path}")?;
-                show_below(alloc, replica, &path, output)?;
-            }
-        }
+) -> Result<(), Refusal>
+    ensures printed { OnOk result (Appends (W.contents output.old) (W.contents output.new) (lines_below tree.now directory.now)) }
+    ensures stream { IfErr result IsOfStream }
+{
+    for entry in tree.entries() {
+        show_entry(alloc, directory, entry, output)?;
     }
     Ok(())
+}
+
+/// Prints the line of the entry, where it is below the directory.
+fn show_entry<W: Write>(
+    alloc: Global,
+    directory: &Path,
+    entry: &Entry,
+    output: &mut W,
+) -> Result<(), Refusal>
+    ensures printed { OnOk result (Appends (W.contents output.old) (W.contents output.new) (lines_of directory.now (entry.now ∷ []))) }
+    ensures stream { IfErr result IsOfStream }
+{
+    if is_below(directory, entry.path()) {
+        let line = entry_line(alloc, entry)?;
+        output.write_all(line.as_bytes())?;
+    }
+    Ok(())
+}
+
+/// The path is below the directory, and not the directory itself.
+fn is_below(directory: &Path, path: &Path) -> bool
+    ensures { result ≡ is_below directory.now path.now }
+{
+    directory.is_prefix(path) && directory.names().len() < path.names().len()
+}
+
+/// The first line of an image.
+fn image_line(alloc: Global, pair: u64, position: u64) -> Result<String, AllocError>
+    ensures { IfOk result (λ line. string_bytes line ≡ image_line pair position) }
+{
+    format!(in alloc; "replica pair {pair} position {position}\n")
+}
+
+/// The line of what stands at a path.
+fn entry_line(alloc: Global, entry: &Entry) -> Result<String, AllocError>
+    ensures { IfOk result (λ line. string_bytes line ≡ content_line entry.now.0 entry.now.1) }
+{
+    match entry.content() {
+        Found::File(bytes) => file_line(alloc, entry.path(), bytes),
+        Found::Dir => directory_line(alloc, entry.path()),
+    }
+}
+
+/// The line of a directory: its path.
+fn directory_line(alloc: Global, path: &Path) -> Result<String, AllocError>
+    ensures { IfOk result (λ line. string_bytes line ≡ directory_line path.now) }
+{
+    format!(in alloc; "d {path}\n")
 }
 
 /// The line of a file: its path, its length and its SHA-256 digest.

@@ -119,16 +119,52 @@ fn put_adds_a_record(rt: HostRuntime) -> Result<(), Fail> {
 }
 
 #[test]
+fn directories_are_made_shown_and_removed(rt: HostRuntime) -> Result<(), Fail> {
+    let file = "syn_test_directories";
+    prints(&rt, &["format", "replica", "7", file], b"", "ok\n")?;
+    prints(&rt, &["mkdir", file, "1", "d"], b"", "ok 1\n")?;
+    prints(&rt, &["put", file, "1", "d/f"], b"hi", "ok 2\n")?;
+    let line = format!(in rt.alloc(); "f d/f 2 {DIGEST_OF_HI}\n")?;
+    prints(&rt, &["show", file, "d"], b"", &line)?;
+    prints(&rt, &["show", file, "d/f"], b"", "hi")?;
+    let record: [u8; 35] = bytes_at(&rt, file, 56)?;
+    prints(&rt, &["mkdir", file, "1", "d/e"], b"", "ok 3\n")?;
+    prints(&rt, &["put", file, "1", "d-"], b"hi", "ok 4\n")?;
+    let image = format!(in rt.alloc();
+        "replica pair 7 position 4\nd d\nd d/e\n{line}f d- 2 {DIGEST_OF_HI}\n"
+    )?;
+    prints(&rt, &["show", file], b"", &image)?;
+    prints(&rt, &["rm", file, "1", "d"], b"", "ok 5\n")?;
+    let left = format!(in rt.alloc(); "f d- 2 {DIGEST_OF_HI}\n")?;
+    prints(&rt, &["show", file, "."], b"", &left)?;
+    fs::remove_file(&rt, file)?;
+    // A directory made by user 1 at `d`; behind it, at 69, a put by user 1 at `d/f` with 2 bytes; and no gate at 90.
+    let wanted = [
+        0xa5, 0, 0, 0, 8, 2, 0, 0, 0, 1, 1, 1, b'd', 0xa5, 0, 0, 0, 16, 1, 0, 0, 0, 1, 2, 1, b'd',
+        1, b'f', 0, 0, 0, 2, b'h', b'i', 0,
+    ];
+    assert_eq!(rt; record.as_slice(), wanted.as_slice());
+    Ok(())
+}
+
+#[test]
 fn refusals_change_nothing(rt: HostRuntime) -> Result<(), Fail> {
     let file = "syn_test_refusals";
     let most = vec![in rt.alloc(); 120u8; 16_384]?;
     let more = vec![in rt.alloc(); 120u8; 20_000]?;
     prints(&rt, &["format", "replica", "7", file], b"", "ok\n")?;
     prints(&rt, &["put", file, "1", "a"], &most, "ok 1\n")?;
+    prints(&rt, &["mkdir", file, "1", "d"], b"", "ok 2\n")?;
     let before = fs::read(&rt, file)?;
     refuses(&rt, &["put", file, "1", "a"], &more, "7 Full")?;
     refuses(&rt, &["put", file, "1", "a/b"], b"hi", "2 NoParent")?;
     refuses(&rt, &["put", file, "1", "."], &more, "6 Root")?;
+    refuses(&rt, &["put", file, "1", "d"], &more, "3 IsDirectory")?;
+    refuses(&rt, &["mkdir", file, "1", "a"], b"", "4 Exists")?;
+    refuses(&rt, &["mkdir", file, "1", "a/b"], b"", "2 NoParent")?;
+    refuses(&rt, &["mkdir", file, "1", "a/.."], b"", "1 BadPath")?;
+    refuses(&rt, &["rm", file, "1", "b"], b"", "5 Absent")?;
+    refuses(&rt, &["rm", file, "1", "."], b"", "6 Root")?;
     refuses(&rt, &["put", file, "1", "a//b"], b"hi", "1 BadPath")?;
     refuses(&rt, &["show", file, "b"], b"", "5 Absent")?;
     refuses(&rt, &["show", "syn_test_missing"], b"", "9 Device")?;
@@ -168,7 +204,7 @@ fn files_that_are_no_disk_are_left_alone(rt: HostRuntime) -> Result<(), Fail> {
 
 #[test]
 fn words_that_are_no_command_are_usage(rt: HostRuntime) -> Result<(), Fail> {
-    let lines: [&[&str]; 12] = [
+    let lines: [&[&str]; 15] = [
         &[],
         &["frob"],
         &["format", "archive", "7", "x"],
@@ -179,6 +215,9 @@ fn words_that_are_no_command_are_usage(rt: HostRuntime) -> Result<(), Fail> {
         &["put", "x", "4294967296", "a"],
         &["put", "x", "0x1", "a"],
         &["put", "x", "1"],
+        &["mkdir", "x", "1"],
+        &["rm", "x", "-1", "a"],
+        &["rm", "x", "1", "a", "b"],
         &["show"],
         &["show", "x", "a", "b"],
     ];

@@ -1,6 +1,6 @@
 //! Reads a command line by `clap`.
 ghost use Rattle.std.specs.Prelude.{◌≡◌, ◌≢◌, ℕ, [], IfOk, IfErr, OnOk, OnErr, Some, None, codes, map, false};
-ghost use Rattle.syn.specs.Reads.{Asks, HasText, IfUsage, IsFormat, IsNumber, IsPut, IsValue, NothingReads, ReadsRows};
+ghost use Rattle.syn.specs.Reads.{Asks, HasText, IfUsage, IsFormat, IsNumber, IsEdit, IsValue, NothingReads, ReadsRows};
 ghost use Rattle.clap.specs.Words.{IsAmong, Text, app_of, fault_of, first_of, found_of, kind_of, rows_of, subcommand_of};
 ghost use Rattle.clap.specs.declared.Command.TheViews.{out-Command};
 ghost use Rattle.syn.specs.App.{show_app, syn_app, word_app};
@@ -55,6 +55,18 @@ fn syn_command<'a>(alloc: Global) -> Result<Command<'a>, AllocError>
         "Puts standard input at PATH, as an edit of the user numbered USER",
         &["FILE", "USER", "PATH"],
     )?;
+    let mkdir = word_command(
+        alloc,
+        "mkdir",
+        "Makes a directory at PATH, as an edit of the user numbered USER",
+        &["FILE", "USER", "PATH"],
+    )?;
+    let rm = word_command(
+        alloc,
+        "rm",
+        "Removes what is at PATH, with all below it, as an edit of the user numbered USER",
+        &["FILE", "USER", "PATH"],
+    )?;
     let show = show_command(alloc)?;
     Command::new(alloc, "syn")
         .about("A crash-safe synchronizer of file trees")
@@ -62,6 +74,8 @@ fn syn_command<'a>(alloc: Global) -> Result<Command<'a>, AllocError>
         .subcommand_required(true)
         .subcommand(format)?
         .subcommand(put)?
+        .subcommand(mkdir)?
+        .subcommand(rm)?
         .subcommand(show)
 }
 
@@ -105,6 +119,8 @@ fn line_of<'a>(name: &'a str, found: &ArgMatches<'a>) -> Result<Line<'a>, LineEr
     match name {
         "format" => format_line(found),
         "put" => put_line(found),
+        "mkdir" => make_dir_line(found),
+        "rm" => remove_line(found),
         "show" => show_line(found),
         _ => Err(LineError::Value("COMMAND")),
     }
@@ -124,12 +140,40 @@ fn format_line<'a>(found: &ArgMatches<'a>) -> Result<Line<'a>, LineError>
 fn put_line<'a>(found: &ArgMatches<'a>) -> Result<Line<'a>, LineError>
     ensures ok { IfOk result (λ line. ReadsRows (codes "put") (rows_of (found_of found.now)) line) }
     ensures value { IfErr result (λ error. IsValue error) }
-    ensures nothing { OnErr result ((file : Text) (user : ℕ) (path : Text) → ¬ IsPut (rows_of (found_of found.now)) file user path) }
+    ensures nothing { OnErr result ((file : Text) (user : ℕ) (path : Text) → ¬ IsEdit (rows_of (found_of found.now)) file user path) }
+{
+    let (file, user, path) = edit_values(found)?;
+    Ok(Line::Put { file, user, path })
+}
+
+fn make_dir_line<'a>(found: &ArgMatches<'a>) -> Result<Line<'a>, LineError>
+    ensures ok { IfOk result (λ line. ReadsRows (codes "mkdir") (rows_of (found_of found.now)) line) }
+    ensures value { IfErr result (λ error. IsValue error) }
+    ensures nothing { OnErr result ((file : Text) (user : ℕ) (path : Text) → ¬ IsEdit (rows_of (found_of found.now)) file user path) }
+{
+    let (file, user, path) = edit_values(found)?;
+    Ok(Line::MakeDir { file, user, path })
+}
+
+fn remove_line<'a>(found: &ArgMatches<'a>) -> Result<Line<'a>, LineError>
+    ensures ok { IfOk result (λ line. ReadsRows (codes "rm") (rows_of (found_of found.now)) line) }
+    ensures value { IfErr result (λ error. IsValue error) }
+    ensures nothing { OnErr result ((file : Text) (user : ℕ) (path : Text) → ¬ IsEdit (rows_of (found_of found.now)) file user path) }
+{
+    let (file, user, path) = edit_values(found)?;
+    Ok(Line::Remove { file, user, path })
+}
+
+/// The file, the user and the path of an edit.
+fn edit_values<'a>(found: &ArgMatches<'a>) -> Result<(&'a str, u32, &'a str), LineError>
+    ensures ok { IfOk result (λ values. IsEdit (rows_of (found_of found.now)) values.0.now values.1 values.2.now) }
+    ensures value { IfErr result (λ error. IsValue error) }
+    ensures nothing { OnErr result ((file : Text) (user : ℕ) (path : Text) → ¬ IsEdit (rows_of (found_of found.now)) file user path) }
 {
     let file = text(found, "FILE")?;
     let user = user(text(found, "USER")?)?;
     let path = text(found, "PATH")?;
-    Ok(Line::Put { file, user, path })
+    Ok((file, user, path))
 }
 
 #[tactic(auto, using(crate::proofs::LineLemmas::first_value_rows))]

@@ -1,12 +1,10 @@
-use Rattle.std.proofs.Common.{◌≡◌, ◌⊎◌, ◌++◌, ◌∷◌, ◌∙◌, [], inl, ap, sym, subst, Some, List, ℕ}
+use Rattle.std.proofs.Common.{◌++◌, ◌∷◌, ◌∙◌, [], inl, ap, subst, List, ℕ}
 use Rattle.std.proofs.lemmas.Result.{err_from_is_err_and}
-use Rattle.syn_journal.specs.Stops.{LeavesOnly}
 use Rattle.syn_replica.proofs.StandLemmas.{leaves_weaker}
 use Rattle.syn_model.specs.Event.{Edited, Put}
 use Rattle.syn_model.specs.Refusal.{number}
 use Rattle.syn_replica.specs.Disks.{StandsBeforeOrAfter}
 use Rattle.syn_replica.specs.Replica.{Stands}
-use Rattle.syn.specs.Refusals.{number_of}
 use Rattle.syn.proofs.PutLemmas.{known, read_whole, before_or_after, same_refusal}
 use Rattle.syn.proofs.put.put_input.Goals as goal
 
