@@ -1,21 +1,19 @@
 -- Entries that were looked at one by one make a lawful whole, and a lawful whole passes.
-use Rattle.std.proofs.Common.{◌≡◌, ◌≤◌, ◌<◌, ◌+◌, ℕ, zero, suc, Bool, true, false, cond, not, ◌&&◌, nat_le, List, [], ◌∷◌, ◌++◌, length, length-append, take, refl, sym, ap, ap₂, ◌∙◌, subst, Option, Some, None, is_some, IsSome, slice_index_or, Ordering, Less, is_lt, is_eq, drop, All, append-nil, append_assoc, true≢false, arith}
+use Rattle.std.proofs.Common.{◌≡◌, ◌<◌, ◌+◌, ℕ, zero, suc, Bool, true, false, cond, ◌&&◌, nat_le, [], ◌∷◌, ◌++◌, length, take, refl, sym, ap, ap₂, ◌∙◌, subst, Option, Some, None, is_some, IsSome, slice_index_or, Less, is_lt, is_eq, drop, All, append-nil, true≢false, arith}
 use Rattle.std.specs.List.{list_all, AllByRecursion}
 use Rattle.std.specs.Ordering.{eq_by_cmp, ordering_reverse}
-use Rattle.std.specs.FinMap.{find, entries, get, get-entries}
+use Rattle.std.specs.FinMap.{find, get}
 use Rattle.std.proofs.lemmas.Bool.{and_parts}
 use Rattle.std.proofs.lemmas.List.{take_more, take-append-drop}
 use Rattle.std.proofs.lemmas.List.Elements.{All-nil}
-use Rattle.syn_model.specs.Path.{Name, Path, IsName, IsPath, path_cmp, root, is_root, parent}
-use Rattle.syn_model.specs.Tree.{Tree, Content, Contents, Pair, Directory, File, IsTree, IsPart, HasParents, is_directory_content}
-use Rattle.syn_model.specs.Event.{AreBytes}
-use Rattle.syn_model.specs.Limits.{fits_content, fits_path, fits_part, fits_paths}
+use Rattle.syn_model.specs.Path.{Name, Path, IsName, path_cmp, root, is_root, parent}
+use Rattle.syn_model.specs.Tree.{Content, Pair, Directory, File, IsTree, is_directory_content}
+use Rattle.syn_model.specs.Limits.{fits_content, fits_path, fits_part}
 use Rattle.syn_model.proofs.PathLemmas.{path_total, same_path, some_same, none_some, path_itself, parent-append}
 use Rattle.syn_tree.specs.Contents.{IsLawful}
 use Rattle.syn_tree.specs.Pairs.{Pairs, rooted, tree_with, AreRising}
 use Rattle.syn_tree.specs.Entries.{AreEntries, stands_in, IsLawfulPair, AreLawful}
-use Rattle.syn_tree.proofs.RisingLemmas.{Rising, After, rising_of, are_rising, rising-append, Each, each-map, each-append}
-use Rattle.syn_tree.proofs.FindLemmas.{find_after}
+use Rattle.syn_tree.proofs.RisingLemmas.{Rising, After, rising_of, rising-append, each-map}
 use Rattle.syn_tree.proofs.TreeLemmas.{entries-with, get-with}
 use Rattle.syn_tree.proofs.CountLemmas.{kids, child_is, child_of_parent}
 use Rattle.syn_tree.proofs.FitLemmas.{part-pairs, pair_fits, all_of, each_of, each-both, is_dir}

@@ -1,7 +1,7 @@
-ghost use Rattle.std.specs.Prelude.{◌≡◌, true, IfSome, IfNone, IsTrue};
+ghost use Rattle.std.specs.Prelude.{◌≡◌, true, length, IfSome, IfNone, IsTrue};
 ghost use Rattle.std.specs.FinMap.{entries};
 ghost use Rattle.syn_model.specs.Tree.{IsTree, empty_directory};
-ghost use Rattle.syn_model.specs.Limits.{fits_part, fits_paths};
+ghost use Rattle.syn_model.specs.Limits.{children, fits_part, fits_paths};
 ghost use Rattle.syn_tree.specs.Pairs.{rooted, tree_with};
 ghost use Rattle.std.specs.List.{list_all};
 ghost use Rattle.syn_model.specs.Limits.{fits_content};
@@ -13,10 +13,12 @@ use crate::content::Found;
 use crate::entry::Entry;
 use crate::lawful::are_bytes;
 use crate::list::{
-    LONGEST_FILE, MOST_CHILDREN, are_rising, count_children, is_directory, parent_names,
+    LONGEST_FILE, MOST_CHILDREN, are_rising, count_children, count_children_at, is_directory,
+    parent_names,
 };
 use std::alloc::Global;
 use std::marker::Model;
+use syn_path::Path;
 
 /// What stands below a directory, in path order: 256 entries a directory, 16,384 bytes a file, and each path,
 /// taken from the directory, within the limits of a path. The number of nodes and their size are limits of a whole tree alone.
@@ -88,6 +90,14 @@ impl Entries {
         ensures paths { fits_paths self.now ≡ true }
     {
         self.list.as_slice()
+    }
+
+    /// How many names are in the directory at the path, which is taken from the directory that these stand below;
+    /// none where no directory is there. The work grows with what is below the path, and not with all entries.
+    pub fn child_count(&self, path: &Path) -> usize
+        ensures { result ≡ length (children self.now path.now) }
+    {
+        count_children_at(&self.list, path)
     }
 
     /// The entries in path order.

@@ -143,6 +143,14 @@ pub(crate) fn count_children(list: &[Entry], above: &[Name]) -> usize
         .count()
 }
 
+/// How many entries stand in the directory at the path, by a count in the part below it alone.
+pub(crate) fn count_children_at(list: &[Entry], at: &Path) -> usize
+    requires { AreRising list.now }
+    ensures { result ≡ count_by (λ pair. is_child at.now pair.0) list.now }
+{
+    count_children(part_at(list, at), at.names())
+}
+
 /// How many bytes spell the last name with its length; none for the root.
 pub(crate) fn name_spelled(path: &Path) -> usize
     ensures length { result ≡ last_name_spelling_length path.now }

@@ -2,7 +2,7 @@ ghost use Rattle.std.specs.Prelude.{◌≡◌, ◌≢◌, ◌<◌, ◌^◌, ◌&
 ghost use Rattle.std.specs.FinMap.{entries, get, len};
 ghost use Rattle.syn_model.specs.Tree.{Tree as Pairs, IsTree, empty_directory, is_directory, is_present, subtree, replace};
 ghost use Rattle.syn_model.specs.Event.{Put, MakeDir, Remove, after_edit};
-ghost use Rattle.syn_model.specs.Limits.{fits_replica, tree_spelling_length};
+ghost use Rattle.syn_model.specs.Limits.{children, fits_replica, tree_spelling_length};
 ghost use Rattle.syn_model.specs.Refusal.{first_cause};
 ghost use Rattle.syn_model.specs.Standing.{edit_refusal, place_causes};
 ghost use Rattle.syn_tree.specs.Contents.{found_content};
@@ -23,8 +23,8 @@ use crate::entry::Entry;
 use crate::error::TreeError;
 use crate::lawful::are_bytes;
 use crate::list::{
-    LONGEST_FILE, LONGEST_SPELLING, MOST_CHILDREN, count_children, find, is_directory, measured,
-    name_spelled, parent_names, part_at, spelled, splice,
+    LONGEST_FILE, LONGEST_SPELLING, MOST_CHILDREN, count_children, count_children_at, find,
+    is_directory, measured, name_spelled, parent_names, part_at, spelled, splice,
 };
 use crate::node::Node;
 use std::alloc::Global;
@@ -92,6 +92,14 @@ impl Tree {
         ensures { result ≡ len self.now }
     {
         self.list.len() + 1
+    }
+
+    /// How many names are in the directory; none where no directory is there.
+    /// The work grows with what is below the path, and not with the whole tree.
+    pub fn child_count(&self, path: &Path) -> usize
+        ensures { result ≡ length (children self.now path.now) }
+    {
+        count_children_at(&self.list, path)
     }
 
     /// How many bytes spell the tree.
