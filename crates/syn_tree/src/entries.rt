@@ -7,11 +7,11 @@ ghost use Rattle.std.specs.List.{list_all};
 ghost use Rattle.syn_model.specs.Limits.{fits_content};
 ghost use Rattle.syn_tree.specs.Contents.{IsLawful};
 ghost use Rattle.syn_tree.specs.Pairs.{AreRising};
-ghost use Rattle.syn_tree.specs.Entries.{AreEntries, stands_in, IsLawfulPair, AreLawful};
+ghost use Rattle.syn_tree.specs.Entries.{AreEntries, has_few, stands_in, IsLawfulPair, AreLawful};
 
 use crate::content::Found;
 use crate::entry::Entry;
-use crate::lawful::are_bytes;
+use crate::lawful::{are_bytes, is_path};
 use crate::list::{
     LONGEST_FILE, MOST_CHILDREN, are_rising, count_children, count_children_at, is_directory,
     parent_names,
@@ -131,10 +131,19 @@ fn stands_among(list: &[Entry], entry: &Entry) -> bool
     ensures value { result ≡ stands_in list.now entry.now }
     ensures lawful { IsLawfulPair entry.now }
 {
+    is_path(entry.path());
     let placed = is_directory(list, parent_names(entry.path()));
     let brief = is_brief(entry);
-    let few = count_children(list, entry.path().names()) <= MOST_CHILDREN;
+    let few = has_few(list, entry);
     placed && brief && few
+}
+
+/// The entry is a file, or a directory with no more entries than are allowed.
+fn has_few(list: &[Entry], entry: &Entry) -> bool
+    requires { AreRising (rooted list.now) }
+    ensures { result ≡ has_few list.now entry.now }
+{
+    !entry.content().is_directory() || count_children_at(list, entry.path()) <= MOST_CHILDREN
 }
 
 /// The entry is a directory, or a file within its limit.
