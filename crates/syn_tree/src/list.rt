@@ -1,12 +1,12 @@
 //! Entries in path order.
-ghost use Rattle.std.specs.Prelude.{◌≡◌, ◌≤◌, ◌<◌, ◌+◌, ◌^◌, ◌++◌, ◌∷◌, length, count_by, option_map, IfSome, IfNone, IsTrue, ◌↔◌, vec_len, vec_capacity};
+ghost use Rattle.std.specs.Prelude.{◌≡◌, ◌≤◌, ◌<◌, ◌+◌, ◌^◌, ◌++◌, ◌∷◌, length, filter, count_by, option_map, IfSome, IfNone, IsTrue, ◌↔◌, vec_len, vec_capacity};
 ghost use Rattle.std.specs.Ordering.{eq_by_cmp, is_lt};
 ghost use Rattle.std.specs.FinMap.{find};
 ghost use Rattle.syn_model.specs.Path.{path_cmp, parent, IsPath};
 ghost use Rattle.syn_model.specs.Tree.{is_directory_content};
 ghost use Rattle.syn_model.specs.Limits.{last_name_spelling_length};
 ghost use Rattle.syn_tree.specs.Contents.{found_content};
-ghost use Rattle.syn_tree.specs.Pairs.{rooted, AreRising, is_before, is_within, before, within, behind, is_child, pair_spelling_length, spelling_length};
+ghost use Rattle.syn_tree.specs.Pairs.{rooted, AreRising, is_before, is_within, before, within, behind, is_below, is_child, pair_spelling_length, spelling_length};
 
 use crate::content::Found;
 use crate::entry::Entry;
@@ -81,6 +81,18 @@ pub(crate) fn part_at<'a>(list: &'a [Entry], at: &Path) -> &'a [Entry]
     let below = others.partition_point(|entry| is_within(entry, at));
     let (part, _) = others.split_at(below);
     part
+}
+
+/// The entries below the path, without the one at it.
+pub(crate) fn part_below<'a>(list: &'a [Entry], at: &Path) -> &'a [Entry]
+    requires { AreRising list.now }
+    ensures { result.now ≡ filter (is_below at.now) list.now }
+{
+    let part = part_at(list, at);
+    let [first, rest @ ..] = part else {
+        return part;
+    };
+    if is_at(first, at.names()) { rest } else { part }
 }
 
 /// What stands at the path of these names, of entries below a root directory.
