@@ -3,3 +3,5 @@ pub mod NumberLemmas
 pub mod Sequences
 pub mod EventLemmas
 pub mod ByteLemmas
+pub mod GroupLemmas
+pub mod WalkLemmas

@@ -4,6 +4,7 @@
 #![tactic(auto)]
 
 ghost use Rattle.syn_wire.specs.Laws.{NoU16BeginsAnother, NoU32BeginsAnother, NoU64BeginsAnother, NoPathBeginsAnother, NoEventBeginsAnother};
+ghost use Rattle.syn_wire.specs.Trees.{NoTreeBeginsAnother, SpellingIsWalk, SpellingIsMeasured};
 
 mod bytes;
 mod error;
@@ -23,6 +24,11 @@ pub fn spelling_laws()
     ensures u64 { NoU64BeginsAnother }
     ensures path { NoPathBeginsAnother }
     ensures event { NoEventBeginsAnother }
+    ensures tree { NoTreeBeginsAnother }
+
+    // A tree is spelled in one walk over its entries, and as long as the model measures.
+    ensures walk { SpellingIsWalk }
+    ensures measured { SpellingIsMeasured }
 {
     syn_model::spelling_laws();
 }
