@@ -5,3 +5,5 @@ pub mod EventLemmas
 pub mod ByteLemmas
 pub mod GroupLemmas
 pub mod WalkLemmas
+pub mod WritingLemmas
+pub mod NodeLemmas
