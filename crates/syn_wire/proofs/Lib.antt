@@ -7,3 +7,6 @@ pub mod GroupLemmas
 pub mod WalkLemmas
 pub mod WritingLemmas
 pub mod NodeLemmas
+pub mod PartsLemmas
+pub mod ReadingLemmas
+pub mod MadeLemmas

@@ -12,12 +12,14 @@ mod event;
 mod number;
 mod path;
 mod tree;
+mod tree_reading;
 
 pub use error::WireError;
 pub use event::{decode_event, encode_event};
 pub use number::{read_u16, read_u32, read_u64};
 pub use path::{decode_path, encode_path, write_path};
 pub use tree::{encode_node, encode_tree, write_node, write_tree};
+pub use tree_reading::{decode_node, decode_tree};
 
 /// No spelling of a value begins that of another.
 pub fn spelling_laws()
