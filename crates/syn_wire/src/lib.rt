@@ -39,3 +39,5 @@ pub fn spelling_laws()
 
 #[cfg(test)]
 mod tests;
+#[cfg(test)]
+mod tree_tests;
