@@ -1,6 +1,6 @@
 -- What is added at a place, as pairs.
-use Rattle.std.proofs.Common.{◌≡◌, ◌+◌, ℕ, Bool, true, false, true≢false, List, [], ◌∷◌, ◌++◌, refl, sym, ap, ap₂, ◌∙◌, subst, Option, Some, None, is_some, append-nil, arith}
-use Rattle.std.specs.FinMap.{entries, from_sorted, get, get-empty}
+use Rattle.std.proofs.Common.{◌≡◌, ◌+◌, ℕ, Bool, true, false, true≢false, [], ◌∷◌, ◌++◌, refl, sym, ap, ◌∙◌, subst, Option, Some, None, is_some, append-nil, arith}
+use Rattle.std.specs.FinMap.{entries, get, get-empty}
 use Rattle.std.proofs.lemmas.List.Sums.{sum_by-cons}
 use Rattle.syn_model.specs.Path.{Bytes, Path, path_cmp, IsPath}
 use Rattle.syn_model.specs.Tree.{Tree, Content, Contents, Directory, File, IsPart, at_root, absent}

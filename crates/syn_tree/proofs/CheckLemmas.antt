@@ -1,26 +1,26 @@
 -- Why an edit is refused, where its place is allowed.
-use Rattle.std.proofs.Common.{◌≡◌, ◌≤◌, ◌<◌, ◌+◌, ℕ, suc, Bool, true, false, if◌then◌else◌, not, ◌&&◌, ◌||◌, nat_le, nat_lt, List, [], ◌∷◌, ◌++◌, length, refl, sym, ap, ap₂, ◌∙◌, subst, Option, Some, None, is_some, append-nil, true≢false, arith}
+use Rattle.std.proofs.Common.{◌≡◌, ◌≤◌, ◌+◌, ℕ, Bool, true, false, if◌then◌else◌, not, ◌&&◌, ◌||◌, nat_le, nat_lt, [], ◌∷◌, length, refl, sym, ap, ap₂, ◌∙◌, Option, Some, None, is_some, append-nil, true≢false, arith}
 use Rattle.std.specs.Prelude.{option_map}
 use Rattle.std.specs.List.{list_all}
 use Rattle.std.specs.FinMap.{entries, get, get-entries, len, len-entries, find}
 use Rattle.std.proofs.lemmas.Bool.{and_parts}
 use Rattle.std.proofs.lemmas.Bool.Decides.{nat_tests}
 use Rattle.syn_model.specs.Path.{Bytes, Path, IsPath, root, is_root, parent, path_cmp, path_spelling, strip_prefix}
-use Rattle.syn_model.specs.Tree.{Tree, Content, Pair, Directory, File, HasParents, IsTree, contents_of, at_root, file, absent, replace, is_directory, is_present}
-use Rattle.syn_model.specs.Event.{Put, MakeDir, Remove, after_edit}
-use Rattle.syn_model.specs.Limits.{fits_replica, fits_part, fits_paths, fits_path, fits_content, children, tree_spelling_length, greatest_spelling, last_name_spelling_length, content_spelling_length}
+use Rattle.syn_model.specs.Tree.{Tree, Content, Directory, HasParents, at_root, file, absent, replace, is_directory, is_present}
+use Rattle.syn_model.specs.Event.{Put, MakeDir, Remove}
+use Rattle.syn_model.specs.Limits.{fits_replica, fits_part, fits_paths, fits_path, fits_content, tree_spelling_length, greatest_spelling, last_name_spelling_length, content_spelling_length}
 use Rattle.syn_model.specs.Refusal.{Refusal, Root, NoParent, IsDirectory, Exists, Absent, Full, first_cause}
 use Rattle.syn_model.specs.Standing.{edit_refusal, place_causes}
-use Rattle.syn_model.proofs.PathLemmas.{none_some, strip_prefix-append}
+use Rattle.syn_model.proofs.PathLemmas.{strip_prefix-append}
 use Rattle.syn_model.proofs.HistoryLemmas.{get-at_root, get-below_root}
 use Rattle.syn_model.proofs.TreeLemmas.{within}
-use Rattle.syn_tree.specs.Pairs.{Pairs, under, spelling_length}
+use Rattle.syn_tree.specs.Pairs.{under, spelling_length}
 use Rattle.syn_tree.specs.Lists.{IsMeasured, replace_refusal}
 use Rattle.syn_tree.proofs.RisingLemmas.{replaced}
 use Rattle.syn_tree.proofs.TreeLemmas.{entries-one, entries-absent, rising-entries}
 use Rattle.syn_tree.proofs.CountLemmas.{kids}
 use Rattle.syn_tree.proofs.FitLemmas.{part-pairs, pair_fits, all-find, fits-replaced, has_room}
-use Rattle.syn_tree.proofs.PartLemmas.{present_root, length_replaced, spelling_replaced}
+use Rattle.syn_tree.proofs.PartLemmas.{length_replaced, spelling_replaced}
 use Rattle.syn_tree.proofs.ParentLemmas.{place_free}
 use Rattle.syn_tree.proofs.ChangeLemmas.{under_one, size_one}
 

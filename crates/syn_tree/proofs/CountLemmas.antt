@@ -1,18 +1,18 @@
 -- How many children stand in each directory before and after a part is replaced.
-use Rattle.std.proofs.Common.{◌≡◌, ◌≤◌, ◌<◌, ◌+◌, ℕ, zero, suc, Bool, true, false, cond, if◌then◌else◌, List, [], ◌∷◌, ◌++◌, map, filter_map, length, refl, sym, ap, ap₂, ◌∙◌, subst, Option, Some, None, is_some, Ordering, Less, is_lt, append_assoc, append-nil, true≢false, arith}
-use Rattle.std.specs.Prelude.{option_map, option_and_then, count_by, sum_by}
-use Rattle.std.specs.List.{cons_option, AllByRecursion}
+use Rattle.std.proofs.Common.{◌≡◌, ◌+◌, ℕ, Bool, true, false, cond, if◌then◌else◌, [], ◌∷◌, ◌++◌, filter_map, length, refl, sym, ap, ap₂, ◌∙◌, Option, Some, None, is_some, Less, is_lt, append_assoc, append-nil, true≢false, arith}
+use Rattle.std.specs.Prelude.{option_map, option_and_then, count_by}
+use Rattle.std.specs.List.{cons_option}
 use Rattle.std.specs.FinMap.{find, entries, get, get-entries}
 use Rattle.std.proofs.lemmas.List.Sums.{sum_by-append, sum_by-cons}
-use Rattle.syn_model.specs.Path.{Name, Path, name_cmp, path_cmp, strip_prefix, is_prefix, root, parent, is_root}
+use Rattle.syn_model.specs.Path.{Name, Path, path_cmp, strip_prefix, is_prefix, root, parent, is_root}
 use Rattle.syn_model.specs.Tree.{Tree, Content, Pair, subtree, is_present}
 use Rattle.syn_model.specs.Limits.{only_name, children}
-use Rattle.syn_model.proofs.PathLemmas.{name_itself, strip_prefix-append, strip_prefix-is, parent-append}
+use Rattle.syn_model.proofs.PathLemmas.{name_itself, strip_prefix-is, parent-append}
 use Rattle.syn_model.proofs.TreeLemmas.{get-subtree}
 use Rattle.syn_tree.specs.Pairs.{Pairs, is_within, before, within, behind, under, is_child}
 use Rattle.syn_tree.proofs.OrderLemmas.{under_prefix}
-use Rattle.syn_tree.proofs.RisingLemmas.{NoneOf, Each, Rising, After, each-map, replaced, three_parts, before_out, behind_out}
-use Rattle.syn_tree.proofs.TreeLemmas.{taken, within-taken, rising-taken, entries-subtree, rising-entries, entries-replace}
+use Rattle.syn_tree.proofs.RisingLemmas.{NoneOf, Rising, After, each-map, replaced, three_parts, before_out, behind_out}
+use Rattle.syn_tree.proofs.TreeLemmas.{taken, within-taken, rising-taken, entries-subtree, rising-entries}
 
 -- how many of the pairs are children of a path
 abbrev pub kids : Path → Pairs → ℕ
@@ -154,3 +154,20 @@ kids-inside t at q u =
   where
     plus_zero : (n : ℕ) → 0 + (n + 0) ≡ n
     plus_zero n = omega arith
+
+-- the children of a path stand below it
+outside_child : (p : Path) (e : Pair) → is_within p e ≡ false → is_child p e.0 ≡ false
+outside_child p e out = by_rest (strip_prefix p e.0) refl out
+  where
+    by_rest : (o : Option Path) → strip_prefix p e.0 ≡ o → is_some o ≡ false → is_some (option_and_then only_name (strip_prefix p e.0)) ≡ false
+    by_rest None is k = ap (λ o. is_some (option_and_then only_name o)) is
+    by_rest (Some r) is k = absurd (true≢false k)
+
+pub kids-within : (p : Path) (es : Pairs) → kids p (within p es) ≡ kids p es
+kids-within p [] = refl
+kids-within p (e ∷ es) =
+    let rest = kids-within p es in
+    elim (is_within p e) as (λ b. is_within p e ≡ b → kids p (cond b (e ∷ within p es) (within p es)) ≡ kids p (e ∷ es)) [
+      | true ↦ λ _. kids-cons p e (within p es) ∙ (ap (λ n. cond (is_child p e.0) 1 0 + n) rest ∙ sym (kids-cons p e es))
+      | false ↦ λ out. omega (arith, rest, kids-cons p e es, ap {B = ℕ} (λ b. cond b 1 0) (outside_child p e out))
+    ] refl

@@ -1,12 +1,12 @@
 -- The empty directory.
-use Rattle.std.proofs.Common.{◌≡◌, ◌≤◌, ℕ, true, ◌&&◌, nat_le, [], ◌∷◌, length, refl, sym, ap, ap₂, ◌∙◌, subst}
+use Rattle.std.proofs.Common.{◌≡◌, ◌≤◌, ℕ, true, ◌&&◌, nat_le, [], length, refl, sym, ap, ap₂, ◌∙◌, subst}
 use Rattle.std.specs.List.{list_all}
-use Rattle.std.specs.FinMap.{entries, len, len-entries, from_sorted}
+use Rattle.std.specs.FinMap.{len-entries, from_sorted}
 use Rattle.syn_model.specs.Path.{root}
 use Rattle.syn_model.specs.Tree.{IsTree, Directory, at_root, empty_directory}
 use Rattle.syn_model.specs.Limits.{fits_replica, fits_part, fits_paths, fits_path, greatest_spelling}
 use Rattle.syn_model.proofs.HistoryLemmas.{get-at_root}
-use Rattle.syn_tree.specs.Pairs.{Pairs, rooted, tree_with, AreRising, spelling_length}
+use Rattle.syn_tree.specs.Pairs.{Pairs, tree_with, spelling_length}
 use Rattle.syn_tree.specs.Entries.{AreEntries}
 use Rattle.syn_tree.specs.Kept.{IsKept}
 use Rattle.syn_tree.proofs.TreeLemmas.{entries-one, from_entries-same}

@@ -1,9 +1,9 @@
 -- What stands at a path, where the pairs before it are counted.
-use Rattle.std.proofs.Common.{◌≡◌, ◌≢◌, ◌<◌, ◌+◌, ℕ, zero, suc, Bool, true, false, cond, List, [], ◌∷◌, length, slice_index_or, refl, sym, ap, ◌∙◌, subst, Option, Some, None, Ordering, Less, Equal, Greater, is_lt, is_eq, true≢false, arith}
+use Rattle.std.proofs.Common.{◌≡◌, ◌≢◌, ◌<◌, suc, Bool, true, false, cond, [], ◌∷◌, length, slice_index_or, refl, sym, ap, ◌∙◌, Some, None, Ordering, Less, Equal, Greater, is_lt, is_eq, true≢false, arith}
 use Rattle.std.specs.Ordering.{eq_by_cmp, ordering_reverse}
 use Rattle.std.specs.FinMap.{find}
-use Rattle.syn_model.specs.Path.{Name, Path, path_cmp}
-use Rattle.syn_model.specs.Tree.{Pair, Content}
+use Rattle.syn_model.specs.Path.{Path, path_cmp}
+use Rattle.syn_model.specs.Tree.{Pair}
 use Rattle.syn_model.proofs.PathLemmas.{path_total, same_path, path_itself}
 use Rattle.syn_tree.specs.Pairs.{Pairs, is_before, before}
 use Rattle.syn_tree.proofs.OrderLemmas.{less_of}

@@ -1,5 +1,5 @@
 -- The limits of a tree with a part replaced.
-use Rattle.std.proofs.Common.{◌≡◌, ◌≤◌, ◌<◌, ◌+◌, ℕ, suc, Bool, true, false, cond, not, ◌&&◌, ◌||◌, nat_le, nat_lt, List, [], ◌∷◌, ◌++◌, map, length, refl, sym, ap, ap₂, ◌∙◌, subst, Option, Some, None, is_some, IsSome, true≢false, arith}
+use Rattle.std.proofs.Common.{◌≡◌, ◌≤◌, ◌<◌, ◌+◌, ℕ, Bool, true, false, cond, not, ◌&&◌, ◌||◌, nat_le, nat_lt, List, [], ◌∷◌, ◌++◌, length, refl, sym, ap, ap₂, ◌∙◌, subst, Option, Some, None, is_some, true≢false, arith}
 use Rattle.std.specs.List.{list_all, AllByRecursion}
 use Rattle.std.specs.Ordering.{eq_by_cmp}
 use Rattle.std.specs.Cmp.{both_ways}
@@ -8,7 +8,7 @@ use Rattle.std.proofs.lemmas.Bool.{and_parts}
 use Rattle.std.proofs.lemmas.Bool.Decides.{nat_tests}
 use Rattle.std.proofs.lemmas.List.Folds.{list_all-append}
 use Rattle.syn_model.specs.Path.{Path, path_cmp, strip_prefix, is_prefix, is_root, root, parent}
-use Rattle.syn_model.specs.Tree.{Tree, Content, Pair, Directory, File, IsPart, IsTree, replace, is_directory, is_directory_content, is_present}
+use Rattle.syn_model.specs.Tree.{Tree, Content, Pair, Directory, File, replace, is_directory, is_directory_content, is_present}
 use Rattle.syn_model.specs.Limits.{children, fits_content, fits_path, fits_part, fits_paths, fits_replica, greatest_spelling, tree_spelling_length}
 use Rattle.syn_model.proofs.PathLemmas.{same_path, some_same}
 use Rattle.syn_model.proofs.TreeLemmas.{beside}

@@ -1,23 +1,21 @@
 -- Entries that were looked at one by one make a lawful whole, and a lawful whole passes.
-use Rattle.std.proofs.Common.{◌≡◌, ◌≤◌, ◌<◌, ◌+◌, ℕ, zero, suc, Bool, true, false, cond, not, ◌&&◌, nat_le, List, [], ◌∷◌, ◌++◌, length, length-append, take, refl, sym, ap, ap₂, ◌∙◌, subst, Option, Some, None, is_some, IsSome, slice_index_or, Ordering, Less, is_lt, is_eq, drop, All, append-nil, append_assoc, true≢false, arith}
+use Rattle.std.proofs.Common.{◌≡◌, ◌<◌, ◌+◌, ℕ, zero, suc, Bool, true, false, cond, not, ◌&&◌, ◌||◌, nat_le, [], ◌∷◌, ◌++◌, length, take, refl, sym, ap, ap₂, ◌∙◌, subst, Option, Some, None, is_some, IsSome, slice_index_or, Less, is_lt, is_eq, drop, All, append-nil, true≢false, arith}
 use Rattle.std.specs.List.{list_all, AllByRecursion}
 use Rattle.std.specs.Ordering.{eq_by_cmp, ordering_reverse}
-use Rattle.std.specs.FinMap.{find, entries, get, get-entries}
+use Rattle.std.specs.FinMap.{find, get}
 use Rattle.std.proofs.lemmas.Bool.{and_parts}
 use Rattle.std.proofs.lemmas.List.{take_more, take-append-drop}
 use Rattle.std.proofs.lemmas.List.Elements.{All-nil}
-use Rattle.syn_model.specs.Path.{Name, Path, IsName, IsPath, path_cmp, root, is_root, parent}
-use Rattle.syn_model.specs.Tree.{Tree, Content, Contents, Pair, Directory, File, IsTree, IsPart, HasParents, is_directory_content}
-use Rattle.syn_model.specs.Event.{AreBytes}
-use Rattle.syn_model.specs.Limits.{fits_content, fits_path, fits_part, fits_paths}
+use Rattle.syn_model.specs.Path.{Name, Path, IsName, path_cmp, root, is_root, parent}
+use Rattle.syn_model.specs.Tree.{Content, Pair, Directory, File, IsTree, is_directory_content}
+use Rattle.syn_model.specs.Limits.{fits_content, fits_path, fits_part}
 use Rattle.syn_model.proofs.PathLemmas.{path_total, same_path, some_same, none_some, path_itself, parent-append}
 use Rattle.syn_tree.specs.Contents.{IsLawful}
-use Rattle.syn_tree.specs.Pairs.{Pairs, rooted, tree_with, AreRising}
-use Rattle.syn_tree.specs.Entries.{AreEntries, stands_in, IsLawfulPair, AreLawful}
-use Rattle.syn_tree.proofs.RisingLemmas.{Rising, After, rising_of, are_rising, rising-append, Each, each-map, each-append}
-use Rattle.syn_tree.proofs.FindLemmas.{find_after}
+use Rattle.syn_tree.specs.Pairs.{Pairs, rooted, tree_with, AreRising, is_child}
+use Rattle.syn_tree.specs.Entries.{AreEntries, has_few, stands_in, IsLawfulPair, AreLawful}
+use Rattle.syn_tree.proofs.RisingLemmas.{Rising, After, rising_of, rising-append, each-map}
 use Rattle.syn_tree.proofs.TreeLemmas.{entries-with, get-with}
-use Rattle.syn_tree.proofs.CountLemmas.{kids, child_is, child_of_parent}
+use Rattle.syn_tree.proofs.CountLemmas.{kids, kids-none, child_is, child_parent, child_of_parent}
 use Rattle.syn_tree.proofs.FitLemmas.{part-pairs, pair_fits, all_of, each_of, each-both, is_dir}
 use Rattle.syn_tree.proofs.PartLemmas.{kids_rooted}
 use Rattle.syn_tree.proofs.CheckLemmas.{path_fits}
@@ -43,6 +41,16 @@ some_is (Some c) h = refl
 length_parent : (m : Name) (w : Path) → suc (length (parent (m ∷ w))) ≡ length (m ∷ w)
 length_parent m [] = refl
 length_parent m (n ∷ w) = ap suc (length_parent n w)
+
+-- each of the pairs is found at its path
+each_found : (es : Pairs) → Rising es → AllByRecursion (λ e. find path_cmp e.0 es ≡ Some e.1) es
+each_found [] h = tt
+each_found (x ∷ es) h = (
+  ap (λ b. cond b (Some x.1) (find path_cmp x.0 es)) (path_itself x.0),
+  each-map (λ e. (path_cmp x.0 e.0 ≡ Less) × (find path_cmp e.0 es ≡ Some e.1)) (λ e. find path_cmp e.0 (x ∷ es) ≡ Some e.1)
+      (λ e k. ap (λ o. cond (is_eq o) (Some x.1) (find path_cmp e.0 es)) (path_total.antisymm e.0 x.0 ∙ ap ordering_reverse k.0) ∙ k.1)
+      es (each-both (λ e. path_cmp x.0 e.0 ≡ Less) (λ e. find path_cmp e.0 es ≡ Some e.1) es h.0 (each_found es h.1)),
+)
 
 module _ (ds : Pairs) (rising : AreRising (rooted ds)) where
   -- each path but the root has its parent
@@ -75,17 +83,35 @@ module _ (ds : Pairs) (rising : AreRising (rooted ds)) where
   closed_of h = (
     refl,
     each-map (λ e. stands_in ds e ≡ true) (λ e. find path_cmp (parent e.0) (rooted ds) ≡ Some Directory)
-        (λ e k. is_dir (find path_cmp (parent e.0) (rooted ds)) (and_parts (is_directory_content (find path_cmp (parent e.0) (rooted ds))) (fits_content e.1) (and_parts (is_directory_content (find path_cmp (parent e.0) (rooted ds)) && fits_content e.1) (nat_le (kids e.0 ds) 256) k).0).0)
+        (λ e k. is_dir (find path_cmp (parent e.0) (rooted ds)) (and_parts (is_directory_content (find path_cmp (parent e.0) (rooted ds))) (fits_content e.1) (and_parts (is_directory_content (find path_cmp (parent e.0) (rooted ds)) && fits_content e.1) (has_few ds e) k).0).0)
         ds (each_of (stands_in ds) ds h),
   )
 
+  -- nothing is in a file
+  none_in : Closed → (e : Pair) → find path_cmp e.0 (rooted ds) ≡ Some e.1 → is_directory_content (Some e.1) ≡ false → kids e.0 ds ≡ 0
+  unfolding Closed
+  none_in h e there file = kids-none e.0 ds (each-map (λ x. find path_cmp (parent x.0) (rooted ds) ≡ Some Directory) (λ x. is_child e.0 x.0 ≡ false) (λ x up. never x up (is_child e.0 x.0) refl) ds h.1)
+    where
+      never : (x : Pair) → find path_cmp (parent x.0) (rooted ds) ≡ Some Directory → (b : Bool) → is_child e.0 x.0 ≡ b → b ≡ false
+      never x up true is = absurd (true≢false (sym (ap is_directory_content (sym there ∙ (ap (λ q. find path_cmp q (rooted ds)) (sym (child_parent e.0 x.0 is)) ∙ up))) ∙ file))
+      never x up false is = refl
+
+  few_of : Closed → (e : Pair) → find path_cmp e.0 (rooted ds) ≡ Some e.1 → has_few ds e ≡ true → nat_le (kids e.0 ds) 256 ≡ true
+  few_of h e there few = by_kind (is_directory_content (Some e.1)) refl few
+    where
+      by_kind : (b : Bool) → is_directory_content (Some e.1) ≡ b → (not b || nat_le (kids e.0 ds) 256) ≡ true → nat_le (kids e.0 ds) 256 ≡ true
+      by_kind true is k = k
+      by_kind false is k = ap (λ n. nat_le n 256) (none_in h e there is)
+
   fits_of : list_all (stands_in ds) ds ≡ true → nat_le (kids [] ds) 256 ≡ true → fits_part (tree_with ds) ≡ true
   fits_of h few =
+      let closed = closed_of h in
+      let found = (each_found (rooted ds) (rising_of (rooted ds) rising)).1 in
       part-pairs (tree_with ds) ∙ (ap (λ es. list_all (pair_fits es) es) (entries-with ds rising)
-      ∙ ap₂ (λ a b. a && b) (ap (λ n. nat_le n 256) (kids_rooted [] ds) ∙ few) (all_of (pair_fits (rooted ds)) ds (each-map (λ e. stands_in ds e ≡ true) (λ e. pair_fits (rooted ds) e ≡ true)
-      (λ e k. let both = and_parts (is_directory_content (find path_cmp (parent e.0) (rooted ds)) && fits_content e.1) (nat_le (kids e.0 ds) 256) k in
-      ap₂ (λ a b. a && b) (and_parts (is_directory_content (find path_cmp (parent e.0) (rooted ds))) (fits_content e.1) both.0).1 (ap (λ n. nat_le n 256) (kids_rooted e.0 ds) ∙ both.1))
-      ds (each_of (stands_in ds) ds h))))
+      ∙ ap₂ (λ a b. a && b) (ap (λ n. nat_le n 256) (kids_rooted [] ds) ∙ few) (all_of (pair_fits (rooted ds)) ds (each-map (λ e. (stands_in ds e ≡ true) × (find path_cmp e.0 (rooted ds) ≡ Some e.1)) (λ e. pair_fits (rooted ds) e ≡ true)
+      (λ e k. let both = and_parts (is_directory_content (find path_cmp (parent e.0) (rooted ds)) && fits_content e.1) (has_few ds e) k.0 in
+      ap₂ (λ a b. a && b) (and_parts (is_directory_content (find path_cmp (parent e.0) (rooted ds))) (fits_content e.1) both.0).1 (ap (λ n. nat_le n 256) (kids_rooted e.0 ds) ∙ few_of closed e k.1 both.1))
+      ds (each-both (λ e. stands_in ds e ≡ true) (λ e. find path_cmp e.0 (rooted ds) ≡ Some e.1) ds (each_of (stands_in ds) ds h) found))))
 
   pub are_entries : AreLawful ds → list_all (stands_in ds) ds ≡ true → nat_le (kids [] ds) 256 ≡ true → AreEntries ds
   are_entries lawful h few = record {
@@ -95,19 +121,13 @@ module _ (ds : Pairs) (rising : AreRising (rooted ds)) where
     paths = ap (list_all (λ pair. fits_path pair.0)) (entries-with ds rising) ∙ all_of (λ pair. fits_path pair.0) ds (each-map IsLawfulPair (λ e. fits_path e.0 ≡ true) (λ e k. path_fits e.0 k.0) ds lawful);
   }
 
--- each of the pairs is found at its path
-each_found : (es : Pairs) → Rising es → AllByRecursion (λ e. find path_cmp e.0 es ≡ Some e.1) es
-each_found [] h = tt
-each_found (x ∷ es) h = (
-  ap (λ b. cond b (Some x.1) (find path_cmp x.0 es)) (path_itself x.0),
-  each-map (λ e. (path_cmp x.0 e.0 ≡ Less) × (find path_cmp e.0 es ≡ Some e.1)) (λ e. find path_cmp e.0 (x ∷ es) ≡ Some e.1)
-      (λ e k. ap (λ o. cond (is_eq o) (Some x.1) (find path_cmp e.0 es)) (path_total.antisymm e.0 x.0 ∙ ap ordering_reverse k.0) ∙ k.1)
-      es (each-both (λ e. path_cmp x.0 e.0 ≡ Less) (λ e. find path_cmp e.0 es ≡ Some e.1) es h.0 (each_found es h.1)),
-)
-
 below_root : (q : Path) → path_cmp root q ≡ Less → is_root q ≡ false
 below_root [] h = absurd (true≢false (sym (ap is_lt h)))
 below_root (n ∷ q) h = refl
+
+any_few : (b few : Bool) → few ≡ true → (not b || few) ≡ true
+any_few true few h = h
+any_few false few h = refl
 
 -- a lawful whole passes
 pub entries_stand : (ds : Pairs) → AreEntries ds → (list_all (stands_in ds) ds ≡ true) × (nat_le (kids [] ds) 256 ≡ true)
@@ -127,7 +147,7 @@ entries_stand ds h =
         let some : IsSome (get (tree_with ds) (parent e.0 ++ split.0 ∷ [])) = ap is_some (ap (get (tree_with ds)) (sym split.1) ∙ (get-with ds e.0 h.rising ∙ there)) in
         let up = sym (get-with ds (parent e.0) h.rising) ∙ h.tree.part.parents (parent e.0) split.0 [] some in
         let both = and_parts (fits_content e.1) (nat_le (kids e.0 (rooted ds)) 256) fit in
-        ap₂ (λ a b. a && b) (ap₂ (λ a b. a && b) (ap is_directory_content up) both.0) (sym (ap (λ n. nat_le n 256) (kids_rooted e.0 ds)) ∙ both.1)
+        ap₂ (λ a b. a && b) (ap₂ (λ a b. a && b) (ap is_directory_content up) both.0) (any_few (is_directory_content (Some e.1)) (nat_le (kids e.0 ds) 256) (sym (ap (λ n. nat_le n 256) (kids_rooted e.0 ds)) ∙ both.1))
 
 -- the last of the pairs
 pub record IsLast (pairs : Pairs) (last : Path) : Type 0 where

@@ -4,6 +4,7 @@ pub mod PointLemmas
 pub mod SpliceLemmas
 pub mod FindLemmas
 pub mod TreeLemmas
+pub mod BelowLemmas
 pub mod ParentLemmas
 pub mod CountLemmas
 pub mod FitLemmas

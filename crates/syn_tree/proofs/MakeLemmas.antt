@@ -1,9 +1,9 @@
 -- What a change that was prepared makes of a tree.
-use Rattle.std.proofs.Common.{◌≡◌, ◌≤◌, ◌<◌, ◌+◌, ◌-◌, ℕ, suc, true, false, nat_le, ◌&&◌, ◌++◌, ◌∷◌, length, length-append, refl, sym, ap, ap₂, ◌∙◌, subst, inr, Some, arith}
+use Rattle.std.proofs.Common.{◌≡◌, ◌≤◌, ◌+◌, ◌-◌, ℕ, suc, nat_le, ◌&&◌, ◌++◌, length, length-append, refl, sym, ap, ap₂, ◌∙◌, subst, inr, arith}
 use Rattle.std.specs.FinMap.{entries, len, len-entries, get, same_entries_map}
 use Rattle.std.proofs.lemmas.Bool.{and_parts}
-use Rattle.syn_model.specs.Path.{Path, is_root, parent}
-use Rattle.syn_model.specs.Tree.{Tree, IsPart, IsTree, replace, is_directory}
+use Rattle.syn_model.specs.Path.{Path, parent}
+use Rattle.syn_model.specs.Tree.{IsPart, IsTree, replace}
 use Rattle.syn_model.specs.Limits.{fits_replica, fits_part, fits_paths, tree_spelling_length, greatest_spelling}
 use Rattle.syn_model.proofs.HistoryLemmas.{replace-is_tree}
 use Rattle.syn_tree.specs.Pairs.{Pairs, AreRising, rooted, tree_with, before, within, behind, under, spelling_length}
@@ -12,7 +12,7 @@ use Rattle.syn_tree.specs.Kept.{IsKept}
 use Rattle.syn_tree.proofs.RisingLemmas.{Rising, rising_of, are_rising, replaced, rising-replaced}
 use Rattle.syn_tree.proofs.TreeLemmas.{entries-with, entries-replace, rising-entries}
 use Rattle.syn_tree.proofs.FitLemmas.{is_dir}
-use Rattle.syn_tree.proofs.PartLemmas.{before_rooted, within_rooted, behind_rooted, spelling_replaced, length_under}
+use Rattle.syn_tree.proofs.PartLemmas.{before_rooted, within_rooted, behind_rooted, spelling_replaced}
 use Rattle.syn_tree.proofs.MeasureLemmas.{at_most_nodes, part_size}
 
 module _ (ds : Pairs) (s cap : ℕ) (change : Replacement) (added : Pairs) (size : ℕ) (kept : IsKept ds s cap) (ready : IsPreparedFor (tree_with ds) change) (placed : ArePlaced change.at added size) (new : taken_from change.at added ≡ change.new) where

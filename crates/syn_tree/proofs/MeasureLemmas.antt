@@ -1,18 +1,18 @@
 -- The limits after a change, by what is counted before it.
-use Rattle.std.proofs.Common.{◌≡◌, ◌≤◌, ◌<◌, ◌+◌, ◌-◌, ℕ, suc, Bool, true, false, not, ◌==◌, ◌&&◌, ◌||◌, nat_le, nat_lt, length, None, refl, sym, ap, ap₂, ◌∙◌, subst, arith}
+use Rattle.std.proofs.Common.{◌≡◌, ◌≤◌, ◌+◌, ◌-◌, ℕ, suc, Bool, true, false, not, ◌==◌, ◌&&◌, ◌||◌, nat_le, nat_lt, length, None, sym, ap, ap₂, ◌∙◌, subst, arith}
 use Rattle.std.specs.FinMap.{entries, len, len-entries}
 use Rattle.std.proofs.lemmas.Bool.{and_parts}
 use Rattle.std.proofs.lemmas.Bool.Decides.{nat_tests}
 use Rattle.syn_model.specs.Path.{Path, root, is_root, parent}
-use Rattle.syn_model.specs.Tree.{Tree, replace, is_directory, is_present}
+use Rattle.syn_model.specs.Tree.{Tree, replace, is_present}
 use Rattle.syn_model.specs.Limits.{fits_replica, fits_part, fits_paths, tree_spelling_length, greatest_spelling}
 use Rattle.syn_model.specs.Refusal.{first_cause}
 use Rattle.syn_model.specs.Standing.{place_causes}
-use Rattle.syn_tree.specs.Pairs.{Pairs, rooted, tree_with, within, under, spelling_length}
+use Rattle.syn_tree.specs.Pairs.{Pairs, rooted, tree_with, within, spelling_length}
 use Rattle.syn_tree.specs.Kept.{IsKept}
 use Rattle.syn_tree.specs.Lists.{IsMeasured}
 use Rattle.syn_tree.proofs.RisingLemmas.{rising_of, replaced, counted}
-use Rattle.syn_tree.proofs.TreeLemmas.{entries-with, rising-entries}
+use Rattle.syn_tree.proofs.TreeLemmas.{entries-with}
 use Rattle.syn_tree.proofs.CountLemmas.{kids}
 use Rattle.syn_tree.proofs.ParentLemmas.{place_free}
 use Rattle.syn_tree.proofs.FitLemmas.{fits-replaced, has_room}

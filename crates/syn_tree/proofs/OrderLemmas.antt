@@ -1,9 +1,9 @@
 -- How the order of paths and the paths below a path go together.
-use Rattle.std.proofs.Common.{◌≡◌, Bool, true, false, cond, if◌then◌else◌, [], ◌∷◌, ◌++◌, refl, sym, ap, ◌∙◌, subst, Ordering, Less, Equal, Greater, is_eq, is_lt, is_some, None, true≢false, append-nil}
+use Rattle.std.proofs.Common.{◌≡◌, true, false, if◌then◌else◌, [], ◌∷◌, ◌++◌, refl, sym, ap, ◌∙◌, Ordering, Less, Equal, Greater, is_eq, is_lt, is_some, None, true≢false, append-nil}
 use Rattle.std.specs.Ordering.{eq_by_cmp, ordering_then, ordering_reverse}
 use Rattle.std.specs.Cmp.{tied_itself}
 use Rattle.syn_model.specs.Path.{Name, Path, name_cmp, path_cmp, strip_prefix, is_prefix}
-use Rattle.syn_model.proofs.PathLemmas.{name_total, path_total, same_name, name_itself, none_some, strip_prefix-append}
+use Rattle.syn_model.proofs.PathLemmas.{name_total, path_total, same_name, name_itself, strip_prefix-append}
 
 pub less_of : (o : Ordering) → is_lt o ≡ true → o ≡ Less
 less_of Less h = refl

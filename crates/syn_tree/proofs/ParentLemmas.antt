@@ -1,13 +1,12 @@
 -- Parents and children of paths.
-use Rattle.std.proofs.Common.{◌≡◌, ◌≤◌, ◌<◌, ◌+◌, ℕ, zero, suc, Bool, true, false, cond, if◌then◌else◌, not, List, [], ◌∷◌, ◌++◌, take, length, refl, sym, ap, ◌∙◌, subst, Option, Some, None, is_some, arith, true≢false}
+use Rattle.std.proofs.Common.{◌≡◌, ◌≤◌, ◌<◌, ◌+◌, ℕ, zero, suc, Bool, true, false, cond, if◌then◌else◌, not, [], ◌∷◌, take, length, refl, sym, ap, ◌∙◌, Some, None, is_some, arith}
 use Rattle.std.specs.Prelude.{option_and_then}
 use Rattle.std.specs.Ordering.{eq_by_cmp}
 use Rattle.std.specs.Cmp.{eq_by_cmp_equiv}
-use Rattle.std.specs.FinMap.{get}
 use Rattle.syn_model.specs.Path.{Path, name_cmp, path_cmp, strip_prefix, is_root, parent}
-use Rattle.syn_model.specs.Tree.{Tree, Content, Directory, File, is_directory, is_directory_content}
+use Rattle.syn_model.specs.Tree.{Tree, is_directory}
 use Rattle.syn_model.specs.Limits.{only_name}
-use Rattle.syn_model.specs.Refusal.{Refusal, Root, NoParent, first_cause}
+use Rattle.syn_model.specs.Refusal.{Root, NoParent, first_cause}
 use Rattle.syn_model.specs.Standing.{place_causes}
 use Rattle.syn_model.proofs.PathLemmas.{name_total, then_rest, none_some}
 use Rattle.syn_tree.specs.Pairs.{is_child}

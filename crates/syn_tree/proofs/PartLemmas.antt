@@ -1,15 +1,15 @@
 -- What is at a path, and what is below it.
-use Rattle.std.proofs.Common.{◌≡◌, ◌≤◌, ◌<◌, ◌+◌, ◌-◌, ℕ, zero, suc, Bool, true, false, cond, not, ◌==◌, ◌||◌, nat_le, nat_lt, List, [], ◌∷◌, ◌++◌, map, length, length-append, refl, sym, ap, ap₂, ◌∙◌, subst, Option, Some, None, is_some, IsSome, All, true≢false, append_assoc, arith}
+use Rattle.std.proofs.Common.{◌≡◌, ◌≤◌, ◌+◌, ℕ, zero, suc, true, false, cond, not, ◌==◌, nat_le, nat_lt, [], ◌∷◌, ◌++◌, length, length-append, refl, sym, ap, ◌∙◌, subst, Some, None, is_some, IsSome, true≢false, append_assoc, arith}
 use Rattle.std.specs.Cmp.{both_ways}
 use Rattle.std.specs.FinMap.{find, entries, get, get-entries}
 use Rattle.std.proofs.lemmas.Bool.Decides.{nat_tests}
-use Rattle.std.proofs.lemmas.List.Sums.{sum_by-append, sum_by-cons}
-use Rattle.syn_model.specs.Path.{Name, Path, root, is_root, parent, path_cmp, IsName}
-use Rattle.syn_model.specs.Tree.{Tree, Content, Pair, Directory, File, HasParents, IsPart, subtree, is_present}
+use Rattle.std.proofs.lemmas.List.Sums.{sum_by-append}
+use Rattle.syn_model.specs.Path.{Path, root, is_root, path_cmp}
+use Rattle.syn_model.specs.Tree.{Tree, Content, Directory, HasParents, subtree, is_present}
 use Rattle.syn_model.proofs.PathLemmas.{path_itself}
 use Rattle.syn_model.proofs.TreeLemmas.{get-subtree}
 use Rattle.syn_tree.specs.Pairs.{Pairs, rooted, within, before, behind, under, spelling_length, pair_spelling_length}
-use Rattle.syn_tree.proofs.RisingLemmas.{Rising, After, replaced, three_parts, counted}
+use Rattle.syn_tree.proofs.RisingLemmas.{Rising, replaced, three_parts, counted}
 use Rattle.syn_tree.proofs.TreeLemmas.{taken, within-taken, entries-subtree, rising-entries}
 use Rattle.syn_tree.proofs.CountLemmas.{no_root, present_taken, kids, kids-cons}
 use Rattle.syn_tree.proofs.ParentLemmas.{no_child}

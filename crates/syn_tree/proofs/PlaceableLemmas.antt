@@ -1,23 +1,21 @@
 -- Parts that keep their own limits below a path, and those that fit nowhere there.
-use Rattle.std.proofs.Common.{◌≡◌, ◌≢◌, ◌≤◌, ◌<◌, ◌+◌, ℕ, Bool, true, false, ◌&&◌, nat_le, List, [], ◌∷◌, ◌++◌, length, refl, sym, ap, ap₂, ◌∙◌, subst, All, append-nil, true≢false, arith}
+use Rattle.std.proofs.Common.{◌≡◌, ◌≤◌, ◌<◌, ℕ, Bool, true, false, ◌&&◌, nat_le, [], ◌∷◌, ◌++◌, length, refl, sym, ap, ap₂, ◌∙◌, subst, All, append-nil, arith}
 use Rattle.std.specs.List.{list_all}
 use Rattle.std.specs.FinMap.{entries, len, len-entries}
 use Rattle.std.proofs.lemmas.Bool.{and_parts}
 use Rattle.std.proofs.lemmas.Bool.Decides.{nat_tests}
-use Rattle.std.proofs.lemmas.List.{map-append}
 use Rattle.std.proofs.lemmas.List.Folds.{list_all-append}
 use Rattle.std.proofs.lemmas.List.Elements.{All-append}
 use Rattle.std.proofs.lemmas.List.Sums.{sum_by-append}
 use Rattle.syn_model.specs.Path.{Path, IsPath, IsName, path_spelling}
-use Rattle.syn_model.specs.Tree.{Tree, Content, Pair, Directory, IsTree, IsPart, at_root, absent, replace}
-use Rattle.syn_model.specs.Limits.{fits_replica, fits_part, fits_paths, fits_path, fits_content, tree_spelling_length, greatest_spelling}
+use Rattle.syn_model.specs.Tree.{Tree, Content, Pair, Directory, IsTree, at_root, absent, replace}
+use Rattle.syn_model.specs.Limits.{fits_part, fits_paths, fits_path, fits_content, tree_spelling_length, greatest_spelling}
 use Rattle.syn_tree.specs.Contents.{IsLawful}
 use Rattle.syn_tree.specs.Pairs.{Pairs, rooted, before, behind, under, spelling_length, pair_spelling_length}
 use Rattle.syn_tree.specs.Lists.{IsMeasured, IsPlaceable, FitsNowhere}
 use Rattle.syn_tree.specs.Change.{ArePlaced, taken_from}
 use Rattle.syn_tree.proofs.PartLemmas.{length_under}
-use Rattle.syn_tree.proofs.RisingLemmas.{replaced}
-use Rattle.syn_tree.proofs.TreeLemmas.{entries-replace, entries-absent, entries-one}
+use Rattle.syn_tree.proofs.TreeLemmas.{entries-replace, entries-absent}
 use Rattle.syn_tree.proofs.FitLemmas.{part-pairs, pair_fits}
 use Rattle.syn_tree.proofs.CheckLemmas.{too_long, one_fits, path_fits}
 use Rattle.syn_tree.proofs.ChangeLemmas.{under_one, under_none, lawful_part, nothing_part, placed_part, taken_same}

@@ -1,5 +1,5 @@
 -- Two turns of a list put what is added at its end between its two parts.
-use Rattle.std.proofs.Common.{◌≡◌, ◌+◌, ◌-◌, ℕ, List, ◌++◌, length, length-append, take, drop, refl, sym, ap, ap₂, ◌∙◌, append_assoc, arith}
+use Rattle.std.proofs.Common.{◌≡◌, ◌-◌, ℕ, List, ◌++◌, length, length-append, take, drop, ap, ap₂, ◌∙◌, append_assoc, arith}
 use Rattle.std.proofs.Math.Seq.{take-append_seam, drop-append_seam}
 
 pub turned : {X : Type 0} (front back added all once more last : List X) (start others : ℕ) → all ≡ front ++ back → start ≡ length front → once ≡ drop start all ++ take start all →

@@ -1,5 +1,5 @@
 -- What is below a path, without the path.
-use Rattle.std.proofs.Common.{◌≡◌, ◌≤◌, ◌<◌, ◌+◌, ℕ, suc, Bool, true, false, cond, not, ◌&&◌, ◌==◌, nat_le, if◌then◌else◌, List, [], ◌∷◌, ◌++◌, filter, filter_map, length, length-append, take, drop, refl, sym, ap, ap₂, ◌∙◌, subst, Option, Some, None, is_some, IsSome, slice_index_or, All, is_lt, append-nil, append_assoc, true≢false, arith}
+use Rattle.std.proofs.Common.{◌≡◌, ◌≤◌, ◌<◌, ◌+◌, ℕ, suc, Bool, true, false, cond, not, ◌&&◌, ◌==◌, nat_le, if◌then◌else◌, List, [], ◌∷◌, ◌++◌, filter, length, length-append, take, drop, refl, sym, ap, ap₂, ◌∙◌, subst, Option, Some, None, is_some, IsSome, slice_index_or, All, is_lt, append-nil, true≢false, arith}
 use Rattle.std.specs.Prelude.{option_map, option_and_then, flat_map}
 use Rattle.std.specs.List.{cons_option, list_all}
 use Rattle.std.specs.FinMap.{entries, get, get-entries, get-empty, find}
@@ -11,13 +11,13 @@ use Rattle.std.proofs.lemmas.List.{take_more}
 use Rattle.std.proofs.lemmas.List.Elements.{filter_map-append, All-drop}
 use Rattle.std.proofs.lemmas.List.Folds.{list_all-append}
 use Rattle.syn_model.specs.Path.{Name, Path, IsName, IsPath, path_cmp, root, is_root, strip_prefix, is_prefix, path_spelling}
-use Rattle.syn_model.specs.Tree.{Tree, Content, Contents, Pair, Directory, File, HasParents, IsTree, IsPart, absent, at_root, subtree, taken_off, is_directory_content}
+use Rattle.syn_model.specs.Tree.{Tree, Content, Contents, Pair, Directory, File, HasParents, IsTree, absent, at_root, subtree, is_directory_content}
 use Rattle.syn_model.proofs.HistoryLemmas.{get-at_root}
 use Rattle.std.specs.Ordering.{eq_by_cmp}
 use Rattle.syn_model.specs.Limits.{fits_path, fits_content, fits_part, fits_paths}
 use Rattle.syn_model.proofs.PathLemmas.{strip_prefix-append, is_prefix-is, some_same, none_some}
 use Rattle.syn_model.proofs.TreeLemmas.{same_tree, get-subtree}
-use Rattle.syn_tree.specs.Pairs.{Pairs, rooted, is_within, before, within, behind, under}
+use Rattle.syn_tree.specs.Pairs.{Pairs, rooted, before, within, behind, under}
 use Rattle.syn_tree.specs.Lists.{below_off, stripped}
 use Rattle.syn_tree.specs.Entries.{AreEntries}
 use Rattle.syn_tree.proofs.RisingLemmas.{Rising, After, three_parts}

@@ -1,19 +1,19 @@
 -- The tree of a list of pairs, and the list of a tree with a part replaced.
-use Rattle.std.proofs.Common.{◌≡◌, ◌≢◌, ◌+◌, ◌≤◌, ◌<◌, ℕ, suc, T, Bool, true, false, cond, not, ◌||◌, List, [], ◌∷◌, ◌++◌, map, filter, filter_map, length, refl, sym, ap, ap₂, ◌∙◌, subst, Option, Some, None, is_some, Ordering, Equal, is_eq, is_lt, append_assoc, append-nil, true≢false}
+use Rattle.std.proofs.Common.{◌≡◌, Bool, true, false, cond, not, ◌||◌, [], ◌∷◌, ◌++◌, filter, filter_map, refl, sym, ap, ap₂, ◌∙◌, subst, Option, Some, None, is_some, is_lt}
 use Rattle.std.specs.Prelude.{option_map}
 use Rattle.std.specs.Option.{option_map_or, option_or}
-use Rattle.std.specs.List.{cons_option, AllByRecursion}
+use Rattle.std.specs.List.{cons_option}
 use Rattle.std.specs.Ordering.{eq_by_cmp}
 use Rattle.std.specs.Cmp.{eq_by_cmp_equiv}
-use Rattle.std.specs.FinMap.{FinMap, find, entries, entries_sorted, get, get-entries, from_sorted, from_entries, is_sorted, entries-from_sorted, get-from_sorted, get-from_entries, get-empty, same_entries_map}
+use Rattle.std.specs.FinMap.{find, entries, entries_sorted, get, get-entries, from_sorted, entries-from_sorted, get-from_sorted, get-from_entries, get-empty, same_entries_map}
 use Rattle.std.specs.FinMap.Entries.{find-where_key}
 use Rattle.syn_model.specs.Path.{Path, path_cmp, strip_prefix, is_prefix, root}
-use Rattle.syn_model.specs.Tree.{Tree, Content, Pair, Directory, taken_off, subtree, replace, at_root, absent}
-use Rattle.syn_model.proofs.PathLemmas.{path_total, path_exact, eq-under, same_path, strip_prefix-append, strip_prefix-is}
+use Rattle.syn_model.specs.Tree.{Tree, Content, taken_off, subtree, replace, at_root, absent}
+use Rattle.syn_model.proofs.PathLemmas.{path_total, path_exact, eq-under, strip_prefix-append, strip_prefix-is}
 use Rattle.syn_model.proofs.TreeLemmas.{same_tree, get-subtree, get-replace}
 use Rattle.syn_model.proofs.HistoryLemmas.{get-at_root}
-use Rattle.syn_tree.specs.Pairs.{Pairs, AreRising, rooted, tree_with, is_before, is_within, is_behind, before, within, behind, under}
-use Rattle.syn_tree.proofs.OrderLemmas.{not_before, under_prefix, under_order}
+use Rattle.syn_tree.specs.Pairs.{Pairs, AreRising, rooted, tree_with, before, within, behind, under}
+use Rattle.syn_tree.proofs.OrderLemmas.{not_before, under_order}
 use Rattle.syn_tree.proofs.RisingLemmas.{Rising, After, rising_of, are_rising, sorted, sorted_of, rising-replaced, rising-under, replaced}
 
 pub entries-with : (es : Pairs) → AreRising (rooted es) → entries (tree_with es) ≡ rooted es

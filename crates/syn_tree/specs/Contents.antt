@@ -1,5 +1,4 @@
 -- What stands at a path, and what is found there, as the model has it.
-use Rattle.std.specs.Prelude.{Option, Some, None}
 use Rattle.syn_model.specs.Tree.{Directory, File, contents_of}
 use Rattle.syn_model.specs.Tree as model
 use Rattle.syn_model.specs.Event.{AreBytes}

@@ -1,5 +1,5 @@
 -- What the entries of a directory keep.
-use Rattle.std.specs.Prelude.{◌≡◌, Bool, true, ◌&&◌, nat_le, count_by}
+use Rattle.std.specs.Prelude.{◌≡◌, Bool, true, not, ◌&&◌, ◌||◌, Some, nat_le, count_by}
 use Rattle.std.specs.List.{AllByRecursion}
 use Rattle.std.specs.FinMap.{find}
 use Rattle.syn_model.specs.Path.{path_cmp, parent, IsPath}
@@ -15,10 +15,13 @@ pub record AreEntries (pairs : Pairs) : Type 0 where
   pub part : fits_part (tree_with pairs) ≡ true
   pub paths : fits_paths (tree_with pairs) ≡ true
 
+-- the pair is a file, or a directory with no more entries than are allowed
+abbrev pub has_few : Pairs → Pair → Bool
+has_few pairs pair = not (is_directory_content (Some pair.1)) || nat_le (count_by (λ other. is_child pair.0 other.0) pairs) 256
+
 -- the pair stands in a directory, and keeps the limits of a file and a directory
 abbrev pub stands_in : Pairs → Pair → Bool
-stands_in pairs pair =
-    is_directory_content (find path_cmp (parent pair.0) (rooted pairs)) && fits_content pair.1 && nat_le (count_by (λ other. is_child pair.0 other.0) pairs) 256
+stands_in pairs pair = is_directory_content (find path_cmp (parent pair.0) (rooted pairs)) && fits_content pair.1 && has_few pairs pair
 
 -- its path is lawful, and its bytes are bytes
 abbrev pub IsLawfulPair : Pair → Type 0

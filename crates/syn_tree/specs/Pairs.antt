@@ -1,5 +1,5 @@
 -- A tree below its root directory as a list of pairs in path order, and where the pairs lie to a path.
-use Rattle.std.specs.Prelude.{◌≡◌, ℕ, ◌+◌, Bool, true, not, ◌||◌, List, ◌∷◌, ◌++◌, map, filter, is_some, sum_by, option_and_then}
+use Rattle.std.specs.Prelude.{◌≡◌, ℕ, ◌+◌, Bool, true, not, ◌&&◌, ◌||◌, List, ◌∷◌, ◌++◌, map, filter, is_some, sum_by, option_and_then}
 use Rattle.std.specs.Ordering.{is_lt}
 use Rattle.std.specs.FinMap.{from_sorted, is_sorted}
 use Rattle.syn_model.specs.Path.{Path, path_cmp, root, strip_prefix, is_prefix}
@@ -29,6 +29,10 @@ is_within at pair = is_prefix at pair.0
 
 abbrev pub is_behind : Path → Pair → Bool
 is_behind at pair = not (is_before at pair || is_within at pair)
+
+-- it stands below the path, and not at it
+abbrev pub is_below : Path → Pair → Bool
+is_below path pair = is_prefix path pair.0 && not (is_prefix pair.0 path)
 
 abbrev pub before : Path → Pairs → Pairs
 before at pairs = filter (is_before at) pairs

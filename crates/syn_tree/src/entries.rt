@@ -1,22 +1,24 @@
-ghost use Rattle.std.specs.Prelude.{◌≡◌, true, IfSome, IfNone, IsTrue};
+ghost use Rattle.std.specs.Prelude.{◌≡◌, true, length, IfSome, IfNone, IsTrue};
 ghost use Rattle.std.specs.FinMap.{entries};
 ghost use Rattle.syn_model.specs.Tree.{IsTree, empty_directory};
-ghost use Rattle.syn_model.specs.Limits.{fits_part, fits_paths};
+ghost use Rattle.syn_model.specs.Limits.{children, fits_part, fits_paths};
 ghost use Rattle.syn_tree.specs.Pairs.{rooted, tree_with};
 ghost use Rattle.std.specs.List.{list_all};
 ghost use Rattle.syn_model.specs.Limits.{fits_content};
 ghost use Rattle.syn_tree.specs.Contents.{IsLawful};
 ghost use Rattle.syn_tree.specs.Pairs.{AreRising};
-ghost use Rattle.syn_tree.specs.Entries.{AreEntries, stands_in, IsLawfulPair, AreLawful};
+ghost use Rattle.syn_tree.specs.Entries.{AreEntries, has_few, stands_in, IsLawfulPair, AreLawful};
 
 use crate::content::Found;
 use crate::entry::Entry;
-use crate::lawful::are_bytes;
+use crate::lawful::{are_bytes, is_path};
 use crate::list::{
-    LONGEST_FILE, MOST_CHILDREN, are_rising, count_children, is_directory, parent_names,
+    LONGEST_FILE, MOST_CHILDREN, are_rising, count_children, count_children_at, is_directory,
+    parent_names,
 };
 use std::alloc::Global;
 use std::marker::Model;
+use syn_path::Path;
 
 /// What stands below a directory, in path order: 256 entries a directory, 16,384 bytes a file, and each path,
 /// taken from the directory, within the limits of a path. The number of nodes and their size are limits of a whole tree alone.
@@ -90,6 +92,14 @@ impl Entries {
         self.list.as_slice()
     }
 
+    /// How many names are in the directory at the path, which is taken from the directory that these stand below;
+    /// none where no directory is there. The work grows with what is below the path, and not with all entries.
+    pub fn child_count(&self, path: &Path) -> usize
+        ensures { result ≡ length (children self.now path.now) }
+    {
+        count_children_at(&self.list, path)
+    }
+
     /// The entries in path order.
     pub fn into_vec(self) -> Vec<Entry>
         ensures all { rooted result.items ≡ entries self }
@@ -121,10 +131,19 @@ fn stands_among(list: &[Entry], entry: &Entry) -> bool
     ensures value { result ≡ stands_in list.now entry.now }
     ensures lawful { IsLawfulPair entry.now }
 {
+    is_path(entry.path());
     let placed = is_directory(list, parent_names(entry.path()));
     let brief = is_brief(entry);
-    let few = count_children(list, entry.path().names()) <= MOST_CHILDREN;
+    let few = has_few(list, entry);
     placed && brief && few
+}
+
+/// The entry is a file, or a directory with no more entries than are allowed.
+fn has_few(list: &[Entry], entry: &Entry) -> bool
+    requires { AreRising (rooted list.now) }
+    ensures { result ≡ has_few list.now entry.now }
+{
+    !entry.content().is_directory() || count_children_at(list, entry.path()) <= MOST_CHILDREN
 }
 
 /// The entry is a directory, or a file within its limit.

@@ -1,12 +1,12 @@
 //! Entries in path order.
-ghost use Rattle.std.specs.Prelude.{◌≡◌, ◌≤◌, ◌<◌, ◌+◌, ◌^◌, ◌++◌, ◌∷◌, length, count_by, option_map, IfSome, IfNone, IsTrue, ◌↔◌, vec_len, vec_capacity};
+ghost use Rattle.std.specs.Prelude.{◌≡◌, ◌≤◌, ◌<◌, ◌+◌, ◌^◌, ◌++◌, ◌∷◌, length, filter, count_by, option_map, IfSome, IfNone, IsTrue, ◌↔◌, vec_len, vec_capacity};
 ghost use Rattle.std.specs.Ordering.{eq_by_cmp, is_lt};
 ghost use Rattle.std.specs.FinMap.{find};
 ghost use Rattle.syn_model.specs.Path.{path_cmp, parent, IsPath};
 ghost use Rattle.syn_model.specs.Tree.{is_directory_content};
 ghost use Rattle.syn_model.specs.Limits.{last_name_spelling_length};
 ghost use Rattle.syn_tree.specs.Contents.{found_content};
-ghost use Rattle.syn_tree.specs.Pairs.{rooted, AreRising, is_before, is_within, before, within, behind, is_child, pair_spelling_length, spelling_length};
+ghost use Rattle.syn_tree.specs.Pairs.{rooted, AreRising, is_before, is_within, before, within, behind, is_below, is_child, pair_spelling_length, spelling_length};
 
 use crate::content::Found;
 use crate::entry::Entry;
@@ -83,6 +83,18 @@ pub(crate) fn part_at<'a>(list: &'a [Entry], at: &Path) -> &'a [Entry]
     part
 }
 
+/// The entries below the path, without the one at it.
+pub(crate) fn part_below<'a>(list: &'a [Entry], at: &Path) -> &'a [Entry]
+    requires { AreRising list.now }
+    ensures { result.now ≡ filter (is_below at.now) list.now }
+{
+    let part = part_at(list, at);
+    let [first, rest @ ..] = part else {
+        return part;
+    };
+    if is_at(first, at.names()) { rest } else { part }
+}
+
 /// What stands at the path of these names, of entries below a root directory.
 pub(crate) fn find<'a>(list: &'a [Entry], names: &[Name]) -> Option<Found<'a>>
     requires { AreRising (rooted list.now) }
@@ -141,6 +153,14 @@ pub(crate) fn count_children(list: &[Entry], above: &[Name]) -> usize
     list.iter()
         .filter(|entry| is_child(above, entry.path()))
         .count()
+}
+
+/// How many entries stand in the directory at the path, by a count in the part below it alone.
+pub(crate) fn count_children_at(list: &[Entry], at: &Path) -> usize
+    requires { AreRising list.now }
+    ensures { result ≡ count_by (λ pair. is_child at.now pair.0) list.now }
+{
+    count_children(part_at(list, at), at.names())
 }
 
 /// How many bytes spell the last name with its length; none for the root.

@@ -1,15 +1,15 @@
-ghost use Rattle.std.specs.Prelude.{◌≡◌, ◌≢◌, ◌↔◌, ◌⊎◌, Err, ◌<◌, ◌^◌, ◌&&◌, ◌||◌, not, nat_le, nat_lt, count_by, ℕ, List, true, false, Some, None, length, option_map, IfOk, IfErr, OnOk, OnErr};
+ghost use Rattle.std.specs.Prelude.{◌≡◌, ◌≢◌, ◌↔◌, ◌⊎◌, Err, ◌<◌, ◌^◌, ◌&&◌, ◌||◌, not, nat_le, nat_lt, count_by, ℕ, List, true, false, Some, None, length, filter, option_map, IfOk, IfErr, OnOk, OnErr};
 ghost use Rattle.std.specs.FinMap.{entries, get, len};
 ghost use Rattle.syn_model.specs.Tree.{Tree as Pairs, IsTree, empty_directory, is_directory, is_present, subtree, replace};
 ghost use Rattle.syn_model.specs.Event.{Put, MakeDir, Remove, after_edit};
-ghost use Rattle.syn_model.specs.Limits.{fits_replica, tree_spelling_length};
+ghost use Rattle.syn_model.specs.Limits.{children, fits_replica, tree_spelling_length};
 ghost use Rattle.syn_model.specs.Refusal.{first_cause};
 ghost use Rattle.syn_model.specs.Standing.{edit_refusal, place_causes};
 ghost use Rattle.syn_tree.specs.Contents.{found_content};
 ghost use Rattle.syn_tree.specs.Nodes.{part_of};
 ghost use Rattle.syn_tree.specs.Edits.{edit_of};
 ghost use Rattle.syn_model.specs.Path.{parent};
-ghost use Rattle.syn_tree.specs.Pairs.{rooted, is_child};
+ghost use Rattle.syn_tree.specs.Pairs.{rooted, is_below, is_child};
 ghost use Rattle.syn_tree.specs.Change.{IsPreparedFor, after_change};
 ghost use Rattle.syn_tree.specs.Lists.{listing, replace_refusal, IsMeasured};
 ghost use Rattle.syn_tree.specs.Refusals.{refusal_of, refusal_in};
@@ -23,8 +23,8 @@ use crate::entry::Entry;
 use crate::error::TreeError;
 use crate::lawful::are_bytes;
 use crate::list::{
-    LONGEST_FILE, LONGEST_SPELLING, MOST_CHILDREN, count_children, find, is_directory, measured,
-    name_spelled, parent_names, part_at, spelled, splice,
+    LONGEST_FILE, LONGEST_SPELLING, MOST_CHILDREN, count_children, count_children_at, find,
+    is_directory, measured, name_spelled, parent_names, part_at, part_below, spelled, splice,
 };
 use crate::node::Node;
 use std::alloc::Global;
@@ -87,11 +87,26 @@ impl Tree {
         self.list.as_slice()
     }
 
+    /// What stands below the path, without what is at it, in path order; nothing where no directory is there.
+    pub fn below(&self, path: &Path) -> &[Entry]
+        ensures { result.now ≡ filter (is_below path.now) (entries self.now) }
+    {
+        part_below(&self.list, path)
+    }
+
     /// How many nodes there are, with the root.
     pub fn node_count(&self) -> usize
         ensures { result ≡ len self.now }
     {
         self.list.len() + 1
+    }
+
+    /// How many names are in the directory; none where no directory is there.
+    /// The work grows with what is below the path, and not with the whole tree.
+    pub fn child_count(&self, path: &Path) -> usize
+        ensures { result ≡ length (children self.now path.now) }
+    {
+        count_children_at(&self.list, path)
     }
 
     /// How many bytes spell the tree.

@@ -1,6 +1,6 @@
-use Rattle.std.proofs.Common.{◌≡◌, ◌≤◌, ◌<◌, ◌++◌, ◌∷◌, [], ℕ, nat_le, true, false, length, refl, sym, ap, ap₂, ◌∙◌, subst, arith}
+use Rattle.std.proofs.Common.{◌≡◌, ◌≤◌, ◌<◌, ◌++◌, ◌∷◌, [], ℕ, nat_le, true, false, length, refl, ap, ap₂, ◌∙◌, subst, arith}
 use Rattle.std.proofs.lemmas.Bool.Decides.{nat_tests}
-use Rattle.syn_model.specs.Tree.{File, contents_of, Content}
+use Rattle.syn_model.specs.Tree.{File, contents_of}
 use Rattle.syn_model.specs.Path.{Path}
 use Rattle.syn_model.specs.Event.{AreBytes}
 use Rattle.syn_tree.proofs.PlaceableLemmas.{placeable_one, nowhere_content}

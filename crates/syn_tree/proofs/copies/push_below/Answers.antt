@@ -1,8 +1,7 @@
-use Rattle.std.proofs.Common.{◌≡◌, ◌≤◌, ◌<◌, ◌+◌, ◌==◌, ◌++◌, ◌∷◌, [], true, false, drop, length, refl, sym, ap, ap₂, ◌∙◌, subst, append-nil, arith}
-use Rattle.std.proofs.lemmas.Result.{err_from_is_err_and}
-use Rattle.syn_model.specs.Path.{Path, IsPath, is_prefix}
+use Rattle.std.proofs.Common.{◌≡◌, ◌==◌, ◌++◌, ◌∷◌, [], drop, length, sym, ap, ap₂, ◌∙◌, append-nil}
+use Rattle.syn_model.specs.Path.{Path, is_prefix}
 use Rattle.syn_model.specs.Tree.{Pair, Content}
-use Rattle.syn_tree.proofs.StripLemmas.{strip_beside, strip_itself, strip_below, prefix_shorter, prefix_whole, rest_lawful}
+use Rattle.syn_tree.proofs.StripLemmas.{strip_itself, strip_below}
 use Rattle.syn_tree.proofs.copies.push_below.Goals as goal
 
 pub returns-then-is_empty-clause-ok : goal.returns-then-is_empty-clause-ok

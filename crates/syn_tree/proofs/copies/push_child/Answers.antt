@@ -1,6 +1,6 @@
-use Rattle.std.proofs.Common.{rules, ◌≡◌, ◌≤◌, ◌<◌, ◌-◌, ◌+◌, ◌++◌, ◌∷◌, [], Bool, true, false, Some, take, length, sym, ap, ap₂, ◌∙◌, subst, append-nil, arith}
+use Rattle.std.proofs.Common.{rules, ◌≡◌, ◌<◌, ◌-◌, ◌++◌, ◌∷◌, [], Bool, Some, take, length, sym, ap, ap₂, ◌∙◌, subst, append-nil, arith}
 use Rattle.std.specs.Ordering.{eq_by_cmp}
-use Rattle.syn_model.specs.Path.{Name, Path, path_cmp}
+use Rattle.syn_model.specs.Path.{Name, path_cmp}
 use Rattle.syn_model.specs.Tree.{is_directory_content}
 use Rattle.syn_tree.specs.Pairs.{is_child}
 use Rattle.syn_tree.proofs.ParentLemmas.{child-take, no_child}

@@ -1,4 +1,4 @@
-use Rattle.std.proofs.Common.{rules, ◌≡◌, ◌<◌, ℕ, subst, arith, slice_index_or, Fits, w8}
+use Rattle.std.proofs.Common.{◌<◌, ℕ, subst, arith, slice_index_or, Fits, w8}
 use Rattle.std.proofs.lemmas.List.{get_or_default}
 use Rattle.syn_tree.proofs.lawful.are_bytes.Goals as goal
 

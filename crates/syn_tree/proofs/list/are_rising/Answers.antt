@@ -1,4 +1,4 @@
-use Rattle.std.proofs.Common.{◌≡◌, ◌≤◌, ◌++◌, ◌∷◌, [], Ordering, Less, is_lt, true, false, true≢false, take, length, refl, sym, ap, ap₂, ◌∙◌, subst, arith}
+use Rattle.std.proofs.Common.{◌≡◌, ◌++◌, ◌∷◌, [], is_lt, true≢false, take, length, refl, sym, ap, ◌∙◌, subst, arith}
 use Rattle.std.proofs.Math.Seq.{take-length}
 use Rattle.std.proofs.lemmas.List.{take_more}
 use Rattle.syn_model.specs.Path.{path_cmp}
@@ -6,7 +6,7 @@ use Rattle.syn_model.specs.Tree.{Directory}
 use Rattle.syn_tree.specs.Pairs.{rooted}
 use Rattle.syn_tree.proofs.OrderLemmas.{less_of}
 use Rattle.syn_tree.proofs.RisingLemmas.{Rising, are_rising}
-use Rattle.syn_tree.proofs.LawfulLemmas.{IsLast, rising-more, rising-next}
+use Rattle.syn_tree.proofs.LawfulLemmas.{rising-more, rising-next}
 use Rattle.syn_tree.proofs.list.are_rising.Goals as goal
 
 pub loop-entry-init : goal.loop-entry-init

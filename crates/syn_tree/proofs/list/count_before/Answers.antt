@@ -1,4 +1,4 @@
-use Rattle.std.proofs.Common.{rules, ◌≡◌, ◌≤◌, ◌++◌, length, sym, subst, ap, ◌∙◌, true, false}
+use Rattle.std.proofs.Common.{rules, ◌≡◌, ◌≤◌, ◌++◌, length, sym, subst, true, false}
 use Rattle.std.proofs.lemmas.List.Sorted.{IsPartitionPoint-from_clause}
 use Rattle.std.specs.List.Sorted.{IsPartitionedBy, IsPartitionPoint}
 use Rattle.syn_tree.specs.Pairs.{is_before, before, within, behind}

@@ -1,4 +1,4 @@
-use Rattle.std.proofs.Common.{rules, ◌≡◌, ◌≢◌, ◌<◌, ◌≤◌, ◌==◌, ℕ, List, [], ◌∷◌, Option, Some, None, length, sym, subst, ap, ◌∙◌, arith, refl, slice_index_or, true, false, true≢false, ltb-true, ltb-false}
+use Rattle.std.proofs.Common.{◌≡◌, ◌<◌, ◌≤◌, ◌==◌, ℕ, [], ◌∷◌, Some, None, length, sym, subst, ap, ◌∙◌, arith, refl, slice_index_or, true, false, true≢false, ltb-true, ltb-false}
 use Rattle.std.specs.Ordering.{eq_by_cmp}
 use Rattle.std.specs.FinMap.{find}
 use Rattle.syn_model.specs.Path.{Path, path_cmp}

@@ -1,6 +1,6 @@
-use Rattle.std.proofs.Common.{rules, ◌≡◌, ◌≤◌, ◌<◌, ◌-◌, take, sym, ap, ◌∙◌, subst, length, arith}
+use Rattle.std.proofs.Common.{rules, ◌≡◌, ◌<◌, ◌-◌, take, sym, ap, ◌∙◌, subst, length, arith}
 use Rattle.std.specs.Ordering.{eq_by_cmp}
-use Rattle.syn_model.specs.Path.{Path, path_cmp}
+use Rattle.syn_model.specs.Path.{path_cmp}
 use Rattle.syn_tree.specs.Pairs.{is_child}
 use Rattle.syn_tree.proofs.ParentLemmas.{child-take, no_child}
 use Rattle.syn_tree.proofs.list.is_child.Goals as goal

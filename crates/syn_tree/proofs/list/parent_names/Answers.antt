@@ -1,4 +1,4 @@
-use Rattle.std.proofs.Common.{◌≡◌, ◌≤◌, ◌-◌, ap, ◌∙◌, length, arith}
+use Rattle.std.proofs.Common.{◌-◌, ap, ◌∙◌, length, arith}
 use Rattle.syn_model.specs.Path.{parent}
 use Rattle.syn_tree.proofs.ParentLemmas.{parent-take}
 use Rattle.syn_tree.proofs.list.parent_names.Goals as goal

@@ -1,4 +1,4 @@
-use Rattle.std.proofs.Common.{rules, ◌≡◌, ◌≤◌, ◌+◌, ◌++◌, length, take, drop, sym, subst, ap, ap₂, ◌∙◌, true, false, length-append, arith}
+use Rattle.std.proofs.Common.{rules, ◌≡◌, ◌≤◌, length, take, drop, sym, subst, ap, ap₂, ◌∙◌, true, false}
 use Rattle.std.proofs.lemmas.List.Sorted.{IsPartitionPoint-from_clause}
 use Rattle.std.proofs.Math.Seq.{take-append_seam}
 use Rattle.std.specs.List.Sorted.{IsPartitionedBy, IsPartitionPoint}

@@ -1,8 +1,7 @@
-use Rattle.std.proofs.Common.{rules, ◌≡◌, ◌≤◌, ◌+◌, ◌-◌, ◌++◌, length, sym, subst, ap, ◌∙◌, length-append, arith, not, is_ok, if◌then◌else◌, List, ℕ, IsOk, refl, Ok, Err, true}
+use Rattle.std.proofs.Common.{rules, ◌≡◌, ◌-◌, ◌++◌, length, ap, ◌∙◌, length-append, arith, not, is_ok, if◌then◌else◌, IsOk, refl, Ok, Err, true}
 use Rattle.std.specs.Prelude.{Result}
 use Rattle.std.proofs.lemmas.Fn.{filter_same}
-use Rattle.syn_model.specs.Tree.{Pair}
-use Rattle.syn_tree.specs.Pairs.{is_within, before, within, behind}
+use Rattle.syn_tree.specs.Pairs.{is_within, before, behind}
 use Rattle.syn_tree.proofs.RisingLemmas.{rising_of, outside}
 use Rattle.syn_tree.proofs.SpliceLemmas.{turned}
 use Rattle.syn_tree.proofs.list.splice.Goals as goal

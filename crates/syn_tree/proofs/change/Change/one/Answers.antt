@@ -1,4 +1,4 @@
-use Rattle.std.proofs.Common.{◌≡◌, ◌++◌, ◌∷◌, [], refl, sym, ap, ap₂, ◌∙◌, subst}
+use Rattle.std.proofs.Common.{◌≡◌, ◌++◌, ◌∷◌, [], sym, ap, ap₂, ◌∙◌, subst}
 use Rattle.syn_model.specs.Path.{IsPath}
 use Rattle.syn_model.specs.Tree.{at_root}
 use Rattle.syn_tree.specs.Contents.{content_of}

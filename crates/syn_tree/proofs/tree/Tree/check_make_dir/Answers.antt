@@ -1,4 +1,4 @@
-use Rattle.std.proofs.Common.{◌≡◌, ◌+◌, true, false, Some, None, if◌then◌else◌, refl, sym, ap, ◌∙◌}
+use Rattle.std.proofs.Common.{◌+◌, Some, None, if◌then◌else◌, refl, sym, ap, ◌∙◌}
 use Rattle.syn_model.specs.Tree.{Directory, at_root}
 use Rattle.syn_model.specs.Refusal.{Full}
 use Rattle.syn_tree.specs.Contents.{found_content}

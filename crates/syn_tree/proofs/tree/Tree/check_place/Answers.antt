@@ -1,4 +1,4 @@
-use Rattle.std.proofs.Common.{◌≡◌, ◌≤◌, ◌-◌, ◌+◌, take, sym, ap, ap₂, ◌∙◌, subst, length, Bool, true, false, Some, None, if◌then◌else◌, arith}
+use Rattle.std.proofs.Common.{◌≡◌, ◌≤◌, ◌-◌, take, sym, ap, ap₂, ◌∙◌, subst, length, Bool, Some, None, if◌then◌else◌, arith}
 use Rattle.std.specs.FinMap.{find, get}
 use Rattle.syn_model.specs.Path.{Path, path_cmp, parent}
 use Rattle.syn_model.specs.Tree.{Tree, is_directory, is_directory_content}

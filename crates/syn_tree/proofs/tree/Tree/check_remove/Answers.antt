@@ -1,4 +1,4 @@
-use Rattle.std.proofs.Common.{◌≡◌, not, true, false, Some, None, if◌then◌else◌, sym, ap, ◌∙◌}
+use Rattle.std.proofs.Common.{not, Some, None, if◌then◌else◌, sym, ap, ◌∙◌}
 use Rattle.syn_model.specs.Refusal.{Full}
 use Rattle.syn_tree.specs.Contents.{found_content}
 use Rattle.syn_tree.specs.Refusals.{refusal_in}

@@ -1,4 +1,4 @@
-use Rattle.std.proofs.Common.{◌≡◌, sym, ap, ◌∙◌}
+use Rattle.std.proofs.Common.{sym, ap, ◌∙◌}
 use Rattle.std.specs.FinMap.{entries}
 use Rattle.syn_tree.specs.Pairs.{rooted}
 use Rattle.syn_tree.proofs.TreeLemmas.{entries-with}

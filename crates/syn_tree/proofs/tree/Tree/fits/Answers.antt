@@ -1,4 +1,4 @@
-use Rattle.std.proofs.Common.{◌≡◌, ◌≤◌, ◌<◌, ◌+◌, ◌-◌, not, ◌==◌, ◌||◌, nat_lt, length, None, sym, ap, ap₂, ◌∙◌, subst, arith, Fits, w64}
+use Rattle.std.proofs.Common.{◌≡◌, ◌+◌, ◌-◌, not, ◌==◌, ◌||◌, nat_lt, length, None, sym, ap, ap₂, ◌∙◌, subst, arith}
 use Rattle.syn_model.specs.Path.{parent}
 use Rattle.syn_model.specs.Tree.{replace}
 use Rattle.syn_model.specs.Limits.{fits_replica}
@@ -7,7 +7,7 @@ use Rattle.syn_model.specs.Standing.{place_causes}
 use Rattle.syn_tree.specs.Pairs.{within, spelling_length}
 use Rattle.syn_tree.proofs.ParentLemmas.{place_free}
 use Rattle.syn_tree.proofs.CountLemmas.{kids}
-use Rattle.syn_tree.proofs.MeasureLemmas.{kept_size, kept_count, part_count, part_size, measured}
+use Rattle.syn_tree.proofs.MeasureLemmas.{kept_size, part_count, part_size, measured}
 use Rattle.syn_tree.proofs.tree.Tree.fits.Goals as goal
 
 pub overflow_sub-count : goal.overflow_sub-count

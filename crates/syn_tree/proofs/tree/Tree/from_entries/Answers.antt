@@ -1,6 +1,5 @@
-use Rattle.std.proofs.Common.{◌≡◌, ◌≢◌, ◌≤◌, ◌<◌, ◌+◌, length, true, refl, sym, ap, ◌∙◌, subst, arith}
-use Rattle.syn_model.specs.Limits.{fits_replica}
-use Rattle.syn_tree.specs.Pairs.{tree_with, rooted, spelling_length}
+use Rattle.std.proofs.Common.{◌+◌, refl, sym, ap, ◌∙◌, arith}
+use Rattle.syn_tree.specs.Pairs.{rooted, spelling_length}
 use Rattle.syn_tree.proofs.WholeLemmas.{whole_fits, too_many, whole_tree, whole_kept}
 use Rattle.syn_tree.proofs.tree.Tree.from_entries.Goals as goal
 

@@ -1,4 +1,4 @@
-use Rattle.std.proofs.Common.{◌≡◌, sym, ap, ap₂, ◌∙◌}
+use Rattle.std.proofs.Common.{sym, ap, ap₂, ◌∙◌}
 use Rattle.std.specs.FinMap.{find, get}
 use Rattle.syn_model.specs.Path.{path_cmp}
 use Rattle.syn_model.specs.Tree.{is_directory_content}

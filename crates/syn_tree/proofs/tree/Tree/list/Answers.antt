@@ -1,7 +1,7 @@
-use Rattle.std.proofs.Common.{◌≡◌, sym, ap, ap₂, ◌∙◌, Ok, Err}
+use Rattle.std.proofs.Common.{sym, ap, ap₂, ◌∙◌, Ok, Err}
 use Rattle.std.specs.FinMap.{entries}
-use Rattle.std.specs.Prelude.{Result, IfOk, List, ℕ, Bool}
-use Rattle.syn_tree.specs.Lists.{listing, child_names}
+use Rattle.std.specs.Prelude.{Result, IfOk}
+use Rattle.syn_tree.specs.Lists.{child_names}
 use Rattle.syn_tree.proofs.TreeLemmas.{entries-with}
 use Rattle.syn_tree.proofs.ListingLemmas.{listing-names}
 use Rattle.syn_tree.proofs.tree.Tree.list.Goals as goal

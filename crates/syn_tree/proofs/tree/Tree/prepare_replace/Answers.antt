@@ -1,12 +1,11 @@
-use Rattle.std.proofs.Common.{◌≡◌, ◌≢◌, ◌≤◌, ◌<◌, true, false, Some, None, if◌then◌else◌, length, refl, sym, ap, ap₂, ◌∙◌, subst, arith}
+use Rattle.std.proofs.Common.{◌≡◌, ◌<◌, Some, None, if◌then◌else◌, length, sym, ap, ap₂, ◌∙◌, subst, arith}
 use Rattle.std.proofs.lemmas.Result.{err_from_is_err_and}
 use Rattle.syn_model.specs.Path.{parent, is_root}
-use Rattle.syn_model.specs.Tree.{Tree, replace, is_directory}
+use Rattle.syn_model.specs.Tree.{replace, is_directory}
 use Rattle.syn_model.specs.Limits.{fits_replica}
 use Rattle.syn_model.specs.Refusal.{Full}
 use Rattle.syn_tree.specs.Nodes.{part_of}
-use Rattle.syn_tree.specs.Pairs.{under, spelling_length}
-use Rattle.syn_tree.specs.Change.{taken_from, IsPreparedFor}
+use Rattle.syn_tree.specs.Pairs.{spelling_length}
 use Rattle.syn_tree.specs.Refusals.{refusal_in, refusal_of}
 use Rattle.syn_tree.proofs.CheckLemmas.{replace_answer}
 use Rattle.syn_tree.proofs.ParentLemmas.{place_free}

@@ -1,4 +1,4 @@
-use Rattle.std.proofs.Common.{◌≡◌, sym, ap, ◌∙◌}
+use Rattle.std.proofs.Common.{sym, ap, ◌∙◌}
 use Rattle.syn_model.specs.Limits.{tree_spelling_length}
 use Rattle.syn_tree.specs.Pairs.{spelling_length}
 use Rattle.syn_tree.proofs.TreeLemmas.{entries-with}

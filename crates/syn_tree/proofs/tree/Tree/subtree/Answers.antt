@@ -1,15 +1,11 @@
-use Rattle.std.proofs.Common.{◌≡◌, ◌&&◌, nat_le, Some, None, true, sym, ap, ap₂, ◌∙◌, subst}
+use Rattle.std.proofs.Common.{◌≡◌, ◌&&◌, nat_le, Some, None, true, sym, ap, ◌∙◌, subst}
 use Rattle.std.specs.Prelude.{option_map}
 use Rattle.std.specs.FinMap.{entries, get, len}
 use Rattle.std.proofs.lemmas.Bool.{and_parts}
 use Rattle.syn_model.specs.Tree.{Tree, IsTree, Directory, File, contents_of, file, subtree}
 use Rattle.syn_model.specs.Limits.{fits_replica, fits_part, fits_paths, tree_spelling_length, greatest_spelling}
 use Rattle.syn_tree.specs.Contents.{found_content}
-use Rattle.syn_tree.specs.Pairs.{Pairs, rooted, tree_with}
-use Rattle.syn_tree.specs.Kept.{IsKept}
-use Rattle.syn_tree.specs.Entries.{AreEntries}
 use Rattle.syn_tree.specs.Lists.{stripped}
-use Rattle.syn_tree.specs.declared.content.Found.{Found}
 use Rattle.syn_tree.proofs.TreeLemmas.{entries-with}
 use Rattle.syn_tree.proofs.WholeLemmas.{whole_tree}
 use Rattle.syn_tree.proofs.StripLemmas.{stripped_lawful, stripped_entries, subtree_none, subtree_file}

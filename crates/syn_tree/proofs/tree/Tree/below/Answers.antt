@@ -1,0 +1,13 @@
+use Rattle.std.proofs.Common.{filter, sym, ap, ◌∙◌}
+use Rattle.std.specs.FinMap.{entries}
+use Rattle.syn_tree.specs.Pairs.{is_below}
+use Rattle.syn_tree.proofs.TreeLemmas.{entries-with}
+use Rattle.syn_tree.proofs.BelowLemmas.{below_rooted}
+use Rattle.syn_tree.proofs.tree.Tree.below.Goals as goal
+
+pub returns : goal.returns
+returns c =
+    let at = c.args.path.now in
+    let ds = c.self.inside.list.items in
+    c.part_below.ensures ∙ (ap (filter (is_below at)) c.deref.ensures.value ∙ (sym (below_rooted at ds)
+    ∙ (ap (filter (is_below at)) (sym (entries-with ds c.self.invariant.rising)) ∙ ap (λ t. filter (is_below at) (entries t)) c.self.view_is)))
