@@ -20,4 +20,4 @@ returns-in_ok-push-in-File c =
     let spelled = ap (λ n. spelling (node_tree n)) c.in-File.is ∙ file_spelled bytes in
     on_ok_weaker c.write_file.result (λ e.
     e ∙ (ap₂ (λ x y. x ++ file_spelling y) c.in_ok-push-in-File.ensures.items c.deref.ensures.value
-    ∙ (append_assoc out (1 ∷ []) (file_spelling bytes) ∙ ap (λ b. out ++ b) (sym spelled)))) c.write_file.ensures
+    ∙ (append_assoc out (1 ∷ []) (file_spelling bytes) ∙ ap (λ b. out ++ b) (sym spelled)))) c.write_file.ensures.added
