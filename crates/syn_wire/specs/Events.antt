@@ -1,8 +1,8 @@
 -- What an event has, part by part.
 use Rattle.std.specs.Prelude.{◌≡◌, ℕ, ◌<◌, ◌^◌, true, List, ◌++◌, length}
-use Rattle.std.specs.Int.{to_be_bytes, w32}
+use Rattle.std.specs.Int.{to_be_bytes, w32, w64}
 use Rattle.syn_model.specs.Path.{Bytes}
-use Rattle.syn_model.specs.Limits.{fits_part}
+use Rattle.syn_model.specs.Limits.{fits_part, fits_paths}
 use Rattle.syn_model.specs.Event.{AreBytes, Event, Edited, Began, Replaced, Put, MakeDir, Remove, IsLawfulEvent}
 
 abbrev pub IsNumber32 : ℕ → Type 0
@@ -10,6 +10,12 @@ IsNumber32 n = n < 2 ^ 32
 
 abbrev pub number_spelling : ℕ → Bytes
 number_spelling n = to_be_bytes w32 n
+
+abbrev pub IsNumber64 : ℕ → Type 0
+IsNumber64 n = n < 2 ^ 64
+
+abbrev pub number64_spelling : ℕ → Bytes
+number64_spelling n = to_be_bytes w64 n
 
 -- one value behind another
 abbrev pub Both : {A B : Type 0} → (A → Type 0) → (B → Type 0) → A × B → Type 0
@@ -26,22 +32,13 @@ pub record IsFile (file : Bytes) : Type 0 where
 abbrev pub file_spelling : Bytes → Bytes
 file_spelling bytes = to_be_bytes w32 (length bytes) ++ bytes
 
--- what is put has a length that four bytes spell, and a part keeps the limits of each file and directory
+-- what is put has a length that four bytes spell, and a part keeps the limits of each file and directory and of its own paths
 abbrev pub IsShort : Event → Type 0
 IsShort (Edited user (Put path bytes)) = length bytes < 2 ^ 32
 IsShort (Edited user (MakeDir path)) = Unit {0}
 IsShort (Edited user (Remove path)) = Unit {0}
 IsShort (Began session) = Unit {0}
-IsShort (Replaced token path since new) = fits_part new ≡ true
+IsShort (Replaced token path since new) = (fits_part new ≡ true) × (fits_paths new ≡ true)
 
 abbrev pub IsSpelledEvent : Event → Type 0
 IsSpelledEvent event = IsLawfulEvent event × IsShort event
-
--- an event but a replacement
-abbrev pub IsPlain : Event → Type 0
-IsPlain (Edited user edit) = Unit {0}
-IsPlain (Began session) = Unit {0}
-IsPlain (Replaced token path since new) = ⊥
-
-abbrev pub IsPlainEvent : Event → Type 0
-IsPlainEvent event = IsSpelledEvent event × IsPlain event

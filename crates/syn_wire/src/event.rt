@@ -1,11 +1,11 @@
 //! Events.
 ghost use Rattle.std.specs.Prelude.{◌≡◌, ◌++◌, ◌∷◌, ℕ, length, IfOk, OnOk, option_map};
 ghost use Rattle.syn_model.specs.Path.{IsPath, path_spelling};
-ghost use Rattle.syn_model.specs.Event.{Edited, IsLawfulEdit};
-ghost use Rattle.syn_model.specs.Spelling.{event_spelling};
+ghost use Rattle.syn_model.specs.Event.{Edited, IsLawfulEdit, IsLawfulToken};
+ghost use Rattle.syn_model.specs.Spelling.{event_spelling, token_spelling};
 ghost use Rattle.syn_tree.specs.Edits.{edit_of};
-ghost use Rattle.syn_history.specs.Events.{event_of};
-ghost use Rattle.syn_wire.specs.Events.{Both, IsFile, IsNumber32, IsPlainEvent, IsShort, both_spelling, file_spelling, number_spelling};
+ghost use Rattle.syn_history.specs.Events.{event_of, token_of};
+ghost use Rattle.syn_wire.specs.Events.{Both, IsFile, IsNumber32, IsNumber64, IsShort, IsSpelledEvent, both_spelling, file_spelling, number_spelling, number64_spelling};
 ghost use Rattle.syn_wire.specs.Reads.{IsReading};
 
 use crate::bytes::{read_file, write_file};
@@ -13,8 +13,10 @@ use crate::error::WireError;
 use crate::number::{read_u32, read_u64};
 use crate::path::{decode_path, path_length, write_path};
 use crate::spelling_laws;
+use crate::tree::write_node;
+use crate::tree_reading::decode_node;
 use std::alloc::Global;
-use syn_history::Event;
+use syn_history::{Event, Token};
 use syn_path::Path;
 use syn_tree::Edit;
 
@@ -25,6 +27,8 @@ const MAKE_DIR: u8 = 2;
 const REMOVE: u8 = 3;
 
 const BEGAN: u8 = 4;
+
+const REPLACED: u8 = 5;
 
 /// The spelling of the event: its kind, and what it has.
 ///
@@ -39,6 +43,20 @@ pub fn encode_event(alloc: Global, event: &Event) -> Result<Vec<u8>, WireError>
             let mut out = Vec::new(alloc);
             out.push(BEGAN)?;
             out.extend_from_slice(&session.to_be_bytes())?;
+            Ok(out)
+        }
+        Event::Replaced {
+            token,
+            path,
+            since,
+            new,
+        } => {
+            let mut out = Vec::new(alloc);
+            out.push(REPLACED)?;
+            write_token(&mut out, token)?;
+            write_path(&mut out, path)?;
+            out.extend_from_slice(&since.to_be_bytes())?;
+            write_node(&mut out, new.as_ref())?;
             Ok(out)
         }
     }
@@ -82,12 +100,11 @@ pub fn edit_length(edit: &Edit) -> usize
     }
 }
 
-/// The event that the bytes begin with, and the rest; none where no front of them is the spelling of an event, or where
-/// it is that of a replacement, which is not read yet.
+/// The event that the bytes begin with, and the rest; none where no front of them is the spelling of an event.
 ///
 /// Refused 11 where memory is refused.
 pub fn decode_event(alloc: Global, bytes: &[u8]) -> Result<Option<(Event, &[u8])>, WireError>
-    ensures { IfOk result (λ read. IsReading IsPlainEvent event_spelling bytes.now (option_map (λ found. (event_of found.0, found.1.now)) read)) }
+    ensures { IfOk result (λ read. IsReading IsSpelledEvent event_spelling bytes.now (option_map (λ found. (event_of found.0, found.1.now)) read)) }
 {
     let [kind, fields @ ..] = bytes else {
         return Ok(None);
@@ -97,13 +114,14 @@ pub fn decode_event(alloc: Global, bytes: &[u8]) -> Result<Option<(Event, &[u8])
         MAKE_DIR => read_make_dir(alloc, fields),
         REMOVE => read_remove(alloc, fields),
         BEGAN => Ok(read_began(fields)),
+        REPLACED => read_replaced(alloc, fields),
         _ => Ok(None),
     }
 }
 
 // What follows the kind of a put.
 fn read_put(alloc: Global, fields: &[u8]) -> Result<Option<(Event, &[u8])>, WireError>
-    ensures { IfOk result (λ read. IsReading IsPlainEvent event_spelling (PUT ∷ fields.now) (option_map (λ found. (event_of found.0, found.1.now)) read)) }
+    ensures { IfOk result (λ read. IsReading IsSpelledEvent event_spelling (PUT ∷ fields.now) (option_map (λ found. (event_of found.0, found.1.now)) read)) }
 {
     match read_placed_file(alloc, fields)? {
         Some((user, path, bytes, rest)) => Ok(Some((
@@ -118,7 +136,7 @@ fn read_put(alloc: Global, fields: &[u8]) -> Result<Option<(Event, &[u8])>, Wire
 }
 
 fn read_make_dir(alloc: Global, fields: &[u8]) -> Result<Option<(Event, &[u8])>, WireError>
-    ensures { IfOk result (λ read. IsReading IsPlainEvent event_spelling (MAKE_DIR ∷ fields.now) (option_map (λ found. (event_of found.0, found.1.now)) read)) }
+    ensures { IfOk result (λ read. IsReading IsSpelledEvent event_spelling (MAKE_DIR ∷ fields.now) (option_map (λ found. (event_of found.0, found.1.now)) read)) }
 {
     match read_place(alloc, fields)? {
         Some((user, path, rest)) => Ok(Some((
@@ -133,7 +151,7 @@ fn read_make_dir(alloc: Global, fields: &[u8]) -> Result<Option<(Event, &[u8])>,
 }
 
 fn read_remove(alloc: Global, fields: &[u8]) -> Result<Option<(Event, &[u8])>, WireError>
-    ensures { IfOk result (λ read. IsReading IsPlainEvent event_spelling (REMOVE ∷ fields.now) (option_map (λ found. (event_of found.0, found.1.now)) read)) }
+    ensures { IfOk result (λ read. IsReading IsSpelledEvent event_spelling (REMOVE ∷ fields.now) (option_map (λ found. (event_of found.0, found.1.now)) read)) }
 {
     match read_place(alloc, fields)? {
         Some((user, path, rest)) => Ok(Some((
@@ -148,10 +166,76 @@ fn read_remove(alloc: Global, fields: &[u8]) -> Result<Option<(Event, &[u8])>, W
 }
 
 fn read_began(fields: &[u8]) -> Option<(Event, &[u8])>
-    ensures { IsReading IsPlainEvent event_spelling (BEGAN ∷ fields.now) (option_map (λ found. (event_of found.0, found.1.now)) result) }
+    ensures { IsReading IsSpelledEvent event_spelling (BEGAN ∷ fields.now) (option_map (λ found. (event_of found.0, found.1.now)) result) }
 {
     let (session, rest) = read_u64(fields)?;
     Some((Event::Began { session }, rest))
+}
+
+fn read_replaced(alloc: Global, fields: &[u8]) -> Result<Option<(Event, &[u8])>, WireError>
+    ensures { IfOk result (λ read. IsReading IsSpelledEvent event_spelling (REPLACED ∷ fields.now) (option_map (λ found. (event_of found.0, found.1.now)) read)) }
+{
+    let Some((token, path, since, after)) = read_since(alloc, fields)? else {
+        return Ok(None);
+    };
+    match decode_node(alloc, after)? {
+        Some((new, rest)) => Ok(Some((
+            Event::Replaced {
+                token,
+                path,
+                since,
+                new,
+            },
+            rest,
+        ))),
+        None => Ok(None),
+    }
+}
+
+// A token, a path and a position.
+fn read_since(alloc: Global, bytes: &[u8]) -> Result<Option<(Token, Path, u64, &[u8])>, WireError>
+    ensures { IfOk result (λ read. IsReading (Both (Both IsLawfulToken IsPath) IsNumber64) (both_spelling (both_spelling token_spelling path_spelling) number64_spelling) bytes.now
+        (option_map (λ found. (((token_of found.0, found.1), found.2), found.3.now)) read)) }
+{
+    let Some((token, path, after)) = read_item(alloc, bytes)? else {
+        return Ok(None);
+    };
+    match read_u64(after) {
+        Some((since, rest)) => Ok(Some((token, path, since, rest))),
+        None => Ok(None),
+    }
+}
+
+// A token and a path.
+fn read_item(alloc: Global, bytes: &[u8]) -> Result<Option<(Token, Path, &[u8])>, WireError>
+    ensures { IfOk result (λ read. IsReading (Both IsLawfulToken IsPath) (both_spelling token_spelling path_spelling) bytes.now
+        (option_map (λ found. ((token_of found.0, found.1), found.2.now)) read)) }
+{
+    let Some((token, after)) = read_token(bytes) else {
+        return Ok(None);
+    };
+    match decode_path(alloc, after)? {
+        Some((path, rest)) => Ok(Some((token, path, rest))),
+        None => Ok(None),
+    }
+}
+
+// The number of a session, and that of its item.
+fn read_token(bytes: &[u8]) -> Option<(Token, &[u8])>
+    ensures { IsReading IsLawfulToken token_spelling bytes.now (option_map (λ found. (token_of found.0, found.1.now)) result) }
+{
+    let (session, after) = read_u64(bytes)?;
+    let (item, rest) = read_u32(after)?;
+    Some((Token { session, item }, rest))
+}
+
+// Adds the number of a session, and that of its item.
+fn write_token(out: &mut Vec<u8>, token: &Token) -> Result<(), WireError>
+    ensures { OnOk result (out.new.items ≡ out.old.items ++ token_spelling (token_of token.now)) }
+{
+    out.extend_from_slice(&token.session.to_be_bytes())?;
+    out.extend_from_slice(&token.item.to_be_bytes())?;
+    Ok(())
 }
 
 // A user and a path.

@@ -7,9 +7,9 @@ use crate::{
 };
 use std::alloc::Global;
 use std::test::Fail;
-use syn_history::Event;
+use syn_history::{Event, Token};
 use syn_path::Path;
-use syn_tree::Edit;
+use syn_tree::{Edit, Node};
 
 #[test]
 fn a_path_is_a_count_and_names_with_their_lengths(rt: HostRuntime) -> Result<(), Fail> {
@@ -69,12 +69,35 @@ fn is_same_edit(one: &Edit, other: &Edit) -> bool {
     }
 }
 
+// Both are no node, or both are files with the same bytes.
+fn is_same_file(one: &Option<Node>, other: &Option<Node>) -> bool {
+    match (one, other) {
+        (None, None) => true,
+        (Some(Node::File(bytes)), Some(Node::File(b))) => bytes == b,
+        _ => false,
+    }
+}
+
 fn is_same(one: &Event, other: &Event) -> bool {
     match (one, other) {
         (Event::Edited { user, edit }, Event::Edited { user: u, edit: e }) => {
             user == u && is_same_edit(edit, e)
         }
         (Event::Began { session }, Event::Began { session: n }) => session == n,
+        (
+            Event::Replaced {
+                token,
+                path,
+                since,
+                new,
+            },
+            Event::Replaced {
+                token: t,
+                path: p,
+                since: s,
+                new: n,
+            },
+        ) => token.is_same(t) && path == p && since == s && is_same_file(new, n),
         _ => false,
     }
 }
@@ -115,6 +138,19 @@ fn events_are_kinds_with_what_they_have(rt: HostRuntime) -> Result<(), Fail> {
     assert!(rt; is_spelled(alloc, &removed, &[3, 0, 0, 1, 2, 0])?);
     let began = Event::Began { session: 9 };
     assert!(rt; is_spelled(alloc, &began, &[4, 0, 0, 0, 0, 0, 0, 0, 9])?);
+    let removed = Event::Replaced {
+        token: Token {
+            session: 1,
+            item: 2,
+        },
+        path: Path::parse(alloc, "x")?,
+        since: 3,
+        new: None,
+    };
+    let spelling: &[u8] = &[
+        5, 0, 0, 0, 0, 0, 0, 0, 1, 0, 0, 0, 2, 1, 1, 120, 0, 0, 0, 0, 0, 0, 0, 3, 0,
+    ];
+    assert!(rt; is_spelled(alloc, &removed, spelling)?);
     Ok(())
 }
 
@@ -139,7 +175,10 @@ fn some_bytes_begin_with_no_event(rt: HostRuntime) -> Result<(), Fail> {
     let path: &[u8] = &[3, 0, 0, 0, 1, 1, 2, 46, 46];
     let file: &[u8] = &[1, 0, 0, 0, 1, 1, 1, 97, 0, 0, 0, 2, 104];
     let session: &[u8] = &[4, 0, 0, 0, 0, 0, 0, 0];
-    for bytes in [kind, user, path, file, session, &[]] {
+    let part: &[u8] = &[
+        5, 0, 0, 0, 0, 0, 0, 0, 1, 0, 0, 0, 2, 1, 1, 120, 0, 0, 0, 0, 0, 0, 0, 3, 2, 0, 1,
+    ];
+    for bytes in [kind, user, path, file, session, part, &[]] {
         assert_eq!(rt; decode_event(alloc, bytes)?.is_none(), true);
     }
     Ok(())
