@@ -1,14 +1,15 @@
 -- The pairs of a subtree are those of the tree at and below its path, in their order.
-use Rattle.std.proofs.Common.{◌≡◌, ◌<◌, ◌≤◌, suc, Bool, true, false, if◌then◌else◌, ◌&&◌, T, List, [], ◌∷◌, ◌++◌, length, filter_map, refl, sym, ap, ap₂, ◌∙◌, subst, Option, Some, None, is_some, IsSome, All, nat_le, append_assoc, is_lt, option_map, option_and_then, true≢false, arith}
+use Rattle.std.proofs.Common.{◌≡◌, ◌<◌, ◌≤◌, suc, Bool, true, false, if◌then◌else◌, ◌&&◌, T, List, [], ◌∷◌, ◌++◌, ℕ, length, length-append, filter_map, flat_map, refl, sym, ap, ap₂, ◌∙◌, subst, Option, Some, None, is_some, IsSome, All, nat_le, append_assoc, is_lt, option_map, option_and_then, true≢false, arith}
 use Rattle.std.proofs.lemmas.List.Elements.{All-tail}
+use Rattle.std.proofs.lemmas.Bool.Decides.{nat_tests}
 use Rattle.std.specs.Ordering.{ordering_then, eq_by_cmp}
 use Rattle.std.specs.Cmp.{tied_itself}
 use Rattle.std.specs.List.{cons_option, list_all}
 use Rattle.std.specs.FinMap.{entries, entries_sorted, find, from_entries, from_sorted, get, get-entries, get-from_entries, get-from_sorted, entries-from_sorted, is_sorted, len, len-entries, same_map}
 use Rattle.std.specs.FinMap.Entries.{below_all}
-use Rattle.syn_model.specs.Path.{IsName, Name, Path, name_cmp, path_cmp, root, strip_prefix}
+use Rattle.syn_model.specs.Path.{IsName, Name, Path, name_cmp, path_cmp, path_spelling, root, strip_prefix}
 use Rattle.syn_model.specs.Tree.{Tree, Content, Pair, IsPart, subtree, taken_off}
-use Rattle.syn_model.specs.Limits.{children, only_name, fits_content, fits_part}
+use Rattle.syn_model.specs.Limits.{children, only_name, fits_content, fits_part, fits_path, fits_paths}
 use Rattle.syn_model.proofs.TreeLemmas.{get-subtree}
 use Rattle.syn_model.proofs.DirtyLemmas.{both_true}
 use Rattle.syn_model.proofs.PathLemmas.{name_total, path_total, path_exact, strip_prefix-is}
@@ -129,6 +130,48 @@ still_fits t p (e ∷ es) h =
           ∙ ap (λ xs. fits_content e.1 && nat_le (length xs) 256) (sym (subtree_children t p r)) in
           yes_both (fits_at (subtree t p) (r, e.1)) (list_all (fits_at (subtree t p)) (below p es)) (sym same ∙ two.0) more
     ] refl
+
+-- a path is no longer than one that ends with it
+abbrev spelled : Path → List ℕ
+spelled path = flat_map (λ name. length name ∷ name) path
+
+ending_shorter : (p q : Path) → (length q ≤ length (p ++ q)) × (length (spelled q) ≤ length (spelled (p ++ q)))
+ending_shorter [] q = (omega arith, omega arith)
+ending_shorter (n ∷ p) q =
+    let rest = ending_shorter p q in
+    let more = length-append (length n ∷ n) (spelled (p ++ q)) in
+    (omega (arith, rest.0), omega (arith, rest.1, more))
+
+smaller : (a b n : ℕ) → a ≤ b → nat_le b n ≡ true → nat_le a n ≡ true
+smaller a b n l h = grind (arith, nat_tests)
+
+one_more : (a b : ℕ) → a ≤ b → suc a ≤ suc b
+one_more a b l = omega (arith, l)
+
+fits_later : (p q : Path) → fits_path (p ++ q) ≡ true → fits_path q ≡ true
+fits_later p q h =
+    let two = both_true (nat_le (length (p ++ q)) 16) (nat_le (length (path_spelling (p ++ q))) 255) h in
+    let less = ending_shorter p q in
+    yes_both (nat_le (length q) 16) (nat_le (length (path_spelling q)) 255)
+    (smaller (length q) (length (p ++ q)) 16 less.0 two.0)
+    (smaller (suc (length (spelled q))) (suc (length (spelled (p ++ q)))) 255 (one_more (length (spelled q)) (length (spelled (p ++ q))) less.1) two.1)
+
+abbrev path_fits : Pair → Bool
+path_fits pair = fits_path pair.0
+
+still_short : (p : Path) (es : List Pair) → list_all path_fits es ≡ true → list_all path_fits (below p es) ≡ true
+still_short p [] h = refl
+still_short p (e ∷ es) h =
+    let two = both_true (path_fits e) (list_all path_fits es) h in
+    let more = still_short p es two.1 in
+    elim (strip_prefix p e.0) as (λ o. strip_prefix p e.0 ≡ o → list_all path_fits (cons_option (option_map (λ r. (r, e.1)) o) (below p es)) ≡ true) [
+      | None ↦ λ _. more
+      | Some r ↦ λ k. yes_both (fits_path r) (list_all path_fits (below p es)) (fits_later p r (ap fits_path (sym (strip_prefix-is p e.0 r k)) ∙ two.0)) more
+    ] refl
+
+-- so the paths of a subtree keep their limits
+pub subtree-fits_paths : (t : Tree) (p : Path) → fits_paths t ≡ true → fits_paths (subtree t p) ≡ true
+subtree-fits_paths t p h = ap (list_all path_fits) (subtree_entries t p) ∙ still_short p (entries t) h
 
 later : (P : Name → Type 0) (p q : Path) → All P (p ++ q) → All P q
 later P [] q h = h

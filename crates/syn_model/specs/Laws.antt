@@ -5,7 +5,7 @@ use Rattle.syn_model.specs.Mark.{mark, mark_of}
 use Rattle.std.specs.FinMap.{get}
 use Rattle.syn_model.specs.Path.{Bytes, Path, path_cmp, path_key, key_cmp, root, comparable, strip_prefix, IsName, IsPath}
 use Rattle.syn_model.specs.Tree.{Tree, IsPart, IsTree, StandsIn, subtree, replace}
-use Rattle.syn_model.specs.Limits.{fits_part, fits_replica}
+use Rattle.syn_model.specs.Limits.{fits_part, fits_paths, fits_replica}
 use Rattle.syn_model.specs.Standing.{new_standing, standing_after, AllAllowedAt}
 use Rattle.syn_model.specs.History.{History, IsHistory, IsAllowed, AllAllowed, tree_of, standing_of}
 use Rattle.syn_model.specs.Event.{Event, Put, after_edit}
@@ -45,6 +45,9 @@ SubtreeIsPart = (tree : Tree) (at : Path) → IsPart tree → IsPart (subtree tr
 
 abbrev pub SubtreeFits : Type 0
 SubtreeFits = (tree : Tree) (at : Path) → fits_part tree ≡ true → fits_part (subtree tree at) ≡ true
+
+abbrev pub SubtreeFitsPaths : Type 0
+SubtreeFitsPaths = (tree : Tree) (at : Path) → fits_paths tree ≡ true → fits_paths (subtree tree at) ≡ true
 
 -- The spelling of a part is made of what stands at its root and the spellings of the parts below.
 abbrev pub SpellingUnfolds : Type 0

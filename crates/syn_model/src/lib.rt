@@ -1,7 +1,7 @@
 //! The definitions from path to plan that the other crates cite, and the laws that hold of them.
 #![tactic(auto)]
 
-ghost use Rattle.syn_model.specs.Laws.{SameAtEachPath, SubtreeHas, ReplacedHas, ReplacedIsThere, OthersStay, ReplacedIsPart, SubtreeIsPart, SubtreeFits, SpellingUnfolds, NoSpellingBeginsAnother, DirtyIsClosed, DirtyIsSafe, OneSynchronization, NothingToDo, HistoryIsTree, HistoryFits, PutFits, AllowedGoesOn, StandingSteps, StandingAllows, FormattedStands, PayloadGoesOn, PathsGoByKey, MarkHas, MarkOfSubtree};
+ghost use Rattle.syn_model.specs.Laws.{SameAtEachPath, SubtreeHas, ReplacedHas, ReplacedIsThere, OthersStay, ReplacedIsPart, SubtreeIsPart, SubtreeFits, SubtreeFitsPaths, SpellingUnfolds, NoSpellingBeginsAnother, DirtyIsClosed, DirtyIsSafe, OneSynchronization, NothingToDo, HistoryIsTree, HistoryFits, PutFits, AllowedGoesOn, StandingSteps, StandingAllows, FormattedStands, PayloadGoesOn, PathsGoByKey, MarkHas, MarkOfSubtree};
 ghost use Rattle.syn_model.specs.Plan.{NamesAreOnly, PlanIsInOrder, PlanIsOrderly, PlanIsDecided, PlanReconciles, PlanHasDecided, PlanOverwritesClean, ConflictsArePlanned, ItemFindsArchive, ItemFindsSides};
 ghost use Rattle.syn_model.specs.Rows.{ItemsOfOneNameHold, Floors, RefusedEditsHold, Spellings};
 
@@ -20,6 +20,7 @@ pub fn tree_laws()
     ensures part { ReplacedIsPart }
     ensures below { SubtreeIsPart }
     ensures fits { SubtreeFits }
+    ensures fits_paths { SubtreeFitsPaths }
 {}
 
 /// The spelling of a tree, or of a part of one, tells it.

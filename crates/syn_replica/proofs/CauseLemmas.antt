@@ -3,7 +3,7 @@ use Rattle.std.proofs.Common.{◌≡◌, ◌<◌, ◌≤◌, ◌^◌, ◌-◌, �
 use Rattle.std.specs.FinMap.{len}
 use Rattle.std.proofs.lemmas.Bool.{and_parts}
 use Rattle.std.proofs.lemmas.Bool.Decides.{nat_tests}
-use Rattle.syn_model.specs.Laws.{PutFits, ReplacedIsThere, SubtreeFits}
+use Rattle.syn_model.specs.Laws.{PutFits, ReplacedIsThere, SubtreeFits, SubtreeFitsPaths}
 use Rattle.syn_model.specs.Tree.{Tree, replace}
 use Rattle.syn_model.specs.Limits.{fits_replica, fits_part, fits_paths, tree_spelling_length, greatest, greatest_spelling}
 use Rattle.syn_model.specs.Event.{Put, MakeDir, Remove, Edit, Event, Edited, Began, Replaced, after_edit}
@@ -58,14 +58,15 @@ below_greatest n h = ap (λ b. if b then Some Full else None) (below n h)
     below : (n : ℕ) → n < 2 ^ 64 - 1 → nat_le greatest n ≡ false
     below n h = grind (arith, nat_tests)
 
-pub part_fits : (tree : Tree) → fits_replica tree ≡ true → fits_part tree ≡ true
-part_fits tree fits =
+-- the limits of each file, directory and path, of those of a replica
+pub limits_of : (tree : Tree) → fits_replica tree ≡ true → (fits_part tree ≡ true) × (fits_paths tree ≡ true)
+limits_of tree fits =
     let size = nat_le (tree_spelling_length tree) greatest_spelling in
     let first = and_parts (nat_le (len tree) 1024 && size && fits_part tree) (fits_paths tree) fits in
-    (and_parts (nat_le (len tree) 1024 && size) (fits_part tree) first.0).1
+    ((and_parts (nat_le (len tree) 1024 && size) (fits_part tree) first.0).1, first.1)
 
 -- what is put by an allowed event has few bytes
-module _ (put : PutFits) (there : ReplacedIsThere) (below : SubtreeFits) where
+module _ (put : PutFits) (there : ReplacedIsThere) (below : SubtreeFits) (paths : SubtreeFitsPaths) where
   few : (n : ℕ) → n ≤ 16384 → n < 2 ^ 32
   few n h = omega (arith, h)
 
@@ -83,7 +84,8 @@ module _ (put : PutFits) (there : ReplacedIsThere) (below : SubtreeFits) where
       let after = replace s.tree path new in
       let full = no_cause ((is_old s.session s.token token, OldSession) ∷ place_causes s.tree path) (full_causes after ++ full_position s.position) allowed.not_refused in
       let fits = fits_where after (no_cause (full_causes after) (full_position s.position) full.1).0 in
-      subst (λ t. fits_part t ≡ true) (there s.tree path new) (below after path (part_fits after fits))
+      let limits = limits_of after fits in
+      (subst (λ t. fits_part t ≡ true) (there s.tree path new) (below after path limits.0), subst (λ t. fits_paths t ≡ true) (there s.tree path new) (paths after path limits.1))
 
   -- each event that is allowed in turn is spelled
   pub spelled_at : (standing : Standing) (events : List Event) → AllAllowedAt standing events → AllByRecursion IsSpelledEvent events

@@ -10,7 +10,7 @@ use Rattle.syn_model.specs.Spelling.{spelling}
 use Rattle.syn_model.specs.Image.{image_spelling, last_token_spelling, touch_spelling, IsStanding}
 use Rattle.syn_wire.specs.Laws.{NoU16BeginsAnother, NoU64BeginsAnother}
 use Rattle.syn_replica.specs.Formatted.{formatted_image}
-use Rattle.syn_replica.proofs.CauseLemmas.{part_fits}
+use Rattle.syn_replica.proofs.CauseLemmas.{limits_of}
 
 -- the first byte
 kind_of : Bytes → ℕ
@@ -65,5 +65,5 @@ image_alike u16 u64 trees_tell empty_is empty_fits pair shown standing hp hs sou
     let six = u16 (length standing.touches) 0 _ _ (few_touches (length standing.touches) sound.count) (omega arith) five.1 in
     let touches = no_length standing.touches six.0 in
     let seven : spelling standing.tree ≡ spelling empty_directory = ap (λ xs. flat_map touch_spelling xs ++ spelling standing.tree) (sym touches) ∙ six.1 in
-    let tree = (trees_tell standing.tree empty_directory [] [] sound.tree.part empty_is.part (part_fits standing.tree sound.fits) (part_fits empty_directory empty_fits) (ap (λ xs. xs ++ []) seven)).0 in
+    let tree = (trees_tell standing.tree empty_directory [] [] sound.tree.part empty_is.part (limits_of standing.tree sound.fits).0 (limits_of empty_directory empty_fits).0 (ap (λ xs. xs ++ []) seven)).0 in
     (one.0, same_standing standing new_standing tree two.0 three.0 touches four.0 five.0)

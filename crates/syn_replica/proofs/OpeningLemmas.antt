@@ -12,7 +12,7 @@ use Rattle.syn_model.specs.Standing.{edit_causes, full_causes, full_position, ed
 use Rattle.syn_model.specs.History.{History, IsAllowed, tree_of}
 use Rattle.syn_model.specs.Spelling.{event_spelling}
 use Rattle.syn_model.specs.Image.{StandsFor}
-use Rattle.syn_wire.specs.Events.{IsSpelledEvent, IsSpelledEvent}
+use Rattle.syn_wire.specs.Events.{IsSpelledEvent}
 use Rattle.syn_wire.specs.Laws.{NoEventBeginsAnother}
 use Rattle.syn_wire.specs.Reads.{IsReading}
 use Rattle.syn_replica.specs.Formatted.{formatted_image}
@@ -50,10 +50,10 @@ module _ (events_tell : NoEventBeginsAnother) (payload : Bytes) (user : ℕ) (ed
   alone = e ∙ sym (append-nil (event_spelling (Edited user edit)))
 
   pub something_read : ¬ IsReading IsSpelledEvent event_spelling payload None
-  something_read none = none (Edited user edit) [] (record { lawful = (spelled, tt); spelled = alone })
+  something_read none = none (Edited user edit) [] (record { lawful = spelled; spelled = alone })
 
   pub same_read : (event : Event) (rest : Bytes) → IsReading IsSpelledEvent event_spelling payload (Some (event, rest)) → (event ≡ Edited user edit) × (rest ≡ [])
-  same_read event rest read = events_tell event (Edited user edit) rest [] read.lawful.0 spelled (sym read.spelled ∙ alone)
+  same_read event rest read = events_tell event (Edited user edit) rest [] read.lawful spelled (sym read.spelled ∙ alone)
 
   pub same_edit : (other : Edit) (by : ℕ) → IsSpelledEvent (Edited by other) → payload ≡ event_spelling (Edited by other) → (by ≡ user) × (other ≡ edit)
   same_edit other by h g =

@@ -42,6 +42,12 @@ pub record IsShownBy (number shown : ℕ) (left : Tree) (count : ℕ) (history :
   pub tree : left ≡ tree_of history
   pub position : count ≡ length history
 
+-- each history that a formatted disk with edits stands for is shown by the tree that they leave
+abbrev pub IsShownAlike : Type 0
+IsShownAlike = (image : Bytes) (tree : Tree) (payloads : List (Vec ℕ)) (edits : History) → Holds tree (bytes_of_each payloads) edits →
+    (pair shown : ℕ) (history : History) → pair < 2 ^ 64 → shown < 2 ^ 64 → image ≡ formatted_image shown →
+    StandsFor pair image (bytes_of_each payloads) history → IsShownBy pair shown tree (length payloads) history
+
 -- another pair than the wanted one
 pub record IsOtherPair (image : Bytes) (wanted : Option ℕ) : Type 0 where
   pub pair : ℕ

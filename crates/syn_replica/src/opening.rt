@@ -1,5 +1,5 @@
 //! A replica from what its disk holds.
-ghost use Rattle.std.specs.Prelude.{◌≡◌, ◌≢◌, ◌<◌, ◌-◌, ◌^◌, ◌↔◌, ℕ, List, length, IfOk, IfErr, OnOk, Some, Err, option_map};
+ghost use Rattle.std.specs.Prelude.{◌≡◌, ◌≢◌, ◌⊎◌, ◌<◌, ◌-◌, ◌^◌, ◌↔◌, ℕ, List, length, IfOk, IfErr, OnOk, Some, Err, option_map};
 ghost use Rattle.syn_model.specs.Path.{Bytes};
 ghost use Rattle.syn_model.specs.Event as model;
 ghost use Rattle.syn_model.specs.History.{History, IsAllowed};
@@ -8,7 +8,7 @@ ghost use Rattle.syn_model.specs.Spelling.{event_spelling};
 ghost use Rattle.syn_tree.specs.Edits.{edit_of};
 ghost use Rattle.syn_replica.specs.OfEdits.{IsEdit, ArePayloadsOf, IsOfEdits};
 ghost use Rattle.syn_replica.specs.Formatted.{formatted_image};
-ghost use Rattle.syn_replica.specs.Opening.{Holds, AddsEvent, IsEditOf, IsShownBy, IsOtherPair, IsOfMeaning, IsOfPayload, bytes_of_each};
+ghost use Rattle.syn_replica.specs.Opening.{Holds, AddsEvent, IsEditOf, IsShownAlike, IsShownBy, IsOtherPair, IsOfMeaning, IsOfPayload, bytes_of_each};
 
 use crate::error::ReplicaError;
 use crate::image::decode_image;
@@ -36,20 +36,39 @@ pub(crate) fn read_replica(
     ensures damaged { IfErr result (λ e. e ≡ ReplicaError.Damaged → (pair : ℕ) (history : History) → pair < 2 ^ 64 → ¬ IsOfEdits pair image.now (bytes_of_each payloads.now) history) }
     ensures refusals { IfErr result IsOfMeaning }
 {
+    opening_laws();
+    let pair = read_pair(image, wanted)?;
+    let tree = replayed(alloc, payloads)?;
+    Ok((pair, tree))
+}
+
+/// What a formatted disk with edits stands for is shown alike, whatever history it is.
+fn opening_laws()
+    ensures { IsShownAlike }
+{
     spelling_laws();
     syn_model::spelling_laws();
     history_laws();
     tree_laws();
+}
+
+/// The pair of which the image is a formatted one.
+///
+/// Refused 19 where it is of none, and 20 where the pair is not the wanted one.
+fn read_pair(image: &[u8], wanted: Option<u64>) -> Result<u64, ReplicaError>
+    ensures pair { IfOk result (λ pair. (pair < 2 ^ 64) × (image.now ≡ formatted_image pair)) }
+    ensures wanted { IfOk result (λ pair. (asked : ℕ) → wanted ≡ Some asked → asked ≡ pair) }
+    ensures other { (result ≡ Err ReplicaError.WrongPair) ↔ IsOtherPair image.now wanted }
+    ensures damaged { IfErr result (λ e. e ≡ ReplicaError.Damaged → (pair : ℕ) → pair < 2 ^ 64 → image.now ≢ formatted_image pair) }
+    ensures refusals { IfErr result (λ e. (e ≡ ReplicaError.Damaged) ⊎ (e ≡ ReplicaError.WrongPair)) }
+{
     let Some(pair) = decode_image(image) else {
         return Err(ReplicaError::Damaged);
     };
-    if let Some(wanted) = wanted
-        && wanted != pair
-    {
-        return Err(ReplicaError::WrongPair);
+    match wanted {
+        Some(wanted) if wanted != pair => Err(ReplicaError::WrongPair),
+        _ => Ok(pair),
     }
-    let tree = replayed(alloc, payloads)?;
-    Ok((pair, tree))
 }
 
 /// The tree after each payload in turn, each of which has to be an edit that is allowed.
@@ -103,7 +122,7 @@ fn read_edit(alloc: Global, payload: &[u8]) -> Result<Option<Edit>, WireError>
     }
     match event {
         Event::Edited { edit, .. } => Ok(Some(edit)),
-        Event::Began { .. } => Ok(None),
+        Event::Began { .. } | Event::Replaced { .. } => Ok(None),
     }
 }
 

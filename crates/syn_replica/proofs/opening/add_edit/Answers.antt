@@ -10,7 +10,7 @@ pub returns-in_default-clause-damaged : goal.returns-in_default-clause-damaged
 returns-in_default-clause-damaged c payloads history event holds edit e same allowed =
     let laws = c.history_laws.ensures in
     let trees = c.tree_laws.ensures in
-    let spelled = short_in laws.put trees.there trees.fits history event allowed in
+    let spelled = short_in laws.put trees.there trees.fits trees.fits_paths history event allowed in
     edit_is_read c.args.payload.now event edit spelled e (subst (λ o. IsEditOf c.args.payload.now (option_map edit_of o)) c.in_default.is c.in_ok-edit.ensures)
 
 pub returns-in-Ok-clause-event : goal.returns-in-Ok-clause-event
@@ -29,6 +29,6 @@ returns-in-Err-clause-damaged c payloads history event holds edit e damaged allo
     let laws = c.history_laws.ensures in
     let trees = c.tree_laws.ensures in
     let read = subst (λ o. IsEditOf c.args.payload.now (option_map edit_of o)) c.in-Some.is c.in_ok-edit.ensures in
-    let spelled = short_in laws.put trees.there trees.fits history event allowed in
+    let spelled = short_in laws.put trees.there trees.fits trees.fits_paths history event allowed in
     let none = read_not_refused c.spelling_laws.ensures.event c.args.payload.now c.args.tree.now history payloads holds event edit spelled e allowed read.0 (edit_of c.in-Some.edit) read.1 read.2 in
     none_some (sym none ∙ c.in-Err.ensures.refused (c.damage.ensures.damaged damaged))

@@ -52,6 +52,6 @@ returns-in_err-add_edit-clause-damaged c =
     let holds = c.loop-payload.invariant.1 in
     let parts = row_parts payloads i payload read c.loop-payload-test.true c.payload-item.is holds.are.spelled in
     rw (p.1, p.2) (λ is history are.
-    let next = next_edit tell [] history read payload.items (bytes_of_each (drop (i + 1) payloads)) are.lawful (spelled_in laws.put trees.there trees.fits [] history are.lawful) are.edits
-    (spelled_in laws.put trees.there trees.fits [] read holds.are.lawful) (sym are.spelled ∙ parts) in
+    let next = next_edit tell [] history read payload.items (bytes_of_each (drop (i + 1) payloads)) are.lawful (spelled_in laws.put trees.there trees.fits trees.fits_paths [] history are.lawful) are.edits
+    (spelled_in laws.put trees.there trees.fits trees.fits_paths [] read holds.are.lawful) (sym are.spelled ∙ parts) in
     c.in_err-add_edit.ensures.damaged (bytes_of_each (take i payloads)) read next.0 holds next.2 (c.deref.ensures.value ∙ next.1) is next.3)
