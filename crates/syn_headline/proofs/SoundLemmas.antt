@@ -4,7 +4,7 @@ use Rattle.std.specs.Prelude.{Contains, All}
 use Rattle.std.specs.Option.{option_map_or}
 use Rattle.std.specs.FinMap.{get}
 use Rattle.std.proofs.lemmas.Bool.Decides.{nat_tests}
-use Rattle.std.proofs.lemmas.List.{length-append}
+use Rattle.std.proofs.lemmas.List.{length-append, take-append-le}
 use Rattle.std.proofs.lemmas.List.Elements.{Contains-append_left, Contains-append_cases}
 use Rattle.syn_model.specs.Path.{Path, is_root, strip_prefix, IsName}
 use Rattle.syn_model.specs.Tree.{Tree, Content, Directory, IsTree, IsPart, empty_directory, subtree, replace, is_directory}
@@ -105,7 +105,7 @@ true-grow old new a session (Begin pair) (Begun position) t = let grows : last_s
 true-grow old new a session (ListAt path) (Listed position entries) t =
     let x = extends old new a in
     let grows : length old ≤ length new = length_grows old new x in
-    record { reached = omega (arith, t.reached, grows); entries_there = t.entries_there ∙ ap (λ u. children (mark u) path) (sym (tree_at_stays old new x position t.reached)) }
+    record { reached = omega (arith, t.reached, grows); begun = subst (λ w. session ≤ last_session (take position w)) (sym x.1) (subst (λ w. session ≤ last_session w) (sym (take-append-le position old x.0 t.reached)) t.begun); entries_there = t.entries_there ∙ ap (λ u. children (mark u) path) (sym (tree_at_stays old new x position t.reached)) }
 true-grow old new a session (ListAt path) (NotDir position) t =
     let x = extends old new a in
     let grows : length old ≤ length new = length_grows old new x in
