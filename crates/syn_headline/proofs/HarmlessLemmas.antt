@@ -51,7 +51,7 @@ meets q p e = elim (or_is (is_prefix q p) (is_prefix p q) e) as (λ _. Meets q p
 ]
 
 -- what is done at a path is one item
-same_item : (d : Decision) (i j : Item) → IsDecided d i → IsDecided d j → i ≡ j
+pub same_item : (d : Decision) (i j : Item) → IsDecided d i → IsDecided d j → i ≡ j
 same_item d i j (inl x) (inl y) = let e : Do i ≡ Do j = sym x ∙ y in cc
 same_item d i j (inl x) (inr y) = let e : Do i ≡ DoAndGoOn j = sym x ∙ y in cc
 same_item d i j (inr x) (inl y) = let e : DoAndGoOn i ≡ Do j = sym x ∙ y in cc

@@ -15,3 +15,5 @@ pub mod RunLemmas
 pub mod WholeRuns
 pub mod ArchiveLemmas
 pub mod RepeatLemmas
+pub mod AnyOrder
+pub mod CarriedOut
