@@ -44,7 +44,7 @@ or_is : (a b : Bool) → (a || b) ≡ true → (a ≡ true) ⊎ (b ≡ true)
 or_is true b e = inl refl
 or_is false b e = inr e
 
-meets : (q p : Path) → comparable q p ≡ true → Meets q p
+pub meets : (q p : Path) → comparable q p ≡ true → Meets q p
 meets q p e = elim (or_is (is_prefix q p) (is_prefix p q) e) as (λ _. Meets q p) [
   | inl x ↦ let s = is_prefix-is q p x in meets_from q p s.0 s.1
   | inr x ↦ let s = is_prefix-is p q x in meets_to q p s.0 s.1

@@ -17,3 +17,6 @@ pub mod ArchiveLemmas
 pub mod RepeatLemmas
 pub mod AnyOrder
 pub mod CarriedOut
+pub mod QuietScans
+pub mod QuietResult
+pub mod CompleteLemmas

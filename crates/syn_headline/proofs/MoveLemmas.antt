@@ -197,7 +197,7 @@ replacement-grow plans old new side token path since u stays grows h =
       carries = h.carries;
     }
 
-all_front : (start xs ys : History) → AllAllowed start (xs ++ ys) → AllAllowed start xs
+pub all_front : (start xs ys : History) → AllAllowed start (xs ++ ys) → AllAllowed start xs
 all_front start [] ys h = tt
 all_front start (x ∷ xs) ys h = (h.0, all_front (start ++ x ∷ []) xs ys h.1)
 

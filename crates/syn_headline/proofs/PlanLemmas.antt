@@ -140,7 +140,7 @@ pub record IsPlannedFrom (scan : Which → Scan) (since : Which → Path → ℕ
   pub decided : IsDecided (decision (scan Left) (scan Right) archive (path_of planned.item)) planned.item
   pub seen : SeesBoth scan since planned
 
-found_item : (items : List Item) (plan : List Planned) (item : ℕ) (planned : Planned) → map (λ p. p.item) plan ≡ items → slice_get plan item ≡ Some planned → Contains items planned.item
+pub found_item : (items : List Item) (plan : List Planned) (item : ℕ) (planned : Planned) → map (λ p. p.item) plan ≡ items → slice_get plan item ≡ Some planned → Contains items planned.item
 found_item items plan item planned same e =
     let at : slice_get items item ≡ Some planned.item = ap (λ xs. slice_get xs item) (sym same) ∙ (slice_get-map (λ p. p.item) plan item ∙ ap (option_map (λ p. p.item)) e) in
     subst (Contains items) (get_or_from_slice_get items item planned.item planned.item at) (Contains-get_or items item planned.item (slice_get_within items item planned.item at))
@@ -201,7 +201,7 @@ pub record Writes (scan : Which → Scan) (since : Which → Path → ℕ) (foun
 root_is_directory : (t : Tree) → IsTree t → is_directory t [] ≡ true
 root_is_directory t h = ap is_directory_content h.rooted
 
-writes_at : (scan : Which → Scan) (since : Which → Path → ℕ) (found : Tree) (planned : Planned) (side : Which) (path : Path) → ((s : Which) → IsTree (scan s).marks) →
+pub writes_at : (scan : Which → Scan) (since : Which → Path → ℕ) (found : Tree) (planned : Planned) (side : Which) (path : Path) → ((s : Which) → IsTree (scan s).marks) →
     IsPlannedFrom scan since found planned → WritesTo planned.item side path → path_of planned.item ≡ path → Writes scan since found planned side path
 writes_at scan since found planned side [] trees from w e =
     let clean = writes_clean (scan Left) (scan Right) found (path_of planned.item) planned.item side [] scan refl refl w from.decided in
@@ -261,6 +261,12 @@ module _ (plans : Plans) (histories : Histories) (archive : Archive) (sent : Sen
   listing_reached side session scan since h path d u =
       let w = h.listed path d u in
       let true_one : IsTrueListing (histories side) session path (since path) (children scan.marks path) = sound.answered side session w.number (Listed (since path) (children scan.marks path)) (ListAt path) w.answered w.asked in
+      true_one.reached
+
+  pub not_dir_reached : (side : Which) (session : ℕ) (scan : Scan) (since : Path → ℕ) → IsScanOf sent side session scan since → (path : Path) → is_unstable scan path ≡ true → since path ≤ length (histories side)
+  not_dir_reached side session scan since h path u =
+      let w = (h.not_dir path (found_unstable path scan.unstable u)).1 in
+      let true_one : IsTrueNotDir (histories side) path (since path) = sound.answered side session w.number (NotDir (since path)) (ListAt path) w.answered w.asked in
       true_one.reached
 
   module _ (session : ℕ) (found : Tree) (plan : List Planned) (is : IsPlanOf sent session found plan) where
