@@ -20,3 +20,4 @@ pub mod CarriedOut
 pub mod QuietScans
 pub mod QuietResult
 pub mod CompleteLemmas
+pub mod UnderwayLemmas

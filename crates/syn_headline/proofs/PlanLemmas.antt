@@ -45,7 +45,7 @@ of_plan-more sent more session plan to (Fetch path since offset) h = h
 of_plan-more sent more session plan to (Stage item offset bytes) h = (h.0, h.1, (h.2.0, answered-more sent more _ _ _ _ h.2.1))
 of_plan-more sent more session plan to (Replace item path since size) h = (h.0, h.1, h.2, h.3, (h.4.0, h.4.1, answered-more sent more _ _ _ _ h.4.2))
 
-scan_of-more : (sent more : Sent) (side : Which) (session : ℕ) (scan : Scan) (since : Path → ℕ) → IsScanOf sent side session scan since → IsScanOf (sent ++ more) side session scan since
+pub scan_of-more : (sent more : Sent) (side : Which) (session : ℕ) (scan : Scan) (since : Path → ℕ) → IsScanOf sent side session scan since → IsScanOf (sent ++ more) side session scan since
 scan_of-more sent more side session scan since h = record {
   tree = h.tree;
   listed = λ path d u. answered-more sent more _ _ _ _ (h.listed path d u);
@@ -54,7 +54,7 @@ scan_of-more sent more side session scan since h = record {
   nothing_below = h.nothing_below;
 }
 
-pub plan_of-more : (sent more : Sent) (session : ℕ) (archive : Tree) (plan : List Planned) → IsPlanOf sent session archive plan → IsPlanOf (sent ++ more) session archive plan
+abbrev pub plan_of-more : (sent more : Sent) (session : ℕ) (archive : Tree) (plan : List Planned) → IsPlanOf sent session archive plan → IsPlanOf (sent ++ more) session archive plan
 plan_of-more sent more session archive plan h = record {
   scan = h.scan;
   since = h.since;

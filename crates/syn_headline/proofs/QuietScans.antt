@@ -47,10 +47,13 @@ IsPlannedEvent plan histories side (Edited user edit) = Unit {0}
 IsPlannedEvent plan histories side (Began session) = ⊥
 IsPlannedEvent plan histories side (Replaced token path since new) = IsPlannedReplacement plan histories side token.item path new
 
--- where no user's event came since the session began, the scan shows the tree that it began with, and each listing came right then
+-- the scan shows the tree that was found, and each listing came right after the session's begin
+abbrev pub ShowsTree : Scan → (Path → ℕ) → History → Type 0
+ShowsTree scan since found = (scan ≡ scan_of (tree_of found)) × ((path : Path) → is_directory scan.marks path ≡ true → since path ≡ length found + 1)
+
+-- as it does where no user's event came since then
 abbrev pub ShowsFound : History → ℕ → Scan → (Path → ℕ) → Type 0
-ShowsFound history session scan since = (before later : History) → history ≡ before ++ Began session ∷ later → All IsNoEdit later →
-    (scan ≡ scan_of (tree_of before)) × ((path : Path) → is_directory scan.marks path ≡ true → since path ≡ length before + 1)
+ShowsFound history session scan since = (found later : History) → history ≡ found ++ Began session ∷ later → All IsNoEdit later → ShowsTree scan since found
 
 -- Sessions only grow
 

@@ -46,7 +46,7 @@ event_kept Right [] = refl
 event_kept Left (k ∷ ks) = event_kept Left ks
 event_kept Right (k ∷ ks) = event_kept Right ks
 
-archive-append : (a : Archive) (xs ys : List Kept) → archive_of a (xs ++ ys) ≡ archive_of (archive_of a xs) ys
+pub archive-append : (a : Archive) (xs ys : List Kept) → archive_of a (xs ++ ys) ≡ archive_of (archive_of a xs) ys
 archive-append a [] ys = refl
 archive-append a (x ∷ xs) ys = archive-append (after_kept a x) xs ys
 
