@@ -21,3 +21,5 @@ pub mod QuietScans
 pub mod QuietResult
 pub mod CompleteLemmas
 pub mod UnderwayLemmas
+pub mod KeptLemmas
+pub mod ReportLemmas

@@ -206,7 +206,7 @@ pub tree_at_is_tree : (history : History) (k : ℕ) → IsHistory history → Is
 tree_at_is_tree history k h = history-is_tree (take k history) (all_front [] (take k history) (drop k history) (subst IsHistory (sym (take-append-drop k history)) h))
 
 -- a history has at each position a tree that fits
-tree_at_fits : (history : History) (k : ℕ) → IsHistory history → fits_replica (tree_at history k) ≡ true
+pub tree_at_fits : (history : History) (k : ℕ) → IsHistory history → fits_replica (tree_at history k) ≡ true
 tree_at_fits history k h = history_fits (take k history) (all_front [] (take k history) (drop k history) (subst IsHistory (sym (take-append-drop k history)) h))
 
 -- A request

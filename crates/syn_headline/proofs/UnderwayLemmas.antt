@@ -1,5 +1,5 @@
 -- What a session that runs has done so far: its records are due, and its sides' events since it began are by its plan.
-use Rattle.std.proofs.Common.{◌≡◌, ◌≤◌, ◌<◌, ◌+◌, ℕ, List, [], ◌∷◌, ◌++◌, length, refl, sym, ap, ◌∙◌, subst, Some, append_assoc, append-nil, arith, inl, inr, ◌⊎◌, slice_get}
+use Rattle.std.proofs.Common.{◌≡◌, ◌≤◌, ◌<◌, ◌+◌, ℕ, List, [], ◌∷◌, ◌++◌, length, refl, sym, ap, ◌∙◌, subst, append_assoc, arith, inl, inr, ◌⊎◌, slice_get}
 use Rattle.std.specs.Prelude.{All}
 use Rattle.std.proofs.lemmas.List.Elements.{All-head, All-tail, All-nil, All-cons, All-append, All-push, All-weaker}
 use Rattle.syn_model.specs.Tree.{Tree}
@@ -9,15 +9,15 @@ use Rattle.syn_model.specs.Archive.{Archive, Kept, Session, archive_of}
 use Rattle.syn_model.specs.Decision.{path_of}
 use Rattle.syn_headline.specs.Laws.{AddsAllowed}
 use Rattle.syn_headline.specs.Network.{Which, other, Sent}
-use Rattle.syn_headline.specs.Planning.{Planned, seen_on, IsPlanOf, WritesTo}
+use Rattle.syn_headline.specs.Planning.{Planned, seen_on, IsPlanOf}
 use Rattle.syn_headline.specs.Headline.{IsNoEdit}
 use Rattle.syn_headline.specs.Invariant.{Plans, Histories, IsSound, IsSoundEvent}
 use Rattle.syn_model.proofs.PathLemmas.{none_some}
-use Rattle.syn_headline.proofs.PlanLemmas.{plan_of-more, fenced, writes_path}
+use Rattle.syn_headline.proofs.PlanLemmas.{plan_of-more, fenced}
 use Rattle.syn_headline.proofs.SoundLemmas.{extends, length_grows, part_at_stays, still_touched}
 use Rattle.syn_headline.proofs.MoveLemmas.{on_both, Moves, moves_grow, current}
 use Rattle.syn_headline.proofs.WorldLemmas.{archive-append}
-use Rattle.syn_headline.proofs.QuietScans.{IsPlannedReplacement, IsPlannedEvent, ShowsTree, ShowsFound, begun_within, began_above, plan_shows}
+use Rattle.syn_headline.proofs.QuietScans.{IsPlannedEvent, ShowsTree, ShowsFound, begun_within, began_above, plan_shows}
 use Rattle.syn_headline.proofs.CompleteLemmas.{IsRecordDue, carried, alike, marked}
 
 -- a plan whose scans show what was found, where no user's event came since the session began

@@ -73,12 +73,15 @@ put_fits tree path bytes fits =
     ∙ (sym (get-subtree (replace tree path (file bytes)) path root)
     ∙ (ap (λ t. get t root) (subtree-replace tree path (file bytes)) ∙ get-at_root (File (contents_of bytes)) root)))
 
--- and no path in it is longer than a path may be
-pub fits_depth : (tree : Tree) → fits_replica tree ≡ true → HasDepth most_names tree
-fits_depth tree fits path deep = elim (get tree path) as (λ o. get tree path ≡ o → o ≡ None) [
+-- nor has what fits a path that is longer than a path may be
+pub paths_depth : (tree : Tree) → fits_paths tree ≡ true → HasDepth most_names tree
+paths_depth tree fits path deep = elim (get tree path) as (λ o. get tree path ≡ o → o ≡ None) [
   | None ↦ λ _. refl
   | Some content ↦ λ has.
-      let found = all_found (λ pair. fits_path pair.0) path (entries tree) content (both_true _ (fits_paths tree) fits).1 (sym (get-entries tree path) ∙ has) in
+      let found = all_found (λ pair. fits_path pair.0) path (entries tree) content fits (sym (get-entries tree path) ∙ has) in
       let within : length path ≤ 16 = leb-true (length path) 16 (both_true (nat_le (length path) 16) (nat_le (length (path_spelling path)) 255) found).0 in
       absurd (omega (arith, deep, within))
 ] refl
+
+pub replica_depth : (tree : Tree) → fits_replica tree ≡ true → HasDepth most_names tree
+replica_depth tree fits = paths_depth tree (both_true _ (fits_paths tree) fits).1
