@@ -63,11 +63,11 @@ sessions_grow a (k ∷ kept) can =
 next_number : (n last : ℕ) → not (n == last + 1) ≡ false → n ≡ last + 1
 next_number n last h = grind (arith, nat_tests)
 
-session_next : (a : Archive) (session : ℕ) → CanKeep a (Session session) → session ≡ a.last_session + 1
+pub session_next : (a : Archive) (session : ℕ) → CanKeep a (Session session) → session ≡ a.last_session + 1
 session_next a session can =
     next_number session a.last_session (first_cause-none (not (session == a.last_session + 1), BadMessage) [] (first_cause-none (nat_le greatest a.last_session, Full) ((not (session == a.last_session + 1), BadMessage) ∷ []) can.not_refused).1).0
 
-not_again : (a : Archive) (session : ℕ) (kept more : List Kept) → AllCanKeep a (Session session ∷ (kept ++ Session session ∷ more)) → ⊥
+pub not_again : (a : Archive) (session : ℕ) (kept more : List Kept) → AllCanKeep a (Session session ∷ (kept ++ Session session ∷ more)) → ⊥
 not_again a session kept more can =
     let parts = can-parts (after_kept a (Session session)) kept (Session session ∷ more) can.1 in
     let grown : session ≤ (archive_of (after_kept a (Session session)) kept).last_session = sessions_grow (after_kept a (Session session)) kept parts.0 in

@@ -23,3 +23,4 @@ pub mod CompleteLemmas
 pub mod UnderwayLemmas
 pub mod KeptLemmas
 pub mod ReportLemmas
+pub mod CourseLemmas

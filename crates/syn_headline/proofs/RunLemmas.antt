@@ -434,7 +434,7 @@ module _ (plans : Plans) (old : World) (k : IsKept plans old) (new : World) wher
   delivers_advances (Some (Asks to session number request)) c t = request_advances plans old k to session number request (c _ refl) new t
   delivers_advances (Some (Answers from session number said)) c t = answer_advances from session number said (c _ refl) t
 
-  was_sent : (n : ℕ) (m : Message) → slice_get old.sent n ≡ Some m → Contains old.sent m
+  pub was_sent : (n : ℕ) (m : Message) → slice_get old.sent n ≡ Some m → Contains old.sent m
   was_sent n m e = subst (Contains old.sent) (get_or_from_slice_get old.sent n m m e) (Contains-get_or old.sent n m (slice_get_within old.sent n m e))
 
   -- each step keeps the invariant, and its replacements are legal

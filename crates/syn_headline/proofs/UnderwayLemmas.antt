@@ -168,7 +168,7 @@ underway_says before histories sent more kept session plan h = record {
 }
 
 -- it records what is due
-pub underway_records : (before : Archive) (histories : Histories) (sent : Sent) (kept more : List Kept) (session : ℕ) (plan : List Planned) → All (IsRecordDue plan histories) more → IsUnderway before histories sent kept session plan →
+abbrev pub underway_records : (before : Archive) (histories : Histories) (sent : Sent) (kept more : List Kept) (session : ℕ) (plan : List Planned) → All (IsRecordDue plan histories) more → IsUnderway before histories sent kept session plan →
     IsUnderway before histories sent (kept ++ more) session plan
 underway_records before histories sent kept more session plan due h = record {
   earlier = h.earlier;
@@ -193,22 +193,29 @@ no_replacement plan histories side (Edited user edit) h = h
 no_replacement plan histories side (Began session) h = h
 no_replacement plan histories side (Replaced token path since new) h = absurd (none_some h.at)
 
--- it makes its plan
-pub underway_plans : (before : Archive) (plans : Plans) (histories : Histories) (archive : Archive) (sent : Sent) → IsSound plans histories archive sent → (kept : List Kept) → archive ≡ archive_of before kept → (session : ℕ) (plan : List Planned) →
-    IsPlanOf sent session archive.marks plan → IsUnderway before histories sent kept session [] → IsUnderway before histories sent kept session plan
-underway_plans before plans histories archive sent sound kept archive_is session plan is h =
-    let none : h.records ≡ [] = no_records histories h.records h.due in
+-- a plan that is made where none was
+pub quiet_plan : (before : Archive) (plans : Plans) (histories : Histories) (archive : Archive) (sent : Sent) → IsSound plans histories archive sent → (kept : List Kept) → archive ≡ archive_of before kept → (session : ℕ) (had plan : List Planned) → had ≡ [] →
+    IsPlanOf sent session archive.marks plan → (h : IsUnderway before histories sent kept session had) → IsQuietPlan sent histories session (archive_of before h.earlier).marks plan
+quiet_plan before plans histories archive sent sound kept archive_is session had plan empty is h =
+    let none : h.records ≡ [] = no_records histories h.records (subst (λ p. All (IsRecordDue p histories) h.records) empty h.due) in
     let found_is : archive.marks ≡ (archive_of before h.earlier).marks =
     ap (λ a. a.marks) (archive_is ∙ (ap (archive_of before) (h.kept_is ∙ ap (λ ks. h.earlier ++ Session session ∷ ks) none) ∙ archive-append before h.earlier (Session session ∷ []))) in
-    record {
-      earlier = h.earlier;
-      records = h.records;
-      kept_is = h.kept_is;
-      due = subst (All (IsRecordDue plan histories)) (sym none) (All-nil (IsRecordDue plan histories));
-      events = λ side first later e. All-weaker (IsPlannedEvent [] histories side) (IsPlannedEvent plan histories side) (no_replacement plan histories side) later (h.events side first later e);
-      planned = inr (subst (λ marks. IsQuietPlan sent histories session marks plan) found_is
-          (record { is = is; shows = λ side. plan_shows plans histories archive sent sound side session (is.scan side) (is.since side) (is.scanned side) (h.events side) }));
-    }
+    subst (λ marks. IsQuietPlan sent histories session marks plan) found_is (record {
+      is = is;
+      shows = λ side. plan_shows plans histories archive sent sound side session (is.scan side) (is.since side) (is.scanned side)
+          (λ first later e. subst (λ p. All (IsPlannedEvent p histories side) later) empty (h.events side first later e));
+    })
+
+pub underway_plans : (before : Archive) (plans : Plans) (histories : Histories) (archive : Archive) (sent : Sent) → IsSound plans histories archive sent → (kept : List Kept) → archive ≡ archive_of before kept → (session : ℕ) (had plan : List Planned) → had ≡ [] →
+    IsPlanOf sent session archive.marks plan → IsUnderway before histories sent kept session had → IsUnderway before histories sent kept session plan
+underway_plans before plans histories archive sent sound kept archive_is session had plan empty is h = record {
+  earlier = h.earlier;
+  records = h.records;
+  kept_is = h.kept_is;
+  due = subst (All (IsRecordDue plan histories)) (sym (no_records histories h.records (subst (λ p. All (IsRecordDue p histories) h.records) empty h.due))) (All-nil (IsRecordDue plan histories));
+  events = λ side first later e. All-weaker (IsPlannedEvent [] histories side) (IsPlannedEvent plan histories side) (no_replacement plan histories side) later (subst (λ p. All (IsPlannedEvent p histories side) later) empty (h.events side first later e));
+  planned = inr (quiet_plan before plans histories archive sent sound kept archive_is session had plan empty is h);
+}
 
 -- it starts
 pub underway_starts : (before : Archive) (plans : Plans) (histories : Histories) (archive : Archive) (sent : Sent) → IsSound plans histories archive sent → (kept : List Kept) (session : ℕ) → session ≡ archive.last_session + 1 →

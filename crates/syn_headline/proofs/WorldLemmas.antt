@@ -32,11 +32,11 @@ right_left : (es : List Event) → filter_map (event_at Right) (map (λ e. Happe
 right_left [] = refl
 right_left (e ∷ es) = right_left es
 
-kept_events : (which : Which) (es : List Event) → filter_map kept_in (map (λ e. Happened which e) es) ≡ []
+pub kept_events : (which : Which) (es : List Event) → filter_map kept_in (map (λ e. Happened which e) es) ≡ []
 kept_events which [] = refl
 kept_events which (e ∷ es) = kept_events which es
 
-kept_kept : (ks : List Kept) → filter_map kept_in (map (λ k. Kept_by k) ks) ≡ ks
+pub kept_kept : (ks : List Kept) → filter_map kept_in (map (λ k. Kept_by k) ks) ≡ ks
 kept_kept [] = refl
 kept_kept (k ∷ ks) = ap (λ w. k ∷ w) (kept_kept ks)
 
