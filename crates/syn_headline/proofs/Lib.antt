@@ -24,3 +24,4 @@ pub mod UnderwayLemmas
 pub mod KeptLemmas
 pub mod ReportLemmas
 pub mod CourseLemmas
+pub mod WatchLemmas

@@ -309,7 +309,7 @@ module _ (plans : Plans) (old : World) (k : IsKept plans old) (new : World) wher
   running_over : (r : Running) → old.coordinator.running ≡ Some r → RunsOver old.sent old.coordinator.archive (Some r)
   running_over r e = subst (RunsOver old.sent old.coordinator.archive) e k.coordinator.runs_over
 
-  waits_for : (r : Running) → old.coordinator.running ≡ Some r → (from : Which) (number : ℕ) → IsSomeAnd (outstanding r from) (λ sent. sent.number ≡ number) → (waiting : Outstanding) → outstanding r from ≡ Some waiting →
+  pub waits_for : (r : Running) → old.coordinator.running ≡ Some r → (from : Which) (number : ℕ) → IsSomeAnd (outstanding r from) (λ sent. sent.number ≡ number) → (waiting : Outstanding) → outstanding r from ≡ Some waiting →
       Contains old.sent (Asks from r.session number waiting.request)
   waits_for r e from number expected waiting out =
       let number_is : waiting.number ≡ number = subst (λ o. IsSomeAnd o (λ sent. sent.number ≡ number)) out expected in
