@@ -1,15 +1,13 @@
 -- What a step does to the coordinator's session, its archive and its reports.
 use Rattle.std.proofs.Common.{◌≡◌, ◌≢◌, ℕ, List, [], ◌∷◌, ◌++◌, map, filter_map, refl, sym, ap, ◌∙◌, subst, Option, Some, None, append-nil, inl, inr, ◌⊎◌, slice_get}
 use Rattle.std.specs.Prelude.{Contains, IfSome}
-use Rattle.std.proofs.lemmas.List.Elements.{filter_map-append}
 use Rattle.syn_model.specs.Event.{Event}
-use Rattle.syn_model.specs.Archive.{Archive, Kept, CanKeep, after_kept}
-use Rattle.syn_headline.specs.Side.{Request, Reply, Refused}
-use Rattle.syn_model.specs.Refusal.{Device}
+use Rattle.syn_model.specs.Archive.{Archive, Kept, CanKeep}
+use Rattle.syn_headline.specs.Side.{Request, Reply}
 use Rattle.syn_headline.specs.Network.{Which, Left, Right, Sent, Message, Asks, Answers}
 use Rattle.syn_headline.specs.Planning.{Planned}
 use Rattle.syn_headline.specs.Acknowledged.{Ack, Happened, Kept_by, kept_in}
-use Rattle.syn_headline.specs.World.{Up, Machine, At, Coordinator, World, SideMachine, CoordinatorMachine, Running, side_of, set_side, stopped, Step, Edits, Start, Deliver, Tick, Checkpoint, Fail, Stop, Open, Reopen, SideGoes, OpensArchive, archive_opened, archive_recovered, archive_not_opened, archive_not_reopened, TakesRequest, answered, request_failed, request_cut, side_down, IsDueAfter, IsOver, IsExpected, HasPlan, GoesOnFrom, plan_of, StartsFrom, IsNext, IsNothing, AllCanKeep, CoordinatorGoes, Reports, EndsTaken, EndsUnanswered, TakesAnswer, taken, ignored, coordinator_down, Delivers, OpensMachine, cut_off, halted, Steps}
+use Rattle.syn_headline.specs.World.{Up, Machine, At, Coordinator, World, SideMachine, CoordinatorMachine, set_side, Step, Edits, Start, Deliver, Tick, Checkpoint, Fail, Stop, Open, Reopen, OpensArchive, archive_opened, archive_recovered, archive_not_opened, archive_not_reopened, TakesRequest, answered, request_failed, request_cut, side_down, IsDueAfter, IsOver, IsExpected, HasPlan, GoesOnFrom, plan_of, StartsFrom, IsNext, IsNothing, AllCanKeep, CoordinatorGoes, Reports, EndsTaken, EndsUnanswered, TakesAnswer, taken, ignored, coordinator_down, Delivers, OpensMachine, cut_off, halted, Steps}
 use Rattle.syn_headline.specs.Invariant.{Plans, histories_of, IsHarmless, IsKept}
 use Rattle.syn_headline.proofs.WorldLemmas.{kept_events, kept_kept}
 use Rattle.syn_headline.proofs.RunLemmas.{was_sent}

@@ -25,3 +25,5 @@ pub mod KeptLemmas
 pub mod ReportLemmas
 pub mod CourseLemmas
 pub mod WatchLemmas
+pub mod ToldLemmas
+pub mod SessionRuns

@@ -18,7 +18,7 @@ use Rattle.syn_headline.proofs.HarmlessLemmas.{Meets, meets, one, above, below}
 use Rattle.syn_headline.proofs.AnyOrder.{StandAlone, put, put_within, done_stays, put_covers, put_covers_too, directory_stays, HasMore, more_covers, more_stays, more_directory_stays}
 use Rattle.syn_headline.proofs.CarriedOut.{is_to, is_recorded, recorded_of, to_file, recorded_file, directory_more, CoversSide, CoversArchive, IsDoneOn, IsDoneIn}
 
-only_of : {X : Type 0} (x y : X) → Contains (x ∷ []) y → x ≡ y
+pub only_of : {X : Type 0} (x y : X) → Contains (x ∷ []) y → x ≡ y
 only_of x y (zero, h, e) = e
 only_of x y (suc k, h, e) = absurd (omega (arith, h))
 

@@ -1,5 +1,5 @@
 -- What a complete session leaves and reports, where no user's event came since it began.
-use Rattle.std.proofs.Common.{◌≡◌, ℕ, zero, suc, Bool, true, false, not, ◌&&◌, ◌||◌, List, [], ◌∷◌, ◌++◌, map, filter_map, length, refl, sym, ap, ap₂, ◌∙◌, subst, Some, None, true≢false, arith, inl, inr, ◌⊎◌}
+use Rattle.std.proofs.Common.{◌≡◌, ℕ, zero, suc, true, List, [], ◌∷◌, ◌++◌, map, filter_map, length, refl, sym, ap, ◌∙◌, subst, Some, None, true≢false, arith, inl, inr, ◌⊎◌}
 use Rattle.std.specs.Prelude.{Contains, All, Any, ◌↔◌}
 use Rattle.std.specs.List.{cons_option}
 use Rattle.std.proofs.lemmas.List.Elements.{All-contains}
@@ -8,11 +8,9 @@ use Rattle.syn_model.specs.Tree.{IsTree}
 use Rattle.syn_model.specs.Mark.{AreApart}
 use Rattle.syn_model.specs.Event.{Began}
 use Rattle.syn_model.specs.History.{History, IsHistory, tree_of}
-use Rattle.syn_model.specs.Dirty.{dirty}
-use Rattle.syn_model.specs.Reconcile.{is_relevant, is_directory_in_both, is_alike, is_settled}
 use Rattle.syn_model.specs.Archive.{Archive, Kept, Session, RecordedDir, archive_of}
 use Rattle.syn_model.specs.Decision.{Item, ToLeft, ToRight, MarkSame, MarkDir, Conflict, path_of}
-use Rattle.syn_model.specs.Plan.{HasDepth, most_names, CanBePlanned, scan_of, carried_out, IsReconciled, IsConflict}
+use Rattle.syn_model.specs.Plan.{HasDepth, most_names, CanBePlanned, carried_out, IsReconciled, IsConflict}
 use Rattle.syn_headline.specs.Network.{Which, Left, Right, Sent}
 use Rattle.syn_headline.specs.Planning.{Planned}
 use Rattle.syn_headline.specs.Report.{Report, IsRecordOf, IsSettled, conflict_at}
@@ -88,14 +86,6 @@ settled_marks : (kept : List Kept) (report : Report) (path : Path) → report.re
 settled_marks kept report path none (inl is) = is
 settled_marks kept report path none (inr refused) = absurd (none_refused report path none refused)
 
-unsettled : (left right same : Bool) → (not (left && right) || same) ≡ false → (left ≡ true) × (right ≡ true) × (same ≡ false)
-unsettled true true same e = (refl, refl, e)
-unsettled true false same e = absurd (true≢false e)
-unsettled false right same e = absurd (true≢false e)
-
-settled_false : (left right same : Bool) → left ≡ true → right ≡ true → same ≡ false → (not (left && right) || same) ≡ false
-settled_false left right same l r a = ap₂ (λ x y. not (x && y) || same) l r ∙ a
-
 module _ (before : Archive) (whole : IsTree before.marks) (shallow : HasDepth most_names before.marks) (plans : Plans) (histories : Histories) (archive : Archive) (sent : Sent) (sound : IsSound plans histories archive sent)
     (kept : List Kept) (can : AllCanKeep before kept) (session : ℕ) (plan : List Planned) (h : IsUnderway before histories sent kept session plan) (made : IsQuietPlan sent histories session (archive_of before h.earlier).marks plan)
     (report : Report) (settled : All (λ planned. IsSettled h.records report planned.item) plan) (none : report.refused ≡ []) (conflicts : report.conflicts ≡ filter_map (λ planned. conflict_at planned.item) plan)
@@ -153,13 +143,6 @@ module _ (before : Archive) (whole : IsTree before.marks) (shallow : HasDepth mo
       (subst (IsReconciled (tree_of (first Left)) (tree_of (first Right)) found.marks) (sym trees_are)
       (plan_reconciles (tree_of (first Left)) (tree_of (first Right)) found.marks (plannable Left) (plannable Right) archive_plannable apart))
 
-  abbrev dirty_on : Which → Path → Bool
-  dirty_on side = dirty (scan_of (tree_of (first side))) found.marks
-
-  abbrev IsInConflict : Path → Type 0
-  IsInConflict path = (is_relevant (tree_of (first Left)) (tree_of (first Right)) path ≡ true) × (is_directory_in_both (tree_of (first Left)) (tree_of (first Right)) path ≡ false)
-      × (is_settled (tree_of (first Left)) (tree_of (first Right)) (dirty_on Left) (dirty_on Right) path ≡ false)
-
   conflicts_planned : (path : Path) → Contains items_of_plan (Conflict path) ↔ IsConflict (tree_of (first Left)) (tree_of (first Right)) found.marks path
   conflicts_planned path = conflicts_are_planned (tree_of (first Left)) (tree_of (first Right)) found.marks (plannable Left) (plannable Right) archive_plannable path
 
@@ -167,12 +150,8 @@ module _ (before : Archive) (whole : IsTree before.marks) (shallow : HasDepth mo
   conflicts_are = conflicts ∙ (filter_map-map plan ∙ ap (filter_map conflict_at) plan_is)
 
   -- and the report has its conflicts
-  pub conflicts_reported : (path : Path) → Contains report.conflicts path ↔ IsInConflict path
+  pub conflicts_reported : (path : Path) → Contains report.conflicts path ↔ IsConflict (tree_of (first Left)) (tree_of (first Right)) found.marks path
   conflicts_reported path = (
-    λ c.
-        let conflict = (conflicts_planned path).0 (conflicts_from items_of_plan path (subst (λ w. Contains w path) conflicts_are c)) in
-        (conflict.relevant, conflict.no_directory, settled_false (dirty_on Left path) (dirty_on Right path) (is_alike (tree_of (first Left)) (tree_of (first Right)) path) conflict.left_dirty conflict.right_dirty conflict.unlike),
-    λ c.
-        let u = unsettled (dirty_on Left path) (dirty_on Right path) (is_alike (tree_of (first Left)) (tree_of (first Right)) path) c.2 in
-        subst (λ w. Contains w path) (sym conflicts_are) (conflicts_to items_of_plan path ((conflicts_planned path).1 (record { relevant = c.0; left_dirty = u.0; right_dirty = u.1; no_directory = c.1; unlike = u.2 }))),
+    λ c. (conflicts_planned path).0 (conflicts_from items_of_plan path (subst (λ w. Contains w path) conflicts_are c)),
+    λ c. subst (λ w. Contains w path) (sym conflicts_are) (conflicts_to items_of_plan path ((conflicts_planned path).1 c)),
   )

@@ -1,16 +1,14 @@
 -- What each step keeps of the session that runs and of the reports.
-use Rattle.std.proofs.Common.{◌≡◌, ◌≢◌, ◌≤◌, ◌+◌, ℕ, zero, suc, List, [], ◌∷◌, ◌++◌, map, filter_map, length, take, fold, refl, sym, ap, ap₂, ◌∙◌, subst, Option, Some, None, append_assoc, append-nil, arith, inl, inr, ◌⊎◌, slice_get}
-use Rattle.std.specs.Prelude.{Contains, All, IfSome, ◌↔◌}
-use Rattle.std.proofs.lemmas.List.Elements.{All-head, All-tail, All-nil, All-cons, All-weaker, filter_map-append}
+use Rattle.std.proofs.Common.{◌≡◌, ◌≤◌, ◌+◌, ℕ, List, [], ◌∷◌, ◌++◌, map, filter_map, length, refl, sym, ap, ◌∙◌, subst, Option, Some, None, append-nil, arith, inl, inr, slice_get}
+use Rattle.std.specs.Prelude.{Contains, All, IfSome}
+use Rattle.std.proofs.lemmas.List.Elements.{All-head, All-tail, All-weaker, filter_map-append}
 use Rattle.syn_model.specs.Path.{Path}
-use Rattle.syn_model.specs.Tree.{IsTree}
 use Rattle.syn_model.specs.History.{is_quiet}
-use Rattle.syn_model.specs.Archive.{Archive, Kept, Session, Recorded, RecordedDir, archive_of}
-use Rattle.syn_model.specs.Plan.{HasDepth, most_names}
-use Rattle.syn_headline.specs.Side.{Request, Reply, Done, Replace}
+use Rattle.syn_model.specs.Archive.{Archive, Kept, Session, Recorded, archive_of}
+use Rattle.syn_headline.specs.Side.{Reply, Done, Replace}
 use Rattle.syn_headline.specs.Network.{Which, other, Sent, Asks, Answers}
-use Rattle.syn_headline.specs.Planning.{Planned, seen_on, IsPlanOf, WritesTo}
-use Rattle.syn_headline.specs.Acknowledged.{Ack, Kept_by, kept_in, Stores, stores_after}
+use Rattle.syn_headline.specs.Planning.{Planned, seen_on, WritesTo}
+use Rattle.syn_headline.specs.Acknowledged.{Ack, Kept_by, kept_in, Stores}
 use Rattle.syn_headline.specs.World.{World, Running, Outstanding, outstanding, IsExpected, IsOver, IsDue, done, same, directory, IsDueAfter, HasPlan, GoesOnAs, goes_on, ended, GoesOnFrom, plan_of, StartsFrom, RunsOver, IsNext, IsNothing, AllCanKeep, CoordinatorGoes}
 use Rattle.syn_headline.specs.Headline.{StandsFor}
 use Rattle.syn_headline.specs.Invariant.{Plans, Histories, histories_of, IsSound, IsKept}
@@ -20,7 +18,7 @@ use Rattle.syn_headline.proofs.RunLemmas.{Advances, HasItsPlan, waits_for}
 use Rattle.syn_headline.proofs.CourseLemmas.{Course, beside, starts, ticks, takes}
 use Rattle.syn_headline.proofs.CompleteLemmas.{IsRecordDue, carried, alike, marked}
 use Rattle.syn_headline.proofs.UnderwayLemmas.{IsUnderway, underway_moves, underway_says, underway_records, underway_plans, underway_starts}
-use Rattle.syn_headline.proofs.KeptLemmas.{can-append, session_next, not_again}
+use Rattle.syn_headline.proofs.KeptLemmas.{can-append, not_again}
 
 -- what the coordinator kept since before the run
 abbrev pub all_kept : World → List Kept

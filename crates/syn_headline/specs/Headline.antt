@@ -1,5 +1,5 @@
 -- What is proved of whole runs.
-use Rattle.std.specs.Prelude.{ℕ, ◌≡◌, ◌≤◌, ◌↔◌, ◌+◌, drop, true, false, List, [], ◌∷◌, ◌++◌, take, length, None, All, Contains, IfSome}
+use Rattle.std.specs.Prelude.{ℕ, ◌≡◌, ◌≤◌, ◌↔◌, ◌+◌, drop, false, List, [], ◌∷◌, ◌++◌, take, length, None, All, Contains, IfSome}
 use Rattle.syn_model.specs.Path.{Bytes, Path}
 use Rattle.syn_model.specs.Tree.{Tree, IsTree, subtree}
 use Rattle.syn_model.specs.Event.{Token, is_same_token, Event, Edited, Began, Replaced, touches}
@@ -7,7 +7,8 @@ use Rattle.syn_model.specs.History.{History, IsHistory, tree_of, tree_at, last_s
 use Rattle.syn_model.specs.Mark.{mark, AreApart}
 use Rattle.syn_model.specs.Archive.{Archive, new_archive, Session, BothHeld}
 use Rattle.syn_model.specs.Dirty.{Paths, dirty}
-use Rattle.syn_model.specs.Reconcile.{is_directory_in_both, is_relevant, is_settled, IsSynchronization, IsReconciledArchive}
+use Rattle.syn_model.specs.Plan.{IsConflict}
+use Rattle.syn_model.specs.Reconcile.{IsSynchronization, IsReconciledArchive}
 use Rattle.syn_headline.specs.Network.{Which, Left, Right, other, AsksNothingTwice}
 use Rattle.syn_headline.specs.Acknowledged.{Ack, Happened, Kept_by, Stores, history_of, stores_after, Grown, ArchiveGrown, IsLegal}
 use Rattle.syn_headline.specs.Report.{Report, Complete}
@@ -99,11 +100,8 @@ CompleteSessionsSynchronize before world =
 
 -- Its conflicts are the relevant paths that are dirty on both sides, no directory on both and unequal
 abbrev pub ReportsItsConflicts : Stores → World → Type 0
-ReportsItsConflicts before world =
-    AreApart (IsOfRun world) → (report : Report) (found left : Stores) → IsQuietSession before world report found left → (path : Path) →
-    let a = tree_of found.left in let b = tree_of found.right in
-    Contains report.conflicts path ↔
-    ((is_relevant a b path ≡ true) × (is_directory_in_both a b path ≡ false) × (is_settled a b (dirty_in found.left found.archive) (dirty_in found.right found.archive) path ≡ false))
+ReportsItsConflicts before world = (report : Report) (found left : Stores) → IsQuietSession before world report found left → (path : Path) →
+    Contains report.conflicts path ↔ IsConflict (tree_of found.left) (tree_of found.right) found.archive.marks path
 
 abbrev pub IsOtherToken : Token → Event → Type 0
 IsOtherToken token (Edited user edit) = Unit {0}
@@ -178,3 +176,7 @@ RunsLeavePair = (old new : World) (steps : List Step) → IsStart old → Runs o
 -- a session that runs waits for an answer, and nothing was asked twice in one
 abbrev pub RunsOwe : Type 0
 RunsOwe = (old new : World) (steps : List Step) → IsStart old → Runs old steps new → IfSome new.coordinator.running Waits × AsksNothingTwice new.sent
+
+-- a complete session without edits leaves the synchronization of what it found, and reports its conflicts
+abbrev pub RunsSynchronize : Type 0
+RunsSynchronize = (old new : World) (steps : List Step) → IsStart old → Runs old steps new → CompleteSessionsSynchronize (stores_of old) new × ReportsItsConflicts (stores_of old) new

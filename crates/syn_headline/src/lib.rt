@@ -3,7 +3,7 @@
 
 ghost use Rattle.syn_headline.specs.Laws.{ServesAllowed, RepeatsAreDone, LaterAreOld};
 ghost use Rattle.syn_headline.specs.Rows.{SideRows};
-ghost use Rattle.syn_headline.specs.Headline.{RunsStand, RunsReplaceLegally, RunsUseTokensOnce, RunsHoldArchive, RunsLeavePair, RunsOwe, FormattedIsPair};
+ghost use Rattle.syn_headline.specs.Headline.{RunsStand, RunsReplaceLegally, RunsUseTokensOnce, RunsHoldArchive, RunsLeavePair, RunsOwe, RunsSynchronize, FormattedIsPair};
 
 /// A step of a side leaves its history or adds one allowed event, and answers as the worked examples say.
 pub fn side_laws()
@@ -22,4 +22,5 @@ pub fn run_laws()
     ensures archive { RunsHoldArchive }
     ensures pair { RunsLeavePair }
     ensures owe { RunsOwe }
+    ensures synchronize { RunsSynchronize }
 {}
