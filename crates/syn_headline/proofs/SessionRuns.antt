@@ -15,7 +15,7 @@ use Rattle.syn_headline.specs.Network.{Which, Left, Right}
 use Rattle.syn_headline.specs.Acknowledged.{Ack, Kept_by, event_at, kept_in, Stores, stores_after}
 use Rattle.syn_headline.specs.Report.{Report}
 use Rattle.syn_headline.specs.World.{World, Step, Runs, AllCanKeep}
-use Rattle.syn_headline.specs.Headline.{stores_of, IsPair, IsStart, BeganAfter, IsQuietSession, IsOfRun, Synchronizes, StandsFor, RunsSynchronize}
+use Rattle.syn_headline.specs.Headline.{stores_of, IsPair, IsStart, BeganAfter, IsQuietSession, IsOfRun, Synchronizes, StandsFor, CompleteSessionsSynchronize, ReportsItsConflicts, OfEachRun}
 use Rattle.syn_headline.specs.Invariant.{Plans, IsKept}
 use Rattle.syn_model.proofs.PathLemmas.{none_some}
 use Rattle.syn_model.proofs.MarkLemmas.{get-mark}
@@ -115,9 +115,11 @@ module _ (old new : World) (steps : List Step) (s : IsStart old) (g : Runs old s
     synchronizes apart = subst (Synchronizes found) (sym q.at_end)
         ((told.worth found archive_is left_began right_began).0 (λ t u a b is_t is_u has_t has_u same. apart t u a b (of_run t is_t) (of_run u is_u) has_t has_u same))
 
--- a complete session without edits leaves the synchronization of what it found, and reports its conflicts
-pub runs_synchronize : RunsSynchronize
-runs_synchronize old new steps s g = (
-  λ apart report found left q. synchronizes old new steps s g report found left q apart,
-  λ report found left q. ((told old new steps s g report found left q).worth found (archive_is old new steps s g report found left q) (left_began old new steps s g report found left q) (right_began old new steps s g report found left q)).1,
-)
+-- a complete session without edits leaves the synchronization of what it found
+pub runs_synchronize : OfEachRun CompleteSessionsSynchronize
+runs_synchronize old new steps s g apart report found left q = synchronizes old new steps s g report found left q apart
+
+-- and reports its conflicts
+pub runs_report_conflicts : OfEachRun ReportsItsConflicts
+runs_report_conflicts old new steps s g report found left q =
+    ((told old new steps s g report found left q).worth found (archive_is old new steps s g report found left q) (left_began old new steps s g report found left q) (right_began old new steps s g report found left q)).1

@@ -9,7 +9,7 @@ use Rattle.syn_model.specs.Archive.{CanKeep, Held}
 use Rattle.syn_headline.specs.Network.{Which, Left, Right, Sent, Message}
 use Rattle.syn_headline.specs.Acknowledged.{Ack, Happened, Stores, stores_after, IsLegal}
 use Rattle.syn_headline.specs.World.{Up, World, Running, side_of, Step, Waits, RunsOver, Runs}
-use Rattle.syn_headline.specs.Headline.{stores_of, IsStart, EachReplacementIsLegal, StandsFor, RunsReplaceLegally, RunsUseTokensOnce, RunsOwe}
+use Rattle.syn_headline.specs.Headline.{stores_of, IsStart, EachReplacementIsLegal, EachTokenOnce, StandsFor, OfEachRun, Owes}
 use Rattle.syn_headline.specs.Invariant.{Plans, histories_of, IsHarmless, IsSoundStaging, IsSoundEvent, IsSoundSide, IsKept}
 use Rattle.syn_model.proofs.PathLemmas.{none_some}
 use Rattle.syn_headline.proofs.PlanLemmas.{answered-more}
@@ -113,7 +113,7 @@ start_stands old e = subst (λ acks. StandsFor (stores_of old) (record old { ack
 })
 
 -- in every run each replacement is legal
-pub runs_replace_legally : RunsReplaceLegally
+pub runs_replace_legally : OfEachRun EachReplacementIsLegal
 runs_replace_legally old new steps s g = runs_legally (stores_of old) steps no_plans old new (start_kept old s) (start_stands old s.nothing_yet.1)
     (λ earlier later side token path since u e. absurd (not_nothing earlier later _ (sym s.nothing_yet.1 ∙ e))) g
 
@@ -122,12 +122,12 @@ pub run_kept : (steps : List Step) (plans : Plans) (old new : World) → IsKept 
 run_kept [] plans old new k e = (plans, subst (IsKept plans) (sym e) k)
 run_kept (step ∷ steps) plans old new k g = let a = step_advances plans old k g.0 step g.1 in run_kept steps a.later g.0 new a.kept g.2
 
-pub runs_use_tokens_once : RunsUseTokensOnce
+pub runs_use_tokens_once : OfEachRun EachTokenOnce
 runs_use_tokens_once old new steps s g side earlier later token path since u e =
     token_once (histories_of new side) earlier later token path since u ((run_kept steps no_plans old new (start_kept old s) g).1.sound.lawful side) e
 
 -- and what a session owes
-pub runs_owe : RunsOwe
+pub runs_owe : OfEachRun Owes
 runs_owe old new steps s g =
     let k = (run_kept steps no_plans old new (start_kept old s) g).1 in
     (waits new.coordinator.running k.coordinator.runs_over, k.sound.repeats)

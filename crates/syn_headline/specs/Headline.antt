@@ -109,8 +109,8 @@ IsOtherToken token (Began session) = Unit {0}
 IsOtherToken token (Replaced used path since new) = is_same_token used token ≡ false
 
 -- Each token has one replacement at most
-abbrev pub EachTokenOnce : World → Type 0
-EachTokenOnce world =
+abbrev pub EachTokenOnce : Stores → World → Type 0
+EachTokenOnce before world =
     (side : Which) (earlier later : History) (token : Token) (path : Path) (since : ℕ) (new : Tree) →
     (side_of world side).side.history ≡ earlier ++ Replaced token path since new ∷ later → All (IsOtherToken token) later
 
@@ -152,31 +152,17 @@ RunsStand = (before : Stores) (old new : World) (steps : List Step) → Runs old
 abbrev pub formatted : Stores
 formatted = record { left = []; right = []; archive = new_archive }
 
-abbrev pub FormattedIsPair : Type 0
-FormattedIsPair = IsPair formatted
-
--- In every run from a world that has just been opened, with stops and failing devices, each replacement is legal
-abbrev pub RunsReplaceLegally : Type 0
-RunsReplaceLegally = (old new : World) (steps : List Step) → IsStart old → Runs old steps new → EachReplacementIsLegal (stores_of old) new
-
-abbrev pub RunsUseTokensOnce : Type 0
-RunsUseTokensOnce = (old new : World) (steps : List Step) → IsStart old → Runs old steps new → EachTokenOnce new
-
--- and each archive entry was held by both sides, whatever an opening then gives
-abbrev pub RunsHoldArchive : Type 0
-RunsHoldArchive = (old new : World) (steps : List Step) → IsStart old → Runs old steps new → EachEntryWasHeld (stores_of old) new
+-- what holds of every run from a world that has just been opened, with stops of any machine and failing devices
+abbrev pub OfEachRun : (Stores → World → Type 0) → Type 0
+OfEachRun Holds = (old new : World) (steps : List Step) → IsStart old → Runs old steps new → Holds (stores_of old) new
 
 -- what an opening then gives is a pair again
-abbrev pub RunsLeavePair : Type 0
-RunsLeavePair = (old new : World) (steps : List Step) → IsStart old → Runs old steps new →
-    let now = stores_after (stores_of old) new.acknowledged in
+abbrev pub LeavesPair : Stores → World → Type 0
+LeavesPair before new =
+    let now = stores_after before new.acknowledged in
     (left right : History) (archive : Archive) → Grown new.left.writing now.left left → Grown new.right.writing now.right right →
     ArchiveGrown new.coordinator.writing now.archive archive → IsPair (record { left = left; right = right; archive = archive })
 
 -- a session that runs waits for an answer, and nothing was asked twice in one
-abbrev pub RunsOwe : Type 0
-RunsOwe = (old new : World) (steps : List Step) → IsStart old → Runs old steps new → IfSome new.coordinator.running Waits × AsksNothingTwice new.sent
-
--- a complete session without edits leaves the synchronization of what it found, and reports its conflicts
-abbrev pub RunsSynchronize : Type 0
-RunsSynchronize = (old new : World) (steps : List Step) → IsStart old → Runs old steps new → CompleteSessionsSynchronize (stores_of old) new × ReportsItsConflicts (stores_of old) new
+abbrev pub Owes : Stores → World → Type 0
+Owes before new = IfSome new.coordinator.running Waits × AsksNothingTwice new.sent
