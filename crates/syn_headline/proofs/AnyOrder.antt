@@ -30,7 +30,7 @@ goes_on_at_directory false false c d false true g p x h = cc
 goes_on_at_directory false false c d false false true p x h = cc
 goes_on_at_directory false false c d false false false p x h = cc
 
-not_below : (l r : Scan) (o : Tree) (x : Item) → IsDecidedAt l r o x → is_mark_dir x ≡ false → GoesOn (decision l r o (path_of x)) → ⊥
+pub not_below : (l r : Scan) (o : Tree) (x : Item) → IsDecidedAt l r o x → is_mark_dir x ≡ false → GoesOn (decision l r o (path_of x)) → ⊥
 not_below l r o x d file on = elim d.decided as (λ _. ⊥) [
   | inl e ↦ subst GoesOn e on
   | inr e ↦
@@ -50,7 +50,7 @@ plan_stands_alone l r o x y rest in_x in_y file at = alone rest at
     alone (n ∷ r') e = absurd (not_below l r o x (decided x in_x) file ((decided y in_y).reached (path_of x) n r' e))
 
 -- of two paths above one, one is above the other
-two_above : (p q a b : Path) → p ++ a ≡ q ++ b → ((r : Path) × (q ≡ p ++ r)) ⊎ ((r : Path) × (p ≡ q ++ r))
+pub two_above : (p q a b : Path) → p ++ a ≡ q ++ b → ((r : Path) × (q ≡ p ++ r)) ⊎ ((r : Path) × (p ≡ q ++ r))
 two_above [] q a b e = inl (q, refl)
 two_above (n ∷ p) [] a b e = inr (n ∷ p, refl)
 two_above (n ∷ p) (m ∷ q) a b e =

@@ -27,3 +27,5 @@ pub mod CourseLemmas
 pub mod WatchLemmas
 pub mod ToldLemmas
 pub mod SessionRuns
+pub mod AlikeLemmas
+pub mod CarriedLemmas

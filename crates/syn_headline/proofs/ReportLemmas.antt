@@ -4,8 +4,9 @@ use Rattle.std.specs.Prelude.{Contains, All, Any, ◌↔◌}
 use Rattle.std.specs.List.{cons_option}
 use Rattle.std.proofs.lemmas.List.Elements.{All-contains}
 use Rattle.syn_model.specs.Path.{Path}
-use Rattle.syn_model.specs.Tree.{IsTree}
-use Rattle.syn_model.specs.Mark.{AreApart}
+use Rattle.syn_model.specs.Tree.{IsTree, subtree}
+use Rattle.syn_model.specs.Mark.{mark, AreApart}
+use Rattle.syn_model.specs.Reconcile.{is_relevant}
 use Rattle.syn_model.specs.Event.{Began}
 use Rattle.syn_model.specs.History.{History, IsHistory, tree_of}
 use Rattle.syn_model.specs.Archive.{Archive, Kept, Session, RecordedDir, archive_of}
@@ -24,7 +25,8 @@ use Rattle.syn_model.proofs.ResultLemmas.{plan_reconciles}
 use Rattle.syn_model.proofs.PlanCover.{conflicts_are_planned}
 use Rattle.syn_headline.proofs.MoveLemmas.{all_front}
 use Rattle.syn_headline.proofs.WorldLemmas.{archive-append}
-use Rattle.syn_headline.proofs.CarriedOut.{is_recorded}
+use Rattle.syn_headline.proofs.CarriedOut.{is_recorded, plan_is_carried}
+use Rattle.syn_headline.proofs.AlikeLemmas.{alike_recorded}
 use Rattle.syn_headline.proofs.CompleteLemmas.{items, items_are, complete_carries_out}
 use Rattle.syn_headline.proofs.QuietScans.{ShowsTree}
 use Rattle.syn_headline.proofs.UnderwayLemmas.{IsQuietPlan, IsUnderway}
@@ -155,3 +157,12 @@ module _ (before : Archive) (whole : IsTree before.marks) (shallow : HasDepth mo
     λ c. (conflicts_planned path).0 (conflicts_from items_of_plan path (subst (λ w. Contains w path) conflicts_are c)),
     λ c. subst (λ w. Contains w path) (sym conflicts_are) (conflicts_to items_of_plan path ((conflicts_planned path).1 c)),
   )
+
+  -- a relevant path where both sides had the same is recorded so
+  pub alike_marked : (path : Path) → is_relevant (tree_of (first Left)) (tree_of (first Right)) path ≡ true → subtree (tree_of (first Left)) path ≡ subtree (tree_of (first Right)) path →
+      subtree (archive_of before kept).marks path ≡ mark (subtree (tree_of (first Left)) path)
+  alike_marked path relevant same =
+      let sides = λ (side : Which). tree_of (first side) in
+      let now = carried_out (record { left = tree_of (first Left); right = tree_of (first Right); archive = found.marks }) items_of_plan in
+      ap (λ a. subtree a.marks path) (sym final_archive) ∙ (ap (λ t. subtree t.archive path) trees_are
+      ∙ alike_recorded sides found.marks plannable archive_plannable now (plan_is_carried sides found.marks archive_plannable.parents) path relevant same)

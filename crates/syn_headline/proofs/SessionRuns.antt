@@ -1,29 +1,31 @@
 -- What the sessions of whole runs leave.
-use Rattle.std.proofs.Common.{◌≡◌, ◌+◌, List, [], ◌∷◌, ◌++◌, filter_map, length, take, drop, refl, sym, ap, ◌∙◌, subst, Some, None, option_map, append_assoc, arith, inl, inr, ◌⊎◌}
-use Rattle.std.specs.Prelude.{Contains}
+use Rattle.std.proofs.Common.{true, ◌≡◌, ◌+◌, List, [], ◌∷◌, ◌++◌, filter_map, length, take, drop, refl, sym, ap, ◌∙◌, subst, Some, None, option_map, append_assoc, arith, inl, inr, ◌⊎◌}
+use Rattle.std.specs.Prelude.{Contains, ◌↔◌}
 use Rattle.std.specs.FinMap.{get}
 use Rattle.std.proofs.lemmas.List.{take-append-drop}
 use Rattle.std.proofs.lemmas.List.Elements.{filter_map-append}
 use Rattle.std.proofs.Math.Seq.{take-append_seam}
-use Rattle.syn_model.specs.Tree.{Tree, IsTree}
-use Rattle.syn_model.specs.Mark.{mark_of, AreApart}
+use Rattle.syn_model.specs.Path.{Path}
+use Rattle.syn_model.specs.Tree.{Tree, IsTree, subtree}
+use Rattle.syn_model.specs.Mark.{mark, mark_of, AreApart}
+use Rattle.syn_model.specs.Reconcile.{is_relevant}
 use Rattle.syn_model.specs.Event.{Began}
-use Rattle.syn_model.specs.History.{History, tree_of, tree_at}
+use Rattle.syn_model.specs.History.{History, IsHistory, tree_of, tree_at}
 use Rattle.syn_model.specs.Archive.{Session, archive_of}
-use Rattle.syn_model.specs.Plan.{HasDepth, most_names}
+use Rattle.syn_model.specs.Plan.{IsConflict, HasDepth, most_names}
 use Rattle.syn_headline.specs.Network.{Which, Left, Right}
-use Rattle.syn_headline.specs.Acknowledged.{Ack, Kept_by, event_at, kept_in, Stores, stores_after}
+use Rattle.syn_headline.specs.Acknowledged.{Ack, Kept_by, event_at, kept_in, Stores, history_of, stores_after}
 use Rattle.syn_headline.specs.Report.{Report}
 use Rattle.syn_headline.specs.World.{World, Step, Runs, AllCanKeep}
 use Rattle.syn_headline.specs.Headline.{stores_of, IsPair, IsStart, BeganAfter, IsQuietSession, IsOfRun, Synchronizes, StandsFor, CompleteSessionsSynchronize, ReportsItsConflicts, OfEachRun}
-use Rattle.syn_headline.specs.Invariant.{Plans, IsKept}
+use Rattle.syn_headline.specs.Invariant.{Plans, histories_of, IsKept}
 use Rattle.syn_model.proofs.PathLemmas.{none_some}
 use Rattle.syn_model.proofs.MarkLemmas.{get-mark}
 use Rattle.syn_model.proofs.FitsLemmas.{replica_depth}
-use Rattle.syn_headline.proofs.MoveLemmas.{tree_at_fits}
+use Rattle.syn_headline.proofs.MoveLemmas.{tree_at_fits, all_front}
 use Rattle.syn_headline.proofs.WorldLemmas.{step_stands, run_stands}
 use Rattle.syn_headline.proofs.RunLemmas.{step_advances}
-use Rattle.syn_headline.proofs.WholeRuns.{no_plans, start_kept, start_stands}
+use Rattle.syn_headline.proofs.WholeRuns.{no_plans, start_kept, start_stands, run_kept}
 use Rattle.syn_headline.proofs.KeptLemmas.{one_start}
 use Rattle.syn_headline.proofs.CourseLemmas.{course}
 use Rattle.syn_headline.proofs.WatchLemmas.{all_kept, RunsWell, runs_well, all_can}
@@ -98,22 +100,45 @@ module _ (old new : World) (steps : List Step) (s : IsStart old) (g : Runs old s
     right_began : BeganAfter report.session found.right (stores_after before acks).right
     right_began = subst (λ w. BeganAfter report.session found.right w.right) q.at_end q.right_side
 
+    -- a history of the run goes on from what it found
+    goes_on : (which : Which) (start first whole : History) → whole ≡ start ++ filter_map (event_at which) new.acknowledged → BeganAfter report.session first (start ++ filter_map (event_at which) acks) → (more : History) × (whole ≡ first ++ more)
+    goes_on which start first whole is began =
+        let more = filter_map (event_at which) (drop q.acks new.acknowledged) in (
+          (Began report.session ∷ began.later) ++ more,
+          is ∙ (ap (λ w. start ++ filter_map (event_at which) w) (sym (take-append-drop q.acks new.acknowledged)) ∙ (ap (λ w. start ++ w) (filter_map-append (event_at which) acks (drop q.acks new.acknowledged))
+              ∙ (sym (append_assoc start (filter_map (event_at which) acks) more) ∙ (ap (λ w. w ++ more) began.begun ∙ append_assoc first (Began report.session ∷ began.later) more)))),
+        )
+
+    pub found_then : (which : Which) → (more : History) × (histories_of new which ≡ history_of found which ++ more)
+    found_then Left = goes_on Left before.left found.left new.left.side.history stands.left left_began
+    found_then Right = goes_on Right before.right found.right new.right.side.history stands.right right_began
+
     -- what it found was there at some moment of the run
-    found_at : (which : Which) (start first whole : History) → whole ≡ start ++ filter_map (event_at which) new.acknowledged → BeganAfter report.session first (start ++ filter_map (event_at which) acks) → tree_of first ≡ tree_at whole (length first)
-    found_at which start first whole is began =
-        let more = filter_map (event_at which) (drop q.acks new.acknowledged) in
-        let split : whole ≡ first ++ ((Began report.session ∷ began.later) ++ more) =
-        is ∙ (ap (λ w. start ++ filter_map (event_at which) w) (sym (take-append-drop q.acks new.acknowledged)) ∙ (ap (λ w. start ++ w) (filter_map-append (event_at which) acks (drop q.acks new.acknowledged))
-        ∙ (sym (append_assoc start (filter_map (event_at which) acks) more) ∙ (ap (λ w. w ++ more) began.begun ∙ append_assoc first (Began report.session ∷ began.later) more)))) in
-        sym (ap (λ w. tree_at w (length first)) split ∙ ap tree_of (take-append_seam first ((Began report.session ∷ began.later) ++ more)))
+    found_at : (which : Which) → tree_of (history_of found which) ≡ tree_at (histories_of new which) (length (history_of found which))
+    found_at which =
+        let then = found_then which in
+        sym (ap (λ w. tree_at w (length (history_of found which))) then.1 ∙ ap tree_of (take-append_seam (history_of found which) then.0))
+
+    -- and was a history
+    pub found_lawful : (which : Which) → IsHistory (history_of found which)
+    found_lawful which =
+        let then = found_then which in
+        all_front [] (history_of found which) then.0 (subst IsHistory then.1 ((run_kept steps no_plans old new (start_kept old s) g).1.sound.lawful which))
 
     of_run : (tree : Tree) → (tree ≡ tree_of found.left) ⊎ (tree ≡ tree_of found.right) → IsOfRun new tree
-    of_run tree (inl is) = (Left, length found.left, is ∙ found_at Left before.left found.left new.left.side.history stands.left left_began)
-    of_run tree (inr is) = (Right, length found.right, is ∙ found_at Right before.right found.right new.right.side.history stands.right right_began)
+    of_run tree (inl is) = (Left, length found.left, is ∙ found_at Left)
+    of_run tree (inr is) = (Right, length found.right, is ∙ found_at Right)
 
     synchronizes : AreApart (IsOfRun new) → Synchronizes found left
     synchronizes apart = subst (Synchronizes found) (sym q.at_end)
         ((told.worth found archive_is left_began right_began).0 (λ t u a b is_t is_u has_t has_u same. apart t u a b (of_run t is_t) (of_run u is_u) has_t has_u same))
+
+    has_conflicts : (path : Path) → Contains report.conflicts path ↔ IsConflict (tree_of found.left) (tree_of found.right) found.archive.marks path
+    has_conflicts = (told.worth found archive_is left_began right_began).1
+
+    -- a relevant path where both sides had the same is marked
+    pub marks_alike : (path : Path) → is_relevant (tree_of found.left) (tree_of found.right) path ≡ true → subtree (tree_of found.left) path ≡ subtree (tree_of found.right) path → subtree left.archive.marks path ≡ mark (subtree (tree_of found.left) path)
+    marks_alike path relevant same = ap (λ w. subtree w.archive.marks path) q.at_end ∙ (told.worth found archive_is left_began right_began).2 path relevant same
 
 -- a complete session without edits leaves the synchronization of what it found
 pub runs_synchronize : OfEachRun CompleteSessionsSynchronize
@@ -121,5 +146,4 @@ runs_synchronize old new steps s g apart report found left q = synchronizes old 
 
 -- and reports its conflicts
 pub runs_report_conflicts : OfEachRun ReportsItsConflicts
-runs_report_conflicts old new steps s g report found left q =
-    ((told old new steps s g report found left q).worth found (archive_is old new steps s g report found left q) (left_began old new steps s g report found left q) (right_began old new steps s g report found left q)).1
+runs_report_conflicts old new steps s g report found left q = has_conflicts old new steps s g report found left q

@@ -1,12 +1,13 @@
 -- What a complete report tells of a session without edits.
-use Rattle.std.proofs.Common.{◌≡◌, ◌≤◌, ◌+◌, ℕ, List, [], ◌∷◌, ◌++◌, filter_map, length, take, fold, sym, ap, ◌∙◌, subst, Some, arith, inl, inr, ◌⊎◌}
+use Rattle.std.proofs.Common.{◌≡◌, ◌≤◌, ◌+◌, ℕ, true, List, [], ◌∷◌, ◌++◌, filter_map, length, take, fold, sym, ap, ◌∙◌, subst, Some, arith, inl, inr, ◌⊎◌}
 use Rattle.std.specs.Prelude.{Contains, All, ◌↔◌}
 use Rattle.std.proofs.lemmas.List.{take-append-le, length-append}
 use Rattle.std.proofs.lemmas.List.Elements.{All-weaker, Contains-append_cases}
 use Rattle.std.proofs.Math.Seq.{take-length}
 use Rattle.syn_model.specs.Path.{Path}
-use Rattle.syn_model.specs.Tree.{IsTree}
-use Rattle.syn_model.specs.Mark.{AreApart}
+use Rattle.syn_model.specs.Tree.{IsTree, subtree}
+use Rattle.syn_model.specs.Mark.{mark, AreApart}
+use Rattle.syn_model.specs.Reconcile.{is_relevant}
 use Rattle.syn_model.specs.Event.{Began}
 use Rattle.syn_model.specs.History.{History, tree_of}
 use Rattle.syn_model.specs.Archive.{Archive, Kept, Session, archive_of}
@@ -24,7 +25,7 @@ use Rattle.syn_headline.proofs.CourseLemmas.{Course, beside, starts, ticks, take
 use Rattle.syn_headline.proofs.CompleteLemmas.{IsRecordDue, carried, alike, marked}
 use Rattle.syn_headline.proofs.UnderwayLemmas.{IsQuietPlan, IsUnderway, underway_records, quiet_plan}
 use Rattle.syn_headline.proofs.KeptLemmas.{IsNoSession, since_last}
-use Rattle.syn_headline.proofs.ReportLemmas.{reconciled, conflicts_reported}
+use Rattle.syn_headline.proofs.ReportLemmas.{reconciled, conflicts_reported, alike_marked}
 use Rattle.syn_headline.proofs.QuietResult.{only_of}
 use Rattle.syn_headline.proofs.WatchLemmas.{all_kept, RunsWell, plan_then, due_then, goes_kept}
 
@@ -34,6 +35,7 @@ IsWorth before acks report earlier = (found : Stores) → found.archive ≡ arch
     BeganAfter report.session found.left (stores_after before acks).left → BeganAfter report.session found.right (stores_after before acks).right →
     (AreApart (λ tree. (tree ≡ tree_of found.left) ⊎ (tree ≡ tree_of found.right)) → Synchronizes found (stores_after before acks))
     × ((path : Path) → Contains report.conflicts path ↔ IsConflict (tree_of found.left) (tree_of found.right) found.archive.marks path)
+    × ((path : Path) → is_relevant (tree_of found.left) (tree_of found.right) path ≡ true → subtree (tree_of found.left) path ≡ subtree (tree_of found.right) path → subtree (stores_after before acks).archive.marks path ≡ mark (subtree (tree_of found.left) path))
 
 pub record IsTold (before : Stores) (acks : List Ack) (report : Report) : Type 0 where
   pub earlier : List Kept
@@ -113,12 +115,17 @@ module _ (before : Stores) (whole : IsTree before.archive.marks) (shallow : HasD
       has_conflicts = conflicts_reported before.archive whole shallow plans (histories_of old) old.coordinator.archive old.sent k.sound (all_kept new) can r.session plan after quiet_made report settled_then (ends.complete complete).1 (ends.conflicts (ends.complete complete).0)
           (history_of found) later split quiet
 
+      has_marked : (path : Path) → is_relevant (tree_of found.left) (tree_of found.right) path ≡ true → subtree (tree_of found.left) path ≡ subtree (tree_of found.right) path → subtree (archive_of before.archive (all_kept new)).marks path ≡ mark (subtree (tree_of found.left) path)
+      has_marked = alike_marked before.archive whole shallow plans (histories_of old) old.coordinator.archive old.sent k.sound (all_kept new) can r.session plan after quiet_made report settled_then (ends.complete complete).1 (ends.conflicts (ends.complete complete).0)
+          (history_of found) later split quiet
+
     is_worth : IsWorth before new.acknowledged report planned.earlier
     is_worth found archive_is left right =
         let l = subst (λ s. BeganAfter s found.left (stores_after before new.acknowledged).left) ends.session_is left in
         let h = subst (λ s. BeganAfter s found.right (stores_after before new.acknowledged).right) ends.session_is right in (
           λ apart. subst (λ a. Synchronizes (record { left = found.left; right = found.right; archive = a }) (stores_after before new.acknowledged)) (sym archive_is) (synchronizes found l h apart),
           subst (λ a. (path : Path) → Contains report.conflicts path ↔ IsConflict (tree_of found.left) (tree_of found.right) a.marks path) (sym archive_is) (has_conflicts found l h),
+          has_marked found l h,
         )
 
     tells : IsTold before new.acknowledged report

@@ -1,7 +1,7 @@
 -- What is proved of whole runs.
-use Rattle.std.specs.Prelude.{ℕ, ◌≡◌, ◌≤◌, ◌↔◌, ◌+◌, drop, false, List, [], ◌∷◌, ◌++◌, take, length, None, All, Contains, IfSome}
-use Rattle.syn_model.specs.Path.{Bytes, Path}
-use Rattle.syn_model.specs.Tree.{Tree, IsTree, subtree}
+use Rattle.std.specs.Prelude.{ℕ, true, ◌≡◌, ◌≤◌, ◌↔◌, ◌+◌, drop, false, List, [], ◌∷◌, ◌++◌, take, None, All, Contains, IfSome}
+use Rattle.syn_model.specs.Path.{Bytes, Path, parent}
+use Rattle.syn_model.specs.Tree.{Tree, IsTree, subtree, is_directory}
 use Rattle.syn_model.specs.Event.{Token, is_same_token, Event, Edited, Began, Replaced, touches}
 use Rattle.syn_model.specs.History.{History, IsHistory, tree_of, tree_at, last_session}
 use Rattle.syn_model.specs.Mark.{mark, AreApart}
@@ -118,16 +118,14 @@ EachTokenOnce before world =
 abbrev pub UntouchedSince : ℕ → History → Path → Type 0
 UntouchedSince position history path = All (λ event. touches event path ≡ false) (drop position history)
 
--- What was carried and not recorded is marked by the next complete session without edits:
--- `fetched` is the source's position at its last fetch
+-- What was carried and not recorded is marked by the next complete session without edits, where nothing touched it since:
+-- `fetched` is the source's position at its last fetch, when the path stood in a directory
 abbrev pub CarriedIsMarked : Stores → World → Type 0
 CarriedIsMarked before world =
-    (side : Which) (earlier later : List Ack) (token : Token) (path : Path) (since fetched : ℕ) (new : Tree) (report : Report) (found left : Stores) →
-    world.acknowledged ≡ earlier ++ Happened side (Replaced token path since new) ∷ later →
-    fetched ≤ length (history_of (stores_after before earlier) (other side)) →
-    new ≡ subtree (tree_at (history_of found (other side)) fetched) path →
-    UntouchedSince fetched (history_of found (other side)) path →
-    UntouchedSince (length (history_of (stores_after before earlier) side) + 1) (history_of found side) path →
+    (side : Which) (first rest : History) (token : Token) (path : Path) (since fetched : ℕ) (new : Tree) (report : Report) (found left : Stores) →
+    let source = history_of found (other side) in
+    history_of found side ≡ first ++ Replaced token path since new ∷ rest → All (λ event. touches event path ≡ false) rest →
+    is_directory (tree_at source fetched) (parent path) ≡ true → new ≡ subtree (tree_at source fetched) path → UntouchedSince fetched source path →
     IsQuietSession before world report found left → subtree left.archive.marks path ≡ mark new
 
 -- The headline
