@@ -1,5 +1,5 @@
 -- What a plan leaves as it is carried out, path by path.
-use Rattle.std.proofs.Common.{◌≡◌, zero, suc, Bool, true, false, if◌then◌else◌, List, [], ◌∷◌, ◌++◌, refl, sym, ap, ap₂, ◌∙◌, subst, Some, None, true≢false, append_assoc, append-nil, arith, inl, inr, ◌⊎◌}
+use Rattle.std.proofs.Common.{◌≡◌, Bool, true, false, if◌then◌else◌, List, [], ◌∷◌, ◌++◌, refl, sym, ap, ap₂, ◌∙◌, subst, Some, None, true≢false, append_assoc, append-nil, arith, inl, inr, ◌⊎◌}
 use Rattle.std.specs.Prelude.{Contains}
 use Rattle.std.specs.FinMap.{get}
 use Rattle.std.proofs.lemmas.List.Elements.{Contains-append_left, Contains-append_right, Contains-append_cases}
@@ -18,6 +18,7 @@ use Rattle.syn_model.proofs.HistoryLemmas.{get-at_root}
 use Rattle.syn_model.proofs.PlanSteps.{item_finds_archive}
 use Rattle.syn_model.proofs.ResultLemmas.{moved-directory}
 use Rattle.syn_headline.specs.Network.{Which, Left, Right, other}
+use Rattle.syn_headline.proofs.SoundLemmas.{only_one}
 use Rattle.syn_headline.proofs.AnyOrder.{StandAlone, plan_stands_alone, one_above, put, put_within, IsDone, done_stays, IsCovered, put_covers, IsCoveredToo, put_covers_too, covered_same, covered_same_too, directory_stays, HasMore, more_covers, more_stays, more_directory_stays}
 
 -- the item replaces on the side
@@ -86,10 +87,6 @@ pub record Changes (found : Which → Tree) (old new : Trees) (x : Item) : Type 
   pub archive : ((is_recorded x ≡ true) × (new.archive ≡ put old.archive (path_of x) (recorded_of found x)))
       ⊎ ((is_recorded x ≡ false) × (((p : Path) × (x ≡ MarkDir p) × HasMore p old.archive new.archive × (get new.archive p ≡ Some Directory)) ⊎ ((is_mark_dir x ≡ false) × (new.archive ≡ old.archive))))
 
-only_item : (x y : Item) → Contains (x ∷ []) y → y ≡ x
-only_item x y (zero, h, e) = sym e
-only_item x y (suc k, h, e) = absurd (omega (arith, h))
-
 module _ (found : Which → Tree) (o : Tree) (items : List Item) (alone : StandAlone items) where
   abbrev pub CoversSide : Which → Tree → Type 0
   CoversSide side t = IsCovered items alone (is_to side) (to_file side) (λ _. found (other side)) (found side) t
@@ -125,7 +122,7 @@ module _ (found : Which → Tree) (o : Tree) (items : List Item) (alone : StandA
         | inr is ↦ subst (λ t. IsDoneOn side t y) (sym is.1) (h.done side y earlier on)
       ]
       | inr last ↦
-          let same = only_item x y last in
+          let same = sym (only_one x y last) in
           elim (c.sides side) as (λ _. IsDoneOn side (tree_on new side) y) [
             | inl is ↦ subst (λ z. IsDoneOn side (tree_on new side) z) (sym same) (subst (λ t. IsDoneOn side t x) (sym is.1) (put_within (tree_on old side) (path_of x) (found (other side))))
             | inr is ↦ absurd (true≢false (sym on ∙ (ap (is_to side) same ∙ is.0)))
@@ -155,7 +152,7 @@ module _ (found : Which → Tree) (o : Tree) (items : List Item) (alone : StandA
     recorded_then : (y : Item) → Contains (first ++ x ∷ []) y → is_recorded y ≡ true → IsDoneIn new.archive y
     recorded_then y at on = elim (Contains-append_cases first (x ∷ []) y at) as (λ _. IsDoneIn new.archive y) [
       | inl earlier ↦ recorded_before y earlier on
-      | inr last ↦ let same = only_item x y last in subst (IsDoneIn new.archive) (sym same) (recorded_now (ap is_recorded (sym same) ∙ on))
+      | inr last ↦ let same = sym (only_one x y last) in subst (IsDoneIn new.archive) (sym same) (recorded_now (ap is_recorded (sym same) ∙ on))
     ]
 
     directory_before : (p : Path) → Contains first (MarkDir p) → get new.archive p ≡ Some Directory
@@ -175,7 +172,7 @@ module _ (found : Which → Tree) (o : Tree) (items : List Item) (alone : StandA
     directories_then : (p : Path) → Contains (first ++ x ∷ []) (MarkDir p) → get new.archive p ≡ Some Directory
     directories_then p at = elim (Contains-append_cases first (x ∷ []) (MarkDir p) at) as (λ _. get new.archive p ≡ Some Directory) [
       | inl earlier ↦ directory_before p earlier
-      | inr last ↦ directory_now p (only_item x (MarkDir p) last)
+      | inr last ↦ directory_now p (sym (only_one x (MarkDir p) last))
     ]
 
     pub carries_one : HasCarriedOut (first ++ x ∷ []) new

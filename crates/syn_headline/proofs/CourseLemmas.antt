@@ -10,7 +10,7 @@ use Rattle.syn_headline.specs.Acknowledged.{Ack, Happened, Kept_by, kept_in}
 use Rattle.syn_headline.specs.World.{Up, Machine, At, Coordinator, World, SideMachine, CoordinatorMachine, set_side, Step, Edits, Start, Deliver, Tick, Checkpoint, Fail, Stop, Open, Reopen, OpensArchive, archive_opened, archive_recovered, archive_not_opened, archive_not_reopened, TakesRequest, answered, request_failed, request_cut, side_down, IsDueAfter, IsOver, IsExpected, HasPlan, GoesOnFrom, plan_of, StartsFrom, IsNext, IsNothing, AllCanKeep, CoordinatorGoes, Reports, EndsTaken, EndsUnanswered, TakesAnswer, taken, ignored, coordinator_down, Delivers, OpensMachine, cut_off, halted, Steps}
 use Rattle.syn_headline.specs.Invariant.{Plans, histories_of, IsHarmless, IsKept}
 use Rattle.syn_headline.proofs.WorldLemmas.{kept_events, kept_kept}
-use Rattle.syn_headline.proofs.RunLemmas.{was_sent}
+use Rattle.syn_headline.proofs.RunLemmas.{was_sent, no_acks}
 
 -- the session stays or is forgotten as something is kept or not; or it starts, waits or takes an answer
 pub data Course (old new : World) : Type 0 where
@@ -93,16 +93,13 @@ module _ (plans : Plans) (old : World) (k : IsKept plans old) (new : World) wher
   opens_archive _ _ archive_not_opened e = alone old new _ [] tt (inr (refl, refl)) e
   opens_archive _ _ (archive_not_reopened up) e = alone old new _ [] tt (inr (refl, refl)) e
 
-  no_acks : (machine : CoordinatorMachine) → new ≡ record old { coordinator = machine } → new ≡ record old { coordinator = machine; acknowledged = old.acknowledged ++ [] }
-  no_acks machine e = e ∙ ap (λ a. record old { coordinator = machine; acknowledged = a }) (sym (append-nil old.acknowledged))
-
   cuts : (machine : Machine) → new ≡ cut_off old machine → Course old new
   cuts (At which) e = side_set old new which _ e
-  cuts Coordinator e = alone old new _ [] tt (inl refl) (no_acks _ e)
+  cuts Coordinator e = alone old new _ [] tt (inl refl) (no_acks plans old k new _ e)
 
   halts : (machine : Machine) → new ≡ halted old machine → Course old new
   halts (At which) e = side_set old new which _ e
-  halts Coordinator e = alone old new _ [] tt (inr (refl, refl)) (no_acks _ e)
+  halts Coordinator e = alone old new _ [] tt (inr (refl, refl)) (no_acks plans old k new _ e)
 
   opens_machine : (machine : Machine) → OpensMachine old machine new → Course old new
   opens_machine (At which) g = side_goes old new which g.0 _ g.1 g.3

@@ -1,5 +1,5 @@
 -- What the replacements and records of a session leave, where no user's event came since it began.
-use Rattle.std.proofs.Common.{◌≡◌, zero, suc, true, false, not, ◌&&◌, if◌then◌else◌, List, [], ◌∷◌, ◌++◌, fold, refl, sym, ap, ap₂, ◌∙◌, subst, Some, None, true≢false, append-nil, arith, inl, inr}
+use Rattle.std.proofs.Common.{◌≡◌, true, false, not, ◌&&◌, if◌then◌else◌, List, [], ◌∷◌, ◌++◌, fold, refl, sym, ap, ap₂, ◌∙◌, subst, Some, None, true≢false, append-nil, arith, inl, inr}
 use Rattle.std.specs.Prelude.{Contains, All, Any}
 use Rattle.std.specs.FinMap.{get}
 use Rattle.std.proofs.lemmas.List.Elements.{All-head, All-tail, Contains-append_cases}
@@ -13,14 +13,10 @@ use Rattle.syn_headline.specs.Network.{Which, other}
 use Rattle.syn_headline.specs.Report.{IsRecordOf}
 use Rattle.syn_headline.specs.World.{AllCanKeep}
 use Rattle.syn_model.proofs.QuietLemmas.{none_touches, nothing_below}
-use Rattle.syn_headline.proofs.SoundLemmas.{kept_is_tree}
+use Rattle.syn_headline.proofs.SoundLemmas.{only_one, kept_is_tree}
 use Rattle.syn_headline.proofs.HarmlessLemmas.{Meets, meets, one, above, below}
 use Rattle.syn_headline.proofs.AnyOrder.{StandAlone, put, put_within, done_stays, put_covers, put_covers_too, directory_stays, HasMore, more_covers, more_stays, more_directory_stays}
 use Rattle.syn_headline.proofs.CarriedOut.{is_to, is_recorded, recorded_of, to_file, recorded_file, directory_more, CoversSide, CoversArchive, IsDoneOn, IsDoneIn}
-
-pub only_of : {X : Type 0} (x y : X) → Contains (x ∷ []) y → x ≡ y
-only_of x y (zero, h, e) = e
-only_of x y (suc k, h, e) = absurd (omega (arith, h))
 
 -- The replacements of a side
 
@@ -131,7 +127,7 @@ module _ (found : Which → Tree) (o : Tree) (items : List Item) (alone : StandA
         let next = kept_is_tree a kept tree can.0 in
         let rest = All-tail IsRecord kept records all in
         elim (Contains-append_cases (kept ∷ []) records made c) as (λ _. P (archive_of (after_kept a kept) records).marks) [
-          | inl here ↦ records_keep records (after_kept a kept) next can.1 rest (subst (λ k. P (after_kept a k).marks) (sym (only_of kept made here)) (makes a tree (subst IsRecord (only_of kept made here) first)))
+          | inl here ↦ records_keep records (after_kept a kept) next can.1 rest (subst (λ k. P (after_kept a k).marks) (sym (only_one kept made here)) (makes a tree (subst IsRecord (only_one kept made here) first)))
           | inr later ↦ records_make made makes records (after_kept a kept) next can.1 rest later
         ]
 

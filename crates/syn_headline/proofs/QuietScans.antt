@@ -13,9 +13,8 @@ use Rattle.syn_model.specs.Mark.{mark, mark_of}
 use Rattle.syn_model.specs.Dirty.{Scan}
 use Rattle.syn_model.specs.Decision.{is_unstable}
 use Rattle.syn_model.specs.Plan.{scan_of}
-use Rattle.syn_model.specs.Refusal.{OldSession}
 use Rattle.syn_model.specs.Event.{Event, Edited, Began, Replaced}
-use Rattle.syn_model.specs.History.{History, IsHistory, AllAllowed, IsAllowed, tree_of, tree_at, is_quiet, last_session, position_causes}
+use Rattle.syn_model.specs.History.{History, IsHistory, AllAllowed, tree_of, tree_at, is_quiet, last_session}
 use Rattle.syn_model.specs.Archive.{Archive}
 use Rattle.syn_headline.specs.Side.{ListAt, Listed, NotDir}
 use Rattle.syn_headline.specs.Network.{Which, other, Sent}
@@ -24,12 +23,12 @@ use Rattle.syn_headline.specs.Headline.{IsNoEdit}
 use Rattle.syn_headline.specs.Invariant.{Plans, Histories, IsSound, IsTrueListing, IsTrueNotDir, source_of}
 use Rattle.syn_model.proofs.PathLemmas.{none_some}
 use Rattle.syn_model.proofs.TreeLemmas.{same_tree, get-subtree}
-use Rattle.syn_model.proofs.HistoryLemmas.{first_cause-none, tree_of-append}
+use Rattle.syn_model.proofs.HistoryLemmas.{tree_of-append}
 use Rattle.syn_model.proofs.MarkLemmas.{get-mark}
 use Rattle.syn_model.proofs.SyncLemmas.{directory_is}
 use Rattle.syn_model.proofs.QuietLemmas.{ScansHistory, scan_is, directory_of_mark, quiet_rest, none_touches}
 use Rattle.syn_headline.proofs.PlanLemmas.{scans, listing_reached, not_dir_reached}
-use Rattle.syn_headline.proofs.SoundLemmas.{session_grows, fold_one}
+use Rattle.syn_headline.proofs.SoundLemmas.{number_above, began_above, session_grows, fold_one}
 use Rattle.syn_headline.proofs.MoveLemmas.{all_front, tree_at_is_tree}
 use Rattle.syn_headline.proofs.TokenLemmas.{after_front}
 
@@ -56,12 +55,6 @@ abbrev pub ShowsFound : History → ℕ → Scan → (Path → ℕ) → Type 0
 ShowsFound history session scan since = (found later : History) → history ≡ found ++ Began session ∷ later → All IsNoEdit later → ShowsTree scan since found
 
 -- Sessions only grow
-
-number_above : (n last : ℕ) → nat_le n last ≡ false → last < n
-number_above n last h = grind (arith, nat_tests)
-
-pub began_above : (history : History) (session : ℕ) → IsAllowed history (Began session) → last_session history < session
-began_above history session a = number_above session (last_session history) (first_cause-none (nat_le session (last_session history), OldSession) (position_causes history) a.not_refused).0
 
 pub sessions_grow : (start events : History) → AllAllowed start events → last_session start ≤ last_session (start ++ events)
 sessions_grow start [] all = subst (λ h. last_session start ≤ last_session h) (sym (append-nil start)) (omega arith)

@@ -303,10 +303,10 @@ runs_has plans histories r plan has fresh _ (goes_on new session_is plan_is) =
     (ap plans session_is ∙ (has ∙ sym plan_is), λ e. subst (IsFresh histories) (sym session_is) (fresh (sym plan_is ∙ e)))
 
 module _ (plans : Plans) (old : World) (k : IsKept plans old) (new : World) where
-  running_has : (r : Running) → old.coordinator.running ≡ Some r → (plans r.session ≡ r.plan) × (r.plan ≡ [] → IsFresh (histories_of old) r.session)
+  pub running_has : (r : Running) → old.coordinator.running ≡ Some r → (plans r.session ≡ r.plan) × (r.plan ≡ [] → IsFresh (histories_of old) r.session)
   running_has r e = subst (HasItsPlan plans (histories_of old)) e k.coordinator.running
 
-  running_over : (r : Running) → old.coordinator.running ≡ Some r → RunsOver old.sent old.coordinator.archive (Some r)
+  pub running_over : (r : Running) → old.coordinator.running ≡ Some r → RunsOver old.sent old.coordinator.archive (Some r)
   running_over r e = subst (RunsOver old.sent old.coordinator.archive) e k.coordinator.runs_over
 
   pub waits_for : (r : Running) → old.coordinator.running ≡ Some r → (from : Which) (number : ℕ) → IsSomeAnd (outstanding r from) (λ sent. sent.number ≡ number) → (waiting : Outstanding) → outstanding r from ≡ Some waiting →
@@ -405,7 +405,7 @@ module _ (plans : Plans) (old : World) (k : IsKept plans old) (new : World) wher
   opens_archive _ _ archive_not_opened e = coordinator_settles old.coordinator [] k.sound (omega arith) k.coordinator e
   opens_archive _ _ (archive_not_reopened up) e = coordinator_settles (record old.coordinator { status = Halted }) [] k.sound (omega arith) (with_status Halted (λ _. halted_not_up)) e
 
-  no_acks : (machine : CoordinatorMachine) → new ≡ record old { coordinator = machine } → new ≡ record old { coordinator = machine; acknowledged = old.acknowledged ++ map (λ k. Kept_by k) [] }
+  pub no_acks : (machine : CoordinatorMachine) → new ≡ record old { coordinator = machine } → new ≡ record old { coordinator = machine; acknowledged = old.acknowledged ++ map (λ k. Kept_by k) [] }
   no_acks machine e = e ∙ ap (λ a. record old { coordinator = machine; acknowledged = a }) (sym (append-nil old.acknowledged))
 
   cut_advances : (machine : Machine) → new ≡ cut_off old machine → Advances plans old new

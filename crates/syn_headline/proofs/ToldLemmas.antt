@@ -26,7 +26,7 @@ use Rattle.syn_headline.proofs.CompleteLemmas.{IsRecordDue, carried, alike, mark
 use Rattle.syn_headline.proofs.UnderwayLemmas.{IsQuietPlan, IsUnderway, underway_records, quiet_plan}
 use Rattle.syn_headline.proofs.KeptLemmas.{IsNoSession, since_last}
 use Rattle.syn_headline.proofs.ReportLemmas.{reconciled, conflicts_reported, alike_marked}
-use Rattle.syn_headline.proofs.QuietResult.{only_of}
+use Rattle.syn_headline.proofs.SoundLemmas.{only_one}
 use Rattle.syn_headline.proofs.WatchLemmas.{all_kept, RunsWell, plan_then, due_then, goes_kept}
 
 -- what the report of a session is worth that kept this before it began
@@ -161,7 +161,7 @@ module _ (before : Stores) (whole : IsTree before.archive.marks) (shallow : HasD
       elim (Contains-append_cases old.reports ((last, length new.acknowledged) ∷ []) (report, acks) (subst (λ w. Contains w (report, acks)) e c)) as (λ _. (acks ≤ length new.acknowledged) × IsTold before (take acks new.acknowledged) report) [
         | inl earlier ↦ told_before report acks earlier complete
         | inr here ↦
-            let one = only_of {X = Report × ℕ} (last, length new.acknowledged) (report, acks) here in
+            let one = only_one {X = Report × ℕ} (last, length new.acknowledged) (report, acks) here in
             let report_is : last ≡ report = ap (λ p. p.0) one in
             let acks_is : length new.acknowledged ≡ acks = ap (λ p. p.1) one in (
               omega (arith, acks_is),

@@ -14,10 +14,10 @@ use Rattle.syn_headline.specs.Headline.{IsNoEdit}
 use Rattle.syn_headline.specs.Invariant.{Plans, Histories, IsSound, IsSoundEvent}
 use Rattle.syn_model.proofs.PathLemmas.{none_some}
 use Rattle.syn_headline.proofs.PlanLemmas.{plan_of-more, fenced}
-use Rattle.syn_headline.proofs.SoundLemmas.{extends, length_grows, part_at_stays, still_touched}
+use Rattle.syn_headline.proofs.SoundLemmas.{began_above, extends, length_grows, part_at_stays, still_touched}
 use Rattle.syn_headline.proofs.MoveLemmas.{on_both, Moves, moves_grow, current}
 use Rattle.syn_headline.proofs.WorldLemmas.{archive-append}
-use Rattle.syn_headline.proofs.QuietScans.{IsPlannedEvent, ShowsTree, ShowsFound, begun_within, began_above, plan_shows}
+use Rattle.syn_headline.proofs.QuietScans.{IsPlannedEvent, ShowsTree, ShowsFound, begun_within, plan_shows}
 use Rattle.syn_headline.proofs.CompleteLemmas.{IsRecordDue, carried, alike, marked}
 
 -- a plan whose scans show what was found, where no user's event came since the session began

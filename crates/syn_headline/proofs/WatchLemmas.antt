@@ -14,7 +14,7 @@ use Rattle.syn_headline.specs.Headline.{StandsFor}
 use Rattle.syn_headline.specs.Invariant.{Plans, Histories, histories_of, IsSound, IsKept}
 use Rattle.syn_model.proofs.PathLemmas.{none_some, some_same}
 use Rattle.syn_headline.proofs.WorldLemmas.{kept_kept}
-use Rattle.syn_headline.proofs.RunLemmas.{Advances, HasItsPlan, waits_for}
+use Rattle.syn_headline.proofs.RunLemmas.{Advances, running_has, running_over, waits_for}
 use Rattle.syn_headline.proofs.CourseLemmas.{Course, beside, starts, ticks, takes}
 use Rattle.syn_headline.proofs.CompleteLemmas.{IsRecordDue, carried, alike, marked}
 use Rattle.syn_headline.proofs.UnderwayLemmas.{IsUnderway, underway_moves, underway_says, underway_records, underway_plans, underway_starts}
@@ -92,12 +92,6 @@ module _ (before : Stores) (plans : Plans) (old new : World) (k : IsKept plans o
   can_more can acks e more = subst (AllCanKeep before.archive) (sym (kept_more acks e))
       (can-append before.archive (all_kept old) (filter_map kept_in acks) can (subst (λ a. AllCanKeep a (filter_map kept_in acks)) stands.archive more))
 
-  pub running_has : (r : Running) → old.coordinator.running ≡ Some r → plans r.session ≡ r.plan
-  running_has r e = (subst (HasItsPlan plans (histories_of old)) e k.coordinator.running).0
-
-  pub running_over : (r : Running) → old.coordinator.running ≡ Some r → RunsOver old.sent old.coordinator.archive (Some r)
-  running_over r e = subst (RunsOver old.sent old.coordinator.archive) e k.coordinator.runs_over
-
   pub running_well : (r : Running) → old.coordinator.running ≡ Some r → IsUnderway before.archive (histories_of old) old.sent (all_kept old) r.session r.plan
   running_well r e = subst (RunsWell before.archive old) e runs
 
@@ -107,7 +101,7 @@ module _ (before : Stores) (plans : Plans) (old new : World) (k : IsKept plans o
   beside_well a stays (Some r) e =
       subst (λ sent. IsUnderway before.archive (histories_of new) sent (all_kept new) r.session r.plan) (sym a.sends)
       (subst (λ kept. IsUnderway before.archive (histories_of new) (old.sent ++ a.messages) kept r.session r.plan) (sym stays)
-      (underway_moves plans old.coordinator.archive old.sent (histories_of old) (histories_of new) k.sound a.which a.moves r.session (running_over r e).0 r.plan (running_has r e)
+      (underway_moves plans old.coordinator.archive old.sent (histories_of old) (histories_of new) k.sound a.which a.moves r.session (running_over plans old k new r e).0 r.plan (running_has plans old k new r e).0
       before.archive (all_kept old) a.messages (running_well r e)))
 
   module _ (D : Kept → Type 0) (R : Option Running → Type 0) (g : CoordinatorGoes old D R new) where
@@ -149,10 +143,10 @@ module _ (before : Stores) (plans : Plans) (old new : World) (k : IsKept plans o
   module _ (r : Running) (e : old.coordinator.running ≡ Some r) (from : Which) (session number : ℕ) (reply : Reply) (plan : List Planned) (heard : Contains old.sent (Answers from session number reply)) (expected : IsExpected (Some r) from session number)
       (made : HasPlan old.sent old.coordinator.archive (Some r) plan) where
     pub plan_then : IsUnderway before.archive (histories_of old) old.sent (all_kept old) r.session plan
-    plan_then = planned_then before.archive plans (histories_of old) old.coordinator.archive old.sent k.sound (all_kept old) stands.archive r (running_has r e) (running_well r e) plan made
+    plan_then = planned_then before.archive plans (histories_of old) old.coordinator.archive old.sent k.sound (all_kept old) stands.archive r (running_has plans old k new r e).0 (running_well r e) plan made
 
     pub due_then : (kept : List Kept) → All (IsDue r plan from reply) kept → All (IsRecordDue plan (histories_of old)) kept
-    due_then kept due = all_due before.archive plans (histories_of old) old.coordinator.archive old.sent k.sound (all_kept old) stands.archive r (running_has r e) (running_well r e) plan made from number reply
+    due_then kept due = all_due before.archive plans (histories_of old) old.coordinator.archive old.sent k.sound (all_kept old) stands.archive r (running_has plans old k new r e).0 (running_well r e) plan made from number reply
         (subst (λ n. Contains old.sent (Answers from n number reply)) expected.0 heard) (waits_for plans old k new r e from number expected.1) kept due
 
     takes_one : (g : CoordinatorGoes old (IsDueAfter (Some r) plan from reply) (λ running. GoesOnFrom (Some r) plan running × IsOver from number running) new) → RunsWell before.archive new new.coordinator.running
