@@ -70,7 +70,7 @@ conflict_at (ToRight path) = None
 conflict_at (MarkSame path) = None
 conflict_at (MarkDir path) = None
 
--- A session that ends as an answer is taken has a cause, or it has settled each item of its plan
+-- A session that ends as an answer is taken has a cause, or it has settled each item of its plan, which was made even where it has none
 pub record EndsAs (sent : Sent) (session : ℕ) (archive : Tree) (plan : List Planned) (kept : List Kept) (asked : Option Request) (reply : Reply) (report : Report) : Type 0 where
   pub session_is : report.session ≡ session
   pub cause : IfSome report.ended (MayEnd asked reply)
