@@ -7,7 +7,7 @@ use Rattle.syn_model.specs.History.{History, IsHistory, last_session}
 use Rattle.syn_model.specs.Archive.{Archive, Kept, CanKeep, Held}
 use Rattle.syn_headline.specs.Network.{Which, Left, Right}
 use Rattle.syn_headline.specs.Acknowledged.{Grown, ArchiveGrown, stores_after}
-use Rattle.syn_headline.specs.Headline.{stores_of, RunsHoldArchive, RunsLeavePair}
+use Rattle.syn_headline.specs.Headline.{stores_of, EachEntryWasHeld, OfEachRun, LeavesPair}
 use Rattle.syn_headline.specs.Invariant.{Plans, Histories, IsSoundEvent, histories_of, IsHeld, IsHeldRecord, IsHarmless}
 use Rattle.syn_headline.proofs.SoundLemmas.{Extends, fold_one, held-grow, kept_held, kept_is_tree, kept_session}
 use Rattle.syn_headline.proofs.WholeRuns.{no_plans, start_kept, start_stands, run_kept}
@@ -26,7 +26,7 @@ archive_held histories None old new w h e = subst (λ a. IsHeld histories a.mark
 archive_held histories (Some kept) old new w h (inl e) = subst (λ a. IsHeld histories a.marks) (sym e) h
 archive_held histories (Some kept) old new w h (inr more) = subst (λ a. IsHeld histories a.marks) (sym more.1) (kept_held histories old kept h w)
 
-pub runs_hold_archive : RunsHoldArchive
+pub runs_hold_archive : OfEachRun EachEntryWasHeld
 runs_hold_archive old new steps start runs left right archive grown_left grown_right grown_archive path content e =
     let now = stores_after (stores_of old) new.acknowledged in
     let after = run_kept steps no_plans old new (start_kept old start) runs in
@@ -67,7 +67,7 @@ grown_begun plans histories archive side (Some event) old new s h (inl e) = subs
 grown_begun plans histories archive side (Some event) old new s h (inr more) = subst (λ w. last_session w ≤ archive.last_session) (sym more.1) (event_begun plans histories archive side old event s h)
 
 -- what a run leaves is again a pair
-pub runs_leave_pair : RunsLeavePair
+pub runs_leave_pair : OfEachRun LeavesPair
 runs_leave_pair old new steps start runs left right archive grown_left grown_right grown_archive =
     let now = stores_after (stores_of old) new.acknowledged in
     let after = run_kept steps no_plans old new (start_kept old start) runs in

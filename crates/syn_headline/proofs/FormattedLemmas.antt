@@ -5,13 +5,13 @@ use Rattle.syn_model.specs.History.{tree_of}
 use Rattle.syn_model.specs.Archive.{BothHeld}
 use Rattle.syn_model.proofs.HistoryLemmas.{empty-is_tree}
 use Rattle.syn_model.proofs.MarkLemmas.{marked_directory}
-use Rattle.syn_headline.specs.Headline.{FormattedIsPair}
+use Rattle.syn_headline.specs.Headline.{formatted, IsPair}
 
 formatted_held : BothHeld [] [] empty_directory
 formatted_held path content e = ((0, omega arith, marked_directory path ∙ e), (0, omega arith, marked_directory path ∙ e))
 
 -- three formatted disks are a pair
-pub formatted_is_pair : FormattedIsPair
+pub formatted_is_pair : IsPair formatted
 unfolding tree_of
 formatted_is_pair = record {
   left = tt;

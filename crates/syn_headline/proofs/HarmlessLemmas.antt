@@ -44,14 +44,14 @@ or_is : (a b : Bool) → (a || b) ≡ true → (a ≡ true) ⊎ (b ≡ true)
 or_is true b e = inl refl
 or_is false b e = inr e
 
-meets : (q p : Path) → comparable q p ≡ true → Meets q p
+pub meets : (q p : Path) → comparable q p ≡ true → Meets q p
 meets q p e = elim (or_is (is_prefix q p) (is_prefix p q) e) as (λ _. Meets q p) [
   | inl x ↦ let s = is_prefix-is q p x in meets_from q p s.0 s.1
   | inr x ↦ let s = is_prefix-is p q x in meets_to q p s.0 s.1
 ]
 
 -- what is done at a path is one item
-same_item : (d : Decision) (i j : Item) → IsDecided d i → IsDecided d j → i ≡ j
+pub same_item : (d : Decision) (i j : Item) → IsDecided d i → IsDecided d j → i ≡ j
 same_item d i j (inl x) (inl y) = let e : Do i ≡ Do j = sym x ∙ y in cc
 same_item d i j (inl x) (inr y) = let e : Do i ≡ DoAndGoOn j = sym x ∙ y in cc
 same_item d i j (inr x) (inl y) = let e : DoAndGoOn i ≡ Do j = sym x ∙ y in cc

@@ -33,7 +33,7 @@ module _ (plans : Plans) (histories : Histories) (archive : Archive) (sent : Sen
         | true ↦ λ u. absurd (nothing_unstable a n x u e)
         | false ↦ λ u.
             let w = is.listed a d u in
-            let listing : IsTrueListing (histories side) a (since a) (children scan.marks a) = sound.answered side session w.number (Listed (since a) (children scan.marks a)) (ListAt a) w.answered w.asked in
+            let listing : IsTrueListing (histories side) session a (since a) (children scan.marks a) = sound.answered side session w.number (Listed (since a) (children scan.marks a)) (ListAt a) w.answered w.asked in
             (since a, listing.reached, sym (same_child scan.marks (mark (tree_at (histories side) (since a))) a n listing.entries_there) ∙ e)
       ] refl
 

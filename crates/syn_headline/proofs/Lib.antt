@@ -15,3 +15,17 @@ pub mod RunLemmas
 pub mod WholeRuns
 pub mod ArchiveLemmas
 pub mod RepeatLemmas
+pub mod AnyOrder
+pub mod CarriedOut
+pub mod QuietScans
+pub mod QuietResult
+pub mod CompleteLemmas
+pub mod UnderwayLemmas
+pub mod KeptLemmas
+pub mod ReportLemmas
+pub mod CourseLemmas
+pub mod WatchLemmas
+pub mod ToldLemmas
+pub mod SessionRuns
+pub mod AlikeLemmas
+pub mod CarriedLemmas

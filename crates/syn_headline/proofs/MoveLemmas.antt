@@ -15,7 +15,7 @@ use Rattle.syn_model.specs.History.{History, IsHistory, AllAllowed, IsAllowed, t
 use Rattle.syn_model.specs.Standing.{token_after, place_causes, full_causes}
 use Rattle.syn_model.specs.Archive.{Archive}
 use Rattle.syn_headline.specs.Laws.{AddsAllowed}
-use Rattle.syn_headline.specs.Side.{Side, Served, Staging, Request, Begin, ListAt, Fetch, Stage, Replace, Piece, Refused, Reads, token_of, is_staged, staged_bytes}
+use Rattle.syn_headline.specs.Side.{Side, Served, Staging, Request, Begin, ListAt, Fetch, Stage, Replace, Begun, Piece, Refused, Reads, token_of, is_staged, staged_bytes}
 use Rattle.syn_headline.specs.Network.{Which, Left, Right, other, Sent, Asks}
 use Rattle.syn_model.specs.Decision.{path_of}
 use Rattle.syn_headline.specs.Planning.{Planned, seen_on, WritesTo}
@@ -197,7 +197,7 @@ replacement-grow plans old new side token path since u stays grows h =
       carries = h.carries;
     }
 
-all_front : (start xs ys : History) → AllAllowed start (xs ++ ys) → AllAllowed start xs
+pub all_front : (start xs ys : History) → AllAllowed start (xs ++ ys) → AllAllowed start xs
 all_front start [] ys h = tt
 all_front start (x ∷ xs) ys h = (h.0, all_front (start ++ x ∷ []) xs ys h.1)
 
@@ -206,7 +206,7 @@ pub tree_at_is_tree : (history : History) (k : ℕ) → IsHistory history → Is
 tree_at_is_tree history k h = history-is_tree (take k history) (all_front [] (take k history) (drop k history) (subst IsHistory (sym (take-append-drop k history)) h))
 
 -- a history has at each position a tree that fits
-tree_at_fits : (history : History) (k : ℕ) → IsHistory history → fits_replica (tree_at history k) ≡ true
+pub tree_at_fits : (history : History) (k : ℕ) → IsHistory history → fits_replica (tree_at history k) ≡ true
 tree_at_fits history k h = history_fits (take k history) (all_front [] (take k history) (drop k history) (subst IsHistory (sym (take-append-drop k history)) h))
 
 -- A request
@@ -291,12 +291,18 @@ module _ (plans : Plans) (archive : Archive) (sent : Sent) (histories : Historie
   last_is None token e = absurd (true≢false (sym e))
   last_is (Some last) token e = ap (λ t. Some t) (same_token last token e)
 
+  -- a side that is listed has begun the session
+  has_begun : (path : Path) → Contains sent (Asks which session number (ListAt path)) → session ≤ last_session side.history
+  has_begun path asked =
+      let b = (sound.asked which session number (ListAt path) asked).by_plan in
+      subst (λ h. session ≤ last_session h) (sym same) (sound.answered which session b.begun.number (Begun b.position) (Begin b.pair) b.begun.answered b.begun.asked)
+
   -- what it answers is true
   pub outcome_true : (request : Request) (served : Served) → Contains sent (Asks which session number request) → Outcome side session request served → IsTrue served.side.history session request served.reply
   outcome_true request served asked (refuses r reason) = refused_true side.history session request reason
   outcome_true _ served asked (begins_again pair e) = subst (λ n. session ≤ n) e (omega arith)
   outcome_true _ served asked (begins pair a) = subst (λ n. session ≤ n) (sym (fold_one 0 side.history (Began session))) (omega arith)
-  outcome_true _ served asked (lists path) = record { reached = omega arith; entries_there = ap (λ h. children (mark (tree_of h)) path) (sym (take-length side.history)) }
+  outcome_true _ served asked (lists path) = record { reached = omega arith; begun = subst (λ w. session ≤ last_session w) (sym (take-length side.history)) (has_begun path asked); entries_there = ap (λ h. children (mark (tree_of h)) path) (sym (take-length side.history)) }
   outcome_true _ served asked (lists_none path none) = record { reached = omega arith; no_directory = ap (λ h. is_directory (tree_of h) path) (take-length side.history) ∙ none }
   outcome_true _ served asked (fetches path since offset w q) =
       let at = quiet_same side.history since path q in

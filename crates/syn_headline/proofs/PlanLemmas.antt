@@ -18,7 +18,7 @@ use Rattle.syn_model.specs.Decision.{IsReached, Item, ToLeft, ToRight, MarkSame,
 use Rattle.syn_headline.specs.Side.{Request, Reply, Begin, ListAt, Fetch, Stage, Replace, Listed, NotDir, Begun}
 use Rattle.syn_headline.specs.Network.{Which, Left, Right, Sent, Asks, Answers, WasAnswered}
 use Rattle.syn_model.specs.Archive.{Archive}
-use Rattle.syn_headline.specs.Planning.{Planned, seen_on, IsScanOf, SeesBoth, IsPlanOf, WritesTo}
+use Rattle.syn_headline.specs.Planning.{Planned, seen_on, HasBegun, IsScanOf, SeesBoth, IsPlanOf, WritesTo}
 use Rattle.syn_headline.specs.World.{IsOfPlan}
 use Rattle.syn_headline.specs.Invariant.{Plans, Histories, IsSound, IsTrueListing, IsTrueNotDir}
 use Rattle.syn_model.proofs.PathLemmas.{parent-append, same_name, name_itself}
@@ -35,27 +35,30 @@ answered-more sent more side session request reply w = record {
   answered = Contains-append_left sent more (Answers side session w.number reply) w.answered;
 }
 
+pub begun-more : (sent more : Sent) (side : Which) (session : ℕ) → HasBegun sent side session → HasBegun (sent ++ more) side session
+begun-more sent more side session b = record { pair = b.pair; position = b.position; begun = answered-more sent more _ _ _ _ b.begun }
+
 pub of_plan-more : (sent more : Sent) (session : ℕ) (plan : List Planned) (to : Which) (request : Request) → IsOfPlan sent session plan to request → IsOfPlan (sent ++ more) session plan to request
 of_plan-more sent more session plan to (Begin pair) h = h
-of_plan-more sent more session plan to (ListAt path) h = h
+of_plan-more sent more session plan to (ListAt path) h = begun-more sent more to session h
 of_plan-more sent more session plan to (Fetch path since offset) h = h
 of_plan-more sent more session plan to (Stage item offset bytes) h = (h.0, h.1, (h.2.0, answered-more sent more _ _ _ _ h.2.1))
 of_plan-more sent more session plan to (Replace item path since size) h = (h.0, h.1, h.2, h.3, (h.4.0, h.4.1, answered-more sent more _ _ _ _ h.4.2))
 
-scan_of-more : (sent more : Sent) (side : Which) (session : ℕ) (scan : Scan) (since : Path → ℕ) → IsScanOf sent side session scan since → IsScanOf (sent ++ more) side session scan since
+pub scan_of-more : (sent more : Sent) (side : Which) (session : ℕ) (scan : Scan) (since : Path → ℕ) → IsScanOf sent side session scan since → IsScanOf (sent ++ more) side session scan since
 scan_of-more sent more side session scan since h = record {
   tree = h.tree;
   listed = λ path d u. answered-more sent more _ _ _ _ (h.listed path d u);
   ordered = h.ordered;
-  not_dir = λ path c. answered-more sent more _ _ _ _ (h.not_dir path c);
+  not_dir = λ path c. ((h.not_dir path c).0, answered-more sent more _ _ _ _ (h.not_dir path c).1);
   nothing_below = h.nothing_below;
 }
 
-pub plan_of-more : (sent more : Sent) (session : ℕ) (archive : Tree) (plan : List Planned) → IsPlanOf sent session archive plan → IsPlanOf (sent ++ more) session archive plan
+abbrev pub plan_of-more : (sent more : Sent) (session : ℕ) (archive : Tree) (plan : List Planned) → IsPlanOf sent session archive plan → IsPlanOf (sent ++ more) session archive plan
 plan_of-more sent more session archive plan h = record {
   scan = h.scan;
   since = h.since;
-  begun = λ side. let b = h.begun side in record { pair = b.pair; position = b.position; begun = answered-more sent more _ _ _ _ b.begun };
+  begun = λ side. begun-more sent more side session (h.begun side);
   scanned = λ side. scan_of-more sent more side session (h.scan side) (h.since side) (h.scanned side);
   items = h.items;
   seen = h.seen;
@@ -137,7 +140,7 @@ pub record IsPlannedFrom (scan : Which → Scan) (since : Which → Path → ℕ
   pub decided : IsDecided (decision (scan Left) (scan Right) archive (path_of planned.item)) planned.item
   pub seen : SeesBoth scan since planned
 
-found_item : (items : List Item) (plan : List Planned) (item : ℕ) (planned : Planned) → map (λ p. p.item) plan ≡ items → slice_get plan item ≡ Some planned → Contains items planned.item
+pub found_item : (items : List Item) (plan : List Planned) (item : ℕ) (planned : Planned) → map (λ p. p.item) plan ≡ items → slice_get plan item ≡ Some planned → Contains items planned.item
 found_item items plan item planned same e =
     let at : slice_get items item ≡ Some planned.item = ap (λ xs. slice_get xs item) (sym same) ∙ (slice_get-map (λ p. p.item) plan item ∙ ap (option_map (λ p. p.item)) e) in
     subst (Contains items) (get_or_from_slice_get items item planned.item planned.item at) (Contains-get_or items item planned.item (slice_get_within items item planned.item at))
@@ -198,7 +201,7 @@ pub record Writes (scan : Which → Scan) (since : Which → Path → ℕ) (foun
 root_is_directory : (t : Tree) → IsTree t → is_directory t [] ≡ true
 root_is_directory t h = ap is_directory_content h.rooted
 
-writes_at : (scan : Which → Scan) (since : Which → Path → ℕ) (found : Tree) (planned : Planned) (side : Which) (path : Path) → ((s : Which) → IsTree (scan s).marks) →
+pub writes_at : (scan : Which → Scan) (since : Which → Path → ℕ) (found : Tree) (planned : Planned) (side : Which) (path : Path) → ((s : Which) → IsTree (scan s).marks) →
     IsPlannedFrom scan since found planned → WritesTo planned.item side path → path_of planned.item ≡ path → Writes scan since found planned side path
 writes_at scan since found planned side [] trees from w e =
     let clean = writes_clean (scan Left) (scan Right) found (path_of planned.item) planned.item side [] scan refl refl w from.decided in
@@ -246,10 +249,10 @@ module _ (plans : Plans) (histories : Histories) (archive : Archive) (sent : Sen
     tree = h.tree;
     history_tree = history-is_tree (histories side) (sound.lawful side);
     listed = λ path d u. let w = h.listed path d u in
-        let true_one : IsTrueListing (histories side) path (since path) (children scan.marks path) = sound.answered side session w.number (Listed (since path) (children scan.marks path)) (ListAt path) w.answered w.asked in
+        let true_one : IsTrueListing (histories side) session path (since path) (children scan.marks path) = sound.answered side session w.number (Listed (since path) (children scan.marks path)) (ListAt path) w.answered w.asked in
         true_one.entries_there;
     ordered = h.ordered;
-    not_dir = λ path u. let w = h.not_dir path (found_unstable path scan.unstable u) in
+    not_dir = λ path u. let w = (h.not_dir path (found_unstable path scan.unstable u)).1 in
         let true_one : IsTrueNotDir (histories side) path (since path) = sound.answered side session w.number (NotDir (since path)) (ListAt path) w.answered w.asked in
         true_one.no_directory;
   }
@@ -257,7 +260,13 @@ module _ (plans : Plans) (histories : Histories) (archive : Archive) (sent : Sen
   pub listing_reached : (side : Which) (session : ℕ) (scan : Scan) (since : Path → ℕ) → IsScanOf sent side session scan since → (path : Path) → is_directory scan.marks path ≡ true → is_unstable scan path ≡ false → since path ≤ length (histories side)
   listing_reached side session scan since h path d u =
       let w = h.listed path d u in
-      let true_one : IsTrueListing (histories side) path (since path) (children scan.marks path) = sound.answered side session w.number (Listed (since path) (children scan.marks path)) (ListAt path) w.answered w.asked in
+      let true_one : IsTrueListing (histories side) session path (since path) (children scan.marks path) = sound.answered side session w.number (Listed (since path) (children scan.marks path)) (ListAt path) w.answered w.asked in
+      true_one.reached
+
+  pub not_dir_reached : (side : Which) (session : ℕ) (scan : Scan) (since : Path → ℕ) → IsScanOf sent side session scan since → (path : Path) → is_unstable scan path ≡ true → since path ≤ length (histories side)
+  not_dir_reached side session scan since h path u =
+      let w = (h.not_dir path (found_unstable path scan.unstable u)).1 in
+      let true_one : IsTrueNotDir (histories side) path (since path) = sound.answered side session w.number (NotDir (since path)) (ListAt path) w.answered w.asked in
       true_one.reached
 
   module _ (session : ℕ) (found : Tree) (plan : List Planned) (is : IsPlanOf sent session found plan) where

@@ -19,18 +19,20 @@ use Rattle.syn_headline.specs.Headline.{stores_of}
 use Rattle.syn_headline.specs.Invariant.{Plans, Histories, histories_of, IsSound, IsTrue, IsFresh, IsHarmless, IsSoundStaging, IsSoundEvent, IsSoundSide, IsSoundCoordinator, IsKept}
 use Rattle.syn_headline.proofs.SoundLemmas.{set_plan, set_plan-grows, set_plan-here, sound-plan, sound-keep, kept_session}
 use Rattle.syn_headline.proofs.OutcomeLemmas.{Outcome, refuses, stages_first, stages_more, stages_again, any_outcome, outcome, halted_outcome}
-use Rattle.syn_headline.proofs.MoveLemmas.{on_both, refused_borne, outcome_moves, outcome_true, outcome_borne, outcome_staging, legal}
+use Rattle.syn_headline.proofs.MoveLemmas.{on_both, Moves, refused_borne, outcome_moves, outcome_true, outcome_borne, outcome_staging, legal}
 use Rattle.syn_headline.proofs.HarmlessLemmas.{due_harmless}
-use Rattle.syn_headline.proofs.StepLemmas.{if_some, Says, nothing, reply, SideStep, side_keeps, coordinator_keeps, next_fresh, sides-later, sides-plan}
+use Rattle.syn_headline.proofs.StepLemmas.{if_some, Says, nothing, reply, SideStep, step_moves, side_keeps, coordinator_keeps, next_fresh, sides-later, sides-plan}
 
 -- each acknowledged replacement of a step is the first of its events, and legal
 abbrev pub IsLegalStep : World → List Ack → Type 0
 IsLegalStep old acks = (earlier later : List Ack) (side : Which) (token : Token) (path : Path) (since : ℕ) (u : Tree) → acks ≡ earlier ++ Happened side (Replaced token path since u) ∷ later →
     (earlier ≡ []) × IsLegal old.sent side (stores_of old) token path since u
 
-pub record Advances (old new : World) : Type 0 where
-  pub plans : Plans
-  pub kept : IsKept plans new
+pub record Advances (plans : Plans) (old new : World) : Type 0 where
+  pub later : Plans
+  pub kept : IsKept later new
+  pub which : Which
+  pub moves : Moves plans old.coordinator.archive (histories_of old) (histories_of new) which
   pub messages : Sent
   pub sends : new.sent ≡ old.sent ++ messages
   pub acks : List Ack
@@ -52,10 +54,16 @@ kept_only (k ∷ ks) (b ∷ earlier) later side event e = kept_only ks earlier l
 kept_legal : (old : World) (ks : List Kept) → IsLegalStep old (map (λ k. Kept_by k) ks)
 kept_legal old ks earlier later side token path since u e = absurd (kept_only ks earlier later side _ e)
 
-stays : (plans : Plans) (old new : World) → IsKept plans old → new ≡ old → Advances old new
+-- neither side goes on
+stay_moves : (plans : Plans) (old new : World) → histories_of new Left ≡ histories_of old Left → histories_of new Right ≡ histories_of old Right → Moves plans old.coordinator.archive (histories_of old) (histories_of new) Left
+stay_moves plans old new left right = record { here = inl left; there = right }
+
+stays : (plans : Plans) (old new : World) → IsKept plans old → new ≡ old → Advances plans old new
 stays plans old new k e = record {
-  plans = plans;
+  later = plans;
   kept = subst (IsKept plans) (sym e) k;
+  which = Left;
+  moves = stay_moves plans old new (ap (λ w. histories_of w Left) e) (ap (λ w. histories_of w Right) e);
   messages = [];
   sends = ap (λ w. w.sent) e ∙ sym (append-nil old.sent);
   acks = [];
@@ -126,7 +134,7 @@ IsWritten plans old which machine = IfSome machine.writing (λ event. (machine.s
 
 side_advances : (plans : Plans) (old : World) → IsKept plans old → (which : Which) (machine : SideMachine) (messages : Sent) (events : List Event) (new : World) → Adds plans old which machine.side.history events →
     IfSome machine.side.staging (IsSoundStaging plans (histories_of old) which) → IsWritten plans old which machine → Says plans old.sent which machine.side.history messages →
-    new ≡ next old which machine (old.sent ++ messages) (old.acknowledged ++ map (λ event. Happened which event) events) → Advances old new
+    new ≡ next old which machine (old.sent ++ messages) (old.acknowledged ++ map (λ event. Happened which event) events) → Advances plans old new
 side_advances plans old k which machine messages events new adds staged writing says e =
     let says_now = old.sent ++ messages in
     let acks_now = old.acknowledged ++ map (λ event. Happened which event) events in
@@ -142,8 +150,10 @@ side_advances plans old k which machine messages events new adds staged writing 
       says = says;
     } in
     record {
-      plans = plans;
+      later = plans;
       kept = subst (IsKept plans) (sym e) (side_keeps plans old n k which machine messages step);
+      which = which;
+      moves = subst (λ w. Moves plans old.coordinator.archive (histories_of old) (histories_of w) which) (sym e) (step_moves plans old n k which machine messages step);
       messages = messages;
       sends = ap (λ w. w.sent) e;
       acks = map (λ event. Happened which event) events;
@@ -153,7 +163,7 @@ side_advances plans old k which machine messages events new adds staged writing 
 
 -- with no event and nothing said
 side_settles : (plans : Plans) (old : World) → IsKept plans old → (which : Which) (machine : SideMachine) (new : World) → machine.side.history ≡ histories_of old which →
-    IfSome machine.side.staging (IsSoundStaging plans (histories_of old) which) → IsWritten plans old which machine → new ≡ next old which machine old.sent old.acknowledged → Advances old new
+    IfSome machine.side.staging (IsSoundStaging plans (histories_of old) which) → IsWritten plans old which machine → new ≡ next old which machine old.sent old.acknowledged → Advances plans old new
 side_settles plans old k which machine new h staged writing e =
     side_advances plans old k which machine [] [] new (no_event h) staged writing nothing (e ∙ ap₂ (λ s a. next old which machine s a) (sym (append-nil old.sent)) (sym (append-nil old.acknowledged)))
 
@@ -170,7 +180,7 @@ halted_not_up e = cc
 
 writes_advances : (plans : Plans) (old : World) → IsKept plans old → (which : Which) (event : Event) → IsAllowed (histories_of old which) event → IsSoundEvent plans (histories_of old) old.coordinator.archive which event →
     (machine : SideMachine) (events : List Event) (new : World) → (side_of old which).status ≡ Up → Writes (side_of old which) event machine events →
-    new ≡ next old which machine (old.sent ++ []) (old.acknowledged ++ map (λ event. Happened which event) events) → Advances old new
+    new ≡ next old which machine (old.sent ++ []) (old.acknowledged ++ map (λ event. Happened which event) events) → Advances plans old new
 writes_advances plans old k which event a s _ _ new up written e =
     side_advances plans old k which _ [] (event ∷ []) new (one_event event a s refl) (k.sides which).staged
     (if_some (side_of old which).writing (λ event. ((side_of old which).status ≢ Up) × IsSoundEvent plans (histories_of old) old.coordinator.archive which event) _ (k.sides which).writing (λ other_event _ x. absurd (x.0 up))) nothing e
@@ -178,13 +188,13 @@ writes_advances plans old k which event a s _ _ new up failed e = side_advances 
 writes_advances plans old k which event a s _ _ new up cut e = side_advances plans old k which _ [] [] new (no_event refl) tt (down_not_up, s, refl) nothing e
 
 edit_advances : (plans : Plans) (old : World) → IsKept plans old → (which : Which) (user : ℕ) (edit : Edit) (machine : SideMachine) (events : List Event) (new : World) → DoesEdit (side_of old which) user edit machine events →
-    new ≡ next old which machine (old.sent ++ []) (old.acknowledged ++ map (λ event. Happened which event) events) → Advances old new
+    new ≡ next old which machine (old.sent ++ []) (old.acknowledged ++ map (λ event. Happened which event) events) → Advances plans old new
 edit_advances plans old k which user edit _ _ new edit_refused e =
     side_advances plans old k which (side_of old which) [] [] new (no_event refl) (k.sides which).staged (was_written plans old k which (side_of old which).status (λ x. x) (side_of old which).side refl) nothing e
 edit_advances plans old k which user edit _ _ new (edit_written machine events up a w) e = writes_advances plans old k which (Edited user edit) a tt machine events new up w e
 
 opens_advances : (plans : Plans) (old : World) → IsKept plans old → (which : Which) (machine : SideMachine) (events : List Event) (new : World) → Opens (side_of old which) machine events →
-    new ≡ next old which machine (old.sent ++ []) (old.acknowledged ++ map (λ event. Happened which event) events) → Advances old new
+    new ≡ next old which machine (old.sent ++ []) (old.acknowledged ++ map (λ event. Happened which event) events) → Advances plans old new
 opens_advances plans old k which _ _ new opened e = side_advances plans old k which _ [] [] new (no_event refl) (k.sides which).staged tt nothing e
 opens_advances plans old k which _ _ new (recovered event w a) e =
     let s : ((side_of old which).status ≢ Up) × IsSoundEvent plans (histories_of old) old.coordinator.archive which event =
@@ -248,7 +258,7 @@ module _ (plans : Plans) (old : World) (k : IsKept plans old) (which : Which) (s
             subst (IsSoundEvent plans (histories_of old) old.coordinator.archive which) same a.2
       ]
 
-  pub request_advances : (new : World) → TakesRequest old which session number request new → Advances old new
+  pub request_advances : (new : World) → TakesRequest old which session number request new → Advances plans old new
   request_advances new (answered a) =
       let o = any_outcome (side_of old which).status old.pair a.has_room (side_of old which).side session request a.served lawful a.serves in
       let moves = outcome_moves plans old.coordinator.archive old.sent (histories_of old) k.sound which (side_of old which).side refl (k.sides which).staged session number request a.served asked o in
@@ -271,10 +281,12 @@ module _ (plans : Plans) (old : World) (k : IsKept plans old) (which : Which) (s
 
 -- The coordinator
 
-coordinator_advances : (plans : Plans) (old : World) (D : Kept → Type 0) (R : Option Running → Type 0) (new : World) → (g : CoordinatorGoes old D R new) → IsKept plans new → Advances old new
-coordinator_advances plans old D R new g k = record {
-  plans = plans;
+coordinator_advances : (plans later : Plans) (old : World) (D : Kept → Type 0) (R : Option Running → Type 0) (new : World) → (g : CoordinatorGoes old D R new) → IsKept later new → Advances plans old new
+coordinator_advances plans later old D R new g k = record {
+  later = later;
   kept = k;
+  which = Left;
+  moves = stay_moves plans old new (ap (λ w. histories_of w Left) g.result) (ap (λ w. histories_of w Right) g.result);
   messages = g.messages;
   sends = ap (λ w. w.sent) g.result;
   acks = map (λ k. Kept_by k) g.kept;
@@ -291,13 +303,13 @@ runs_has plans histories r plan has fresh _ (goes_on new session_is plan_is) =
     (ap plans session_is ∙ (has ∙ sym plan_is), λ e. subst (IsFresh histories) (sym session_is) (fresh (sym plan_is ∙ e)))
 
 module _ (plans : Plans) (old : World) (k : IsKept plans old) (new : World) where
-  running_has : (r : Running) → old.coordinator.running ≡ Some r → (plans r.session ≡ r.plan) × (r.plan ≡ [] → IsFresh (histories_of old) r.session)
+  pub running_has : (r : Running) → old.coordinator.running ≡ Some r → (plans r.session ≡ r.plan) × (r.plan ≡ [] → IsFresh (histories_of old) r.session)
   running_has r e = subst (HasItsPlan plans (histories_of old)) e k.coordinator.running
 
-  running_over : (r : Running) → old.coordinator.running ≡ Some r → RunsOver old.sent old.coordinator.archive (Some r)
+  pub running_over : (r : Running) → old.coordinator.running ≡ Some r → RunsOver old.sent old.coordinator.archive (Some r)
   running_over r e = subst (RunsOver old.sent old.coordinator.archive) e k.coordinator.runs_over
 
-  waits_for : (r : Running) → old.coordinator.running ≡ Some r → (from : Which) (number : ℕ) → IsSomeAnd (outstanding r from) (λ sent. sent.number ≡ number) → (waiting : Outstanding) → outstanding r from ≡ Some waiting →
+  pub waits_for : (r : Running) → old.coordinator.running ≡ Some r → (from : Which) (number : ℕ) → IsSomeAnd (outstanding r from) (λ sent. sent.number ≡ number) → (waiting : Outstanding) → outstanding r from ≡ Some waiting →
       Contains old.sent (Asks from r.session number waiting.request)
   waits_for r e from number expected waiting out =
       let number_is : waiting.number ≡ number = subst (λ o. IsSomeAnd o (λ sent. sent.number ≡ number)) out expected in
@@ -305,13 +317,13 @@ module _ (plans : Plans) (old : World) (k : IsKept plans old) (new : World) wher
       subst (λ n. Contains old.sent (Asks from r.session n waiting.request)) number_is was
 
   take_with : (from : Which) (session number : ℕ) (said : Reply) (plan : List Planned) → Contains old.sent (Answers from session number said) → (running : Option Running) → old.coordinator.running ≡ running → IsExpected running from session number →
-      HasPlan old.sent old.coordinator.archive running plan → CoordinatorGoes old (IsDueAfter running plan from said) (λ running'. GoesOnFrom running plan running' × IsOver from number running') new → Advances old new
+      HasPlan old.sent old.coordinator.archive running plan → CoordinatorGoes old (IsDueAfter running plan from said) (λ running'. GoesOnFrom running plan running' × IsOver from number running') new → Advances plans old new
   take_with from session number said plan c None e expected made g = absurd expected
   take_with from session number said plan c (Some r) e expected (inl same) g =
       let has = running_has r e in
       let planned : plans r.session ≡ plan = has.0 ∙ sym same in
       let c' = subst (λ n. Contains old.sent (Answers from n number said)) expected.0 c in
-      coordinator_advances plans old (IsDueAfter (Some r) plan from said) (λ running'. GoesOnFrom (Some r) plan running' × IsOver from number running') new g
+      coordinator_advances plans plans old (IsDueAfter (Some r) plan from said) (λ running'. GoesOnFrom (Some r) plan running' × IsOver from number running') new g
       (coordinator_keeps plans old (IsDueAfter (Some r) plan from said) (λ running'. GoesOnFrom (Some r) plan running' × IsOver from number running') new k.sound k.sides
       (λ kept due. due_harmless plans (histories_of old) old.coordinator.archive old.sent k.sound r (running_over r e).0 plan planned from number said kept c' (waits_for r e from number expected.1) due) g
       (runs_has plans (histories_of old) r plan planned (λ x. has.1 (sym same ∙ x)) g.machine.running g.runs_on.0))
@@ -323,18 +335,18 @@ module _ (plans : Plans) (old : World) (k : IsKept plans old) (new : World) wher
       let planned : plans' r.session ≡ plan = set_plan-here plans r.session plan in
       let sound = sound-plan plans (histories_of old) old.coordinator.archive old.sent k.sound r.session plan empty made.1 fresh in
       let c' = subst (λ n. Contains old.sent (Answers from n number said)) expected.0 c in
-      coordinator_advances plans' old (IsDueAfter (Some r) plan from said) (λ running'. GoesOnFrom (Some r) plan running' × IsOver from number running') new g
+      coordinator_advances plans plans' old (IsDueAfter (Some r) plan from said) (λ running'. GoesOnFrom (Some r) plan running' × IsOver from number running') new g
       (coordinator_keeps plans' old (IsDueAfter (Some r) plan from said) (λ running'. GoesOnFrom (Some r) plan running' × IsOver from number running') new sound
       (λ side. sides-plan plans plans' (set_plan-grows plans r.session plan empty) (histories_of old) old.coordinator.archive side (side_of old side) (k.sides side))
       (λ kept due. due_harmless plans' (histories_of old) old.coordinator.archive old.sent sound r (running_over r e).0 plan planned from number said kept c' (waits_for r e from number expected.1) due) g
       (runs_has plans' (histories_of old) r plan planned (λ _. fresh) g.machine.running g.runs_on.0))
 
-  tick_with : (running : Option Running) → old.coordinator.running ≡ running → CoordinatorGoes old IsNothing (GoesOnFrom running (plan_of running)) new → Advances old new
-  tick_with None e g = coordinator_advances plans old IsNothing (GoesOnFrom None []) new g
+  tick_with : (running : Option Running) → old.coordinator.running ≡ running → CoordinatorGoes old IsNothing (GoesOnFrom running (plan_of running)) new → Advances plans old new
+  tick_with None e g = coordinator_advances plans plans old IsNothing (GoesOnFrom None []) new g
       (coordinator_keeps plans old IsNothing (GoesOnFrom None []) new k.sound k.sides (λ kept due. absurd due) g (subst (HasItsPlan plans (histories_of old)) (sym g.runs_on) tt))
   tick_with (Some r) e g =
       let has = running_has r e in
-      coordinator_advances plans old IsNothing (GoesOnFrom (Some r) r.plan) new g
+      coordinator_advances plans plans old IsNothing (GoesOnFrom (Some r) r.plan) new g
       (coordinator_keeps plans old IsNothing (GoesOnFrom (Some r) r.plan) new k.sound k.sides (λ kept due. absurd due) g (runs_has plans (histories_of old) r r.plan has.0 has.1 g.machine.running g.runs_on))
 
   session_harmless : (n : ℕ) → IsHarmless plans (histories_of old) (Session n)
@@ -346,16 +358,18 @@ module _ (plans : Plans) (old : World) (k : IsKept plans old) (new : World) wher
       let f = next_fresh plans (histories_of old) old.coordinator.archive old.sent k.sound r.session s.0 in
       (f.0 ∙ sym s.1, λ _. f.1)
 
-  start_advances : CoordinatorGoes old (IsNext old.coordinator.archive) (StartsFrom old.coordinator.archive) new → Advances old new
-  start_advances g = coordinator_advances plans old (IsNext old.coordinator.archive) (StartsFrom old.coordinator.archive) new g
+  start_advances : CoordinatorGoes old (IsNext old.coordinator.archive) (StartsFrom old.coordinator.archive) new → Advances plans old new
+  start_advances g = coordinator_advances plans plans old (IsNext old.coordinator.archive) (StartsFrom old.coordinator.archive) new g
       (coordinator_keeps plans old (IsNext old.coordinator.archive) (StartsFrom old.coordinator.archive) new k.sound k.sides
       (λ kept due. subst (IsHarmless plans (histories_of old)) (sym due) (session_harmless (old.coordinator.archive.last_session + 1))) g (starts_has g.machine.running g.runs_on))
 
   -- the coordinator's machine alone changes, and says nothing
   coordinator_settles : (machine : CoordinatorMachine) (ks : List Kept) → IsSound plans (histories_of old) machine.archive old.sent → old.coordinator.archive.last_session ≤ machine.archive.last_session →
-      IsSoundCoordinator plans (histories_of old) old.sent machine → new ≡ record old { coordinator = machine; acknowledged = old.acknowledged ++ map (λ k. Kept_by k) ks } → Advances old new
+      IsSoundCoordinator plans (histories_of old) old.sent machine → new ≡ record old { coordinator = machine; acknowledged = old.acknowledged ++ map (λ k. Kept_by k) ks } → Advances plans old new
   coordinator_settles machine ks sound later coordinator e = record {
-    plans = plans;
+    later = plans;
+    which = Left;
+    moves = stay_moves plans old new (ap (λ w. histories_of w Left) e) (ap (λ w. histories_of w Right) e);
     kept = subst (IsKept plans) (sym e) (record {
       sound = sound;
       sides = λ side. on_both (λ s. IsSoundSide plans (histories_of old) machine.archive s (side_of old s)) side
@@ -381,7 +395,7 @@ module _ (plans : Plans) (old : World) (k : IsKept plans old) (new : World) wher
     writing = if_some old.coordinator.writing (IsPending old.coordinator.status old.coordinator.running) (IsPending status old.coordinator.running) k.coordinator.writing (λ kept _ x. (keeps x.0, x.1, x.2, x.3));
   }
 
-  opens_archive : (machine : CoordinatorMachine) (ks : List Kept) → OpensArchive old.coordinator machine ks → new ≡ record old { coordinator = machine; acknowledged = old.acknowledged ++ map (λ k. Kept_by k) ks } → Advances old new
+  opens_archive : (machine : CoordinatorMachine) (ks : List Kept) → OpensArchive old.coordinator machine ks → new ≡ record old { coordinator = machine; acknowledged = old.acknowledged ++ map (λ k. Kept_by k) ks } → Advances plans old new
   opens_archive _ _ archive_opened e = coordinator_settles (record old.coordinator { status = Up; writing = None }) [] k.sound (omega arith) (record { running = k.coordinator.running; runs_over = k.coordinator.runs_over; writing = tt }) e
   opens_archive _ _ (archive_recovered kept w can) e =
       let pending : IsPending old.coordinator.status old.coordinator.running kept = subst (λ o. IfSome o (IsPending old.coordinator.status old.coordinator.running)) w k.coordinator.writing in
@@ -391,40 +405,40 @@ module _ (plans : Plans) (old : World) (k : IsKept plans old) (new : World) wher
   opens_archive _ _ archive_not_opened e = coordinator_settles old.coordinator [] k.sound (omega arith) k.coordinator e
   opens_archive _ _ (archive_not_reopened up) e = coordinator_settles (record old.coordinator { status = Halted }) [] k.sound (omega arith) (with_status Halted (λ _. halted_not_up)) e
 
-  no_acks : (machine : CoordinatorMachine) → new ≡ record old { coordinator = machine } → new ≡ record old { coordinator = machine; acknowledged = old.acknowledged ++ map (λ k. Kept_by k) [] }
+  pub no_acks : (machine : CoordinatorMachine) → new ≡ record old { coordinator = machine } → new ≡ record old { coordinator = machine; acknowledged = old.acknowledged ++ map (λ k. Kept_by k) [] }
   no_acks machine e = e ∙ ap (λ a. record old { coordinator = machine; acknowledged = a }) (sym (append-nil old.acknowledged))
 
-  cut_advances : (machine : Machine) → new ≡ cut_off old machine → Advances old new
+  cut_advances : (machine : Machine) → new ≡ cut_off old machine → Advances plans old new
   cut_advances (At which) e = side_settles plans old k which (stopped (side_of old which) (side_of old which).writing) new refl tt
       (was_written plans old k which Down (λ _. down_not_up) (record { history = (side_of old which).side.history; staging = None }) refl) (e ∙ next_same old which _)
   cut_advances Coordinator e = coordinator_settles (record old.coordinator { status = Down; running = None }) [] k.sound (omega arith)
       (record { running = tt; runs_over = tt; writing = if_some old.coordinator.writing (IsPending old.coordinator.status old.coordinator.running) (IsPending Down None) k.coordinator.writing (λ kept _ x. (down_not_up, refl, x.2, x.3)) })
       (no_acks (record old.coordinator { status = Down; running = None }) e)
 
-  halt_advances : (machine : Machine) → new ≡ halted old machine → Advances old new
+  halt_advances : (machine : Machine) → new ≡ halted old machine → Advances plans old new
   halt_advances (At which) e = side_settles plans old k which (record (side_of old which) { status = Halted }) new refl (k.sides which).staged
       (was_written plans old k which Halted (λ _. halted_not_up) (side_of old which).side refl) (e ∙ next_same old which _)
   halt_advances Coordinator e = coordinator_settles (record old.coordinator { status = Halted }) [] k.sound (omega arith) (with_status Halted (λ _. halted_not_up)) (no_acks (record old.coordinator { status = Halted }) e)
 
-  opens_machine : (machine : Machine) → OpensMachine old machine new → Advances old new
+  opens_machine : (machine : Machine) → OpensMachine old machine new → Advances plans old new
   opens_machine (At which) g = opens_advances plans old k which g.0 g.1 new g.2 g.3
   opens_machine Coordinator g = opens_archive g.0 g.1 g.2 g.3
 
-  answer_advances : (from : Which) (session number : ℕ) (said : Reply) → Contains old.sent (Answers from session number said) → TakesAnswer old from session number said new → Advances old new
+  answer_advances : (from : Which) (session number : ℕ) (said : Reply) → Contains old.sent (Answers from session number said) → TakesAnswer old from session number said new → Advances plans old new
   answer_advances from session number said c (taken plan expected made g reports) = take_with from session number said plan c old.coordinator.running refl expected made g
   answer_advances from session number said c (ignored x e) = stays plans old new k e
   answer_advances from session number said c (coordinator_down d e) = stays plans old new k e
 
-  delivers_advances : (o : Option Message) → ((m : Message) → o ≡ Some m → Contains old.sent m) → Delivers old o new → Advances old new
+  delivers_advances : (o : Option Message) → ((m : Message) → o ≡ Some m → Contains old.sent m) → Delivers old o new → Advances plans old new
   delivers_advances None c e = stays plans old new k e
   delivers_advances (Some (Asks to session number request)) c t = request_advances plans old k to session number request (c _ refl) new t
   delivers_advances (Some (Answers from session number said)) c t = answer_advances from session number said (c _ refl) t
 
-  was_sent : (n : ℕ) (m : Message) → slice_get old.sent n ≡ Some m → Contains old.sent m
+  pub was_sent : (n : ℕ) (m : Message) → slice_get old.sent n ≡ Some m → Contains old.sent m
   was_sent n m e = subst (Contains old.sent) (get_or_from_slice_get old.sent n m m e) (Contains-get_or old.sent n m (slice_get_within old.sent n m e))
 
   -- each step keeps the invariant, and its replacements are legal
-  pub step_advances : (step : Step) → Steps old step new → Advances old new
+  pub step_advances : (step : Step) → Steps old step new → Advances plans old new
   step_advances (Edits side user edit) g = edit_advances plans old k side user edit g.0 g.1 new g.2 g.3
   step_advances Start (inl e) = stays plans old new k e
   step_advances Start (inr g) = start_advances g.1

@@ -1,10 +1,10 @@
 -- The invariant is kept as histories, messages, plans and the archive go on.
-use Rattle.std.proofs.Common.{◌≡◌, ◌≤◌, ◌+◌, ℕ, zero, suc, true, false, not, ◌==◌, nat_le, List, [], ◌∷◌, ◌++◌, length, take, drop, refl, sym, ap, ◌∙◌, subst, Some, None, true≢false, append-nil, arith, inl, inr, ◌⊎◌, if◌then◌else◌, slice_get, fold}
+use Rattle.std.proofs.Common.{◌≡◌, ◌≤◌, ◌<◌, ◌+◌, ℕ, zero, suc, true, false, not, ◌==◌, nat_le, List, [], ◌∷◌, ◌++◌, length, take, drop, refl, sym, ap, ◌∙◌, subst, Some, None, true≢false, append-nil, arith, inl, inr, ◌⊎◌, if◌then◌else◌, slice_get, fold}
 use Rattle.std.specs.Prelude.{Contains, All}
 use Rattle.std.specs.Option.{option_map_or}
 use Rattle.std.specs.FinMap.{get}
 use Rattle.std.proofs.lemmas.Bool.Decides.{nat_tests}
-use Rattle.std.proofs.lemmas.List.{length-append}
+use Rattle.std.proofs.lemmas.List.{length-append, take-append-le}
 use Rattle.std.proofs.lemmas.List.Elements.{Contains-append_left, Contains-append_cases}
 use Rattle.syn_model.specs.Path.{Path, is_root, strip_prefix, IsName}
 use Rattle.syn_model.specs.Tree.{Tree, Content, Directory, IsTree, IsPart, empty_directory, subtree, replace, is_directory}
@@ -19,7 +19,7 @@ use Rattle.syn_model.specs.Archive.{Archive, Kept, Session, Recorded, RecordedDi
 use Rattle.syn_model.specs.Limits.{greatest, fits_archive}
 use Rattle.syn_headline.specs.Laws.{AddsAllowed}
 use Rattle.syn_headline.specs.Side.{Request, Begin, ListAt, Fetch, Stage, Replace, Reply, Begun, Listed, NotDir, Piece, Done}
-use Rattle.syn_headline.specs.Network.{Which, other, Sent, Message, Asks, Answers, NumbersTell, AsksNothingTwice}
+use Rattle.syn_headline.specs.Network.{Which, other, Sent, Asks, Answers, NumbersTell, AsksNothingTwice}
 use Rattle.syn_headline.specs.Planning.{Planned, seen_on, IsPlanOf, WritesTo}
 use Rattle.syn_headline.specs.World.{IsOfPlan}
 use Rattle.syn_headline.specs.Invariant.{Plans, Histories, IsSound, IsSound_request, IsStillRecorded, IsTrue, IsBorne, HadMarks, IsSpent, IsHeld, IsHeldRecord, IsHarmless, IsUsed, IsFresh, part_at}
@@ -36,12 +36,15 @@ pub fold_one : (last : ℕ) (history : History) (event : Event) → fold session
 fold_one last [] event = refl
 fold_one last (e ∷ history) event = fold_one (session_after last e) history event
 
-number_above : (n last : ℕ) → nat_le n last ≡ false → last ≤ n
+pub number_above : (n last : ℕ) → nat_le n last ≡ false → last < n
 number_above n last h = grind (arith, nat_tests)
+
+pub began_above : (history : History) (session : ℕ) → IsAllowed history (Began session) → last_session history < session
+began_above history session a = number_above session (last_session history) (first_cause-none (nat_le session (last_session history), OldSession) (position_causes history) a.not_refused).0
 
 after_grows : (history : History) (event : Event) → IsAllowed history event → last_session history ≤ session_after (last_session history) event
 after_grows history (Edited user edit) a = omega arith
-after_grows history (Began session) a = number_above session (last_session history) (first_cause-none (nat_le session (last_session history), OldSession) (position_causes history) a.not_refused).0
+after_grows history (Began session) a = let above : last_session history < session = began_above history session a in omega (arith, above)
 after_grows history (Replaced token path since new) a = omega arith
 
 pub session_grows : (old new : History) → AddsAllowed old new → last_session old ≤ last_session new
@@ -105,7 +108,7 @@ true-grow old new a session (Begin pair) (Begun position) t = let grows : last_s
 true-grow old new a session (ListAt path) (Listed position entries) t =
     let x = extends old new a in
     let grows : length old ≤ length new = length_grows old new x in
-    record { reached = omega (arith, t.reached, grows); entries_there = t.entries_there ∙ ap (λ u. children (mark u) path) (sym (tree_at_stays old new x position t.reached)) }
+    record { reached = omega (arith, t.reached, grows); begun = subst (λ w. session ≤ last_session (take position w)) (sym x.1) (subst (λ w. session ≤ last_session w) (sym (take-append-le position old x.0 t.reached)) t.begun); entries_there = t.entries_there ∙ ap (λ u. children (mark u) path) (sym (tree_at_stays old new x position t.reached)) }
 true-grow old new a session (ListAt path) (NotDir position) t =
     let x = extends old new a in
     let grows : length old ≤ length new = length_grows old new x in
@@ -170,7 +173,7 @@ sound-grow plans histories new archive sent sound grows below used = record {
 
 -- Messages
 
-pub only_one : (x y : Message) → Contains (x ∷ []) y → x ≡ y
+pub only_one : {X : Type 0} (x y : X) → Contains (x ∷ []) y → x ≡ y
 only_one x y (zero, h, e) = e
 only_one x y (suc k, h, e) = absurd (omega (arith, h))
 

@@ -92,7 +92,7 @@ module _ (plans : Plans) (old new : World) (k : IsKept plans old) (which : Which
   machine_is : histories_of new which ≡ machine.side.history
   machine_is = ap (λ m. m.side.history) s.here
 
-  step_moves : Moves plans old.coordinator.archive (histories_of old) (histories_of new) which
+  pub step_moves : Moves plans old.coordinator.archive (histories_of old) (histories_of new) which
   step_moves = record {
     here = elim s.moves as (λ _. (histories_of new which ≡ histories_of old which) ⊎ ((event : Event) × IsAllowed (histories_of old which) event × IsSoundEvent plans (histories_of old) old.coordinator.archive which event × (histories_of new which ≡ histories_of old which ++ event ∷ []))) [
       | inl e ↦ inl (machine_is ∙ e)

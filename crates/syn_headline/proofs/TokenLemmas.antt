@@ -44,7 +44,7 @@ others_later done (Replaced used path since new ∷ events) last token e b all =
     All-cons (IsOtherToken token) (Replaced used path since new) events both.0
     (others_later (done ++ Replaced used path since new ∷ []) events used token (token_one None done (Replaced used path since new)) both.1 all.1)
 
-after_front : (start xs ys : History) → AllAllowed start (xs ++ ys) → AllAllowed (start ++ xs) ys
+pub after_front : (start xs ys : History) → AllAllowed start (xs ++ ys) → AllAllowed (start ++ xs) ys
 after_front start [] ys h = subst (λ w. AllAllowed w ys) (sym (append-nil start)) h
 after_front start (x ∷ xs) ys h = subst (λ w. AllAllowed w ys) (append_assoc start (x ∷ []) xs) (after_front (start ++ x ∷ []) xs ys h.1)
 

@@ -9,7 +9,7 @@ use Rattle.syn_model.specs.Archive.{CanKeep, Held}
 use Rattle.syn_headline.specs.Network.{Which, Left, Right, Sent, Message}
 use Rattle.syn_headline.specs.Acknowledged.{Ack, Happened, Stores, stores_after, IsLegal}
 use Rattle.syn_headline.specs.World.{Up, World, Running, side_of, Step, Waits, RunsOver, Runs}
-use Rattle.syn_headline.specs.Headline.{stores_of, IsStart, EachReplacementIsLegal, StandsFor, RunsReplaceLegally, RunsUseTokensOnce, RunsOwe}
+use Rattle.syn_headline.specs.Headline.{stores_of, IsStart, EachReplacementIsLegal, EachTokenOnce, StandsFor, OfEachRun, Owes}
 use Rattle.syn_headline.specs.Invariant.{Plans, histories_of, IsHarmless, IsSoundStaging, IsSoundEvent, IsSoundSide, IsKept}
 use Rattle.syn_model.proofs.PathLemmas.{none_some}
 use Rattle.syn_headline.proofs.PlanLemmas.{answered-more}
@@ -48,8 +48,8 @@ split_at (a ∷ xs) ys (b ∷ earlier) x later e =
 stores_same : (a b : Stores) → a.left ≡ b.left → a.right ≡ b.right → a.archive ≡ b.archive → a ≡ b
 stores_same a b l r o = ap₂ (λ x y. record { left = x; right = y; archive = a.archive }) l r ∙ ap (λ x. record { left = b.left; right = b.right; archive = x }) o
 
-legal_extends : (before : Stores) (old new : World) → StandsFor before old → Advances old new → EachReplacementIsLegal before old → EachReplacementIsLegal before new
-legal_extends before old new stands a all earlier later side token path since u e =
+legal_extends : (before : Stores) (plans : Plans) (old new : World) → StandsFor before old → Advances plans old new → EachReplacementIsLegal before old → EachReplacementIsLegal before new
+legal_extends before plans old new stands a all earlier later side token path since u e =
     subst (λ sent. IsLegal sent side (stores_after before earlier) token path since u) (sym a.sends)
     (legal-more old.sent a.messages side (stores_after before earlier) token path since u
     (elim (split_at old.acknowledged a.acks earlier (Happened side (Replaced token path since u)) later (sym a.acknowledges ∙ e)) as (λ _. IsLegal old.sent side (stores_after before earlier) token path since u) [
@@ -66,7 +66,7 @@ runs_legally : (before : Stores) (steps : List Step) (plans : Plans) (old new : 
 runs_legally before [] plans old new k stands all e = subst (EachReplacementIsLegal before) (sym e) all
 runs_legally before (step ∷ steps) plans old new k stands all g =
     let a = step_advances plans old k g.0 step g.1 in
-    runs_legally before steps a.plans g.0 new a.kept (step_stands before old step g.0 stands g.1) (legal_extends before old g.0 stands a all) g.2
+    runs_legally before steps a.later g.0 new a.kept (step_stands before old step g.0 stands g.1) (legal_extends before plans old g.0 stands a all) g.2
 
 nothing_sent : (sent : Sent) (m : Message) → sent ≡ [] → Contains sent m → ⊥
 nothing_sent sent m e c = let d : Contains [] m = subst (λ s. Contains s m) e c in omega (arith, d.1)
@@ -113,21 +113,21 @@ start_stands old e = subst (λ acks. StandsFor (stores_of old) (record old { ack
 })
 
 -- in every run each replacement is legal
-pub runs_replace_legally : RunsReplaceLegally
+pub runs_replace_legally : OfEachRun EachReplacementIsLegal
 runs_replace_legally old new steps s g = runs_legally (stores_of old) steps no_plans old new (start_kept old s) (start_stands old s.nothing_yet.1)
     (λ earlier later side token path since u e. absurd (not_nothing earlier later _ (sym s.nothing_yet.1 ∙ e))) g
 
 -- the invariant after a whole run
 pub run_kept : (steps : List Step) (plans : Plans) (old new : World) → IsKept plans old → Runs old steps new → (later : Plans) × IsKept later new
 run_kept [] plans old new k e = (plans, subst (IsKept plans) (sym e) k)
-run_kept (step ∷ steps) plans old new k g = let a = step_advances plans old k g.0 step g.1 in run_kept steps a.plans g.0 new a.kept g.2
+run_kept (step ∷ steps) plans old new k g = let a = step_advances plans old k g.0 step g.1 in run_kept steps a.later g.0 new a.kept g.2
 
-pub runs_use_tokens_once : RunsUseTokensOnce
+pub runs_use_tokens_once : OfEachRun EachTokenOnce
 runs_use_tokens_once old new steps s g side earlier later token path since u e =
     token_once (histories_of new side) earlier later token path since u ((run_kept steps no_plans old new (start_kept old s) g).1.sound.lawful side) e
 
 -- and what a session owes
-pub runs_owe : RunsOwe
+pub runs_owe : OfEachRun Owes
 runs_owe old new steps s g =
     let k = (run_kept steps no_plans old new (start_kept old s) g).1 in
     (waits new.coordinator.running k.coordinator.runs_over, k.sound.repeats)

@@ -1,6 +1,6 @@
 -- What is acknowledged is what the machines stand for.
 use Rattle.std.proofs.Common.{◌≡◌, ℕ, List, [], ◌∷◌, ◌++◌, map, filter_map, refl, sym, ap, ap₂, ◌∙◌, subst, Option, Some, None, inl, inr, append-nil, append_assoc, slice_get}
-use Rattle.std.specs.List.{cons_option}
+use Rattle.std.proofs.lemmas.List.Elements.{filter_map-append}
 use Rattle.syn_model.specs.Event.{Event, Edited, Edit}
 use Rattle.syn_model.specs.History.{History}
 use Rattle.syn_model.specs.Archive.{Archive, Kept, after_kept, archive_of}
@@ -11,10 +11,6 @@ use Rattle.syn_headline.specs.Side.{Request, Reply, Refused}
 use Rattle.syn_model.specs.Refusal.{Device}
 use Rattle.syn_headline.specs.World.{Running, World, SideMachine, CoordinatorMachine, Machine, At, Coordinator, Step, Edits, Start, Deliver, Tick, Checkpoint, Fail, Stop, Open, Reopen, side_of, set_side, stopped, Writes, DoesEdit, SideGoes, Opens, OpensArchive, TakesRequest, TakesAnswer, CoordinatorGoes, Delivers, OpensMachine, cut_off, halted, Steps, written, failed, cut, edit_refused, edit_written, opened, recovered, not_opened, not_reopened, archive_opened, archive_recovered, archive_not_opened, archive_not_reopened, answered, request_failed, request_cut, side_down, taken, ignored, coordinator_down}
 use Rattle.syn_headline.specs.Headline.{StandsFor, RunsStand}
-
-taken-append : {X : Type 0} (f : Ack → Option X) (xs ys : List Ack) → filter_map f (xs ++ ys) ≡ filter_map f xs ++ filter_map f ys
-taken-append f [] ys = refl
-taken-append {X} f (x ∷ xs) ys = elim (f x) as (λ o. cons_option o (filter_map f (xs ++ ys)) ≡ cons_option o (filter_map f xs) ++ filter_map f ys) [ None ↦ taken-append f xs ys | Some y ↦ ap (λ w. y ∷ w) (taken-append f xs ys) ]
 
 left_left : (es : List Event) → filter_map (event_at Left) (map (λ e. Happened Left e) es) ≡ es
 left_left [] = refl
@@ -32,11 +28,11 @@ right_left : (es : List Event) → filter_map (event_at Right) (map (λ e. Happe
 right_left [] = refl
 right_left (e ∷ es) = right_left es
 
-kept_events : (which : Which) (es : List Event) → filter_map kept_in (map (λ e. Happened which e) es) ≡ []
+pub kept_events : (which : Which) (es : List Event) → filter_map kept_in (map (λ e. Happened which e) es) ≡ []
 kept_events which [] = refl
 kept_events which (e ∷ es) = kept_events which es
 
-kept_kept : (ks : List Kept) → filter_map kept_in (map (λ k. Kept_by k) ks) ≡ ks
+pub kept_kept : (ks : List Kept) → filter_map kept_in (map (λ k. Kept_by k) ks) ≡ ks
 kept_kept [] = refl
 kept_kept (k ∷ ks) = ap (λ w. k ∷ w) (kept_kept ks)
 
@@ -46,7 +42,7 @@ event_kept Right [] = refl
 event_kept Left (k ∷ ks) = event_kept Left ks
 event_kept Right (k ∷ ks) = event_kept Right ks
 
-archive-append : (a : Archive) (xs ys : List Kept) → archive_of a (xs ++ ys) ≡ archive_of (archive_of a xs) ys
+pub archive-append : (a : Archive) (xs ys : List Kept) → archive_of a (xs ++ ys) ≡ archive_of (archive_of a xs) ys
 archive-append a [] ys = refl
 archive-append a (x ∷ xs) ys = archive-append (after_kept a x) xs ys
 
@@ -55,7 +51,7 @@ goes_on : (before : History) (which : Which) (acks more : List Ack) (old new : H
     filter_map (event_at which) more ≡ es → new ≡ old ++ es → new ≡ before ++ filter_map (event_at which) (acks ++ more)
 goes_on before which acks more old new es o m n =
     n ∙ (ap₂ (λ a b. a ++ b) o (sym m) ∙ (append_assoc before (filter_map (event_at which) acks) (filter_map (event_at which) more)
-    ∙ ap (λ w. before ++ w) (sym (taken-append (event_at which) acks more))))
+    ∙ ap (λ w. before ++ w) (sym (filter_map-append (event_at which) acks more))))
 
 stays : (before : History) (which : Which) (acks more : List Ack) (old : History) → old ≡ before ++ filter_map (event_at which) acks →
     filter_map (event_at which) more ≡ [] → old ≡ before ++ filter_map (event_at which) (acks ++ more)
@@ -64,7 +60,7 @@ stays before which acks more old o m = goes_on before which acks more old old []
 archive_goes : (before : Archive) (acks more : List Ack) (old new : Archive) (ks : List Kept) → old ≡ archive_of before (filter_map kept_in acks) →
     filter_map kept_in more ≡ ks → new ≡ archive_of old ks → new ≡ archive_of before (filter_map kept_in (acks ++ more))
 archive_goes before acks more old new ks o m n =
-    n ∙ (ap₂ archive_of o (sym m) ∙ (sym (archive-append before (filter_map kept_in acks) (filter_map kept_in more)) ∙ ap (archive_of before) (sym (taken-append kept_in acks more))))
+    n ∙ (ap₂ archive_of o (sym m) ∙ (sym (archive-append before (filter_map kept_in acks) (filter_map kept_in more)) ∙ ap (archive_of before) (sym (filter_map-append kept_in acks more))))
 
 -- a side that goes on by the events that are acknowledged
 side_goes : (before : Stores) (old : World) (which : Which) (machine : SideMachine) (es : List Event) (messages : List Message) (new : World) → StandsFor before old →

@@ -1,13 +1,14 @@
 -- What is proved of whole runs.
-use Rattle.std.specs.Prelude.{ℕ, ◌≡◌, ◌≤◌, ◌↔◌, ◌+◌, drop, true, false, List, [], ◌∷◌, ◌++◌, take, length, None, All, Contains, IfSome}
-use Rattle.syn_model.specs.Path.{Bytes, Path}
-use Rattle.syn_model.specs.Tree.{Tree, IsTree, subtree}
+use Rattle.std.specs.Prelude.{ℕ, true, ◌≡◌, ◌≤◌, ◌↔◌, ◌+◌, drop, false, List, [], ◌∷◌, ◌++◌, take, None, All, Contains, IfSome}
+use Rattle.syn_model.specs.Path.{Bytes, Path, parent}
+use Rattle.syn_model.specs.Tree.{Tree, IsTree, subtree, is_directory}
 use Rattle.syn_model.specs.Event.{Token, is_same_token, Event, Edited, Began, Replaced, touches}
 use Rattle.syn_model.specs.History.{History, IsHistory, tree_of, tree_at, last_session}
 use Rattle.syn_model.specs.Mark.{mark, AreApart}
 use Rattle.syn_model.specs.Archive.{Archive, new_archive, Session, BothHeld}
 use Rattle.syn_model.specs.Dirty.{Paths, dirty}
-use Rattle.syn_model.specs.Reconcile.{is_directory_in_both, is_relevant, is_settled, IsSynchronization, IsReconciledArchive}
+use Rattle.syn_model.specs.Plan.{IsConflict}
+use Rattle.syn_model.specs.Reconcile.{IsSynchronization, IsReconciledArchive}
 use Rattle.syn_headline.specs.Network.{Which, Left, Right, other, AsksNothingTwice}
 use Rattle.syn_headline.specs.Acknowledged.{Ack, Happened, Kept_by, Stores, history_of, stores_after, Grown, ArchiveGrown, IsLegal}
 use Rattle.syn_headline.specs.Report.{Report, Complete}
@@ -99,11 +100,8 @@ CompleteSessionsSynchronize before world =
 
 -- Its conflicts are the relevant paths that are dirty on both sides, no directory on both and unequal
 abbrev pub ReportsItsConflicts : Stores → World → Type 0
-ReportsItsConflicts before world =
-    AreApart (IsOfRun world) → (report : Report) (found left : Stores) → IsQuietSession before world report found left → (path : Path) →
-    let a = tree_of found.left in let b = tree_of found.right in
-    Contains report.conflicts path ↔
-    ((is_relevant a b path ≡ true) × (is_directory_in_both a b path ≡ false) × (is_settled a b (dirty_in found.left found.archive) (dirty_in found.right found.archive) path ≡ false))
+ReportsItsConflicts before world = (report : Report) (found left : Stores) → IsQuietSession before world report found left → (path : Path) →
+    Contains report.conflicts path ↔ IsConflict (tree_of found.left) (tree_of found.right) found.archive.marks path
 
 abbrev pub IsOtherToken : Token → Event → Type 0
 IsOtherToken token (Edited user edit) = Unit {0}
@@ -111,8 +109,8 @@ IsOtherToken token (Began session) = Unit {0}
 IsOtherToken token (Replaced used path since new) = is_same_token used token ≡ false
 
 -- Each token has one replacement at most
-abbrev pub EachTokenOnce : World → Type 0
-EachTokenOnce world =
+abbrev pub EachTokenOnce : Stores → World → Type 0
+EachTokenOnce before world =
     (side : Which) (earlier later : History) (token : Token) (path : Path) (since : ℕ) (new : Tree) →
     (side_of world side).side.history ≡ earlier ++ Replaced token path since new ∷ later → All (IsOtherToken token) later
 
@@ -120,16 +118,14 @@ EachTokenOnce world =
 abbrev pub UntouchedSince : ℕ → History → Path → Type 0
 UntouchedSince position history path = All (λ event. touches event path ≡ false) (drop position history)
 
--- What was carried and not recorded is marked by the next complete session without edits:
--- `fetched` is the source's position at its last fetch
+-- What was carried and not recorded is marked by the next complete session without edits, where nothing touched it since:
+-- `fetched` is the source's position at its last fetch, when the path stood in a directory
 abbrev pub CarriedIsMarked : Stores → World → Type 0
 CarriedIsMarked before world =
-    (side : Which) (earlier later : List Ack) (token : Token) (path : Path) (since fetched : ℕ) (new : Tree) (report : Report) (found left : Stores) →
-    world.acknowledged ≡ earlier ++ Happened side (Replaced token path since new) ∷ later →
-    fetched ≤ length (history_of (stores_after before earlier) (other side)) →
-    new ≡ subtree (tree_at (history_of found (other side)) fetched) path →
-    UntouchedSince fetched (history_of found (other side)) path →
-    UntouchedSince (length (history_of (stores_after before earlier) side) + 1) (history_of found side) path →
+    (side : Which) (first rest : History) (token : Token) (path : Path) (since fetched : ℕ) (new : Tree) (report : Report) (found left : Stores) →
+    let source = history_of found (other side) in
+    history_of found side ≡ first ++ Replaced token path since new ∷ rest → All (λ event. touches event path ≡ false) rest →
+    is_directory (tree_at source fetched) (parent path) ≡ true → new ≡ subtree (tree_at source fetched) path → UntouchedSince fetched source path →
     IsQuietSession before world report found left → subtree left.archive.marks path ≡ mark new
 
 -- The headline
@@ -154,27 +150,17 @@ RunsStand = (before : Stores) (old new : World) (steps : List Step) → Runs old
 abbrev pub formatted : Stores
 formatted = record { left = []; right = []; archive = new_archive }
 
-abbrev pub FormattedIsPair : Type 0
-FormattedIsPair = IsPair formatted
-
--- In every run from a world that has just been opened, with stops and failing devices, each replacement is legal
-abbrev pub RunsReplaceLegally : Type 0
-RunsReplaceLegally = (old new : World) (steps : List Step) → IsStart old → Runs old steps new → EachReplacementIsLegal (stores_of old) new
-
-abbrev pub RunsUseTokensOnce : Type 0
-RunsUseTokensOnce = (old new : World) (steps : List Step) → IsStart old → Runs old steps new → EachTokenOnce new
-
--- and each archive entry was held by both sides, whatever an opening then gives
-abbrev pub RunsHoldArchive : Type 0
-RunsHoldArchive = (old new : World) (steps : List Step) → IsStart old → Runs old steps new → EachEntryWasHeld (stores_of old) new
+-- what holds of every run from a world that has just been opened, with stops of any machine and failing devices
+abbrev pub OfEachRun : (Stores → World → Type 0) → Type 0
+OfEachRun Holds = (old new : World) (steps : List Step) → IsStart old → Runs old steps new → Holds (stores_of old) new
 
 -- what an opening then gives is a pair again
-abbrev pub RunsLeavePair : Type 0
-RunsLeavePair = (old new : World) (steps : List Step) → IsStart old → Runs old steps new →
-    let now = stores_after (stores_of old) new.acknowledged in
+abbrev pub LeavesPair : Stores → World → Type 0
+LeavesPair before new =
+    let now = stores_after before new.acknowledged in
     (left right : History) (archive : Archive) → Grown new.left.writing now.left left → Grown new.right.writing now.right right →
     ArchiveGrown new.coordinator.writing now.archive archive → IsPair (record { left = left; right = right; archive = archive })
 
 -- a session that runs waits for an answer, and nothing was asked twice in one
-abbrev pub RunsOwe : Type 0
-RunsOwe = (old new : World) (steps : List Step) → IsStart old → Runs old steps new → IfSome new.coordinator.running Waits × AsksNothingTwice new.sent
+abbrev pub Owes : Stores → World → Type 0
+Owes before new = IfSome new.coordinator.running Waits × AsksNothingTwice new.sent

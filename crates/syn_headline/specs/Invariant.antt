@@ -29,8 +29,9 @@ Plans = ℕ → List Planned
 abbrev pub part_at : History → ℕ → Path → Tree
 part_at history position path = subtree (tree_at history position) path
 
-pub record IsTrueListing (history : History) (path : Path) (position : ℕ) (entries : List (Name × Content)) : Type 0 where
+pub record IsTrueListing (history : History) (session : ℕ) (path : Path) (position : ℕ) (entries : List (Name × Content)) : Type 0 where
   pub reached : position ≤ length history
+  pub begun : session ≤ last_session (take position history)
   pub entries_there : entries ≡ children (mark (tree_at history position)) path
 
 pub record IsTruePiece (history : History) (path : Path) (since offset total : ℕ) (bytes : Bytes) : Type 0 where
@@ -45,7 +46,7 @@ pub record IsTrueNotDir (history : History) (path : Path) (position : ℕ) : Typ
 -- a reply that stays true as the history goes on
 abbrev pub IsTrue : History → ℕ → Request → Reply → Type 0
 IsTrue history session (Begin pair) (Begun position) = session ≤ last_session history
-IsTrue history session (ListAt path) (Listed position entries) = IsTrueListing history path position entries
+IsTrue history session (ListAt path) (Listed position entries) = IsTrueListing history session path position entries
 IsTrue history session (ListAt path) (NotDir position) = IsTrueNotDir history path position
 IsTrue history session (Fetch path since offset) (Piece total bytes) = IsTruePiece history path since offset total bytes
 IsTrue history session (Replace item path since size) Done = (since ≤ length history) × (is_quiet history since (length history) path ≡ false)

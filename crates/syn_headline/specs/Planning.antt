@@ -9,13 +9,13 @@ use Rattle.syn_headline.specs.Network.{Which, Left, Right, other, Sent, WasAnswe
 use Rattle.syn_model.specs.Decision.{Item, path_of, ToLeft, ToRight, MarkSame, MarkDir, Conflict, is_unstable}
 use Rattle.syn_model.specs.Plan.{plan as items_of}
 
--- each directory of the scan was listed so at its position, after the directory above it, and each unstable path answered as no directory
+-- each directory of the scan was listed so at its position, after the directory above it, or is unstable: it was answered as none
 pub record IsScanOf (sent : Sent) (side : Which) (session : ℕ) (scan : Scan) (since : Path → ℕ) : Type 0 where
   pub tree : IsTree scan.marks
   pub listed : (path : Path) → is_directory scan.marks path ≡ true → is_unstable scan path ≡ false →
       WasAnswered sent side session (ListAt path) (Listed (since path) (children scan.marks path))
   pub ordered : (path : Path) (name : Name) → is_directory scan.marks (child path name) ≡ true → since path ≤ since (child path name)
-  pub not_dir : (path : Path) → Contains scan.unstable path → WasAnswered sent side session (ListAt path) (NotDir (since path))
+  pub not_dir : (path : Path) → Contains scan.unstable path → (is_directory scan.marks path ≡ true) × WasAnswered sent side session (ListAt path) (NotDir (since path))
   pub nothing_below : (path : Path) → Contains scan.unstable path → children scan.marks path ≡ []
 
 -- what a scan has at a path, and the position of the listing of its parent

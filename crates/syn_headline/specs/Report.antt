@@ -70,11 +70,11 @@ conflict_at (ToRight path) = None
 conflict_at (MarkSame path) = None
 conflict_at (MarkDir path) = None
 
--- A session that ends as an answer is taken has a cause, or it has settled each item of its plan
-pub record EndsAs (sent : Sent) (session : ℕ) (plan : List Planned) (kept : List Kept) (asked : Option Request) (reply : Reply) (report : Report) : Type 0 where
+-- A session that ends as an answer is taken has a cause, or it has settled each item of its plan, which was made even where it has none
+pub record EndsAs (sent : Sent) (session : ℕ) (archive : Tree) (plan : List Planned) (kept : List Kept) (asked : Option Request) (reply : Reply) (report : Report) : Type 0 where
   pub session_is : report.session ≡ session
   pub cause : IfSome report.ended (MayEnd asked reply)
   pub complete : report.end ≡ Complete → (report.ended ≡ None) × (report.refused ≡ [])
-  pub made : report.ended ≡ None → (found : Tree) × IsPlanOf sent session found plan
+  pub made : report.ended ≡ None → plan ≡ [] → IsPlanOf sent session archive plan
   pub settled : report.ended ≡ None → All (λ planned. IsSettled kept report planned.item) plan
   pub conflicts : report.ended ≡ None → report.conflicts ≡ filter_map (λ planned. conflict_at planned.item) plan

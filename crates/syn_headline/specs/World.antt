@@ -9,7 +9,7 @@ use Rattle.syn_model.specs.Archive.{Archive, Kept, Session, Recorded, RecordedDi
 use Rattle.syn_headline.specs.Side.{Request, Begin, ListAt, Fetch, Stage, Replace, Reply, Done, Refused, token_of, IsLawfulRequest, Side, Served, Serves, answer, stage, add_event}
 use Rattle.syn_headline.specs.Network.{Which, Left, Right, other, Message, Asks, Answers, Sent, NumbersTell, AsksNothingTwice}
 use Rattle.syn_headline.specs.Acknowledged.{Ack, Happened, Kept_by}
-use Rattle.syn_headline.specs.Planning.{Planned, seen_on, IsPlanOf, WritesTo, IsFetched, IsTotal}
+use Rattle.syn_headline.specs.Planning.{Planned, seen_on, HasBegun, IsPlanOf, WritesTo, IsFetched, IsTotal}
 use Rattle.syn_model.specs.Decision.{MarkSame, MarkDir}
 use Rattle.syn_headline.specs.Report.{Report, Incomplete, EndsAs, kept_in_session}
 
@@ -169,11 +169,11 @@ pub data TakesRequest (old : World) (which : Which) (session number : ℕ) (requ
 
 -- The coordinator
 
--- what is asked of a side is by an item of the plan: a piece of what it is to give, a piece that was fetched,
--- or its replacement, once the length of the whole is known
+-- a side is listed once it has begun the session, and what else is asked of it is by an item of the plan:
+-- a piece of what it is to give, a piece that was fetched, or its replacement, once the length of the whole is known
 abbrev pub IsOfPlan : Sent → ℕ → List Planned → Which → Request → Type 0
 IsOfPlan sent session plan to (Begin pair) = Unit {0}
-IsOfPlan sent session plan to (ListAt path) = Unit {0}
+IsOfPlan sent session plan to (ListAt path) = HasBegun sent to session
 IsOfPlan sent session plan to (Fetch path since offset) =
     (item : ℕ) × (planned : Planned) × (slice_get plan item ≡ Some planned) × WritesTo planned.item (other to) path × (since ≡ (seen_on planned to).since)
 IsOfPlan sent session plan to (Stage item offset bytes) =
@@ -295,7 +295,7 @@ Reports old new Ends =
 
 abbrev pub EndsTaken : World → World → Which → List Planned → Reply → Running → Report → Type 0
 EndsTaken old new from plan reply running report =
-    EndsAs old.sent running.session plan (kept_in_session new.acknowledged) (option_map (λ waiting. waiting.request) (outstanding running from)) reply report
+    EndsAs old.sent running.session old.coordinator.archive.marks plan (kept_in_session new.acknowledged) (option_map (λ waiting. waiting.request) (outstanding running from)) reply report
 
 -- nobody answers, or memory is refused
 abbrev pub EndsUnanswered : Running → Report → Type 0

@@ -3,7 +3,7 @@
 
 ghost use Rattle.syn_headline.specs.Laws.{ServesAllowed, RepeatsAreDone, LaterAreOld};
 ghost use Rattle.syn_headline.specs.Rows.{SideRows};
-ghost use Rattle.syn_headline.specs.Headline.{RunsStand, RunsReplaceLegally, RunsUseTokensOnce, RunsHoldArchive, RunsLeavePair, RunsOwe, FormattedIsPair};
+ghost use Rattle.syn_headline.specs.Headline.{formatted, IsPair, RunsStand, OfEachRun, EachReplacementIsLegal, EachTokenOnce, EachEntryWasHeld, LeavesPair, Owes, CompleteSessionsSynchronize, ReportsItsConflicts, CarriedIsMarked};
 
 /// A step of a side leaves its history or adds one allowed event, and answers as the worked examples say.
 pub fn side_laws()
@@ -13,13 +13,20 @@ pub fn side_laws()
     ensures rows { SideRows }
 {}
 
-/// In every run, with stops and failing devices, the machines stand for what was acknowledged.
+/// In every run, with stops and failing devices, the machines stand for what was acknowledged, and each replacement is legal.
 pub fn run_laws()
-    ensures formatted { FormattedIsPair }
+    ensures formatted { IsPair formatted }
     ensures stands { RunsStand }
-    ensures legal { RunsReplaceLegally }
-    ensures tokens { RunsUseTokensOnce }
-    ensures archive { RunsHoldArchive }
-    ensures pair { RunsLeavePair }
-    ensures owe { RunsOwe }
+    ensures legal { OfEachRun EachReplacementIsLegal }
+    ensures tokens { OfEachRun EachTokenOnce }
+    ensures archive { OfEachRun EachEntryWasHeld }
+    ensures pair { OfEachRun LeavesPair }
+    ensures owe { OfEachRun Owes }
+{}
+
+/// In every run a complete session without edits leaves the synchronization of what it found, reports its conflicts, and marks what was carried before it.
+pub fn session_laws()
+    ensures synchronized { OfEachRun CompleteSessionsSynchronize }
+    ensures conflicts { OfEachRun ReportsItsConflicts }
+    ensures marked { OfEachRun CarriedIsMarked }
 {}

@@ -1,18 +1,20 @@
 -- Histories leave trees within the limits.
-use Rattle.std.proofs.Common.{◌≡◌, ◌≤◌, Bool, true, false, cond, not, ◌&&◌, nat_le, List, [], ◌∷◌, ◌++◌, length, sym, ap, ◌∙◌, Some, None, append_assoc, append-nil}
+use Rattle.std.proofs.Common.{◌≡◌, ◌≤◌, Bool, true, false, cond, not, ◌&&◌, nat_le, List, [], ◌∷◌, ◌++◌, length, refl, sym, ap, ap₂, ◌∙◌, Some, None, append_assoc, append-nil}
 use Rattle.std.specs.Ordering.{eq_by_cmp}
 use Rattle.std.specs.List.{list_all}
 use Rattle.std.specs.FinMap.{find, entries, get, get-entries, len}
 use Rattle.std.proofs.lemmas.Bool.{leb-true}
-use Rattle.syn_model.specs.Path.{Path, path_cmp, root}
+use Rattle.syn_model.specs.Path.{Path, path_cmp, path_spelling, root}
 use Rattle.syn_model.specs.Tree.{Tree, Content, Contents, Pair, File, contents_of, file, replace}
-use Rattle.syn_model.specs.Limits.{children, fits_content, fits_part, fits_paths, fits_replica, tree_spelling_length, greatest_spelling}
+use Rattle.syn_model.specs.Limits.{children, fits_path, fits_content, fits_part, fits_paths, fits_replica, tree_spelling_length, greatest_spelling}
 use Rattle.syn_model.specs.Refusal.{Cause, first_cause, OldSession}
 use Rattle.syn_model.specs.Event.{Event, Edited, Began, Replaced, after_edit, after_event}
 use Rattle.syn_model.specs.History.{History, tree_of, position_causes, is_old_token, IsAllowed, AllAllowed}
 use Rattle.syn_model.specs.Standing.{place_causes, edit_causes, full_causes}
+use Rattle.syn_model.specs.Plan.{HasDepth, most_names}
 use Rattle.syn_model.specs.Laws.{HistoryFits, PutFits}
-use Rattle.syn_model.proofs.PathLemmas.{none_some, some_same}
+use native.Mathlib.Omega.{arith}
+use Rattle.syn_model.proofs.PathLemmas.{none_some, some_same, same_path}
 use Rattle.syn_model.proofs.DirtyLemmas.{both_true}
 use Rattle.syn_model.proofs.TreeLemmas.{get-subtree, subtree-replace}
 use Rattle.syn_model.proofs.ImageLemmas.{empty_fits}
@@ -47,21 +49,21 @@ pub history_fits : HistoryFits
 history_fits history h = more_fits [] history start_fits h
 
 -- where a test holds of all pairs, it holds of what is found
-all_found : (f : Pair → Bool) (p : Path) (es : List Pair) (c : Content) → list_all f es ≡ true → find path_cmp p es ≡ Some c → (q : Path) × (f (q, c) ≡ true)
+pub all_found : (f : Pair → Bool) (p : Path) (es : List Pair) (c : Content) → list_all f es ≡ true → find path_cmp p es ≡ Some c → f (p, c) ≡ true
 all_found f p [] c h e = absurd (none_some e)
 all_found f p (x ∷ es) c h e =
     let parts = both_true (f x) (list_all f es) h in
-    elim (eq_by_cmp path_cmp p x.0) as (λ b. cond b (Some x.1) (find path_cmp p es) ≡ Some c → (q : Path) × (f (q, c) ≡ true)) [
-      | true ↦ λ same. (x.0, ap (λ d. f (x.0, d)) (sym (some_same same)) ∙ parts.0)
-      | false ↦ λ rest. all_found f p es c parts.1 rest
-    ] e
+    elim (eq_by_cmp path_cmp p x.0) as (λ b. eq_by_cmp path_cmp p x.0 ≡ b → cond b (Some x.1) (find path_cmp p es) ≡ Some c → f (p, c) ≡ true) [
+      | true ↦ λ here same. ap₂ (λ q d. f (q, d)) (same_path p x.0 here) (sym (some_same same)) ∙ parts.0
+      | false ↦ λ _ rest. all_found f p es c parts.1 rest
+    ] refl e
 
 -- a tree that fits has no file that is longer than a file may be
 files_fit : (tree : Tree) (path : Path) (contents : Contents) → fits_replica tree ≡ true → get tree path ≡ Some (File contents) → length contents.bytes ≤ 16384
 files_fit tree path contents fits has =
     let part = (both_true (nat_le (len tree) 1024 && nat_le (tree_spelling_length tree) greatest_spelling) (fits_part tree) (both_true _ (fits_paths tree) fits).0).1 in
     let found = all_found (λ pair. fits_content pair.1 && nat_le (length (children tree pair.0)) 256) path (entries tree) (File contents) part (sym (get-entries tree path) ∙ has) in
-    leb-true (length contents.bytes) 16384 (both_true (nat_le (length contents.bytes) 16384) (nat_le (length (children tree found.0)) 256) found.1).0
+    leb-true (length contents.bytes) 16384 (both_true (nat_le (length contents.bytes) 16384) (nat_le (length (children tree path)) 256) found).0
 
 -- and so no longer file was put into it
 pub put_fits : PutFits
@@ -70,3 +72,16 @@ put_fits tree path bytes fits =
     (ap (λ p. get (replace tree path (file bytes)) p) (sym (append-nil path))
     ∙ (sym (get-subtree (replace tree path (file bytes)) path root)
     ∙ (ap (λ t. get t root) (subtree-replace tree path (file bytes)) ∙ get-at_root (File (contents_of bytes)) root)))
+
+-- nor has what fits a path that is longer than a path may be
+pub paths_depth : (tree : Tree) → fits_paths tree ≡ true → HasDepth most_names tree
+paths_depth tree fits path deep = elim (get tree path) as (λ o. get tree path ≡ o → o ≡ None) [
+  | None ↦ λ _. refl
+  | Some content ↦ λ has.
+      let found = all_found (λ pair. fits_path pair.0) path (entries tree) content fits (sym (get-entries tree path) ∙ has) in
+      let within : length path ≤ 16 = leb-true (length path) 16 (both_true (nat_le (length path) 16) (nat_le (length (path_spelling path)) 255) found).0 in
+      absurd (omega (arith, deep, within))
+] refl
+
+pub replica_depth : (tree : Tree) → fits_replica tree ≡ true → HasDepth most_names tree
+replica_depth tree fits = paths_depth tree (both_true _ (fits_paths tree) fits).1

@@ -238,7 +238,7 @@ above_last (y ∷ p) (x ∷ above) n m rest e =
     ]
 
 module _ (left right : Scan) (archive : Tree) where
-  reached_below : (p : Path) (n : Name) → IsReached left right archive p → GoesOn (decision left right archive p) → IsReached left right archive (child p n)
+  pub reached_below : (p : Path) (n : Name) → IsReached left right archive p → GoesOn (decision left right archive p) → IsReached left right archive (child p n)
   reached_below p n reached on above m rest e = elim (above_last p above n m rest e) as (λ _. GoesOn (decision left right archive above)) [
     | inl same ↦ subst (λ w. GoesOn (decision left right archive w)) (sym same) on
     | inr longer ↦ reached above longer.0 longer.1 longer.2

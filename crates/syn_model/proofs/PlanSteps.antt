@@ -89,7 +89,7 @@ item_finds_archive left right archive before after item now parents e recorded =
 -- ---- the sides
 
 -- a replacement at a path that is not comparable leaves a subtree, and what is above it
-replaced_beside : (t : Tree) (p : Path) (u : Tree) (path : Path) → comparable p path ≡ false →
+pub replaced_beside : (t : Tree) (p : Path) (u : Tree) (path : Path) → comparable p path ≡ false →
     (subtree (replace t p u) path ≡ subtree t path) × ((above rest : Path) → path ≡ above ++ rest → get (replace t p u) above ≡ get t above)
 replaced_beside t p u path h = (
   subtree-replace_other t p u path h,

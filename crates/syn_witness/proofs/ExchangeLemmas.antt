@@ -1,5 +1,5 @@
 -- A session that carries one file each way: the steps of the coordinator, and the whole run.
-use Rattle.syn_headline.proofs.PlanLemmas.{plan_of-more}
+use Rattle.syn_headline.proofs.PlanLemmas.{begun-more}
 use Rattle.syn_headline.specs.Report.{IsSettled}
 use Rattle.std.proofs.Common.{◌≡◌, ◌<◌, List, [], ◌∷◌, map, take, drop, refl, sym, subst, Some, None, arith, inl, inr}
 use Rattle.std.specs.Prelude.{ℕ, Contains}
@@ -38,7 +38,7 @@ scans Right = right_scan
 abbrev listed_at : Which → Path → ℕ
 listed_at side path = 2
 
-have_begun : (side : Which) → HasBegun (take 8 messages) side 1
+have_begun : (side : Which) → HasBegun (take 4 messages) side 1
 have_begun Left = record { pair = 7; position = 2; begun = record { number = 0; asked = (0, omega arith, refl); answered = (2, omega arith, refl) } }
 have_begun Right = record { pair = 7; position = 2; begun = record { number = 0; asked = (1, omega arith, refl); answered = (3, omega arith, refl) } }
 
@@ -75,7 +75,7 @@ plans : IsPlanOf (take 8 messages) 1 empty_directory plan
 plans = record {
   scan = scans;
   since = listed_at;
-  begun = have_begun;
+  begun = λ side. begun-more (take 4 messages) (drop 4 (take 8 messages)) side 1 (have_begun side);
   scanned = both_scanned;
   items = sym plan_is;
   seen = All-cons (SeesBoth scans listed_at) first_planned (second_planned ∷ []) sees_first (All-cons (SeesBoth scans listed_at) second_planned [] sees_second (All-nil (SeesBoth scans listed_at)));
@@ -103,7 +103,7 @@ root_lawful = record { names = All-nil IsName; not_deep = omega arith; not_long 
 takes_right_begun : Steps right_awaited (Deliver 3) listing
 takes_right_begun = takes 1 right_awaited Right 0 (Begun 2) [] begun_archive (Some both_list) (drop 4 (take 6 messages)) [] [] refl (refl, refl) (inl refl) (inl refl) (All-nil (IsDue right_begins [] Right (Begun 2))) tt refl
     (goes_on both_list refl refl) (λ e. omega (arith, e)) (refl, both_sent (take 6 messages) both_list (4, omega arith, refl) (5, omega arith, refl), inl refl) (tells 6) (once 6)
-    (All-from_recursion (IsOfSession (take 4 messages) both_list) (drop 4 (take 6 messages)) ((refl, (omega arith, root_lawful), tt), ((refl, (omega arith, root_lawful), tt), tt)))
+    (All-from_recursion (IsOfSession (take 4 messages) both_list) (drop 4 (take 6 messages)) ((refl, (omega arith, root_lawful), have_begun Left), ((refl, (omega arith, root_lawful), have_begun Right), tt)))
 
 takes_left_listing : Steps both_listed (Deliver 6) right_list_awaited
 takes_left_listing = takes 1 both_listed Left 1 (Listed 2 (children left_scan.marks root)) [] begun_archive (Some right_lists) [] [] [] refl (refl, refl) (inl refl) (inl refl)
@@ -209,7 +209,7 @@ takes_second_done_ends = record {
   session_is = refl;
   cause = tt;
   complete = λ _. (refl, refl);
-  made = λ _. (empty_directory, plan_of-more (take 8 messages) (drop 8 (take 20 messages)) 1 empty_directory plan plans);
+  made = λ _ nothing. cc;
   settled = λ _. All-from_recursion (λ planned. IsSettled (Recorded a_path (mark one) ∷ Recorded b_path (mark two) ∷ []) (complete 2) planned.item) plan (inl (0, Recorded a_path (mark one), omega arith, refl, refl), (inl (1, Recorded b_path (mark two), omega arith, refl, refl), tt));
   conflicts = λ _. refl;
 }

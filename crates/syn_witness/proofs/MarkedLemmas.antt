@@ -17,6 +17,7 @@ use Rattle.syn_model.specs.Dirty.{Scan}
 use Rattle.syn_model.proofs.TreeLemmas.{subtree-replace}
 use Rattle.syn_headline.specs.Rows.{file_bytes}
 use Rattle.syn_headline.specs.Side.{Side, Begin, ListAt, Begun, Listed, Reads, token_of}
+use Rattle.syn_headline.proofs.PlanLemmas.{begun-more}
 use Rattle.syn_headline.specs.Network.{Which, Left, Right, Asks, Answers, Sent, NumbersTell, AsksNothingTwice, WasAnswered}
 use Rattle.syn_headline.specs.Acknowledged.{Ack, Happened, Kept_by}
 use Rattle.syn_headline.specs.Planning.{Planned, IsPlanOf, IsScanOf, HasBegun, SeesBoth}
@@ -165,7 +166,7 @@ scans Right = right_scan
 abbrev listed_at : Which → Path → ℕ
 listed_at side path = 3
 
-have_begun : (side : Which) → HasBegun (take 22 messages) side 2
+have_begun : (side : Which) → HasBegun (take 18 messages) side 2
 have_begun Left = record { pair = 7; position = 3; begun = record { number = 0; asked = (14, omega arith, refl); answered = (16, omega arith, refl) } }
 have_begun Right = record { pair = 7; position = 3; begun = record { number = 0; asked = (15, omega arith, refl); answered = (17, omega arith, refl) } }
 
@@ -195,7 +196,7 @@ plans : IsPlanOf (take 22 messages) 2 empty_directory plan
 plans = record {
   scan = scans;
   since = listed_at;
-  begun = have_begun;
+  begun = λ side. begun-more (take 18 messages) (drop 18 (take 22 messages)) side 2 (have_begun side);
   scanned = both_scanned;
   items = sym plan_is;
   seen = All-cons (SeesBoth scans listed_at) planned [] sees (All-nil (SeesBoth scans listed_at));
@@ -210,7 +211,7 @@ takes_left_begun = takes 2 both_begun Left 0 (Begun 3) [] next_archive (Some rig
 takes_right_begun : Steps right_awaited (Deliver 17) listing
 takes_right_begun = takes 2 right_awaited Right 0 (Begun 3) [] next_archive (Some both_list) (drop 18 (take 20 messages)) [] [] refl (refl, refl) (inl refl) (inl refl) (All-nil (IsDue right_begins [] Right (Begun 3))) tt refl
     (goes_on both_list refl refl) (λ e. omega (arith, e)) (refl, both_sent (take 20 messages) both_list (18, omega arith, refl) (19, omega arith, refl), inl refl) (tells 20) (once 20)
-    (All-from_recursion (IsOfSession (take 18 messages) both_list) (drop 18 (take 20 messages)) ((refl, (omega arith, root_lawful), tt), ((refl, (omega arith, root_lawful), tt), tt)))
+    (All-from_recursion (IsOfSession (take 18 messages) both_list) (drop 18 (take 20 messages)) ((refl, (omega arith, root_lawful), have_begun Left), ((refl, (omega arith, root_lawful), have_begun Right), tt)))
 
 takes_left_listing : Steps both_listed (Deliver 20) right_list_awaited
 takes_left_listing = takes 2 both_listed Left 1 (Listed 3 (children left_scan.marks root)) [] next_archive (Some right_lists) [] [] [] refl (refl, refl) (inl refl) (inl refl)
@@ -234,7 +235,7 @@ takes_right_listing_ends = record {
   session_is = refl;
   cause = tt;
   complete = λ _. (refl, refl);
-  made = λ _. (empty_directory, plans);
+  made = λ _ nothing. cc;
   settled = λ _. All-from_recursion (λ planned. IsSettled (Recorded a_path (mark one) ∷ []) (marked_later) planned.item) plan (inl (0, Recorded a_path (mark one), omega arith, refl, refl), tt);
   conflicts = λ _. refl;
 }

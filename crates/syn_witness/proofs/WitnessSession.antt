@@ -1,5 +1,5 @@
 -- A whole session over one file, step by step.
-use Rattle.syn_headline.proofs.PlanLemmas.{plan_of-more}
+use Rattle.syn_headline.proofs.PlanLemmas.{begun-more}
 use Rattle.syn_headline.specs.Report.{IsSettled}
 use Rattle.std.proofs.Common.{◌≡◌, map, ℕ, ◌<◌, zero, suc, List, [], ◌∷◌, ◌++◌, take, drop, length, refl, sym, ap, ◌∙◌, subst, Option, Some, None, arith, inl, inr}
 use Rattle.std.specs.Prelude.{All, Contains}
@@ -216,7 +216,7 @@ abbrev listed_at : Which → Path → ℕ
 listed_at Left path = 2
 listed_at Right path = 1
 
-have_begun : (side : Which) → HasBegun (take 8 messages) side 1
+have_begun : (side : Which) → HasBegun (take 4 messages) side 1
 have_begun Left = record { pair = 7; position = 2; begun = record { number = 0; asked = (0, omega arith, refl); answered = (2, omega arith, refl) } }
 have_begun Right = record { pair = 7; position = 1; begun = record { number = 0; asked = (1, omega arith, refl); answered = (3, omega arith, refl) } }
 
@@ -255,7 +255,7 @@ plans : IsPlanOf (take 8 messages) 1 empty_directory plan
 plans = record {
   scan = scans;
   since = listed_at;
-  begun = have_begun;
+  begun = λ side. begun-more (take 4 messages) (drop 4 (take 8 messages)) side 1 (have_begun side);
   scanned = both_scanned;
   items = sym plan_is;
   seen = All-cons (SeesBoth scans listed_at) planned [] sees (All-nil (SeesBoth scans listed_at));
@@ -283,7 +283,7 @@ root_lawful = record { names = All-nil IsName; not_deep = omega arith; not_long 
 takes_right_begun : Steps right_awaited (Deliver 3) listing
 takes_right_begun = takes 1 right_awaited Right 0 (Begun 1) [] begun_archive (Some both_list) (drop 4 (take 6 messages)) [] [] refl (refl, refl) (inl refl) (inl refl) (All-nil (IsDue right_begins [] Right (Begun 1))) tt refl
     (goes_on both_list refl refl) (λ e. omega (arith, e)) (refl, both_sent (take 6 messages) both_list (4, omega arith, refl) (5, omega arith, refl), inl refl) (tells 6) (once 6)
-    (All-from_recursion (IsOfSession (take 4 messages) both_list) (drop 4 (take 6 messages)) ((refl, (omega arith, root_lawful), tt), ((refl, (omega arith, root_lawful), tt), tt)))
+    (All-from_recursion (IsOfSession (take 4 messages) both_list) (drop 4 (take 6 messages)) ((refl, (omega arith, root_lawful), have_begun Left), ((refl, (omega arith, root_lawful), have_begun Right), tt)))
 
 takes_left_listing : Steps both_listed (Deliver 6) right_list_awaited
 takes_left_listing = takes 1 both_listed Left 1 (Listed 2 (children left_scan.marks root)) [] begun_archive (Some right_lists) [] [] [] refl (refl, refl) (inl refl) (inl refl)
@@ -340,7 +340,7 @@ takes_done_ends = record {
   session_is = refl;
   cause = tt;
   complete = λ _. (refl, refl);
-  made = λ _. (empty_directory, plan_of-more (take 8 messages) (drop 8 (take 14 messages)) 1 empty_directory plan plans);
+  made = λ _ nothing. cc;
   settled = λ _. All-from_recursion (λ planned. IsSettled (Recorded a_path (mark one) ∷ []) (complete 1) planned.item) plan (inl (0, Recorded a_path (mark one), omega arith, refl, refl), tt);
   conflicts = λ _. refl;
 }

@@ -1,0 +1,149 @@
+-- What the sessions of whole runs leave.
+use Rattle.std.proofs.Common.{true, ◌≡◌, ◌+◌, List, [], ◌∷◌, ◌++◌, filter_map, length, take, drop, refl, sym, ap, ◌∙◌, subst, Some, None, option_map, append_assoc, arith, inl, inr, ◌⊎◌}
+use Rattle.std.specs.Prelude.{Contains, ◌↔◌}
+use Rattle.std.specs.FinMap.{get}
+use Rattle.std.proofs.lemmas.List.{take-append-drop}
+use Rattle.std.proofs.lemmas.List.Elements.{filter_map-append}
+use Rattle.std.proofs.Math.Seq.{take-append_seam}
+use Rattle.syn_model.specs.Path.{Path}
+use Rattle.syn_model.specs.Tree.{Tree, IsTree, subtree}
+use Rattle.syn_model.specs.Mark.{mark, mark_of, AreApart}
+use Rattle.syn_model.specs.Reconcile.{is_relevant}
+use Rattle.syn_model.specs.Event.{Began}
+use Rattle.syn_model.specs.History.{History, IsHistory, tree_of, tree_at}
+use Rattle.syn_model.specs.Archive.{Session, archive_of}
+use Rattle.syn_model.specs.Plan.{IsConflict, HasDepth, most_names}
+use Rattle.syn_headline.specs.Network.{Which, Left, Right}
+use Rattle.syn_headline.specs.Acknowledged.{Ack, Kept_by, event_at, kept_in, Stores, history_of, stores_after}
+use Rattle.syn_headline.specs.Report.{Report}
+use Rattle.syn_headline.specs.World.{World, Step, Runs, AllCanKeep}
+use Rattle.syn_headline.specs.Headline.{stores_of, IsPair, IsStart, BeganAfter, IsQuietSession, IsOfRun, Synchronizes, StandsFor, CompleteSessionsSynchronize, ReportsItsConflicts, OfEachRun}
+use Rattle.syn_headline.specs.Invariant.{Plans, histories_of, IsKept}
+use Rattle.syn_model.proofs.PathLemmas.{none_some}
+use Rattle.syn_model.proofs.MarkLemmas.{get-mark}
+use Rattle.syn_model.proofs.FitsLemmas.{replica_depth}
+use Rattle.syn_headline.proofs.MoveLemmas.{tree_at_fits, all_front}
+use Rattle.syn_headline.proofs.WorldLemmas.{step_stands, run_stands}
+use Rattle.syn_headline.proofs.RunLemmas.{step_advances}
+use Rattle.syn_headline.proofs.WholeRuns.{no_plans, start_kept, start_stands, run_kept}
+use Rattle.syn_headline.proofs.KeptLemmas.{one_start}
+use Rattle.syn_headline.proofs.CourseLemmas.{course}
+use Rattle.syn_headline.proofs.WatchLemmas.{all_kept, RunsWell, runs_well, all_can}
+use Rattle.syn_headline.proofs.ToldLemmas.{IsTold, AllTold, all_told}
+
+-- what was kept could be, and each complete report tells what it should
+pub record IsWatched (before : Stores) (world : World) : Type 0 where
+  pub can : AllCanKeep before.archive (all_kept world)
+  pub told : AllTold before world
+
+run_watched : (before : Stores) → IsTree before.archive.marks → HasDepth most_names before.archive.marks → (steps : List Step) (plans : Plans) (old new : World) → IsKept plans old → StandsFor before old → RunsWell before.archive old old.coordinator.running → IsWatched before old →
+    Runs old steps new → IsWatched before new
+run_watched before whole shallow [] plans old new k stands runs w e = subst (IsWatched before) (sym e) w
+run_watched before whole shallow (step ∷ steps) plans old new k stands runs w g =
+    let a = step_advances plans old k g.0 step g.1 in
+    let c = course plans old k g.0 step g.1 in
+    let stands_then = step_stands before old step g.0 stands g.1 in
+    let can = all_can before plans old g.0 k stands runs w.can c in
+    run_watched before whole shallow steps a.later g.0 new a.kept stands_then (runs_well before plans old g.0 k stands runs a c)
+    (record { can = can; told = all_told before whole shallow plans old g.0 k stands stands_then runs can a w.told c }) g.2
+
+-- what both sides held has no path that is longer than a path may be
+pair_depth : (stores : Stores) → IsPair stores → HasDepth most_names stores.archive.marks
+pair_depth stores pair path deep = elim (get stores.archive.marks path) as (λ o. get stores.archive.marks path ≡ o → o ≡ None) [
+  | None ↦ λ _. refl
+  | Some content ↦ λ has.
+      let held = (pair.held path content has).0 in
+      let none = replica_depth (tree_at stores.left held.0) (tree_at_fits stores.left held.0 pair.left) path deep in
+      absurd (none_some (sym (get-mark (tree_at stores.left held.0) path ∙ ap (option_map mark_of) none) ∙ held.2))
+] refl
+
+start_watched : (old : World) → IsStart old → IsWatched (stores_of old) old
+start_watched old s = record {
+  can = subst (λ acks. AllCanKeep old.coordinator.archive (filter_map kept_in acks)) (sym s.nothing_yet.1) tt;
+  told = λ report acks c complete. let d : Contains [] (report, acks) = subst (λ w. Contains w (report, acks)) s.nothing_yet.2 c in absurd (omega (arith, d.1));
+}
+
+module _ (old new : World) (steps : List Step) (s : IsStart old) (g : Runs old steps new) where
+  abbrev before : Stores
+  before = stores_of old
+
+  watched : IsWatched before new
+  watched = run_watched before s.pair.marks (pair_depth before s.pair) steps no_plans old new (start_kept old s) (start_stands old s.nothing_yet.1)
+      (subst (RunsWell before.archive old) (sym s.coordinator.1) tt) (start_watched old s) g
+
+  stands : StandsFor before new
+  stands = run_stands before old new steps g (start_stands old s.nothing_yet.1)
+
+  module _ (report : Report) (found left : Stores) (q : IsQuietSession before new report found left) where
+    abbrev acks : List Ack
+    acks = take q.acks new.acknowledged
+
+    told : IsTold before acks report
+    told = (watched.told report q.acks q.reported q.complete).1
+
+    -- the session started once
+    earlier_is : told.earlier ≡ filter_map kept_in (take q.started new.acknowledged)
+    earlier_is = one_start before.archive report.session (all_kept new) watched.can told.earlier (told.records ++ filter_map kept_in (drop q.acks new.acknowledged)) (filter_map kept_in (take q.started new.acknowledged))
+        (filter_map kept_in (drop (q.started + 1) new.acknowledged))
+        (ap (filter_map kept_in) (sym (take-append-drop q.acks new.acknowledged)) ∙ (filter_map-append kept_in acks (drop q.acks new.acknowledged)
+        ∙ (ap (λ w. w ++ filter_map kept_in (drop q.acks new.acknowledged)) told.kept_is ∙ append_assoc told.earlier (Session report.session ∷ told.records) (filter_map kept_in (drop q.acks new.acknowledged)))))
+        (ap (filter_map kept_in) (sym (take-append-drop (q.started + 1) new.acknowledged) ∙ (ap (λ w. w ++ drop (q.started + 1) new.acknowledged) q.taken
+        ∙ append_assoc (take q.started new.acknowledged) (Kept_by (Session report.session) ∷ []) (drop (q.started + 1) new.acknowledged)))
+        ∙ filter_map-append kept_in (take q.started new.acknowledged) (Kept_by (Session report.session) ∷ drop (q.started + 1) new.acknowledged))
+
+    archive_is : found.archive ≡ archive_of before.archive told.earlier
+    archive_is = q.archive ∙ ap (archive_of before.archive) (sym earlier_is)
+
+    left_began : BeganAfter report.session found.left (stores_after before acks).left
+    left_began = subst (λ w. BeganAfter report.session found.left w.left) q.at_end q.left_side
+
+    right_began : BeganAfter report.session found.right (stores_after before acks).right
+    right_began = subst (λ w. BeganAfter report.session found.right w.right) q.at_end q.right_side
+
+    -- a history of the run goes on from what it found
+    goes_on : (which : Which) (start first whole : History) → whole ≡ start ++ filter_map (event_at which) new.acknowledged → BeganAfter report.session first (start ++ filter_map (event_at which) acks) → (more : History) × (whole ≡ first ++ more)
+    goes_on which start first whole is began =
+        let more = filter_map (event_at which) (drop q.acks new.acknowledged) in (
+          (Began report.session ∷ began.later) ++ more,
+          is ∙ (ap (λ w. start ++ filter_map (event_at which) w) (sym (take-append-drop q.acks new.acknowledged)) ∙ (ap (λ w. start ++ w) (filter_map-append (event_at which) acks (drop q.acks new.acknowledged))
+              ∙ (sym (append_assoc start (filter_map (event_at which) acks) more) ∙ (ap (λ w. w ++ more) began.begun ∙ append_assoc first (Began report.session ∷ began.later) more)))),
+        )
+
+    pub found_then : (which : Which) → (more : History) × (histories_of new which ≡ history_of found which ++ more)
+    found_then Left = goes_on Left before.left found.left new.left.side.history stands.left left_began
+    found_then Right = goes_on Right before.right found.right new.right.side.history stands.right right_began
+
+    -- what it found was there at some moment of the run
+    found_at : (which : Which) → tree_of (history_of found which) ≡ tree_at (histories_of new which) (length (history_of found which))
+    found_at which =
+        let then = found_then which in
+        sym (ap (λ w. tree_at w (length (history_of found which))) then.1 ∙ ap tree_of (take-append_seam (history_of found which) then.0))
+
+    -- and was a history
+    pub found_lawful : (which : Which) → IsHistory (history_of found which)
+    found_lawful which =
+        let then = found_then which in
+        all_front [] (history_of found which) then.0 (subst IsHistory then.1 ((run_kept steps no_plans old new (start_kept old s) g).1.sound.lawful which))
+
+    of_run : (tree : Tree) → (tree ≡ tree_of found.left) ⊎ (tree ≡ tree_of found.right) → IsOfRun new tree
+    of_run tree (inl is) = (Left, length found.left, is ∙ found_at Left)
+    of_run tree (inr is) = (Right, length found.right, is ∙ found_at Right)
+
+    synchronizes : AreApart (IsOfRun new) → Synchronizes found left
+    synchronizes apart = subst (Synchronizes found) (sym q.at_end)
+        ((told.worth found archive_is left_began right_began).0 (λ t u a b is_t is_u has_t has_u same. apart t u a b (of_run t is_t) (of_run u is_u) has_t has_u same))
+
+    has_conflicts : (path : Path) → Contains report.conflicts path ↔ IsConflict (tree_of found.left) (tree_of found.right) found.archive.marks path
+    has_conflicts = (told.worth found archive_is left_began right_began).1
+
+    -- a relevant path where both sides had the same is marked
+    pub marks_alike : (path : Path) → is_relevant (tree_of found.left) (tree_of found.right) path ≡ true → subtree (tree_of found.left) path ≡ subtree (tree_of found.right) path → subtree left.archive.marks path ≡ mark (subtree (tree_of found.left) path)
+    marks_alike path relevant same = ap (λ w. subtree w.archive.marks path) q.at_end ∙ (told.worth found archive_is left_began right_began).2 path relevant same
+
+-- a complete session without edits leaves the synchronization of what it found
+pub runs_synchronize : OfEachRun CompleteSessionsSynchronize
+runs_synchronize old new steps s g apart report found left q = synchronizes old new steps s g report found left q apart
+
+-- and reports its conflicts
+pub runs_report_conflicts : OfEachRun ReportsItsConflicts
+runs_report_conflicts old new steps s g report found left q = has_conflicts old new steps s g report found left q

@@ -1,0 +1,192 @@
+-- What a complete report tells of a session without edits.
+use Rattle.std.proofs.Common.{◌≡◌, ◌≤◌, ◌+◌, ℕ, true, List, [], ◌∷◌, ◌++◌, filter_map, length, take, fold, sym, ap, ◌∙◌, subst, Some, arith, inl, inr, ◌⊎◌}
+use Rattle.std.specs.Prelude.{Contains, All, ◌↔◌}
+use Rattle.std.proofs.lemmas.List.{take-append-le, length-append}
+use Rattle.std.proofs.lemmas.List.Elements.{All-weaker, Contains-append_cases}
+use Rattle.std.proofs.Math.Seq.{take-length}
+use Rattle.syn_model.specs.Path.{Path}
+use Rattle.syn_model.specs.Tree.{IsTree, subtree}
+use Rattle.syn_model.specs.Mark.{mark, AreApart}
+use Rattle.syn_model.specs.Reconcile.{is_relevant}
+use Rattle.syn_model.specs.Event.{Began}
+use Rattle.syn_model.specs.History.{History, tree_of}
+use Rattle.syn_model.specs.Archive.{Archive, Kept, Session, archive_of}
+use Rattle.syn_model.specs.Plan.{HasDepth, most_names, IsReconciled, IsConflict}
+use Rattle.syn_headline.specs.Side.{Reply}
+use Rattle.syn_headline.specs.Network.{Which, Left, Right, Answers}
+use Rattle.syn_headline.specs.Planning.{Planned}
+use Rattle.syn_headline.specs.Acknowledged.{Ack, kept_in, Stores, history_of, stores_after}
+use Rattle.syn_headline.specs.Report.{Report, Complete, Incomplete, IsSettled, kept_in_session, since_start}
+use Rattle.syn_headline.specs.World.{World, Running, IsExpected, IsOver, IsDueAfter, HasPlan, GoesOnFrom, AllCanKeep, CoordinatorGoes, Reports, EndsTaken, EndsUnanswered}
+use Rattle.syn_headline.specs.Headline.{IsNoEdit, BeganAfter, Synchronizes, StandsFor}
+use Rattle.syn_headline.specs.Invariant.{Plans, histories_of, IsKept}
+use Rattle.syn_headline.proofs.RunLemmas.{Advances}
+use Rattle.syn_headline.proofs.CourseLemmas.{Course, beside, starts, ticks, takes}
+use Rattle.syn_headline.proofs.CompleteLemmas.{IsRecordDue, carried, alike, marked}
+use Rattle.syn_headline.proofs.UnderwayLemmas.{IsQuietPlan, IsUnderway, underway_records, quiet_plan}
+use Rattle.syn_headline.proofs.KeptLemmas.{IsNoSession, since_last}
+use Rattle.syn_headline.proofs.ReportLemmas.{reconciled, conflicts_reported, alike_marked}
+use Rattle.syn_headline.proofs.SoundLemmas.{only_one}
+use Rattle.syn_headline.proofs.WatchLemmas.{all_kept, RunsWell, plan_then, due_then, goes_kept}
+
+-- what the report of a session is worth that kept this before it began
+abbrev pub IsWorth : Stores → List Ack → Report → List Kept → Type 0
+IsWorth before acks report earlier = (found : Stores) → found.archive ≡ archive_of before.archive earlier →
+    BeganAfter report.session found.left (stores_after before acks).left → BeganAfter report.session found.right (stores_after before acks).right →
+    (AreApart (λ tree. (tree ≡ tree_of found.left) ⊎ (tree ≡ tree_of found.right)) → Synchronizes found (stores_after before acks))
+    × ((path : Path) → Contains report.conflicts path ↔ IsConflict (tree_of found.left) (tree_of found.right) found.archive.marks path)
+    × ((path : Path) → is_relevant (tree_of found.left) (tree_of found.right) path ≡ true → subtree (tree_of found.left) path ≡ subtree (tree_of found.right) path → subtree (stores_after before acks).archive.marks path ≡ mark (subtree (tree_of found.left) path))
+
+pub record IsTold (before : Stores) (acks : List Ack) (report : Report) : Type 0 where
+  pub earlier : List Kept
+  pub records : List Kept
+  pub kept_is : filter_map kept_in acks ≡ earlier ++ Session report.session ∷ records
+  pub worth : IsWorth before acks report earlier
+
+no_session : (plan : List Planned) (w : World) (kept : Kept) → IsRecordDue plan (histories_of w) kept → IsNoSession kept
+no_session plan w _ (carried side item planned path at writes reached touched) = tt
+no_session plan w _ (alike item planned path at kind) = tt
+no_session plan w _ (marked item planned path at kind) = tt
+
+module _ (before : Stores) (whole : IsTree before.archive.marks) (shallow : HasDepth most_names before.archive.marks) (plans : Plans) (old new : World) (k : IsKept plans old) (stands : StandsFor before old) (stands_then : StandsFor before new)
+    (runs : RunsWell before.archive old old.coordinator.running) (can : AllCanKeep before.archive (all_kept new)) where
+  module _ (r : Running) (e : old.coordinator.running ≡ Some r) (from : Which) (session number : ℕ) (reply : Reply) (plan : List Planned) (heard : Contains old.sent (Answers from session number reply)) (expected : IsExpected (Some r) from session number)
+      (made : HasPlan old.sent old.coordinator.archive (Some r) plan)
+      (g : CoordinatorGoes old (IsDueAfter (Some r) plan from reply) (λ running. GoesOnFrom (Some r) plan running × IsOver from number running) new) (report : Report) (ends : EndsTaken old new from plan reply r report) (complete : report.end ≡ Complete) where
+    planned : IsUnderway before.archive (histories_of old) old.sent (all_kept old) r.session plan
+    planned = plan_then before plans old new k stands runs r e from session number reply plan heard expected made
+
+    due : All (IsRecordDue plan (histories_of old)) g.kept
+    due = due_then before plans old new k stands runs r e from session number reply plan heard expected made g.kept g.keeps.due
+
+    quiet_made : IsQuietPlan old.sent (histories_of old) r.session (archive_of before.archive planned.earlier).marks plan
+    quiet_made = elim planned.planned as (λ _. IsQuietPlan old.sent (histories_of old) r.session (archive_of before.archive planned.earlier).marks plan) [
+      | inl none ↦ quiet_plan before.archive plans (histories_of old) old.coordinator.archive old.sent k.sound (all_kept old) stands.archive r.session plan plan none (ends.made (ends.complete complete).0 none) planned
+      | inr is ↦ is
+    ]
+
+    abbrev after : IsUnderway before.archive (histories_of old) old.sent (all_kept new) r.session plan
+    after =
+        let more = underway_records before.archive (histories_of old) old.sent (all_kept old) g.kept r.session plan due planned in
+        record {
+          earlier = more.earlier;
+          records = more.records;
+          kept_is = goes_kept before plans old new k stands runs (IsDueAfter (Some r) plan from reply) (λ running. GoesOnFrom (Some r) plan running × IsOver from number running) g ∙ more.kept_is;
+          due = more.due;
+          events = more.events;
+          planned = more.planned;
+        }
+
+    settled_then : All (λ planned. IsSettled after.records report planned.item) plan
+    settled_then =
+        let since : kept_in_session new.acknowledged ≡ after.records = ap (fold since_start []) after.kept_is
+        ∙ since_last after.earlier after.records r.session (All-weaker (IsRecordDue plan (histories_of old)) IsNoSession (no_session plan old) after.records after.due) in
+        subst (λ kept. All (λ planned. IsSettled kept report planned.item) plan) since (ends.settled (ends.complete complete).0)
+
+    history_then : (side : Which) → histories_of old side ≡ history_of (stores_after before new.acknowledged) side
+    history_then Left = sym (ap (λ w. histories_of w Left) g.result) ∙ stands_then.left
+    history_then Right = sym (ap (λ w. histories_of w Right) g.result) ∙ stands_then.right
+
+    module _ (found : Stores) (left : BeganAfter r.session found.left (stores_after before new.acknowledged).left) (right : BeganAfter r.session found.right (stores_after before new.acknowledged).right) where
+      abbrev later : Which → History
+      later Left = left.later
+      later Right = right.later
+
+      split : (side : Which) → histories_of old side ≡ history_of found side ++ Began r.session ∷ later side
+      split Left = history_then Left ∙ left.begun
+      split Right = history_then Right ∙ right.begun
+
+      quiet : (side : Which) → All IsNoEdit (later side)
+      quiet Left = left.no_edit
+      quiet Right = right.no_edit
+
+      abbrev found_archive : Archive
+      found_archive = archive_of before.archive planned.earlier
+
+      synchronizes : AreApart (λ tree. (tree ≡ tree_of found.left) ⊎ (tree ≡ tree_of found.right)) → Synchronizes (record { left = found.left; right = found.right; archive = found_archive }) (stores_after before new.acknowledged)
+      synchronizes apart =
+          let done = reconciled before.archive whole shallow plans (histories_of old) old.coordinator.archive old.sent k.sound (all_kept new) can r.session plan after quiet_made report settled_then (ends.complete complete).1 (ends.conflicts (ends.complete complete).0)
+          (history_of found) later split quiet apart in
+          let there = subst (λ h. IsReconciled (tree_of found.left) (tree_of found.right) found_archive.marks (record { left = tree_of (stores_after before new.acknowledged).left; right = tree_of h; archive = (archive_of before.archive (all_kept new)).marks })) (history_then Right)
+          (subst (λ h. IsReconciled (tree_of found.left) (tree_of found.right) found_archive.marks (record { left = tree_of h; right = tree_of (histories_of old Right); archive = (archive_of before.archive (all_kept new)).marks })) (history_then Left) done) in
+          record { trees = there.sides; archive = there.marks }
+
+      has_conflicts : (path : Path) → Contains report.conflicts path ↔ IsConflict (tree_of found.left) (tree_of found.right) found_archive.marks path
+      has_conflicts = conflicts_reported before.archive whole shallow plans (histories_of old) old.coordinator.archive old.sent k.sound (all_kept new) can r.session plan after quiet_made report settled_then (ends.complete complete).1 (ends.conflicts (ends.complete complete).0)
+          (history_of found) later split quiet
+
+      has_marked : (path : Path) → is_relevant (tree_of found.left) (tree_of found.right) path ≡ true → subtree (tree_of found.left) path ≡ subtree (tree_of found.right) path → subtree (archive_of before.archive (all_kept new)).marks path ≡ mark (subtree (tree_of found.left) path)
+      has_marked = alike_marked before.archive whole shallow plans (histories_of old) old.coordinator.archive old.sent k.sound (all_kept new) can r.session plan after quiet_made report settled_then (ends.complete complete).1 (ends.conflicts (ends.complete complete).0)
+          (history_of found) later split quiet
+
+    is_worth : IsWorth before new.acknowledged report planned.earlier
+    is_worth found archive_is left right =
+        let l = subst (λ s. BeganAfter s found.left (stores_after before new.acknowledged).left) ends.session_is left in
+        let h = subst (λ s. BeganAfter s found.right (stores_after before new.acknowledged).right) ends.session_is right in (
+          λ apart. subst (λ a. Synchronizes (record { left = found.left; right = found.right; archive = a }) (stores_after before new.acknowledged)) (sym archive_is) (synchronizes found l h apart),
+          subst (λ a. (path : Path) → Contains report.conflicts path ↔ IsConflict (tree_of found.left) (tree_of found.right) a.marks path) (sym archive_is) (has_conflicts found l h),
+          has_marked found l h,
+        )
+
+    tells : IsTold before new.acknowledged report
+    tells = record {
+      earlier = after.earlier;
+      records = after.records;
+      kept_is = after.kept_is ∙ ap (λ s. after.earlier ++ Session s ∷ after.records) (sym ends.session_is);
+      worth = is_worth;
+    }
+
+-- each complete report tells this
+abbrev pub AllTold : Stores → World → Type 0
+AllTold before world = (report : Report) (acks : ℕ) → Contains world.reports (report, acks) → report.end ≡ Complete → (acks ≤ length world.acknowledged) × IsTold before (take acks world.acknowledged) report
+
+not_complete : Complete ≡ Incomplete → ⊥
+not_complete e = cc
+
+module _ (before : Stores) (whole : IsTree before.archive.marks) (shallow : HasDepth most_names before.archive.marks) (plans : Plans) (old new : World) (k : IsKept plans old) (stands : StandsFor before old) (stands_then : StandsFor before new)
+    (runs : RunsWell before.archive old old.coordinator.running) (can : AllCanKeep before.archive (all_kept new)) (a : Advances plans old new) (told : AllTold before old) where
+  -- what was reported before
+  told_before : (report : Report) (acks : ℕ) → Contains old.reports (report, acks) → report.end ≡ Complete → (acks ≤ length new.acknowledged) × IsTold before (take acks new.acknowledged) report
+  told_before report acks c complete =
+      let was = told report acks c complete in
+      let within : acks ≤ length old.acknowledged = was.0 in
+      let longer : length new.acknowledged ≡ length old.acknowledged + length a.acks = ap length a.acknowledges ∙ length-append old.acknowledged a.acks in (
+        omega (arith, within, longer),
+        subst (λ w. IsTold before w report) (sym (ap (take acks) a.acknowledges ∙ take-append-le acks old.acknowledged a.acks within)) was.1,
+      )
+
+  -- what is reported now
+  told_now : (last : Report) → new.reports ≡ old.reports ++ (last, length new.acknowledged) ∷ [] → (last.end ≡ Complete → IsTold before new.acknowledged last) → AllTold before new
+  told_now last e tell report acks c complete =
+      elim (Contains-append_cases old.reports ((last, length new.acknowledged) ∷ []) (report, acks) (subst (λ w. Contains w (report, acks)) e c)) as (λ _. (acks ≤ length new.acknowledged) × IsTold before (take acks new.acknowledged) report) [
+        | inl earlier ↦ told_before report acks earlier complete
+        | inr here ↦
+            let one = only_one {X = Report × ℕ} (last, length new.acknowledged) (report, acks) here in
+            let report_is : last ≡ report = ap (λ p. p.0) one in
+            let acks_is : length new.acknowledged ≡ acks = ap (λ p. p.1) one in (
+              omega (arith, acks_is),
+              subst (λ w. IsTold before w report) (sym (ap (λ n. take n new.acknowledged) (sym acks_is) ∙ take-length new.acknowledged))
+                  (subst (IsTold before new.acknowledged) report_is (tell (ap (λ q. q.end) report_is ∙ complete))),
+            )
+      ]
+
+  told_still : new.reports ≡ old.reports → AllTold before new
+  told_still e report acks c complete = told_before report acks (subst (λ w. Contains w (report, acks)) e c) complete
+
+  told_ticks : Reports old new EndsUnanswered → AllTold before new
+  told_ticks (inl e) = told_still e
+  told_ticks (inr (running, report, runs, none, up, e, ends)) = told_now report e (λ complete. absurd (not_complete (sym complete ∙ ends.1)))
+
+  told_takes : (from : Which) (session number : ℕ) (reply : Reply) (plan : List Planned) → Contains old.sent (Answers from session number reply) → IsExpected old.coordinator.running from session number → HasPlan old.sent old.coordinator.archive old.coordinator.running plan →
+      CoordinatorGoes old (IsDueAfter old.coordinator.running plan from reply) (λ running. GoesOnFrom old.coordinator.running plan running × IsOver from number running) new → Reports old new (EndsTaken old new from plan reply) → AllTold before new
+  told_takes from session number reply plan heard expected made g (inl e) = told_still e
+  told_takes from session number reply plan heard expected made g (inr (running, report, is, none, up, e, ends)) = told_now report e (λ complete.
+      tells before whole shallow plans old new k stands stands_then runs can running is from session number reply plan heard
+      (subst (λ o. IsExpected o from session number) is expected) (subst (λ o. HasPlan old.sent old.coordinator.archive o plan) is made)
+      (subst (λ o. CoordinatorGoes old (IsDueAfter o plan from reply) (λ running. GoesOnFrom o plan running × IsOver from number running) new) is g) report ends complete)
+
+  pub all_told : Course old new → AllTold before new
+  all_told (beside acks added more runs_on reports) = told_still reports
+  all_told (starts g reports) = told_still reports
+  all_told (ticks g reports) = told_ticks reports
+  all_told (takes from session number reply plan heard expected made g reports) = told_takes from session number reply plan heard expected made g reports

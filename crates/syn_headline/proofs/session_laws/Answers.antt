@@ -1,0 +1,12 @@
+use Rattle.syn_headline.proofs.SessionRuns.{runs_synchronize, runs_report_conflicts}
+use Rattle.syn_headline.proofs.CarriedLemmas.{runs_mark_carried}
+use Rattle.syn_headline.proofs.session_laws.Goals as goal
+
+pub returns-clause-synchronized : goal.returns-clause-synchronized
+returns-clause-synchronized c = runs_synchronize
+
+pub returns-clause-conflicts : goal.returns-clause-conflicts
+returns-clause-conflicts c = runs_report_conflicts
+
+pub returns-clause-marked : goal.returns-clause-marked
+returns-clause-marked c = runs_mark_carried
