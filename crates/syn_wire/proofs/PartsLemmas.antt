@@ -42,7 +42,7 @@ last_lawful [] name h = All-head IsName name [] h
 last_lawful (m ∷ above) name h = last_lawful above name (All-tail IsName m (above ++ name ∷ []) h)
 
 -- such a path is spelled by its name
-child_name : (above path : Path) (child : IsChildOf above path) → IsName child.name × (last_name_spelling path ≡ name_spelling child.name)
+pub child_name : (above path : Path) (child : IsChildOf above path) → IsName child.name × (last_name_spelling path ≡ name_spelling child.name)
 child_name above path child = (
   last_lawful above child.name (subst (All IsName) child.below child.lawful.names),
   ap last_name_spelling child.below ∙ child_last above child.name,
