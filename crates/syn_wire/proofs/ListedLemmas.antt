@@ -1,11 +1,11 @@
 -- Pairs that were read name by name, and stand in path order, are those of the tree that was spelled.
-use Rattle.std.proofs.Common.{◌≡◌, ◌<◌, ◌+◌, ◌^◌, ℕ, suc, Bool, true, false, cond, if◌then◌else◌, List, [], ◌∷◌, ◌++◌, map, filter_map, flat_map, length, length-append, refl, sym, ap, ap₂, ◌∙◌, subst, Option, Some, None, is_some, Ordering, Less, Equal, Greater, is_lt, is_eq, append_assoc, append-nil, true≢false}
+use Rattle.std.proofs.Common.{◌≡◌, ◌<◌, ◌+◌, ◌^◌, ℕ, suc, Bool, true, false, if◌then◌else◌, List, [], ◌∷◌, ◌++◌, flat_map, length, length-append, refl, sym, ap, ap₂, ◌∙◌, subst, Option, Some, None, Less, is_lt, is_eq, append_assoc, append-nil, true≢false}
 use Rattle.std.specs.Prelude.{option_map, option_and_then}
 use Rattle.std.specs.Int.{to_be_bytes, w16}
-use Rattle.std.specs.Ordering.{eq_by_cmp, ordering_then, ordering_reverse}
+use Rattle.std.specs.Ordering.{eq_by_cmp}
 use Rattle.std.specs.Cmp.{eq_by_cmp_equiv}
 use Rattle.std.specs.List.{AllByRecursion, cons_option}
-use Rattle.std.specs.FinMap.{entries, find, from_sorted, get, get-entries, same_entries_map}
+use Rattle.std.specs.FinMap.{find, from_sorted, get, get-entries, same_entries_map}
 use Rattle.std.proofs.lemmas.Grind.{flat_map-append}
 use Rattle.std.proofs.lemmas.List.{map-append}
 use Rattle.std.proofs.lemmas.List.Elements.{filter_map-append}
@@ -13,9 +13,9 @@ use Rattle.syn_model.specs.Path.{Bytes, Name, Path, name_cmp, path_cmp, root, st
 use Rattle.syn_model.specs.Tree.{Tree, Content, Contents, Pair, Directory, File, contents_of, subtree, taken_off}
 use Rattle.syn_model.specs.Limits.{children, only_name}
 use Rattle.syn_model.specs.Spelling.{spelling, content_spelling}
-use Rattle.syn_model.proofs.PathLemmas.{name_total, name_itself, path_itself, same_name, strip_prefix-append}
+use Rattle.syn_model.proofs.PathLemmas.{name_total, path_itself, same_name, strip_prefix-append}
 use Rattle.syn_model.proofs.SpellingLemmas.{spelling_unfolds}
-use Rattle.syn_tree.specs.Pairs.{Pairs, AreRising, rooted, under}
+use Rattle.syn_tree.specs.Pairs.{Pairs, rooted, under}
 use Rattle.syn_tree.proofs.OrderLemmas.{under_order}
 use Rattle.syn_tree.proofs.RisingLemmas.{Rising, After, each-append, each-map, are_rising, rising_of}
 use Rattle.syn_tree.proofs.FitLemmas.{each-both}
@@ -24,7 +24,7 @@ use Rattle.syn_wire.specs.Events.{IsFile, file_spelling}
 use Rattle.syn_wire.specs.Reads.{BeginsWith}
 use Rattle.syn_wire.specs.Trees.{IsChildOf, PartIsRead, PartsAreRead, last_name_spelling}
 use Rattle.syn_wire.proofs.GroupLemmas.{tops}
-use Rattle.syn_wire.proofs.PartsLemmas.{child_name}
+use Rattle.syn_wire.proofs.PartsLemmas.{child_name, own_pair}
 
 abbrev pub Listed : Type 0
 Listed = List (Name × Pairs)
@@ -172,9 +172,6 @@ file_of_pair : (contents : Contents) → spelling (from_sorted ((root, File cont
 file_of_pair contents =
     let t : Tree = from_sorted ((root, File contents) ∷ []) in
     spelling_unfolds t ∙ ap (content_spelling spelling t) (get-rising ((root, File contents) ∷ []) root (tt, tt))
-
-own_pair : (at : Path) (c : Content) → ◌≡◌ {A = Pair} (at ++ root, c) (at, c)
-own_pair at c = ap (λ (p : Path). (p, c)) (append-nil at)
 
 pub file_spelled : (at : Path) (fields file left : Bytes) (old new : Pairs) (entry : Pair) → BeginsWith IsFile file_spelling fields file left → entry ≡ (at, File (contents_of file)) → new ≡ old ++ entry ∷ [] → PartIsRead at (1 ∷ fields) old new (Some left)
 file_spelled at fields file left old new entry found is added = (

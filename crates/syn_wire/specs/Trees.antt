@@ -1,10 +1,10 @@
 -- How trees and parts of them are spelled in one walk over their pairs in path order, and what is read of them.
-use Rattle.std.specs.Prelude.{◌≡◌, ℕ, true, List, [], ◌∷◌, ◌++◌, length, map, flat_map, Option, Some, None, IsSome}
+use Rattle.std.specs.Prelude.{◌≡◌, ℕ, true, List, [], ◌∷◌, ◌++◌, length, flat_map, Option, Some, None, IsSome}
 use Rattle.std.specs.Int.{to_be_bytes, w16, w32}
 use Rattle.std.specs.List.{AllByRecursion}
 use Rattle.std.specs.FinMap.{entries, from_sorted, get}
 use Rattle.syn_model.specs.Path.{Bytes, Name, Path, root, IsPath}
-use Rattle.syn_model.specs.Tree.{Tree, Content, Directory, File, Pair, HasParents, IsPart, IsTree, is_present, subtree}
+use Rattle.syn_model.specs.Tree.{Tree, Content, Directory, File, Pair, HasParents, IsPart, IsTree, is_present}
 use Rattle.syn_model.specs.Limits.{children, fits_part, fits_paths, fits_replica, tree_spelling_length}
 use Rattle.syn_model.specs.Spelling.{spelling}
 use Rattle.syn_tree.specs.Pairs.{Pairs, AreRising, rooted, under}

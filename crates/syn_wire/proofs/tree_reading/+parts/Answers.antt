@@ -1,4 +1,4 @@
-use Rattle.std.proofs.Common.{◌≡◌, ◌++◌, ◌∷◌, length, option_map, subst, sym, ap, ◌∙◌, slice_index_or, take, drop, ◌-◌, arith}
+use Rattle.std.proofs.Common.{length, option_map, subst, slice_index_or, take, drop, ◌-◌, arith}
 use Rattle.std.proofs.lemmas.Result.{IfOk-weaker}
 use Rattle.syn_wire.specs.Reads.{IsReading}
 use Rattle.syn_wire.specs.Trees.{IsChildOf, PartIsRead, last_name_spelling, ReadsPart}
