@@ -2,10 +2,9 @@
 use Rattle.std.proofs.Common.{◌≡◌, ◌⊎◌, inl, inr, Bool, true, false, cond, if◌then◌else◌, List, [], ◌∷◌, ◌++◌, filter_map, flat_map, refl, sym, ap, ap₂, ◌∙◌, subst, Option, Some, None, is_some, IsSome, Ordering, Less, Equal, Greater, is_lt, is_eq, true≢false}
 use Rattle.std.specs.Prelude.{option_map, option_and_then}
 use Rattle.std.specs.Ordering.{eq_by_cmp, ordering_then, ordering_reverse}
-use Rattle.std.specs.List.{AllByRecursion}
 use Rattle.std.specs.FinMap.{find, entries, get, get-entries}
 use Rattle.syn_model.specs.Path.{Name, Path, name_cmp, path_cmp, root, strip_prefix, is_prefix}
-use Rattle.syn_model.specs.Tree.{Tree, Content, Pair, Directory, File, HasParents, subtree}
+use Rattle.syn_model.specs.Tree.{Tree, Content, Pair, Directory, HasParents, subtree}
 use Rattle.syn_model.specs.Limits.{only_name, children}
 use Rattle.syn_model.proofs.PathLemmas.{path_total, same_name, same_path, name_itself, path_itself, none_some, some_same}
 use Rattle.syn_tree.specs.Pairs.{Pairs, is_within, within, under}

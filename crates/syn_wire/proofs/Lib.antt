@@ -10,3 +10,4 @@ pub mod NodeLemmas
 pub mod PartsLemmas
 pub mod ReadingLemmas
 pub mod MadeLemmas
+pub mod ListedLemmas

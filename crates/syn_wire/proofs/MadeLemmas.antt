@@ -1,19 +1,17 @@
 -- Entries that were read make the tree that the bytes spell.
-use Rattle.std.proofs.Common.{◌≡◌, ◌≢◌, ◌<◌, ◌≤◌, ◌^◌, ℕ, Bool, true, false, cond, ◌&&◌, nat_le, List, [], ◌∷◌, ◌++◌, length, refl, sym, ap, ap₂, ◌∙◌, subst, Option, Some, None, is_some, IsSome, true≢false, arith}
-use Rattle.std.specs.Prelude.{IfSome, IfNone}
+use Rattle.std.proofs.Common.{◌≡◌, ◌≢◌, ◌<◌, ◌≤◌, ◌^◌, ℕ, Bool, true, false, cond, ◌&&◌, nat_le, [], ◌∷◌, ◌++◌, length, refl, sym, ap, ap₂, ◌∙◌, subst, Option, Some, None, is_some, true≢false, arith}
 use Rattle.std.specs.Int.{to_be_bytes, w16}
 use Rattle.std.specs.List.{list_all}
 use Rattle.std.specs.Ordering.{eq_by_cmp}
-use Rattle.std.specs.FinMap.{entries, entries_sorted, find, from_sorted, get, get-entries, len, same_entries_map}
+use Rattle.std.specs.FinMap.{entries, entries_sorted, find, from_sorted, get, get-entries, len}
 use Rattle.std.proofs.lemmas.Bool.{and_parts}
 use Rattle.std.proofs.lemmas.Bool.Decides.{nat_tests}
-use Rattle.syn_model.specs.Path.{Bytes, Path, IsPath, path_cmp, root}
-use Rattle.syn_model.specs.Tree.{Tree, Content, Pair, Directory, File, IsTree, IsPart, absent, contents_of, file}
-use Rattle.syn_model.specs.Event.{AreBytes}
-use Rattle.syn_model.specs.Limits.{fits_content, fits_part, fits_path, fits_paths, fits_replica, greatest_spelling, tree_spelling_length}
+use Rattle.syn_model.specs.Path.{Bytes, Path, path_cmp, root}
+use Rattle.syn_model.specs.Tree.{Tree, Content, Directory, File, IsTree, absent, contents_of, file}
+use Rattle.syn_model.specs.Limits.{fits_part, fits_path, fits_paths, fits_replica, greatest_spelling, tree_spelling_length}
 use Rattle.syn_model.specs.Spelling.{spelling, content_spelling}
 use Rattle.syn_model.proofs.PathLemmas.{same_path, none_some}
-use Rattle.syn_model.proofs.SpellingLemmas.{spelling_unfolds, spelling_tells}
+use Rattle.syn_model.proofs.SpellingLemmas.{spelling_unfolds}
 use Rattle.syn_tree.specs.Entries.{AreEntries}
 use Rattle.syn_tree.specs.Pairs.{Pairs, rooted, tree_with, AreRising, under}
 use Rattle.syn_tree.proofs.ChangeLemmas.{lawful_part, nothing_part}
@@ -23,10 +21,10 @@ use Rattle.syn_tree.proofs.RisingLemmas.{sorted_of}
 use Rattle.syn_tree.proofs.TreeLemmas.{entries-absent, entries-one, from_entries-same}
 use Rattle.syn_wire.specs.Events.{IsFile, file_spelling}
 use Rattle.syn_wire.specs.Reads.{BeginsWith, IsReading}
-use Rattle.syn_wire.specs.Trees.{IsDirectoryTree, IsOptionalTree, IsWholeTree, ReadsParts, StandsAt, parts_pairs, parts_spelling}
+use Rattle.syn_wire.specs.Trees.{NoTreeBeginsAnother, IsDirectoryTree, IsOptionalTree, IsWholeTree, ReadsParts, PartsAreRead, StandsAt, parts_pairs, parts_spelling}
 use Rattle.syn_wire.proofs.EventLemmas.{file_tells}
-use Rattle.syn_wire.proofs.NameLemmas.{first_or, rest_of}
-use Rattle.syn_wire.proofs.NodeLemmas.{absent_spelled, file_spelled}
+use Rattle.syn_wire.proofs.NameLemmas.{first_or}
+use Rattle.syn_wire.proofs.NodeLemmas.{file_spelled}
 use Rattle.syn_wire.proofs.NumberLemmas.{u16_tells}
 use Rattle.syn_wire.proofs.PartsLemmas.{file_at, directory_at, parts_in, parts_stand}
 
@@ -91,10 +89,23 @@ are_entries t list h all =
       paths = ap fits_paths (sym same) ∙ h.paths;
     }
 
--- and makes it
-pub made : (t : Tree) (list : Pairs) (o : Option Tree) → IsDirectoryTree t → rooted list ≡ entries t → IfSome o (λ all. rooted list ≡ entries all) → IfNone o (¬ AreEntries list) → o ≡ Some t
-made t list None h all some none = absurd (none (are_entries t list h all))
-made t list (Some u) h all some none = ap (λ x. Some x) (same_entries_map u t (sym some ∙ all))
+-- so that no other list is one's
+pub not_made : (t : Tree) (list : Pairs) → IsDirectoryTree t → rooted list ≡ entries t → ¬ AreEntries list → ⊥
+not_made t list h all none = none (are_entries t list h all)
+
+under_root : (es : Pairs) → under root es ≡ es
+under_root [] = refl
+under_root (e ∷ es) = ap (λ xs. e ∷ xs) (under_root es)
+
+-- what was read is the tree that it makes
+pub directory_made : (fields below : Bytes) (above : Path) (count : ℕ) (old list : Pairs) (left : Bytes) (u : Tree) → BeginsWith (λ n. n < 2 ^ 16) (to_be_bytes w16) fields count below → above ≡ root → old ≡ [] →
+    PartsAreRead above count below old list (Some left) → rooted list ≡ entries u → IsDirectoryTree u → BeginsWith IsDirectoryTree spelling (2 ∷ fields) u left
+directory_made fields below above count old list left u found is_root empty read all h =
+    let pairs : list ≡ read.0 = read.1 ∙ ap₂ (λ es p. es ++ under p read.0) empty is_root ∙ under_root read.0 in
+    let whole : rooted read.0 ≡ entries u = ap rooted (sym pairs) ∙ all in
+    let rising : AreRising (rooted read.0) = subst AreRising (sym whole) (sorted_of _ (entries_sorted u)) in
+    let same : from_sorted (rooted read.0) ≡ u = ap (λ es. from_sorted {R = path_cmp} es) whole ∙ from_entries-same u in
+    record { lawful = h; spelled = ap (λ b. 2 ∷ b) found.spelled ∙ (read.2 rising ∙ ap (λ t. spelling t ++ left) same) }
 
 -- ---- files, and nothing
 
@@ -165,24 +176,8 @@ no_whole_of_kind bytes fields kind is other t rest begins =
 pub no_whole : (fields : Bytes) → IsReading IsDirectoryTree spelling (2 ∷ fields) None → IsReading IsWholeTree spelling (2 ∷ fields) None
 no_whole fields none t rest begins = none t rest (record { lawful = as_directory t begins.lawful; spelled = begins.spelled })
 
-pub full_whole : (fields after : Bytes) (t : Tree) → BeginsWith IsDirectoryTree spelling (2 ∷ fields) t after → fits_replica t ≡ false → IsReading IsWholeTree spelling (2 ∷ fields) None
-full_whole fields after t found full u rest begins =
+pub full_whole : NoTreeBeginsAnother → (fields after : Bytes) (t : Tree) → BeginsWith IsDirectoryTree spelling (2 ∷ fields) t after → fits_replica t ≡ false → IsReading IsWholeTree spelling (2 ∷ fields) None
+full_whole tells fields after t found full u rest begins =
     let lawful = as_directory u begins.lawful in
-    let same = spelling_tells u t rest after lawful.tree.part found.lawful.tree.part lawful.fits found.lawful.fits (sym begins.spelled ∙ found.spelled) in
+    let same = tells u t rest after (as_optional u lawful) (as_optional t found.lawful) (sym begins.spelled ∙ found.spelled) in
     true≢false (sym begins.lawful.fits ∙ (ap fits_replica same.0 ∙ full))
-
--- ---- what is spelled again
-
-pub directory_kind : (t : Tree) → IsDirectoryTree t → spelling t ≡ 2 ∷ rest_of (spelling t)
-directory_kind t h = let e = spelling_unfolds t ∙ ap (content_spelling spelling t) h.tree.rooted in e ∙ sym (ap (λ b. 2 ∷ rest_of b) e)
-
-module _ (fields written below : Bytes) (u : Tree) (first : ℕ) (h : IsDirectoryTree u) (spelled : written ≡ spelling u) (parts : written ≡ first ∷ below) where
-  again : spelling u ≡ 2 ∷ below
-  again = directory_kind u h ∙ ap (λ b. 2 ∷ rest_of b) (sym spelled ∙ parts)
-
-  pub spelled_again : (rest : Bytes) → fields ≡ below ++ rest → BeginsWith IsDirectoryTree spelling (2 ∷ fields) u rest
-  spelled_again rest e = record { lawful = h; spelled = ap (λ b. 2 ∷ b) e ∙ ap (λ b. b ++ rest) (sym again) }
-
-  pub not_spelled : ((rest : Bytes) → fields ≡ below ++ rest → ⊥) → ((t : Tree) (rest : Bytes) → IsDirectoryTree t → 2 ∷ fields ≡ spelling t ++ rest → u ≡ t) → IsReading IsDirectoryTree spelling (2 ∷ fields) None
-  not_spelled none only t rest begins =
-      none rest (ap rest_of (begins.spelled ∙ ap (λ b. b ++ rest) (ap spelling (sym (only t rest begins.lawful begins.spelled)) ∙ again)))

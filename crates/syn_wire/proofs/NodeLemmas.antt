@@ -1,10 +1,10 @@
 -- Nothing, and a file alone.
-use Rattle.std.proofs.Common.{◌≡◌, ◌<◌, ◌≤◌, ◌^◌, ℕ, true, ◌&&◌, nat_le, List, [], ◌∷◌, ◌++◌, length, refl, sym, ap, ◌∙◌, arith}
+use Rattle.std.proofs.Common.{◌≡◌, ◌≤◌, true, ◌&&◌, nat_le, [], ◌∷◌, length, sym, ap, ◌∙◌}
 use Rattle.std.specs.List.{list_all}
 use Rattle.std.specs.FinMap.{get-empty}
 use Rattle.std.proofs.lemmas.Bool.{and_parts, leb-true}
 use Rattle.syn_model.specs.Path.{Bytes, root, path_cmp}
-use Rattle.syn_model.specs.Tree.{Tree, Pair, File, contents_of, absent, file}
+use Rattle.syn_model.specs.Tree.{File, contents_of, absent, file}
 use Rattle.syn_model.specs.Limits.{children, fits_content, fits_part}
 use Rattle.syn_model.specs.Spelling.{spelling, content_spelling}
 use Rattle.syn_model.proofs.HistoryLemmas.{get-at_root}

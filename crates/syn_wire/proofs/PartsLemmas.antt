@@ -1,7 +1,7 @@
 -- What is read of the parts of a directory, one name after the other.
 use Rattle.std.proofs.Common.{◌≡◌, ◌≢◌, ◌<◌, ◌≤◌, ◌^◌, ◌+◌, ℕ, true, ◌&&◌, nat_le, List, [], ◌∷◌, ◌++◌, length, length-append, map, flat_map, refl, sym, ap, ap₂, ◌∙◌, subst, Option, Some, None, is_some, IsSome, append_assoc, append-nil, true≢false, arith}
-use Rattle.std.specs.Prelude.{All, option_map}
-use Rattle.std.specs.Int.{to_be_bytes, w16, w32}
+use Rattle.std.specs.Prelude.{All}
+use Rattle.std.specs.Int.{to_be_bytes, w16}
 use Rattle.std.specs.List.{AllByRecursion, list_all}
 use Rattle.std.specs.FinMap.{entries, get}
 use Rattle.std.proofs.lemmas.Bool.{and_parts, leb-true}
@@ -24,11 +24,13 @@ use Rattle.syn_wire.specs.Events.{IsFile, file_spelling}
 use Rattle.syn_wire.specs.Names.{name_spelling}
 use Rattle.syn_wire.specs.Reads.{BeginsWith, IsReading, NoneBeginsAnother}
 use Rattle.syn_wire.specs.Trees.{last_name_spelling, IsChildOf, Parts, ReadsPart, ReadsParts, StandIn, StandsAt, parts_pairs, parts_spelling}
-use Rattle.syn_wire.proofs.EventLemmas.{file_tells}
 use Rattle.syn_wire.proofs.GroupLemmas.{is_rooted, file_alone, directory_grouped}
 use Rattle.syn_wire.proofs.NameLemmas.{first_or, rest_of, names_tell}
-use Rattle.syn_wire.proofs.NumberLemmas.{u16_tells}
 use Rattle.syn_wire.proofs.WalkLemmas.{children_present}
+
+-- the pair of the path itself
+pub own_pair : (at : Path) (c : Content) → ◌≡◌ {A = Pair} (at ++ root, c) (at, c)
+own_pair at c = ap (λ (p : Path). (p, c)) (append-nil at)
 
 -- ---- paths one name below another
 
@@ -42,7 +44,7 @@ last_lawful [] name h = All-head IsName name [] h
 last_lawful (m ∷ above) name h = last_lawful above name (All-tail IsName m (above ++ name ∷ []) h)
 
 -- such a path is spelled by its name
-child_name : (above path : Path) (child : IsChildOf above path) → IsName child.name × (last_name_spelling path ≡ name_spelling child.name)
+pub child_name : (above path : Path) (child : IsChildOf above path) → IsName child.name × (last_name_spelling path ≡ name_spelling child.name)
 child_name above path child = (
   last_lawful above child.name (subst (All IsName) child.below child.lawful.names),
   ap last_name_spelling child.below ∙ child_last above child.name,

@@ -1,23 +1,16 @@
 -- What is read of a part, kind by kind.
-use Rattle.std.proofs.Common.{◌≡◌, ◌≢◌, ◌<◌, ◌^◌, ℕ, true, List, [], ◌∷◌, ◌++◌, length, refl, sym, ap, ap₂, ◌∙◌, subst, Option, Some, None, append_assoc, append-nil, arith}
+use Rattle.std.proofs.Common.{◌≡◌, ◌≢◌, ◌<◌, ◌^◌, ℕ, [], ◌∷◌, ◌++◌, length, sym, ap, ◌∙◌, subst, Option, Some, None, append_assoc, append-nil, arith}
 use Rattle.std.specs.Int.{to_be_bytes, w16}
-use Rattle.std.specs.FinMap.{entries}
 use Rattle.syn_model.specs.Path.{Bytes, Path, root}
-use Rattle.syn_model.specs.Tree.{Tree, Content, Pair, Directory, File, contents_of}
-use Rattle.syn_model.specs.Spelling.{spelling}
-use Rattle.syn_model.proofs.PathLemmas.{some_same, none_some}
+use Rattle.syn_model.specs.Tree.{Content, Pair, Directory, File, contents_of}
 use Rattle.syn_tree.specs.Pairs.{Pairs, under}
 use Rattle.syn_wire.specs.Events.{IsFile, file_spelling}
 use Rattle.syn_wire.specs.Reads.{BeginsWith, IsReading}
-use Rattle.syn_wire.specs.Trees.{ReadsPart, ReadsParts, StandsAt, parts_pairs, parts_spelling}
+use Rattle.syn_wire.specs.Trees.{ReadsPart, ReadsParts, parts_pairs, parts_spelling}
 use Rattle.syn_wire.proofs.EventLemmas.{file_tells}
 use Rattle.syn_wire.proofs.NumberLemmas.{u16_tells}
-use Rattle.syn_wire.proofs.PartsLemmas.{file_at, directory_at, parts_in, parts_stand, under_parts, one_kind}
+use Rattle.syn_wire.proofs.PartsLemmas.{own_pair, file_at, directory_at, parts_in, parts_stand, under_parts, one_kind}
 use Rattle.syn_wire.proofs.NameLemmas.{first_or}
-
--- the pair of the path itself
-own_pair : (at : Path) (c : Content) → ◌≡◌ {A = Pair} (at ++ root, c) (at, c)
-own_pair at c = ap (λ (p : Path). (p, c)) (append-nil at)
 
 pub no_file_there : (at : Path) (fields : Bytes) (old new : Pairs) → IsReading IsFile file_spelling fields None → ReadsPart at (1 ∷ fields) old new None
 no_file_there at fields old new none part rest h e =

@@ -1,7 +1,7 @@
 -- The spelling of what is there is that of its pairs, one after the other.
 use Rattle.std.proofs.Common.{◌≡◌, ◌<◌, ◌+◌, ℕ, zero, suc, true, false, cond, List, [], ◌∷◌, ◌++◌, length, length-append, flat_map, refl, sym, ap, ap₂, ◌∙◌, subst, Option, Some, None, is_some, is_lt, append_assoc, append-nil, true≢false, arith}
 use Rattle.std.specs.Prelude.{sum_by}
-use Rattle.std.specs.Int.{to_be_bytes, w16, w32}
+use Rattle.std.specs.Int.{to_be_bytes, w16}
 use Rattle.std.specs.Ordering.{eq_by_cmp}
 use Rattle.std.specs.List.{AllByRecursion}
 use Rattle.std.specs.FinMap.{find, entries, get, len}

@@ -1,5 +1,5 @@
 -- What is written of a tree, entry by entry.
-use Rattle.std.proofs.Common.{◌≡◌, ◌<◌, ◌^◌, ◌+◌, ℕ, zero, suc, Bool, true, false, ◌&&◌, nat_le, List, [], ◌∷◌, ◌++◌, length, take, flat_map, slice_get, ◌-◌, Some, refl, sym, ap, ap₂, ◌∙◌, slice_index_or, append_assoc, append-nil, is_some, true≢false, arith}
+use Rattle.std.proofs.Common.{◌≡◌, ◌<◌, ◌^◌, ◌+◌, ℕ, zero, suc, Bool, true, false, ◌&&◌, nat_le, [], ◌∷◌, ◌++◌, length, take, flat_map, slice_get, ◌-◌, Some, refl, sym, ap, ap₂, ◌∙◌, slice_index_or, append_assoc, append-nil, is_some, true≢false, arith}
 use Rattle.std.specs.List.{list_all}
 use Rattle.std.specs.FinMap.{entries}
 use Rattle.std.proofs.Math.Seq.{take-length}

@@ -4,7 +4,7 @@ ghost use Rattle.syn_model.specs.Limits.{fits_content, fits_part};
 ghost use Rattle.syn_model.specs.Spelling.{spelling};
 ghost use Rattle.syn_model.specs.Tree.{Directory};
 ghost use Rattle.syn_tree.specs.Nodes.{part_of, node_tree};
-ghost use Rattle.syn_wire.specs.Trees.{last_name_spelling, standing_spelling, IsDirectoryTree};
+ghost use Rattle.syn_wire.specs.Trees.{last_name_spelling, standing_spelling};
 
 use crate::bytes::write_file;
 use crate::error::WireError;
@@ -84,9 +84,8 @@ fn write_present(out: &mut Vec<u8>, node: &Node) -> Result<(), WireError>
 }
 
 // Adds the spelling of a directory with what is below it.
-pub(crate) fn write_directory(out: &mut Vec<u8>, entries: &Entries) -> Result<(), WireError>
-    ensures spelled { OnOk result (out.new.items ≡ out.old.items ++ spelling entries.now) }
-    ensures lawful { IsDirectoryTree entries.now }
+fn write_directory(out: &mut Vec<u8>, entries: &Entries) -> Result<(), WireError>
+    ensures { OnOk result (out.new.items ≡ out.old.items ++ spelling entries.now) }
 {
     let root = Path::root(*out.allocator());
     let list = entries.as_slice();

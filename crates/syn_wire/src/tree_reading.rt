@@ -1,18 +1,17 @@
 //! What is read of trees.
-ghost use Rattle.std.specs.Prelude.{◌≡◌, ◌++◌, ◌∷◌, Some, IfOk, option_map};
-ghost use Rattle.syn_model.specs.Path.{Bytes, IsName};
-ghost use Rattle.syn_model.specs.Tree.{Tree as Pairs};
+ghost use Rattle.std.specs.Prelude.{◌≡◌, ◌∷◌, IfOk, option_map};
+ghost use Rattle.syn_model.specs.Path.{IsName};
 ghost use Rattle.syn_model.specs.Spelling.{spelling};
 ghost use Rattle.syn_tree.specs.Nodes.{part_of};
 ghost use Rattle.syn_wire.specs.Reads.{IsReading};
 ghost use Rattle.syn_wire.specs.Names.{name_spelling};
-ghost use Rattle.syn_wire.specs.Trees.{last_name_spelling, IsChildOf, IsDirectoryTree, IsOptionalTree, IsWholeTree, ReadsPart, ReadsParts};
+ghost use Rattle.syn_wire.specs.Trees.{last_name_spelling, IsChildOf, IsDirectoryTree, IsOptionalTree, IsWholeTree, ReadsPart, ReadsParts, PartIsRead, PartsAreRead};
 
 use crate::bytes::read_file;
 use crate::error::WireError;
 use crate::number::read_u16;
 use crate::spelling_laws;
-use crate::tree::{ABSENT, DIRECTORY, FILE, write_directory};
+use crate::tree::{ABSENT, DIRECTORY, FILE};
 use std::alloc::Global;
 use std::str;
 use syn_path::{Name, Path, PathError};
@@ -95,36 +94,23 @@ fn read_tree(alloc: Global, fields: &[u8]) -> Result<Option<(Tree, &[u8])>, Wire
     }
 }
 
-// What follows the kind of a directory. What was read is spelled again: the bytes have to begin with just that.
+// What follows the kind of a directory.
 fn read_directory(alloc: Global, fields: &[u8]) -> Result<Option<(Entries, &[u8])>, WireError>
     ensures { IfOk result (λ read. IsReading IsDirectoryTree spelling (DIRECTORY ∷ fields.now) (option_map (λ found. (found.0, found.1.now)) read)) }
-{
-    let Some(entries) = read_entries(alloc, fields)? else {
-        return Ok(None);
-    };
-    let mut spelled = Vec::new(alloc);
-    write_directory(&mut spelled, &entries)?;
-    let [_, below @ ..] = spelled.as_slice() else {
-        return Ok(None);
-    };
-    match fields.strip_prefix(below) {
-        Some(rest) => Ok(Some((entries, rest))),
-        None => Ok(None),
-    }
-}
-
-// The entries of a directory, where the fields begin with the spelling of one.
-fn read_entries(alloc: Global, fields: &[u8]) -> Result<Option<Entries>, WireError>
-    ensures { IfOk result (λ read. (tree : Pairs) (rest : Bytes) → IsDirectoryTree tree → DIRECTORY ∷ fields.now ≡ spelling tree ++ rest → read ≡ Some tree) }
 {
     let Some((count, below)) = read_u16(fields) else {
         return Ok(None);
     };
     let mut list = Vec::new(alloc);
-    match read_parts(alloc, &mut list, &Path::root(alloc), count, below)? {
-        Some(_) => Ok(Entries::from_vec(list)),
-        None => Ok(None),
-    }
+    let Some(rest) = read_parts(alloc, &mut list, &Path::root(alloc), count, below)? else {
+        return Ok(None);
+    };
+    let Some(entries) = Entries::from_vec(list) else {
+        return Ok(None);
+    };
+    // what they keep is a directory's
+    let _ = entries.as_slice();
+    Ok(Some((entries, rest)))
 }
 
 // Adds so many names of a directory, each with what stands there and all below it, and answers what is left.
@@ -136,7 +122,8 @@ fn read_parts<'a>(
     count: u16,
     bytes: &'a [u8],
 ) -> Result<Option<&'a [u8]>, WireError>
-    ensures { IfOk result (λ left. ReadsParts above.now count bytes.now list.old.items list.new.items (option_map (λ rest. rest.now) left)) }
+    ensures reads { IfOk result (λ left. ReadsParts above.now count bytes.now list.old.items list.new.items (option_map (λ rest. rest.now) left)) }
+    ensures spelled { IfOk result (λ left. PartsAreRead above.now count bytes.now list.old.items list.new.items (option_map (λ rest. rest.now) left)) }
 {
     let mut rest = bytes;
     for _read in 0..count {
@@ -159,7 +146,8 @@ fn read_part<'a>(
     path: Path,
     bytes: &'a [u8],
 ) -> Result<Option<&'a [u8]>, WireError>
-    ensures { IfOk result (λ left. ReadsPart path bytes.now list.old.items list.new.items (option_map (λ rest. rest.now) left)) }
+    ensures reads { IfOk result (λ left. ReadsPart path bytes.now list.old.items list.new.items (option_map (λ rest. rest.now) left)) }
+    ensures spelled { IfOk result (λ left. PartIsRead path bytes.now list.old.items list.new.items (option_map (λ rest. rest.now) left)) }
 {
     let [kind, fields @ ..] = bytes else {
         return Ok(None);
@@ -179,7 +167,8 @@ fn read_directory_at<'a>(
     path: Path,
     fields: &'a [u8],
 ) -> Result<Option<&'a [u8]>, WireError>
-    ensures { IfOk result (λ left. ReadsPart path (DIRECTORY ∷ fields.now) list.old.items list.new.items (option_map (λ rest. rest.now) left)) }
+    ensures reads { IfOk result (λ left. ReadsPart path (DIRECTORY ∷ fields.now) list.old.items list.new.items (option_map (λ rest. rest.now) left)) }
+    ensures spelled { IfOk result (λ left. PartIsRead path (DIRECTORY ∷ fields.now) list.old.items list.new.items (option_map (λ rest. rest.now) left)) }
 {
     let Some((count, below)) = read_u16(fields) else {
         return Ok(None);
@@ -196,7 +185,8 @@ fn read_file_at<'a>(
     path: Path,
     fields: &'a [u8],
 ) -> Result<Option<&'a [u8]>, WireError>
-    ensures { IfOk result (λ left. ReadsPart path (FILE ∷ fields.now) list.old.items list.new.items (option_map (λ rest. rest.now) left)) }
+    ensures reads { IfOk result (λ left. ReadsPart path (FILE ∷ fields.now) list.old.items list.new.items (option_map (λ rest. rest.now) left)) }
+    ensures spelled { IfOk result (λ left. PartIsRead path (FILE ∷ fields.now) list.old.items list.new.items (option_map (λ rest. rest.now) left)) }
 {
     let Some((file, rest)) = read_file(alloc, fields)? else {
         return Ok(None);

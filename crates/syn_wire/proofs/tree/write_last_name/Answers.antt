@@ -1,4 +1,4 @@
-use Rattle.std.proofs.Common.{◌≡◌, ◌++◌, ◌∷◌, [], length, slice_get, ◌-◌, sym, ap, ap₂, ◌∙◌, append_assoc}
+use Rattle.std.proofs.Common.{◌++◌, ◌∷◌, [], length, slice_get, ◌-◌, sym, ap, ap₂, ◌∙◌, append_assoc}
 use Rattle.syn_wire.proofs.WritingLemmas.{last_name}
 use Rattle.syn_wire.proofs.tree.write_last_name.Goals as goal
 

@@ -1,4 +1,4 @@
-use Rattle.std.proofs.Common.{◌≡◌, ◌++◌, option_map, sym, ap, ◌∙◌}
+use Rattle.std.proofs.Common.{◌++◌, option_map, sym, ap, ◌∙◌}
 use Rattle.syn_model.specs.Spelling.{spelling}
 use Rattle.syn_tree.specs.Nodes.{part_of}
 use Rattle.syn_wire.proofs.NodeLemmas.{absent_spelled}

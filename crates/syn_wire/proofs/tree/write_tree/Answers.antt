@@ -1,4 +1,4 @@
-use Rattle.std.proofs.Common.{◌≡◌, ◌≤◌, length, sym, ap, ◌∙◌, append-nil, arith}
+use Rattle.std.proofs.Common.{◌≡◌, length, sym, ap, ◌∙◌, append-nil, arith}
 use Rattle.syn_model.specs.Limits.{children}
 use Rattle.syn_wire.proofs.WritingLemmas.{pairs_more, whole_written}
 use Rattle.syn_wire.proofs.tree.write_tree.Goals as goal

@@ -1,4 +1,5 @@
 use Rattle.std.proofs.Common.{◌+◌, ◌-◌, length}
+use Rattle.syn_wire.proofs.ListedLemmas.{ListedSoFar}
 use Rattle.syn_wire.proofs.PartsLemmas.{ReadSoFar}
 use Rattle.syn_wire.proofs.tree_reading.+parts.Given as goal
 
@@ -13,4 +14,7 @@ abbrev pub decreases-read_part : goal.decreases-read_part
 decreases-read_part l = (16 - length l.path) + (16 - length l.path) + (16 - length l.path) + 2
 
 abbrev pub invariant-read_parts-loop-read : goal.invariant-read_parts-loop-read
-invariant-read_parts-loop-read l = ReadSoFar l.above l.count l._read l.bytes l.rest l.initial.list.items l.list.items
+invariant-read_parts-loop-read l = record {
+  so_far : ReadSoFar l.above l.count l._read l.bytes l.rest l.initial.list.items l.list.items;
+  spelled : ListedSoFar l.above l._read l.bytes l.rest l.initial.list.items l.list.items;
+}

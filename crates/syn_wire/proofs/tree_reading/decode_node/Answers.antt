@@ -1,4 +1,4 @@
-use Rattle.std.proofs.Common.{◌≡◌, ◌≤◌, ◌<◌, ◌-◌, ◌∷◌, ◌++◌, [], length, take, drop, slice_index_or, sym, ap, ◌∙◌, arith}
+use Rattle.std.proofs.Common.{◌-◌, ◌∷◌, ◌++◌, length, take, drop, slice_index_or, sym, ap, ◌∙◌, arith}
 use Rattle.syn_wire.specs.Trees.{IsOptionalTree}
 use Rattle.syn_wire.proofs.MadeLemmas.{absent_lawful, none_without_kind, none_of_other_kind}
 use Rattle.syn_wire.proofs.NameLemmas.{first_and_rest}

@@ -1,4 +1,4 @@
-use Rattle.std.proofs.Common.{◌≡◌, ◌≤◌, ◌<◌, ◌-◌, length, take, drop, slice_index_or, arith}
+use Rattle.std.proofs.Common.{◌-◌, length, take, drop, slice_index_or, arith}
 use Rattle.syn_wire.specs.Trees.{IsWholeTree}
 use Rattle.syn_wire.proofs.MadeLemmas.{none_without_kind, no_whole_of_kind}
 use Rattle.syn_wire.proofs.NameLemmas.{first_and_rest}

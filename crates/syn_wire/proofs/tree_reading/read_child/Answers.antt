@@ -1,4 +1,4 @@
-use Rattle.std.proofs.Common.{option_map, refl, subst}
+use Rattle.std.proofs.Common.{option_map, subst}
 use Rattle.syn_model.specs.Path.{IsName}
 use Rattle.syn_wire.specs.Names.{name_spelling}
 use Rattle.syn_wire.specs.Reads.{IsReading}

@@ -1,33 +1,28 @@
-use Rattle.std.proofs.Common.{◌≡◌, ◌≤◌, ◌<◌, ◌-◌, ◌++◌, ◌∷◌, length, take, drop, slice_index_or, Some, None, sym, ap, ◌∙◌, arith}
-use Rattle.std.proofs.lemmas.Bool.Decides.{Decides-eqb}
-use Rattle.std.proofs.lemmas.Slice.Eq.{strip_prefix_is}
-use Rattle.syn_model.specs.Spelling.{spelling}
-use Rattle.syn_model.proofs.PathLemmas.{some_same}
-use Rattle.syn_wire.proofs.MadeLemmas.{directory_kind, spelled_again, not_spelled}
-use Rattle.syn_wire.proofs.NameLemmas.{first_and_rest}
+use Rattle.std.proofs.Common.{option_map, subst}
+use Rattle.syn_wire.specs.Trees.{PartsAreRead, ReadsParts}
+use Rattle.syn_wire.proofs.MadeLemmas.{no_directory_read, no_parts_read, all_entries, not_made, directory_made}
 use Rattle.syn_wire.proofs.tree_reading.read_directory.Goals as goal
 
-pub returns-in_default-as_slice : goal.returns-in_default-as_slice
-returns-in_default-as_slice c t rest begins =
-    let written = c.as_slice.ensures.value ∙ (c.in_ok-write_directory.ensures.spelled ∙ ap (λ b. b ++ spelling c.in-Some.entries) c.new-spelled.ensures.items) in
-    let long = ap length (written ∙ directory_kind c.in-Some.entries c.in_ok-write_directory.ensures.lawful) in
-    absurd (omega (arith, long, c.in_default-as_slice.len_below))
+pub returns-in_default : goal.returns-in_default
+returns-in_default c t rest begins = no_directory_read c.args.fields.now c.in_default.ensures t rest begins.lawful begins.spelled
 
-pub returns-in-Some-strip_prefix : goal.returns-in-Some-strip_prefix
-returns-in-Some-strip_prefix c =
-    let fields = c.args.fields.now in
-    let xs = c.as_slice.result.now in
-    let below = take (length xs - 1) (drop 1 xs) in
-    let written = c.as_slice.ensures.value ∙ (c.in_ok-write_directory.ensures.spelled ∙ ap (λ b. b ++ spelling c.in-Some.entries) c.new-spelled.ensures.items) in
-    spelled_again fields xs below c.in-Some.entries (slice_index_or xs 0 0) c.in_ok-write_directory.ensures.lawful written (first_and_rest xs c.in-len1-up.len_at_least) c.in-Some-strip_prefix.rest.now
-    (strip_prefix_is Decides-eqb fields below (Some c.in-Some-strip_prefix.rest) c.in-Some-strip_prefix.ensures.cases)
+pub returns-in_default-2 : goal.returns-in_default-2
+returns-in_default-2 c t rest begins =
+    let list = c.read_parts-2.new.list.items in
+    let read = subst (λ o. ReadsParts c.root.result c.in-Some.count c.in-Some.below.now c.new-list.result.items list (option_map (λ left. left.now) o)) c.in_default-2.is c.in_ok-rest.ensures.reads in
+    no_parts_read c.args.fields.now c.in-Some.below.now c.root.result c.in-Some.count c.in-Some.ensures c.root.ensures c.new-list.result.items list read t rest begins.lawful begins.spelled
+
+pub returns-in_default-from_vec : goal.returns-in_default-from_vec
+returns-in_default-from_vec c t rest begins =
+    let list = c.read_parts-2.new.list.items in
+    let read = subst (λ o. ReadsParts c.root.result c.in-Some.count c.in-Some.below.now c.new-list.result.items list (option_map (λ left. left.now) o)) c.in-Some-2.is c.in_ok-rest.ensures.reads in
+    let all = all_entries c.args.fields.now c.in-Some.below.now c.root.result c.in-Some.count c.in-Some.ensures c.root.ensures c.new-list.result.items list c.in-Some-2.rest.now c.new-list.ensures.items read t rest begins.lawful begins.spelled in
+    not_made t list begins.lawful all c.in_default-from_vec.ensures.none
 
 pub returns : goal.returns
 returns c =
-    let fields = c.args.fields.now in
-    let xs = c.as_slice.result.now in
-    let below = take (length xs - 1) (drop 1 xs) in
-    let written = c.as_slice.ensures.value ∙ (c.in_ok-write_directory.ensures.spelled ∙ ap (λ b. b ++ spelling c.in-Some.entries) c.new-spelled.ensures.items) in
-    not_spelled fields xs below c.in-Some.entries (slice_index_or xs 0 0) c.in_ok-write_directory.ensures.lawful written (first_and_rest xs c.in-len1-up.len_at_least)
-    (strip_prefix_is Decides-eqb fields below None c.in-None.ensures.cases)
-    (λ t rest h e. some_same (sym c.in-Some.is ∙ c.in_ok-entries.ensures t rest h e))
+    let list = c.read_parts-2.new.list.items in
+    let read = subst (λ o. PartsAreRead c.root.result c.in-Some.count c.in-Some.below.now c.new-list.result.items list (option_map (λ left. left.now) o)) c.in-Some-2.is c.in_ok-rest.ensures.spelled in
+    let kept = c.as_slice.ensures in
+    directory_made c.args.fields.now c.in-Some.below.now c.root.result c.in-Some.count c.new-list.result.items list c.in-Some-2.rest.now c.in-Some-from_vec.entries c.in-Some.ensures c.root.ensures c.new-list.ensures.items read c.in-Some-from_vec.ensures.some
+    (record { tree = kept.tree; fits = kept.part; paths = kept.paths })

@@ -1,4 +1,4 @@
-use Rattle.std.proofs.Common.{◌≡◌, ◌≤◌, ◌<◌, length, option_map, subst, arith}
+use Rattle.std.proofs.Common.{option_map, subst, arith}
 use Rattle.syn_wire.specs.Events.{IsFile, file_spelling}
 use Rattle.syn_wire.specs.Reads.{IsReading}
 use Rattle.syn_wire.proofs.MadeLemmas.{no_file_read, long_file_read, file_read}
