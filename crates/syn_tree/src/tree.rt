@@ -313,7 +313,10 @@ impl Tree {
         ensures absent { IfErr result (λ e. e ≢ TreeError.Memory → (e ≡ TreeError.Absent) × (is_directory self.now path.now ≡ false)) }
     {
         match self.get(path) {
-            Some(Found::Dir) => children(alloc, &self.list, path.names()),
+            Some(Found::Dir) => {
+                let names = path.names();
+                children(alloc, part_at(&self.list, names), names)
+            }
             _ => Err(TreeError::Absent),
         }
     }
@@ -330,7 +333,8 @@ impl Tree {
                 Ok(Some(Node::File(bytes)))
             }
             Some(Found::Dir) => {
-                let list = below(alloc, &self.list, path)?;
+                let part = part_at(&self.list, path.names());
+                let list = below(alloc, part, path)?;
                 Ok(Some(Node::Dir(Entries::lawful(list))))
             }
         }
