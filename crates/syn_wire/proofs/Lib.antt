@@ -3,3 +3,10 @@ pub mod NumberLemmas
 pub mod Sequences
 pub mod EventLemmas
 pub mod ByteLemmas
+pub mod GroupLemmas
+pub mod WalkLemmas
+pub mod WritingLemmas
+pub mod NodeLemmas
+pub mod PartsLemmas
+pub mod ReadingLemmas
+pub mod MadeLemmas

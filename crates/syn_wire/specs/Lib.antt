@@ -3,3 +3,4 @@ pub mod Reads
 pub mod Names
 pub mod Laws
 pub mod Events
+pub mod Trees

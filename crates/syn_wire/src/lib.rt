@@ -4,17 +4,22 @@
 #![tactic(auto)]
 
 ghost use Rattle.syn_wire.specs.Laws.{NoU16BeginsAnother, NoU32BeginsAnother, NoU64BeginsAnother, NoPathBeginsAnother, NoEventBeginsAnother};
+ghost use Rattle.syn_wire.specs.Trees.{NoTreeBeginsAnother, SpellingIsWalk, SpellingIsMeasured};
 
 mod bytes;
 mod error;
 mod event;
 mod number;
 mod path;
+mod tree;
+mod tree_reading;
 
 pub use error::WireError;
 pub use event::{decode_event, encode_event};
 pub use number::{read_u16, read_u32, read_u64};
 pub use path::{decode_path, encode_path, write_path};
+pub use tree::{encode_node, encode_tree, write_node, write_tree};
+pub use tree_reading::{decode_node, decode_tree};
 
 /// No spelling of a value begins that of another.
 pub fn spelling_laws()
@@ -23,6 +28,11 @@ pub fn spelling_laws()
     ensures u64 { NoU64BeginsAnother }
     ensures path { NoPathBeginsAnother }
     ensures event { NoEventBeginsAnother }
+    ensures tree { NoTreeBeginsAnother }
+
+    // A tree is spelled in one walk over its entries, and as long as the model measures.
+    ensures walk { SpellingIsWalk }
+    ensures measured { SpellingIsMeasured }
 {
     syn_model::spelling_laws();
 }

@@ -1,6 +1,7 @@
 use Rattle.syn_wire.proofs.EventLemmas.{event_tells}
 use Rattle.syn_wire.proofs.NameLemmas.{paths_tell}
 use Rattle.syn_wire.proofs.NumberLemmas.{u16_tells, u32_tells, u64_tells}
+use Rattle.syn_wire.proofs.WalkLemmas.{spelling_walks, spelling_measured}
 use Rattle.syn_wire.proofs.spelling_laws.Goals as goal
 
 pub returns-clause-u16 : goal.returns-clause-u16
@@ -17,3 +18,12 @@ returns-clause-path c = paths_tell
 
 pub returns-clause-event : goal.returns-clause-event
 returns-clause-event c = event_tells c.spelling_laws.ensures.tells
+
+pub returns-clause-tree : goal.returns-clause-tree
+returns-clause-tree c t u r s ht hu e = c.spelling_laws.ensures.tells t u r s ht.part hu.part ht.fits hu.fits e
+
+pub returns-clause-walk : goal.returns-clause-walk
+returns-clause-walk c = spelling_walks
+
+pub returns-clause-measured : goal.returns-clause-measured
+returns-clause-measured c = spelling_measured

@@ -1,0 +1,188 @@
+-- Entries that were read make the tree that the bytes spell.
+use Rattle.std.proofs.Common.{◌≡◌, ◌≢◌, ◌<◌, ◌≤◌, ◌^◌, ℕ, Bool, true, false, cond, ◌&&◌, nat_le, List, [], ◌∷◌, ◌++◌, length, refl, sym, ap, ap₂, ◌∙◌, subst, Option, Some, None, is_some, IsSome, true≢false, arith}
+use Rattle.std.specs.Prelude.{IfSome, IfNone}
+use Rattle.std.specs.Int.{to_be_bytes, w16}
+use Rattle.std.specs.List.{list_all}
+use Rattle.std.specs.Ordering.{eq_by_cmp}
+use Rattle.std.specs.FinMap.{entries, entries_sorted, find, from_sorted, get, get-entries, len, same_entries_map}
+use Rattle.std.proofs.lemmas.Bool.{and_parts}
+use Rattle.std.proofs.lemmas.Bool.Decides.{nat_tests}
+use Rattle.syn_model.specs.Path.{Bytes, Path, IsPath, path_cmp, root}
+use Rattle.syn_model.specs.Tree.{Tree, Content, Pair, Directory, File, IsTree, IsPart, absent, contents_of, file}
+use Rattle.syn_model.specs.Event.{AreBytes}
+use Rattle.syn_model.specs.Limits.{fits_content, fits_part, fits_path, fits_paths, fits_replica, greatest_spelling, tree_spelling_length}
+use Rattle.syn_model.specs.Spelling.{spelling, content_spelling}
+use Rattle.syn_model.proofs.PathLemmas.{same_path, none_some}
+use Rattle.syn_model.proofs.SpellingLemmas.{spelling_unfolds, spelling_tells}
+use Rattle.syn_tree.specs.Entries.{AreEntries}
+use Rattle.syn_tree.specs.Pairs.{Pairs, rooted, tree_with, AreRising, under}
+use Rattle.syn_tree.proofs.ChangeLemmas.{lawful_part, nothing_part}
+use Rattle.syn_tree.proofs.CheckLemmas.{one_fits}
+use Rattle.syn_tree.proofs.PlaceableLemmas.{fits-path}
+use Rattle.syn_tree.proofs.RisingLemmas.{sorted_of}
+use Rattle.syn_tree.proofs.TreeLemmas.{entries-absent, entries-one, from_entries-same}
+use Rattle.syn_wire.specs.Events.{IsFile, file_spelling}
+use Rattle.syn_wire.specs.Reads.{BeginsWith, IsReading}
+use Rattle.syn_wire.specs.Trees.{IsDirectoryTree, IsOptionalTree, IsWholeTree, ReadsParts, StandsAt, parts_pairs, parts_spelling}
+use Rattle.syn_wire.proofs.EventLemmas.{file_tells}
+use Rattle.syn_wire.proofs.NameLemmas.{first_or, rest_of}
+use Rattle.syn_wire.proofs.NodeLemmas.{absent_spelled, file_spelled}
+use Rattle.syn_wire.proofs.NumberLemmas.{u16_tells}
+use Rattle.syn_wire.proofs.PartsLemmas.{file_at, directory_at, parts_in, parts_stand}
+
+-- ---- limits
+
+path_found : (es : Pairs) (q : Path) → list_all (λ pair. fits_path pair.0) es ≡ true → is_some (find path_cmp q es) ≡ true → fits_path q ≡ true
+path_found [] q h is = absurd (true≢false (sym is))
+path_found (e ∷ es) q h is = by_path (eq_by_cmp path_cmp q e.0) refl is (λ some. path_found es q (and_parts (fits_path e.0) (list_all (λ pair. fits_path pair.0) es) h).1 some)
+  where
+    by_path : (b : Bool) → eq_by_cmp path_cmp q e.0 ≡ b → is_some (cond b (Some e.1) (find path_cmp q es)) ≡ true → (is_some (find path_cmp q es) ≡ true → fits_path q ≡ true) → fits_path q ≡ true
+    by_path true same some later = ap fits_path (same_path q e.0 same) ∙ (and_parts (fits_path e.0) (list_all (λ pair. fits_path pair.0) es) h).0
+    by_path false same some later = later some
+
+pub as_optional : (t : Tree) → IsDirectoryTree t → IsOptionalTree t
+as_optional t h = record { part = h.tree.part; fits = h.fits; paths = h.paths }
+
+pub as_directory : (t : Tree) → IsWholeTree t → IsDirectoryTree t
+as_directory t h =
+    let whole = and_parts (nat_le (len t) 1024 && nat_le (tree_spelling_length t) greatest_spelling && fits_part t) (fits_paths t) h.fits in
+    record { tree = h.tree; fits = (and_parts (nat_le (len t) 1024 && nat_le (tree_spelling_length t) greatest_spelling) (fits_part t) whole.0).1; paths = whole.1 }
+
+stands_at_root : (t : Tree) → IsDirectoryTree t → StandsAt root t
+stands_at_root t h = record {
+  part = h.tree.part;
+  present = ap is_some h.tree.rooted;
+  fits = h.fits;
+  paths = λ q some. fits-path q (h.tree.part.names q some) (path_found (entries t) q h.paths (ap is_some (sym (get-entries t q)) ∙ some));
+}
+
+-- ---- directories
+
+-- a directory's count and parts stand behind its kind
+pub no_directory_read : (fields : Bytes) → IsReading (λ n. n < 2 ^ 16) (to_be_bytes w16) fields None → (t : Tree) (rest : Bytes) → IsDirectoryTree t → 2 ∷ fields ≡ spelling t ++ rest → ⊥
+no_directory_read fields none t rest h e =
+    let d = directory_at t fields rest h.tree.part h.fits e in
+    none (length (parts_in t)) (parts_spelling (parts_in t) ++ rest) (record { lawful = d.few; spelled = d.spelled })
+
+module _ (fields below : Bytes) (above : Path) (count : ℕ) (found : BeginsWith (λ n. n < 2 ^ 16) (to_be_bytes w16) fields count below) (is_root : above ≡ root) where
+  what_is_read : (old new : Pairs) (left : Option Bytes) → ReadsParts above count below old new left → (t : Tree) (rest : Bytes) → IsDirectoryTree t → 2 ∷ fields ≡ spelling t ++ rest →
+      (left ≡ Some rest) × (new ≡ old ++ parts_pairs root (parts_in t))
+  what_is_read old new left read t rest h e =
+      let d = directory_at t fields rest h.tree.part h.fits e in
+      let same = u16_tells count (length (parts_in t)) below (parts_spelling (parts_in t) ++ rest) found.lawful d.few (sym found.spelled ∙ d.spelled) in
+      subst (λ p. ReadsParts p count below old new left) is_root read (parts_in t) rest (sym same.0) (parts_stand root t (stands_at_root t h)) same.1
+
+  pub no_parts_read : (old new : Pairs) → ReadsParts above count below old new None → (t : Tree) (rest : Bytes) → IsDirectoryTree t → 2 ∷ fields ≡ spelling t ++ rest → ⊥
+  no_parts_read old new none t rest h e = none_some (what_is_read old new None none t rest h e).0
+
+  -- what was read is below the root of the tree
+  pub all_entries : (old new : Pairs) (left : Bytes) → old ≡ [] → ReadsParts above count below old new (Some left) → (t : Tree) (rest : Bytes) → IsDirectoryTree t → 2 ∷ fields ≡ spelling t ++ rest → rooted new ≡ entries t
+  all_entries old new left empty read t rest h e =
+      let d = directory_at t fields rest h.tree.part h.fits e in
+      ap rooted ((what_is_read old new (Some left) read t rest h e).1 ∙ ap (λ es. es ++ parts_pairs root (parts_in t)) empty) ∙ sym d.whole
+
+are_entries : (t : Tree) (list : Pairs) → IsDirectoryTree t → rooted list ≡ entries t → AreEntries list
+are_entries t list h all =
+    let same : t ≡ tree_with list = sym (ap (λ es. from_sorted {R = path_cmp} es) all ∙ from_entries-same t) in
+    record {
+      rising = subst AreRising (sym all) (sorted_of _ (entries_sorted t));
+      tree = subst IsTree same h.tree;
+      part = ap fits_part (sym same) ∙ h.fits;
+      paths = ap fits_paths (sym same) ∙ h.paths;
+    }
+
+-- and makes it
+pub made : (t : Tree) (list : Pairs) (o : Option Tree) → IsDirectoryTree t → rooted list ≡ entries t → IfSome o (λ all. rooted list ≡ entries all) → IfNone o (¬ AreEntries list) → o ≡ Some t
+made t list None h all some none = absurd (none (are_entries t list h all))
+made t list (Some u) h all some none = ap (λ x. Some x) (same_entries_map u t (sym some ∙ all))
+
+-- ---- files, and nothing
+
+pub absent_lawful : IsOptionalTree absent
+absent_lawful = record { part = nothing_part; fits = ap (list_all _) entries-absent; paths = ap (list_all (λ pair. fits_path pair.0)) entries-absent }
+
+pub no_file_read : (fields : Bytes) → IsReading IsFile file_spelling fields None → IsReading IsOptionalTree spelling (1 ∷ fields) None
+no_file_read fields none t rest begins =
+    let f = file_at t fields rest begins.lawful.part begins.lawful.fits begins.spelled in
+    none f.contents.bytes rest (record { lawful = f.lawful; spelled = f.spelled })
+
+pub long_file_read : (fields bytes after : Bytes) → BeginsWith IsFile file_spelling fields bytes after → 16384 < length bytes → IsReading IsOptionalTree spelling (1 ∷ fields) None
+long_file_read fields bytes after found long t rest begins =
+    let f = file_at t fields rest begins.lawful.part begins.lawful.fits begins.spelled in
+    let same = ap length (file_tells bytes f.contents.bytes after rest found.lawful f.lawful (sym found.spelled ∙ f.spelled)).0 in
+    let short = f.short in
+    absurd (omega (arith, same, short, long))
+
+brief : (n : ℕ) → n ≤ 16384 → nat_le n 16384 ≡ true
+brief n h = grind (arith, nat_tests)
+
+pub file_read : (fields bytes after : Bytes) → BeginsWith IsFile file_spelling fields bytes after → length bytes ≤ 16384 → BeginsWith IsOptionalTree spelling (1 ∷ fields) (file bytes) after
+file_read fields bytes after found short = record {
+  lawful = record {
+    part = lawful_part (File (contents_of bytes)) found.lawful.bytes;
+    fits = one_fits (File (contents_of bytes)) (brief (length bytes) short);
+    paths = ap (list_all (λ pair. fits_path pair.0)) (entries-one (File (contents_of bytes)));
+  };
+  spelled = ap (λ b. 1 ∷ b) found.spelled ∙ ap (λ b. b ++ after) (sym (file_spelled bytes));
+}
+
+-- ---- kinds
+
+-- behind the kind of a directory stands a directory
+pub directory_none : (fields : Bytes) → IsReading IsDirectoryTree spelling (2 ∷ fields) None → IsReading IsOptionalTree spelling (2 ∷ fields) None
+directory_none fields none t rest begins =
+    let d = directory_at t fields rest begins.lawful.part begins.lawful.fits begins.spelled in
+    none t rest (record {
+      lawful = record { tree = record { rooted = d.here; part = begins.lawful.part }; fits = begins.lawful.fits; paths = begins.lawful.paths };
+      spelled = begins.spelled;
+    })
+
+-- a spelling has a kind
+kind_of : (t : Tree) (rest bytes : Bytes) → bytes ≡ spelling t ++ rest → (kind : ℕ) × (fields : Bytes) × (bytes ≡ kind ∷ fields) × (kind ≤ 2)
+kind_of t rest bytes e = by_content (get t root) (e ∙ ap (λ b. b ++ rest) (spelling_unfolds t))
+  where
+    by_content : (o : Option Content) → bytes ≡ content_spelling spelling t o ++ rest → (kind : ℕ) × (fields : Bytes) × (bytes ≡ kind ∷ fields) × (kind ≤ 2)
+    by_content None k = (0, _, k, omega arith)
+    by_content (Some (File c)) k = (1, _, k, omega arith)
+    by_content (Some Directory) k = (2, _, k, omega arith)
+
+pub none_without_kind : (P : Tree → Type 0) (bytes : Bytes) → length bytes < 1 → IsReading P spelling bytes None
+none_without_kind P bytes short t rest begins = let k = kind_of t rest bytes begins.spelled in absurd (omega (arith, ap length k.2, short))
+
+pub none_of_other_kind : (P : Tree → Type 0) (bytes fields : Bytes) (kind : ℕ) → bytes ≡ kind ∷ fields → 2 < kind → IsReading P spelling bytes None
+none_of_other_kind P bytes fields kind is other t rest begins =
+    let k = kind_of t rest bytes begins.spelled in
+    let same : k.0 ≡ kind = ap (λ b. first_or b 0) (sym k.2 ∙ is) in
+    absurd (omega (arith, same, k.3, other))
+
+-- the root of a whole tree is a directory
+pub no_whole_of_kind : (bytes fields : Bytes) (kind : ℕ) → bytes ≡ kind ∷ fields → kind ≢ 2 → IsReading IsWholeTree spelling bytes None
+no_whole_of_kind bytes fields kind is other t rest begins =
+    other (ap (λ b. first_or b 0) (sym is ∙ (begins.spelled ∙ ap (λ b. b ++ rest) (spelling_unfolds t ∙ ap (content_spelling spelling t) begins.lawful.tree.rooted))))
+
+-- ---- whole trees
+
+pub no_whole : (fields : Bytes) → IsReading IsDirectoryTree spelling (2 ∷ fields) None → IsReading IsWholeTree spelling (2 ∷ fields) None
+no_whole fields none t rest begins = none t rest (record { lawful = as_directory t begins.lawful; spelled = begins.spelled })
+
+pub full_whole : (fields after : Bytes) (t : Tree) → BeginsWith IsDirectoryTree spelling (2 ∷ fields) t after → fits_replica t ≡ false → IsReading IsWholeTree spelling (2 ∷ fields) None
+full_whole fields after t found full u rest begins =
+    let lawful = as_directory u begins.lawful in
+    let same = spelling_tells u t rest after lawful.tree.part found.lawful.tree.part lawful.fits found.lawful.fits (sym begins.spelled ∙ found.spelled) in
+    true≢false (sym begins.lawful.fits ∙ (ap fits_replica same.0 ∙ full))
+
+-- ---- what is spelled again
+
+pub directory_kind : (t : Tree) → IsDirectoryTree t → spelling t ≡ 2 ∷ rest_of (spelling t)
+directory_kind t h = let e = spelling_unfolds t ∙ ap (content_spelling spelling t) h.tree.rooted in e ∙ sym (ap (λ b. 2 ∷ rest_of b) e)
+
+module _ (fields written below : Bytes) (u : Tree) (first : ℕ) (h : IsDirectoryTree u) (spelled : written ≡ spelling u) (parts : written ≡ first ∷ below) where
+  again : spelling u ≡ 2 ∷ below
+  again = directory_kind u h ∙ ap (λ b. 2 ∷ rest_of b) (sym spelled ∙ parts)
+
+  pub spelled_again : (rest : Bytes) → fields ≡ below ++ rest → BeginsWith IsDirectoryTree spelling (2 ∷ fields) u rest
+  spelled_again rest e = record { lawful = h; spelled = ap (λ b. 2 ∷ b) e ∙ ap (λ b. b ++ rest) (sym again) }
+
+  pub not_spelled : ((rest : Bytes) → fields ≡ below ++ rest → ⊥) → ((t : Tree) (rest : Bytes) → IsDirectoryTree t → 2 ∷ fields ≡ spelling t ++ rest → u ≡ t) → IsReading IsDirectoryTree spelling (2 ∷ fields) None
+  not_spelled none only t rest begins =
+      none rest (ap rest_of (begins.spelled ∙ ap (λ b. b ++ rest) (ap spelling (sym (only t rest begins.lawful begins.spelled)) ∙ again)))

@@ -1,0 +1,23 @@
+use Rattle.std.proofs.Common.{◌≡◌, ◌≤◌, ◌++◌, ◌∷◌, [], true, length, sym, ap, ap₂, ◌∙◌, append_assoc, arith}
+use Rattle.std.proofs.lemmas.Result.{on_ok_weaker}
+use Rattle.syn_model.specs.Spelling.{spelling}
+use Rattle.syn_model.specs.Limits.{fits_part}
+use Rattle.syn_tree.specs.Nodes.{node_tree}
+use Rattle.syn_wire.specs.Events.{file_spelling}
+use Rattle.syn_wire.proofs.NodeLemmas.{file_spelled, file_brief}
+use Rattle.syn_wire.proofs.tree.write_present.Goals as goal
+
+pub write_file-requires : goal.write_file-requires
+write_file-requires c =
+    let brief = file_brief c.in-File.bytes.items (ap (λ n. fits_part (node_tree n)) (sym c.in-File.is) ∙ c.requires) in
+    let long = ap length c.deref.ensures.value in
+    omega (arith, brief, long)
+
+pub returns-in_ok-push-in-File : goal.returns-in_ok-push-in-File
+returns-in_ok-push-in-File c =
+    let out = c.args.out.now.items in
+    let bytes = c.in-File.bytes.items in
+    let spelled = ap (λ n. spelling (node_tree n)) c.in-File.is ∙ file_spelled bytes in
+    on_ok_weaker c.write_file.result (λ e.
+    e ∙ (ap₂ (λ x y. x ++ file_spelling y) c.in_ok-push-in-File.ensures.items c.deref.ensures.value
+    ∙ (append_assoc out (1 ∷ []) (file_spelling bytes) ∙ ap (λ b. out ++ b) (sym spelled)))) c.write_file.ensures

@@ -1,0 +1,47 @@
+use Rattle.std.proofs.Common.{◌≡◌, ◌++◌, ◌∷◌, length, option_map, subst, sym, ap, ◌∙◌, slice_index_or, take, drop, ◌-◌, arith}
+use Rattle.std.proofs.lemmas.Result.{IfOk-weaker}
+use Rattle.syn_wire.specs.Reads.{IsReading}
+use Rattle.syn_wire.specs.Trees.{IsChildOf, last_name_spelling, ReadsPart}
+use Rattle.syn_wire.proofs.NameLemmas.{first_and_rest}
+use Rattle.syn_wire.proofs.PartsLemmas.{no_name_left, no_part_left, part_more}
+use Rattle.syn_wire.proofs.ReadingLemmas.{no_count_there, directory_there, nothing_there, other_kind_there}
+use Rattle.syn_wire.proofs.tree_reading.+parts.Goals as goal
+
+pub read_directory_at-returns-in_default : goal.read_directory_at-returns-in_default
+read_directory_at-returns-in_default t c = no_count_there c.args.path c.args.fields.now c.args.list.now.items c.args.list.now.items c.in_default.ensures
+
+pub read_directory_at-returns : goal.read_directory_at-returns
+read_directory_at-returns t c =
+    IfOk-weaker c.read_parts.result _ _ (λ left read.
+    directory_there c.args.path c.in_ok-above.above c.args.fields.now c.in-Some.below.now c.in-Some.count (option_map (λ rest. rest.now) left) c.args.list.now.items c.push.new.self.items c.read_parts.new.list.items c.new.result
+    c.in-Some.ensures c.in_ok-above.ensures c.new.ensures c.in_ok-push.ensures.items read) c.read_parts.ensures
+
+pub read_part-returns-in_default : goal.read_part-returns-in_default
+read_part-returns-in_default t c = nothing_there c.args.path c.args.bytes.now c.args.list.now.items c.args.list.now.items c.in_default.len_below
+
+pub read_part-returns-in_default-kind : goal.read_part-returns-in_default-kind
+read_part-returns-in_default-kind t c =
+    let bytes = c.args.bytes.now in
+    other_kind_there c.args.path (slice_index_or bytes 0 0) bytes (take (length bytes - 1) (drop 1 bytes)) c.args.list.now.items c.args.list.now.items (first_and_rest bytes c.in-len1-up.len_at_least)
+    (λ one. omega (arith, one)) (λ two. omega (arith, two))
+
+pub read_parts-returns-in_default : goal.read_parts-returns-in_default
+read_parts-returns-in_default t c =
+    let none = subst (λ o. IsReading (IsChildOf c.args.above.now) last_name_spelling c.loop-read.rest.now (option_map (λ found. (found.0, found.1.now)) o)) c.in_default.is c.in_ok-path.ensures in
+    no_name_left c.args.above.now c.args.count c.loop-read._read c.args.bytes.now c.loop-read.rest.now c.args.list.now.items c.loop-read.list.items c.loop-read.invariant c.loop-read-test.true c.loop-read.list.items none
+
+pub read_parts-returns-in_default-2 : goal.read_parts-returns-in_default-2
+read_parts-returns-in_default-2 t c =
+    let above = c.args.above.now in
+    let found = subst (λ o. IsReading (IsChildOf above) last_name_spelling c.loop-read.rest.now (option_map (λ found. (found.0, found.1.now)) o)) c.in-Some.is c.in_ok-path.ensures in
+    let none = subst (λ o. ReadsPart c.in-Some.path c.in-Some.after.now c.loop-read.list.items c.read_part.new.list.items (option_map (λ rest. rest.now) o)) c.in_default-2.is c.in_ok-after.ensures in
+    no_part_left above c.args.count c.loop-read._read c.args.bytes.now c.loop-read.rest.now c.args.list.now.items c.loop-read.list.items c.loop-read.invariant c.loop-read-test.true
+    c.in-Some.path c.in-Some.after.now found c.read_part.new.list.items c.read_part.new.list.items none
+
+pub read_parts-loop-read-preserved : goal.read_parts-loop-read-preserved
+read_parts-loop-read-preserved t c =
+    let above = c.args.above.now in
+    let found = subst (λ o. IsReading (IsChildOf above) last_name_spelling c.loop-read.rest.now (option_map (λ found. (found.0, found.1.now)) o)) c.in-Some.is c.in_ok-path.ensures in
+    let read = subst (λ o. ReadsPart c.in-Some.path c.in-Some.after.now c.loop-read.list.items c.read_part.new.list.items (option_map (λ rest. rest.now) o)) c.in-Some-2.is c.in_ok-after.ensures in
+    part_more above c.args.count c.loop-read._read c.args.bytes.now c.loop-read.rest.now c.args.list.now.items c.loop-read.list.items c.loop-read.invariant c.loop-read-test.true
+    c.in-Some.path c.in-Some.after.now found c.read_part.new.list.items c.in-Some-2.after.now read

@@ -1,0 +1,16 @@
+use Rattle.std.proofs.Common.{◌+◌, ◌-◌, length}
+use Rattle.syn_wire.proofs.PartsLemmas.{ReadSoFar}
+use Rattle.syn_wire.proofs.tree_reading.+parts.Given as goal
+
+-- three calls a name
+abbrev pub decreases-read_parts : goal.decreases-read_parts
+decreases-read_parts l = (16 - length l.above.now) + (16 - length l.above.now) + (16 - length l.above.now)
+
+abbrev pub decreases-read_directory_at : goal.decreases-read_directory_at
+decreases-read_directory_at l = (16 - length l.path) + (16 - length l.path) + (16 - length l.path) + 1
+
+abbrev pub decreases-read_part : goal.decreases-read_part
+decreases-read_part l = (16 - length l.path) + (16 - length l.path) + (16 - length l.path) + 2
+
+abbrev pub invariant-read_parts-loop-read : goal.invariant-read_parts-loop-read
+invariant-read_parts-loop-read l = ReadSoFar l.above l.count l._read l.bytes l.rest l.initial.list.items l.list.items

@@ -1,0 +1,90 @@
+-- How trees and parts of them are spelled in one walk over their pairs in path order, and what is read of them.
+use Rattle.std.specs.Prelude.{◌≡◌, ℕ, true, List, [], ◌∷◌, ◌++◌, length, map, flat_map, Option, Some, None, IsSome}
+use Rattle.std.specs.Int.{to_be_bytes, w16, w32}
+use Rattle.std.specs.List.{AllByRecursion}
+use Rattle.std.specs.FinMap.{entries, get}
+use Rattle.syn_model.specs.Path.{Bytes, Name, Path, root, IsPath}
+use Rattle.syn_model.specs.Tree.{Tree, Content, Directory, File, Pair, HasParents, IsPart, IsTree, is_present, subtree}
+use Rattle.syn_model.specs.Limits.{children, fits_part, fits_paths, fits_replica, tree_spelling_length}
+use Rattle.syn_model.specs.Spelling.{spelling}
+use Rattle.syn_tree.specs.Pairs.{Pairs, under}
+use Rattle.syn_wire.specs.Reads.{NoneBeginsAnother}
+
+-- the last name with its length; the root has none
+abbrev pub last_name_spelling : Path → Bytes
+last_name_spelling [] = []
+last_name_spelling (name ∷ []) = length name ∷ name
+last_name_spelling (name ∷ next ∷ path) = last_name_spelling (next ∷ path)
+
+-- a file with its bytes, or a directory with so many names
+abbrev pub standing_spelling : ℕ → Content → Bytes
+standing_spelling count (File contents) = 1 ∷ to_be_bytes w32 (length contents.bytes) ++ contents.bytes
+standing_spelling count Directory = 2 ∷ to_be_bytes w16 count
+
+-- a pair of the tree, without what is below it
+abbrev pub pair_spelling : Tree → Pair → Bytes
+pair_spelling tree pair = last_name_spelling pair.0 ++ standing_spelling (length (children tree pair.0)) pair.1
+
+-- the spelling of what is there is that of one pair after the other
+abbrev pub SpellingIsWalk : Type 0
+SpellingIsWalk = (tree : Tree) → HasParents tree → is_present tree root ≡ true → spelling tree ≡ flat_map (pair_spelling tree) (entries tree)
+
+-- and is as long as the model measures
+abbrev pub SpellingIsMeasured : Type 0
+SpellingIsMeasured = (tree : Tree) → HasParents tree → is_present tree root ≡ true → length (spelling tree) ≡ tree_spelling_length tree
+
+-- a file, a directory with all below it, or nothing, within the limits of each and of its own paths
+pub record IsOptionalTree (t : Tree) : Type 0 where
+  pub part : IsPart t
+  pub fits : fits_part t ≡ true
+  pub paths : fits_paths t ≡ true
+
+-- such a directory
+pub record IsDirectoryTree (t : Tree) : Type 0 where
+  pub tree : IsTree t
+  pub fits : fits_part t ≡ true
+  pub paths : fits_paths t ≡ true
+
+-- no spelling of an optional tree begins that of another
+abbrev pub NoTreeBeginsAnother : Type 0
+NoTreeBeginsAnother = NoneBeginsAnother IsOptionalTree spelling
+
+-- the tree of a replica
+pub record IsWholeTree (t : Tree) : Type 0 where
+  pub tree : IsTree t
+  pub fits : fits_replica t ≡ true
+
+-- what stands at a path, within the limits there
+pub record StandsAt (at : Path) (t : Tree) : Type 0 where
+  pub part : IsPart t
+  pub present : is_present t root ≡ true
+  pub fits : fits_part t ≡ true
+  pub paths : (path : Path) → IsSome (get t path) → IsPath (at ++ path)
+
+-- parts by their names in a directory
+abbrev pub Parts : Type 0
+Parts = List (Name × Tree)
+
+abbrev pub parts_spelling : Parts → Bytes
+parts_spelling parts = flat_map (λ part. length part.0 ∷ part.0 ++ spelling part.1) parts
+
+abbrev pub parts_pairs : Path → Parts → Pairs
+parts_pairs at parts = flat_map (λ part. under (at ++ part.0 ∷ []) (entries part.1)) parts
+
+abbrev pub StandIn : Path → Parts → Type 0
+StandIn at parts = AllByRecursion (λ part. StandsAt (at ++ part.0 ∷ []) part.1) parts
+
+-- a path one name below another
+pub record IsChildOf (above : Path) (path : Path) : Type 0 where
+  pub name : Name
+  pub below : path ≡ above ++ name ∷ []
+  pub lawful : IsPath path
+
+-- where the bytes begin with the spelling of what may stand at a path, its pairs are added, and the rest is left
+abbrev pub ReadsPart : Path → Bytes → Pairs → Pairs → Option Bytes → Type 0
+ReadsPart at bytes old new left = (part : Tree) (rest : Bytes) → StandsAt at part → bytes ≡ spelling part ++ rest → (left ≡ Some rest) × (new ≡ old ++ under at (entries part))
+
+-- the same of so many names of a directory
+abbrev pub ReadsParts : Path → ℕ → Bytes → Pairs → Pairs → Option Bytes → Type 0
+ReadsParts at count bytes old new left = (parts : Parts) (rest : Bytes) → length parts ≡ count → StandIn at parts → bytes ≡ parts_spelling parts ++ rest →
+    (left ≡ Some rest) × (new ≡ old ++ parts_pairs at parts)

@@ -1,0 +1,136 @@
+//! Trees, and what may stand at a path of one.
+ghost use Rattle.std.specs.Prelude.{◌≡◌, ◌++◌, ◌<◌, ◌^◌, true, IfOk, OnOk, option_map};
+ghost use Rattle.syn_model.specs.Limits.{fits_content, fits_part};
+ghost use Rattle.syn_model.specs.Spelling.{spelling};
+ghost use Rattle.syn_model.specs.Tree.{Directory};
+ghost use Rattle.syn_tree.specs.Nodes.{part_of, node_tree};
+ghost use Rattle.syn_wire.specs.Trees.{last_name_spelling, standing_spelling, IsDirectoryTree};
+
+use crate::bytes::write_file;
+use crate::error::WireError;
+use std::alloc::Global;
+use syn_path::Path;
+use syn_tree::{Entries, Entry, Found, Node, Tree};
+
+pub(crate) const ABSENT: u8 = 0;
+
+pub(crate) const FILE: u8 = 1;
+
+pub(crate) const DIRECTORY: u8 = 2;
+
+/// The spelling of the tree, entry by entry in path order.
+///
+/// Refused 11 where memory is refused.
+pub fn encode_tree(alloc: Global, tree: &Tree) -> Result<Vec<u8>, WireError>
+    ensures { IfOk result (λ bytes. bytes.items ≡ spelling tree.now) }
+{
+    let mut out = Vec::new(alloc);
+    write_tree(&mut out, tree)?;
+    Ok(out)
+}
+
+/// The spelling of what stands at a path, or of nothing.
+///
+/// Refused 11 where memory is refused.
+pub fn encode_node(alloc: Global, node: Option<&Node>) -> Result<Vec<u8>, WireError>
+    requires { fits_part (part_of (option_map (λ there. there.now) node)) ≡ true }
+    ensures { IfOk result (λ bytes. bytes.items ≡ spelling (part_of (option_map (λ there. there.now) node.entry))) }
+{
+    let mut out = Vec::new(alloc);
+    write_node(&mut out, node)?;
+    Ok(out)
+}
+
+/// Adds the spelling of the tree. Refused 11 where memory is refused; a beginning of it may then have been added.
+pub fn write_tree(out: &mut Vec<u8>, tree: &Tree) -> Result<(), WireError>
+    ensures { OnOk result (out.new.items ≡ out.old.items ++ spelling tree.now) }
+{
+    let root = Path::root(*out.allocator());
+    let list = tree.entries();
+    write_count(out, tree.child_count(&root))?;
+    for entry in list {
+        write_entry(out, entry, tree.child_count(entry.path()))?;
+    }
+    Ok(())
+}
+
+/// Adds the spelling of what stands at a path, or of nothing. Refused 11 where memory is refused; a beginning of it may then
+/// have been added.
+pub fn write_node(out: &mut Vec<u8>, node: Option<&Node>) -> Result<(), WireError>
+    requires { fits_part (part_of (option_map (λ there. there.now) node)) ≡ true }
+    ensures { OnOk result (out.new.items ≡ out.old.items ++ spelling (part_of (option_map (λ there. there.now) node.entry))) }
+{
+    match node {
+        None => {
+            out.push(ABSENT)?;
+            Ok(())
+        }
+        Some(there) => write_present(out, there),
+    }
+}
+
+// Adds the spelling of a file, or of a directory with what is below it.
+fn write_present(out: &mut Vec<u8>, node: &Node) -> Result<(), WireError>
+    requires { fits_part (node_tree node.now) ≡ true }
+    ensures { OnOk result (out.new.items ≡ out.old.items ++ spelling (node_tree node.now)) }
+{
+    match node {
+        Node::File(bytes) => {
+            out.push(FILE)?;
+            write_file(out, bytes)
+        }
+        Node::Dir(entries) => write_directory(out, entries),
+    }
+}
+
+// Adds the spelling of a directory with what is below it.
+pub(crate) fn write_directory(out: &mut Vec<u8>, entries: &Entries) -> Result<(), WireError>
+    ensures spelled { OnOk result (out.new.items ≡ out.old.items ++ spelling entries.now) }
+    ensures lawful { IsDirectoryTree entries.now }
+{
+    let root = Path::root(*out.allocator());
+    let list = entries.as_slice();
+    write_count(out, entries.child_count(&root))?;
+    for entry in list {
+        write_entry(out, entry, entries.child_count(entry.path()))?;
+    }
+    Ok(())
+}
+
+// Adds the last name of an entry and what stands there, without what is below it.
+fn write_entry(out: &mut Vec<u8>, entry: &Entry, count: usize) -> Result<(), WireError>
+    requires count { count < 2 ^ 16 }
+    requires brief { fits_content entry.now.1 ≡ true }
+    ensures { OnOk result (out.new.items ≡ out.old.items ++ (last_name_spelling entry.now.0 ++ standing_spelling count entry.now.1)) }
+{
+    write_last_name(out, entry.path())?;
+    match entry.content() {
+        Found::File(bytes) => {
+            out.push(FILE)?;
+            write_file(out, bytes)
+        }
+        Found::Dir => write_count(out, count),
+    }
+}
+
+// Adds the last name with its length; of the root nothing.
+fn write_last_name(out: &mut Vec<u8>, path: &Path) -> Result<(), WireError>
+    ensures { OnOk result (out.new.items ≡ out.old.items ++ last_name_spelling path.now) }
+{
+    if let Some(name) = path.names().last() {
+        let text = name.as_str();
+        out.push(text.len() as u8)?;
+        out.extend_from_slice(text.as_bytes())?;
+    }
+    Ok(())
+}
+
+// Adds the kind of a directory, and how many names are in it.
+fn write_count(out: &mut Vec<u8>, count: usize) -> Result<(), WireError>
+    requires { count < 2 ^ 16 }
+    ensures { OnOk result (out.new.items ≡ out.old.items ++ standing_spelling count Directory) }
+{
+    out.push(DIRECTORY)?;
+    out.extend_from_slice(&(count as u16).to_be_bytes())?;
+    Ok(())
+}
