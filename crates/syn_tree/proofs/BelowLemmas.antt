@@ -1,10 +1,14 @@
--- What stands below a path is the part at and below it without its first, where that stands at the path.
-use Rattle.std.proofs.Common.{◌≡◌, Bool, true, false, cond, not, ◌&&◌, [], ◌∷◌, filter, refl, sym, ap, ap₂, ◌∙◌, subst, Option, Some, None, Less, is_lt, is_some, true≢false, append-nil}
+-- What stands below a path is the part at and below it without its first, where that stands at the path, and what is made of it is made of the part.
+use Rattle.std.proofs.Common.{◌≡◌, Bool, true, false, cond, not, ◌&&◌, [], ◌∷◌, filter, filter_map, if◌then◌else◌, refl, sym, ap, ap₂, ◌∙◌, subst, Option, Some, None, Less, is_lt, is_some, true≢false, append-nil}
+use Rattle.std.specs.List.{cons_option}
+use Rattle.std.specs.Prelude.{option_map, option_and_then}
 use Rattle.std.specs.Ordering.{eq_by_cmp}
-use Rattle.syn_model.specs.Path.{Path, path_cmp, strip_prefix, is_prefix}
-use Rattle.syn_model.specs.Tree.{Pair}
+use Rattle.syn_model.specs.Path.{Path, path_cmp, strip_prefix, is_prefix, is_root}
+use Rattle.syn_model.specs.Tree.{Pair, is_directory_content}
+use Rattle.syn_model.specs.Limits.{only_name}
 use Rattle.syn_model.proofs.PathLemmas.{path_itself, same_path, strip_prefix-is}
 use Rattle.syn_tree.specs.Pairs.{Pairs, rooted, is_within, is_below, within}
+use Rattle.syn_tree.specs.Lists.{child_names, below_off, stripped}
 use Rattle.syn_tree.proofs.OrderLemmas.{not_before, first_of_all, under_prefix}
 use Rattle.syn_tree.proofs.RisingLemmas.{Rising, Each, each-map, each-filter, filter-keeps, rising-filter}
 use Rattle.syn_tree.proofs.FitLemmas.{each-both}
@@ -75,3 +79,25 @@ without_any at es is = sym (ap (filter (is_below at)) is) ∙ below-within at es
 pub below_rooted : (at : Path) (es : Pairs) → filter (is_below at) (rooted es) ≡ filter (is_below at) es
 below_rooted [] es = refl
 below_rooted (n ∷ at) es = refl
+
+-- what is made of the pairs below a path is made of the part there
+mapped-within : {Y : Type 0} (f : Pair → Option Y) (at : Path) → ((e : Pair) → is_within at e ≡ false → f e ≡ None) → (es : Pairs) → filter_map f (within at es) ≡ filter_map f es
+mapped-within f at h [] = refl
+mapped-within f at h (e ∷ es) =
+    let rest = mapped-within f at h es in
+    elim (is_within at e) as (λ b. is_within at e ≡ b → filter_map f (cond b (e ∷ within at es) (within at es)) ≡ cons_option (f e) (filter_map f es)) [
+      | true ↦ λ _. ap (cons_option (f e)) rest
+      | false ↦ λ out. rest ∙ sym (ap (λ o. cons_option o (filter_map f es)) (h e out))
+    ] refl
+
+no_rest : (o : Option Path) → is_some o ≡ false → o ≡ None
+no_rest None h = refl
+no_rest (Some r) h = absurd (true≢false h)
+
+pub names-within : (at : Path) (es : Pairs) → child_names at (within at es) ≡ child_names at es
+names-within at es =
+    mapped-within (λ pair. option_map (λ name. (name, is_directory_content (Some pair.1))) (option_and_then only_name (strip_prefix at pair.0))) at
+    (λ e out. ap (λ o. option_map (λ name. (name, is_directory_content (Some e.1))) (option_and_then only_name o)) (no_rest (strip_prefix at e.0) out)) es
+
+pub stripped-within : (at : Path) (es : Pairs) → stripped at (within at es) ≡ stripped at es
+stripped-within at es = mapped-within (below_off at) at (λ e out. ap (option_and_then (λ rest. if is_root rest then None else Some (rest, e.1))) (no_rest (strip_prefix at e.0) out)) es

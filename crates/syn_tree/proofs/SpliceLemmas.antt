@@ -1,13 +1,14 @@
--- Two turns of a list put what is added at its end between its two parts.
-use Rattle.std.proofs.Common.{◌≡◌, ◌-◌, ℕ, List, ◌++◌, length, length-append, take, drop, ap, ap₂, ◌∙◌, append_assoc, arith}
+-- What is in front of the part at and below a path and what is behind it, by their numbers.
+use Rattle.std.proofs.Common.{◌≡◌, ◌+◌, ◌++◌, length, length-append, take, drop, sym, ap, ap₂, ◌∙◌, append_assoc}
 use Rattle.std.proofs.Math.Seq.{take-append_seam, drop-append_seam}
+use Rattle.syn_model.specs.Path.{Path}
+use Rattle.syn_tree.specs.Pairs.{Pairs, before, within, behind}
+use Rattle.syn_tree.proofs.RisingLemmas.{Rising, three_parts}
 
-pub turned : {X : Type 0} (front back added all once more last : List X) (start others : ℕ) → all ≡ front ++ back → start ≡ length front → once ≡ drop start all ++ take start all →
-    more ≡ once ++ added → others ≡ length all - start → last ≡ drop others more ++ take others more → last ≡ front ++ (added ++ back)
-turned front back added all once more last start others parts at first grown rest second =
-    let swapped : once ≡ back ++ front = first ∙ ap₂ (λ n xs. drop n xs ++ take n xs) at parts ∙ ap₂ (λ xs ys. xs ++ ys) (drop-append_seam front back) (take-append_seam front back) in
-    let whole : more ≡ back ++ (front ++ added) = grown ∙ ap (λ xs. xs ++ added) swapped ∙ append_assoc back front added in
-    let length_back : others ≡ length back = omega (arith, rest, at, ap length parts, length-append front back) in
-    second ∙ ap₂ (λ n xs. drop n xs ++ take n xs) length_back whole
-    ∙ ap₂ (λ xs ys. xs ++ ys) (drop-append_seam back (front ++ added)) (take-append_seam back (front ++ added))
-    ∙ append_assoc front added back
+pub front_is : (at : Path) (es : Pairs) → Rising es → take (length (before at es)) es ≡ before at es
+front_is at es h = ap (take (length (before at es))) (three_parts at es h) ∙ take-append_seam (before at es) (within at es ++ behind at es)
+
+pub back_is : (at : Path) (es : Pairs) → Rising es → drop (length (before at es) + length (within at es)) es ≡ behind at es
+back_is at es h =
+    ap₂ drop (sym (length-append (before at es) (within at es))) (three_parts at es h ∙ sym (append_assoc (before at es) (within at es) (behind at es)))
+    ∙ drop-append_seam (before at es ++ within at es) (behind at es)

@@ -1,5 +1,5 @@
 //! Entries in path order.
-ghost use Rattle.std.specs.Prelude.{◌≡◌, ◌≤◌, ◌<◌, ◌+◌, ◌^◌, ◌++◌, ◌∷◌, length, filter, count_by, option_map, IfSome, IfNone, IsTrue, ◌↔◌, vec_len, vec_capacity};
+ghost use Rattle.std.specs.Prelude.{◌≡◌, ◌≤◌, ◌<◌, ◌+◌, ◌^◌, ◌++◌, ◌∷◌, length, take, drop, filter, count_by, option_map, IfSome, IfNone, IsTrue, ◌↔◌, vec_len, vec_capacity};
 ghost use Rattle.std.specs.Ordering.{eq_by_cmp, is_lt};
 ghost use Rattle.std.specs.FinMap.{find};
 ghost use Rattle.syn_model.specs.Path.{path_cmp, parent, IsPath};
@@ -57,11 +57,11 @@ fn is_at(entry: &Entry, names: &[Name]) -> bool
     entry.path().names().cmp(&names) == Ordering::Equal
 }
 
-/// The entry stands at or below the path.
-fn is_within(entry: &Entry, at: &Path) -> bool
-    ensures { result ≡ is_within at.now entry.now }
+/// The entry stands at or below the path of these names.
+fn is_within(entry: &Entry, names: &[Name]) -> bool
+    ensures { result ≡ is_within names.now entry.now }
 {
-    at.is_prefix(entry.path())
+    entry.path().names().starts_with(names)
 }
 
 /// How many entries stand before the path of these names.
@@ -72,15 +72,35 @@ pub(crate) fn count_before(list: &[Entry], names: &[Name]) -> usize
     list.partition_point(|entry| is_before(entry, names))
 }
 
-/// The entries at and below the path.
-pub(crate) fn part_at<'a>(list: &'a [Entry], at: &Path) -> &'a [Entry]
+/// Where the entries at and below the path of these names begin, and how many they are.
+fn place_of(list: &[Entry], names: &[Name]) -> (usize, usize)
     requires { AreRising list.now }
-    ensures { result.now ≡ within at.now list.now }
+    ensures start { result.0 ≡ length (before names.now list.now) }
+    ensures count { result.1 ≡ length (within names.now list.now) }
 {
-    let (_, others) = list.split_at(count_before(list, at.names()));
-    let below = others.partition_point(|entry| is_within(entry, at));
-    let (part, _) = others.split_at(below);
-    part
+    let start = count_before(list, names);
+    let (_, others) = list.split_at(start);
+    let count = others.partition_point(|entry| is_within(entry, names));
+    (start, count)
+}
+
+/// The entries at and below the path of these names.
+pub(crate) fn part_at<'a>(list: &'a [Entry], names: &[Name]) -> &'a [Entry]
+    requires { AreRising list.now }
+    ensures { result.now ≡ within names.now list.now }
+{
+    let (start, count) = place_of(list, names);
+    run_of(list, start, count)
+}
+
+/// So many entries from the start on.
+fn run_of(list: &[Entry], start: usize, count: usize) -> &[Entry]
+    requires { start + count ≤ length list.now }
+    ensures { result.now ≡ take count (drop start list.now) }
+{
+    let (_, others) = list.split_at(start);
+    let (run, _) = others.split_at(count);
+    run
 }
 
 /// The entries below the path, without the one at it.
@@ -88,11 +108,12 @@ pub(crate) fn part_below<'a>(list: &'a [Entry], at: &Path) -> &'a [Entry]
     requires { AreRising list.now }
     ensures { result.now ≡ filter (is_below at.now) list.now }
 {
-    let part = part_at(list, at);
+    let names = at.names();
+    let part = part_at(list, names);
     let [first, rest @ ..] = part else {
         return part;
     };
-    if is_at(first, at.names()) { rest } else { part }
+    if is_at(first, names) { rest } else { part }
 }
 
 /// What stands at the path of these names, of entries below a root directory.
@@ -160,7 +181,8 @@ pub(crate) fn count_children_at(list: &[Entry], at: &Path) -> usize
     requires { AreRising list.now }
     ensures { result ≡ count_by (λ pair. is_child at.now pair.0) list.now }
 {
-    count_children(part_at(list, at), at.names())
+    let names = at.names();
+    count_children(part_at(list, names), names)
 }
 
 /// How many bytes spell the last name with its length; none for the root.
@@ -214,18 +236,69 @@ pub(crate) fn measured(list: &[Entry]) -> Option<usize>
     Some(size)
 }
 
-/// Takes out what is at and below the path, and puts these entries there.
-pub(crate) fn splice(list: &mut Vec<Entry>, at: &Path, added: Vec<Entry>)
+/// Puts these entries in the place of what is at and below the path, and answers how many bytes spelled that.
+pub(crate) fn splice(list: &mut Vec<Entry>, at: &Path, added: Vec<Entry>) -> usize
     requires rising { AreRising list.old.items }
+    requires brief { spelling_length (within at.now list.old.items) ≤ 524288 }
     requires room { length (before at.now list.old.items) + length (behind at.now list.old.items) + vec_len added ≤ vec_capacity list.old }
     ensures items { list.new.items ≡ before at.now list.old.items ++ (added.items ++ behind at.now list.old.items) }
     ensures room { vec_capacity list.old ≤ vec_capacity list.new }
+    ensures removed { result ≡ spelling_length (within at.now list.old.items) }
+{
+    let (start, count) = place_of(list, at.names());
+    let removed = spelled(run_of(list, start, count));
+    replace_run(list, start, count, added);
+    removed
+}
+
+/// Puts these entries in the place of so many from the start on.
+fn replace_run(list: &mut Vec<Entry>, start: usize, count: usize, added: Vec<Entry>)
+    requires bounds { start + count ≤ vec_len list.old }
+    requires room { vec_len list.old + vec_len added ≤ vec_capacity list.old + count }
+    ensures items { list.new.items ≡ take start list.old.items ++ (added.items ++ drop (start + count) list.old.items) }
+    ensures room { vec_capacity list.old ≤ vec_capacity list.new }
+{
+    if count == added.len() {
+        swap_run(list, start, added);
+    } else {
+        take_out(list, start, count);
+        put_in(list, start, added);
+    }
+}
+
+/// Puts the entries in the place of as many; no other entry moves.
+fn swap_run(list: &mut Vec<Entry>, start: usize, added: Vec<Entry>)
+    requires { start + vec_len added ≤ vec_len list.old }
+    ensures items { list.new.items ≡ take start list.old.items ++ (added.items ++ drop (start + vec_len added) list.old.items) }
+    ensures room { vec_capacity list.new ≡ vec_capacity list.old }
 {
     let mut added = added;
-    let start = count_before(list, at.names());
-    list.retain(|entry| !is_within(entry, at));
-    let others = list.len() - start;
-    list.rotate_left(start);
+    let (_, tail) = list.split_at_mut(start);
+    let (run, _) = tail.split_at_mut(added.len());
+    run.swap_with_slice(&mut added);
+}
+
+/// Takes out so many entries from the start on.
+fn take_out(list: &mut Vec<Entry>, start: usize, count: usize)
+    requires { start + count ≤ vec_len list.old }
+    ensures items { list.new.items ≡ take start list.old.items ++ drop (start + count) list.old.items }
+    ensures room { vec_capacity list.new ≡ vec_capacity list.old }
+{
+    let (_, tail) = list.split_at_mut(start);
+    tail.rotate_left(count);
+    list.truncate(list.len() - count);
+}
+
+/// Puts the entries in at the place.
+fn put_in(list: &mut Vec<Entry>, at: usize, added: Vec<Entry>)
+    requires bounds { at ≤ vec_len list.old }
+    requires room { vec_len list.old + vec_len added ≤ vec_capacity list.old }
+    ensures items { list.new.items ≡ take at list.old.items ++ (added.items ++ drop at list.old.items) }
+    ensures room { vec_capacity list.old ≤ vec_capacity list.new }
+{
+    let mut added = added;
+    let more = added.len();
     let _ = list.append(&mut added);
-    list.rotate_left(others);
+    let (_, tail) = list.split_at_mut(at);
+    tail.rotate_right(more);
 }

@@ -2,11 +2,18 @@ use crate::{Content, Edit, Entries, Entry, Found, Node, Tree, TreeError};
 use std::test::Fail;
 use syn_path::Path;
 
+mod compared;
+
 fn put(rt: HostRuntime, path: &str, size: usize) -> Result<Edit, Fail> {
     let mut bytes = Vec::new(rt.alloc());
     for _ in 0..size {
         bytes.push(b'x')?;
     }
+    Ok(Edit::Put(Path::parse(rt.alloc(), path)?, bytes))
+}
+
+fn put_text(rt: HostRuntime, path: &str, text: &str) -> Result<Edit, Fail> {
+    let bytes = Vec::from_slice(rt.alloc(), text.as_bytes())?;
     Ok(Edit::Put(Path::parse(rt.alloc(), path)?, bytes))
 }
 
@@ -176,6 +183,12 @@ fn a_tree_is_listed_and_read(rt: HostRuntime) -> Result<(), Fail> {
     assert_eq!(rt; names[1].0.as_str(), "b");
     assert_eq!(rt; names[1].1, false);
     assert_eq!(rt; tree.list(alloc, &Path::root(alloc))?.len(), 2);
+    let d = Path::parse(alloc, "d")?;
+    assert_eq!(rt; tree.child_count(&d), 2);
+    assert_eq!(rt; tree.child_count(&Path::root(alloc)), 2);
+    assert_eq!(rt; tree.below(&d).len(), 3);
+    assert_eq!(rt; tree.below(&Path::root(alloc)).len(), 5);
+    assert_eq!(rt; tree.below(&Path::parse(alloc, "e")?).len(), 0);
     assert_eq!(rt;
         tree.list(alloc, &Path::parse(alloc, "e")?).err(),
         Some(TreeError::Absent)
@@ -198,6 +211,10 @@ fn a_subtree_is_put_elsewhere(rt: HostRuntime) -> Result<(), Fail> {
     let d = Path::parse(alloc, "d")?;
     let e = Path::parse(alloc, "e")?;
     let part = tree.subtree(alloc, &d)?;
+    if let Some(Node::Dir(entries)) = &part {
+        assert_eq!(rt; entries.child_count(&Path::root(alloc)), 2);
+        assert_eq!(rt; entries.child_count(&Path::parse(alloc, "a")?), 1);
+    }
     tree.replace(alloc, &e, part)?;
     assert_eq!(rt;
         printed(rt, &tree)?.as_str(),

@@ -9,7 +9,7 @@ ghost use Rattle.syn_tree.specs.Contents.{found_content};
 ghost use Rattle.syn_tree.specs.Nodes.{part_of};
 ghost use Rattle.syn_tree.specs.Edits.{edit_of};
 ghost use Rattle.syn_model.specs.Path.{parent};
-ghost use Rattle.syn_tree.specs.Pairs.{rooted, is_below, is_child};
+ghost use Rattle.syn_tree.specs.Pairs.{rooted, AreRising, is_below, is_child};
 ghost use Rattle.syn_tree.specs.Change.{IsPreparedFor, after_change};
 ghost use Rattle.syn_tree.specs.Lists.{listing, replace_refusal, IsMeasured};
 ghost use Rattle.syn_tree.specs.Refusals.{refusal_of, refusal_in};
@@ -137,7 +137,7 @@ impl Tree {
         requires size { size < 2 ^ 62 }
         ensures { (new : Pairs) → IsMeasured path.now new nodes size → result ≡ fits_replica (replace self.now path.now new) }
     {
-        let part = part_at(&self.list, path);
+        let part = part_at(&self.list, path.names());
         let count = self.list.len() - part.len() + nodes;
         let length = self.spelled - spelled(part) + size;
         let room = has_room(&self.list, path, !part.is_empty(), nodes);
@@ -266,9 +266,8 @@ impl Tree {
         ensures { self.new ≡ after_change self.old change }
     {
         let (at, added, size) = change.into_parts();
-        let removed = spelled(part_at(&self.list, &at));
+        let removed = splice(&mut self.list, &at, added);
         self.spelled = self.spelled - removed + size;
-        splice(&mut self.list, &at, added);
     }
 
     /// Makes the edit.
@@ -315,7 +314,10 @@ impl Tree {
         ensures refusals { IfErr result (λ e. (e ≡ TreeError.Absent) ⊎ (e ≡ TreeError.Memory)) }
     {
         match self.get(path) {
-            Some(Found::Dir) => children(alloc, &self.list, path.names()),
+            Some(Found::Dir) => {
+                let names = path.names();
+                children(alloc, part_at(&self.list, names), names)
+            }
             _ => Err(TreeError::Absent),
         }
     }
@@ -332,7 +334,8 @@ impl Tree {
                 Ok(Some(Node::File(bytes)))
             }
             Some(Found::Dir) => {
-                let list = below(alloc, &self.list, path)?;
+                let part = part_at(&self.list, path.names());
+                let list = below(alloc, part, path)?;
                 Ok(Some(Node::Dir(Entries::lawful(list))))
             }
         }
@@ -371,7 +374,18 @@ fn is_within_limits(count: usize, length: usize, room: bool) -> bool
 
 /// The directory of the path has a place for what is put there, where something stands there or it has not the most entries.
 fn has_room(list: &[Entry], path: &Path, stands: bool, nodes: usize) -> bool
+    requires { AreRising list.now }
     ensures { result ≡ (stands || (not (nat_lt 0 nodes) || nat_lt (count_by (λ pair. is_child (parent path.now) pair.0) list.now) 256)) }
 {
-    stands || nodes == 0 || count_children(list, parent_names(path)) < MOST_CHILDREN
+    stands || nodes == 0 || has_place(list, parent_names(path))
+}
+
+/// The directory of these names has not the most entries.
+fn has_place(list: &[Entry], above: &[Name]) -> bool
+    requires { AreRising list.now }
+    ensures { result ≡ nat_lt (count_by (λ pair. is_child above.now pair.0) list.now) 256 }
+{
+    let part = part_at(list, above);
+    // where so few stand below it, no more stand in it
+    part.len() < MOST_CHILDREN || count_children(part, above) < MOST_CHILDREN
 }

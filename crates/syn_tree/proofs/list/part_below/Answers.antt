@@ -3,7 +3,7 @@ use Rattle.std.proofs.Math.Seq.{take-length}
 use Rattle.std.specs.Ordering.{eq_by_cmp}
 use Rattle.syn_model.specs.Path.{path_cmp}
 use Rattle.syn_model.specs.Tree.{Pair}
-use Rattle.syn_tree.specs.Pairs.{Pairs}
+use Rattle.syn_tree.specs.Pairs.{Pairs, within}
 use Rattle.syn_tree.proofs.RisingLemmas.{rising_of}
 use Rattle.syn_tree.proofs.BelowLemmas.{without_first, with_first, without_any}
 use Rattle.syn_tree.proofs.list.part_below.Goals as goal
@@ -24,25 +24,25 @@ none_of (x ∷ part) l = absurd (omega (arith, l))
 
 pub returns-in_default : goal.returns-in_default
 returns-in_default c =
+    let es = c.args.list.now in
+    let part = c.part_at-part.ensures ∙ ap (λ p. within p es) c.names-names.ensures.names in
     let none = none_of c.part_at-part.result.now c.in_default.len_below in
-    none ∙ without_any c.args.at.now c.args.list.now (sym c.part_at-part.ensures ∙ none)
+    none ∙ without_any c.args.at.now es (sym part ∙ none)
 
 pub returns-then-is_at : goal.returns-then-is_at
 returns-then-is_at c =
     let es = c.args.list.now in
-    let at = c.args.at.now in
-    let part = c.part_at-part.result.now in
+    let part = c.part_at-part.ensures ∙ ap (λ p. within p es) c.names-names.ensures.names in
     let first = c.first-item.result in
-    let same = ap (eq_by_cmp path_cmp first.0) (sym c.names.ensures.names) ∙ (sym c.is_at.ensures ∙ c.if-is_at.true) in
-    let whole = headed part first c.in-len1-up.len_at_least c.first-item.is in
-    rest_of part c.in-len1-up.len_at_least ∙ without_first at es first (drop 1 part) (rising_of es c.requires) (sym c.part_at-part.ensures ∙ whole) same
+    let same = ap (eq_by_cmp path_cmp first.0) (sym c.names-names.ensures.names) ∙ (sym c.is_at.ensures ∙ c.if-is_at.true) in
+    let whole = headed c.part_at-part.result.now first c.in-len1-up.len_at_least c.first-item.is in
+    rest_of c.part_at-part.result.now c.in-len1-up.len_at_least ∙ without_first c.args.at.now es first (drop 1 c.part_at-part.result.now) (rising_of es c.requires) (sym part ∙ whole) same
 
 pub returns-else-is_at : goal.returns-else-is_at
 returns-else-is_at c =
     let es = c.args.list.now in
-    let at = c.args.at.now in
-    let part = c.part_at-part.result.now in
+    let part = c.part_at-part.ensures ∙ ap (λ p. within p es) c.names-names.ensures.names in
     let first = c.first-item.result in
-    let other = ap (eq_by_cmp path_cmp first.0) (sym c.names.ensures.names) ∙ (sym c.is_at.ensures ∙ c.if-is_at.false) in
-    let whole = headed part first c.in-len1-up.len_at_least c.first-item.is in
-    whole ∙ with_first at es first (drop 1 part) (rising_of es c.requires) (sym c.part_at-part.ensures ∙ whole) other
+    let other = ap (eq_by_cmp path_cmp first.0) (sym c.names-names.ensures.names) ∙ (sym c.is_at.ensures ∙ c.if-is_at.false) in
+    let whole = headed c.part_at-part.result.now first c.in-len1-up.len_at_least c.first-item.is in
+    whole ∙ with_first c.args.at.now es first (drop 1 c.part_at-part.result.now) (rising_of es c.requires) (sym part ∙ whole) other

@@ -1,42 +1,53 @@
-use Rattle.std.proofs.Common.{rules, ◌≡◌, ◌-◌, ◌++◌, length, ap, ◌∙◌, length-append, arith, not, is_ok, if◌then◌else◌, IsOk, refl, Ok, Err, true}
-use Rattle.std.specs.Prelude.{Result}
-use Rattle.std.proofs.lemmas.Fn.{filter_same}
-use Rattle.syn_tree.specs.Pairs.{is_within, before, behind}
-use Rattle.syn_tree.proofs.RisingLemmas.{rising_of, outside}
-use Rattle.syn_tree.proofs.SpliceLemmas.{turned}
+use Rattle.std.proofs.Common.{◌+◌, ◌++◌, length, take, drop, ap, ap₂, ◌∙◌, arith}
+use Rattle.syn_tree.specs.Pairs.{before, within, spelling_length}
+use Rattle.syn_tree.proofs.RisingLemmas.{rising_of, taken_within, counted}
+use Rattle.syn_tree.proofs.SpliceLemmas.{front_is, back_is}
 use Rattle.syn_tree.proofs.list.splice.Goals as goal
 
-is_done : {E : Type 0} (r : Result (Unit {0}) E) → IsOk r → is_ok r ≡ true
-is_done (Ok x) h = refl
-is_done (Err e) h = h
+pub run_of-requires : goal.run_of-requires
+run_of-requires c =
+    let start = c.place_of-start.ensures.start ∙ ap₂ (λ p xs. length (before p xs)) c.names.ensures.names c.deref.ensures.value in
+    let count = c.place_of-start.ensures.count ∙ ap₂ (λ p xs. length (within p xs)) c.names.ensures.names c.deref.ensures.value in
+    let whole = counted c.args.at.now c.args.list.now.items (rising_of c.args.list.now.items c.requires.rising) in
+    omega (arith, whole, start, count, ap length c.deref-2.ensures.value)
 
-pub overflow_sub-others : goal.overflow_sub-others
-overflow_sub-others c =
+pub spelled-removed-requires : goal.spelled-removed-requires
+spelled-removed-requires c =
     let at = c.args.at.now in
     let es = c.args.list.now.items in
-    let kept = filter_same _ (λ e. not (is_within at e)) _ (λ x b f' k. search rules) _ _ c.retain.ensures.filtered in
-    let parts = kept ∙ outside at es (rising_of es c.requires.rising) in
-    let start = c.count_before-start.ensures ∙ ap (λ p. length (before p c.deref.result.now)) c.names.ensures.names ∙ ap (λ xs. length (before at xs)) c.deref.ensures.value in
-    omega (arith, start, ap length parts, length-append (before at es) (behind at es), c.len.ensures, c.retain.new.self.ok)
+    let start = c.place_of-start.ensures.start ∙ ap₂ (λ p xs. length (before p xs)) c.names.ensures.names c.deref.ensures.value in
+    let count = c.place_of-start.ensures.count ∙ ap₂ (λ p xs. length (within p xs)) c.names.ensures.names c.deref.ensures.value in
+    let run = c.run_of.ensures ∙ (ap₂ (λ n k. take k (drop n c.deref-2.result.now)) start count ∙ (ap (λ xs. take (length (within at es)) (drop (length (before at es)) xs)) c.deref-2.ensures.value ∙ taken_within at es (rising_of es c.requires.rising))) in
+    omega (arith, ap spelling_length run, c.requires.brief)
 
-pub rotate_left-requires : goal.rotate_left-requires
-rotate_left-requires c =
-    let at = c.args.at.now in
-    let es = c.args.list.now.items in
-    let kept = filter_same _ (λ e. not (is_within at e)) _ (λ x b f' k. search rules) _ _ c.retain.ensures.filtered in
-    let parts = kept ∙ outside at es (rising_of es c.requires.rising) in
-    let start = c.count_before-start.ensures ∙ ap (λ p. length (before p c.deref.result.now)) c.names.ensures.names ∙ ap (λ xs. length (before at xs)) c.deref.ensures.value in
-    omega (arith, start, ap length parts, length-append (before at es) (behind at es), c.retain.new.self.ok)
+pub replace_run-requires-clause-bounds : goal.replace_run-requires-clause-bounds
+replace_run-requires-clause-bounds c =
+    let start = c.place_of-start.ensures.start ∙ ap₂ (λ p xs. length (before p xs)) c.names.ensures.names c.deref.ensures.value in
+    let count = c.place_of-start.ensures.count ∙ ap₂ (λ p xs. length (within p xs)) c.names.ensures.names c.deref.ensures.value in
+    let whole = counted c.args.at.now c.args.list.now.items (rising_of c.args.list.now.items c.requires.rising) in
+    omega (arith, whole, start, count, c.args.list.now.ok)
+
+pub replace_run-requires-clause-room : goal.replace_run-requires-clause-room
+replace_run-requires-clause-room c =
+    let count = c.place_of-start.ensures.count ∙ ap₂ (λ p xs. length (within p xs)) c.names.ensures.names c.deref.ensures.value in
+    let whole = counted c.args.at.now c.args.list.now.items (rising_of c.args.list.now.items c.requires.rising) in
+    omega (arith, whole, count, c.requires.room, c.args.list.now.ok)
 
 pub returns-clause-items : goal.returns-clause-items
 returns-clause-items c =
     let at = c.args.at.now in
     let es = c.args.list.now.items in
-    let kept = filter_same _ (λ e. not (is_within at e)) _ (λ x b f' k. search rules) _ _ c.retain.ensures.filtered in
-    let parts = kept ∙ outside at es (rising_of es c.requires.rising) in
-    let start = c.count_before-start.ensures ∙ ap (λ p. length (before p c.deref.result.now)) c.names.ensures.names ∙ ap (λ xs. length (before at xs)) c.deref.ensures.value in
-    let sizes = length-append (before at es) (behind at es) in
-    let room = c.append.ensures.succeeds (omega (arith, c.requires.room, ap length parts, sizes, c.rotate_left.ensures.len, c.rotate_left.ensures.capacity, c.retain.ensures.capacity, c.retain.new.self.ok)) in
-    let grown = c.append.ensures.items ∙ ap (λ b. if b then c.rotate_left.new.self.items ++ c.args.added.items else c.rotate_left.new.self.items) (is_done c.append.result room) in
-    turned (before at es) (behind at es) c.args.added.items c.retain.new.self.items c.rotate_left.new.self.items c.append.new.self.items c.rotate_left-2.new.self.items c.count_before-start.result (c.len.result - c.count_before-start.result)
-    parts start c.rotate_left.ensures.items grown (omega (arith, c.len.ensures, c.retain.new.self.ok)) c.rotate_left-2.ensures.items
+    let rising = rising_of es c.requires.rising in
+    let start = c.place_of-start.ensures.start ∙ ap₂ (λ p xs. length (before p xs)) c.names.ensures.names c.deref.ensures.value in
+    let count = c.place_of-start.ensures.count ∙ ap₂ (λ p xs. length (within p xs)) c.names.ensures.names c.deref.ensures.value in
+    c.replace_run.ensures.items ∙ (ap₂ (λ n k. take n es ++ (c.args.added.items ++ drop (n + k) es)) start count
+    ∙ ap₂ (λ xs ys. xs ++ (c.args.added.items ++ ys)) (front_is at es rising) (back_is at es rising))
+
+pub returns-clause-removed : goal.returns-clause-removed
+returns-clause-removed c =
+    let at = c.args.at.now in
+    let es = c.args.list.now.items in
+    let start = c.place_of-start.ensures.start ∙ ap₂ (λ p xs. length (before p xs)) c.names.ensures.names c.deref.ensures.value in
+    let count = c.place_of-start.ensures.count ∙ ap₂ (λ p xs. length (within p xs)) c.names.ensures.names c.deref.ensures.value in
+    let run = c.run_of.ensures ∙ (ap₂ (λ n k. take k (drop n c.deref-2.result.now)) start count ∙ (ap (λ xs. take (length (within at es)) (drop (length (before at es)) xs)) c.deref-2.ensures.value ∙ taken_within at es (rising_of es c.requires.rising))) in
+    c.spelled-removed.ensures ∙ ap spelling_length run

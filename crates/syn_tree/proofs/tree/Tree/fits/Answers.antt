@@ -13,20 +13,20 @@ use Rattle.syn_tree.proofs.tree.Tree.fits.Goals as goal
 pub overflow_sub-count : goal.overflow_sub-count
 overflow_sub-count c =
     let ds = c.self.inside.list.items in
-    let part = c.part_at-part.ensures ∙ ap (within c.args.path.now) c.deref.ensures.value in
+    let part = c.part_at-part.ensures ∙ ap₂ within c.names.ensures.names c.deref.ensures.value in
     omega (arith, ap length part, part_count ds c.self.inside.spelled _ c.args.path.now c.self.invariant, c.len.ensures, c.self.inside.list.ok)
 
 pub spelled-requires : goal.spelled-requires
 spelled-requires c =
     let ds = c.self.inside.list.items in
-    let part = c.part_at-part.ensures ∙ ap (within c.args.path.now) c.deref.ensures.value in
+    let part = c.part_at-part.ensures ∙ ap₂ within c.names.ensures.names c.deref.ensures.value in
     let free = place_free _ c.args.path.now (subst (λ t. first_cause (place_causes t c.args.path.now) ≡ None) (sym c.self.view_is) c.requires.place) in
     omega (arith, ap spelling_length part, part_size ds c.self.inside.spelled _ c.args.path.now c.self.invariant free.0, kept_size ds c.self.inside.spelled _ c.self.invariant)
 
 pub overflow_sub-length : goal.overflow_sub-length
 overflow_sub-length c =
     let ds = c.self.inside.list.items in
-    let part = c.part_at-part.ensures ∙ ap (within c.args.path.now) c.deref.ensures.value in
+    let part = c.part_at-part.ensures ∙ ap₂ within c.names.ensures.names c.deref.ensures.value in
     let free = place_free _ c.args.path.now (subst (λ t. first_cause (place_causes t c.args.path.now) ≡ None) (sym c.self.view_is) c.requires.place) in
     omega (arith, ap spelling_length part, part_size ds c.self.inside.spelled _ c.args.path.now c.self.invariant free.0, c.spelled.ensures)
 
@@ -37,7 +37,7 @@ pub returns : goal.returns
 returns c new of =
     let ds = c.self.inside.list.items in
     let at = c.args.path.now in
-    let part = c.part_at-part.ensures ∙ ap (within at) c.deref.ensures.value in
+    let part = c.part_at-part.ensures ∙ ap₂ within c.names.ensures.names c.deref.ensures.value in
     let place = subst (λ t. first_cause (place_causes t at) ≡ None) (sym c.self.view_is) c.requires.place in
     let count = c.len.result - length c.part_at-part.result.now + c.args.nodes in
     let long = c.self.inside.spelled - c.spelled.result + c.args.size in

@@ -3,6 +3,8 @@ use Rattle.std.specs.FinMap.{entries}
 use Rattle.std.specs.Prelude.{Result, IfOk}
 use Rattle.syn_tree.specs.Lists.{child_names}
 use Rattle.syn_tree.proofs.TreeLemmas.{entries-with}
+use Rattle.syn_tree.specs.Pairs.{within}
+use Rattle.syn_tree.proofs.BelowLemmas.{names-within}
 use Rattle.syn_tree.proofs.ListingLemmas.{listing-names}
 use Rattle.syn_tree.proofs.tree.Tree.list.Goals as goal
 
@@ -17,5 +19,6 @@ returns-in-Some-Dir-clause-names c =
     let p = c.args.path.now in
     let ds = c.self.inside.list.items in
     let whole = ap entries (sym c.self.view_is) ∙ entries-with ds c.self.invariant.rising in
-    let same = ap₂ child_names c.names.ensures.names c.deref.ensures.value ∙ sym (listing-names t p ds whole) in
+    let part = c.part_at.ensures ∙ ap₂ within c.names-names.ensures.names c.deref.ensures.value in
+    let same = ap₂ child_names c.names-names.ensures.names part ∙ (names-within p ds ∙ sym (listing-names t p ds whole)) in
     carried _ _ c.children.result (λ names h. h ∙ same) c.children.ensures.ok

@@ -1,13 +1,15 @@
-use Rattle.std.proofs.Common.{◌≡◌, ◌&&◌, nat_le, Some, None, true, sym, ap, ◌∙◌, subst}
+use Rattle.std.proofs.Common.{◌≡◌, ◌&&◌, nat_le, Some, None, true, sym, ap, ap₂, ◌∙◌, subst}
 use Rattle.std.specs.Prelude.{option_map}
 use Rattle.std.specs.FinMap.{entries, get, len}
 use Rattle.std.proofs.lemmas.Bool.{and_parts}
 use Rattle.syn_model.specs.Tree.{Tree, IsTree, Directory, File, contents_of, file, subtree}
 use Rattle.syn_model.specs.Limits.{fits_replica, fits_part, fits_paths, tree_spelling_length, greatest_spelling}
 use Rattle.syn_tree.specs.Contents.{found_content}
+use Rattle.syn_tree.specs.Pairs.{within}
 use Rattle.syn_tree.specs.Lists.{stripped}
 use Rattle.syn_tree.proofs.TreeLemmas.{entries-with}
 use Rattle.syn_tree.proofs.WholeLemmas.{whole_tree}
+use Rattle.syn_tree.proofs.BelowLemmas.{stripped-within}
 use Rattle.syn_tree.proofs.StripLemmas.{stripped_lawful, stripped_entries, subtree_none, subtree_file}
 use Rattle.syn_tree.proofs.tree.Tree.subtree.Goals as goal
 
@@ -24,7 +26,7 @@ lawful-requires c =
     let limits = parts t (ap fits_replica (sym c.self.view_is) ∙ c.self.invariant.fits) in
     let dir : get t c.args.path.now ≡ Some Directory = sym c.get.ensures ∙ (ap (option_map (λ found. found_content found)) c.in-Some-Dir.is ∙ ap (λ f. Some (found_content f)) c.in-Some-Dir.field-0-is) in
     stripped_lawful t c.args.path.now ds c.in_ok-list-in-Some-Dir.list.items all (subst IsTree c.self.view_is c.self.invariant.tree) limits.0 limits.1 dir
-    (c.in_ok-list-in-Some-Dir.ensures.ok ∙ ap (stripped c.args.path.now) c.deref.ensures.value)
+    (c.in_ok-list-in-Some-Dir.ensures.ok ∙ (ap (stripped c.args.path.now) (c.part_at-part.ensures ∙ ap₂ within c.names.ensures.names c.deref.ensures.value) ∙ stripped-within c.args.path.now ds))
 
 pub returns-in-None-clause-ok : goal.returns-in-None-clause-ok
 returns-in-None-clause-ok c =
@@ -46,4 +48,4 @@ returns-in_ok-list-in-Some-Dir-clause-ok c =
     let all = ap entries (sym c.self.view_is) ∙ entries-with ds c.self.invariant.rising in
     let dir : get t c.args.path.now ≡ Some Directory = sym c.get.ensures ∙ (ap (option_map (λ found. found_content found)) c.in-Some-Dir.is ∙ ap (λ f. Some (found_content f)) c.in-Some-Dir.field-0-is) in
     let copies = c.in_ok-list-in-Some-Dir.list.items in
-    c.lawful.ensures ∙ whole_tree (subtree t c.args.path.now) copies (stripped_entries t c.args.path.now ds copies all dir (c.in_ok-list-in-Some-Dir.ensures.ok ∙ ap (stripped c.args.path.now) c.deref.ensures.value))
+    c.lawful.ensures ∙ whole_tree (subtree t c.args.path.now) copies (stripped_entries t c.args.path.now ds copies all dir (c.in_ok-list-in-Some-Dir.ensures.ok ∙ (ap (stripped c.args.path.now) (c.part_at-part.ensures ∙ ap₂ within c.names.ensures.names c.deref.ensures.value) ∙ stripped-within c.args.path.now ds)))
