@@ -38,6 +38,8 @@ pub fn spelling_laws()
 }
 
 #[cfg(test)]
+mod plain_tests;
+#[cfg(test)]
 mod tests;
 #[cfg(test)]
 mod tree_tests;
