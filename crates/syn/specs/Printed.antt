@@ -4,8 +4,9 @@ use Rattle.std.specs.Fmt.{decimal}
 use Rattle.std.specs.FinMap.{entries}
 use Rattle.hex.specs.Hex.{encode_lower}
 use Rattle.sha2.specs.Sha256.{sha256}
-use Rattle.syn_model.specs.Path.{Path, is_prefix}
+use Rattle.syn_model.specs.Path.{Path}
 use Rattle.syn_model.specs.Tree.{Tree, Pair, Content, Directory, File}
+use Rattle.syn_tree.specs.Pairs.{is_below}
 use Rattle.syn_path.specs.Paths.{printed_form}
 
 -- the line of a file: its path, its length, and its digest in lower case hexadecimal digits
@@ -20,17 +21,13 @@ abbrev pub content_line : Path → Content → List ℕ
 content_line path Directory = directory_line path
 content_line path (File contents) = file_line path contents.bytes
 
--- a path lies below another, but not at it
-abbrev pub is_below : Path → Path → Bool
-is_below at path = is_prefix at path && nat_lt (length at) (length path)
+-- the lines of these pairs, in their order
+abbrev pub lines_of : List Pair → List ℕ
+lines_of pairs = flat_map (λ pair. content_line pair.0 pair.1) pairs
 
--- the lines of those pairs that stand below a path
-abbrev pub lines_of : Path → List Pair → List ℕ
-lines_of at pairs = flat_map (λ pair. content_line pair.0 pair.1) (filter (λ pair. is_below at pair.0) pairs)
-
--- of all in a tree, in path order
+-- the lines of all that stands strictly below a path, in path order
 abbrev pub lines_below : Tree → Path → List ℕ
-lines_below tree at = lines_of at (entries tree)
+lines_below tree at = lines_of (filter (is_below at) (entries tree))
 
 -- the first line of an image
 abbrev pub image_line : ℕ → ℕ → List ℕ

@@ -1,11 +1,11 @@
 //! What `syn show` prints.
-ghost use Rattle.std.specs.Prelude.{◌≡◌, ◌⊎◌, ◌++◌, ◌∷◌, [], true, IfOk, IfErr, OnOk, Some, None};
+ghost use Rattle.std.specs.Prelude.{◌≡◌, ◌⊎◌, ◌++◌, [], true, IfOk, IfErr, OnOk, Some, None};
 ghost use Rattle.std.specs.FinMap.{get};
 ghost use Rattle.std.specs.Io.KnownBytes.{Appends};
 ghost use Rattle.std.specs.String.{string_bytes};
 ghost use Rattle.syn_model.specs.Tree.{Content, is_present};
 ghost use Rattle.syn_replica.specs.Replica.{pair_of, position_shown, tree_shown};
-ghost use Rattle.syn.specs.Printed.{content_line, content_shown, directory_line, file_line, image_line, is_below, lines_below, lines_of};
+ghost use Rattle.syn.specs.Printed.{content_line, content_shown, directory_line, file_line, image_line, lines_below};
 ghost use Rattle.syn.specs.Refusals.{number_of, IsOfStream};
 
 use crate::refusal::Refusal;
@@ -66,34 +66,11 @@ fn show_below<W: Write>(
     ensures printed { OnOk result (Appends (W.contents output.old) (W.contents output.new) (lines_below tree.now directory.now)) }
     ensures stream { IfErr result IsOfStream }
 {
-    for entry in tree.entries() {
-        show_entry(alloc, directory, entry, output)?;
-    }
-    Ok(())
-}
-
-/// Prints the line of the entry, where it is below the directory.
-fn show_entry<W: Write>(
-    alloc: Global,
-    directory: &Path,
-    entry: &Entry,
-    output: &mut W,
-) -> Result<(), Refusal>
-    ensures printed { OnOk result (Appends (W.contents output.old) (W.contents output.new) (lines_of directory.now (entry.now ∷ []))) }
-    ensures stream { IfErr result IsOfStream }
-{
-    if is_below(directory, entry.path()) {
+    for entry in tree.below(directory) {
         let line = entry_line(alloc, entry)?;
         output.write_all(line.as_bytes())?;
     }
     Ok(())
-}
-
-/// The path is below the directory, and not the directory itself.
-fn is_below(directory: &Path, path: &Path) -> bool
-    ensures { result ≡ is_below directory.now path.now }
-{
-    directory.is_prefix(path) && directory.names().len() < path.names().len()
 }
 
 /// The first line of an image.

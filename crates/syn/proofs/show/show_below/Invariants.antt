@@ -4,4 +4,4 @@ use Rattle.syn.specs.Printed.{lines_of}
 use Rattle.syn.proofs.show.show_below.Given as goal
 
 abbrev pub invariant-loop-entry : goal.invariant-loop-entry
-invariant-loop-entry g l = Appends (g.W.Write.contents l.initial.output) (g.W.Write.contents l.output) (lines_of l.directory (take l.entry-index l.entry-items))
+invariant-loop-entry g l = Appends (g.W.Write.contents l.initial.output) (g.W.Write.contents l.output) (lines_of (take l.entry-index l.entry-items))
