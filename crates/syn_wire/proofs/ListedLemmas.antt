@@ -22,7 +22,8 @@ use Rattle.syn_tree.proofs.FitLemmas.{each-both}
 use Rattle.syn_tree.proofs.TreeLemmas.{entries-rising, entries-subtree, get-rising, taken}
 use Rattle.syn_wire.specs.Events.{IsFile, file_spelling}
 use Rattle.syn_wire.specs.Reads.{BeginsWith}
-use Rattle.syn_wire.specs.Trees.{IsChildOf, PartIsRead, PartsAreRead, last_name_spelling}
+use Rattle.syn_wire.specs.Trees.{last_name_spelling}
+use Rattle.syn_wire.specs.Parts.{IsChildOf, PartIsRead, PartsAreRead}
 use Rattle.syn_wire.proofs.GroupLemmas.{tops}
 use Rattle.syn_wire.proofs.PartsLemmas.{child_name, own_pair}
 

@@ -4,3 +4,4 @@ pub mod Names
 pub mod Laws
 pub mod Events
 pub mod Trees
+pub mod Parts

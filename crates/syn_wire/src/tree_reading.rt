@@ -5,7 +5,8 @@ ghost use Rattle.syn_model.specs.Spelling.{spelling};
 ghost use Rattle.syn_tree.specs.Nodes.{part_of};
 ghost use Rattle.syn_wire.specs.Reads.{IsReading};
 ghost use Rattle.syn_wire.specs.Names.{name_spelling};
-ghost use Rattle.syn_wire.specs.Trees.{last_name_spelling, IsChildOf, IsDirectoryTree, IsOptionalTree, IsWholeTree, ReadsPart, ReadsParts, PartIsRead, PartsAreRead};
+ghost use Rattle.syn_wire.specs.Trees.{last_name_spelling, IsDirectoryTree, IsOptionalTree, IsWholeTree};
+ghost use Rattle.syn_wire.specs.Parts.{IsChildOf, ReadsPart, ReadsParts, PartIsRead, PartsAreRead};
 
 use crate::bytes::read_file;
 use crate::error::WireError;
