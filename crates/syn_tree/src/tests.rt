@@ -172,32 +172,33 @@ fn a_removal_takes_the_subtree_alone(rt: HostRuntime) -> Result<(), Fail> {
     Ok(())
 }
 
+// The names in a directory, with a slash behind each directory's, or why they are not listed.
+fn listed(rt: HostRuntime, tree: &Tree, path: &str) -> Result<String, Fail> {
+    let mut text = String::new(rt.alloc());
+    match tree.list(rt.alloc(), &Path::parse(rt.alloc(), path)?) {
+        Ok(names) => {
+            for (name, is_directory) in &names {
+                text.push_str(name.as_str())?;
+                text.push_str(if *is_directory { "/ " } else { " " })?;
+            }
+        }
+        Err(error) => text.push_str(error.name())?,
+    }
+    Ok(text)
+}
+
 #[test]
 fn a_tree_is_listed_and_read(rt: HostRuntime) -> Result<(), Fail> {
-    let alloc = rt.alloc();
     let tree = tree_of(rt, &["d/", "d/b", "d/a/", "d/a/c", "e"])?;
-    let names = tree.list(alloc, &Path::parse(alloc, "d")?)?;
-    assert_eq!(rt; names.len(), 2);
-    assert_eq!(rt; names[0].0.as_str(), "a");
-    assert_eq!(rt; names[0].1, true);
-    assert_eq!(rt; names[1].0.as_str(), "b");
-    assert_eq!(rt; names[1].1, false);
-    assert_eq!(rt; tree.list(alloc, &Path::root(alloc))?.len(), 2);
-    let d = Path::parse(alloc, "d")?;
-    assert_eq!(rt; tree.child_count(&d), 2);
-    assert_eq!(rt; tree.child_count(&Path::root(alloc)), 2);
-    assert_eq!(rt; tree.below(&d).len(), 3);
-    assert_eq!(rt; tree.below(&Path::root(alloc)).len(), 5);
-    assert_eq!(rt; tree.below(&Path::parse(alloc, "e")?).len(), 0);
-    assert_eq!(rt;
-        tree.list(alloc, &Path::parse(alloc, "e")?).err(),
-        Some(TreeError::Absent)
-    );
-    assert_eq!(rt;
-        tree.list(alloc, &Path::parse(alloc, "f")?).err(),
-        Some(TreeError::Absent)
-    );
-    match tree.get(&Path::parse(alloc, "d/b")?) {
+    for (path, text) in [
+        (".", "d/ e "),
+        ("d", "a/ b "),
+        ("e", "Absent"),
+        ("f", "Absent"),
+    ] {
+        assert_eq!(rt; listed(rt, &tree, path)?.as_str(), text);
+    }
+    match tree.get(&Path::parse(rt.alloc(), "d/b")?) {
         Some(Found::File(bytes)) => assert_eq!(rt; bytes.len(), 3),
         _ => assert!(rt; false),
     }
@@ -205,49 +206,73 @@ fn a_tree_is_listed_and_read(rt: HostRuntime) -> Result<(), Fail> {
 }
 
 #[test]
-fn a_subtree_is_put_elsewhere(rt: HostRuntime) -> Result<(), Fail> {
-    let alloc = rt.alloc();
-    let mut tree = tree_of(rt, &["d/", "d/b", "d/a/", "d/a/c", "e"])?;
-    let d = Path::parse(alloc, "d")?;
-    let e = Path::parse(alloc, "e")?;
-    let part = tree.subtree(alloc, &d)?;
-    if let Some(Node::Dir(entries)) = &part {
-        assert_eq!(rt; entries.child_count(&Path::root(alloc)), 2);
-        assert_eq!(rt; entries.child_count(&Path::parse(alloc, "a")?), 1);
+fn what_stands_below_is_counted(rt: HostRuntime) -> Result<(), Fail> {
+    let tree = tree_of(rt, &["d/", "d/b", "d/a/", "d/a/c", "d-", "e"])?;
+    for (path, names, all) in [
+        (".", 3, 6),
+        ("d", 2, 3),
+        ("d/a", 1, 1),
+        ("e", 0, 0),
+        ("f", 0, 0),
+    ] {
+        let path = Path::parse(rt.alloc(), path)?;
+        assert_eq!(rt; tree.child_count(&path), names);
+        assert_eq!(rt; tree.below(&path).len(), all);
     }
-    tree.replace(alloc, &e, part)?;
-    assert_eq!(rt;
-        printed(rt, &tree)?.as_str(),
-        "d/ d/a/ d/a/c=5 d/b=3 e/ e/a/ e/a/c=5 e/b=3 "
-    );
-    let part = tree.subtree(alloc, &Path::parse(alloc, "d/b")?)?;
-    tree.replace(alloc, &d, part)?;
-    assert_eq!(rt; printed(rt, &tree)?.as_str(), "d=3 e/ e/a/ e/a/c=5 e/b=3 ");
-    let none = tree.subtree(alloc, &Path::parse(alloc, "f")?)?;
-    tree.replace(alloc, &d, none)?;
-    assert_eq!(rt; printed(rt, &tree)?.as_str(), "e/ e/a/ e/a/c=5 e/b=3 ");
-    assert_eq!(rt; number(tree.replace(alloc, &Path::root(alloc), None)), 6);
-    assert_eq!(rt;
-        number(tree.replace(alloc, &Path::parse(alloc, "d/x")?, None)),
-        2
-    );
-    assert_eq!(rt; tree.spelling_length(), spelled(&tree));
+    Ok(())
+}
+
+// How many names are in a directory of a part that is one.
+fn part_count(rt: HostRuntime, part: &Option<Node>, path: &str) -> Result<usize, Fail> {
+    let path = Path::parse(rt.alloc(), path)?;
+    Ok(match part {
+        Some(Node::Dir(entries)) => entries.child_count(&path),
+        _ => 0,
+    })
+}
+
+#[test]
+fn the_names_of_a_part_are_counted(rt: HostRuntime) -> Result<(), Fail> {
+    let tree = tree_of(rt, &["d/", "d/b", "d/a/", "d/a/c", "e"])?;
+    let part = tree.subtree(rt.alloc(), &Path::parse(rt.alloc(), "d")?)?;
+    for (path, names) in [(".", 2), ("a", 1), ("b", 0)] {
+        assert_eq!(rt; part_count(rt, &part, path)?, names);
+    }
+    Ok(())
+}
+
+// Puts what is at and below one path in the place of what is at and below another, and answers as `applied`.
+fn carried(rt: HostRuntime, tree: &mut Tree, from: &str, to: &str) -> Result<u8, Fail> {
+    let part = tree.subtree(rt.alloc(), &Path::parse(rt.alloc(), from)?)?;
+    Ok(number(tree.replace(rt.alloc(), &Path::parse(rt.alloc(), to)?, part)))
+}
+
+#[test]
+fn a_subtree_is_put_elsewhere(rt: HostRuntime) -> Result<(), Fail> {
+    let mut tree = tree_of(rt, &["d/", "d/b", "d/a/", "d/a/c", "e"])?;
+    for (from, to, answer, text) in [
+        ("d", "e", 0, "d/ d/a/ d/a/c=5 d/b=3 e/ e/a/ e/a/c=5 e/b=3 "),
+        ("d/b", "d", 0, "d=3 e/ e/a/ e/a/c=5 e/b=3 "),
+        ("f", "d", 0, "e/ e/a/ e/a/c=5 e/b=3 "),
+        ("e", ".", 6, "e/ e/a/ e/a/c=5 e/b=3 "),
+        ("e", "d/x", 2, "e/ e/a/ e/a/c=5 e/b=3 "),
+    ] {
+        assert_eq!(rt; carried(rt, &mut tree, from, to)?, answer);
+        assert_eq!(rt; printed(rt, &tree)?.as_str(), text);
+        assert_eq!(rt; tree.spelling_length(), spelled(&tree));
+    }
     Ok(())
 }
 
 #[test]
 fn a_part_too_deep_is_refused(rt: HostRuntime) -> Result<(), Fail> {
-    let alloc = rt.alloc();
     let mut tree = tree_of(rt, &["a/", "b/", "b/c/"])?;
-    let place = Path::parse(alloc, "b/c")?;
     // each turn puts two more levels below the place
     for _ in 0..7 {
-        let part = tree.subtree(alloc, &Path::root(alloc))?;
-        assert_eq!(rt; number(tree.replace(alloc, &place, part)), 0);
+        assert_eq!(rt; carried(rt, &mut tree, ".", "b/c")?, 0);
     }
-    let part = tree.subtree(alloc, &Path::root(alloc))?;
     let before = printed(rt, &tree)?;
-    assert_eq!(rt; number(tree.replace(alloc, &place, part)), 7);
+    assert_eq!(rt; carried(rt, &mut tree, ".", "b/c")?, 7);
     assert_eq!(rt; printed(rt, &tree)?.as_str(), before.as_str());
     Ok(())
 }

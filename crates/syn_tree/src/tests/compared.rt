@@ -1,5 +1,5 @@
 //! Random edits of small trees, compared with a plain program over a list of paths with their contents.
-use super::{applied, number, put_text};
+use super::{applied, carried, put_text};
 use crate::{Edit, Found, Tree};
 use std::test::Fail;
 use syn_path::Path;
@@ -179,8 +179,7 @@ fn replaced(
     from: &str,
     to: &str,
 ) -> Result<u8, Fail> {
-    let part = tree.subtree(rt.alloc(), &Path::parse(rt.alloc(), from)?)?;
-    let answer = number(tree.replace(rt.alloc(), &Path::parse(rt.alloc(), to)?, part));
+    let answer = carried(rt, tree, from, to)?;
     let wanted = plain.place(to);
     if wanted == 0 {
         let mut carried = plain.carried(rt, from, to)?;
