@@ -15,7 +15,7 @@ use Rattle.syn_model.specs.Decision.{Item, ToLeft, ToRight, MarkSame, MarkDir, C
 use Rattle.syn_model.specs.Plan.{plan as items_by, is_mark_dir, scan_of, Trees, carried_out}
 use Rattle.syn_headline.specs.Network.{Which, Left, Right, other, Sent}
 use Rattle.syn_headline.specs.Planning.{Planned, seen_on, IsPlanOf, WritesTo}
-use Rattle.syn_headline.specs.Report.{IsRecordOf}
+use Rattle.syn_headline.proofs.CountLemmas.{IsRecordOf}
 use Rattle.syn_headline.specs.World.{AllCanKeep}
 use Rattle.syn_headline.specs.Headline.{IsNoEdit}
 use Rattle.syn_headline.specs.Invariant.{Histories}

@@ -17,10 +17,10 @@ pub data Course (old new : World) : Type 0 where
   beside : (acks : List Ack) → new.acknowledged ≡ old.acknowledged ++ acks → AllCanKeep old.coordinator.archive (filter_map kept_in acks) →
       (new.coordinator.running ≡ None) ⊎ ((new.coordinator.running ≡ old.coordinator.running) × (filter_map kept_in acks ≡ [])) → new.reports ≡ old.reports → Course old new
   starts : CoordinatorGoes old (IsNext old.coordinator.archive) (StartsFrom old.coordinator.archive) new → new.reports ≡ old.reports → Course old new
-  ticks : CoordinatorGoes old IsNothing (GoesOnFrom old.coordinator.running (plan_of old.coordinator.running)) new → Reports old new EndsUnanswered → Course old new
+  ticks : CoordinatorGoes old IsNothing (GoesOnFrom old.coordinator.running (plan_of old.coordinator.running)) new → Reports old new (plan_of old.coordinator.running) EndsUnanswered → Course old new
   takes : (from : Which) (session number : ℕ) (reply : Reply) (plan : List Planned) → Contains old.sent (Answers from session number reply) → IsExpected old.coordinator.running from session number →
       HasPlan old.sent old.coordinator.archive old.coordinator.running plan →
-      CoordinatorGoes old (IsDueAfter old.coordinator.running plan from reply) (λ running. GoesOnFrom old.coordinator.running plan running × IsOver from number running) new → Reports old new (EndsTaken old new from plan reply) → Course old new
+      CoordinatorGoes old (IsDueAfter old.coordinator.running plan from reply) (λ running. GoesOnFrom old.coordinator.running plan running × IsOver from number running) new → Reports old new plan (EndsTaken old new from plan reply) → Course old new
 
 -- nothing is kept
 nothing_kept : (a : Archive) (kept : List Kept) → kept ≡ [] → AllCanKeep a kept

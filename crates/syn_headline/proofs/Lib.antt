@@ -20,6 +20,7 @@ pub mod CarriedOut
 pub mod QuietScans
 pub mod QuietResult
 pub mod CompleteLemmas
+pub mod CountLemmas
 pub mod UnderwayLemmas
 pub mod KeptLemmas
 pub mod ReportLemmas

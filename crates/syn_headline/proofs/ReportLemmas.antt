@@ -1,22 +1,22 @@
 -- What a complete session leaves and reports, where no user's event came since it began.
-use Rattle.std.proofs.Common.{◌≡◌, ℕ, zero, suc, true, List, [], ◌∷◌, ◌++◌, map, filter_map, length, refl, sym, ap, ◌∙◌, subst, Some, None, true≢false, arith, inl, inr, ◌⊎◌}
+use Rattle.std.proofs.Common.{◌≡◌, ℕ, zero, suc, Bool, true, false, ◌&&◌, List, [], ◌∷◌, ◌++◌, map, filter_map, length, refl, sym, ap, ◌∙◌, subst, Some, None, true≢false, arith, inl, inr, ◌⊎◌}
 use Rattle.std.specs.Prelude.{Contains, All, Any, ◌↔◌}
-use Rattle.std.specs.List.{cons_option}
-use Rattle.std.proofs.lemmas.List.Elements.{All-contains}
+use Rattle.std.specs.List.{cons_option, count_by}
+use Rattle.std.proofs.lemmas.List.Elements.{All-contains, All-weaker}
 use Rattle.syn_model.specs.Path.{Path}
 use Rattle.syn_model.specs.Tree.{IsTree, subtree}
 use Rattle.syn_model.specs.Mark.{mark, AreApart}
 use Rattle.syn_model.specs.Reconcile.{is_relevant}
 use Rattle.syn_model.specs.Event.{Began}
 use Rattle.syn_model.specs.History.{History, IsHistory, tree_of}
-use Rattle.syn_model.specs.Archive.{Archive, Kept, Session, RecordedDir, archive_of}
-use Rattle.syn_model.specs.Decision.{Item, ToLeft, ToRight, MarkSame, MarkDir, Conflict, path_of}
-use Rattle.syn_model.specs.Plan.{HasDepth, most_names, CanBePlanned, carried_out, IsReconciled, IsConflict}
+use Rattle.syn_model.specs.Archive.{Archive, Kept, Session, archive_of}
+use Rattle.syn_model.specs.Decision.{Item, ToLeft, ToRight, MarkSame, MarkDir, Conflict}
+use Rattle.syn_model.specs.Plan.{is_mark_dir, HasDepth, most_names, CanBePlanned, carried_out, IsReconciled, IsConflict}
 use Rattle.syn_headline.specs.Network.{Which, Left, Right, Sent}
 use Rattle.syn_headline.specs.Planning.{Planned}
-use Rattle.syn_headline.specs.Report.{Report, IsRecordOf, IsSettled, conflict_at}
+use Rattle.syn_headline.specs.Report.{Report, Counts, is_kept, IsSettled, is_carrying, is_marking, conflict_at}
 use Rattle.syn_headline.specs.World.{AllCanKeep}
-use Rattle.syn_headline.specs.Headline.{IsNoEdit}
+use Rattle.syn_headline.specs.Headline.{IsNoEdit, HasCounts}
 use Rattle.syn_headline.specs.Invariant.{Plans, Histories, IsSound}
 use Rattle.syn_model.proofs.PathLemmas.{some_same, none_some}
 use Rattle.syn_model.proofs.FitsLemmas.{history_fits, replica_depth}
@@ -26,6 +26,7 @@ use Rattle.syn_model.proofs.PlanCover.{conflicts_are_planned}
 use Rattle.syn_headline.proofs.MoveLemmas.{all_front}
 use Rattle.syn_headline.proofs.WorldLemmas.{archive-append}
 use Rattle.syn_headline.proofs.CarriedOut.{is_recorded, plan_is_carried}
+use Rattle.syn_headline.proofs.CountLemmas.{kept_any, kept_directory, count_all}
 use Rattle.syn_headline.proofs.AlikeLemmas.{alike_recorded}
 use Rattle.syn_headline.proofs.CompleteLemmas.{items, items_are, complete_carries_out}
 use Rattle.syn_headline.proofs.QuietScans.{ShowsTree}
@@ -74,19 +75,16 @@ filter_map-map (planned ∷ plan) = ap (cons_option (conflict_at planned.item)) 
 none_refused : (report : Report) (path : Path) → report.refused ≡ [] → Any (λ refused. refused.1 ≡ path) report.refused → ⊥
 none_refused report path e any = let none : length report.refused ≡ 0 = ap length e in omega (arith, any.2, none)
 
-settled_records : (kept : List Kept) (report : Report) (x : Item) → report.refused ≡ [] → IsSettled kept report x → is_recorded x ≡ true → Any (IsRecordOf (path_of x)) kept
-settled_records kept report (ToLeft path) none (inl is) on = is
-settled_records kept report (ToLeft path) none (inr refused) on = absurd (none_refused report path none refused)
-settled_records kept report (ToRight path) none (inl is) on = is
-settled_records kept report (ToRight path) none (inr refused) on = absurd (none_refused report path none refused)
-settled_records kept report (MarkSame path) none (inl is) on = is
-settled_records kept report (MarkSame path) none (inr refused) on = absurd (none_refused report path none refused)
-settled_records kept report (MarkDir path) none settled on = absurd (true≢false (sym on))
-settled_records kept report (Conflict path) none settled on = absurd (true≢false (sym on))
-
-settled_marks : (kept : List Kept) (report : Report) (path : Path) → report.refused ≡ [] → IsSettled kept report (MarkDir path) → Contains kept (RecordedDir path)
-settled_marks kept report path none (inl is) = is
-settled_marks kept report path none (inr refused) = absurd (none_refused report path none refused)
+settled_kept : (of_kind : Item → Bool) → ((path : Path) → of_kind (Conflict path) ≡ false) → (kept : List Kept) (report : Report) (x : Item) → report.refused ≡ [] → IsSettled kept report x → of_kind x ≡ true → is_kept kept x ≡ true
+settled_kept of_kind unlike kept report (ToLeft path) none (inl is) on = is
+settled_kept of_kind unlike kept report (ToLeft path) none (inr refused) on = absurd (none_refused report path none refused)
+settled_kept of_kind unlike kept report (ToRight path) none (inl is) on = is
+settled_kept of_kind unlike kept report (ToRight path) none (inr refused) on = absurd (none_refused report path none refused)
+settled_kept of_kind unlike kept report (MarkSame path) none (inl is) on = is
+settled_kept of_kind unlike kept report (MarkSame path) none (inr refused) on = absurd (none_refused report path none refused)
+settled_kept of_kind unlike kept report (MarkDir path) none (inl is) on = is
+settled_kept of_kind unlike kept report (MarkDir path) none (inr refused) on = absurd (none_refused report path none refused)
+settled_kept of_kind unlike kept report (Conflict path) none settled on = absurd (true≢false (sym on ∙ unlike path))
 
 module _ (before : Archive) (whole : IsTree before.marks) (shallow : HasDepth most_names before.marks) (plans : Plans) (histories : Histories) (archive : Archive) (sent : Sent) (sound : IsSound plans histories archive sent)
     (kept : List Kept) (can : AllCanKeep before kept) (session : ℕ) (plan : List Planned) (h : IsUnderway before histories sent kept session plan) (made : IsQuietPlan sent histories session (archive_of before h.earlier).marks plan)
@@ -125,8 +123,8 @@ module _ (before : Archive) (whole : IsTree before.marks) (shallow : HasDepth mo
   trees_are : record { left = tree_of (histories Left); right = tree_of (histories Right); archive = (archive_of begun h.records).marks } ≡ carried_out (record { left = tree_of (first Left); right = tree_of (first Right); archive = found.marks }) items_of_plan
   trees_are = complete_carries_out first later found.marks found_tree.part.parents sent session plan made.is histories split shown
       (λ side. h.events side (first side) (later side) (split side)) quiet h.records h.due begun refl found_tree parts.1.1
-      (λ x c on. settled_records h.records report x none (item_settled x c) on)
-      (λ p c. settled_marks h.records report p none (item_settled (MarkDir p) c))
+      (λ x c on. kept_any h.records x on (settled_kept is_recorded (λ p. refl) h.records report x none (item_settled x c) on))
+      (λ p c. kept_directory h.records p (settled_kept is_mark_dir (λ p. refl) h.records report (MarkDir p) none (item_settled (MarkDir p) c) refl))
 
   first_lawful : (side : Which) → IsHistory (first side)
   first_lawful side = all_front [] (first side) (Began session ∷ later side) (subst IsHistory (split side) (sound.lawful side))
@@ -157,6 +155,15 @@ module _ (before : Archive) (whole : IsTree before.marks) (shallow : HasDepth mo
     λ c. (conflicts_planned path).0 (conflicts_from items_of_plan path (subst (λ w. Contains w path) conflicts_are c)),
     λ c. subst (λ w. Contains w path) (sym conflicts_are) (conflicts_to items_of_plan path ((conflicts_planned path).1 c)),
   )
+
+  counted : (of_kind : Item → Bool) → ((path : Path) → of_kind (Conflict path) ≡ false) → count_by (λ planned. of_kind planned.item && is_kept h.records planned.item) plan ≡ count_by of_kind items_of_plan
+  counted of_kind unlike =
+      count_all of_kind (is_kept h.records) plan (All-weaker (λ planned. IsSettled h.records report planned.item) (λ planned. of_kind planned.item ≡ true → is_kept h.records planned.item ≡ true)
+      (λ planned is. settled_kept of_kind unlike h.records report planned.item none is) plan settled) ∙ ap (count_by of_kind) plan_is
+
+  -- each item of the plan is counted
+  pub counts_reported : Counts plan h.records report → HasCounts (record { left = first Left; right = first Right; archive = found }) report
+  counts_reported counts = (counts.done ∙ counted is_carrying (λ path. refl), counts.marked ∙ counted is_marking (λ path. refl))
 
   -- a relevant path where both sides had the same is recorded so
   pub alike_marked : (path : Path) → is_relevant (tree_of (first Left)) (tree_of (first Right)) path ≡ true → subtree (tree_of (first Left)) path ≡ subtree (tree_of (first Right)) path →

@@ -17,7 +17,7 @@ use Rattle.syn_headline.specs.Network.{Which, Left, Right}
 use Rattle.syn_headline.specs.Acknowledged.{Ack, Kept_by, event_at, kept_in, Stores, history_of, stores_after}
 use Rattle.syn_headline.specs.Report.{Report}
 use Rattle.syn_headline.specs.World.{World, Step, Runs, AllCanKeep}
-use Rattle.syn_headline.specs.Headline.{stores_of, IsPair, IsStart, BeganAfter, IsQuietSession, IsOfRun, Synchronizes, StandsFor, CompleteSessionsSynchronize, ReportsItsConflicts, OfEachRun}
+use Rattle.syn_headline.specs.Headline.{stores_of, IsPair, IsStart, BeganAfter, IsQuietSession, IsOfRun, Synchronizes, StandsFor, CompleteSessionsSynchronize, ReportsItsConflicts, HasCounts, CountsItsItems, OfEachRun}
 use Rattle.syn_headline.specs.Invariant.{Plans, histories_of, IsKept}
 use Rattle.syn_model.proofs.PathLemmas.{none_some}
 use Rattle.syn_model.proofs.MarkLemmas.{get-mark}
@@ -136,6 +136,9 @@ module _ (old new : World) (steps : List Step) (s : IsStart old) (g : Runs old s
     has_conflicts : (path : Path) → Contains report.conflicts path ↔ IsConflict (tree_of found.left) (tree_of found.right) found.archive.marks path
     has_conflicts = (told.worth found archive_is left_began right_began).1
 
+    has_counts : HasCounts found report
+    has_counts = (told.worth found archive_is left_began right_began).3
+
     -- a relevant path where both sides had the same is marked
     pub marks_alike : (path : Path) → is_relevant (tree_of found.left) (tree_of found.right) path ≡ true → subtree (tree_of found.left) path ≡ subtree (tree_of found.right) path → subtree left.archive.marks path ≡ mark (subtree (tree_of found.left) path)
     marks_alike path relevant same = ap (λ w. subtree w.archive.marks path) q.at_end ∙ (told.worth found archive_is left_began right_began).2 path relevant same
@@ -147,3 +150,7 @@ runs_synchronize old new steps s g apart report found left q = synchronizes old 
 -- and reports its conflicts
 pub runs_report_conflicts : OfEachRun ReportsItsConflicts
 runs_report_conflicts old new steps s g report found left q = has_conflicts old new steps s g report found left q
+
+-- and counts its items
+pub runs_count_items : OfEachRun CountsItsItems
+runs_count_items old new steps s g report found left q = has_counts old new steps s g report found left q

@@ -16,16 +16,16 @@ use Rattle.syn_headline.specs.Side.{Reply}
 use Rattle.syn_headline.specs.Network.{Which, Left, Right, Answers}
 use Rattle.syn_headline.specs.Planning.{Planned}
 use Rattle.syn_headline.specs.Acknowledged.{Ack, kept_in, Stores, history_of, stores_after}
-use Rattle.syn_headline.specs.Report.{Report, Complete, Incomplete, IsSettled, kept_in_session, since_start}
-use Rattle.syn_headline.specs.World.{World, Running, IsExpected, IsOver, IsDueAfter, HasPlan, GoesOnFrom, AllCanKeep, CoordinatorGoes, Reports, EndsTaken, EndsUnanswered}
-use Rattle.syn_headline.specs.Headline.{IsNoEdit, BeganAfter, Synchronizes, StandsFor}
+use Rattle.syn_headline.specs.Report.{Report, Complete, Incomplete, Counts, IsSettled, kept_in_session, since_start}
+use Rattle.syn_headline.specs.World.{World, Running, IsExpected, IsOver, IsDueAfter, HasPlan, GoesOnFrom, plan_of, AllCanKeep, CoordinatorGoes, Reports, EndsTaken, EndsUnanswered}
+use Rattle.syn_headline.specs.Headline.{IsNoEdit, BeganAfter, Synchronizes, HasCounts, StandsFor}
 use Rattle.syn_headline.specs.Invariant.{Plans, histories_of, IsKept}
 use Rattle.syn_headline.proofs.RunLemmas.{Advances}
 use Rattle.syn_headline.proofs.CourseLemmas.{Course, beside, starts, ticks, takes}
 use Rattle.syn_headline.proofs.CompleteLemmas.{IsRecordDue, carried, alike, marked}
 use Rattle.syn_headline.proofs.UnderwayLemmas.{IsQuietPlan, IsUnderway, underway_records, quiet_plan}
 use Rattle.syn_headline.proofs.KeptLemmas.{IsNoSession, since_last}
-use Rattle.syn_headline.proofs.ReportLemmas.{reconciled, conflicts_reported, alike_marked}
+use Rattle.syn_headline.proofs.ReportLemmas.{reconciled, conflicts_reported, counts_reported, alike_marked}
 use Rattle.syn_headline.proofs.SoundLemmas.{only_one}
 use Rattle.syn_headline.proofs.WatchLemmas.{all_kept, RunsWell, plan_then, due_then, goes_kept}
 
@@ -36,6 +36,7 @@ IsWorth before acks report earlier = (found : Stores) → found.archive ≡ arch
     (AreApart (λ tree. (tree ≡ tree_of found.left) ⊎ (tree ≡ tree_of found.right)) → Synchronizes found (stores_after before acks))
     × ((path : Path) → Contains report.conflicts path ↔ IsConflict (tree_of found.left) (tree_of found.right) found.archive.marks path)
     × ((path : Path) → is_relevant (tree_of found.left) (tree_of found.right) path ≡ true → subtree (tree_of found.left) path ≡ subtree (tree_of found.right) path → subtree (stores_after before acks).archive.marks path ≡ mark (subtree (tree_of found.left) path))
+    × HasCounts found report
 
 pub record IsTold (before : Stores) (acks : List Ack) (report : Report) : Type 0 where
   pub earlier : List Kept
@@ -52,7 +53,8 @@ module _ (before : Stores) (whole : IsTree before.archive.marks) (shallow : HasD
     (runs : RunsWell before.archive old old.coordinator.running) (can : AllCanKeep before.archive (all_kept new)) where
   module _ (r : Running) (e : old.coordinator.running ≡ Some r) (from : Which) (session number : ℕ) (reply : Reply) (plan : List Planned) (heard : Contains old.sent (Answers from session number reply)) (expected : IsExpected (Some r) from session number)
       (made : HasPlan old.sent old.coordinator.archive (Some r) plan)
-      (g : CoordinatorGoes old (IsDueAfter (Some r) plan from reply) (λ running. GoesOnFrom (Some r) plan running × IsOver from number running) new) (report : Report) (ends : EndsTaken old new from plan reply r report) (complete : report.end ≡ Complete) where
+      (g : CoordinatorGoes old (IsDueAfter (Some r) plan from reply) (λ running. GoesOnFrom (Some r) plan running × IsOver from number running) new) (report : Report) (ends : EndsTaken old new from plan reply r report)
+      (counts : Counts plan (kept_in_session new.acknowledged) report) (complete : report.end ≡ Complete) where
     planned : IsUnderway before.archive (histories_of old) old.sent (all_kept old) r.session plan
     planned = plan_then before plans old new k stands runs r e from session number reply plan heard expected made
 
@@ -77,11 +79,11 @@ module _ (before : Stores) (whole : IsTree before.archive.marks) (shallow : HasD
           planned = more.planned;
         }
 
+    since : kept_in_session new.acknowledged ≡ after.records
+    since = ap (fold since_start []) after.kept_is ∙ since_last after.earlier after.records r.session (All-weaker (IsRecordDue plan (histories_of old)) IsNoSession (no_session plan old) after.records after.due)
+
     settled_then : All (λ planned. IsSettled after.records report planned.item) plan
-    settled_then =
-        let since : kept_in_session new.acknowledged ≡ after.records = ap (fold since_start []) after.kept_is
-        ∙ since_last after.earlier after.records r.session (All-weaker (IsRecordDue plan (histories_of old)) IsNoSession (no_session plan old) after.records after.due) in
-        subst (λ kept. All (λ planned. IsSettled kept report planned.item) plan) since (ends.settled (ends.complete complete).0)
+    settled_then = subst (λ kept. All (λ planned. IsSettled kept report planned.item) plan) since (ends.settled (ends.complete complete).0)
 
     history_then : (side : Which) → histories_of old side ≡ history_of (stores_after before new.acknowledged) side
     history_then Left = sym (ap (λ w. histories_of w Left) g.result) ∙ stands_then.left
@@ -115,6 +117,10 @@ module _ (before : Stores) (whole : IsTree before.archive.marks) (shallow : HasD
       has_conflicts = conflicts_reported before.archive whole shallow plans (histories_of old) old.coordinator.archive old.sent k.sound (all_kept new) can r.session plan after quiet_made report settled_then (ends.complete complete).1 (ends.conflicts (ends.complete complete).0)
           (history_of found) later split quiet
 
+      has_counts : HasCounts (record { left = found.left; right = found.right; archive = found_archive }) report
+      has_counts = counts_reported before.archive whole shallow plans (histories_of old) old.coordinator.archive old.sent k.sound (all_kept new) can r.session plan after quiet_made report settled_then (ends.complete complete).1 (ends.conflicts (ends.complete complete).0)
+          (history_of found) later split quiet (subst (λ kept. Counts plan kept report) since counts)
+
       has_marked : (path : Path) → is_relevant (tree_of found.left) (tree_of found.right) path ≡ true → subtree (tree_of found.left) path ≡ subtree (tree_of found.right) path → subtree (archive_of before.archive (all_kept new)).marks path ≡ mark (subtree (tree_of found.left) path)
       has_marked = alike_marked before.archive whole shallow plans (histories_of old) old.coordinator.archive old.sent k.sound (all_kept new) can r.session plan after quiet_made report settled_then (ends.complete complete).1 (ends.conflicts (ends.complete complete).0)
           (history_of found) later split quiet
@@ -126,6 +132,7 @@ module _ (before : Stores) (whole : IsTree before.archive.marks) (shallow : HasD
           λ apart. subst (λ a. Synchronizes (record { left = found.left; right = found.right; archive = a }) (stores_after before new.acknowledged)) (sym archive_is) (synchronizes found l h apart),
           subst (λ a. (path : Path) → Contains report.conflicts path ↔ IsConflict (tree_of found.left) (tree_of found.right) a.marks path) (sym archive_is) (has_conflicts found l h),
           has_marked found l h,
+          subst (λ a. HasCounts (record { left = found.left; right = found.right; archive = a }) report) (sym archive_is) (has_counts found l h),
         )
 
     tells : IsTold before new.acknowledged report
@@ -173,17 +180,17 @@ module _ (before : Stores) (whole : IsTree before.archive.marks) (shallow : HasD
   told_still : new.reports ≡ old.reports → AllTold before new
   told_still e report acks c complete = told_before report acks (subst (λ w. Contains w (report, acks)) e c) complete
 
-  told_ticks : Reports old new EndsUnanswered → AllTold before new
-  told_ticks (inl e) = told_still e
-  told_ticks (inr (running, report, runs, none, up, e, ends)) = told_now report e (λ complete. absurd (not_complete (sym complete ∙ ends.1)))
+  told_ticks : Reports old new (plan_of old.coordinator.running) EndsUnanswered → AllTold before new
+  told_ticks (inl (e, on)) = told_still e
+  told_ticks (inr (running, report, runs, none, up, e, ends, counts)) = told_now report e (λ complete. absurd (not_complete (sym complete ∙ ends.1)))
 
   told_takes : (from : Which) (session number : ℕ) (reply : Reply) (plan : List Planned) → Contains old.sent (Answers from session number reply) → IsExpected old.coordinator.running from session number → HasPlan old.sent old.coordinator.archive old.coordinator.running plan →
-      CoordinatorGoes old (IsDueAfter old.coordinator.running plan from reply) (λ running. GoesOnFrom old.coordinator.running plan running × IsOver from number running) new → Reports old new (EndsTaken old new from plan reply) → AllTold before new
-  told_takes from session number reply plan heard expected made g (inl e) = told_still e
-  told_takes from session number reply plan heard expected made g (inr (running, report, is, none, up, e, ends)) = told_now report e (λ complete.
+      CoordinatorGoes old (IsDueAfter old.coordinator.running plan from reply) (λ running. GoesOnFrom old.coordinator.running plan running × IsOver from number running) new → Reports old new plan (EndsTaken old new from plan reply) → AllTold before new
+  told_takes from session number reply plan heard expected made g (inl (e, on)) = told_still e
+  told_takes from session number reply plan heard expected made g (inr (running, report, is, none, up, e, ends, counts)) = told_now report e (λ complete.
       tells before whole shallow plans old new k stands stands_then runs can running is from session number reply plan heard
       (subst (λ o. IsExpected o from session number) is expected) (subst (λ o. HasPlan old.sent old.coordinator.archive o plan) is made)
-      (subst (λ o. CoordinatorGoes old (IsDueAfter o plan from reply) (λ running. GoesOnFrom o plan running × IsOver from number running) new) is g) report ends complete)
+      (subst (λ o. CoordinatorGoes old (IsDueAfter o plan from reply) (λ running. GoesOnFrom o plan running × IsOver from number running) new) is g) report ends counts complete)
 
   pub all_told : Course old new → AllTold before new
   all_told (beside acks added more runs_on reports) = told_still reports

@@ -16,11 +16,8 @@ pub data Ack : Type 0 where
 
 abbrev pub event_at : Which → Ack → Option Event
 event_at Left (Happened Left event) = Some event
-event_at Left (Happened Right event) = None
 event_at Right (Happened Right event) = Some event
-event_at Right (Happened Left event) = None
-event_at Left (Kept_by kept) = None
-event_at Right (Kept_by kept) = None
+event_at _ _ = None
 
 abbrev pub kept_in : Ack → Option Kept
 kept_in (Happened side event) = None

@@ -7,11 +7,12 @@ use Rattle.syn_model.specs.History.{History, IsHistory, tree_of, tree_at, last_s
 use Rattle.syn_model.specs.Mark.{mark, AreApart}
 use Rattle.syn_model.specs.Archive.{Archive, new_archive, Session, BothHeld}
 use Rattle.syn_model.specs.Dirty.{Paths, dirty}
-use Rattle.syn_model.specs.Plan.{IsConflict}
+use Rattle.std.specs.List.{count_by}
+use Rattle.syn_model.specs.Plan.{plan, scan_of, IsConflict}
 use Rattle.syn_model.specs.Reconcile.{IsSynchronization, IsReconciledArchive}
 use Rattle.syn_headline.specs.Network.{Which, Left, Right, other, AsksNothingTwice}
 use Rattle.syn_headline.specs.Acknowledged.{Ack, Happened, Kept_by, Stores, history_of, stores_after, Grown, ArchiveGrown, IsLegal}
-use Rattle.syn_headline.specs.Report.{Report, Complete}
+use Rattle.syn_headline.specs.Report.{Report, Complete, is_carrying, is_marking}
 use Rattle.syn_headline.specs.World.{World, Step, Runs, Up, Waits, side_of}
 
 abbrev pub stores_of : World → Stores
@@ -59,8 +60,7 @@ EachEntryWasHeld before world =
 
 abbrev pub IsNoEdit : Event → Type 0
 IsNoEdit (Edited user edit) = ⊥
-IsNoEdit (Began session) = Unit {0}
-IsNoEdit (Replaced token path since new) = Unit {0}
+IsNoEdit _ = Unit {0}
 
 -- the session began after these events, and no user's event came up to the end
 pub record BeganAfter (session : ℕ) (found : History) (ended : History) : Type 0 where
@@ -103,10 +103,19 @@ abbrev pub ReportsItsConflicts : Stores → World → Type 0
 ReportsItsConflicts before world = (report : Report) (found left : Stores) → IsQuietSession before world report found left → (path : Path) →
     Contains report.conflicts path ↔ IsConflict (tree_of found.left) (tree_of found.right) found.archive.marks path
 
+-- as many as the plan of what it found has to carry, and to mark
+abbrev pub HasCounts : Stores → Report → Type 0
+HasCounts found report =
+    let items = plan (scan_of (tree_of found.left)) (scan_of (tree_of found.right)) found.archive.marks in
+    (report.done ≡ count_by is_carrying items) × (report.marked ≡ count_by is_marking items)
+
+-- Its counts are those
+abbrev pub CountsItsItems : Stores → World → Type 0
+CountsItsItems before world = (report : Report) (found left : Stores) → IsQuietSession before world report found left → HasCounts found report
+
 abbrev pub IsOtherToken : Token → Event → Type 0
-IsOtherToken token (Edited user edit) = Unit {0}
-IsOtherToken token (Began session) = Unit {0}
 IsOtherToken token (Replaced used path since new) = is_same_token used token ≡ false
+IsOtherToken token _ = Unit {0}
 
 -- Each token has one replacement at most
 abbrev pub EachTokenOnce : Stores → World → Type 0

@@ -6,7 +6,7 @@ use Rattle.syn_model.specs.Limits.{children}
 use Rattle.syn_model.specs.Dirty.{Scan}
 use Rattle.syn_headline.specs.Side.{Begin, ListAt, Fetch, Begun, Listed, NotDir, Piece}
 use Rattle.syn_headline.specs.Network.{Which, Left, Right, other, Sent, WasAnswered}
-use Rattle.syn_model.specs.Decision.{Item, path_of, ToLeft, ToRight, MarkSame, MarkDir, Conflict, is_unstable}
+use Rattle.syn_model.specs.Decision.{Item, path_of, ToLeft, ToRight, is_unstable}
 use Rattle.syn_model.specs.Plan.{plan as items_of}
 
 -- each directory of the scan was listed so at its position, after the directory above it, or is unstable: it was answered as none
@@ -59,11 +59,7 @@ pub record IsPlanOf (sent : Sent) (session : ℕ) (archive : Tree) (plan : List 
 abbrev pub WritesTo : Item → Which → Path → Type 0
 WritesTo (ToLeft at) Left path = at ≡ path
 WritesTo (ToRight at) Right path = at ≡ path
-WritesTo (ToLeft at) Right path = ⊥
-WritesTo (ToRight at) Left path = ⊥
-WritesTo (MarkSame at) side path = ⊥
-WritesTo (MarkDir at) side path = ⊥
-WritesTo (Conflict at) side path = ⊥
+WritesTo _ _ _ = ⊥
 
 -- a piece of the item's source was answered so, for what is to be written to a side
 abbrev pub IsPiece : Sent → Which → ℕ → Planned → ℕ → ℕ → List ℕ → Type 0

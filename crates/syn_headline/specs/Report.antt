@@ -1,11 +1,13 @@
 -- What a session reports as it ends.
-use Rattle.std.specs.Prelude.{ℕ, ◌≡◌, ◌⊎◌, List, [], ◌∷◌, ◌++◌, filter_map, fold, Option, Some, None, Contains, IfSome, All, Any}
-use Rattle.syn_model.specs.Path.{Path}
+use Rattle.std.specs.List.{list_any, count_by}
+use Rattle.std.specs.Ordering.{eq_by_cmp}
+use Rattle.std.specs.Prelude.{ℕ, ◌≡◌, ◌⊎◌, Bool, true, false, ◌&&◌, List, [], ◌∷◌, ◌++◌, filter_map, fold, Option, Some, None, Contains, IfSome, All, Any}
+use Rattle.syn_model.specs.Path.{Path, path_cmp}
 use Rattle.syn_model.specs.Refusal.{Refusal, JournalFull, Device, Halted, Memory, TooLarge, BadMessage}
 use Rattle.syn_model.specs.Tree.{Tree}
 use Rattle.syn_model.specs.Archive.{Kept, Session, Recorded, RecordedDir}
-use Rattle.syn_model.specs.Decision.{Item, ToLeft, ToRight, MarkSame, MarkDir, Conflict}
-use Rattle.syn_headline.specs.Side.{Request, Begin, ListAt, Fetch, Stage, Replace, Reply, Refused}
+use Rattle.syn_model.specs.Decision.{Item, ToLeft, ToRight, MarkSame, MarkDir, Conflict, path_of}
+use Rattle.syn_headline.specs.Side.{Request, Begin, ListAt, Reply, Refused}
 use Rattle.syn_headline.specs.Network.{Sent}
 use Rattle.syn_headline.specs.Acknowledged.{Ack, kept_in}
 use Rattle.syn_headline.specs.Planning.{Planned, IsPlanOf}
@@ -27,9 +29,7 @@ pub record Report : Type 0 where
 abbrev pub IsOpening : Request → Type 0
 IsOpening (Begin pair) = Unit {0}
 IsOpening (ListAt path) = Unit {0}
-IsOpening (Fetch path since offset) = ⊥
-IsOpening (Stage item offset bytes) = ⊥
-IsOpening (Replace item path since size) = ⊥
+IsOpening _ = ⊥
 
 -- why a session may end early as an answer is taken
 pub data MayEnd (asked : Option Request) (reply : Reply) : Refusal → Type 0 where
@@ -50,25 +50,41 @@ since_start kept (RecordedDir path) = kept ++ RecordedDir path ∷ []
 abbrev pub kept_in_session : List Ack → List Kept
 kept_in_session acks = fold since_start [] (filter_map kept_in acks)
 
-abbrev pub IsRecordOf : Path → Kept → Type 0
-IsRecordOf path (Recorded at marks) = at ≡ path
-IsRecordOf path (RecordedDir at) = ⊥
-IsRecordOf path (Session session) = ⊥
+-- the record is that of the item
+abbrev pub is_record_of : Item → Kept → Bool
+is_record_of (ToLeft path) (Recorded at marks) = eq_by_cmp path_cmp at path
+is_record_of (ToRight path) (Recorded at marks) = eq_by_cmp path_cmp at path
+is_record_of (MarkSame path) (Recorded at marks) = eq_by_cmp path_cmp at path
+is_record_of (MarkDir path) (RecordedDir at) = eq_by_cmp path_cmp at path
+is_record_of _ _ = false
+
+abbrev pub is_kept : List Kept → Item → Bool
+is_kept kept item = list_any (is_record_of item) kept
 
 -- the item is recorded, a conflict or refused
 abbrev pub IsSettled : List Kept → Report → Item → Type 0
-IsSettled kept report (MarkDir path) = Contains kept (RecordedDir path) ⊎ Any (λ refused. refused.1 ≡ path) report.refused
 IsSettled kept report (Conflict path) = Contains report.conflicts path
-IsSettled kept report (ToLeft path) = Any (IsRecordOf path) kept ⊎ Any (λ refused. refused.1 ≡ path) report.refused
-IsSettled kept report (ToRight path) = Any (IsRecordOf path) kept ⊎ Any (λ refused. refused.1 ≡ path) report.refused
-IsSettled kept report (MarkSame path) = Any (IsRecordOf path) kept ⊎ Any (λ refused. refused.1 ≡ path) report.refused
+IsSettled kept report item = (is_kept kept item ≡ true) ⊎ Any (λ refused. refused.1 ≡ path_of item) report.refused
+
+-- the item carries, or it only marks
+abbrev pub is_carrying : Item → Bool
+is_carrying (ToLeft path) = true
+is_carrying (ToRight path) = true
+is_carrying _ = false
+
+abbrev pub is_marking : Item → Bool
+is_marking (MarkSame path) = true
+is_marking (MarkDir path) = true
+is_marking _ = false
+
+-- of the items that carry, and of those that only mark, how many are recorded
+pub record Counts (plan : List Planned) (kept : List Kept) (report : Report) : Type 0 where
+  pub done : report.done ≡ count_by (λ planned. is_carrying planned.item && is_kept kept planned.item) plan
+  pub marked : report.marked ≡ count_by (λ planned. is_marking planned.item && is_kept kept planned.item) plan
 
 abbrev pub conflict_at : Item → Option Path
 conflict_at (Conflict path) = Some path
-conflict_at (ToLeft path) = None
-conflict_at (ToRight path) = None
-conflict_at (MarkSame path) = None
-conflict_at (MarkDir path) = None
+conflict_at _ = None
 
 -- A session that ends as an answer is taken has a cause, or it has settled each item of its plan, which was made even where it has none
 pub record EndsAs (sent : Sent) (session : ℕ) (archive : Tree) (plan : List Planned) (kept : List Kept) (asked : Option Request) (reply : Reply) (report : Report) : Type 0 where

@@ -11,7 +11,7 @@ use Rattle.syn_headline.specs.Network.{Which, Left, Right, other, Message, Asks,
 use Rattle.syn_headline.specs.Acknowledged.{Ack, Happened, Kept_by}
 use Rattle.syn_headline.specs.Planning.{Planned, seen_on, HasBegun, IsPlanOf, WritesTo, IsFetched, IsTotal}
 use Rattle.syn_model.specs.Decision.{MarkSame, MarkDir}
-use Rattle.syn_headline.specs.Report.{Report, Incomplete, EndsAs, kept_in_session}
+use Rattle.syn_headline.specs.Report.{Report, Incomplete, Counts, EndsAs, kept_in_session}
 
 pub data Machine : Type 0 where
   At : (side : Which) → Machine
@@ -115,10 +115,7 @@ pub data Opens (machine : SideMachine) : SideMachine → List Event → Type 0 w
 -- a halted side still stages, and refuses all else
 abbrev pub serve_halted : Side → ℕ → Request → Served
 serve_halted side session (Stage item offset bytes) = stage side side.staging (token_of session item) offset bytes
-serve_halted side session (Begin pair) = answer side (Refused why.Halted)
-serve_halted side session (ListAt path) = answer side (Refused why.Halted)
-serve_halted side session (Fetch path since offset) = answer side (Refused why.Halted)
-serve_halted side session (Replace item path since size) = answer side (Refused why.Halted)
+serve_halted side session _ = answer side (Refused why.Halted)
 
 abbrev pub ServesAs : Status → ℕ → (Event → Bool) → Side → ℕ → Request → Served → Type 0
 ServesAs Up pair has_room side session request served = Serves pair has_room side session request served
@@ -203,8 +200,7 @@ AllOfSession sent (Some running) messages = All (IsOfSession sent running) messa
 
 -- the plan stays, or there was none and it is made of the scans and the archive as they are
 abbrev pub HasPlan : Sent → Archive → Option Running → List Planned → Type 0
-HasPlan sent archive None plan = Unit {0}
-HasPlan sent archive (Some running) plan = (plan ≡ running.plan) ⊎ ((running.plan ≡ []) × IsPlanOf sent running.session archive.marks plan)
+HasPlan sent archive running plan = IfSome running (λ running. (plan ≡ running.plan) ⊎ ((running.plan ≡ []) × IsPlanOf sent running.session archive.marks plan))
 
 -- a session ends, or goes on with its plan
 pub data GoesOnAs (old : Running) (plan : List Planned) : Option Running → Type 0 where
@@ -221,8 +217,7 @@ plan_of (Some running) = running.plan
 
 -- a session starts with the next number
 abbrev pub StartsFrom : Archive → Option Running → Type 0
-StartsFrom archive None = Unit {0}
-StartsFrom archive (Some new) = (new.session ≡ archive.last_session + 1) × (new.plan ≡ [])
+StartsFrom archive running = IfSome running (λ new. (new.session ≡ archive.last_session + 1) × (new.plan ≡ []))
 
 -- a request that waits was sent
 abbrev pub WasSent : Sent → Running → Type 0
@@ -234,8 +229,7 @@ Waits running = IsSome running.left ⊎ IsSome running.right
 
 -- a running session has the number that the archive kept last, waits for an answer, and what waits was sent
 abbrev pub RunsOver : Sent → Archive → Option Running → Type 0
-RunsOver sent archive None = Unit {0}
-RunsOver sent archive (Some running) = (running.session ≡ archive.last_session) × WasSent sent running × Waits running
+RunsOver sent archive running = IfSome running (λ running. (running.session ≡ archive.last_session) × WasSent sent running × Waits running)
 
 -- each in turn may be kept
 abbrev pub AllCanKeep : Archive → List Kept → Type 0
@@ -275,23 +269,21 @@ pub record CoordinatorGoes (old : World) (IsDue_now : Kept → Type 0) (RunsOn :
 
 -- the answer has the session and number of a request that is outstanding
 abbrev pub IsExpected : Option Running → Which → ℕ → ℕ → Type 0
-IsExpected None from session number = ⊥
-IsExpected (Some running) from session number = (session ≡ running.session) × IsSomeAnd (outstanding running from) (λ sent. sent.number ≡ number)
+IsExpected running from session number = IsSomeAnd running (λ running. (session ≡ running.session) × IsSomeAnd (outstanding running from) (λ sent. sent.number ≡ number))
 
 abbrev pub IsDueAfter : Option Running → List Planned → Which → Reply → Kept → Type 0
-IsDueAfter None plan from reply kept = ⊥
-IsDueAfter (Some running) plan from reply kept = IsDue running plan from reply kept
+IsDueAfter running plan from reply kept = IsSomeAnd running (λ running. IsDue running plan from reply kept)
 
 -- what was answered waits no more
 abbrev pub IsOver : Which → ℕ → Option Running → Type 0
 IsOver from number running = IfSome running (λ running. IfSome (outstanding running from) (λ waiting. waiting.number ≢ number))
 
--- the reports stay, or the session that ran is over and reports how it ended
-abbrev pub Reports : World → World → (Running → Report → Type 0) → Type 0
-Reports old new Ends =
-    (new.reports ≡ old.reports)
+-- the reports stay while the session goes on, or where the machine stops; or it is over and reports how it ended and what it recorded
+abbrev pub Reports : World → World → List Planned → (Running → Report → Type 0) → Type 0
+Reports old new plan Ends =
+    ((new.reports ≡ old.reports) × (IsSome new.coordinator.running ⊎ (new.coordinator.status ≡ Down)))
     ⊎ ((running : Running) × (report : Report) × (old.coordinator.running ≡ Some running) × (new.coordinator.running ≡ None) × (new.coordinator.status ≢ Down)
-    × (new.reports ≡ old.reports ++ (report, length new.acknowledged) ∷ []) × Ends running report)
+    × (new.reports ≡ old.reports ++ (report, length new.acknowledged) ∷ []) × Ends running report × Counts plan (kept_in_session new.acknowledged) report)
 
 abbrev pub EndsTaken : World → World → Which → List Planned → Reply → Running → Report → Type 0
 EndsTaken old new from plan reply running report =
@@ -305,7 +297,7 @@ EndsUnanswered running report = (report.session ≡ running.session) × (report.
 pub data TakesAnswer (old : World) (from : Which) (session number : ℕ) (reply : Reply) (new : World) : Type 0 where
   taken : (plan : List Planned) → IsExpected old.coordinator.running from session number → HasPlan old.sent old.coordinator.archive old.coordinator.running plan →
       CoordinatorGoes old (IsDueAfter old.coordinator.running plan from reply) (λ running. GoesOnFrom old.coordinator.running plan running × IsOver from number running) new →
-      Reports old new (EndsTaken old new from plan reply) → TakesAnswer old from session number reply new
+      Reports old new plan (EndsTaken old new from plan reply) → TakesAnswer old from session number reply new
   ignored : (IsExpected old.coordinator.running from session number → ⊥) → new ≡ old → TakesAnswer old from session number reply new
   coordinator_down : old.coordinator.status ≡ Down → new ≡ old → TakesAnswer old from session number reply new
 
@@ -359,7 +351,7 @@ Steps old (Edits side user edit) new = SideGoes old side (DoesEdit (side_of old 
 Steps old Start new = (new ≡ old) ⊎ ((old.coordinator.running ≡ None) × CoordinatorGoes old (IsNext old.coordinator.archive) (StartsFrom old.coordinator.archive) new × (new.reports ≡ old.reports))
 Steps old (Deliver message) new = Delivers old (slice_get old.sent message) new
 Steps old Tick new =
-    (new ≡ old) ⊎ (CoordinatorGoes old IsNothing (GoesOnFrom old.coordinator.running (plan_of old.coordinator.running)) new × Reports old new EndsUnanswered)
+    (new ≡ old) ⊎ (CoordinatorGoes old IsNothing (GoesOnFrom old.coordinator.running (plan_of old.coordinator.running)) new × Reports old new (plan_of old.coordinator.running) EndsUnanswered)
 Steps old (Checkpoint machine) new = Checkpoints old machine new
 Steps old (Fail machine call) new = new ≡ old
 Steps old (Stop machine call) new = (new ≡ old) ⊎ (new ≡ cut_off old machine)

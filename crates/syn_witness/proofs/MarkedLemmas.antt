@@ -204,17 +204,17 @@ plans = record {
 
 -- The steps of the coordinator
 takes_left_begun : Steps both_begun (Deliver 16) right_awaited
-takes_left_begun = takes 2 both_begun Left 0 (Begun 3) [] next_archive (Some right_begins) [] [] [] refl (refl, refl) (inl refl) (inl refl) (All-nil (IsDue both_begin [] Left (Begun 3))) tt refl
+takes_left_begun = takes 2 both_begun Left 0 (Begun 3) [] next_archive (Some right_begins) [] [] [] refl (refl, refl) (inl refl) (inl (refl, inl refl)) (All-nil (IsDue both_begin [] Left (Begun 3))) tt refl
     (goes_on right_begins refl refl) tt (refl, both_sent (take 18 messages) right_begins tt (15, omega arith, refl), inr refl) (tells 18) (once 18)
     (All-nil (IsOfSession (take 18 messages) right_begins))
 
 takes_right_begun : Steps right_awaited (Deliver 17) listing
-takes_right_begun = takes 2 right_awaited Right 0 (Begun 3) [] next_archive (Some both_list) (drop 18 (take 20 messages)) [] [] refl (refl, refl) (inl refl) (inl refl) (All-nil (IsDue right_begins [] Right (Begun 3))) tt refl
+takes_right_begun = takes 2 right_awaited Right 0 (Begun 3) [] next_archive (Some both_list) (drop 18 (take 20 messages)) [] [] refl (refl, refl) (inl refl) (inl (refl, inl refl)) (All-nil (IsDue right_begins [] Right (Begun 3))) tt refl
     (goes_on both_list refl refl) (λ e. omega (arith, e)) (refl, both_sent (take 20 messages) both_list (18, omega arith, refl) (19, omega arith, refl), inl refl) (tells 20) (once 20)
     (All-from_recursion (IsOfSession (take 18 messages) both_list) (drop 18 (take 20 messages)) ((refl, (omega arith, root_lawful), have_begun Left), ((refl, (omega arith, root_lawful), have_begun Right), tt)))
 
 takes_left_listing : Steps both_listed (Deliver 20) right_list_awaited
-takes_left_listing = takes 2 both_listed Left 1 (Listed 3 (children left_scan.marks root)) [] next_archive (Some right_lists) [] [] [] refl (refl, refl) (inl refl) (inl refl)
+takes_left_listing = takes 2 both_listed Left 1 (Listed 3 (children left_scan.marks root)) [] next_archive (Some right_lists) [] [] [] refl (refl, refl) (inl refl) (inl (refl, inl refl))
     (All-nil (IsDue both_list [] Left (Listed 3 (children left_scan.marks root)))) tt refl
     (goes_on right_lists refl refl) tt (refl, both_sent (take 22 messages) right_lists tt (19, omega arith, refl), inr refl) (tells 22) (once 22)
     (All-nil (IsOfSession (take 22 messages) right_lists))
@@ -236,12 +236,12 @@ takes_right_listing_ends = record {
   cause = tt;
   complete = λ _. (refl, refl);
   made = λ _ nothing. cc;
-  settled = λ _. All-from_recursion (λ planned. IsSettled (Recorded a_path (mark one) ∷ []) (marked_later) planned.item) plan (inl (0, Recorded a_path (mark one), omega arith, refl, refl), tt);
+  settled = λ _. All-from_recursion (λ planned. IsSettled (Recorded a_path (mark one) ∷ []) (marked_later) planned.item) plan (inl refl, tt);
   conflicts = λ _. refl;
 }
 
 takes_right_listing : Steps right_list_awaited (Deliver 21) marked
-takes_right_listing = takes 2 right_list_awaited Right 1 (Listed 3 (children right_scan.marks root)) plan marked_archive None [] (Recorded a_path (mark one) ∷ []) ((marked_later, 9) ∷ []) refl (refl, refl) (inr (refl, plans)) (inr (right_lists, marked_later, refl, refl, up_not_down, refl, takes_right_listing_ends))
+takes_right_listing = takes 2 right_list_awaited Right 1 (Listed 3 (children right_scan.marks root)) plan marked_archive None [] (Recorded a_path (mark one) ∷ []) ((marked_later, 9) ∷ []) refl (refl, refl) (inr (refl, plans)) (inr (right_lists, marked_later, refl, refl, up_not_down, refl, takes_right_listing_ends, record { done = refl; marked = refl }))
     (All-cons (IsDue right_lists plan Right (Listed 3 (children right_scan.marks root))) (Recorded a_path (mark one)) [] right_listing_due (All-nil (IsDue right_lists plan Right (Listed 3 (children right_scan.marks root)))))
     (can_record, tt) refl ended tt tt (tells 22) (once 22) refl
 

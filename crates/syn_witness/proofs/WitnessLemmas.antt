@@ -120,7 +120,7 @@ resends resent = inr (
       refl (All-nil IsNothing) tt refl
       (goes_on (waiting_for (suc resent)) refl refl) (refl, begin_waits (suc resent), inl refl) (begins_tell (suc (suc resent))) (begins_once (suc (suc resent)))
       (begins_lawful (waiting_for (suc resent)) (begins (suc resent)) refl),
-  inl refl,
+  inl (refl, inl refl),
 )
 
 abbrev ended_world : ℕ → World
@@ -136,7 +136,7 @@ gives_up resent =
     (inr (
       goes (waiting resent) IsNothing (GoesOnAs (waiting_for resent) []) (record { marks = empty_directory; last_session = 1 }) None [] [] ((unanswered, 1) ∷ [])
           refl (All-nil IsNothing) tt refl ended tt (subst NumbersTell (sym same) (begins_tell (suc resent))) (subst AsksNothingTwice (sym same) (begins_once (suc resent))) refl,
-      inr (waiting_for resent, unanswered, refl, refl, up_not_down, refl, (refl, refl, inl refl)),
+      inr (waiting_for resent, unanswered, refl, refl, up_not_down, refl, (refl, refl, inl refl), record { done = refl; marked = refl }),
     ))
 
 one_later : (m n : ℕ) → suc m + n ≡ m + suc n

@@ -136,7 +136,7 @@ world_of messages acks left right archive running said acknowledged = record {
 -- the coordinator takes an answer that it waits for
 pub takes : (session : ℕ) (old : World) (from : Which) (number : ℕ) (reply : Reply) (plan : List Planned) (archive : Archive) (next : Option Running) (messages : List Message) (kept : List Kept) (reports : List (Report × ℕ)) →
     old.coordinator.status ≡ Up → IsExpected old.coordinator.running from session number → HasPlan old.sent old.coordinator.archive old.coordinator.running plan →
-    Reports old (after_call old archive next messages kept reports) (EndsTaken old (after_call old archive next messages kept reports) from plan reply) →
+    Reports old (after_call old archive next messages kept reports) plan (EndsTaken old (after_call old archive next messages kept reports) from plan reply) →
     All (IsDueAfter old.coordinator.running plan from reply) kept → AllCanKeep old.coordinator.archive kept → archive ≡ archive_of old.coordinator.archive kept →
     GoesOnFrom old.coordinator.running plan next → IsOver from number next → RunsOver (old.sent ++ messages) archive next →
     NumbersTell (old.sent ++ messages) → AsksNothingTwice (old.sent ++ messages) → AllOfSession old.sent next messages →
