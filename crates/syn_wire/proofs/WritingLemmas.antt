@@ -48,10 +48,10 @@ module _ (t : Tree) (ds : Pairs) (all : rooted ds ≡ entries t) (fits : fits_pa
       (parts.0, few (length (children t x.0)) parts.1)
 
 -- one pair more
-pub pairs_more : (t : Tree) (ds : Pairs) (i : ℕ) (x : Pair) (count : ℕ) (base old new : Bytes) → i < length ds → x ≡ slice_index_or ds i x → count ≡ length (children t x.0) →
+pub pairs_more : (t : Tree) (ds : Pairs) (i : ℕ) (x : Pair) (count : ℕ) (base old new : Bytes) → i < length ds → x ≡ slice_index_or ds i x → standing_spelling count x.1 ≡ standing_spelling (length (children t x.0)) x.1 →
     old ≡ base ++ flat_map (pair_spelling t) (take i ds) → new ≡ old ++ (last_name_spelling x.0 ++ standing_spelling count x.1) → new ≡ base ++ flat_map (pair_spelling t) (take (i + 1) ds)
 pairs_more t ds i x count base old new l is counted so_far added =
-    added ∙ (ap₂ (λ b n. b ++ (last_name_spelling x.0 ++ standing_spelling n x.1)) so_far counted
+    added ∙ (ap₂ (λ b s. b ++ (last_name_spelling x.0 ++ s)) so_far counted
     ∙ (append_assoc base (flat_map (pair_spelling t) (take i ds)) (pair_spelling t x) ∙ ap (λ b. base ++ b) (sym more)))
   where
     more : flat_map (pair_spelling t) (take (i + 1) ds) ≡ flat_map (pair_spelling t) (take i ds) ++ pair_spelling t x

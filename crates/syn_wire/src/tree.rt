@@ -1,6 +1,6 @@
 //! Trees, and what may stand at a path of one.
-ghost use Rattle.std.specs.Prelude.{◌≡◌, ◌++◌, ◌<◌, ◌^◌, true, IfOk, OnOk, option_map};
-ghost use Rattle.syn_model.specs.Limits.{fits_content, fits_part};
+ghost use Rattle.std.specs.Prelude.{◌≡◌, ◌++◌, ◌<◌, ◌^◌, ◌≤◌, length, true, IfOk, OnOk, option_map};
+ghost use Rattle.syn_model.specs.Limits.{children, fits_content, fits_part};
 ghost use Rattle.syn_model.specs.Spelling.{spelling};
 ghost use Rattle.syn_model.specs.Tree.{Directory};
 ghost use Rattle.syn_tree.specs.Nodes.{part_of, node_tree};
@@ -24,7 +24,7 @@ pub(crate) const DIRECTORY: u8 = 2;
 pub fn encode_tree(alloc: Global, tree: &Tree) -> Result<Vec<u8>, WireError>
     ensures { IfOk result (λ bytes. bytes.items ≡ spelling tree.now) }
 {
-    let mut out = Vec::new(alloc);
+    let mut out = Vec::with_capacity(alloc, tree.spelling_length())?;
     write_tree(&mut out, tree)?;
     Ok(out)
 }
@@ -49,7 +49,7 @@ pub fn write_tree(out: &mut Vec<u8>, tree: &Tree) -> Result<(), WireError>
     let list = tree.entries();
     write_count(out, tree.child_count(&root))?;
     for entry in list {
-        write_entry(out, entry, tree.child_count(entry.path()))?;
+        write_entry(out, entry, count_in_tree(tree, entry))?;
     }
     Ok(())
 }
@@ -91,9 +91,31 @@ fn write_directory(out: &mut Vec<u8>, entries: &Entries) -> Result<(), WireError
     let list = entries.as_slice();
     write_count(out, entries.child_count(&root))?;
     for entry in list {
-        write_entry(out, entry, entries.child_count(entry.path()))?;
+        write_entry(out, entry, count_in_entries(entries, entry))?;
     }
     Ok(())
+}
+
+// How many names are in the directory at the entry's path. A file is spelled without a count.
+fn count_in_tree(tree: &Tree, entry: &Entry) -> usize
+    ensures spelled { standing_spelling result entry.now.1 ≡ standing_spelling (length (children tree.now entry.now.0)) entry.now.1 }
+    ensures few { result ≤ length (children tree.now entry.now.0) }
+{
+    match entry.content() {
+        Found::File(_) => 0,
+        Found::Dir => tree.child_count(entry.path()),
+    }
+}
+
+// The same below a directory.
+fn count_in_entries(entries: &Entries, entry: &Entry) -> usize
+    ensures spelled { standing_spelling result entry.now.1 ≡ standing_spelling (length (children entries.now entry.now.0)) entry.now.1 }
+    ensures few { result ≤ length (children entries.now entry.now.0) }
+{
+    match entry.content() {
+        Found::File(_) => 0,
+        Found::Dir => entries.child_count(entry.path()),
+    }
 }
 
 // Adds the last name of an entry and what stands there, without what is below it.

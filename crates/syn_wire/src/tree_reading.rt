@@ -11,11 +11,11 @@ ghost use Rattle.syn_wire.specs.Parts.{IsChildOf, ReadsPart, ReadsParts, PartIsR
 use crate::bytes::read_file;
 use crate::error::WireError;
 use crate::number::read_u16;
+use crate::path::read_name;
 use crate::spelling_laws;
 use crate::tree::{ABSENT, DIRECTORY, FILE};
 use std::alloc::Global;
-use std::str;
-use syn_path::{Name, Path, PathError};
+use syn_path::{Path, PathError};
 use syn_tree::{Content, Entries, Entry, Node, Tree, TreeError};
 
 // The most bytes of a file.
@@ -221,27 +221,5 @@ fn copied(alloc: Global, path: &Path) -> Result<Path, WireError>
     match path.copy(alloc) {
         Ok(copy) => Ok(copy),
         Err(_) => Err(WireError::Memory),
-    }
-}
-
-// A name with its length.
-fn read_name(alloc: Global, bytes: &[u8]) -> Result<Option<(Name, &[u8])>, WireError>
-    ensures { IfOk result (λ read. IsReading IsName name_spelling bytes.now (option_map (λ found. (found.0, found.1.now)) read)) }
-{
-    let [length, after @ ..] = bytes else {
-        return Ok(None);
-    };
-    let length = *length as usize;
-    if after.len() < length {
-        return Ok(None);
-    }
-    let (name, rest) = after.split_at(length);
-    let Ok(text) = str::from_utf8(name) else {
-        return Ok(None);
-    };
-    match Name::parse(alloc, text) {
-        Ok(name) => Ok(Some((name, rest))),
-        Err(PathError::BadPath) => Ok(None),
-        Err(PathError::Memory) => Err(WireError::Memory),
     }
 }

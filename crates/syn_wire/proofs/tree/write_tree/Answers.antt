@@ -9,8 +9,8 @@ loop-entry-init c = sym (append-nil c.write_count.new.out.items)
 pub loop-entry-preserved : goal.loop-entry-preserved
 loop-entry-preserved c =
     let t = c.args.tree.now in
-    pairs_more t c.entries-list.result.now c.loop-entry.entry-index c.entry-item.result c.child_count-in-loop-entry.result c.write_count.new.out.items c.loop-entry.out.items c.write_entry.new.out.items
-    c.loop-entry-test.true c.entry-item.is (c.child_count-in-loop-entry.ensures ∙ ap (λ p. length (children t p)) c.path.ensures) c.loop-entry.invariant c.in_ok-write_entry.ensures
+    pairs_more t c.entries-list.result.now c.loop-entry.entry-index c.entry-item.result c.count_in_tree.result c.write_count.new.out.items c.loop-entry.out.items c.write_entry.new.out.items
+    c.loop-entry-test.true c.entry-item.is c.count_in_tree.ensures.spelled c.loop-entry.invariant c.in_ok-write_entry.ensures
 
 pub returns : goal.returns
 returns c =
