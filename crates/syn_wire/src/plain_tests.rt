@@ -103,14 +103,15 @@ fn next<'a>(pairs: &'a [Pair], last: &str) -> Option<&'a Pair> {
 
 fn write_standing(out: &mut Vec<u8>, pairs: &[Pair], pair: &Pair) -> Result<(), Fail> {
     let name = last_name(pair.path.as_str());
-    out.push(name.len() as u8)?;
+    out.push(u8::try_from(name.len()).unwrap_or(u8::MAX))?;
     out.extend_from_slice(name.as_bytes())?;
     if pair.content.as_str() == "/" {
         out.push(2)?;
         out.extend_from_slice(&count(pairs, pair.path.as_str()).to_be_bytes())?;
     } else {
         out.push(1)?;
-        out.extend_from_slice(&(pair.content.len() as u32).to_be_bytes())?;
+        let length = u32::try_from(pair.content.len()).unwrap_or(u32::MAX);
+        out.extend_from_slice(&length.to_be_bytes())?;
         out.extend_from_slice(pair.content.as_bytes())?;
     }
     Ok(())

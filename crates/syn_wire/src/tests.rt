@@ -7,9 +7,9 @@ use crate::{
 };
 use std::alloc::Global;
 use std::test::Fail;
-use syn_history::{Event, Token};
+use syn_history::Event;
 use syn_path::Path;
-use syn_tree::{Edit, Node};
+use syn_tree::Edit;
 
 #[test]
 fn a_path_is_a_count_and_names_with_their_lengths(rt: HostRuntime) -> Result<(), Fail> {
@@ -69,35 +69,12 @@ fn is_same_edit(one: &Edit, other: &Edit) -> bool {
     }
 }
 
-// Both are no node, or both are files with the same bytes.
-fn is_same_file(one: &Option<Node>, other: &Option<Node>) -> bool {
-    match (one, other) {
-        (None, None) => true,
-        (Some(Node::File(bytes)), Some(Node::File(b))) => bytes == b,
-        _ => false,
-    }
-}
-
 fn is_same(one: &Event, other: &Event) -> bool {
     match (one, other) {
         (Event::Edited { user, edit }, Event::Edited { user: u, edit: e }) => {
             user == u && is_same_edit(edit, e)
         }
         (Event::Began { session }, Event::Began { session: n }) => session == n,
-        (
-            Event::Replaced {
-                token,
-                path,
-                since,
-                new,
-            },
-            Event::Replaced {
-                token: t,
-                path: p,
-                since: s,
-                new: n,
-            },
-        ) => token.is_same(t) && path == p && since == s && is_same_file(new, n),
         _ => false,
     }
 }
@@ -118,39 +95,63 @@ fn is_spelled(alloc: Global, event: &Event, wanted: &[u8]) -> Result<bool, Fail>
 }
 
 #[test]
-fn events_are_kinds_with_what_they_have(rt: HostRuntime) -> Result<(), Fail> {
+fn a_put_is_a_user_a_path_and_bytes(rt: HostRuntime) -> Result<(), Fail> {
     let alloc = rt.alloc();
-    let put = Event::Edited {
-        user: 1,
-        edit: Edit::Put(Path::parse(alloc, "a")?, vec![in alloc; 104, 105]?),
-    };
+    let edit = Edit::Put(Path::parse(alloc, "a")?, vec![in alloc; 104, 105]?);
     let spelling: &[u8] = &[1, 0, 0, 0, 1, 1, 1, 97, 0, 0, 0, 2, 104, 105];
+    let put = Event::Edited { user: 1, edit };
     assert!(rt; is_spelled(alloc, &put, spelling)?);
-    let made = Event::Edited {
-        user: 1,
-        edit: Edit::MakeDir(Path::parse(alloc, "d")?),
-    };
+    Ok(())
+}
+
+#[test]
+fn a_new_directory_is_a_user_and_a_path(rt: HostRuntime) -> Result<(), Fail> {
+    let alloc = rt.alloc();
+    let edit = Edit::MakeDir(Path::parse(alloc, "d")?);
+    let made = Event::Edited { user: 1, edit };
     assert!(rt; is_spelled(alloc, &made, &[2, 0, 0, 0, 1, 1, 1, 100])?);
-    let removed = Event::Edited {
-        user: 258,
-        edit: Edit::Remove(Path::parse(alloc, ".")?),
-    };
+    Ok(())
+}
+
+#[test]
+fn a_removal_is_a_user_and_a_path(rt: HostRuntime) -> Result<(), Fail> {
+    let alloc = rt.alloc();
+    let edit = Edit::Remove(Path::parse(alloc, ".")?);
+    let removed = Event::Edited { user: 258, edit };
     assert!(rt; is_spelled(alloc, &removed, &[3, 0, 0, 1, 2, 0])?);
+    Ok(())
+}
+
+#[test]
+fn a_begin_is_the_number_of_a_session(rt: HostRuntime) -> Result<(), Fail> {
     let began = Event::Began { session: 9 };
-    assert!(rt; is_spelled(alloc, &began, &[4, 0, 0, 0, 0, 0, 0, 0, 9])?);
-    let removed = Event::Replaced {
-        token: Token {
-            session: 1,
-            item: 2,
-        },
-        path: Path::parse(alloc, "x")?,
-        since: 3,
-        new: None,
+    assert!(rt; is_spelled(rt.alloc(), &began, &[4, 0, 0, 0, 0, 0, 0, 0, 9])?);
+    Ok(())
+}
+
+// What is read of the bytes, spelled again with what follows it; none where nothing is read.
+fn event_again(alloc: Global, bytes: &[u8]) -> Result<Option<Vec<u8>>, Fail> {
+    let Some((event, rest)) = decode_event(alloc, bytes)? else {
+        return Ok(None);
     };
-    let spelling: &[u8] = &[
-        5, 0, 0, 0, 0, 0, 0, 0, 1, 0, 0, 0, 2, 1, 1, 120, 0, 0, 0, 0, 0, 0, 0, 3, 0,
+    let mut spelled = encode_event(alloc, &event)?;
+    spelled.extend_from_slice(rest)?;
+    Ok(Some(spelled))
+}
+
+#[test]
+fn a_replacement_is_an_item_a_path_a_position_and_a_part(rt: HostRuntime) -> Result<(), Fail> {
+    let nothing: &[u8] = &[
+        5, 0, 0, 0, 0, 0, 0, 0, 1, 0, 0, 0, 2, 1, 1, 120, 0, 0, 0, 0, 0, 0, 0, 3, 0, 7,
     ];
-    assert!(rt; is_spelled(alloc, &removed, spelling)?);
+    let directory: &[u8] = &[
+        5, 0, 0, 0, 0, 0, 0, 0, 1, 0, 0, 0, 2, 1, 1, 120, 0, 0, 0, 0, 0, 0, 0, 3, 2, 0, 1, 1, 97,
+        2, 0, 0, 7,
+    ];
+    for bytes in [nothing, directory] {
+        let again = event_again(rt.alloc(), bytes)?.ok_or("no event")?;
+        assert_eq!(rt; again.as_slice(), bytes);
+    }
     Ok(())
 }
 
