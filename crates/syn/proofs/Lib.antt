@@ -1,3 +1,4 @@
+pub mod GivenLemmas
 pub mod InputLemmas
 pub mod LineLemmas
 pub mod PutLemmas

@@ -1,4 +1,5 @@
 use Rattle.std.proofs.Common.{map}
+use Rattle.syn.proofs.GivenLemmas.{full_finished}
 use Rattle.std.proofs.lemmas.Result.{IfOk-weaker}
 use Rattle.clap.specs.Words.{found_of, rows_of}
 use Rattle.syn.proofs.LineLemmas.{fault_among, no_fault, nothing_read, reads_found, subcommand_is, value_is, IfUsage-weaker}
