@@ -1,6 +1,6 @@
 -- Where `clap` finds no fault in the words of a command, each row of its matches has a value.
-use Rattle.std.proofs.Common.{◌≡◌, ℕ, Bool, cond, true, false, zero, suc, List, [], ◌∷◌, ◌++◌, map, length, Option, Some, None, is_some, not, ◌&&◌, ◌||◌, refl, sym, ap, arith, true≢false, nat_lt, IfSome}
-use Rattle.std.specs.Prelude.{codes, drop, encode_utf8, slice_get, option_and_then}
+use Rattle.std.proofs.Common.{◌≡◌, ℕ, Bool, cond, true, false, zero, suc, List, [], ◌∷◌, ◌++◌, length, Option, Some, None, is_some, ◌&&◌, refl, sym, ap, arith, true≢false, nat_lt, IfSome}
+use Rattle.std.specs.Prelude.{drop, encode_utf8, slice_get, option_and_then}
 use Rattle.std.specs.List.{find, fold, list_all}
 use Rattle.std.specs.Option.{option_map_or}
 use Rattle.std.specs.Str.{bytes_eq, chars}

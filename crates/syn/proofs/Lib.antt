@@ -3,3 +3,4 @@ pub mod InputLemmas
 pub mod LineLemmas
 pub mod PutLemmas
 pub mod ShowLemmas
+pub mod WrongLemmas
