@@ -5,7 +5,6 @@ use Rattle.std.specs.Borrow.{Bor}
 use Rattle.std.specs.List.{find, fold, list_any}
 use Rattle.std.specs.Option.{option_map_or}
 use Rattle.std.specs.Str.{bytes_eq}
-use Rattle.std.proofs.lemmas.Option.{none-some}
 use Rattle.std.proofs.lemmas.Slice.Eq.{bytes_eq-Decides}
 use Rattle.clap.specs.Lexer.{long_of, short_of}
 use Rattle.clap.specs.Faults.{built_fault, check_fault, entered_fault, fault_of, defaults_fault, level_fault, other_fault, settle_fault, step_fault, turn_fault, walk_fault, word_fault}
@@ -13,16 +12,12 @@ use Rattle.clap.specs.Kinds.{Kinds, check_kinds, or_else}
 use Rattle.clap.specs.Simple.{App, Shape, argument_words, built, built_leaf, entered, help_shape, inherited, label_of, marked_built, names_of, rows_at, subcommand_of, with_leaf_noted}
 use Rattle.clap.specs.Takes.{is_given}
 use Rattle.clap.specs.Walk.{Held, Names, Outcome, Row, Rule, Step, Text, Waiting, Walk, after_flag, after_step, answers_to, arg_by_index, done, idle, long_or_other, next, nothing_held, option, plain, plain_word, positional, refused, rows_after, settled, short_or_plain, subcommand, subcommand_met, subcommand_or_other, first_of, to_positional, trailing, value, waits, walk, walk_from, walked, walked_from, word_met}
-use Rattle.clap.specs.Words.{HasMatchesOf, subcommand_name_of}
 use Rattle.clap.specs.declared.error.kind.ErrorKind.TheVariants.{DisplayHelp, InvalidSubcommand}
-use Rattle.clap.specs.declared.parser.matches.ArgMatches.{ArgMatches}
-use Rattle.clap.specs.declared.parser.matches.ArgMatches.TheViews.{out-ArgMatches}
 use Rattle.clap.proofs.OnLiterals.{clap_on_literals}
 use Rattle.syn.specs.App.{edit_app, show_app, syn_app, word_app}
 use Rattle.syn.specs.Reads.{HasEditValues, HasFormatValues, IsComplete, IsEdit, IsEditName, IsGiven, IsNoNumber, IsOtherKind, IsWrongIn, IsWrongValue, NothingReads}
 use Rattle.syn.specs.declared.line.Line.TheVariants.{Format, Put, MakeDir, Remove, Show}
 use Rattle.syn.proofs.GivenLemmas.{IsFull, full_finished, full_walk, give, given_text, no_faults}
-use Rattle.syn.proofs.LineLemmas.{syn_is_simple}
 
 -- ---- `help` is refused, so no walk that is not stops at it
 
@@ -117,10 +112,6 @@ none_missing s rows e = go s.subcommand_negates_reqs (no_checks _ _ _ e).1
     go : (b : Bool) → (not (b && false) && is_missing s.rules rows) ≡ false → is_missing s.rules rows ≡ false
     go true e = e
     go false e = e
-
-subcommand_met_if_required : (s : Shape) (rows : List Row) (has : Bool) → s.subcommand_required ≡ true → check_fault s rows has ≡ [] → has ≡ true
-subcommand_met_if_required s rows true needs e = refl
-subcommand_met_if_required s rows false needs e = absurd (true≢false (sym needs ∙ (no_checks _ _ _ e).0))
 
 -- what a level with no fault has passed
 record Passes (s : Shape) (names : Names) (words : List Text) (has : Bool) (below : Kinds) : Type 0 where
@@ -240,19 +231,17 @@ entered_whole : (a : App) (stop : Option (Text × List Text)) → AreSound a.sub
 entered_whole a None all other e = tt
 entered_whole a (Some p) all other e = found_whole p a.subs all other e
 
--- a command that requires a subcommand, with no fault, names one, with each value that it requires
-whole : (a : App) (words : List Text) → AreSound a.subs → a.top.disable_help_subcommand ≡ false → a.top.subcommand_required ≡ true
-    → built_fault a nothing_held words ≡ []
-    → (is_some (entered a (walk a.top.rules (names_of a) nothing_held words).stopped) ≡ true) × IsWhole (entered a (walk a.top.rules (names_of a) nothing_held words).stopped)
-whole a words all enabled needs e =
+-- a command with no fault has each value that the subcommand requires
+whole : (a : App) (words : List Text) → AreSound a.subs → a.top.disable_help_subcommand ≡ false → built_fault a nothing_held words ≡ []
+    → IsWhole (entered a (walk a.top.rules (names_of a) nothing_held words).stopped)
+whole a words all enabled e =
     let stop = (walk a.top.rules (names_of a) nothing_held words).stopped in
     let p = passes a.top (names_of a) words (is_some (entered a stop)) (entered_fault a stop) e in
-    let other = walk_stop a.top (names_of a) enabled (walk_from nothing_held) words p.walks tt in
-    (subcommand_met_if_required a.top (rows_after a.top.rules (names_of a) words) _ needs p.checks, entered_whole a stop all other p.enters)
+    entered_whole a stop all (walk_stop a.top (names_of a) enabled (walk_from nothing_held) words p.walks tt) p.enters
 
-syn_whole : (words : List Text) → fault_of syn_app words ≡ [] → (is_some (subcommand_of syn_app words) ≡ true) × IsWhole (subcommand_of syn_app words)
+syn_whole : (words : List Text) → fault_of syn_app words ≡ [] → IsWhole (subcommand_of syn_app words)
 unfolding clap_on_literals
-syn_whole words e = whole (built syn_app) (argument_words syn_app words) sound refl refl e
+syn_whole words e = whole (built syn_app) (argument_words syn_app words) sound refl e
 
 -- ---- a value is wrong
 
@@ -294,19 +283,6 @@ wrong_in name rows (inr (inr show)) nothing = absurd (shows rows show.1 (subst (
 pub wrong_found : (words : List Text) (name : Text) (rows : List Row) → fault_of syn_app words ≡ [] → subcommand_of syn_app words ≡ Some (name, rows)
     → NothingReads (Some (name, rows)) → IsWrongValue (subcommand_of syn_app words)
 wrong_found words name rows taken found nothing =
-    let complete = subst IsWhole found (syn_whole words taken).1 in
+    let complete = subst IsWhole found (syn_whole words taken) in
     let P : Option (Text × List Row) → Type 0 = IsWrongValue in
     subst P (sym found) (wrong_in name rows complete nothing)
-
-none_maps : {B X Y : Type 0} (o : Option B) (f : B → X) (g : B → Y) → None ≡ option_map f o → is_some (option_map g o) ≡ false
-none_maps None f g e = refl
-none_maps (Some b) f g e = absurd (none-some _ e)
-
--- the words that have no fault name a subcommand
-pub always_named : (m : ArgMatches) (app : App) (words : List Text) → app ≡ syn_app → HasMatchesOf app words m → fault_of syn_app words ≡ []
-    → None ≡ subcommand_name_of m → ⊥
-always_named m app words same matches taken unnamed =
-    let P : App → Type 0 = λ a. HasMatchesOf a words m in
-    let met = subst P same matches syn_is_simple in
-    let unmet : is_some (subcommand_of syn_app words) ≡ false = sym (ap (λ (o : Option (Text × List Row)). is_some o) met.1) ∙ none_maps (out-ArgMatches m).subcommand _ _ unnamed in
-    true≢false (sym (syn_whole words taken).0 ∙ unmet)
