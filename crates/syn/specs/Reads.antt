@@ -1,5 +1,5 @@
 -- What a command and its values say of the words.
-use Rattle.std.specs.Prelude.{◌≡◌, ◌⊎◌, ◌<◌, ◌^◌, ℕ, List, [], Option, Some, None, codes, option_map}
+use Rattle.std.specs.Prelude.{◌≡◌, ◌≢◌, ◌⊎◌, ◌<◌, ◌^◌, ℕ, List, [], Option, Some, None, codes, option_map}
 use Rattle.std.specs.Str.Parse.{IsNumeral, digits_value}
 use Rattle.clap.specs.Words.{IsAmong, Row, Text, fault_of, first_of, kind_of, subcommand_of}
 use Rattle.clap.specs.declared.error.Error.{Error}
@@ -47,6 +47,42 @@ Reads (Some found) line = ReadsRows found.0 found.1 line
 -- no line is that of the subcommand
 abbrev pub NothingReads : Option (Text × List Row) → Type 0
 NothingReads found = (line : Line) → ¬ Reads found line
+
+-- a text is given for the id
+abbrev pub IsGiven : List Row → Text → Type 0
+IsGiven rows id = (text : Text) × HasText rows id text
+
+-- a text is given for each value of a format, and of an edit
+abbrev pub HasFormatValues : List Row → Type 0
+HasFormatValues rows = IsGiven rows (codes "KIND") × IsGiven rows (codes "PAIR") × IsGiven rows (codes "FILE")
+
+abbrev pub HasEditValues : List Row → Type 0
+HasEditValues rows = IsGiven rows (codes "FILE") × IsGiven rows (codes "USER") × IsGiven rows (codes "PATH")
+
+abbrev pub IsEditName : Text → Type 0
+IsEditName name = (name ≡ codes "put") ⊎ ((name ≡ codes "mkdir") ⊎ (name ≡ codes "rm"))
+
+-- the name is that of a command, and each value that the command requires is given
+abbrev pub IsComplete : Text → List Row → Type 0
+IsComplete name rows = ((name ≡ codes "format") × HasFormatValues rows)
+    ⊎ ((IsEditName name × HasEditValues rows) ⊎ ((name ≡ codes "show") × IsGiven rows (codes "FILE")))
+
+-- the text given for KIND is another than `replica`
+abbrev pub IsOtherKind : List Row → Type 0
+IsOtherKind rows = (kind : Text) × HasText rows (codes "KIND") kind × (kind ≢ codes "replica")
+
+-- the text given for the id is no number of so many bits
+abbrev pub IsNoNumber : ℕ → List Row → Text → Type 0
+IsNoNumber bits rows id = (text : Text) × HasText rows id text × ((n : ℕ) → ¬ IsNumber bits text n)
+
+-- each value is given, and one is wrong: the KIND or the PAIR of a format, or the USER of an edit
+abbrev pub IsWrongIn : Text → List Row → Type 0
+IsWrongIn name rows = ((name ≡ codes "format") × HasFormatValues rows × (IsOtherKind rows ⊎ IsNoNumber 64 rows (codes "PAIR")))
+    ⊎ (IsEditName name × HasEditValues rows × IsNoNumber 32 rows (codes "USER"))
+
+abbrev pub IsWrongValue : Option (Text × List Row) → Type 0
+IsWrongValue None = ⊥
+IsWrongValue (Some found) = IsWrongIn found.0 found.1
 
 -- the words ask for what the line says: `clap` takes them, and their values are the line's
 pub record Asks (words : List Text) (line : Line) : Type 0 where

@@ -1,6 +1,6 @@
 //! Reads a command line by `clap`.
 ghost use Rattle.std.specs.Prelude.{◌≡◌, ◌≢◌, ℕ, [], IfOk, IfErr, OnOk, OnErr, Some, None, codes, map, false};
-ghost use Rattle.syn.specs.Reads.{Asks, HasText, IfUsage, IsFormat, IsNumber, IsEdit, IsValue, NothingReads, ReadsRows};
+ghost use Rattle.syn.specs.Reads.{Asks, HasText, IfUsage, IsFormat, IsNumber, IsEdit, IsValue, IsWrongValue, NothingReads, ReadsRows};
 ghost use Rattle.clap.specs.Words.{IsAmong, Text, app_of, fault_of, first_of, found_of, kind_of, rows_of, subcommand_of};
 ghost use Rattle.clap.specs.declared.Command.TheViews.{out-Command};
 ghost use Rattle.syn.specs.App.{show_app, syn_app, word_app};
@@ -87,6 +87,9 @@ pub fn read_words<'a>(alloc: Global, words: &'a [&'a str]) -> Result<Line<'a>, L
     // Where `clap` takes the words, a value is wrong: no line is what they say.
     ensures value { IfErr result (λ error. IsValue error → (fault_of syn_app (map (λ word. word.now) words.entry.now) ≡ [])
         × NothingReads (subcommand_of syn_app (map (λ word. word.now) words.entry.now))) }
+
+    // And then the words name a command with each value that it requires, and a KIND, a PAIR or a USER is wrong.
+    ensures wrong { IfErr result (λ error. IsValue error → IsWrongValue (subcommand_of syn_app (map (λ word. word.now) words.entry.now))) }
 {
     let command = syn_command(alloc)?;
     let matches = match command.try_get_matches_from(words) {

@@ -99,8 +99,7 @@ fn put(alloc: Global, replica: &mut TestReplica, path: &str, bytes: &[u8]) -> u8
     edit(alloc, replica, Ask::Put(path, bytes))
 }
 
-// The first byte of the file at the path, or the refusal.
-fn get(alloc: Global, replica: &TestReplica, path: &str) -> Result<u8, u8> {
+fn get_once(alloc: Global, replica: &TestReplica, path: &str) -> Result<u8, u8> {
     let Ok(path) = Path::parse(alloc, path) else {
         return Err(11);
     };
@@ -111,14 +110,29 @@ fn get(alloc: Global, replica: &TestReplica, path: &str) -> Result<u8, u8> {
     }
 }
 
-// How many names the directory has, or the refusal.
-fn list(alloc: Global, replica: &TestReplica, path: &str) -> Result<usize, u8> {
+// The first byte of the file at the path, or the refusal. It is asked for again where memory was refused.
+fn get(alloc: Global, replica: &TestReplica, path: &str) -> Result<u8, u8> {
+    match get_once(alloc, replica, path) {
+        Err(11) => get_once(alloc, replica, path),
+        answer => answer,
+    }
+}
+
+fn list_once(alloc: Global, replica: &TestReplica, path: &str) -> Result<usize, u8> {
     let Ok(path) = Path::parse(alloc, path) else {
         return Err(11);
     };
     match replica.list(alloc, &path) {
         Ok(names) => Ok(names.len()),
         Err(refusal) => Err(refusal.number()),
+    }
+}
+
+// How many names the directory has, or the refusal. It is asked for again where memory was refused.
+fn list(alloc: Global, replica: &TestReplica, path: &str) -> Result<usize, u8> {
+    match list_once(alloc, replica, path) {
+        Err(11) => list_once(alloc, replica, path),
+        answer => answer,
     }
 }
 
@@ -286,6 +300,50 @@ fn a_stop_leaves_the_put_before_or_after(rt: HostRuntime) {
             assert_eq!(rt; after_a_stop(alloc, calls, leaves), wanted);
         }
     }
+}
+
+// A call of the disk fails: the 12th, of which 7 are of the format and 4 of the first put.
+#[test]
+fn a_halted_replica_answers_so_until_it_is_opened_again(rt: HostRuntime) -> Result<(), Fail> {
+    let alloc = rt.alloc();
+    let Some(mut disk) = new_disk(alloc, Leaves::Lose) else {
+        return Err("no disk")?;
+    };
+    disk.arm(Arm::Fail(12));
+    let Some(mut replica) = formatted(alloc, disk) else {
+        return Err("not formatted")?;
+    };
+    let asks = [
+        Ask::Put("a", &[1]),
+        Ask::Put("a", &[2]),
+        Ask::Put("b", &[3]),
+        Ask::MakeDir("d"),
+        Ask::Remove("a"),
+    ];
+    let mut answers = [0; 5];
+    for (answer, ask) in answers.iter_mut().zip(asks) {
+        *answer = edit(alloc, &mut replica, ask);
+    }
+    let asked = (
+        replica.is_halted(),
+        get(alloc, &replica, "a"),
+        list(alloc, &replica, "."),
+    );
+    let Some(mut replica) = restarted(alloc, replica) else {
+        return Err("not opened")?;
+    };
+    let found = [get(alloc, &replica, "a"), get(alloc, &replica, "b")];
+    let after = put(alloc, &mut replica, "b", &[3]);
+    assert_eq!(rt;
+        (answers, asked, found, after),
+        (
+            [0, 9, 10, 10, 10],
+            (true, Err(10), Err(10)),
+            [Ok(1), Err(5)],
+            0
+        )
+    );
+    Ok(())
 }
 
 fn fill(alloc: Global, replica: &mut TestReplica) -> bool {

@@ -1,4 +1,5 @@
 use Rattle.std.proofs.Common.{map}
+use Rattle.syn.proofs.WrongLemmas.{wrong_found}
 use Rattle.std.proofs.lemmas.Result.{IfOk-weaker}
 use Rattle.clap.specs.Words.{found_of, rows_of}
 use Rattle.syn.proofs.LineLemmas.{fault_among, no_fault, nothing_read, reads_found, subcommand_is, value_is, IfUsage-weaker}
@@ -23,3 +24,8 @@ returns-in-Some-clause-value c =
       no_fault _ _ c.in_ok-command.ensures c.in-Ok.ensures.kinds,
       nothing_read _ _ _ asked nothing,
     ))
+
+pub returns-in-Some-clause-wrong : goal.returns-in-Some-clause-wrong
+returns-in-Some-clause-wrong c =
+    let asked = subcommand_is c.in-Ok.matches _ (map (λ word. word.now) c.args.words.now) c.in-Some.name.now (rows_of (found_of c.in-Some.found.now)) c.in_ok-command.ensures c.in-Ok.ensures.matches c.in-Some.ensures.name c.in-Some.ensures.rows in
+    value_is c.line_of.result _ _ c.line_of.ensures.nothing (λ nothing. wrong_found (map (λ word. word.now) c.args.words.now) _ _ (no_fault _ _ c.in_ok-command.ensures c.in-Ok.ensures.kinds) asked nothing)
