@@ -13,7 +13,7 @@ use Rattle.syn_headline.specs.Side.{Replace, Reply, Done}
 use Rattle.syn_headline.specs.Network.{Which, Left, Right, other, Sent, Asks, Answers}
 use Rattle.syn_headline.specs.Planning.{Planned, seen_on, IsPlanOf, WritesTo}
 use Rattle.syn_headline.specs.World.{Running, Outstanding, outstanding, IsDue, done, same, directory}
-use Rattle.syn_headline.specs.Invariant.{Plans, Histories, IsSound, HadMarks, IsHeldRecord, IsHarmless}
+use Rattle.syn_headline.proofs.Invariant.{Plans, Histories, IsSound, HadMarks, IsHeldRecord, IsHarmless}
 use Rattle.syn_model.proofs.PathLemmas.{is_prefix-is, strip_prefix-append, some_same}
 use Rattle.syn_model.proofs.TreeLemmas.{get-subtree, same_tree, subtree-replace_other, within}
 use Rattle.syn_model.proofs.HistoryLemmas.{get-below_root}

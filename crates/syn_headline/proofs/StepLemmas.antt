@@ -12,7 +12,7 @@ use Rattle.syn_headline.specs.Side.{Request, Reply}
 use Rattle.syn_headline.specs.Network.{Which, Left, other, Sent, Message, Asks, Answers}
 use Rattle.syn_headline.specs.Planning.{seen_on}
 use Rattle.syn_headline.specs.World.{Up, World, SideMachine, Running, outstanding, side_of, IsOfPlan, IsOfSession, AllOfSession, RunsOver, WasSent, AllCanKeep, CoordinatorGoes}
-use Rattle.syn_headline.specs.Invariant.{Plans, Histories, histories_of, IsSound, IsSound_request, IsTrue, IsBorne, IsHeldRecord, IsFresh, IsSoundStaging, IsSoundEvent, IsSoundSide, IsSoundCoordinator, IsHarmless, IsKept}
+use Rattle.syn_headline.proofs.Invariant.{Plans, Histories, histories_of, IsSound, IsSound_request, IsTrue, IsBorne, IsHeldRecord, IsFresh, IsSoundStaging, IsSoundEvent, IsSoundSide, IsSoundCoordinator, IsHarmless, IsKept}
 use Rattle.syn_model.proofs.PathLemmas.{none_some, some_same}
 use Rattle.syn_headline.proofs.PlanLemmas.{fenced, since_reached}
 use Rattle.syn_headline.proofs.SoundLemmas.{fold_one, held-grow, made, extends, quiet_was, session_grows, sound-more, sound-answer, sound-keep, item-grow, PlansGrow, kept_session}

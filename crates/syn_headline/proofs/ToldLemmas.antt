@@ -19,7 +19,7 @@ use Rattle.syn_headline.specs.Acknowledged.{Ack, kept_in, Stores, history_of, st
 use Rattle.syn_headline.specs.Report.{Report, Complete, Incomplete, Counts, IsSettled, kept_in_session, since_start}
 use Rattle.syn_headline.specs.World.{World, Running, IsExpected, IsOver, IsDueAfter, HasPlan, GoesOnFrom, plan_of, AllCanKeep, CoordinatorGoes, Reports, EndsTaken, EndsUnanswered}
 use Rattle.syn_headline.specs.Headline.{IsNoEdit, BeganAfter, Synchronizes, HasCounts, StandsFor}
-use Rattle.syn_headline.specs.Invariant.{Plans, histories_of, IsKept}
+use Rattle.syn_headline.proofs.Invariant.{Plans, histories_of, IsKept}
 use Rattle.syn_headline.proofs.RunLemmas.{Advances}
 use Rattle.syn_headline.proofs.CourseLemmas.{Course, beside, starts, ticks, takes}
 use Rattle.syn_headline.proofs.CompleteLemmas.{IsRecordDue, carried, alike, marked}

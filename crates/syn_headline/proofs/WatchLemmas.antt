@@ -11,7 +11,7 @@ use Rattle.syn_headline.specs.Planning.{Planned, seen_on, WritesTo}
 use Rattle.syn_headline.specs.Acknowledged.{Ack, Kept_by, kept_in, Stores}
 use Rattle.syn_headline.specs.World.{World, Running, Outstanding, outstanding, IsExpected, IsOver, IsDue, done, same, directory, IsDueAfter, HasPlan, GoesOnAs, goes_on, ended, GoesOnFrom, plan_of, StartsFrom, RunsOver, IsNext, IsNothing, AllCanKeep, CoordinatorGoes}
 use Rattle.syn_headline.specs.Headline.{StandsFor}
-use Rattle.syn_headline.specs.Invariant.{Plans, Histories, histories_of, IsSound, IsKept}
+use Rattle.syn_headline.proofs.Invariant.{Plans, Histories, histories_of, IsSound, IsKept}
 use Rattle.syn_model.proofs.PathLemmas.{none_some, some_same}
 use Rattle.syn_headline.proofs.WorldLemmas.{kept_kept}
 use Rattle.syn_headline.proofs.RunLemmas.{Advances, running_has, running_over, waits_for}

@@ -1,12 +1,14 @@
 -- Three machines and the network between them, and what a step may do.
-use Rattle.std.specs.Prelude.{ℕ, ◌+◌, ◌≡◌, ◌≢◌, ◌⊎◌, Bool, List, [], ◌∷◌, ◌++◌, slice_get, map, Option, Some, None, Contains, IfSome, IsSome, IsSomeAnd, All, length, option_map}
+use Rattle.std.specs.Option.{option_map_or}
+use Rattle.std.specs.Prelude.{ℕ, zero, suc, true, false, not, is_some, nat_le, ◌+◌, ◌≡◌, ◌≢◌, ◌⊎◌, Bool, List, [], ◌∷◌, ◌++◌, slice_get, map, Option, Some, None, Contains, IfSome, IsSome, IsSomeAnd, All, length, option_map}
 use Rattle.syn_model.specs.Path.{Path}
-use Rattle.syn_model.specs.Refusal.{Refusal, Device}
+use Rattle.syn_model.specs.Refusal.{Refusal, Device, Cause, first_cause}
 use Rattle.syn_model.specs.Refusal as why
-use Rattle.syn_model.specs.Event.{Edit, Event, Edited}
-use Rattle.syn_model.specs.History.{IsAllowed}
+use Rattle.syn_model.specs.Event.{Edit, Event, Edited, IsLawfulEvent}
+use Rattle.syn_model.specs.History.{IsAllowed, event_causes}
+use Rattle.syn_model.specs.Limits.{greatest}
 use Rattle.syn_model.specs.Archive.{Archive, Kept, Session, Recorded, RecordedDir, CanKeep, after_kept, archive_of}
-use Rattle.syn_headline.specs.Side.{Request, Begin, ListAt, Fetch, Stage, Replace, Reply, Done, Refused, token_of, IsLawfulRequest, Side, Served, Serves, answer, stage, add_event}
+use Rattle.syn_headline.specs.Side.{Request, Begin, ListAt, Fetch, Stage, Replace, Reply, Done, Refused, token_of, IsLawfulRequest, Side, Served, Serves, answer, stage, add_event, room_causes}
 use Rattle.syn_headline.specs.Network.{Which, Left, Right, other, Message, Asks, Answers, Sent, NumbersTell, AsksNothingTwice}
 use Rattle.syn_headline.specs.Acknowledged.{Ack, Happened, Kept_by}
 use Rattle.syn_headline.specs.Planning.{Planned, seen_on, HasBegun, IsPlanOf, WritesTo, IsFetched, IsTotal}
@@ -33,10 +35,11 @@ pub data Status : Type 0 where
   Halted : Status
   Down : Status
 
--- a side: what it stands for, and what was being written when it stopped or a device failed
+-- a side: what it stands for, what its journal has room for, and what was being written when it stopped or a device failed
 pub record SideMachine : Type 0 where
   pub status : Status
   pub side : Side
+  pub has_room : Event → Bool
   pub writing : Option Event
 
 -- a request that waits for its answer
@@ -55,9 +58,11 @@ pub record Running : Type 0 where
 pub record CoordinatorMachine : Type 0 where
   pub status : Status
   pub archive : Archive
+  pub has_room : Kept → Bool
   pub writing : Option Kept
   pub running : Option Running
 
+-- `refusals` has what a user's edit, a start, a checkpoint or an opening was refused with, in order of time
 pub record World : Type 0 where
   pub pair : ℕ
   pub left : SideMachine
@@ -65,6 +70,7 @@ pub record World : Type 0 where
   pub coordinator : CoordinatorMachine
   pub sent : Sent
   pub acknowledged : List Ack
+  pub refusals : List Refusal
   pub reports : List (Report × ℕ)
 
 abbrev pub side_of : World → Which → SideMachine
@@ -81,11 +87,11 @@ outstanding running Right = running.right
 
 -- a machine that stops forgets all but its disk
 abbrev pub stopped : SideMachine → Option Event → SideMachine
-stopped machine writing = record { status = Down; side = record { history = machine.side.history; staging = None }; writing = writing }
+stopped machine writing = record machine { status = Down; side = record { history = machine.side.history; staging = None }; writing = writing }
 
 -- a call that writes an event is answered, fails at a device call, or is cut off by a stop
 pub data Writes (machine : SideMachine) (event : Event) : SideMachine → List Event → Type 0 where
-  written : Writes machine event (record machine { side = add_event machine.side event }) (event ∷ [])
+  written : (room : Event → Bool) → Writes machine event (record machine { side = add_event machine.side event; has_room = room }) (event ∷ [])
   failed : Writes machine event (record machine { status = Halted; writing = Some event }) []
   cut : Writes machine event (stopped machine (Some event)) []
 
@@ -98,21 +104,13 @@ SideGoes old which Goes messages new =
       acknowledged = old.acknowledged ++ map (λ event. Happened which event) events;
     })
 
--- an edit is refused and nothing changes, or its event is written
-pub data DoesEdit (machine : SideMachine) (user : ℕ) (edit : Edit) : SideMachine → List Event → Type 0 where
-  edit_refused : DoesEdit machine user edit machine []
-  edit_written : (new : SideMachine) (events : List Event) → machine.status ≡ Up → IsAllowed machine.side.history (Edited user edit) →
-      Writes machine (Edited user edit) new events → DoesEdit machine user edit new events
-
 -- an opening gives the history, or it and the event that was being written
 pub data Opens (machine : SideMachine) : SideMachine → List Event → Type 0 where
-  opened : Opens machine (record machine { status = Up; writing = None }) []
-  recovered : (event : Event) → machine.writing ≡ Some event → IsAllowed machine.side.history event →
-      Opens machine (record { status = Up; side = add_event machine.side event; writing = None }) (event ∷ [])
-  not_opened : Opens machine machine []
-  not_reopened : machine.status ≢ Down → Opens machine (record machine { status = Halted }) []
+  opened : (room : Event → Bool) → Opens machine (record machine { status = Up; has_room = room; writing = None }) []
+  recovered : (room : Event → Bool) (event : Event) → machine.writing ≡ Some event → IsAllowed machine.side.history event →
+      Opens machine (record { status = Up; side = add_event machine.side event; has_room = room; writing = None }) (event ∷ [])
 
--- a halted side still stages, and refuses all else
+-- a halted side still stages, and refuses_with all else
 abbrev pub serve_halted : Side → ℕ → Request → Served
 serve_halted side session (Stage item offset bytes) = stage side side.staging (token_of session item) offset bytes
 serve_halted side session _ = answer side (Refused why.Halted)
@@ -123,20 +121,21 @@ ServesAs Halted pair has_room side session request served = served ≡ serve_hal
 ServesAs Down pair has_room side session request served = ⊥
 
 pub record AnswersRequest (pair : ℕ) (old : World) (which : Which) (session number : ℕ) (request : Request) (new : World) : Type 0 where
-  pub has_room : Event → Bool
   pub served : Served
   pub events : List Event
-  pub serves : ServesAs (side_of old which).status pair has_room (side_of old which).side session request served
+  pub room : Event → Bool
+  pub serves : ServesAs (side_of old which).status pair (side_of old which).has_room (side_of old which).side session request served
   pub no_failure : served.reply ≢ Refused Device
+  pub no_halt : (side_of old which).status ≡ Up → served.reply ≢ Refused why.Halted
+  pub same_room : events ≡ [] → room ≡ (side_of old which).has_room
   pub added : served.side.history ≡ (side_of old which).side.history ++ events
-  pub result : new ≡ record (set_side old which (record (side_of old which) { side = served.side })) {
+  pub result : new ≡ record (set_side old which (record (side_of old which) { side = served.side; has_room = room })) {
     sent = old.sent ++ Answers which session number served.reply ∷ [];
     acknowledged = old.acknowledged ++ map (λ event. Happened which event) events;
   }
 
 -- the event that a request adds where no device fails and the side does not stop
-pub record WouldAdd (pair : ℕ) (side : Side) (session : ℕ) (request : Request) (event : Event) : Type 0 where
-  pub has_room : Event → Bool
+pub record WouldAdd (pair : ℕ) (has_room : Event → Bool) (side : Side) (session : ℕ) (request : Request) (event : Event) : Type 0 where
   pub served : Served
   pub serves : Serves pair has_room side session request served
   pub adds : served.side.history ≡ side.history ++ event ∷ []
@@ -145,7 +144,7 @@ pub record WouldAdd (pair : ℕ) (side : Side) (session : ℕ) (request : Reques
 pub record FailsRequest (old : World) (which : Which) (session number : ℕ) (request : Request) (new : World) : Type 0 where
   pub event : Event
   pub up : (side_of old which).status ≡ Up
-  pub would : WouldAdd old.pair (side_of old which).side session request event
+  pub would : WouldAdd old.pair (side_of old which).has_room (side_of old which).side session request event
   pub result : new ≡ record (set_side old which (record (side_of old which) { status = Halted; writing = Some event })) {
     sent = old.sent ++ Answers which session number (Refused Device) ∷ [];
   }
@@ -154,7 +153,7 @@ pub record FailsRequest (old : World) (which : Which) (session number : ℕ) (re
 pub record CutsRequest (old : World) (which : Which) (session : ℕ) (request : Request) (new : World) : Type 0 where
   pub event : Event
   pub up : (side_of old which).status ≡ Up
-  pub would : WouldAdd old.pair (side_of old which).side session request event
+  pub would : WouldAdd old.pair (side_of old which).has_room (side_of old which).side session request event
   pub result : new ≡ set_side old which (stopped (side_of old which) (Some event))
 
 -- a side takes a request
@@ -212,8 +211,7 @@ GoesOnFrom None plan new = new ≡ None
 GoesOnFrom (Some old) plan new = GoesOnAs old plan new
 
 abbrev pub plan_of : Option Running → List Planned
-plan_of None = []
-plan_of (Some running) = running.plan
+plan_of running = option_map_or (λ running. running.plan) running []
 
 -- a session starts with the next number
 abbrev pub StartsFrom : Archive → Option Running → Type 0
@@ -315,11 +313,9 @@ Delivers old (Some (Answers from session number reply)) new = TakesAnswer old fr
 
 -- what an opening of the archive gives
 pub data OpensArchive (machine : CoordinatorMachine) : CoordinatorMachine → List Kept → Type 0 where
-  archive_opened : OpensArchive machine (record machine { status = Up; writing = None }) []
-  archive_recovered : (kept : Kept) → machine.writing ≡ Some kept → CanKeep machine.archive kept →
-      OpensArchive machine (record machine { status = Up; archive = after_kept machine.archive kept; writing = None }) (kept ∷ [])
-  archive_not_opened : OpensArchive machine machine []
-  archive_not_reopened : machine.status ≢ Down → OpensArchive machine (record machine { status = Halted }) []
+  archive_opened : (room : Kept → Bool) → OpensArchive machine (record machine { status = Up; has_room = room; writing = None }) []
+  archive_recovered : (room : Kept → Bool) (kept : Kept) → machine.writing ≡ Some kept → CanKeep machine.archive kept →
+      OpensArchive machine (record machine { status = Up; archive = after_kept machine.archive kept; has_room = room; writing = None }) (kept ∷ [])
 
 abbrev pub OpensMachine : World → Machine → World → Type 0
 OpensMachine old (At which) new = SideGoes old which (Opens (side_of old which)) [] new
@@ -341,22 +337,57 @@ abbrev pub halted : World → Machine → World
 halted world (At which) = set_side world which (record (side_of world which) { status = Halted })
 halted world Coordinator = record world { coordinator = record world.coordinator { status = Halted } }
 
--- a checkpoint changes nothing that the machines stand for, whether it is made, fails or is cut off
-abbrev pub Checkpoints : World → Machine → World → Type 0
-Checkpoints old machine new = (new ≡ old) ⊎ ((new ≡ halted old machine) ⊎ (new ≡ cut_off old machine))
+abbrev pub refuses_with : World → Refusal → World
+refuses_with world reason = record world { refusals = world.refusals ++ reason ∷ [] }
+
+-- the first of the causes refuses_with, or want of memory where none stands
+abbrev pub IsRefused : World → List Cause → World → Type 0
+IsRefused old causes new = (reason : Refusal) × (first_cause (causes ++ (true, why.Memory) ∷ []) ≡ Some reason) × (new ≡ refuses_with old reason)
+
+abbrev pub is_halted : Status → Bool
+is_halted Halted = true
+is_halted _ = false
+
+-- a call is lost on a machine that is down; on another it is refused, says why and changes nothing, or no cause stands and it is made
+abbrev pub Calls : World → Machine → List Cause → Type 0 → World → Type 0
+Calls old machine causes Made new =
+    let all = (is_halted (status_of old machine), why.Halted) ∷ causes in
+    ((status_of old machine ≡ Down) × (new ≡ old)) ⊎ ((status_of old machine ≢ Down) × (IsRefused old all new ⊎ ((first_cause all ≡ None) × Made)))
+
+-- a machine opens its disk again, or the device fails, or the machine stops; so too where it makes a checkpoint, which may give it room
+abbrev pub Reopens : World → Machine → World → Type 0
+Reopens old machine new = OpensMachine old machine new ⊎ ((new ≡ refuses_with (halted old machine) Device) ⊎ (new ≡ cut_off old machine))
+
+abbrev pub edit_causes : SideMachine → Event → List Cause
+edit_causes machine event = event_causes machine.side.history event ++ room_causes machine.has_room event
+
+abbrev pub start_causes : CoordinatorMachine → List Cause
+start_causes machine =
+    let next = Session (machine.archive.last_session + 1) in
+    (is_some machine.running, why.Busy) ∷ (nat_le greatest machine.archive.last_session, why.Full) ∷ (not (machine.has_room next), why.JournalFull) ∷ []
+
+-- the next number is kept and the session runs, or the number is still being written
+abbrev pub Starts : World → World → Type 0
+Starts old new =
+    CoordinatorGoes old (IsNext old.coordinator.archive) (StartsFrom old.coordinator.archive) new × (new.reports ≡ old.reports)
+    × (IsSome new.coordinator.running ⊎ IsSome new.coordinator.writing)
 
 -- One step. A device may fail and a machine may stop within any call, of which Fail and Stop say when
 abbrev pub Steps : World → Step → World → Type 0
-Steps old (Edits side user edit) new = SideGoes old side (DoesEdit (side_of old side) user edit) [] new
-Steps old Start new = (new ≡ old) ⊎ ((old.coordinator.running ≡ None) × CoordinatorGoes old (IsNext old.coordinator.archive) (StartsFrom old.coordinator.archive) new × (new.reports ≡ old.reports))
+Steps old (Edits side user edit) new =
+    let event = Edited user edit in let machine = side_of old side in
+    Calls old (At side) (edit_causes machine event) (IsLawfulEvent event × SideGoes old side (Writes machine event) [] new) new
+Steps old Start new = Calls old Coordinator (start_causes old.coordinator) (Starts old new) new
 Steps old (Deliver message) new = Delivers old (slice_get old.sent message) new
 Steps old Tick new =
     (new ≡ old) ⊎ (CoordinatorGoes old IsNothing (GoesOnFrom old.coordinator.running (plan_of old.coordinator.running)) new × Reports old new (plan_of old.coordinator.running) EndsUnanswered)
-Steps old (Checkpoint machine) new = Checkpoints old machine new
+Steps old (Checkpoint machine) new = (full : Bool) × Calls old machine ((full, why.Full) ∷ []) (Reopens old machine new) new
 Steps old (Fail machine call) new = new ≡ old
-Steps old (Stop machine call) new = (new ≡ old) ⊎ (new ≡ cut_off old machine)
-Steps old (Open machine) new = (new ≡ old) ⊎ ((status_of old machine ≡ Down) × OpensMachine old machine new)
-Steps old (Reopen machine) new = (new ≡ old) ⊎ ((status_of old machine ≢ Down) × (OpensMachine old machine new ⊎ (new ≡ cut_off old machine)))
+Steps old (Stop machine zero) new = ((status_of old machine ≡ Down) × (new ≡ old)) ⊎ ((status_of old machine ≢ Down) × (new ≡ cut_off old machine))
+Steps old (Stop machine (suc calls)) new = new ≡ old
+Steps old (Open machine) new =
+    ((status_of old machine ≢ Down) × (new ≡ old)) ⊎ ((status_of old machine ≡ Down) × (OpensMachine old machine new ⊎ (IsRefused old [] new ⊎ (new ≡ refuses_with old Device))))
+Steps old (Reopen machine) new = ((status_of old machine ≡ Down) × (new ≡ old)) ⊎ ((status_of old machine ≢ Down) × (IsRefused old [] new ⊎ Reopens old machine new))
 
 -- a list of steps, one after another
 abbrev pub Runs : World → List Step → World → Type 0

@@ -84,12 +84,18 @@ plans = record {
 -- The steps of the coordinator
 starts : Steps both_edited Start started
 starts = inr (
-  refl,
-  goes both_edited (IsNext new_archive) (StartsFrom new_archive) begun_archive (Some both_begin) (take 2 messages) (Session 1 ∷ []) []
-      refl (All-cons (IsNext new_archive) (Session 1) [] refl (All-nil (IsNext new_archive))) (record { lawful = tt; not_refused = refl }, tt) refl
-      (refl, refl) (refl, both_sent (take 2 messages) both_begin (0, omega arith, refl) (1, omega arith, refl), inl refl) (tells 2) (once 2)
-      (All-from_recursion (IsOfSession [] both_begin) (take 2 messages) ((refl, (omega arith, omega arith), tt), ((refl, (omega arith, omega arith), tt), tt))),
-  refl,
+  up_not_down,
+  inr (
+    refl,
+    (
+      goes both_edited (IsNext new_archive) (StartsFrom new_archive) begun_archive (Some both_begin) (take 2 messages) (Session 1 ∷ []) []
+          refl (All-cons (IsNext new_archive) (Session 1) [] refl (All-nil (IsNext new_archive))) (record { lawful = tt; not_refused = refl }, tt) refl
+          (refl, refl) (refl, both_sent (take 2 messages) both_begin (0, omega arith, refl) (1, omega arith, refl), inl refl) (tells 2) (once 2)
+          (All-from_recursion (IsOfSession [] both_begin) (take 2 messages) ((refl, (omega arith, omega arith), tt), ((refl, (omega arith, omega arith), tt), tt))),
+      refl,
+      inl refl,
+    ),
+  ),
 )
 
 takes_left_begun : Steps both_begun (Deliver 2) right_awaited

@@ -23,7 +23,7 @@ use Rattle.syn_headline.specs.Acknowledged.{Ack, Happened, Kept_by}
 use Rattle.syn_headline.specs.Planning.{Planned, IsPlanOf, IsScanOf, HasBegun, SeesBoth}
 use Rattle.syn_headline.specs.World.{World, Coordinator, Running, Down, Edits, Start, Deliver, Stop, Open, Steps, Runs, IsOfSession, IsDue, same, IsNext, StartsFrom, goes_on, ended, archive_opened, EndsTaken}
 use Rattle.syn_headline.specs.Headline.{IsQuietSession, IsNoEdit, formatted, stores_of}
-use Rattle.syn_witness.specs.Witness.{opened_world, a_path, put_one, one, marked_later, found_later, IsMarkedLater, CarriedIsMarkedLater}
+use Rattle.syn_witness.specs.Witness.{keeps_all, opened_world, a_path, put_one, one, marked_later, found_later, IsMarkedLater, CarriedIsMarkedLater}
 use Rattle.syn_witness.proofs.WitnessTrees.{get_by, fits_archive_by}
 use Rattle.syn_witness.proofs.WitnessFiles.{alone, with_file, digest, alone-entries, file_mark-entries, put-entries, marked_whole, root_only, path_of_letter, one_byte, file_is_part, file_spelling, file_fits_part, file_fits_paths, mark_is_part}
 use Rattle.syn_witness.proofs.WitnessMessages.{IsNumbered, number_of, numbers_tell, asks_once, tell_before, once_before}
@@ -70,7 +70,7 @@ abbrev world : Side → Side → Archive → Option Running → ℕ → ℕ → 
 world = world_of messages acks
 
 abbrev stopped_world : World
-stopped_world = record replaced { coordinator = record { status = Down; archive = begun_archive; writing = None; running = None } }
+stopped_world = record replaced { coordinator = record { status = Down; archive = begun_archive; has_room = keeps_all; writing = None; running = None } }
 
 abbrev opened_again : World
 opened_again = world left_side right_done begun_archive None 14 5
@@ -127,19 +127,25 @@ once said = once_before (take said messages) (drop said messages) (subst AsksNot
 
 -- The coordinator stops, opens and starts again
 stops : Steps replaced (Stop Coordinator 0) stopped_world
-stops = inr refl
+stops = inr (up_not_down, refl)
 
 opens : Steps stopped_world (Open Coordinator) opened_again
-opens = inr (refl, (opened_again.coordinator, [], archive_opened, refl))
+opens = inr (refl, inl (opened_again.coordinator, [], archive_opened keeps_all, refl))
 
 starts : Steps opened_again Start started
 starts = inr (
-  refl,
-  goes opened_again (IsNext begun_archive) (StartsFrom begun_archive) next_archive (Some both_begin) (drop 14 (take 16 messages)) (Session 2 ∷ []) []
-      refl (All-cons (IsNext begun_archive) (Session 2) [] refl (All-nil (IsNext begun_archive))) (record { lawful = tt; not_refused = refl }, tt) refl
-      (refl, refl) (refl, both_sent (take 16 messages) both_begin (14, omega arith, refl) (15, omega arith, refl), inl refl) (tells 16) (once 16)
-      (All-from_recursion (IsOfSession (take 14 messages) both_begin) (drop 14 (take 16 messages)) ((refl, (omega arith, omega arith), tt), ((refl, (omega arith, omega arith), tt), tt))),
-  refl,
+  up_not_down,
+  inr (
+    refl,
+    (
+      goes opened_again (IsNext begun_archive) (StartsFrom begun_archive) next_archive (Some both_begin) (drop 14 (take 16 messages)) (Session 2 ∷ []) []
+          refl (All-cons (IsNext begun_archive) (Session 2) [] refl (All-nil (IsNext begun_archive))) (record { lawful = tt; not_refused = refl }, tt) refl
+          (refl, refl) (refl, both_sent (take 16 messages) both_begin (14, omega arith, refl) (15, omega arith, refl), inl refl) (tells 16) (once 16)
+          (All-from_recursion (IsOfSession (take 14 messages) both_begin) (drop 14 (take 16 messages)) ((refl, (omega arith, omega arith), tt), ((refl, (omega arith, omega arith), tt), tt))),
+      refl,
+      inl refl,
+    ),
+  ),
 )
 
 -- The steps of the sides

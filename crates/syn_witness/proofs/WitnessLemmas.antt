@@ -9,12 +9,13 @@ use Rattle.syn_model.specs.Archive.{Session, new_archive}
 use Rattle.syn_headline.specs.Side.{Begin}
 use Rattle.syn_headline.specs.Network.{Which, Left, Right, Asks, Sent, NumbersTell, AsksNothingTwice}
 use Rattle.syn_headline.specs.Acknowledged.{Happened, Kept_by}
-use Rattle.syn_headline.specs.World.{World, Running, Outstanding, Step, Start, Tick, Up, Steps, Runs, cut, edit_written, recovered, stopped, goes_on, ended, WasSent, IsOfSession, IsNothing, IsNext, StartsFrom, GoesOnAs}
-use Rattle.syn_witness.specs.Witness.{new_machine, opened_world, OpenedIsStart, StopIsRecovered, SilenceEnds, a_path, put_one, one, unanswered}
+use Rattle.syn_headline.specs.World.{World, Running, Outstanding, Step, Start, Tick, Up, Steps, Runs, cut, recovered, stopped, goes_on, ended, WasSent, IsOfSession, IsNothing, IsNext, StartsFrom, GoesOnAs}
+use Rattle.syn_headline.specs.Rows.{has_room}
+use Rattle.syn_witness.specs.Witness.{keeps_all, new_machine, opened_world, OpenedIsStart, StopIsRecovered, SilenceEnds, a_path, put_one, one, unanswered}
 use Rattle.syn_headline.proofs.FormattedLemmas.{formatted_is_pair}
 use Rattle.syn_witness.proofs.WitnessTrees.{fits_by}
 use Rattle.syn_witness.proofs.WitnessFiles.{IsLetter, content, with_file, alone-entries, file-entries, put-entries, put_allowed}
-use Rattle.syn_witness.proofs.WitnessSteps.{goes, up_not_down}
+use Rattle.syn_witness.proofs.WitnessSteps.{edits, goes, up_not_down}
 use Rattle.syn_witness.proofs.WitnessMessages.{IsNumbered, numbers_tell, asks_once}
 
 pub opened_is_start : OpenedIsStart
@@ -39,7 +40,7 @@ cut_world = record opened_world { left = stopped new_machine (Some (Edited 1 put
 
 recovered_world : World
 recovered_world = record opened_world {
-  left = record { status = Up; side = record { history = Edited 1 put_one ∷ []; staging = None }; writing = None };
+  left = record { status = Up; side = record { history = Edited 1 put_one ∷ []; staging = None }; has_room = has_room; writing = None };
   acknowledged = Happened Left (Edited 1 put_one) ∷ [];
 }
 
@@ -49,8 +50,8 @@ stop_is_recovered = record {
   new = recovered_world;
   runs = (
     cut_world,
-    (stopped new_machine (Some (Edited 1 put_one)), [], edit_written _ [] refl edit_allowed cut, refl),
-    (recovered_world, inr (refl, (recovered_world.left, Edited 1 put_one ∷ [], recovered (Edited 1 put_one) refl edit_allowed, refl)), refl),
+    edits opened_world Left 1 put_one (stopped new_machine (Some (Edited 1 put_one))) [] cut_world refl refl edit_allowed cut refl,
+    (recovered_world, inr (refl, inl (recovered_world.left, Edited 1 put_one ∷ [], recovered has_room (Edited 1 put_one) refl edit_allowed, refl)), refl),
   );
   sent = refl;
   acknowledged_then = refl;
@@ -92,7 +93,7 @@ begin_waits resent Right = begin_sent resent Right
 
 abbrev waiting : ℕ → World
 waiting resent = record opened_world {
-  coordinator = record { status = Up; archive = record { marks = empty_directory; last_session = 1 }; writing = None; running = Some (waiting_for resent) };
+  coordinator = record { status = Up; archive = record { marks = empty_directory; last_session = 1 }; has_room = keeps_all; writing = None; running = Some (waiting_for resent) };
   sent = begins (suc resent);
   acknowledged = Kept_by (Session 1) ∷ [];
 }
@@ -105,11 +106,17 @@ begins_lawful running sent e =
 starts : Steps opened_world Start (waiting 0)
 unfolding begins
 starts = inr (
-  refl,
-  goes opened_world (IsNext new_archive) (StartsFrom new_archive) (record { marks = empty_directory; last_session = 1 }) (Some (waiting_for 0)) (begins 1) (Session 1 ∷ []) []
-      refl (All-cons (IsNext new_archive) (Session 1) [] refl (All-nil (IsNext new_archive))) (record { lawful = tt; not_refused = refl }, tt) refl
-      (refl, refl) (refl, begin_waits 0, inl refl) (begins_tell 1) (begins_once 1) (begins_lawful (waiting_for 0) [] refl),
-  refl,
+  up_not_down,
+  inr (
+    refl,
+    (
+      goes opened_world (IsNext new_archive) (StartsFrom new_archive) (record { marks = empty_directory; last_session = 1 }) (Some (waiting_for 0)) (begins 1) (Session 1 ∷ []) []
+          refl (All-cons (IsNext new_archive) (Session 1) [] refl (All-nil (IsNext new_archive))) (record { lawful = tt; not_refused = refl }, tt) refl
+          (refl, refl) (refl, begin_waits 0, inl refl) (begins_tell 1) (begins_once 1) (begins_lawful (waiting_for 0) [] refl),
+      refl,
+      inl refl,
+    ),
+  ),
 )
 
 resends : (resent : ℕ) → Steps (waiting resent) Tick (waiting (suc resent))
@@ -125,7 +132,7 @@ resends resent = inr (
 
 abbrev ended_world : ℕ → World
 ended_world resent = record (waiting resent) {
-  coordinator = record { status = Up; archive = record { marks = empty_directory; last_session = 1 }; writing = None; running = None };
+  coordinator = record { status = Up; archive = record { marks = empty_directory; last_session = 1 }; has_room = keeps_all; writing = None; running = None };
   reports = (unanswered, 1) ∷ [];
 }
 
