@@ -125,8 +125,8 @@ module _ (plans : Plans) (old : World) (k : IsKept plans old) (new : World) wher
   course (Edits side user edit) g = calls (At side) (edit_causes (side_of old side) (Edited user edit)) (IsLawfulEvent (Edited user edit) × SideGoes old side (Writes (side_of old side) (Edited user edit)) [] new) (λ h. side_goes old new side h.1.0 _ h.1.1 h.1.3) g
   course Start g = calls Coordinator (start_causes old.coordinator) (Starts old new) (λ h. starts h.0 h.1) g
   course (Deliver message) g = delivers old new (slice_get old.sent message) (was_sent plans old k new message) g
-  course Tick (inl e) = stays old new e
-  course Tick (inr g) = ticks g.0 g.1
+  course Tick (inl g) = stays old new g.1
+  course Tick (inr g) = ticks g.1.goes g.1.reports
   course (Checkpoint machine) (full, g) = calls machine ((full, why.Full) ∷ []) (Reopens old machine new) (reopens machine) g
   course (Fail machine call) e = stays old new e
   course (Stop machine zero) (inl g) = stays old new g.1

@@ -476,8 +476,8 @@ module _ (plans : Plans) (old : World) (k : IsKept plans old) (new : World) wher
   step_advances (Edits side user edit) g = calls_advances (At side) (edit_causes (side_of old side) (Edited user edit)) (IsLawfulEvent (Edited user edit) × SideGoes old side (Writes (side_of old side) (Edited user edit)) [] new) (edit_advances side user edit) g
   step_advances Start g = calls_advances Coordinator (start_causes old.coordinator) (Starts old new) (λ none up h. start_advances plans old k new h.0) g
   step_advances (Deliver message) g = delivers_advances plans old k new (slice_get old.sent message) (was_sent plans old k new message) g
-  step_advances Tick (inl e) = stays plans old new k e
-  step_advances Tick (inr g) = tick_with plans old k new old.coordinator.running refl g.0
+  step_advances Tick (inl g) = stays plans old new k g.1
+  step_advances Tick (inr g) = tick_with plans old k new old.coordinator.running refl g.1.goes
   step_advances (Checkpoint machine) (full, g) = calls_advances machine ((full, why.Full) ∷ []) (Reopens old machine new) (λ none up h. reopens_advances machine h) g
   step_advances (Fail machine call) e = stays plans old new k e
   step_advances (Stop machine zero) (inl g) = stays plans old new k g.1

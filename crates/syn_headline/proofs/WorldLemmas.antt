@@ -170,8 +170,8 @@ step_stands before old (Edits side user edit) new s g =
     calls before old (At side) (edit_causes (side_of old side) (Edited user edit)) (IsLawfulEvent (Edited user edit) × SideGoes old side (Writes (side_of old side) (Edited user edit)) [] new) new s (λ h. side_steps before old side (Writes (side_of old side) (Edited user edit)) new (writes_history (side_of old side) (Edited user edit)) s h.1) g
 step_stands before old Start new s g = calls before old Coordinator (start_causes old.coordinator) (Starts old new) new s (λ h. coordinator_steps before old _ _ new s h.0) g
 step_stands before old (Deliver message) new s g = delivers before old (slice_get old.sent message) new s g
-step_stands before old Tick new s (inl e) = same_world before old new s e
-step_stands before old Tick new s (inr g) = coordinator_steps before old _ _ new s g.0
+step_stands before old Tick new s (inl g) = same_world before old new s g.1
+step_stands before old Tick new s (inr g) = coordinator_steps before old _ _ new s g.1.goes
 step_stands before old (Checkpoint machine) new s (full, g) = calls before old machine ((full, why.Full) ∷ []) (Reopens old machine new) new s (reopens before old machine new s) g
 step_stands before old (Fail machine call) new s e = same_world before old new s e
 step_stands before old (Stop machine zero) new s (inl g) = same_world before old new s g.1

@@ -1,6 +1,6 @@
 -- Three machines and the network between them, and what a step may do.
 use Rattle.std.specs.Option.{option_map_or}
-use Rattle.std.specs.Prelude.{ℕ, zero, suc, true, false, not, is_some, nat_le, ◌+◌, ◌≡◌, ◌≢◌, ◌⊎◌, Bool, List, [], ◌∷◌, ◌++◌, slice_get, map, Option, Some, None, Contains, IfSome, IsSome, IsSomeAnd, All, length, option_map}
+use Rattle.std.specs.Prelude.{ℕ, zero, suc, true, false, not, is_some, nat_le, ◌||◌, ◌+◌, ◌≡◌, ◌≢◌, ◌⊎◌, Bool, List, [], ◌∷◌, ◌++◌, slice_get, map, Option, Some, None, Contains, IfSome, IsSome, IsSomeAnd, All, length, option_map}
 use Rattle.syn_model.specs.Path.{Path}
 use Rattle.syn_model.specs.Refusal.{Refusal, Device, Cause, first_cause}
 use Rattle.syn_model.specs.Refusal as why
@@ -283,13 +283,55 @@ Reports old new plan Ends =
     ⊎ ((running : Running) × (report : Report) × (old.coordinator.running ≡ Some running) × (new.coordinator.running ≡ None) × (new.coordinator.status ≢ Down)
     × (new.reports ≡ old.reports ++ (report, length new.acknowledged) ∷ []) × Ends running report × Counts plan (kept_in_session new.acknowledged) report)
 
+-- what an archive may answer to a record that is due: its device fails or has failed before, or it has no room
+pub data ArchiveMeets (old new : CoordinatorMachine) (IsDue_now : Kept → Type 0) : Refusal → Type 0 where
+  fails : old.status ≡ Up → new.status ≡ Halted → ArchiveMeets old new IsDue_now Device
+  failed_before : (kept : Kept) → IsDue_now kept → old.status ≡ Halted → ArchiveMeets old new IsDue_now why.Halted
+  no_room : (kept : Kept) → IsDue_now kept → new.has_room kept ≡ false → ArchiveMeets old new IsDue_now why.JournalFull
+
 abbrev pub EndsTaken : World → World → Which → List Planned → Reply → Running → Report → Type 0
 EndsTaken old new from plan reply running report =
-    EndsAs old.sent running.session old.coordinator.archive.marks plan (kept_in_session new.acknowledged) (option_map (λ waiting. waiting.request) (outstanding running from)) reply report
+    EndsAs old.sent running.session old.coordinator.archive.marks plan (kept_in_session new.acknowledged) (option_map (λ waiting. waiting.request) (outstanding running from)) reply
+    (ArchiveMeets old.coordinator new.coordinator (IsDue running plan from reply)) report
 
--- nobody answers, or memory is refused
+-- a start takes the next number
+abbrev pub IsNext : Archive → Kept → Type 0
+IsNext archive kept = kept ≡ Session (archive.last_session + 1)
+
+abbrev pub IsNothing : Kept → Type 0
+IsNothing kept = ⊥
+
+-- a request is sent again, at most so many times
+abbrev pub most_resends : ℕ
+most_resends = 8
+
+abbrev pub is_resent : Option Outstanding → Bool
+is_resent waiting = option_map_or (λ waiting. nat_le most_resends waiting.resent) waiting false
+
+abbrev pub once_more : Outstanding → Outstanding
+once_more waiting = record waiting { resent = suc waiting.resent }
+
+abbrev pub resent_to : Which → Running → List Message
+resent_to side running = option_map_or (λ waiting. Asks side running.session waiting.number waiting.request ∷ []) (outstanding running side) []
+
+-- nobody answers a request that was sent so often, or memory is refused
 abbrev pub EndsUnanswered : Running → Report → Type 0
-EndsUnanswered running report = (report.session ≡ running.session) × (report.end ≡ Incomplete) × ((report.ended ≡ Some why.NoAnswer) ⊎ (report.ended ≡ Some why.Memory))
+EndsUnanswered running report =
+    (report.session ≡ running.session) × (report.end ≡ Incomplete)
+    × ((((is_resent running.left || is_resent running.right) ≡ true) × (report.ended ≡ Some why.NoAnswer)) ⊎ (report.ended ≡ Some why.Memory))
+
+-- each request that waits is sent once more, unless one was sent so often already
+pub record SendsAgain (old new : World) (running later : Running) : Type 0 where
+  pub not_yet : (is_resent running.left || is_resent running.right) ≡ false
+  pub counted : later ≡ record running { left = option_map once_more running.left; right = option_map once_more running.right }
+  pub again : new.sent ≡ old.sent ++ (resent_to Left running ++ resent_to Right running)
+
+-- a tick of a session that runs sends its requests again or ends it, with no device call
+pub record Ticks (old new : World) : Type 0 where
+  pub goes : CoordinatorGoes old IsNothing (GoesOnFrom old.coordinator.running (plan_of old.coordinator.running)) new
+  pub reports : Reports old new (plan_of old.coordinator.running) EndsUnanswered
+  pub same_status : new.coordinator.status ≡ old.coordinator.status
+  pub sends : IfSome old.coordinator.running (λ running. IfSome new.coordinator.running (SendsAgain old new running))
 
 -- the coordinator takes an answer, or ignores one that it does not wait for
 pub data TakesAnswer (old : World) (from : Which) (session number : ℕ) (reply : Reply) (new : World) : Type 0 where
@@ -298,13 +340,6 @@ pub data TakesAnswer (old : World) (from : Which) (session number : ℕ) (reply 
       Reports old new plan (EndsTaken old new from plan reply) → TakesAnswer old from session number reply new
   ignored : (IsExpected old.coordinator.running from session number → ⊥) → new ≡ old → TakesAnswer old from session number reply new
   coordinator_down : old.coordinator.status ≡ Down → new ≡ old → TakesAnswer old from session number reply new
-
--- a start takes the next number
-abbrev pub IsNext : Archive → Kept → Type 0
-IsNext archive kept = kept ≡ Session (archive.last_session + 1)
-
-abbrev pub IsNothing : Kept → Type 0
-IsNothing kept = ⊥
 
 abbrev pub Delivers : World → Option Message → World → Type 0
 Delivers old None new = new ≡ old
@@ -379,8 +414,7 @@ Steps old (Edits side user edit) new =
     Calls old (At side) (edit_causes machine event) (IsLawfulEvent event × SideGoes old side (Writes machine event) [] new) new
 Steps old Start new = Calls old Coordinator (start_causes old.coordinator) (Starts old new) new
 Steps old (Deliver message) new = Delivers old (slice_get old.sent message) new
-Steps old Tick new =
-    (new ≡ old) ⊎ (CoordinatorGoes old IsNothing (GoesOnFrom old.coordinator.running (plan_of old.coordinator.running)) new × Reports old new (plan_of old.coordinator.running) EndsUnanswered)
+Steps old Tick new = ((old.coordinator.running ≡ None) × (new ≡ old)) ⊎ ((old.coordinator.running ≢ None) × Ticks old new)
 Steps old (Checkpoint machine) new = (full : Bool) × Calls old machine ((full, why.Full) ∷ []) (Reopens old machine new) new
 Steps old (Fail machine call) new = new ≡ old
 Steps old (Stop machine zero) new = ((status_of old machine ≡ Down) × (new ≡ old)) ⊎ ((status_of old machine ≢ Down) × (new ≡ cut_off old machine))

@@ -1,7 +1,8 @@
 -- A stop with its recovery, and a session without answers.
-use Rattle.std.proofs.Common.{◌≡◌, ℕ, zero, suc, List, [], ◌∷◌, ◌++◌, ◌+◌, replicate, append-nil, refl, sym, subst, Some, None, arith, inl, inr}
+use Rattle.std.proofs.Common.{◌≡◌, ◌≢◌, ◌≤◌, ◌||◌, nat_le, true, false, ap, ℕ, zero, suc, List, [], ◌∷◌, ◌++◌, ◌+◌, replicate, append-nil, refl, sym, subst, Some, None, arith, inl, inr}
 use Rattle.std.specs.Prelude.{All, Contains}
 use Rattle.std.proofs.lemmas.List.Elements.{All-nil, All-cons, All-append, All-from_recursion, Contains-append_right}
+use Rattle.std.proofs.lemmas.Bool.Decides.{nat_tests}
 use Rattle.syn_model.specs.Tree.{empty_directory, replace}
 use Rattle.syn_model.specs.Event.{Edited}
 use Rattle.syn_model.specs.History.{IsAllowed}
@@ -9,7 +10,7 @@ use Rattle.syn_model.specs.Archive.{Session, new_archive}
 use Rattle.syn_headline.specs.Side.{Begin}
 use Rattle.syn_headline.specs.Network.{Which, Left, Right, Asks, Sent, NumbersTell, AsksNothingTwice}
 use Rattle.syn_headline.specs.Acknowledged.{Happened, Kept_by}
-use Rattle.syn_headline.specs.World.{World, Running, Outstanding, Step, Start, Tick, Up, Steps, Runs, cut, recovered, stopped, goes_on, ended, WasSent, IsOfSession, IsNothing, IsNext, StartsFrom, GoesOnAs}
+use Rattle.syn_headline.specs.World.{most_resends, World, Running, Outstanding, Step, Start, Tick, Up, Steps, Runs, cut, recovered, stopped, goes_on, ended, WasSent, IsOfSession, IsNothing, IsNext, StartsFrom, GoesOnAs}
 use Rattle.syn_headline.specs.Rows.{has_room}
 use Rattle.syn_witness.specs.Witness.{keeps_all, new_machine, opened_world, OpenedIsStart, StopIsRecovered, SilenceEnds, a_path, put_one, one, unanswered}
 use Rattle.syn_headline.proofs.FormattedLemmas.{formatted_is_pair}
@@ -119,15 +120,23 @@ starts = inr (
   ),
 )
 
-resends : (resent : ℕ) → Steps (waiting resent) Tick (waiting (suc resent))
+some_runs : (running : Running) → Some running ≢ None
+some_runs running e = cc
+
+resends : (resent : ℕ) → nat_le most_resends resent ≡ false → Steps (waiting resent) Tick (waiting (suc resent))
 unfolding begins
-resends resent = inr (
-  goes (waiting resent) IsNothing (GoesOnAs (waiting_for resent) []) (record { marks = empty_directory; last_session = 1 }) (Some (waiting_for (suc resent)))
-      (Asks Left 1 0 (Begin 7) ∷ Asks Right 1 0 (Begin 7) ∷ []) [] []
-      refl (All-nil IsNothing) tt refl
-      (goes_on (waiting_for (suc resent)) refl refl) (refl, begin_waits (suc resent), inl refl) (begins_tell (suc (suc resent))) (begins_once (suc (suc resent)))
-      (begins_lawful (waiting_for (suc resent)) (begins (suc resent)) refl),
-  inl (refl, inl refl),
+resends resent early = inr (
+  some_runs (waiting_for resent),
+  record {
+    goes = goes (waiting resent) IsNothing (GoesOnAs (waiting_for resent) []) (record { marks = empty_directory; last_session = 1 }) (Some (waiting_for (suc resent)))
+        (Asks Left 1 0 (Begin 7) ∷ Asks Right 1 0 (Begin 7) ∷ []) [] []
+        refl (All-nil IsNothing) tt refl
+        (goes_on (waiting_for (suc resent)) refl refl) (refl, begin_waits (suc resent), inl refl) (begins_tell (suc (suc resent))) (begins_once (suc (suc resent)))
+        (begins_lawful (waiting_for (suc resent)) (begins (suc resent)) refl);
+    reports = inl (refl, inl refl);
+    same_status = refl;
+    sends = record { not_yet = ap (λ b. b || b) early; counted = refl; again = refl };
+  },
 )
 
 abbrev ended_world : ℕ → World
@@ -136,14 +145,19 @@ ended_world resent = record (waiting resent) {
   reports = (unanswered, 1) ∷ [];
 }
 
-gives_up : (resent : ℕ) → Steps (waiting resent) Tick (ended_world resent)
-gives_up resent =
+gives_up : (resent : ℕ) → nat_le most_resends resent ≡ true → Steps (waiting resent) Tick (ended_world resent)
+gives_up resent late =
     let same = append-nil (begins (suc resent)) in
     subst (λ sent. Steps (waiting resent) Tick (record (ended_world resent) { sent = sent })) same
     (inr (
-      goes (waiting resent) IsNothing (GoesOnAs (waiting_for resent) []) (record { marks = empty_directory; last_session = 1 }) None [] [] ((unanswered, 1) ∷ [])
-          refl (All-nil IsNothing) tt refl ended tt (subst NumbersTell (sym same) (begins_tell (suc resent))) (subst AsksNothingTwice (sym same) (begins_once (suc resent))) refl,
-      inr (waiting_for resent, unanswered, refl, refl, up_not_down, refl, (refl, refl, inl refl), record { done = refl; marked = refl }),
+      some_runs (waiting_for resent),
+      record {
+        goes = goes (waiting resent) IsNothing (GoesOnAs (waiting_for resent) []) (record { marks = empty_directory; last_session = 1 }) None [] [] ((unanswered, 1) ∷ [])
+            refl (All-nil IsNothing) tt refl ended tt (subst NumbersTell (sym same) (begins_tell (suc resent))) (subst AsksNothingTwice (sym same) (begins_once (suc resent))) refl;
+        reports = inr (waiting_for resent, unanswered, refl, refl, up_not_down, refl, (refl, refl, inl (ap (λ b. b || b) late, refl)), record { done = refl; marked = refl });
+        same_status = refl;
+        sends = tt;
+      },
     ))
 
 one_later : (m n : ℕ) → suc m + n ≡ m + suc n
@@ -152,16 +166,19 @@ one_later m n = omega arith
 none_later : (n : ℕ) → zero + n ≡ n
 none_later n = omega arith
 
-ticks : (times resent : ℕ) (more : List Step) (last : World) → Runs (waiting (times + resent)) more last → Runs (waiting resent) (replicate times Tick ++ more) last
-ticks zero resent more last h = subst (λ n. Runs (waiting n) more last) (none_later resent) h
-ticks (suc times) resent more last h =
-    (waiting (suc resent), resends resent, ticks times (suc resent) more last (subst (λ n. Runs (waiting n) more last) (one_later times resent) h))
+not_yet : (times resent : ℕ) → suc times + resent ≤ most_resends → nat_le most_resends resent ≡ false
+not_yet times resent h = grind (arith, nat_tests)
+
+ticks : (times resent : ℕ) (more : List Step) (last : World) → times + resent ≤ most_resends → Runs (waiting (times + resent)) more last → Runs (waiting resent) (replicate times Tick ++ more) last
+ticks zero resent more last few h = subst (λ n. Runs (waiting n) more last) (none_later resent) h
+ticks (suc times) resent more last few h =
+    (waiting (suc resent), resends resent (not_yet times resent few), ticks times (suc resent) more last (subst (λ n. n ≤ most_resends) (one_later times resent) few) (subst (λ n. Runs (waiting n) more last) (one_later times resent) h))
 
 pub silence_ends : SilenceEnds
 unfolding begins
 silence_ends = record {
   new = ended_world 8;
-  runs = (waiting 0, starts, ticks 8 0 (Tick ∷ []) (ended_world 8) (ended_world 8, gives_up 8, refl));
+  runs = (waiting 0, starts, ticks 8 0 (Tick ∷ []) (ended_world 8) (omega arith) (ended_world 8, gives_up 8 refl, refl));
   sent = refl;
   acknowledged_then = refl;
   reported = refl;
