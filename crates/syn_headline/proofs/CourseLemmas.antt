@@ -9,7 +9,7 @@ use Rattle.syn_headline.specs.Side.{Request, Reply}
 use Rattle.syn_headline.specs.Network.{Which, Left, Right, Sent, Message, Asks, Answers}
 use Rattle.syn_headline.specs.Planning.{Planned}
 use Rattle.syn_headline.specs.Acknowledged.{Ack, Happened, Kept_by, kept_in}
-use Rattle.syn_headline.specs.World.{Up, Halted, Machine, At, Coordinator, World, SideMachine, CoordinatorMachine, set_side, Step, Edits, Start, Deliver, Tick, Checkpoint, Fail, Stop, Open, Reopen, OpensArchive, archive_opened, archive_recovered, refuses_with, edit_causes, start_causes, Starts, Writes, SideGoes, Reopens, Calls, side_of, TakesRequest, answered, request_failed, request_cut, side_down, IsDueAfter, IsOver, IsExpected, HasPlan, GoesOnFrom, plan_of, StartsFrom, IsNext, IsNothing, AllCanKeep, CoordinatorGoes, Reports, EndsTaken, EndsUnanswered, TakesAnswer, taken, ignored, coordinator_down, Delivers, OpensMachine, cut_off, halted, Steps}
+use Rattle.syn_headline.specs.World.{IsNoItem, RefusesTaken, Up, Halted, Machine, At, Coordinator, World, SideMachine, CoordinatorMachine, set_side, Step, Edits, Start, Deliver, Tick, Checkpoint, Fail, Stop, Open, Reopen, OpensArchive, archive_opened, archive_recovered, refuses_with, edit_causes, start_causes, Starts, Writes, SideGoes, Reopens, Calls, side_of, TakesRequest, answered, request_failed, request_cut, side_down, IsDueAfter, IsOver, IsExpected, HasPlan, GoesOnFrom, plan_of, StartsFrom, IsNext, IsNothing, AllCanKeep, CoordinatorGoes, Reports, EndsTaken, EndsUnanswered, TakesAnswer, taken, ignored, coordinator_down, Delivers, OpensMachine, cut_off, halted, Steps}
 use Rattle.syn_headline.proofs.Invariant.{Plans, histories_of, IsHarmless, IsKept}
 use Rattle.syn_headline.proofs.WorldLemmas.{kept_events, kept_kept}
 use Rattle.syn_headline.proofs.RunLemmas.{was_sent, no_acks}
@@ -19,10 +19,10 @@ pub data Course (old new : World) : Type 0 where
   beside : (acks : List Ack) → new.acknowledged ≡ old.acknowledged ++ acks → AllCanKeep old.coordinator.archive (filter_map kept_in acks) →
       (new.coordinator.running ≡ None) ⊎ ((new.coordinator.running ≡ old.coordinator.running) × (filter_map kept_in acks ≡ [])) → new.reports ≡ old.reports → Course old new
   starts : CoordinatorGoes old (IsNext old.coordinator.archive) (StartsFrom old.coordinator.archive) new → new.reports ≡ old.reports → Course old new
-  ticks : CoordinatorGoes old IsNothing (GoesOnFrom old.coordinator.running (plan_of old.coordinator.running)) new → Reports old new (plan_of old.coordinator.running) EndsUnanswered → Course old new
+  ticks : CoordinatorGoes old IsNothing (GoesOnFrom old.coordinator.running (plan_of old.coordinator.running)) new → Reports old new (plan_of old.coordinator.running) IsNoItem EndsUnanswered → Course old new
   takes : (from : Which) (session number : ℕ) (reply : Reply) (plan : List Planned) → Contains old.sent (Answers from session number reply) → IsExpected old.coordinator.running from session number →
       HasPlan old.sent old.coordinator.archive old.coordinator.running plan →
-      CoordinatorGoes old (IsDueAfter old.coordinator.running plan from reply) (λ running. GoesOnFrom old.coordinator.running plan running × IsOver from number running) new → Reports old new plan (EndsTaken old new from plan reply) → Course old new
+      CoordinatorGoes old (IsDueAfter old.coordinator.running plan from reply) (λ running. GoesOnFrom old.coordinator.running plan running × IsOver from number running) new → Reports old new plan (RefusesTaken old new from plan reply) (EndsTaken old new from plan reply) → Course old new
 
 -- nothing is kept
 nothing_kept : (a : Archive) (kept : List Kept) → kept ≡ [] → AllCanKeep a kept

@@ -17,7 +17,7 @@ use Rattle.syn_headline.specs.Network.{Which, Left, Right, Answers}
 use Rattle.syn_headline.specs.Planning.{Planned}
 use Rattle.syn_headline.specs.Acknowledged.{Ack, kept_in, Stores, history_of, stores_after}
 use Rattle.syn_headline.specs.Report.{Report, Complete, Incomplete, Counts, IsSettled, kept_in_session, since_start}
-use Rattle.syn_headline.specs.World.{World, Running, IsExpected, IsOver, IsDueAfter, HasPlan, GoesOnFrom, plan_of, AllCanKeep, CoordinatorGoes, Reports, EndsTaken, EndsUnanswered}
+use Rattle.syn_headline.specs.World.{IsNoItem, RefusesTaken, World, Running, IsExpected, IsOver, IsDueAfter, HasPlan, GoesOnFrom, plan_of, AllCanKeep, CoordinatorGoes, Reports, EndsTaken, EndsUnanswered}
 use Rattle.syn_headline.specs.Headline.{IsNoEdit, BeganAfter, Synchronizes, HasCounts, StandsFor}
 use Rattle.syn_headline.proofs.Invariant.{Plans, histories_of, IsKept}
 use Rattle.syn_headline.proofs.RunLemmas.{Advances}
@@ -180,14 +180,14 @@ module _ (before : Stores) (whole : IsTree before.archive.marks) (shallow : HasD
   told_still : new.reports ≡ old.reports → AllTold before new
   told_still e report acks c complete = told_before report acks (subst (λ w. Contains w (report, acks)) e c) complete
 
-  told_ticks : Reports old new (plan_of old.coordinator.running) EndsUnanswered → AllTold before new
+  told_ticks : Reports old new (plan_of old.coordinator.running) IsNoItem EndsUnanswered → AllTold before new
   told_ticks (inl (e, on)) = told_still e
-  told_ticks (inr (running, report, runs, none, up, e, ends, counts)) = told_now report e (λ complete. absurd (not_complete (sym complete ∙ ends.1)))
+  told_ticks (inr (running, report, runs, none, up, e, ends, counts, refused)) = told_now report e (λ complete. absurd (not_complete (sym complete ∙ ends.1)))
 
   told_takes : (from : Which) (session number : ℕ) (reply : Reply) (plan : List Planned) → Contains old.sent (Answers from session number reply) → IsExpected old.coordinator.running from session number → HasPlan old.sent old.coordinator.archive old.coordinator.running plan →
-      CoordinatorGoes old (IsDueAfter old.coordinator.running plan from reply) (λ running. GoesOnFrom old.coordinator.running plan running × IsOver from number running) new → Reports old new plan (EndsTaken old new from plan reply) → AllTold before new
+      CoordinatorGoes old (IsDueAfter old.coordinator.running plan from reply) (λ running. GoesOnFrom old.coordinator.running plan running × IsOver from number running) new → Reports old new plan (RefusesTaken old new from plan reply) (EndsTaken old new from plan reply) → AllTold before new
   told_takes from session number reply plan heard expected made g (inl (e, on)) = told_still e
-  told_takes from session number reply plan heard expected made g (inr (running, report, is, none, up, e, ends, counts)) = told_now report e (λ complete.
+  told_takes from session number reply plan heard expected made g (inr (running, report, is, none, up, e, ends, counts, refused)) = told_now report e (λ complete.
       tells before whole shallow plans old new k stands stands_then runs can running is from session number reply plan heard
       (subst (λ o. IsExpected o from session number) is expected) (subst (λ o. HasPlan old.sent old.coordinator.archive o plan) is made)
       (subst (λ o. CoordinatorGoes old (IsDueAfter o plan from reply) (λ running. GoesOnFrom o plan running × IsOver from number running) new) is g) report ends counts complete)

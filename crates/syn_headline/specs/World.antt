@@ -13,7 +13,7 @@ use Rattle.syn_headline.specs.Network.{Which, Left, Right, other, Message, Asks,
 use Rattle.syn_headline.specs.Acknowledged.{Ack, Happened, Kept_by}
 use Rattle.syn_headline.specs.Planning.{Planned, seen_on, HasBegun, IsPlanOf, WritesTo, IsFetched, IsTotal}
 use Rattle.syn_model.specs.Decision.{MarkSame, MarkDir}
-use Rattle.syn_headline.specs.Report.{Report, Incomplete, Counts, EndsAs, kept_in_session}
+use Rattle.syn_headline.specs.Report.{Report, Incomplete, Counts, IsRefusedItem, EndsAs, kept_in_session}
 
 pub data Machine : Type 0 where
   At : (side : Which) → Machine
@@ -48,9 +48,10 @@ pub record Outstanding : Type 0 where
   pub request : Request
   pub resent : ℕ
 
--- a session that runs, with its plan once it is made
+-- a session that runs, with its plan once it is made, and what of it was refused so far
 pub record Running : Type 0 where
   pub session : ℕ
+  pub refused : List (Refusal × Path)
   pub left : Option Outstanding
   pub right : Option Outstanding
   pub plan : List Planned
@@ -215,7 +216,7 @@ plan_of running = option_map_or (λ running. running.plan) running []
 
 -- a session starts with the next number
 abbrev pub StartsFrom : Archive → Option Running → Type 0
-StartsFrom archive running = IfSome running (λ new. (new.session ≡ archive.last_session + 1) × (new.plan ≡ []))
+StartsFrom archive running = IfSome running (λ new. (new.session ≡ archive.last_session + 1) × (new.plan ≡ []) × (new.refused ≡ []))
 
 -- a request that waits was sent
 abbrev pub WasSent : Sent → Running → Type 0
@@ -276,12 +277,35 @@ IsDueAfter running plan from reply kept = IsSomeAnd running (λ running. IsDue r
 abbrev pub IsOver : Which → ℕ → Option Running → Type 0
 IsOver from number running = IfSome running (λ running. IfSome (outstanding running from) (λ waiting. waiting.number ≢ number))
 
--- the reports stay while the session goes on, or where the machine stops; or it is over and reports how it ended and what it recorded
-abbrev pub Reports : World → World → List Planned → (Running → Report → Type 0) → Type 0
-Reports old new plan Ends =
-    ((new.reports ≡ old.reports) × (IsSome new.coordinator.running ⊎ (new.coordinator.status ≡ Down)))
+-- what was refused before, and what is refused now
+abbrev pub AddsRefused : (Refusal × Path → Type 0) → List (Refusal × Path) → List (Refusal × Path) → Type 0
+AddsRefused IsRefused_now old new = (more : List (Refusal × Path)) × All IsRefused_now more × (new ≡ old ++ more)
+
+-- the session goes on without a report, or is forgotten as the machine stops
+abbrev pub GoesOnUnreported : World → World → (Refusal × Path → Type 0) → Type 0
+GoesOnUnreported old new IsRefused_now =
+    (IsSome new.coordinator.running ⊎ (new.coordinator.status ≡ Down))
+    × IfSome old.coordinator.running (λ running. IfSome new.coordinator.running (λ later. AddsRefused IsRefused_now running.refused later.refused))
+
+-- or it is over, and reports how it ended, what it recorded and what was refused
+abbrev pub Reports : World → World → List Planned → (Refusal × Path → Type 0) → (Running → Report → Type 0) → Type 0
+Reports old new plan IsRefused_now Ends =
+    ((new.reports ≡ old.reports) × GoesOnUnreported old new IsRefused_now)
     ⊎ ((running : Running) × (report : Report) × (old.coordinator.running ≡ Some running) × (new.coordinator.running ≡ None) × (new.coordinator.status ≢ Down)
-    × (new.reports ≡ old.reports ++ (report, length new.acknowledged) ∷ []) × Ends running report × Counts plan (kept_in_session new.acknowledged) report)
+    × (new.reports ≡ old.reports ++ (report, length new.acknowledged) ∷ []) × Ends running report × Counts plan (kept_in_session new.acknowledged) report
+    × AddsRefused IsRefused_now running.refused report.refused)
+
+-- the archive as it was before one of the records of a call, or after them
+abbrev pub IsArchiveWithin : World → World → Archive → Type 0
+IsArchiveWithin old new archive =
+    (kept : List Kept) × (more : List Kept) × (new.acknowledged ≡ old.acknowledged ++ map Kept_by (kept ++ more)) × (archive ≡ archive_of old.coordinator.archive kept)
+
+abbrev pub asked_of : Running → Which → Option Request
+asked_of running side = option_map (λ waiting. waiting.request) (outstanding running side)
+
+abbrev pub RefusesTaken : World → World → Which → List Planned → Reply → Refusal × Path → Type 0
+RefusesTaken old new from plan reply refused =
+    IsSomeAnd old.coordinator.running (λ running. IsRefusedItem plan (asked_of running from) reply (IsArchiveWithin old new) refused)
 
 -- what an archive may answer to a record that is due: its device fails or has failed before, or it has no room
 pub data ArchiveMeets (old new : CoordinatorMachine) (IsDue_now : Kept → Type 0) : Refusal → Type 0 where
@@ -291,7 +315,7 @@ pub data ArchiveMeets (old new : CoordinatorMachine) (IsDue_now : Kept → Type 
 
 abbrev pub EndsTaken : World → World → Which → List Planned → Reply → Running → Report → Type 0
 EndsTaken old new from plan reply running report =
-    EndsAs old.sent running.session old.coordinator.archive.marks plan (kept_in_session new.acknowledged) (option_map (λ waiting. waiting.request) (outstanding running from)) reply
+    EndsAs old.sent running.session old.coordinator.archive.marks plan (kept_in_session new.acknowledged) (asked_of running from) reply
     (ArchiveMeets old.coordinator new.coordinator (IsDue running plan from reply)) report
 
 -- a start takes the next number
@@ -300,6 +324,9 @@ IsNext archive kept = kept ≡ Session (archive.last_session + 1)
 
 abbrev pub IsNothing : Kept → Type 0
 IsNothing kept = ⊥
+
+abbrev pub IsNoItem : Refusal × Path → Type 0
+IsNoItem refused = ⊥
 
 -- a request is sent again, at most so many times
 abbrev pub most_resends : ℕ
@@ -329,7 +356,7 @@ pub record SendsAgain (old new : World) (running later : Running) : Type 0 where
 -- a tick of a session that runs sends its requests again or ends it, with no device call
 pub record Ticks (old new : World) : Type 0 where
   pub goes : CoordinatorGoes old IsNothing (GoesOnFrom old.coordinator.running (plan_of old.coordinator.running)) new
-  pub reports : Reports old new (plan_of old.coordinator.running) EndsUnanswered
+  pub reports : Reports old new (plan_of old.coordinator.running) IsNoItem EndsUnanswered
   pub same_status : new.coordinator.status ≡ old.coordinator.status
   pub sends : IfSome old.coordinator.running (λ running. IfSome new.coordinator.running (SendsAgain old new running))
 
@@ -337,7 +364,7 @@ pub record Ticks (old new : World) : Type 0 where
 pub data TakesAnswer (old : World) (from : Which) (session number : ℕ) (reply : Reply) (new : World) : Type 0 where
   taken : (plan : List Planned) → IsExpected old.coordinator.running from session number → HasPlan old.sent old.coordinator.archive old.coordinator.running plan →
       CoordinatorGoes old (IsDueAfter old.coordinator.running plan from reply) (λ running. GoesOnFrom old.coordinator.running plan running × IsOver from number running) new →
-      Reports old new plan (EndsTaken old new from plan reply) → TakesAnswer old from session number reply new
+      Reports old new plan (RefusesTaken old new from plan reply) (EndsTaken old new from plan reply) → TakesAnswer old from session number reply new
   ignored : (IsExpected old.coordinator.running from session number → ⊥) → new ≡ old → TakesAnswer old from session number reply new
   coordinator_down : old.coordinator.status ≡ Down → new ≡ old → TakesAnswer old from session number reply new
 

@@ -10,13 +10,13 @@ use Rattle.syn_model.specs.Archive.{Session, new_archive}
 use Rattle.syn_headline.specs.Side.{Begin}
 use Rattle.syn_headline.specs.Network.{Which, Left, Right, Asks, Sent, NumbersTell, AsksNothingTwice}
 use Rattle.syn_headline.specs.Acknowledged.{Happened, Kept_by}
-use Rattle.syn_headline.specs.World.{most_resends, World, Running, Outstanding, Step, Start, Tick, Up, Steps, Runs, cut, recovered, stopped, goes_on, ended, WasSent, IsOfSession, IsNothing, IsNext, StartsFrom, GoesOnAs}
+use Rattle.syn_headline.specs.World.{IsNoItem, most_resends, World, Running, Outstanding, Step, Start, Tick, Up, Steps, Runs, cut, recovered, stopped, goes_on, ended, WasSent, IsOfSession, IsNothing, IsNext, StartsFrom, GoesOnAs}
 use Rattle.syn_headline.specs.Rows.{has_room}
 use Rattle.syn_witness.specs.Witness.{keeps_all, new_machine, opened_world, OpenedIsStart, StopIsRecovered, SilenceEnds, a_path, put_one, one, unanswered}
 use Rattle.syn_headline.proofs.FormattedLemmas.{formatted_is_pair}
 use Rattle.syn_witness.proofs.WitnessTrees.{fits_by}
 use Rattle.syn_witness.proofs.WitnessFiles.{IsLetter, content, with_file, alone-entries, file-entries, put-entries, put_allowed}
-use Rattle.syn_witness.proofs.WitnessSteps.{edits, goes, up_not_down}
+use Rattle.syn_witness.proofs.WitnessSteps.{none_refused, edits, goes, up_not_down}
 use Rattle.syn_witness.proofs.WitnessMessages.{IsNumbered, numbers_tell, asks_once}
 
 pub opened_is_start : OpenedIsStart
@@ -86,7 +86,7 @@ abbrev begin_again : ℕ → Outstanding
 begin_again resent = record { number = 0; request = Begin 7; resent = resent }
 
 abbrev waiting_for : ℕ → Running
-waiting_for resent = record { session = 1; left = Some (begin_again resent); right = Some (begin_again resent); plan = [] }
+waiting_for resent = record { session = 1; refused = []; left = Some (begin_again resent); right = Some (begin_again resent); plan = [] }
 
 begin_waits : (resent : ℕ) → WasSent (begins (suc resent)) (waiting_for resent)
 begin_waits resent Left = begin_sent resent Left
@@ -113,7 +113,7 @@ starts = inr (
     (
       goes opened_world (IsNext new_archive) (StartsFrom new_archive) (record { marks = empty_directory; last_session = 1 }) (Some (waiting_for 0)) (begins 1) (Session 1 ∷ []) []
           refl (All-cons (IsNext new_archive) (Session 1) [] refl (All-nil (IsNext new_archive))) (record { lawful = tt; not_refused = refl }, tt) refl
-          (refl, refl) (refl, begin_waits 0, inl refl) (begins_tell 1) (begins_once 1) (begins_lawful (waiting_for 0) [] refl),
+          (refl, refl, refl) (refl, begin_waits 0, inl refl) (begins_tell 1) (begins_once 1) (begins_lawful (waiting_for 0) [] refl),
       refl,
       inl refl,
     ),
@@ -133,7 +133,7 @@ resends resent early = inr (
         refl (All-nil IsNothing) tt refl
         (goes_on (waiting_for (suc resent)) refl refl) (refl, begin_waits (suc resent), inl refl) (begins_tell (suc (suc resent))) (begins_once (suc (suc resent)))
         (begins_lawful (waiting_for (suc resent)) (begins (suc resent)) refl);
-    reports = inl (refl, inl refl);
+    reports = inl (refl, (inl refl, none_refused IsNoItem));
     same_status = refl;
     sends = record { not_yet = ap (λ b. b || b) early; counted = refl; again = refl };
   },
@@ -154,7 +154,7 @@ gives_up resent late =
       record {
         goes = goes (waiting resent) IsNothing (GoesOnAs (waiting_for resent) []) (record { marks = empty_directory; last_session = 1 }) None [] [] ((unanswered, 1) ∷ [])
             refl (All-nil IsNothing) tt refl ended tt (subst NumbersTell (sym same) (begins_tell (suc resent))) (subst AsksNothingTwice (sym same) (begins_once (suc resent))) refl;
-        reports = inr (waiting_for resent, unanswered, refl, refl, up_not_down, refl, (refl, refl, inl (ap (λ b. b || b) late, refl)), record { done = refl; marked = refl });
+        reports = inr (waiting_for resent, unanswered, refl, refl, up_not_down, refl, (refl, refl, inl (ap (λ b. b || b) late, refl)), record { done = refl; marked = refl }, none_refused IsNoItem);
         same_status = refl;
         sends = tt;
       },

@@ -2,6 +2,7 @@
 use Rattle.std.proofs.Common.{not, inr, ◌≡◌, ◌≢◌, ℕ, true, true≢false, List, [], ◌∷◌, ◌++◌, map, take, length, if◌then◌else◌, refl, sym, ap, ◌∙◌, subst, Option, Some, None, arith, inl}
 use Rattle.std.specs.Prelude.{All, Contains, IfSome}
 use Rattle.std.specs.FinMap.{get, len}
+use Rattle.std.proofs.lemmas.List.Elements.{All-nil}
 use Rattle.syn_model.specs.Path.{Path, root}
 use Rattle.syn_model.specs.Tree.{Tree, Content, Directory, File, is_directory}
 use Rattle.syn_model.specs.Limits.{children}
@@ -12,14 +13,14 @@ use Rattle.syn_model.specs.Archive.{Archive, Kept, archive_of}
 use Rattle.syn_model.specs.Spelling.{content_spelling, spelling_within}
 use Rattle.syn_headline.specs.Rows.{has_room}
 use Rattle.syn_witness.specs.Witness.{keeps_all}
-use Rattle.syn_model.specs.Refusal.{first_cause, JournalFull, Halted as Halted_before}
+use Rattle.syn_model.specs.Refusal.{Refusal, first_cause, JournalFull, Halted as Halted_before}
 use Rattle.syn_model.proofs.HistoryLemmas.{append-none}
 use Rattle.syn_headline.specs.Side.{room_causes, Side, Request, Reply, Begun, Listed, NotDir, Piece, Staged, Done, Refused, Reads, answer, serve, list_at, staged_bytes}
 use Rattle.syn_headline.specs.Network.{Which, Left, Right, Message, Asks, Answers, Sent, NumbersTell, AsksNothingTwice}
 use Rattle.syn_headline.specs.Acknowledged.{Ack, Happened, Kept_by}
 use Rattle.syn_headline.specs.Planning.{Planned}
 use Rattle.syn_headline.specs.Report.{Report}
-use Rattle.syn_headline.specs.World.{SideMachine, Writes, Edits, Steps, is_halted, edit_causes, World, Outstanding, Status, Up, Halted, Down, Running, TakesRequest, answered, ServesAs, CoordinatorGoes, AllCanKeep, RunsOver, WasSent, AllOfSession, side_of, set_side, TakesAnswer, taken, IsExpected, HasPlan, IsDueAfter, GoesOnFrom, IsOver, Reports, EndsTaken, Step, Runs}
+use Rattle.syn_headline.specs.World.{SideMachine, Writes, Edits, Steps, is_halted, edit_causes, World, Outstanding, Status, Up, Halted, Down, Running, TakesRequest, answered, ServesAs, CoordinatorGoes, AllCanKeep, RunsOver, WasSent, AllOfSession, side_of, set_side, TakesAnswer, taken, IsExpected, HasPlan, IsDueAfter, GoesOnFrom, IsOver, Reports, AddsRefused, RefusesTaken, EndsTaken, Step, Runs}
 
 abbrev is_up : Status → Type 0
 is_up Up = Unit {0}
@@ -135,7 +136,7 @@ abbrev pub waits : ℕ → Request → Option Outstanding
 waits number request = Some (record { number = number; request = request; resent = 0 })
 
 abbrev pub runs_with : ℕ → Option Outstanding → Option Outstanding → List Planned → Running
-runs_with session left right plan = record { session = session; left = left; right = right; plan = plan }
+runs_with session left right plan = record { session = session; refused = []; left = left; right = right; plan = plan }
 
 -- a world without failures, where so many of the messages have been sent and so much of the rest acknowledged
 abbrev pub world_of : Sent → List Ack → Side → Side → Archive → Option Running → ℕ → ℕ → World
@@ -153,7 +154,7 @@ world_of messages acks left right archive running said acknowledged = record {
 -- the coordinator takes an answer that it waits for
 pub takes : (session : ℕ) (old : World) (from : Which) (number : ℕ) (reply : Reply) (plan : List Planned) (archive : Archive) (next : Option Running) (messages : List Message) (kept : List Kept) (reports : List (Report × ℕ)) →
     old.coordinator.status ≡ Up → IsExpected old.coordinator.running from session number → HasPlan old.sent old.coordinator.archive old.coordinator.running plan →
-    Reports old (after_call old archive next messages kept reports) plan (EndsTaken old (after_call old archive next messages kept reports) from plan reply) →
+    ((IsRefused_now : Refusal × Path → Type 0) → Reports old (after_call old archive next messages kept reports) plan IsRefused_now (EndsTaken old (after_call old archive next messages kept reports) from plan reply)) →
     All (IsDueAfter old.coordinator.running plan from reply) kept → AllCanKeep old.coordinator.archive kept → archive ≡ archive_of old.coordinator.archive kept →
     GoesOnFrom old.coordinator.running plan next → IsOver from number next → RunsOver (old.sent ++ messages) archive next →
     NumbersTell (old.sent ++ messages) → AsksNothingTwice (old.sent ++ messages) → AllOfSession old.sent next messages →
@@ -161,7 +162,11 @@ pub takes : (session : ℕ) (old : World) (from : Which) (number : ℕ) (reply :
 takes session old from number reply plan archive next messages kept reports up expected has ends due can is on over runs tell twice of =
     taken plan expected has (goes old (IsDueAfter old.coordinator.running plan from reply) (λ running. GoesOnFrom old.coordinator.running plan running × IsOver from number running)
     archive next messages kept reports up due can is (on, over) runs tell twice of)
-    ends
+    (ends (RefusesTaken old (after_call old archive next messages kept reports) from plan reply))
+
+-- nothing is refused
+pub none_refused : (IsRefused_now : Refusal × Path → Type 0) → AddsRefused IsRefused_now [] []
+none_refused IsRefused_now = ([], All-nil IsRefused_now, refl)
 
 -- one run after another
 pub runs_on_from : (old between new : World) (steps more : List Step) → Runs old steps between → Runs between more new → Runs old (steps ++ more) new
