@@ -1,6 +1,6 @@
 -- Each step of a run keeps the invariant, and its replacements are legal.
 use Rattle.std.proofs.Common.{◌≡◌, ◌≤◌, ◌+◌, ℕ, zero, suc, Bool, false, true≢false, List, [], ◌∷◌, ◌++◌, refl, sym, ap, ap₂, ◌∙◌, subst, Option, Some, None, append-nil, arith, inl, inr, ◌⊎◌, slice_get, ◌≢◌, map}
-use Rattle.std.specs.Prelude.{Contains, IfSome, IsSomeAnd}
+use Rattle.std.specs.Prelude.{Contains, IfSome}
 use Rattle.std.proofs.lemmas.List.{append_cancel_left}
 use Rattle.std.proofs.lemmas.List.Elements.{Contains-get_or}
 use Rattle.std.proofs.lemmas.Option.{slice_get_within, get_or_from_slice_get}
@@ -16,14 +16,14 @@ use Rattle.syn_headline.specs.Side.{Side, Served, Request, Begin, ListAt, Fetch,
 use Rattle.syn_headline.specs.Network.{Which, Left, Right, other, Sent, Message, Asks, Answers}
 use Rattle.syn_headline.specs.Planning.{Planned}
 use Rattle.syn_headline.specs.Acknowledged.{Ack, Happened, Kept_by, history_of, IsLegal}
-use Rattle.syn_headline.specs.World.{Status, Up, Halted, Down, Machine, At, Coordinator, World, SideMachine, CoordinatorMachine, Running, Outstanding, outstanding, side_of, set_side, stopped, Step, Edits, Start, Deliver, Tick, Checkpoint, Fail, Stop, Open, Reopen, Writes, written, failed, cut, SideGoes, Opens, opened, recovered, OpensArchive, archive_opened, archive_recovered, refuses_with, is_halted, status_of, edit_causes, start_causes, Starts, Reopens, Calls, ServesAs, serve_halted, WouldAdd, TakesRequest, answered, request_failed, request_cut, side_down, IsDueAfter, IsOver, IsExpected, HasPlan, GoesOnAs, ended, goes_on, GoesOnFrom, plan_of, StartsFrom, RunsOver, IsNext, IsNothing, CoordinatorGoes, TakesAnswer, taken, ignored, coordinator_down, Delivers, OpensMachine, cut_off, halted, Steps}
+use Rattle.syn_headline.specs.World.{Status, Up, Halted, Down, Machine, At, Coordinator, World, SideMachine, CoordinatorMachine, Running, asked_of, outstanding, side_of, set_side, stopped, Step, Edits, Start, Deliver, Tick, Checkpoint, Fail, Stop, Open, Reopen, Writes, written, failed, cut, SideGoes, Opens, opened, recovered, OpensArchive, archive_opened, archive_recovered, refuses_with, is_halted, status_of, edit_causes, start_causes, Starts, Reopens, Calls, ServesAs, serve_halted, WouldAdd, TakesRequest, answered, request_failed, request_cut, side_down, IsDueAfter, IsOver, IsExpected, HasPlan, GoesOnAs, ended, goes_on, GoesOnFrom, plan_of, StartsFrom, RunsOver, IsNext, IsNothing, CoordinatorGoes, TakesAnswer, taken, ignored, coordinator_down, Delivers, OpensMachine, cut_off, halted, Steps}
 use Rattle.syn_headline.specs.Headline.{stores_of}
 use Rattle.syn_headline.proofs.Invariant.{Plans, Histories, histories_of, IsSound, IsTrue, IsFresh, IsHarmless, IsSoundStaging, IsSoundEvent, IsSoundSide, IsSoundCoordinator, IsKept}
 use Rattle.syn_headline.proofs.SoundLemmas.{set_plan, set_plan-grows, set_plan-here, sound-plan, sound-keep, kept_session}
 use Rattle.syn_headline.proofs.OutcomeLemmas.{Outcome, refuses, stages_first, stages_more, stages_again, any_outcome, outcome, halted_outcome}
 use Rattle.syn_headline.proofs.MoveLemmas.{on_both, Moves, refused_borne, outcome_moves, outcome_true, outcome_borne, outcome_staging, legal}
 use Rattle.syn_headline.proofs.HarmlessLemmas.{due_harmless}
-use Rattle.syn_headline.proofs.StepLemmas.{if_some, Says, nothing, reply, SideStep, step_moves, side_keeps, coordinator_keeps, next_fresh, sides-later, sides-plan}
+use Rattle.syn_headline.proofs.StepLemmas.{if_some, asked_was_sent, Says, nothing, reply, SideStep, step_moves, side_keeps, coordinator_keeps, next_fresh, sides-later, sides-plan}
 
 -- each acknowledged replacement of a step is the first of its events, and legal
 abbrev pub IsLegalStep : World → List Ack → Type 0
@@ -321,23 +321,19 @@ module _ (plans : Plans) (old : World) (k : IsKept plans old) (new : World) wher
   pub running_over : (r : Running) → old.coordinator.running ≡ Some r → RunsOver old.sent old.coordinator.archive (Some r)
   running_over r e = subst (RunsOver old.sent old.coordinator.archive) e k.coordinator.runs_over
 
-  pub waits_for : (r : Running) → old.coordinator.running ≡ Some r → (from : Which) (number : ℕ) → IsSomeAnd (outstanding r from) (λ sent. sent.number ≡ number) → (waiting : Outstanding) → outstanding r from ≡ Some waiting →
-      Contains old.sent (Asks from r.session number waiting.request)
-  waits_for r e from number expected waiting out =
-      let number_is : waiting.number ≡ number = subst (λ o. IsSomeAnd o (λ sent. sent.number ≡ number)) out expected in
-      let was : Contains old.sent (Asks from r.session waiting.number waiting.request) = subst (λ o. IfSome o (λ waiting. Contains old.sent (Asks from r.session waiting.number waiting.request))) out ((running_over r e).1 from) in
-      subst (λ n. Contains old.sent (Asks from r.session n waiting.request)) number_is was
+  pub waits_for : (r : Running) → old.coordinator.running ≡ Some r → (from : Which) (number : ℕ) (request : Request) → asked_of r from number ≡ Some request → Contains old.sent (Asks from r.session number request)
+  waits_for r e from number request asked = asked_was_sent old.sent from r.session number (outstanding r from) ((running_over r e).1 from) request asked
 
   take_with : (from : Which) (session number : ℕ) (said : Reply) (plan : List Planned) → Contains old.sent (Answers from session number said) → (running : Option Running) → old.coordinator.running ≡ running → IsExpected running from session number →
-      HasPlan old.sent old.coordinator.archive running plan → CoordinatorGoes old (IsDueAfter running plan from said) (λ running'. GoesOnFrom running plan running' × IsOver from number running') new → Advances plans old new
+      HasPlan old.sent old.coordinator.archive running plan → CoordinatorGoes old (IsDueAfter running plan from number said) (λ running'. GoesOnFrom running plan running' × IsOver from number running') new → Advances plans old new
   take_with from session number said plan c None e expected made g = absurd expected
   take_with from session number said plan c (Some r) e expected (inl same) g =
       let has = running_has r e in
       let planned : plans r.session ≡ plan = has.0 ∙ sym same in
       let c' = subst (λ n. Contains old.sent (Answers from n number said)) expected.0 c in
-      coordinator_advances plans plans old (IsDueAfter (Some r) plan from said) (λ running'. GoesOnFrom (Some r) plan running' × IsOver from number running') new g
-      (coordinator_keeps plans old (IsDueAfter (Some r) plan from said) (λ running'. GoesOnFrom (Some r) plan running' × IsOver from number running') new k.sound k.sides
-      (λ kept due. due_harmless plans (histories_of old) old.coordinator.archive old.sent k.sound r (running_over r e).0 plan planned from number said kept c' (waits_for r e from number expected.1) due) g
+      coordinator_advances plans plans old (IsDueAfter (Some r) plan from number said) (λ running'. GoesOnFrom (Some r) plan running' × IsOver from number running') new g
+      (coordinator_keeps plans old (IsDueAfter (Some r) plan from number said) (λ running'. GoesOnFrom (Some r) plan running' × IsOver from number running') new k.sound k.sides
+      (λ kept due. due_harmless plans (histories_of old) old.coordinator.archive old.sent k.sound r (running_over r e).0 plan planned from number said kept c' (waits_for r e from number) due) g
       (runs_has plans (histories_of old) r plan planned (λ x. has.1 (sym same ∙ x)) g.machine.running g.runs_on.0))
   take_with from session number said plan c (Some r) e expected (inr made) g =
       let has = running_has r e in
@@ -347,10 +343,10 @@ module _ (plans : Plans) (old : World) (k : IsKept plans old) (new : World) wher
       let planned : plans' r.session ≡ plan = set_plan-here plans r.session plan in
       let sound = sound-plan plans (histories_of old) old.coordinator.archive old.sent k.sound r.session plan empty made.1 fresh in
       let c' = subst (λ n. Contains old.sent (Answers from n number said)) expected.0 c in
-      coordinator_advances plans plans' old (IsDueAfter (Some r) plan from said) (λ running'. GoesOnFrom (Some r) plan running' × IsOver from number running') new g
-      (coordinator_keeps plans' old (IsDueAfter (Some r) plan from said) (λ running'. GoesOnFrom (Some r) plan running' × IsOver from number running') new sound
+      coordinator_advances plans plans' old (IsDueAfter (Some r) plan from number said) (λ running'. GoesOnFrom (Some r) plan running' × IsOver from number running') new g
+      (coordinator_keeps plans' old (IsDueAfter (Some r) plan from number said) (λ running'. GoesOnFrom (Some r) plan running' × IsOver from number running') new sound
       (λ side. sides-plan plans plans' (set_plan-grows plans r.session plan empty) (histories_of old) old.coordinator.archive side (side_of old side) (k.sides side))
-      (λ kept due. due_harmless plans' (histories_of old) old.coordinator.archive old.sent sound r (running_over r e).0 plan planned from number said kept c' (waits_for r e from number expected.1) due) g
+      (λ kept due. due_harmless plans' (histories_of old) old.coordinator.archive old.sent sound r (running_over r e).0 plan planned from number said kept c' (waits_for r e from number) due) g
       (runs_has plans' (histories_of old) r plan planned (λ _. fresh) g.machine.running g.runs_on.0))
 
   tick_with : (running : Option Running) → old.coordinator.running ≡ running → CoordinatorGoes old IsNothing (GoesOnFrom running (plan_of running)) new → Advances plans old new

@@ -1,6 +1,7 @@
 -- Three machines and the network between them, and what a step may do.
 use Rattle.std.specs.Option.{option_map_or}
-use Rattle.std.specs.Prelude.{ℕ, zero, suc, true, false, not, is_some, nat_le, ◌||◌, ◌+◌, ◌≡◌, ◌≢◌, ◌⊎◌, Bool, List, [], ◌∷◌, ◌++◌, slice_get, map, Option, Some, None, Contains, IfSome, IsSome, IsSomeAnd, All, length, option_map}
+use Rattle.std.specs.List.{list_any}
+use Rattle.std.specs.Prelude.{ℕ, zero, suc, true, false, not, is_some, nat_le, ◌≤◌, ◌==◌, if◌then◌else◌, ◌+◌, ◌≡◌, ◌≢◌, ◌⊎◌, Bool, List, [], ◌∷◌, ◌++◌, slice_get, map, Option, Some, None, Contains, IfSome, IsSome, IsSomeAnd, All, length}
 use Rattle.syn_model.specs.Path.{Path}
 use Rattle.syn_model.specs.Refusal.{Refusal, Device, Cause, first_cause}
 use Rattle.syn_model.specs.Refusal as why
@@ -52,8 +53,8 @@ pub record Outstanding : Type 0 where
 pub record Running : Type 0 where
   pub session : ℕ
   pub refused : List (Refusal × Path)
-  pub left : Option Outstanding
-  pub right : Option Outstanding
+  pub left : List Outstanding
+  pub right : List Outstanding
   pub plan : List Planned
 
 pub record CoordinatorMachine : Type 0 where
@@ -82,9 +83,21 @@ abbrev pub set_side : World → Which → SideMachine → World
 set_side world Left machine = record world { left = machine }
 set_side world Right machine = record world { right = machine }
 
-abbrev pub outstanding : Running → Which → Option Outstanding
+abbrev pub outstanding : Running → Which → List Outstanding
 outstanding running Left = running.left
 outstanding running Right = running.right
+
+-- so many requests wait on a side at most
+abbrev pub most_outstanding : ℕ
+most_outstanding = 1
+
+-- the request that waits under the number
+abbrev pub asked_in : List Outstanding → ℕ → Option Request
+asked_in [] number = None
+asked_in (waiting ∷ more) number = if waiting.number == number then Some waiting.request else asked_in more number
+
+abbrev pub asked_of : Running → Which → ℕ → Option Request
+asked_of running side number = asked_in (outstanding running side) number
 
 -- a machine that stops forgets all but its disk
 abbrev pub stopped : SideMachine → Option Event → SideMachine
@@ -185,14 +198,14 @@ IsOfSession sent running (Asks to session number request) = (session ≡ running
 IsOfSession sent running (Answers from session number reply) = ⊥
 
 -- what may be recorded when an answer is taken: the item whose replacement is done, with the mark of its source, or where both scans agree
-pub data IsDue (running : Running) (plan : List Planned) (from : Which) (reply : Reply) : Kept → Type 0 where
-  done : (sent : Outstanding) (item : ℕ) (path : Path) (since size : ℕ) (planned : Planned) → reply ≡ Done →
-      outstanding running from ≡ Some sent → sent.request ≡ Replace item path since size → slice_get plan item ≡ Some planned →
-      WritesTo planned.item from path → IsDue running plan from reply (Recorded path (seen_on planned (other from)).marks)
+pub data IsDue (running : Running) (plan : List Planned) (from : Which) (number : ℕ) (reply : Reply) : Kept → Type 0 where
+  done : (item : ℕ) (path : Path) (since size : ℕ) (planned : Planned) → reply ≡ Done →
+      asked_of running from number ≡ Some (Replace item path since size) → slice_get plan item ≡ Some planned →
+      WritesTo planned.item from path → IsDue running plan from number reply (Recorded path (seen_on planned (other from)).marks)
   same : (item : ℕ) (path : Path) (planned : Planned) → slice_get plan item ≡ Some planned → planned.item ≡ MarkSame path →
-      planned.left.marks ≡ planned.right.marks → IsDue running plan from reply (Recorded path planned.left.marks)
+      planned.left.marks ≡ planned.right.marks → IsDue running plan from number reply (Recorded path planned.left.marks)
   directory : (item : ℕ) (path : Path) (planned : Planned) → slice_get plan item ≡ Some planned → planned.item ≡ MarkDir path →
-      IsDue running plan from reply (RecordedDir path)
+      IsDue running plan from number reply (RecordedDir path)
 
 abbrev pub AllOfSession : Sent → Option Running → List Message → Type 0
 AllOfSession sent None messages = messages ≡ []
@@ -220,11 +233,11 @@ StartsFrom archive running = IfSome running (λ new. (new.session ≡ archive.la
 
 -- a request that waits was sent
 abbrev pub WasSent : Sent → Running → Type 0
-WasSent sent running = (side : Which) → IfSome (outstanding running side) (λ waiting. Contains sent (Asks side running.session waiting.number waiting.request))
+WasSent sent running = (side : Which) → All (λ waiting. Contains sent (Asks side running.session waiting.number waiting.request)) (outstanding running side)
 
--- it waits for an answer
+-- it waits for an answer, and for no more than it may at a time
 abbrev pub Waits : Running → Type 0
-Waits running = IsSome running.left ⊎ IsSome running.right
+Waits running = (1 ≤ length running.left + length running.right) × (length running.left ≤ most_outstanding) × (length running.right ≤ most_outstanding)
 
 -- a running session has the number that the archive kept last, waits for an answer, and what waits was sent
 abbrev pub RunsOver : Sent → Archive → Option Running → Type 0
@@ -268,14 +281,14 @@ pub record CoordinatorGoes (old : World) (IsDue_now : Kept → Type 0) (RunsOn :
 
 -- the answer has the session and number of a request that is outstanding
 abbrev pub IsExpected : Option Running → Which → ℕ → ℕ → Type 0
-IsExpected running from session number = IsSomeAnd running (λ running. (session ≡ running.session) × IsSomeAnd (outstanding running from) (λ sent. sent.number ≡ number))
+IsExpected running from session number = IsSomeAnd running (λ running. (session ≡ running.session) × IsSome (asked_of running from number))
 
-abbrev pub IsDueAfter : Option Running → List Planned → Which → Reply → Kept → Type 0
-IsDueAfter running plan from reply kept = IsSomeAnd running (λ running. IsDue running plan from reply kept)
+abbrev pub IsDueAfter : Option Running → List Planned → Which → ℕ → Reply → Kept → Type 0
+IsDueAfter running plan from number reply kept = IsSomeAnd running (λ running. IsDue running plan from number reply kept)
 
 -- what was answered waits no more
 abbrev pub IsOver : Which → ℕ → Option Running → Type 0
-IsOver from number running = IfSome running (λ running. IfSome (outstanding running from) (λ waiting. waiting.number ≢ number))
+IsOver from number running = IfSome running (λ running. asked_of running from number ≡ None)
 
 -- what was refused before, and what is refused now
 abbrev pub AddsRefused : (Refusal × Path → Type 0) → List (Refusal × Path) → List (Refusal × Path) → Type 0
@@ -300,12 +313,9 @@ abbrev pub IsArchiveWithin : World → World → Archive → Type 0
 IsArchiveWithin old new archive =
     (kept : List Kept) × (more : List Kept) × (new.acknowledged ≡ old.acknowledged ++ map Kept_by (kept ++ more)) × (archive ≡ archive_of old.coordinator.archive kept)
 
-abbrev pub asked_of : Running → Which → Option Request
-asked_of running side = option_map (λ waiting. waiting.request) (outstanding running side)
-
-abbrev pub RefusesTaken : World → World → Which → List Planned → Reply → Refusal × Path → Type 0
-RefusesTaken old new from plan reply refused =
-    IsSomeAnd old.coordinator.running (λ running. IsRefusedItem plan (asked_of running from) reply (IsArchiveWithin old new) refused)
+abbrev pub RefusesTaken : World → World → Which → ℕ → List Planned → Reply → Refusal × Path → Type 0
+RefusesTaken old new from number plan reply refused =
+    IsSomeAnd old.coordinator.running (λ running. IsRefusedItem plan (asked_of running from number) reply (IsArchiveWithin old new) refused)
 
 -- what an archive may answer to a record that is due: its device fails or has failed before, or it has no room
 pub data ArchiveMeets (old new : CoordinatorMachine) (IsDue_now : Kept → Type 0) : Refusal → Type 0 where
@@ -313,10 +323,10 @@ pub data ArchiveMeets (old new : CoordinatorMachine) (IsDue_now : Kept → Type 
   failed_before : (kept : Kept) → IsDue_now kept → old.status ≡ Halted → ArchiveMeets old new IsDue_now why.Halted
   no_room : (kept : Kept) → IsDue_now kept → new.has_room kept ≡ false → ArchiveMeets old new IsDue_now why.JournalFull
 
-abbrev pub EndsTaken : World → World → Which → List Planned → Reply → Running → Report → Type 0
-EndsTaken old new from plan reply running report =
-    EndsAs old.sent running.session old.coordinator.archive.marks plan (kept_in_session new.acknowledged) (asked_of running from) reply
-    (ArchiveMeets old.coordinator new.coordinator (IsDue running plan from reply)) report
+abbrev pub EndsTaken : World → World → Which → ℕ → List Planned → Reply → Running → Report → Type 0
+EndsTaken old new from number plan reply running report =
+    EndsAs old.sent running.session old.coordinator.archive.marks plan (kept_in_session new.acknowledged) (asked_of running from number) reply
+    (ArchiveMeets old.coordinator new.coordinator (IsDue running plan from number reply)) report
 
 -- a start takes the next number
 abbrev pub IsNext : Archive → Kept → Type 0
@@ -332,25 +342,25 @@ IsNoItem refused = ⊥
 abbrev pub most_resends : ℕ
 most_resends = 8
 
-abbrev pub is_resent : Option Outstanding → Bool
-is_resent waiting = option_map_or (λ waiting. nat_le most_resends waiting.resent) waiting false
+abbrev pub is_resent : Running → Bool
+is_resent running = list_any (λ waiting. nat_le most_resends waiting.resent) (running.left ++ running.right)
 
 abbrev pub once_more : Outstanding → Outstanding
 once_more waiting = record waiting { resent = suc waiting.resent }
 
 abbrev pub resent_to : Which → Running → List Message
-resent_to side running = option_map_or (λ waiting. Asks side running.session waiting.number waiting.request ∷ []) (outstanding running side) []
+resent_to side running = map (λ waiting. Asks side running.session waiting.number waiting.request) (outstanding running side)
 
 -- nobody answers a request that was sent so often, or memory is refused
 abbrev pub EndsUnanswered : Running → Report → Type 0
 EndsUnanswered running report =
     (report.session ≡ running.session) × (report.end ≡ Incomplete)
-    × ((((is_resent running.left || is_resent running.right) ≡ true) × (report.ended ≡ Some why.NoAnswer)) ⊎ (report.ended ≡ Some why.Memory))
+    × (((is_resent running ≡ true) × (report.ended ≡ Some why.NoAnswer)) ⊎ (report.ended ≡ Some why.Memory))
 
 -- each request that waits is sent once more, unless one was sent so often already
 pub record SendsAgain (old new : World) (running later : Running) : Type 0 where
-  pub not_yet : (is_resent running.left || is_resent running.right) ≡ false
-  pub counted : later ≡ record running { left = option_map once_more running.left; right = option_map once_more running.right }
+  pub not_yet : is_resent running ≡ false
+  pub counted : later ≡ record running { left = map once_more running.left; right = map once_more running.right }
   pub again : new.sent ≡ old.sent ++ (resent_to Left running ++ resent_to Right running)
 
 -- a tick of a session that runs sends its requests again or ends it, with no device call
@@ -363,8 +373,8 @@ pub record Ticks (old new : World) : Type 0 where
 -- the coordinator takes an answer, or ignores one that it does not wait for
 pub data TakesAnswer (old : World) (from : Which) (session number : ℕ) (reply : Reply) (new : World) : Type 0 where
   taken : (plan : List Planned) → IsExpected old.coordinator.running from session number → HasPlan old.sent old.coordinator.archive old.coordinator.running plan →
-      CoordinatorGoes old (IsDueAfter old.coordinator.running plan from reply) (λ running. GoesOnFrom old.coordinator.running plan running × IsOver from number running) new →
-      Reports old new plan (RefusesTaken old new from plan reply) (EndsTaken old new from plan reply) → TakesAnswer old from session number reply new
+      CoordinatorGoes old (IsDueAfter old.coordinator.running plan from number reply) (λ running. GoesOnFrom old.coordinator.running plan running × IsOver from number running) new →
+      Reports old new plan (RefusesTaken old new from number plan reply) (EndsTaken old new from number plan reply) → TakesAnswer old from session number reply new
   ignored : (IsExpected old.coordinator.running from session number → ⊥) → new ≡ old → TakesAnswer old from session number reply new
   coordinator_down : old.coordinator.status ≡ Down → new ≡ old → TakesAnswer old from session number reply new
 

@@ -105,31 +105,31 @@ abbrev pub both_begin : Running
 both_begin = runs_with 1 (waits 0 (Begin 7)) (waits 0 (Begin 7)) []
 
 abbrev pub right_begins : Running
-right_begins = runs_with 1 None (waits 0 (Begin 7)) []
+right_begins = runs_with 1 [] (waits 0 (Begin 7)) []
 
 abbrev pub both_list : Running
 both_list = runs_with 1 (waits 1 (ListAt root)) (waits 1 (ListAt root)) []
 
 abbrev pub right_lists : Running
-right_lists = runs_with 1 None (waits 1 (ListAt root)) []
+right_lists = runs_with 1 [] (waits 1 (ListAt root)) []
 
 abbrev pub left_fetches : Running
-left_fetches = runs_with 1 (waits 2 (Fetch a_path 2 0)) None plan
+left_fetches = runs_with 1 (waits 2 (Fetch a_path 2 0)) [] plan
 
 abbrev pub right_stages : Running
-right_stages = runs_with 1 None (waits 2 (Stage 0 0 file_bytes)) plan
+right_stages = runs_with 1 [] (waits 2 (Stage 0 0 file_bytes)) plan
 
 abbrev pub right_replaces : Running
-right_replaces = runs_with 1 None (waits 3 (Replace 0 a_path 2 6)) plan
+right_replaces = runs_with 1 [] (waits 3 (Replace 0 a_path 2 6)) plan
 
 abbrev pub right_fetches : Running
-right_fetches = runs_with 1 None (waits 4 (Fetch b_path 2 0)) plan
+right_fetches = runs_with 1 [] (waits 4 (Fetch b_path 2 0)) plan
 
 abbrev pub left_stages : Running
-left_stages = runs_with 1 (waits 3 (Stage 1 0 two_bytes)) None plan
+left_stages = runs_with 1 (waits 3 (Stage 1 0 two_bytes)) [] plan
 
 abbrev pub left_replaces : Running
-left_replaces = runs_with 1 (waits 4 (Replace 1 b_path 2 6)) None plan
+left_replaces = runs_with 1 (waits 4 (Replace 1 b_path 2 6)) [] plan
 
 abbrev pub first_edited : World
 first_edited = world left_edited new_right new_archive None 0 1

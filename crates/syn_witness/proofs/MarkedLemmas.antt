@@ -88,7 +88,7 @@ abbrev both_begun : World
 both_begun = world left_begun_side right_begun_side next_archive (Some both_begin) 18 8
 
 abbrev right_begins : Running
-right_begins = runs_with 2 None (waits 0 (Begin 7)) []
+right_begins = runs_with 2 [] (waits 0 (Begin 7)) []
 
 abbrev right_awaited : World
 right_awaited = world left_begun_side right_begun_side next_archive (Some right_begins) 18 8
@@ -106,7 +106,7 @@ abbrev both_listed : World
 both_listed = world left_begun_side right_begun_side next_archive (Some both_list) 22 8
 
 abbrev right_lists : Running
-right_lists = runs_with 2 None (waits 1 (ListAt root)) []
+right_lists = runs_with 2 [] (waits 1 (ListAt root)) []
 
 abbrev right_list_awaited : World
 right_list_awaited = world left_begun_side right_begun_side next_archive (Some right_lists) 22 8
@@ -140,7 +140,7 @@ starts = inr (
     (
       goes opened_again (IsNext begun_archive) (StartsFrom begun_archive) next_archive (Some both_begin) (drop 14 (take 16 messages)) (Session 2 ∷ []) []
           refl (All-cons (IsNext begun_archive) (Session 2) [] refl (All-nil (IsNext begun_archive))) (record { lawful = tt; not_refused = refl }, tt) refl
-          (refl, refl, refl) (refl, both_sent (take 16 messages) both_begin (14, omega arith, refl) (15, omega arith, refl), inl refl) (tells 16) (once 16)
+          (refl, refl, refl) (refl, both_sent (take 16 messages) both_begin ((14, omega arith, refl), tt) ((15, omega arith, refl), tt), (omega arith, omega arith, omega arith)) (tells 16) (once 16)
           (All-from_recursion (IsOfSession (take 14 messages) both_begin) (drop 14 (take 16 messages)) ((refl, (omega arith, omega arith), tt), ((refl, (omega arith, omega arith), tt), tt))),
       refl,
       inl refl,
@@ -210,19 +210,19 @@ plans = record {
 
 -- The steps of the coordinator
 takes_left_begun : Steps both_begun (Deliver 16) right_awaited
-takes_left_begun = takes 2 both_begun Left 0 (Begun 3) [] next_archive (Some right_begins) [] [] [] refl (refl, refl) (inl refl) (λ P. inl (refl, (inl refl, none_refused P))) (All-nil (IsDue both_begin [] Left (Begun 3))) tt refl
-    (goes_on right_begins refl refl) tt (refl, both_sent (take 18 messages) right_begins tt (15, omega arith, refl), inr refl) (tells 18) (once 18)
+takes_left_begun = takes 2 both_begun Left 0 (Begun 3) [] next_archive (Some right_begins) [] [] [] refl (refl, refl) (inl refl) (λ P. inl (refl, (inl refl, none_refused P))) (All-nil (IsDue both_begin [] Left 0 (Begun 3))) tt refl
+    (goes_on right_begins refl refl) refl (refl, both_sent (take 18 messages) right_begins tt ((15, omega arith, refl), tt), (omega arith, omega arith, omega arith)) (tells 18) (once 18)
     (All-nil (IsOfSession (take 18 messages) right_begins))
 
 takes_right_begun : Steps right_awaited (Deliver 17) listing
-takes_right_begun = takes 2 right_awaited Right 0 (Begun 3) [] next_archive (Some both_list) (drop 18 (take 20 messages)) [] [] refl (refl, refl) (inl refl) (λ P. inl (refl, (inl refl, none_refused P))) (All-nil (IsDue right_begins [] Right (Begun 3))) tt refl
-    (goes_on both_list refl refl) (λ e. omega (arith, e)) (refl, both_sent (take 20 messages) both_list (18, omega arith, refl) (19, omega arith, refl), inl refl) (tells 20) (once 20)
+takes_right_begun = takes 2 right_awaited Right 0 (Begun 3) [] next_archive (Some both_list) (drop 18 (take 20 messages)) [] [] refl (refl, refl) (inl refl) (λ P. inl (refl, (inl refl, none_refused P))) (All-nil (IsDue right_begins [] Right 0 (Begun 3))) tt refl
+    (goes_on both_list refl refl) refl (refl, both_sent (take 20 messages) both_list ((18, omega arith, refl), tt) ((19, omega arith, refl), tt), (omega arith, omega arith, omega arith)) (tells 20) (once 20)
     (All-from_recursion (IsOfSession (take 18 messages) both_list) (drop 18 (take 20 messages)) ((refl, (omega arith, root_lawful), have_begun Left), ((refl, (omega arith, root_lawful), have_begun Right), tt)))
 
 takes_left_listing : Steps both_listed (Deliver 20) right_list_awaited
 takes_left_listing = takes 2 both_listed Left 1 (Listed 3 (children left_scan.marks root)) [] next_archive (Some right_lists) [] [] [] refl (refl, refl) (inl refl) (λ P. inl (refl, (inl refl, none_refused P)))
-    (All-nil (IsDue both_list [] Left (Listed 3 (children left_scan.marks root)))) tt refl
-    (goes_on right_lists refl refl) tt (refl, both_sent (take 22 messages) right_lists tt (19, omega arith, refl), inr refl) (tells 22) (once 22)
+    (All-nil (IsDue both_list [] Left 1 (Listed 3 (children left_scan.marks root)))) tt refl
+    (goes_on right_lists refl refl) refl (refl, both_sent (take 22 messages) right_lists tt ((19, omega arith, refl), tt), (omega arith, omega arith, omega arith)) (tells 22) (once 22)
     (All-nil (IsOfSession (take 22 messages) right_lists))
 
 can_record : CanKeep next_archive (Recorded a_path (mark one))
@@ -233,10 +233,10 @@ can_record =
       not_refused = rw (get_by empty_directory alone root alone-entries, fits_archive_by (replace empty_directory a_path (mark one)) (with_file 97 (digest (49 ∷ []))) new) refl;
     }
 
-right_listing_due : IsDue right_lists plan Right (Listed 3 (children right_scan.marks root)) (Recorded a_path (mark one))
+right_listing_due : IsDue right_lists plan Right 1 (Listed 3 (children right_scan.marks root)) (Recorded a_path (mark one))
 right_listing_due = same 0 a_path planned refl refl refl
 
-takes_right_listing_ends : EndsTaken right_list_awaited marked Right plan (Listed 3 (children right_scan.marks root)) right_lists marked_later
+takes_right_listing_ends : EndsTaken right_list_awaited marked Right 1 plan (Listed 3 (children right_scan.marks root)) right_lists marked_later
 takes_right_listing_ends = record {
   session_is = refl;
   cause = tt;
@@ -249,7 +249,7 @@ takes_right_listing_ends = record {
 
 takes_right_listing : Steps right_list_awaited (Deliver 21) marked
 takes_right_listing = takes 2 right_list_awaited Right 1 (Listed 3 (children right_scan.marks root)) plan marked_archive None [] (Recorded a_path (mark one) ∷ []) ((marked_later, 9) ∷ []) refl (refl, refl) (inr (refl, plans)) (λ P. inr (right_lists, marked_later, refl, refl, up_not_down, refl, takes_right_listing_ends, record { done = refl; marked = refl }, none_refused P))
-    (All-cons (IsDue right_lists plan Right (Listed 3 (children right_scan.marks root))) (Recorded a_path (mark one)) [] right_listing_due (All-nil (IsDue right_lists plan Right (Listed 3 (children right_scan.marks root)))))
+    (All-cons (IsDue right_lists plan Right 1 (Listed 3 (children right_scan.marks root))) (Recorded a_path (mark one)) [] right_listing_due (All-nil (IsDue right_lists plan Right 1 (Listed 3 (children right_scan.marks root)))))
     (can_record, tt) refl ended tt tt (tells 22) (once 22) refl
 
 -- The whole run

@@ -16,7 +16,7 @@ use Rattle.syn_witness.specs.Witness.{keeps_all, new_machine, opened_world, Open
 use Rattle.syn_headline.proofs.FormattedLemmas.{formatted_is_pair}
 use Rattle.syn_witness.proofs.WitnessTrees.{fits_by}
 use Rattle.syn_witness.proofs.WitnessFiles.{IsLetter, content, with_file, alone-entries, file-entries, put-entries, put_allowed}
-use Rattle.syn_witness.proofs.WitnessSteps.{none_refused, edits, goes, up_not_down}
+use Rattle.syn_witness.proofs.WitnessSteps.{both_sent, none_refused, edits, goes, up_not_down}
 use Rattle.syn_witness.proofs.WitnessMessages.{IsNumbered, numbers_tell, asks_once}
 
 pub opened_is_start : OpenedIsStart
@@ -86,11 +86,10 @@ abbrev begin_again : ℕ → Outstanding
 begin_again resent = record { number = 0; request = Begin 7; resent = resent }
 
 abbrev waiting_for : ℕ → Running
-waiting_for resent = record { session = 1; refused = []; left = Some (begin_again resent); right = Some (begin_again resent); plan = [] }
+waiting_for resent = record { session = 1; refused = []; left = begin_again resent ∷ []; right = begin_again resent ∷ []; plan = [] }
 
 begin_waits : (resent : ℕ) → WasSent (begins (suc resent)) (waiting_for resent)
-begin_waits resent Left = begin_sent resent Left
-begin_waits resent Right = begin_sent resent Right
+begin_waits resent = both_sent (begins (suc resent)) (waiting_for resent) (begin_sent resent Left, tt) (begin_sent resent Right, tt)
 
 abbrev waiting : ℕ → World
 waiting resent = record opened_world {
@@ -113,7 +112,7 @@ starts = inr (
     (
       goes opened_world (IsNext new_archive) (StartsFrom new_archive) (record { marks = empty_directory; last_session = 1 }) (Some (waiting_for 0)) (begins 1) (Session 1 ∷ []) []
           refl (All-cons (IsNext new_archive) (Session 1) [] refl (All-nil (IsNext new_archive))) (record { lawful = tt; not_refused = refl }, tt) refl
-          (refl, refl, refl) (refl, begin_waits 0, inl refl) (begins_tell 1) (begins_once 1) (begins_lawful (waiting_for 0) [] refl),
+          (refl, refl, refl) (refl, begin_waits 0, (omega arith, omega arith, omega arith)) (begins_tell 1) (begins_once 1) (begins_lawful (waiting_for 0) [] refl),
       refl,
       inl refl,
     ),
@@ -131,11 +130,11 @@ resends resent early = inr (
     goes = goes (waiting resent) IsNothing (GoesOnAs (waiting_for resent) []) (record { marks = empty_directory; last_session = 1 }) (Some (waiting_for (suc resent)))
         (Asks Left 1 0 (Begin 7) ∷ Asks Right 1 0 (Begin 7) ∷ []) [] []
         refl (All-nil IsNothing) tt refl
-        (goes_on (waiting_for (suc resent)) refl refl) (refl, begin_waits (suc resent), inl refl) (begins_tell (suc (suc resent))) (begins_once (suc (suc resent)))
+        (goes_on (waiting_for (suc resent)) refl refl) (refl, begin_waits (suc resent), (omega arith, omega arith, omega arith)) (begins_tell (suc (suc resent))) (begins_once (suc (suc resent)))
         (begins_lawful (waiting_for (suc resent)) (begins (suc resent)) refl);
     reports = inl (refl, (inl refl, none_refused IsNoItem));
     same_status = refl;
-    sends = record { not_yet = ap (λ b. b || b) early; counted = refl; again = refl };
+    sends = record { not_yet = ap (λ b. b || (b || false)) early; counted = refl; again = refl };
   },
 )
 
@@ -154,7 +153,7 @@ gives_up resent late =
       record {
         goes = goes (waiting resent) IsNothing (GoesOnAs (waiting_for resent) []) (record { marks = empty_directory; last_session = 1 }) None [] [] ((unanswered, 1) ∷ [])
             refl (All-nil IsNothing) tt refl ended tt (subst NumbersTell (sym same) (begins_tell (suc resent))) (subst AsksNothingTwice (sym same) (begins_once (suc resent))) refl;
-        reports = inr (waiting_for resent, unanswered, refl, refl, up_not_down, refl, (refl, refl, inl (ap (λ b. b || b) late, refl)), record { done = refl; marked = refl }, none_refused IsNoItem);
+        reports = inr (waiting_for resent, unanswered, refl, refl, up_not_down, refl, (refl, refl, inl (ap (λ b. b || (b || false)) late, refl)), record { done = refl; marked = refl }, none_refused IsNoItem);
         same_status = refl;
         sends = tt;
       },

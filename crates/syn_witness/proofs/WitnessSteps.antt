@@ -1,8 +1,9 @@
 -- A step of a witness run where no device fails and no machine stops.
 use Rattle.std.proofs.Common.{not, inr, ◌≡◌, ◌≢◌, ℕ, true, true≢false, List, [], ◌∷◌, ◌++◌, map, take, length, if◌then◌else◌, refl, sym, ap, ◌∙◌, subst, Option, Some, None, arith, inl}
-use Rattle.std.specs.Prelude.{All, Contains, IfSome}
+use Rattle.std.specs.Prelude.{All, Contains}
+use Rattle.std.specs.List.{AllByRecursion}
 use Rattle.std.specs.FinMap.{get, len}
-use Rattle.std.proofs.lemmas.List.Elements.{All-nil}
+use Rattle.std.proofs.lemmas.List.Elements.{All-nil, All-from_recursion}
 use Rattle.syn_model.specs.Path.{Path, root}
 use Rattle.syn_model.specs.Tree.{Tree, Content, Directory, File, is_directory}
 use Rattle.syn_model.specs.Limits.{children}
@@ -126,16 +127,16 @@ goes old IsDue_now RunsOn archive running messages kept reports up due can is on
 }
 
 -- what waits on either side was sent
-pub both_sent : (sent : Sent) (running : Running) → IfSome running.left (λ waiting. Contains sent (Asks Left running.session waiting.number waiting.request)) →
-    IfSome running.right (λ waiting. Contains sent (Asks Right running.session waiting.number waiting.request)) → WasSent sent running
-both_sent sent running l r Left = l
-both_sent sent running l r Right = r
+pub both_sent : (sent : Sent) (running : Running) → AllByRecursion (λ waiting. Contains sent (Asks Left running.session waiting.number waiting.request)) running.left →
+    AllByRecursion (λ waiting. Contains sent (Asks Right running.session waiting.number waiting.request)) running.right → WasSent sent running
+both_sent sent running l r Left = All-from_recursion (λ waiting. Contains sent (Asks Left running.session waiting.number waiting.request)) running.left l
+both_sent sent running l r Right = All-from_recursion (λ waiting. Contains sent (Asks Right running.session waiting.number waiting.request)) running.right r
 
 -- a session that runs
-abbrev pub waits : ℕ → Request → Option Outstanding
-waits number request = Some (record { number = number; request = request; resent = 0 })
+abbrev pub waits : ℕ → Request → List Outstanding
+waits number request = record { number = number; request = request; resent = 0 } ∷ []
 
-abbrev pub runs_with : ℕ → Option Outstanding → Option Outstanding → List Planned → Running
+abbrev pub runs_with : ℕ → List Outstanding → List Outstanding → List Planned → Running
 runs_with session left right plan = record { session = session; refused = []; left = left; right = right; plan = plan }
 
 -- a world without failures, where so many of the messages have been sent and so much of the rest acknowledged
@@ -154,15 +155,15 @@ world_of messages acks left right archive running said acknowledged = record {
 -- the coordinator takes an answer that it waits for
 pub takes : (session : ℕ) (old : World) (from : Which) (number : ℕ) (reply : Reply) (plan : List Planned) (archive : Archive) (next : Option Running) (messages : List Message) (kept : List Kept) (reports : List (Report × ℕ)) →
     old.coordinator.status ≡ Up → IsExpected old.coordinator.running from session number → HasPlan old.sent old.coordinator.archive old.coordinator.running plan →
-    ((IsRefused_now : Refusal × Path → Type 0) → Reports old (after_call old archive next messages kept reports) plan IsRefused_now (EndsTaken old (after_call old archive next messages kept reports) from plan reply)) →
-    All (IsDueAfter old.coordinator.running plan from reply) kept → AllCanKeep old.coordinator.archive kept → archive ≡ archive_of old.coordinator.archive kept →
+    ((IsRefused_now : Refusal × Path → Type 0) → Reports old (after_call old archive next messages kept reports) plan IsRefused_now (EndsTaken old (after_call old archive next messages kept reports) from number plan reply)) →
+    All (IsDueAfter old.coordinator.running plan from number reply) kept → AllCanKeep old.coordinator.archive kept → archive ≡ archive_of old.coordinator.archive kept →
     GoesOnFrom old.coordinator.running plan next → IsOver from number next → RunsOver (old.sent ++ messages) archive next →
     NumbersTell (old.sent ++ messages) → AsksNothingTwice (old.sent ++ messages) → AllOfSession old.sent next messages →
     TakesAnswer old from session number reply (after_call old archive next messages kept reports)
 takes session old from number reply plan archive next messages kept reports up expected has ends due can is on over runs tell twice of =
-    taken plan expected has (goes old (IsDueAfter old.coordinator.running plan from reply) (λ running. GoesOnFrom old.coordinator.running plan running × IsOver from number running)
+    taken plan expected has (goes old (IsDueAfter old.coordinator.running plan from number reply) (λ running. GoesOnFrom old.coordinator.running plan running × IsOver from number running)
     archive next messages kept reports up due can is (on, over) runs tell twice of)
-    (ends (RefusesTaken old (after_call old archive next messages kept reports) from plan reply))
+    (ends (RefusesTaken old (after_call old archive next messages kept reports) from number plan reply))
 
 -- nothing is refused
 pub none_refused : (IsRefused_now : Refusal × Path → Type 0) → AddsRefused IsRefused_now [] []
