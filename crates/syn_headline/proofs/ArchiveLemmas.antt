@@ -8,7 +8,7 @@ use Rattle.syn_model.specs.Archive.{Archive, Kept, CanKeep, Held}
 use Rattle.syn_headline.specs.Network.{Which, Left, Right}
 use Rattle.syn_headline.specs.Acknowledged.{Grown, ArchiveGrown, stores_after}
 use Rattle.syn_headline.specs.Headline.{stores_of, EachEntryWasHeld, OfEachRun, LeavesPair}
-use Rattle.syn_headline.specs.Invariant.{Plans, Histories, IsSoundEvent, histories_of, IsHeld, IsHeldRecord, IsHarmless}
+use Rattle.syn_headline.proofs.Invariant.{Plans, Histories, IsSoundEvent, histories_of, IsHeld, IsHeldRecord, IsHarmless}
 use Rattle.syn_headline.proofs.SoundLemmas.{Extends, fold_one, held-grow, kept_held, kept_is_tree, kept_session}
 use Rattle.syn_headline.proofs.WholeRuns.{no_plans, start_kept, start_stands, run_kept}
 use Rattle.syn_headline.specs.World.{Up, side_of}

@@ -18,7 +18,7 @@ use Rattle.syn_headline.specs.Planning.{Planned, seen_on, IsPlanOf, WritesTo}
 use Rattle.syn_headline.proofs.CountLemmas.{IsRecordOf}
 use Rattle.syn_headline.specs.World.{AllCanKeep}
 use Rattle.syn_headline.specs.Headline.{IsNoEdit}
-use Rattle.syn_headline.specs.Invariant.{Histories}
+use Rattle.syn_headline.proofs.Invariant.{Histories}
 use Rattle.syn_model.proofs.HistoryLemmas.{tree_of-append}
 use Rattle.syn_model.proofs.QuietLemmas.{none_touches, quiet_rest}
 use Rattle.syn_headline.proofs.PlanLemmas.{planned_is, found_item, writes_at, writes_path}

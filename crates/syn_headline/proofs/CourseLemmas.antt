@@ -1,14 +1,16 @@
 -- What a step does to the coordinator's session, its archive and its reports.
-use Rattle.std.proofs.Common.{◌≡◌, ◌≢◌, ℕ, List, [], ◌∷◌, ◌++◌, map, filter_map, refl, sym, ap, ◌∙◌, subst, Option, Some, None, append-nil, inl, inr, ◌⊎◌, slice_get}
+use Rattle.std.proofs.Common.{◌≡◌, ◌≢◌, ℕ, zero, suc, List, [], ◌∷◌, ◌++◌, map, filter_map, refl, sym, ap, ◌∙◌, subst, Option, Some, None, append-nil, inl, inr, ◌⊎◌, slice_get}
 use Rattle.std.specs.Prelude.{Contains, IfSome}
-use Rattle.syn_model.specs.Event.{Event}
+use Rattle.syn_model.specs.Event.{Event, Edited, IsLawfulEvent}
+use Rattle.syn_model.specs.Refusal.{Refusal, Device, Cause}
+use Rattle.syn_model.specs.Refusal as why
 use Rattle.syn_model.specs.Archive.{Archive, Kept, CanKeep}
 use Rattle.syn_headline.specs.Side.{Request, Reply}
 use Rattle.syn_headline.specs.Network.{Which, Left, Right, Sent, Message, Asks, Answers}
 use Rattle.syn_headline.specs.Planning.{Planned}
 use Rattle.syn_headline.specs.Acknowledged.{Ack, Happened, Kept_by, kept_in}
-use Rattle.syn_headline.specs.World.{Up, Machine, At, Coordinator, World, SideMachine, CoordinatorMachine, set_side, Step, Edits, Start, Deliver, Tick, Checkpoint, Fail, Stop, Open, Reopen, OpensArchive, archive_opened, archive_recovered, archive_not_opened, archive_not_reopened, TakesRequest, answered, request_failed, request_cut, side_down, IsDueAfter, IsOver, IsExpected, HasPlan, GoesOnFrom, plan_of, StartsFrom, IsNext, IsNothing, AllCanKeep, CoordinatorGoes, Reports, EndsTaken, EndsUnanswered, TakesAnswer, taken, ignored, coordinator_down, Delivers, OpensMachine, cut_off, halted, Steps}
-use Rattle.syn_headline.specs.Invariant.{Plans, histories_of, IsHarmless, IsKept}
+use Rattle.syn_headline.specs.World.{IsNoItem, RefusesTaken, Up, Halted, Machine, At, Coordinator, World, SideMachine, CoordinatorMachine, set_side, Step, Edits, Start, Deliver, Tick, Checkpoint, Fail, Stop, Open, Reopen, OpensArchive, archive_opened, archive_recovered, refuses_with, edit_causes, start_causes, Starts, Writes, SideGoes, Reopens, Calls, side_of, TakesRequest, answered, request_failed, request_cut, side_down, IsDueAfter, IsOver, IsExpected, HasPlan, GoesOnFrom, plan_of, StartsFrom, IsNext, IsNothing, AllCanKeep, CoordinatorGoes, Reports, EndsTaken, EndsUnanswered, TakesAnswer, taken, ignored, coordinator_down, Delivers, OpensMachine, cut_off, halted, Steps}
+use Rattle.syn_headline.proofs.Invariant.{Plans, histories_of, IsHarmless, IsKept}
 use Rattle.syn_headline.proofs.WorldLemmas.{kept_events, kept_kept}
 use Rattle.syn_headline.proofs.RunLemmas.{was_sent, no_acks}
 
@@ -17,10 +19,10 @@ pub data Course (old new : World) : Type 0 where
   beside : (acks : List Ack) → new.acknowledged ≡ old.acknowledged ++ acks → AllCanKeep old.coordinator.archive (filter_map kept_in acks) →
       (new.coordinator.running ≡ None) ⊎ ((new.coordinator.running ≡ old.coordinator.running) × (filter_map kept_in acks ≡ [])) → new.reports ≡ old.reports → Course old new
   starts : CoordinatorGoes old (IsNext old.coordinator.archive) (StartsFrom old.coordinator.archive) new → new.reports ≡ old.reports → Course old new
-  ticks : CoordinatorGoes old IsNothing (GoesOnFrom old.coordinator.running (plan_of old.coordinator.running)) new → Reports old new (plan_of old.coordinator.running) EndsUnanswered → Course old new
+  ticks : CoordinatorGoes old IsNothing (GoesOnFrom old.coordinator.running (plan_of old.coordinator.running)) new → Reports old new (plan_of old.coordinator.running) IsNoItem EndsUnanswered → Course old new
   takes : (from : Which) (session number : ℕ) (reply : Reply) (plan : List Planned) → Contains old.sent (Answers from session number reply) → IsExpected old.coordinator.running from session number →
       HasPlan old.sent old.coordinator.archive old.coordinator.running plan →
-      CoordinatorGoes old (IsDueAfter old.coordinator.running plan from reply) (λ running. GoesOnFrom old.coordinator.running plan running × IsOver from number running) new → Reports old new plan (EndsTaken old new from plan reply) → Course old new
+      CoordinatorGoes old (IsDueAfter old.coordinator.running plan from number reply) (λ running. GoesOnFrom old.coordinator.running plan running × IsOver from number running) new → Reports old new plan (RefusesTaken old new from number plan reply) (EndsTaken old new from number plan reply) → Course old new
 
 -- nothing is kept
 nothing_kept : (a : Archive) (kept : List Kept) → kept ≡ [] → AllCanKeep a kept
@@ -50,10 +52,14 @@ side_says old new which machine sent e =
     let b = set_beside old which machine in
     beside [] (ap (λ w. w.acknowledged) e ∙ (b.acknowledged ∙ sym (append-nil old.acknowledged))) tt (inr (ap (λ w. w.coordinator.running) e ∙ ap (λ c. c.running) b.coordinator, refl)) (ap (λ w. w.reports) e ∙ b.reports)
 
+besides : (old world new : World) → new ≡ world → IsBeside old world → Course old new
+besides old world new e b = beside [] (ap (λ w. w.acknowledged) e ∙ (b.acknowledged ∙ sym (append-nil old.acknowledged))) tt (inr (ap (λ w. w.coordinator.running) e ∙ ap (λ c. c.running) b.coordinator, refl)) (ap (λ w. w.reports) e ∙ b.reports)
+
 side_set : (old new : World) (which : Which) (machine : SideMachine) → new ≡ set_side old which machine → Course old new
-side_set old new which machine e =
-    let b = set_beside old which machine in
-    beside [] (ap (λ w. w.acknowledged) e ∙ (b.acknowledged ∙ sym (append-nil old.acknowledged))) tt (inr (ap (λ w. w.coordinator.running) e ∙ ap (λ c. c.running) b.coordinator, refl)) (ap (λ w. w.reports) e ∙ b.reports)
+side_set old new which machine e = besides old (set_side old which machine) new e (set_beside old which machine)
+
+refused : (old new : World) (reason : Refusal) → new ≡ refuses_with old reason → Course old new
+refused old new reason e = besides old (refuses_with old reason) new e (record { coordinator = refl; acknowledged = refl; reports = refl })
 
 takes_request : (old new : World) (which : Which) (session number : ℕ) (request : Request) → TakesRequest old which session number request new → Course old new
 takes_request old new which session number request (answered a) = side_goes old new which _ _ a.events a.result
@@ -88,38 +94,48 @@ module _ (plans : Plans) (old : World) (k : IsKept plans old) (new : World) wher
   none_runs kept w = (subst (λ o. IfSome o (λ kept. (old.coordinator.status ≢ Up) × (old.coordinator.running ≡ None) × CanKeep old.coordinator.archive kept × IsHarmless plans (histories_of old) kept)) w k.coordinator.writing).1
 
   opens_archive : (machine : CoordinatorMachine) (kept : List Kept) → OpensArchive old.coordinator machine kept → new ≡ record old { coordinator = machine; acknowledged = old.acknowledged ++ map Kept_by kept } → Course old new
-  opens_archive _ _ archive_opened e = alone old new _ [] tt (inr (refl, refl)) e
-  opens_archive _ _ (archive_recovered kept w can) e = alone old new _ (kept ∷ []) (can, tt) (inl (none_runs kept w)) e
-  opens_archive _ _ archive_not_opened e = alone old new _ [] tt (inr (refl, refl)) e
-  opens_archive _ _ (archive_not_reopened up) e = alone old new _ [] tt (inr (refl, refl)) e
+  opens_archive _ _ (archive_opened room) e = alone old new _ [] tt (inr (refl, refl)) e
+  opens_archive _ _ (archive_recovered room kept w can) e = alone old new _ (kept ∷ []) (can, tt) (inl (none_runs kept w)) e
 
   cuts : (machine : Machine) → new ≡ cut_off old machine → Course old new
   cuts (At which) e = side_set old new which _ e
   cuts Coordinator e = alone old new _ [] tt (inl refl) (no_acks plans old k new _ e)
 
-  halts : (machine : Machine) → new ≡ halted old machine → Course old new
-  halts (At which) e = side_set old new which _ e
-  halts Coordinator e = alone old new _ [] tt (inr (refl, refl)) (no_acks plans old k new _ e)
+  halts : (machine : Machine) → new ≡ refuses_with (halted old machine) Device → Course old new
+  halts (At which) e =
+      let b = set_beside old which (record (side_of old which) { status = Halted }) in
+      besides old (refuses_with (halted old (At which)) Device) new e (record { coordinator = b.coordinator; acknowledged = b.acknowledged; reports = b.reports })
+  halts Coordinator e = beside [] (ap (λ w. w.acknowledged) e ∙ sym (append-nil old.acknowledged)) tt (inr (ap (λ w. w.coordinator.running) e, refl)) (ap (λ w. w.reports) e)
 
   opens_machine : (machine : Machine) → OpensMachine old machine new → Course old new
   opens_machine (At which) g = side_goes old new which g.0 _ g.1 g.3
   opens_machine Coordinator g = opens_archive g.0 g.1 g.2 g.3
 
+  reopens : (machine : Machine) → Reopens old machine new → Course old new
+  reopens machine (inl g) = opens_machine machine g
+  reopens machine (inr (inl e)) = halts machine e
+  reopens machine (inr (inr e)) = cuts machine e
+
+  calls : (machine : Machine) (causes : List Cause) (Made : Type 0) → (Made → Course old new) → Calls old machine causes Made new → Course old new
+  calls machine causes Made made (inl (down, e)) = stays old new e
+  calls machine causes Made made (inr (up, inl (reason, first, e))) = refused old new reason e
+  calls machine causes Made made (inr (up, inr (none, g))) = made g
+
   pub course : (step : Step) → Steps old step new → Course old new
-  course (Edits side user edit) g = side_goes old new side g.0 _ g.1 g.3
-  course Start (inl e) = stays old new e
-  course Start (inr g) = starts g.1 g.2
+  course (Edits side user edit) g = calls (At side) (edit_causes (side_of old side) (Edited user edit)) (IsLawfulEvent (Edited user edit) × SideGoes old side (Writes (side_of old side) (Edited user edit)) [] new) (λ h. side_goes old new side h.1.0 _ h.1.1 h.1.3) g
+  course Start g = calls Coordinator (start_causes old.coordinator) (Starts old new) (λ h. starts h.0 h.1) g
   course (Deliver message) g = delivers old new (slice_get old.sent message) (was_sent plans old k new message) g
-  course Tick (inl e) = stays old new e
-  course Tick (inr g) = ticks g.0 g.1
-  course (Checkpoint machine) (inl e) = stays old new e
-  course (Checkpoint machine) (inr (inl e)) = halts machine e
-  course (Checkpoint machine) (inr (inr e)) = cuts machine e
+  course Tick (inl g) = stays old new g.1
+  course Tick (inr g) = ticks g.1.goes g.1.reports
+  course (Checkpoint machine) (full, g) = calls machine ((full, why.Full) ∷ []) (Reopens old machine new) (reopens machine) g
   course (Fail machine call) e = stays old new e
-  course (Stop machine call) (inl e) = stays old new e
-  course (Stop machine call) (inr e) = cuts machine e
-  course (Open machine) (inl e) = stays old new e
-  course (Open machine) (inr g) = opens_machine machine g.1
-  course (Reopen machine) (inl e) = stays old new e
-  course (Reopen machine) (inr (up, inl g)) = opens_machine machine g
-  course (Reopen machine) (inr (up, inr e)) = cuts machine e
+  course (Stop machine zero) (inl g) = stays old new g.1
+  course (Stop machine zero) (inr g) = cuts machine g.1
+  course (Stop machine (suc more)) e = stays old new e
+  course (Open machine) (inl g) = stays old new g.1
+  course (Open machine) (inr (down, inl g)) = opens_machine machine g
+  course (Open machine) (inr (down, inr (inl g))) = refused old new g.0 g.2
+  course (Open machine) (inr (down, inr (inr e))) = refused old new Device e
+  course (Reopen machine) (inl g) = stays old new g.1
+  course (Reopen machine) (inr (up, inl g)) = refused old new g.0 g.2
+  course (Reopen machine) (inr (up, inr g)) = reopens machine g

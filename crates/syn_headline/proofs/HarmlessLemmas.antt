@@ -9,11 +9,11 @@ use Rattle.syn_model.specs.Reconcile.{is_directory_in_both}
 use Rattle.syn_model.specs.Decision.{Item, ToLeft, ToRight, MarkSame, MarkDir, Conflict, Decision, Do, DoAndGoOn, decision, is_unstable, path_of, GoesOn}
 use Rattle.syn_model.specs.History.{History, tree_at, is_quiet, last_session}
 use Rattle.syn_model.specs.Archive.{Archive, Kept, Recorded, RecordedDir, after_kept, Held}
-use Rattle.syn_headline.specs.Side.{Replace, Reply, Done}
+use Rattle.syn_headline.specs.Side.{Request, Replace, Reply, Done}
 use Rattle.syn_headline.specs.Network.{Which, Left, Right, other, Sent, Asks, Answers}
 use Rattle.syn_headline.specs.Planning.{Planned, seen_on, IsPlanOf, WritesTo}
-use Rattle.syn_headline.specs.World.{Running, Outstanding, outstanding, IsDue, done, same, directory}
-use Rattle.syn_headline.specs.Invariant.{Plans, Histories, IsSound, HadMarks, IsHeldRecord, IsHarmless}
+use Rattle.syn_headline.specs.World.{Running, asked_of, IsDue, done, same, directory}
+use Rattle.syn_headline.proofs.Invariant.{Plans, Histories, IsSound, HadMarks, IsHeldRecord, IsHarmless}
 use Rattle.syn_model.proofs.PathLemmas.{is_prefix-is, strip_prefix-append, some_same}
 use Rattle.syn_model.proofs.TreeLemmas.{get-subtree, same_tree, subtree-replace_other, within}
 use Rattle.syn_model.proofs.HistoryLemmas.{get-below_root}
@@ -279,10 +279,10 @@ module _ (plans : Plans) (histories : Histories) (archive : Archive) (sent : Sen
 
   -- what is due as a session goes on is harmless
   pub due_harmless : (plan : List Planned) → plans running.session ≡ plan → (from : Which) (number : ℕ) (reply : Reply) (kept : Kept) → Contains sent (Answers from running.session number reply) →
-      ((waiting : Outstanding) → outstanding running from ≡ Some waiting → Contains sent (Asks from running.session number waiting.request)) →
-      IsDue running plan from reply kept → IsHarmless plans histories kept
-  due_harmless plan has from number reply _ answered waits (done waiting item path since size planned is_done out asks e w) =
+      ((request : Request) → asked_of running from number ≡ Some request → Contains sent (Asks from running.session number request)) →
+      IsDue running plan from number reply kept → IsHarmless plans histories kept
+  due_harmless plan has from number reply _ answered waits (done item path since size planned is_done out e w) =
       done_harmless from number item path since size planned (subst (λ r. Contains sent (Answers from running.session number r)) is_done answered)
-      (subst (λ r. Contains sent (Asks from running.session number r)) asks (waits waiting out)) (ap (λ x. slice_get x item) has ∙ e) w
+      (waits (Replace item path since size) out) (ap (λ x. slice_get x item) has ∙ e) w
   due_harmless plan has from number reply _ answered waits (same item path planned e kind alike) = same_harmless item path planned (ap (λ x. slice_get x item) has ∙ e) kind alike
   due_harmless plan has from number reply _ answered waits (directory item path planned e kind) = directory_harmless item path planned (ap (λ x. slice_get x item) has ∙ e) kind

@@ -12,7 +12,7 @@ use Rattle.syn_model.specs.Archive.{Archive, Held}
 use Rattle.syn_headline.specs.Side.{ListAt, Listed}
 use Rattle.syn_headline.specs.Network.{Which, Sent}
 use Rattle.syn_headline.specs.Planning.{IsScanOf}
-use Rattle.syn_headline.specs.Invariant.{Plans, Histories, IsSound, IsTrueListing}
+use Rattle.syn_headline.proofs.Invariant.{Plans, Histories, IsSound, IsTrueListing}
 use Rattle.syn_model.proofs.PathLemmas.{none_some}
 use Rattle.syn_model.proofs.MarkLemmas.{get-mark}
 use Rattle.syn_model.proofs.QuietLemmas.{get-children, same_child}

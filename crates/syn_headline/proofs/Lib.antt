@@ -1,3 +1,4 @@
+pub mod Invariant
 pub mod RowLemmas
 pub mod WorldLemmas
 pub mod SideLemmas

@@ -51,7 +51,7 @@ not_false false e = absurd (true≢false e)
 not_above : (a b c : ℕ) → (nat_lt a b || nat_lt c a) ≡ false → a ≤ c
 not_above a b c h = grind (arith, nat_tests)
 
-same_number : (a b : ℕ) → (a == b) ≡ true → a ≡ b
+pub same_number : (a b : ℕ) → (a == b) ≡ true → a ≡ b
 same_number a b h = grind (arith, nat_tests)
 
 since_holds : (history : History) (path : Path) (since : ℕ) → first_cause (since_causes history path since) ≡ None → (since ≤ length history) × (is_quiet history since (length history) path ≡ true)

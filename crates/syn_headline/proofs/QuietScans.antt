@@ -20,7 +20,7 @@ use Rattle.syn_headline.specs.Side.{ListAt, Listed, NotDir}
 use Rattle.syn_headline.specs.Network.{Which, other, Sent}
 use Rattle.syn_headline.specs.Planning.{Planned, seen_on, IsScanOf, WritesTo}
 use Rattle.syn_headline.specs.Headline.{IsNoEdit}
-use Rattle.syn_headline.specs.Invariant.{Plans, Histories, IsSound, IsTrueListing, IsTrueNotDir, source_of}
+use Rattle.syn_headline.proofs.Invariant.{Plans, Histories, IsSound, IsTrueListing, IsTrueNotDir, source_of}
 use Rattle.syn_model.proofs.PathLemmas.{none_some}
 use Rattle.syn_model.proofs.TreeLemmas.{same_tree, get-subtree}
 use Rattle.syn_model.proofs.HistoryLemmas.{tree_of-append}

@@ -17,7 +17,7 @@ use Rattle.syn_headline.specs.Planning.{Planned}
 use Rattle.syn_headline.specs.Report.{Report, Counts, is_kept, IsSettled, is_carrying, is_marking, conflict_at}
 use Rattle.syn_headline.specs.World.{AllCanKeep}
 use Rattle.syn_headline.specs.Headline.{IsNoEdit, HasCounts}
-use Rattle.syn_headline.specs.Invariant.{Plans, Histories, IsSound}
+use Rattle.syn_headline.proofs.Invariant.{Plans, Histories, IsSound}
 use Rattle.syn_model.proofs.PathLemmas.{some_same, none_some}
 use Rattle.syn_model.proofs.FitsLemmas.{history_fits, replica_depth}
 use Rattle.syn_model.proofs.HistoryLemmas.{history-is_tree}

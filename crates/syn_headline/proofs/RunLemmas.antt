@@ -1,27 +1,29 @@
 -- Each step of a run keeps the invariant, and its replacements are legal.
-use Rattle.std.proofs.Common.{◌≡◌, ◌≤◌, ◌+◌, ℕ, Bool, List, [], ◌∷◌, ◌++◌, refl, sym, ap, ap₂, ◌∙◌, subst, Option, Some, None, append-nil, arith, inl, inr, ◌⊎◌, slice_get, ◌≢◌, map}
-use Rattle.std.specs.Prelude.{Contains, IfSome, IsSomeAnd}
+use Rattle.std.proofs.Common.{◌≡◌, ◌≤◌, ◌+◌, ℕ, zero, suc, Bool, false, true≢false, List, [], ◌∷◌, ◌++◌, refl, sym, ap, ap₂, ◌∙◌, subst, Option, Some, None, append-nil, arith, inl, inr, ◌⊎◌, slice_get, ◌≢◌, map}
+use Rattle.std.specs.Prelude.{Contains, IfSome}
 use Rattle.std.proofs.lemmas.List.{append_cancel_left}
 use Rattle.std.proofs.lemmas.List.Elements.{Contains-get_or}
 use Rattle.std.proofs.lemmas.Option.{slice_get_within, get_or_from_slice_get}
 use Rattle.syn_model.specs.Path.{Path}
 use Rattle.syn_model.specs.Tree.{Tree}
-use Rattle.syn_model.specs.Refusal.{Refusal, Device}
-use Rattle.syn_model.specs.Event.{Token, Edit, Event, Edited, Began, Replaced}
-use Rattle.syn_model.specs.History.{History, IsAllowed}
+use Rattle.syn_model.specs.Refusal.{Refusal, Device, Cause, first_cause}
+use Rattle.syn_model.specs.Refusal as why
+use Rattle.syn_model.proofs.HistoryLemmas.{first_cause-none, none-append}
+use Rattle.syn_model.specs.Event.{Token, Edit, Event, Edited, Began, Replaced, IsLawfulEvent}
+use Rattle.syn_model.specs.History.{History, IsAllowed, event_causes}
 use Rattle.syn_model.specs.Archive.{Kept, Session, CanKeep, after_kept}
-use Rattle.syn_headline.specs.Side.{Side, Served, Request, Begin, ListAt, Fetch, Stage, Replace, Reply, Refused, IsLawfulRequest}
+use Rattle.syn_headline.specs.Side.{Side, Served, Request, Begin, ListAt, Fetch, Stage, Replace, Reply, Refused, IsLawfulRequest, room_causes}
 use Rattle.syn_headline.specs.Network.{Which, Left, Right, other, Sent, Message, Asks, Answers}
 use Rattle.syn_headline.specs.Planning.{Planned}
 use Rattle.syn_headline.specs.Acknowledged.{Ack, Happened, Kept_by, history_of, IsLegal}
-use Rattle.syn_headline.specs.World.{Status, Up, Halted, Down, Machine, At, Coordinator, World, SideMachine, CoordinatorMachine, Running, Outstanding, outstanding, side_of, set_side, stopped, Step, Edits, Start, Deliver, Tick, Checkpoint, Fail, Stop, Open, Reopen, Writes, written, failed, cut, DoesEdit, edit_refused, edit_written, Opens, opened, recovered, not_opened, not_reopened, OpensArchive, archive_opened, archive_recovered, archive_not_opened, archive_not_reopened, ServesAs, serve_halted, WouldAdd, TakesRequest, answered, request_failed, request_cut, side_down, IsDueAfter, IsOver, IsExpected, HasPlan, GoesOnAs, ended, goes_on, GoesOnFrom, plan_of, StartsFrom, RunsOver, IsNext, IsNothing, CoordinatorGoes, TakesAnswer, taken, ignored, coordinator_down, Delivers, OpensMachine, cut_off, halted, Steps}
+use Rattle.syn_headline.specs.World.{Status, Up, Halted, Down, Machine, At, Coordinator, World, SideMachine, CoordinatorMachine, Running, asked_of, outstanding, side_of, set_side, stopped, Step, Edits, Start, Deliver, Tick, Checkpoint, Fail, Stop, Open, Reopen, Writes, written, failed, cut, SideGoes, Opens, opened, recovered, OpensArchive, archive_opened, archive_recovered, refuses_with, is_halted, status_of, edit_causes, start_causes, Starts, Reopens, Calls, ServesAs, serve_halted, WouldAdd, TakesRequest, answered, request_failed, request_cut, side_down, IsDueAfter, IsOver, IsExpected, HasPlan, GoesOnAs, ended, goes_on, GoesOnFrom, plan_of, StartsFrom, RunsOver, IsNext, IsNothing, CoordinatorGoes, TakesAnswer, taken, ignored, coordinator_down, Delivers, OpensMachine, cut_off, halted, Steps}
 use Rattle.syn_headline.specs.Headline.{stores_of}
-use Rattle.syn_headline.specs.Invariant.{Plans, Histories, histories_of, IsSound, IsTrue, IsFresh, IsHarmless, IsSoundStaging, IsSoundEvent, IsSoundSide, IsSoundCoordinator, IsKept}
+use Rattle.syn_headline.proofs.Invariant.{Plans, Histories, histories_of, IsSound, IsTrue, IsFresh, IsHarmless, IsSoundStaging, IsSoundEvent, IsSoundSide, IsSoundCoordinator, IsKept}
 use Rattle.syn_headline.proofs.SoundLemmas.{set_plan, set_plan-grows, set_plan-here, sound-plan, sound-keep, kept_session}
 use Rattle.syn_headline.proofs.OutcomeLemmas.{Outcome, refuses, stages_first, stages_more, stages_again, any_outcome, outcome, halted_outcome}
 use Rattle.syn_headline.proofs.MoveLemmas.{on_both, Moves, refused_borne, outcome_moves, outcome_true, outcome_borne, outcome_staging, legal}
 use Rattle.syn_headline.proofs.HarmlessLemmas.{due_harmless}
-use Rattle.syn_headline.proofs.StepLemmas.{if_some, Says, nothing, reply, SideStep, step_moves, side_keeps, coordinator_keeps, next_fresh, sides-later, sides-plan}
+use Rattle.syn_headline.proofs.StepLemmas.{if_some, asked_was_sent, Says, nothing, reply, SideStep, step_moves, side_keeps, coordinator_keeps, next_fresh, sides-later, sides-plan}
 
 -- each acknowledged replacement of a step is the first of its events, and legal
 abbrev pub IsLegalStep : World → List Ack → Type 0
@@ -69,6 +71,20 @@ stays plans old new k e = record {
   acks = [];
   acknowledges = ap (λ w. w.acknowledged) e ∙ sym (append-nil old.acknowledged);
   legal_step = none_legal old;
+}
+
+-- what a call was refused with is no part of it
+refuses_advances : (plans : Plans) (old world new : World) (reason : Refusal) → Advances plans old world → new ≡ refuses_with world reason → Advances plans old new
+refuses_advances plans old world new reason a e = record {
+  later = a.later;
+  kept = subst (IsKept a.later) (sym e) (record { sound = a.kept.sound; sides = λ side. on_both (λ s. IsSoundSide a.later (histories_of world) world.coordinator.archive s (side_of world s)) side (a.kept.sides side) (a.kept.sides (other side)) side; coordinator = a.kept.coordinator });
+  which = a.which;
+  moves = subst (λ w. Moves plans old.coordinator.archive (histories_of old) (histories_of w) a.which) (sym e) a.moves;
+  messages = a.messages;
+  sends = ap (λ w. w.sent) e ∙ a.sends;
+  acks = a.acks;
+  acknowledges = ap (λ w. w.acknowledged) e ∙ a.acknowledges;
+  legal_step = a.legal_step;
 }
 
 -- A side
@@ -168,7 +184,7 @@ side_settles plans old k which machine new h staged writing e =
     side_advances plans old k which machine [] [] new (no_event h) staged writing nothing (e ∙ ap₂ (λ s a. next old which machine s a) (sym (append-nil old.sent)) (sym (append-nil old.acknowledged)))
 
 was_written : (plans : Plans) (old : World) → IsKept plans old → (which : Which) (status : Status) → (((side_of old which).status ≢ Up) → status ≢ Up) → (side : Side) → side.history ≡ histories_of old which →
-    IsWritten plans old which (record { status = status; side = side; writing = (side_of old which).writing })
+    IsWritten plans old which (record (side_of old which) { status = status; side = side })
 was_written plans old k which status keeps side h = if_some (side_of old which).writing (λ event. ((side_of old which).status ≢ Up) × IsSoundEvent plans (histories_of old) old.coordinator.archive which event)
     (λ event. (status ≢ Up) × IsSoundEvent plans (histories_of old) old.coordinator.archive which event × (side.history ≡ histories_of old which)) (k.sides which).writing (λ event _ x. (keeps x.0, x.1, h))
 
@@ -181,29 +197,25 @@ halted_not_up e = cc
 writes_advances : (plans : Plans) (old : World) → IsKept plans old → (which : Which) (event : Event) → IsAllowed (histories_of old which) event → IsSoundEvent plans (histories_of old) old.coordinator.archive which event →
     (machine : SideMachine) (events : List Event) (new : World) → (side_of old which).status ≡ Up → Writes (side_of old which) event machine events →
     new ≡ next old which machine (old.sent ++ []) (old.acknowledged ++ map (λ event. Happened which event) events) → Advances plans old new
-writes_advances plans old k which event a s _ _ new up written e =
+writes_advances plans old k which event a s _ _ new up (written room) e =
     side_advances plans old k which _ [] (event ∷ []) new (one_event event a s refl) (k.sides which).staged
     (if_some (side_of old which).writing (λ event. ((side_of old which).status ≢ Up) × IsSoundEvent plans (histories_of old) old.coordinator.archive which event) _ (k.sides which).writing (λ other_event _ x. absurd (x.0 up))) nothing e
 writes_advances plans old k which event a s _ _ new up failed e = side_advances plans old k which _ [] [] new (no_event refl) (k.sides which).staged (halted_not_up, s, refl) nothing e
 writes_advances plans old k which event a s _ _ new up cut e = side_advances plans old k which _ [] [] new (no_event refl) tt (down_not_up, s, refl) nothing e
 
-edit_advances : (plans : Plans) (old : World) → IsKept plans old → (which : Which) (user : ℕ) (edit : Edit) (machine : SideMachine) (events : List Event) (new : World) → DoesEdit (side_of old which) user edit machine events →
-    new ≡ next old which machine (old.sent ++ []) (old.acknowledged ++ map (λ event. Happened which event) events) → Advances plans old new
-edit_advances plans old k which user edit _ _ new edit_refused e =
-    side_advances plans old k which (side_of old which) [] [] new (no_event refl) (k.sides which).staged (was_written plans old k which (side_of old which).status (λ x. x) (side_of old which).side refl) nothing e
-edit_advances plans old k which user edit _ _ new (edit_written machine events up a w) e = writes_advances plans old k which (Edited user edit) a tt machine events new up w e
-
 opens_advances : (plans : Plans) (old : World) → IsKept plans old → (which : Which) (machine : SideMachine) (events : List Event) (new : World) → Opens (side_of old which) machine events →
     new ≡ next old which machine (old.sent ++ []) (old.acknowledged ++ map (λ event. Happened which event) events) → Advances plans old new
-opens_advances plans old k which _ _ new opened e = side_advances plans old k which _ [] [] new (no_event refl) (k.sides which).staged tt nothing e
-opens_advances plans old k which _ _ new (recovered event w a) e =
+opens_advances plans old k which _ _ new (opened room) e = side_advances plans old k which _ [] [] new (no_event refl) (k.sides which).staged tt nothing e
+opens_advances plans old k which _ _ new (recovered room event w a) e =
     let s : ((side_of old which).status ≢ Up) × IsSoundEvent plans (histories_of old) old.coordinator.archive which event =
     subst (λ o. IfSome o (λ event. ((side_of old which).status ≢ Up) × IsSoundEvent plans (histories_of old) old.coordinator.archive which event)) w (k.sides which).writing in
     side_advances plans old k which _ [] (event ∷ []) new (one_event event a s.1 refl) (k.sides which).staged tt nothing e
-opens_advances plans old k which _ _ new not_opened e =
-    side_advances plans old k which (side_of old which) [] [] new (no_event refl) (k.sides which).staged (was_written plans old k which (side_of old which).status (λ x. x) (side_of old which).side refl) nothing e
-opens_advances plans old k which _ _ new (not_reopened up) e =
-    side_advances plans old k which _ [] [] new (no_event refl) (k.sides which).staged (was_written plans old k which Halted (λ _. halted_not_up) (side_of old which).side refl) nothing e
+
+-- a machine that is neither halted nor down is up
+neither : (status : Status) → is_halted status ≡ false → status ≢ Down → status ≡ Up
+neither Up h k = refl
+neither Halted h k = absurd (true≢false h)
+neither Down h k = absurd (k refl)
 
 stage_same : (side : Side) (session item offset : ℕ) (bytes : List ℕ) (served : Served) → Outcome side session (Stage item offset bytes) served → served.side.history ≡ side.history
 stage_same side session item offset bytes _ (refuses _ reason) = refl
@@ -247,9 +259,9 @@ module _ (plans : Plans) (old : World) (k : IsKept plans old) (which : Which) (s
       let one : a.0 ∷ [] ≡ events = append_cancel_left (histories_of old which) (a.0 ∷ []) events (sym a.3 ∙ added) in
       subst (Adds plans old which served.side.history) one (one_event a.0 a.1 a.2 a.3)
 
-  would_sound : (event : Event) → WouldAdd old.pair (side_of old which).side session request event → IsSoundEvent plans (histories_of old) old.coordinator.archive which event
+  would_sound : (event : Event) → WouldAdd old.pair (side_of old which).has_room (side_of old which).side session request event → IsSoundEvent plans (histories_of old) old.coordinator.archive which event
   would_sound event w =
-      let o = outcome old.pair w.has_room (side_of old which).side session request w.served lawful w.serves in
+      let o = outcome old.pair (side_of old which).has_room (side_of old which).side session request w.served lawful w.serves in
       elim (outcome_moves plans old.coordinator.archive old.sent (histories_of old) k.sound which (side_of old which).side refl (k.sides which).staged session number request w.served asked o) as (λ _. IsSoundEvent plans (histories_of old) old.coordinator.archive which event) [
         | inl e ↦ absurd (longer (histories_of old which) event (sym e ∙ w.adds))
         | inr a ↦
@@ -260,13 +272,13 @@ module _ (plans : Plans) (old : World) (k : IsKept plans old) (which : Which) (s
 
   pub request_advances : (new : World) → TakesRequest old which session number request new → Advances plans old new
   request_advances new (answered a) =
-      let o = any_outcome (side_of old which).status old.pair a.has_room (side_of old which).side session request a.served lawful a.serves in
+      let o = any_outcome (side_of old which).status old.pair (side_of old which).has_room (side_of old which).side session request a.served lawful a.serves in
       let moves = outcome_moves plans old.coordinator.archive old.sent (histories_of old) k.sound which (side_of old which).side refl (k.sides which).staged session number request a.served asked o in
-      side_advances plans old k which (record (side_of old which) { side = a.served.side }) (Answers which session number a.served.reply ∷ []) a.events new (events_are a.served a.events a.added moves)
+      side_advances plans old k which (record (side_of old which) { side = a.served.side; has_room = a.room }) (Answers which session number a.served.reply ∷ []) a.events new (events_are a.served a.events a.added moves)
       (outcome_staging plans old.coordinator.archive old.sent (histories_of old) k.sound which (side_of old which).side refl (k.sides which).staged session number request a.served asked o)
       (if_some (side_of old which).writing (λ event. ((side_of old which).status ≢ Up) × IsSoundEvent plans (histories_of old) old.coordinator.archive which event)
       (λ event. ((side_of old which).status ≢ Up) × IsSoundEvent plans (histories_of old) old.coordinator.archive which event × (a.served.side.history ≡ histories_of old which)) (k.sides which).writing
-      (λ event _ x. (x.0, x.1, unless_up_same (side_of old which).status x.0 old.pair a.has_room (side_of old which).side session request a.served a.serves)))
+      (λ event _ x. (x.0, x.1, unless_up_same (side_of old which).status x.0 old.pair (side_of old which).has_room (side_of old which).side session request a.served a.serves)))
       (reply session number request a.served.reply asked (outcome_true plans old.coordinator.archive old.sent (histories_of old) k.sound which (side_of old which).side refl (k.sides which).staged session number request a.served asked o)
       (outcome_borne plans old.coordinator.archive old.sent (histories_of old) k.sound which (side_of old which).side refl (k.sides which).staged session number request a.served asked o))
       a.result
@@ -309,23 +321,19 @@ module _ (plans : Plans) (old : World) (k : IsKept plans old) (new : World) wher
   pub running_over : (r : Running) → old.coordinator.running ≡ Some r → RunsOver old.sent old.coordinator.archive (Some r)
   running_over r e = subst (RunsOver old.sent old.coordinator.archive) e k.coordinator.runs_over
 
-  pub waits_for : (r : Running) → old.coordinator.running ≡ Some r → (from : Which) (number : ℕ) → IsSomeAnd (outstanding r from) (λ sent. sent.number ≡ number) → (waiting : Outstanding) → outstanding r from ≡ Some waiting →
-      Contains old.sent (Asks from r.session number waiting.request)
-  waits_for r e from number expected waiting out =
-      let number_is : waiting.number ≡ number = subst (λ o. IsSomeAnd o (λ sent. sent.number ≡ number)) out expected in
-      let was : Contains old.sent (Asks from r.session waiting.number waiting.request) = subst (λ o. IfSome o (λ waiting. Contains old.sent (Asks from r.session waiting.number waiting.request))) out ((running_over r e).1 from) in
-      subst (λ n. Contains old.sent (Asks from r.session n waiting.request)) number_is was
+  pub waits_for : (r : Running) → old.coordinator.running ≡ Some r → (from : Which) (number : ℕ) (request : Request) → asked_of r from number ≡ Some request → Contains old.sent (Asks from r.session number request)
+  waits_for r e from number request asked = asked_was_sent old.sent from r.session number (outstanding r from) ((running_over r e).1 from) request asked
 
   take_with : (from : Which) (session number : ℕ) (said : Reply) (plan : List Planned) → Contains old.sent (Answers from session number said) → (running : Option Running) → old.coordinator.running ≡ running → IsExpected running from session number →
-      HasPlan old.sent old.coordinator.archive running plan → CoordinatorGoes old (IsDueAfter running plan from said) (λ running'. GoesOnFrom running plan running' × IsOver from number running') new → Advances plans old new
+      HasPlan old.sent old.coordinator.archive running plan → CoordinatorGoes old (IsDueAfter running plan from number said) (λ running'. GoesOnFrom running plan running' × IsOver from number running') new → Advances plans old new
   take_with from session number said plan c None e expected made g = absurd expected
   take_with from session number said plan c (Some r) e expected (inl same) g =
       let has = running_has r e in
       let planned : plans r.session ≡ plan = has.0 ∙ sym same in
       let c' = subst (λ n. Contains old.sent (Answers from n number said)) expected.0 c in
-      coordinator_advances plans plans old (IsDueAfter (Some r) plan from said) (λ running'. GoesOnFrom (Some r) plan running' × IsOver from number running') new g
-      (coordinator_keeps plans old (IsDueAfter (Some r) plan from said) (λ running'. GoesOnFrom (Some r) plan running' × IsOver from number running') new k.sound k.sides
-      (λ kept due. due_harmless plans (histories_of old) old.coordinator.archive old.sent k.sound r (running_over r e).0 plan planned from number said kept c' (waits_for r e from number expected.1) due) g
+      coordinator_advances plans plans old (IsDueAfter (Some r) plan from number said) (λ running'. GoesOnFrom (Some r) plan running' × IsOver from number running') new g
+      (coordinator_keeps plans old (IsDueAfter (Some r) plan from number said) (λ running'. GoesOnFrom (Some r) plan running' × IsOver from number running') new k.sound k.sides
+      (λ kept due. due_harmless plans (histories_of old) old.coordinator.archive old.sent k.sound r (running_over r e).0 plan planned from number said kept c' (waits_for r e from number) due) g
       (runs_has plans (histories_of old) r plan planned (λ x. has.1 (sym same ∙ x)) g.machine.running g.runs_on.0))
   take_with from session number said plan c (Some r) e expected (inr made) g =
       let has = running_has r e in
@@ -335,10 +343,10 @@ module _ (plans : Plans) (old : World) (k : IsKept plans old) (new : World) wher
       let planned : plans' r.session ≡ plan = set_plan-here plans r.session plan in
       let sound = sound-plan plans (histories_of old) old.coordinator.archive old.sent k.sound r.session plan empty made.1 fresh in
       let c' = subst (λ n. Contains old.sent (Answers from n number said)) expected.0 c in
-      coordinator_advances plans plans' old (IsDueAfter (Some r) plan from said) (λ running'. GoesOnFrom (Some r) plan running' × IsOver from number running') new g
-      (coordinator_keeps plans' old (IsDueAfter (Some r) plan from said) (λ running'. GoesOnFrom (Some r) plan running' × IsOver from number running') new sound
+      coordinator_advances plans plans' old (IsDueAfter (Some r) plan from number said) (λ running'. GoesOnFrom (Some r) plan running' × IsOver from number running') new g
+      (coordinator_keeps plans' old (IsDueAfter (Some r) plan from number said) (λ running'. GoesOnFrom (Some r) plan running' × IsOver from number running') new sound
       (λ side. sides-plan plans plans' (set_plan-grows plans r.session plan empty) (histories_of old) old.coordinator.archive side (side_of old side) (k.sides side))
-      (λ kept due. due_harmless plans' (histories_of old) old.coordinator.archive old.sent sound r (running_over r e).0 plan planned from number said kept c' (waits_for r e from number expected.1) due) g
+      (λ kept due. due_harmless plans' (histories_of old) old.coordinator.archive old.sent sound r (running_over r e).0 plan planned from number said kept c' (waits_for r e from number) due) g
       (runs_has plans' (histories_of old) r plan planned (λ _. fresh) g.machine.running g.runs_on.0))
 
   tick_with : (running : Option Running) → old.coordinator.running ≡ running → CoordinatorGoes old IsNothing (GoesOnFrom running (plan_of running)) new → Advances plans old new
@@ -396,14 +404,12 @@ module _ (plans : Plans) (old : World) (k : IsKept plans old) (new : World) wher
   }
 
   opens_archive : (machine : CoordinatorMachine) (ks : List Kept) → OpensArchive old.coordinator machine ks → new ≡ record old { coordinator = machine; acknowledged = old.acknowledged ++ map (λ k. Kept_by k) ks } → Advances plans old new
-  opens_archive _ _ archive_opened e = coordinator_settles (record old.coordinator { status = Up; writing = None }) [] k.sound (omega arith) (record { running = k.coordinator.running; runs_over = k.coordinator.runs_over; writing = tt }) e
-  opens_archive _ _ (archive_recovered kept w can) e =
+  opens_archive _ _ (archive_opened room) e = coordinator_settles (record old.coordinator { status = Up; has_room = room; writing = None }) [] k.sound (omega arith) (record { running = k.coordinator.running; runs_over = k.coordinator.runs_over; writing = tt }) e
+  opens_archive _ _ (archive_recovered room kept w can) e =
       let pending : IsPending old.coordinator.status old.coordinator.running kept = subst (λ o. IfSome o (IsPending old.coordinator.status old.coordinator.running)) w k.coordinator.writing in
-      coordinator_settles (record old.coordinator { status = Up; archive = after_kept old.coordinator.archive kept; writing = None }) (kept ∷ [])
+      coordinator_settles (record old.coordinator { status = Up; archive = after_kept old.coordinator.archive kept; has_room = room; writing = None }) (kept ∷ [])
       (sound-keep plans (histories_of old) old.coordinator.archive old.sent k.sound kept can pending.3) (kept_session old.coordinator.archive kept can)
       (record { running = k.coordinator.running; runs_over = subst (RunsOver old.sent (after_kept old.coordinator.archive kept)) (sym pending.1) tt; writing = tt }) e
-  opens_archive _ _ archive_not_opened e = coordinator_settles old.coordinator [] k.sound (omega arith) k.coordinator e
-  opens_archive _ _ (archive_not_reopened up) e = coordinator_settles (record old.coordinator { status = Halted }) [] k.sound (omega arith) (with_status Halted (λ _. halted_not_up)) e
 
   pub no_acks : (machine : CoordinatorMachine) → new ≡ record old { coordinator = machine } → new ≡ record old { coordinator = machine; acknowledged = old.acknowledged ++ map (λ k. Kept_by k) [] }
   no_acks machine e = e ∙ ap (λ a. record old { coordinator = machine; acknowledged = a }) (sym (append-nil old.acknowledged))
@@ -414,11 +420,6 @@ module _ (plans : Plans) (old : World) (k : IsKept plans old) (new : World) wher
   cut_advances Coordinator e = coordinator_settles (record old.coordinator { status = Down; running = None }) [] k.sound (omega arith)
       (record { running = tt; runs_over = tt; writing = if_some old.coordinator.writing (IsPending old.coordinator.status old.coordinator.running) (IsPending Down None) k.coordinator.writing (λ kept _ x. (down_not_up, refl, x.2, x.3)) })
       (no_acks (record old.coordinator { status = Down; running = None }) e)
-
-  halt_advances : (machine : Machine) → new ≡ halted old machine → Advances plans old new
-  halt_advances (At which) e = side_settles plans old k which (record (side_of old which) { status = Halted }) new refl (k.sides which).staged
-      (was_written plans old k which Halted (λ _. halted_not_up) (side_of old which).side refl) (e ∙ next_same old which _)
-  halt_advances Coordinator e = coordinator_settles (record old.coordinator { status = Halted }) [] k.sound (omega arith) (with_status Halted (λ _. halted_not_up)) (no_acks (record old.coordinator { status = Halted }) e)
 
   opens_machine : (machine : Machine) → OpensMachine old machine new → Advances plans old new
   opens_machine (At which) g = opens_advances plans old k which g.0 g.1 new g.2 g.3
@@ -437,22 +438,51 @@ module _ (plans : Plans) (old : World) (k : IsKept plans old) (new : World) wher
   pub was_sent : (n : ℕ) (m : Message) → slice_get old.sent n ≡ Some m → Contains old.sent m
   was_sent n m e = subst (Contains old.sent) (get_or_from_slice_get old.sent n m m e) (Contains-get_or old.sent n m (slice_get_within old.sent n m e))
 
+  refused_advances : (reason : Refusal) → new ≡ refuses_with old reason → Advances plans old new
+  refused_advances reason e = refuses_advances plans old old new reason (stays plans old old k refl) e
+
+-- the machine's device failed, and nothing was being written
+halt_advances : (plans : Plans) (old : World) (k : IsKept plans old) (machine : Machine) → Advances plans old (halted old machine)
+halt_advances plans old k (At which) = side_settles plans old k which (record (side_of old which) { status = Halted }) (halted old (At which)) refl (k.sides which).staged
+    (was_written plans old k which Halted (λ _. halted_not_up) (side_of old which).side refl) (next_same old which _)
+halt_advances plans old k Coordinator = coordinator_settles plans old k (halted old Coordinator) (record old.coordinator { status = Halted }) [] k.sound (omega arith) (with_status plans old k (halted old Coordinator) Halted (λ _. halted_not_up))
+    (no_acks plans old k (halted old Coordinator) (record old.coordinator { status = Halted }) refl)
+
+module _ (plans : Plans) (old : World) (k : IsKept plans old) (new : World) where
+  reopens_advances : (machine : Machine) → Reopens old machine new → Advances plans old new
+  reopens_advances machine (inl g) = opens_machine plans old k new machine g
+  reopens_advances machine (inr (inl e)) = refuses_advances plans old (halted old machine) new Device (halt_advances plans old k machine) e
+  reopens_advances machine (inr (inr e)) = cut_advances plans old k new machine e
+
+  calls_advances : (machine : Machine) (causes : List Cause) (Made : Type 0) → (first_cause ((is_halted (status_of old machine), why.Halted) ∷ causes) ≡ None → status_of old machine ≢ Down → Made → Advances plans old new) → Calls old machine causes Made new → Advances plans old new
+  calls_advances machine causes Made made (inl (down, e)) = stays plans old new k e
+  calls_advances machine causes Made made (inr (up, inl (reason, first, e))) = refused_advances plans old k new reason e
+  calls_advances machine causes Made made (inr (up, inr (none, g))) = made none up g
+
+  edit_advances : (which : Which) (user : ℕ) (edit : Edit) → first_cause ((is_halted (side_of old which).status, why.Halted) ∷ edit_causes (side_of old which) (Edited user edit)) ≡ None → (side_of old which).status ≢ Down →
+      IsLawfulEvent (Edited user edit) × SideGoes old which (Writes (side_of old which) (Edited user edit)) [] new → Advances plans old new
+  edit_advances which user edit none up (lawful, g) =
+      let machine_is = side_of old which in
+      let first = first_cause-none (is_halted machine_is.status, why.Halted) (edit_causes machine_is (Edited user edit)) none in
+      let allowed : IsAllowed machine_is.side.history (Edited user edit) = record { lawful = lawful; not_refused = (none-append (event_causes machine_is.side.history (Edited user edit)) (room_causes machine_is.has_room (Edited user edit)) first.1).0 } in
+      writes_advances plans old k which (Edited user edit) allowed tt g.0 g.1 new (neither machine_is.status first.0 up) g.2 g.3
+
   -- each step keeps the invariant, and its replacements are legal
   pub step_advances : (step : Step) → Steps old step new → Advances plans old new
-  step_advances (Edits side user edit) g = edit_advances plans old k side user edit g.0 g.1 new g.2 g.3
-  step_advances Start (inl e) = stays plans old new k e
-  step_advances Start (inr g) = start_advances g.1
-  step_advances (Deliver message) g = delivers_advances (slice_get old.sent message) (was_sent message) g
-  step_advances Tick (inl e) = stays plans old new k e
-  step_advances Tick (inr g) = tick_with old.coordinator.running refl g.0
-  step_advances (Checkpoint machine) (inl e) = stays plans old new k e
-  step_advances (Checkpoint machine) (inr (inl e)) = halt_advances machine e
-  step_advances (Checkpoint machine) (inr (inr e)) = cut_advances machine e
+  step_advances (Edits side user edit) g = calls_advances (At side) (edit_causes (side_of old side) (Edited user edit)) (IsLawfulEvent (Edited user edit) × SideGoes old side (Writes (side_of old side) (Edited user edit)) [] new) (edit_advances side user edit) g
+  step_advances Start g = calls_advances Coordinator (start_causes old.coordinator) (Starts old new) (λ none up h. start_advances plans old k new h.0) g
+  step_advances (Deliver message) g = delivers_advances plans old k new (slice_get old.sent message) (was_sent plans old k new message) g
+  step_advances Tick (inl g) = stays plans old new k g.1
+  step_advances Tick (inr g) = tick_with plans old k new old.coordinator.running refl g.1.goes
+  step_advances (Checkpoint machine) (full, g) = calls_advances machine ((full, why.Full) ∷ []) (Reopens old machine new) (λ none up h. reopens_advances machine h) g
   step_advances (Fail machine call) e = stays plans old new k e
-  step_advances (Stop machine call) (inl e) = stays plans old new k e
-  step_advances (Stop machine call) (inr e) = cut_advances machine e
-  step_advances (Open machine) (inl e) = stays plans old new k e
-  step_advances (Open machine) (inr g) = opens_machine machine g.1
-  step_advances (Reopen machine) (inl e) = stays plans old new k e
-  step_advances (Reopen machine) (inr (up, inl g)) = opens_machine machine g
-  step_advances (Reopen machine) (inr (up, inr e)) = cut_advances machine e
+  step_advances (Stop machine zero) (inl g) = stays plans old new k g.1
+  step_advances (Stop machine zero) (inr g) = cut_advances plans old k new machine g.1
+  step_advances (Stop machine (suc more)) e = stays plans old new k e
+  step_advances (Open machine) (inl g) = stays plans old new k g.1
+  step_advances (Open machine) (inr (down, inl g)) = opens_machine plans old k new machine g
+  step_advances (Open machine) (inr (down, inr (inl g))) = refused_advances plans old k new g.0 g.2
+  step_advances (Open machine) (inr (down, inr (inr e))) = refused_advances plans old k new Device e
+  step_advances (Reopen machine) (inl g) = stays plans old new k g.1
+  step_advances (Reopen machine) (inr (up, inl g)) = refused_advances plans old k new g.0 g.2
+  step_advances (Reopen machine) (inr (up, inr g)) = reopens_advances machine g

@@ -18,7 +18,7 @@ use Rattle.syn_headline.specs.Acknowledged.{Ack, Kept_by, event_at, kept_in, Sto
 use Rattle.syn_headline.specs.Report.{Report}
 use Rattle.syn_headline.specs.World.{World, Step, Runs, AllCanKeep}
 use Rattle.syn_headline.specs.Headline.{stores_of, IsPair, IsStart, BeganAfter, IsQuietSession, IsOfRun, Synchronizes, StandsFor, CompleteSessionsSynchronize, ReportsItsConflicts, HasCounts, CountsItsItems, OfEachRun}
-use Rattle.syn_headline.specs.Invariant.{Plans, histories_of, IsKept}
+use Rattle.syn_headline.proofs.Invariant.{Plans, histories_of, IsKept}
 use Rattle.syn_model.proofs.PathLemmas.{none_some}
 use Rattle.syn_model.proofs.MarkLemmas.{get-mark}
 use Rattle.syn_model.proofs.FitsLemmas.{replica_depth}

@@ -22,7 +22,7 @@ use Rattle.syn_headline.specs.Side.{Request, Begin, ListAt, Fetch, Stage, Replac
 use Rattle.syn_headline.specs.Network.{Which, other, Sent, Asks, Answers, NumbersTell, AsksNothingTwice}
 use Rattle.syn_headline.specs.Planning.{Planned, seen_on, IsPlanOf, WritesTo}
 use Rattle.syn_headline.specs.World.{IsOfPlan}
-use Rattle.syn_headline.specs.Invariant.{Plans, Histories, IsSound, IsSound_request, IsStillRecorded, IsTrue, IsBorne, HadMarks, IsSpent, IsHeld, IsHeldRecord, IsHarmless, IsUsed, IsFresh, part_at}
+use Rattle.syn_headline.proofs.Invariant.{Plans, Histories, IsSound, IsSound_request, IsStillRecorded, IsTrue, IsBorne, HadMarks, IsSpent, IsHeld, IsHeldRecord, IsHarmless, IsUsed, IsFresh, part_at}
 use Rattle.syn_model.proofs.PathLemmas.{none_some, some_same, strip_prefix-is}
 use Rattle.syn_model.proofs.TreeLemmas.{get-replace}
 use Rattle.syn_model.proofs.HistoryLemmas.{get-at_root, first_cause-none, replace-is_tree, place-stands, empty-is_tree, allowed_goes_on}

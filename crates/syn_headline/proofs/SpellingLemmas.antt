@@ -4,7 +4,7 @@ use Rattle.std.specs.FinMap.{len}
 use Rattle.syn_model.specs.Tree.{Tree, IsPart}
 use Rattle.syn_model.specs.Limits.{fits_part, fits_paths, tree_spelling_length, greatest_spelling}
 use Rattle.syn_model.specs.Spelling.{spelling}
-use Rattle.syn_headline.specs.Invariant.{IsOfReplica}
+use Rattle.syn_headline.proofs.Invariant.{IsOfReplica}
 use Rattle.syn_model.proofs.DirtyLemmas.{both_true}
 use Rattle.syn_model.proofs.SubtreeLemmas.{subtree-fits, subtree-is_part}
 use Rattle.syn_model.proofs.SpellingLemmas.{spelling_tells}

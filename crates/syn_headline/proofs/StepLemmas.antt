@@ -1,7 +1,7 @@
 -- The invariant is kept by each step.
-use Rattle.std.proofs.Common.{◌≡◌, ◌≤◌, ◌+◌, ℕ, List, [], ◌∷◌, ◌++◌, refl, sym, ap, ◌∙◌, subst, Option, Some, None, is_some, append_assoc, append-nil, arith, inl, inr, ◌⊎◌, slice_get, ◌≢◌}
+use Rattle.std.proofs.Common.{◌≡◌, ◌≤◌, ◌+◌, ℕ, true, false, ◌==◌, if◌then◌else◌, List, [], ◌∷◌, ◌++◌, refl, sym, ap, ◌∙◌, subst, Option, Some, None, is_some, append_assoc, append-nil, arith, inl, inr, ◌⊎◌, slice_get, ◌≢◌}
 use Rattle.std.specs.Prelude.{Contains, IfSome, All}
-use Rattle.std.proofs.lemmas.List.Elements.{All-head, All-tail, All-contains, Contains-append_left}
+use Rattle.std.proofs.lemmas.List.Elements.{All-weaker, All-head, All-tail, All-contains, Contains-append_left}
 use Rattle.syn_model.specs.Tree.{Directory}
 use Rattle.syn_model.specs.Event.{Token, Event, Edited, Began, Replaced}
 use Rattle.syn_model.specs.History.{History, AllAllowed, IsAllowed, last_session, last_token}
@@ -11,9 +11,10 @@ use Rattle.syn_headline.specs.Laws.{AddsAllowed}
 use Rattle.syn_headline.specs.Side.{Request, Reply}
 use Rattle.syn_headline.specs.Network.{Which, Left, other, Sent, Message, Asks, Answers}
 use Rattle.syn_headline.specs.Planning.{seen_on}
-use Rattle.syn_headline.specs.World.{Up, World, SideMachine, Running, outstanding, side_of, IsOfPlan, IsOfSession, AllOfSession, RunsOver, WasSent, AllCanKeep, CoordinatorGoes}
-use Rattle.syn_headline.specs.Invariant.{Plans, Histories, histories_of, IsSound, IsSound_request, IsTrue, IsBorne, IsHeldRecord, IsFresh, IsSoundStaging, IsSoundEvent, IsSoundSide, IsSoundCoordinator, IsHarmless, IsKept}
+use Rattle.syn_headline.specs.World.{Up, World, SideMachine, Running, Outstanding, outstanding, asked_in, side_of, IsOfPlan, IsOfSession, AllOfSession, RunsOver, WasSent, AllCanKeep, CoordinatorGoes}
+use Rattle.syn_headline.proofs.Invariant.{Plans, Histories, histories_of, IsSound, IsSound_request, IsTrue, IsBorne, IsHeldRecord, IsFresh, IsSoundStaging, IsSoundEvent, IsSoundSide, IsSoundCoordinator, IsHarmless, IsKept}
 use Rattle.syn_model.proofs.PathLemmas.{none_some, some_same}
+use Rattle.syn_headline.proofs.OutcomeLemmas.{same_number}
 use Rattle.syn_headline.proofs.PlanLemmas.{fenced, since_reached}
 use Rattle.syn_headline.proofs.SoundLemmas.{fold_one, held-grow, made, extends, quiet_was, session_grows, sound-more, sound-answer, sound-keep, item-grow, PlansGrow, kept_session}
 use Rattle.syn_headline.proofs.MoveLemmas.{on_both, Moves, moves_grow, sound_moves, staging-grow, replacement-grow, token_one, current}
@@ -62,7 +63,19 @@ if_some None P Q h f = tt
 if_some (Some x) P Q h f = f x refl h
 
 pub was_sent-more : (sent more : Sent) (running : Running) → WasSent sent running → WasSent (sent ++ more) running
-was_sent-more sent more running w side = if_some (outstanding running side) (λ waiting. Contains sent (Asks side running.session waiting.number waiting.request)) (λ waiting. Contains (sent ++ more) (Asks side running.session waiting.number waiting.request)) (w side) (λ waiting e c. Contains-append_left sent more _ c)
+was_sent-more sent more running w side = All-weaker (λ waiting. Contains sent (Asks side running.session waiting.number waiting.request)) (λ waiting. Contains (sent ++ more) (Asks side running.session waiting.number waiting.request))
+    (λ waiting c. Contains-append_left sent more _ c) (outstanding running side) (w side)
+
+-- the request that waits under a number was sent
+pub asked_was_sent : (sent : Sent) (side : Which) (session number : ℕ) (waiting : List Outstanding) → All (λ waiting. Contains sent (Asks side session waiting.number waiting.request)) waiting → (request : Request) →
+    asked_in waiting number ≡ Some request → Contains sent (Asks side session number request)
+asked_was_sent sent side session number [] all request e = absurd (none_some e)
+asked_was_sent sent side session number (first ∷ more) all request e =
+    let P = λ (waiting : Outstanding). Contains sent (Asks side session waiting.number waiting.request) in
+    elim (first.number == number) as (λ b. (first.number == number) ≡ b → (if b then Some first.request else asked_in more number) ≡ Some request → Contains sent (Asks side session number request)) [
+      | true ↦ λ same is. subst (λ n. Contains sent (Asks side session n request)) (same_number first.number number same) (subst (λ r. Contains sent (Asks side session first.number r)) (some_same is) (All-head P first more all))
+      | false ↦ λ _ is. asked_was_sent sent side session number more (All-tail P first more all) request is
+    ] refl e
 
 pub runs_over-more : (sent more : Sent) (archive : Archive) (running : Option Running) → RunsOver sent archive running → RunsOver (sent ++ more) archive running
 runs_over-more sent more archive None r = tt
@@ -268,11 +281,11 @@ coordinator_keeps plans old D R new sound sides harm g runs =
     let later : old.coordinator.archive.last_session ≤ machine.archive.last_session = subst (λ a. old.coordinator.archive.last_session ≤ a.last_session) (sym g.keeps.archive) k.1 in
     let has : IfSome machine.running (λ r. plans r.session ≡ r.plan) = if_some machine.running (λ running. (plans running.session ≡ running.plan) × (running.plan ≡ [] → IsFresh (histories_of old) running.session)) (λ r. plans r.session ≡ r.plan) runs (λ r _ h. h.0) in
     let sends = asks_sound plans (histories_of old) machine.archive old.sent machine.running g.messages has g.runs_over g.of_session in
-    let then = sound-more plans (histories_of old) machine.archive old.sent g.messages now g.numbers g.repeats
+    let sound_then = sound-more plans (histories_of old) machine.archive old.sent g.messages now g.numbers g.repeats
     (λ to session number request c. let x = sends (Asks to session number request) c in request_of plans machine.archive old.sent machine.running to session number request x.0 x.1)
     (λ from session number said c. let x = sends (Answers from session number said) c in absurd (no_answer old.sent machine.archive plans machine.running from session number said x.0 x.1)) in
     subst (IsKept plans) (sym g.result) (record {
-      sound = then;
+      sound = sound_then;
       sides = λ side. on_both (λ s. IsSoundSide plans (histories_of old) machine.archive s (side_of old s)) side
           (sides-later plans (histories_of old) old.coordinator.archive machine.archive side (side_of old side) later (sides side))
           (sides-later plans (histories_of old) old.coordinator.archive machine.archive (other side) (side_of old (other side)) later (sides (other side))) side;

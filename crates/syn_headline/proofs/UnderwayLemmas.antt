@@ -11,7 +11,7 @@ use Rattle.syn_headline.specs.Laws.{AddsAllowed}
 use Rattle.syn_headline.specs.Network.{Which, other, Sent}
 use Rattle.syn_headline.specs.Planning.{Planned, seen_on, IsPlanOf}
 use Rattle.syn_headline.specs.Headline.{IsNoEdit}
-use Rattle.syn_headline.specs.Invariant.{Plans, Histories, IsSound, IsSoundEvent}
+use Rattle.syn_headline.proofs.Invariant.{Plans, Histories, IsSound, IsSoundEvent}
 use Rattle.syn_model.proofs.PathLemmas.{none_some}
 use Rattle.syn_headline.proofs.PlanLemmas.{plan_of-more, fenced}
 use Rattle.syn_headline.proofs.SoundLemmas.{began_above, extends, length_grows, part_at_stays, still_touched}

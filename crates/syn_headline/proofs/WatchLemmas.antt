@@ -5,13 +5,13 @@ use Rattle.std.proofs.lemmas.List.Elements.{All-head, All-tail, All-weaker, filt
 use Rattle.syn_model.specs.Path.{Path}
 use Rattle.syn_model.specs.History.{is_quiet}
 use Rattle.syn_model.specs.Archive.{Archive, Kept, Session, Recorded, archive_of}
-use Rattle.syn_headline.specs.Side.{Reply, Done, Replace}
+use Rattle.syn_headline.specs.Side.{Request, Reply, Done, Replace}
 use Rattle.syn_headline.specs.Network.{Which, other, Sent, Asks, Answers}
 use Rattle.syn_headline.specs.Planning.{Planned, seen_on, WritesTo}
 use Rattle.syn_headline.specs.Acknowledged.{Ack, Kept_by, kept_in, Stores}
-use Rattle.syn_headline.specs.World.{World, Running, Outstanding, outstanding, IsExpected, IsOver, IsDue, done, same, directory, IsDueAfter, HasPlan, GoesOnAs, goes_on, ended, GoesOnFrom, plan_of, StartsFrom, RunsOver, IsNext, IsNothing, AllCanKeep, CoordinatorGoes}
+use Rattle.syn_headline.specs.World.{World, Running, asked_of, IsExpected, IsOver, IsDue, done, same, directory, IsDueAfter, HasPlan, GoesOnAs, goes_on, ended, GoesOnFrom, plan_of, StartsFrom, RunsOver, IsNext, IsNothing, AllCanKeep, CoordinatorGoes}
 use Rattle.syn_headline.specs.Headline.{StandsFor}
-use Rattle.syn_headline.specs.Invariant.{Plans, Histories, histories_of, IsSound, IsKept}
+use Rattle.syn_headline.proofs.Invariant.{Plans, Histories, histories_of, IsSound, IsKept}
 use Rattle.syn_model.proofs.PathLemmas.{none_some, some_same}
 use Rattle.syn_headline.proofs.WorldLemmas.{kept_kept}
 use Rattle.syn_headline.proofs.RunLemmas.{Advances, running_has, running_over, waits_for}
@@ -30,7 +30,7 @@ RunsWell before world running = IfSome running (λ r. IsUnderway before (histori
 
 -- what is due was done, was alike or is a directory
 module _ (plans : Plans) (histories : Histories) (archive : Archive) (sent : Sent) (sound : IsSound plans histories archive sent) (r : Running) (plan : List Planned) (from : Which) (number : ℕ) (reply : Reply)
-    (heard : Contains sent (Answers from r.session number reply)) (asks : (waiting : Outstanding) → outstanding r from ≡ Some waiting → Contains sent (Asks from r.session number waiting.request)) where
+    (heard : Contains sent (Answers from r.session number reply)) (asks : (request : Request) → asked_of r from number ≡ Some request → Contains sent (Asks from r.session number request)) where
   -- what was asked for and done was touched since it was listed
   done_due : (item : ℕ) (path : Path) (since size : ℕ) (planned : Planned) → plans r.session ≡ plan → reply ≡ Done → Contains sent (Asks from r.session number (Replace item path since size)) → slice_get plan item ≡ Some planned → WritesTo planned.item from path →
       IsRecordDue plan histories (Recorded path (seen_on planned (other from)).marks)
@@ -48,8 +48,8 @@ module _ (plans : Plans) (histories : Histories) (archive : Archive) (sent : Sen
       let by_plan = (sound.asked from r.session number (Replace item path since size) asked).by_plan in
       absurd (none_some (ap (λ p. slice_get p item) (sym (has ∙ made.0)) ∙ by_plan.1))
 
-  due_recorded : HasPlan sent archive (Some r) plan → plans r.session ≡ r.plan → (kept : Kept) → IsDue r plan from reply kept → IsRecordDue plan histories kept
-  due_recorded made has _ (done waiting item path since size planned is out asked at w) = done_recorded made has item path since size planned is (subst (λ q. Contains sent (Asks from r.session number q)) asked (asks waiting out)) at w
+  due_recorded : HasPlan sent archive (Some r) plan → plans r.session ≡ r.plan → (kept : Kept) → IsDue r plan from number reply kept → IsRecordDue plan histories kept
+  due_recorded made has _ (done item path since size planned is out at w) = done_recorded made has item path since size planned is (asks (Replace item path since size) out) at w
   due_recorded made has _ (same item path planned at kind agree) = alike item planned path at kind
   due_recorded made has _ (directory item path planned at kind) = marked item planned path at kind
 
@@ -60,9 +60,9 @@ module _ (before : Archive) (plans : Plans) (histories : Histories) (archive : A
   planned_then (inl stays) = subst (IsUnderway before histories sent kept r.session) (sym stays) h
   planned_then (inr made) = underway_plans before plans histories archive sent sound kept archive_is r.session r.plan plan made.0 made.1 h
 
-  pub all_due : (made : HasPlan sent archive (Some r) plan) (from : Which) (number : ℕ) (reply : Reply) → Contains sent (Answers from r.session number reply) → ((waiting : Outstanding) → outstanding r from ≡ Some waiting → Contains sent (Asks from r.session number waiting.request)) →
-      (more : List Kept) → All (IsDue r plan from reply) more → All (IsRecordDue plan histories) more
-  all_due made from number reply heard asks more due = All-weaker (IsDue r plan from reply) (IsRecordDue plan histories) (due_recorded plans histories archive sent sound r plan from number reply heard asks made has) more due
+  pub all_due : (made : HasPlan sent archive (Some r) plan) (from : Which) (number : ℕ) (reply : Reply) → Contains sent (Answers from r.session number reply) → ((request : Request) → asked_of r from number ≡ Some request → Contains sent (Asks from r.session number request)) →
+      (more : List Kept) → All (IsDue r plan from number reply) more → All (IsRecordDue plan histories) more
+  all_due made from number reply heard asks more due = All-weaker (IsDue r plan from number reply) (IsRecordDue plan histories) (due_recorded plans histories archive sent sound r plan from number reply heard asks made has) more due
 
 -- a session goes on
 goes_on_well : (before : Archive) (histories : Histories) (sent more : Sent) (kept : List Kept) (r : Running) (plan : List Planned) → IsUnderway before histories sent kept r.session plan → (o : Option Running) → GoesOnAs r plan o →
@@ -145,17 +145,17 @@ module _ (before : Stores) (plans : Plans) (old new : World) (k : IsKept plans o
     pub plan_then : IsUnderway before.archive (histories_of old) old.sent (all_kept old) r.session plan
     plan_then = planned_then before.archive plans (histories_of old) old.coordinator.archive old.sent k.sound (all_kept old) stands.archive r (running_has plans old k new r e).0 (running_well r e) plan made
 
-    pub due_then : (kept : List Kept) → All (IsDue r plan from reply) kept → All (IsRecordDue plan (histories_of old)) kept
+    pub due_then : (kept : List Kept) → All (IsDue r plan from number reply) kept → All (IsRecordDue plan (histories_of old)) kept
     due_then kept due = all_due before.archive plans (histories_of old) old.coordinator.archive old.sent k.sound (all_kept old) stands.archive r (running_has plans old k new r e).0 (running_well r e) plan made from number reply
-        (subst (λ n. Contains old.sent (Answers from n number reply)) expected.0 heard) (waits_for plans old k new r e from number expected.1) kept due
+        (subst (λ n. Contains old.sent (Answers from n number reply)) expected.0 heard) (waits_for plans old k new r e from number) kept due
 
-    takes_one : (g : CoordinatorGoes old (IsDueAfter (Some r) plan from reply) (λ running. GoesOnFrom (Some r) plan running × IsOver from number running) new) → RunsWell before.archive new new.coordinator.running
-    takes_one g = goes_well (IsDueAfter (Some r) plan from reply) (λ running. GoesOnFrom (Some r) plan running × IsOver from number running) g
+    takes_one : (g : CoordinatorGoes old (IsDueAfter (Some r) plan from number reply) (λ running. GoesOnFrom (Some r) plan running × IsOver from number running) new) → RunsWell before.archive new new.coordinator.running
+    takes_one g = goes_well (IsDueAfter (Some r) plan from number reply) (λ running. GoesOnFrom (Some r) plan running × IsOver from number running) g
         (goes_on_well before.archive (histories_of old) old.sent g.messages (all_kept old ++ g.kept) r plan
         (underway_records before.archive (histories_of old) old.sent (all_kept old) g.kept r.session plan (due_then g.kept g.keeps.due) plan_then) g.machine.running g.runs_on.0)
 
   takes_well : (o : Option Running) → old.coordinator.running ≡ o → (from : Which) (session number : ℕ) (reply : Reply) (plan : List Planned) → Contains old.sent (Answers from session number reply) → IsExpected o from session number →
-      HasPlan old.sent old.coordinator.archive o plan → CoordinatorGoes old (IsDueAfter o plan from reply) (λ running. GoesOnFrom o plan running × IsOver from number running) new → RunsWell before.archive new new.coordinator.running
+      HasPlan old.sent old.coordinator.archive o plan → CoordinatorGoes old (IsDueAfter o plan from number reply) (λ running. GoesOnFrom o plan running × IsOver from number running) new → RunsWell before.archive new new.coordinator.running
   takes_well None e from session number reply plan heard expected made g = absurd expected
   takes_well (Some r) e from session number reply plan heard expected made g = takes_one r e from session number reply plan heard expected made g
 

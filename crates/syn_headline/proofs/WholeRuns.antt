@@ -10,7 +10,7 @@ use Rattle.syn_headline.specs.Network.{Which, Left, Right, Sent, Message}
 use Rattle.syn_headline.specs.Acknowledged.{Ack, Happened, Stores, stores_after, IsLegal}
 use Rattle.syn_headline.specs.World.{Up, World, Running, side_of, Step, Waits, RunsOver, Runs}
 use Rattle.syn_headline.specs.Headline.{stores_of, IsStart, EachReplacementIsLegal, EachTokenOnce, StandsFor, OfEachRun, Owes}
-use Rattle.syn_headline.specs.Invariant.{Plans, histories_of, IsHarmless, IsSoundStaging, IsSoundEvent, IsSoundSide, IsKept}
+use Rattle.syn_headline.proofs.Invariant.{Plans, histories_of, IsHarmless, IsSoundStaging, IsSoundEvent, IsSoundSide, IsKept}
 use Rattle.syn_model.proofs.PathLemmas.{none_some}
 use Rattle.syn_headline.proofs.PlanLemmas.{answered-more}
 use Rattle.syn_headline.proofs.TokenLemmas.{token_once}

@@ -1,15 +1,16 @@
 -- What is acknowledged is what the machines stand for.
-use Rattle.std.proofs.Common.{◌≡◌, ℕ, List, [], ◌∷◌, ◌++◌, map, filter_map, refl, sym, ap, ap₂, ◌∙◌, subst, Option, Some, None, inl, inr, append-nil, append_assoc, slice_get}
+use Rattle.std.proofs.Common.{◌≡◌, ℕ, zero, suc, List, [], ◌∷◌, ◌++◌, map, filter_map, refl, sym, ap, ap₂, ◌∙◌, subst, Option, Some, None, inl, inr, append-nil, append_assoc, slice_get}
 use Rattle.std.proofs.lemmas.List.Elements.{filter_map-append}
-use Rattle.syn_model.specs.Event.{Event, Edited, Edit}
+use Rattle.syn_model.specs.Event.{Event, Edited, IsLawfulEvent}
 use Rattle.syn_model.specs.History.{History}
 use Rattle.syn_model.specs.Archive.{Archive, Kept, after_kept, archive_of}
 use Rattle.syn_headline.specs.Network.{Which, Left, Right, Message, Asks, Answers}
 use Rattle.syn_headline.specs.Acknowledged.{Ack, Happened, Kept_by, event_at, kept_in, Stores}
 use Rattle.syn_headline.specs.Report.{Report}
 use Rattle.syn_headline.specs.Side.{Request, Reply, Refused}
-use Rattle.syn_model.specs.Refusal.{Device}
-use Rattle.syn_headline.specs.World.{Running, World, SideMachine, CoordinatorMachine, Machine, At, Coordinator, Step, Edits, Start, Deliver, Tick, Checkpoint, Fail, Stop, Open, Reopen, side_of, set_side, stopped, Writes, DoesEdit, SideGoes, Opens, OpensArchive, TakesRequest, TakesAnswer, CoordinatorGoes, Delivers, OpensMachine, cut_off, halted, Steps, written, failed, cut, edit_refused, edit_written, opened, recovered, not_opened, not_reopened, archive_opened, archive_recovered, archive_not_opened, archive_not_reopened, answered, request_failed, request_cut, side_down, taken, ignored, coordinator_down}
+use Rattle.syn_model.specs.Refusal.{Refusal, Device, Cause}
+use Rattle.syn_model.specs.Refusal as why
+use Rattle.syn_headline.specs.World.{Running, World, SideMachine, CoordinatorMachine, Machine, At, Coordinator, Step, Edits, Start, Deliver, Tick, Checkpoint, Fail, Stop, Open, Reopen, side_of, set_side, stopped, Writes, SideGoes, Opens, OpensArchive, TakesRequest, TakesAnswer, CoordinatorGoes, Delivers, OpensMachine, cut_off, halted, Steps, written, failed, cut, opened, recovered, archive_opened, archive_recovered, refuses_with, edit_causes, start_causes, Starts, Reopens, Calls, answered, request_failed, request_cut, side_down, taken, ignored, coordinator_down}
 use Rattle.syn_headline.specs.Headline.{StandsFor, RunsStand}
 
 left_left : (es : List Event) → filter_map (event_at Left) (map (λ e. Happened Left e) es) ≡ es
@@ -84,25 +85,17 @@ side_stays before old Left machine sent new s h e = subst (StandsFor before) (sy
 side_stays before old Right machine sent new s h e = subst (StandsFor before) (sym e) (record { left = s.left; right = h ∙ s.right; archive = s.archive })
 
 writes_history : (m : SideMachine) (event : Event) (new : SideMachine) (es : List Event) → Writes m event new es → new.side.history ≡ m.side.history ++ es
-writes_history m event new es written = refl
+writes_history m event new es (written room) = refl
 writes_history m event new es failed = sym (append-nil m.side.history)
 writes_history m event new es cut = sym (append-nil m.side.history)
 
-edit_history : (m : SideMachine) (user : ℕ) (edit : Edit) (new : SideMachine) (es : List Event) → DoesEdit m user edit new es → new.side.history ≡ m.side.history ++ es
-edit_history m user edit new es edit_refused = sym (append-nil m.side.history)
-edit_history m user edit new es (edit_written n l up allowed w) = writes_history m (Edited user edit) new es w
-
 opens_history : (m : SideMachine) (new : SideMachine) (es : List Event) → Opens m new es → new.side.history ≡ m.side.history ++ es
-opens_history m new es opened = sym (append-nil m.side.history)
-opens_history m new es (recovered event is allowed) = refl
-opens_history m new es not_opened = sym (append-nil m.side.history)
-opens_history m new es (not_reopened up) = sym (append-nil m.side.history)
+opens_history m new es (opened room) = sym (append-nil m.side.history)
+opens_history m new es (recovered room event is allowed) = refl
 
 opens_archive : (m new : CoordinatorMachine) (ks : List Kept) → OpensArchive m new ks → new.archive ≡ archive_of m.archive ks
-opens_archive m new ks archive_opened = refl
-opens_archive m new ks (archive_recovered kept is can) = refl
-opens_archive m new ks archive_not_opened = refl
-opens_archive m new ks (archive_not_reopened up) = refl
+opens_archive m new ks (archive_opened room) = refl
+opens_archive m new ks (archive_recovered room kept is can) = refl
 
 side_steps : (before : Stores) (old : World) (which : Which) (Goes : SideMachine → List Event → Type 0) (new : World) → ((m : SideMachine) (es : List Event) → Goes m es → m.side.history ≡ (side_of old which).side.history ++ es) →
     StandsFor before old → SideGoes old which Goes [] new → StandsFor before new
@@ -131,7 +124,7 @@ sent_stays old Right machine = refl
 
 takes_request : (before : Stores) (old : World) (which : Which) (session number : ℕ) (request : Request) (new : World) → StandsFor before old → TakesRequest old which session number request new → StandsFor before new
 takes_request before old which session number request new s (answered a) =
-    side_goes before old which (record (side_of old which) { side = a.served.side }) a.events (Answers which session number a.served.reply ∷ []) new s a.added a.result
+    side_goes before old which (record (side_of old which) { side = a.served.side; has_room = a.room }) a.events (Answers which session number a.served.reply ∷ []) new s a.added a.result
 takes_request before old which session number request new s (request_failed f) = side_stays before old which _ (old.sent ++ Answers which session number (Refused Device) ∷ []) new s refl f.result
 takes_request before old which session number request new s (request_cut c) = side_stays before old which _ old.sent new s refl (c.result ∙ sent_stays old which _)
 takes_request before old which session number request new s (side_down d e) = same_world before old new s e
@@ -150,32 +143,47 @@ cut_stands : (before : Stores) (old : World) (machine : Machine) (new : World) �
 cut_stands before old (At which) new s e = side_stays before old which (stopped (side_of old which) (side_of old which).writing) old.sent new s refl (e ∙ sent_stays old which _)
 cut_stands before old Coordinator new s e = subst (StandsFor before) (sym e) (record { left = s.left; right = s.right; archive = s.archive })
 
-halt_stands : (before : Stores) (old : World) (machine : Machine) (new : World) → StandsFor before old → new ≡ halted old machine → StandsFor before new
-halt_stands before old (At which) new s e = side_stays before old which _ old.sent new s refl (e ∙ sent_stays old which _)
-halt_stands before old Coordinator new s e = subst (StandsFor before) (sym e) (record { left = s.left; right = s.right; archive = s.archive })
+-- what a call was refused with is no part of it
+refuses_stands : (before : Stores) (world : World) (reason : Refusal) (new : World) → StandsFor before world → new ≡ refuses_with world reason → StandsFor before new
+refuses_stands before world reason new s e = subst (StandsFor before) (sym e) (record { left = s.left; right = s.right; archive = s.archive })
+
+halt_stands : (before : Stores) (old : World) (machine : Machine) → StandsFor before old → StandsFor before (halted old machine)
+halt_stands before old (At which) s = side_stays before old which _ old.sent (halted old (At which)) s refl (sent_stays old which _)
+halt_stands before old Coordinator s = record { left = s.left; right = s.right; archive = s.archive }
 
 opens_machine : (before : Stores) (old : World) (machine : Machine) (new : World) → StandsFor before old → OpensMachine old machine new → StandsFor before new
 opens_machine before old (At which) new s g = side_steps before old which (Opens (side_of old which)) new (opens_history (side_of old which)) s g
 opens_machine before old Coordinator new s g = coordinator_goes before old g.0 g.1 old.sent old.reports new s (opens_archive old.coordinator g.0 g.1 g.2) g.3
 
+reopens : (before : Stores) (old : World) (machine : Machine) (new : World) → StandsFor before old → Reopens old machine new → StandsFor before new
+reopens before old machine new s (inl g) = opens_machine before old machine new s g
+reopens before old machine new s (inr (inl e)) = refuses_stands before (halted old machine) Device new (halt_stands before old machine s) e
+reopens before old machine new s (inr (inr e)) = cut_stands before old machine new s e
+
+calls : (before : Stores) (old : World) (machine : Machine) (causes : List Cause) (Made : Type 0) (new : World) → StandsFor before old → (Made → StandsFor before new) → Calls old machine causes Made new → StandsFor before new
+calls before old machine causes Made new s made (inl (down, e)) = same_world before old new s e
+calls before old machine causes Made new s made (inr (up, inl (reason, first, e))) = refuses_stands before old reason new s e
+calls before old machine causes Made new s made (inr (up, inr (none, g))) = made g
+
 pub step_stands : (before : Stores) (old : World) (step : Step) (new : World) → StandsFor before old → Steps old step new → StandsFor before new
-step_stands before old (Edits side user edit) new s g = side_steps before old side (DoesEdit (side_of old side) user edit) new (edit_history (side_of old side) user edit) s g
-step_stands before old Start new s (inl e) = same_world before old new s e
-step_stands before old Start new s (inr g) = coordinator_steps before old _ _ new s g.1
+step_stands before old (Edits side user edit) new s g =
+    calls before old (At side) (edit_causes (side_of old side) (Edited user edit)) (IsLawfulEvent (Edited user edit) × SideGoes old side (Writes (side_of old side) (Edited user edit)) [] new) new s (λ h. side_steps before old side (Writes (side_of old side) (Edited user edit)) new (writes_history (side_of old side) (Edited user edit)) s h.1) g
+step_stands before old Start new s g = calls before old Coordinator (start_causes old.coordinator) (Starts old new) new s (λ h. coordinator_steps before old _ _ new s h.0) g
 step_stands before old (Deliver message) new s g = delivers before old (slice_get old.sent message) new s g
-step_stands before old Tick new s (inl e) = same_world before old new s e
-step_stands before old Tick new s (inr g) = coordinator_steps before old _ _ new s g.0
-step_stands before old (Checkpoint machine) new s (inl e) = same_world before old new s e
-step_stands before old (Checkpoint machine) new s (inr (inl e)) = halt_stands before old machine new s e
-step_stands before old (Checkpoint machine) new s (inr (inr e)) = cut_stands before old machine new s e
+step_stands before old Tick new s (inl g) = same_world before old new s g.1
+step_stands before old Tick new s (inr g) = coordinator_steps before old _ _ new s g.1.goes
+step_stands before old (Checkpoint machine) new s (full, g) = calls before old machine ((full, why.Full) ∷ []) (Reopens old machine new) new s (reopens before old machine new s) g
 step_stands before old (Fail machine call) new s e = same_world before old new s e
-step_stands before old (Stop machine call) new s (inl e) = same_world before old new s e
-step_stands before old (Stop machine call) new s (inr e) = cut_stands before old machine new s e
-step_stands before old (Open machine) new s (inl e) = same_world before old new s e
-step_stands before old (Open machine) new s (inr g) = opens_machine before old machine new s g.1
-step_stands before old (Reopen machine) new s (inl e) = same_world before old new s e
-step_stands before old (Reopen machine) new s (inr (up, inl g)) = opens_machine before old machine new s g
-step_stands before old (Reopen machine) new s (inr (up, inr e)) = cut_stands before old machine new s e
+step_stands before old (Stop machine zero) new s (inl g) = same_world before old new s g.1
+step_stands before old (Stop machine zero) new s (inr g) = cut_stands before old machine new s g.1
+step_stands before old (Stop machine (suc more)) new s e = same_world before old new s e
+step_stands before old (Open machine) new s (inl g) = same_world before old new s g.1
+step_stands before old (Open machine) new s (inr (down, inl g)) = opens_machine before old machine new s g
+step_stands before old (Open machine) new s (inr (down, inr (inl g))) = refuses_stands before old g.0 new s g.2
+step_stands before old (Open machine) new s (inr (down, inr (inr e))) = refuses_stands before old Device new s e
+step_stands before old (Reopen machine) new s (inl g) = same_world before old new s g.1
+step_stands before old (Reopen machine) new s (inr (up, inl g)) = refuses_stands before old g.0 new s g.2
+step_stands before old (Reopen machine) new s (inr (up, inr g)) = reopens before old machine new s g
 
 -- a whole run
 pub run_stands : RunsStand

@@ -64,10 +64,14 @@ pub record IsFrom (sent : Sent) (source : Which) (source_history : History) (ses
   pub reached : position ≤ length source_history
   pub held : new ≡ subtree (tree_at source_history position) path
 
--- a replacement that follows a listing, puts what the other side held and takes what the archive recorded
+-- what a replacement may overwrite: what the archive recorded
+abbrev pub MayOverwrite : Stores → Which → Path → Type 0
+MayOverwrite written side path = subtree (mark (tree_of (history_of written side))) path ≡ subtree written.archive.marks path
+
+-- a replacement that follows a listing, puts what the other side held and takes what it may overwrite
 pub record IsLegal (sent : Sent) (side : Which) (written : Stores) (token : Token) (path : Path) (since : ℕ) (new : Tree) : Type 0 where
   pub listed : WasListed sent side token.session (parent path) since
   pub reached : since ≤ length (history_of written side)
   pub untouched : is_quiet (history_of written side) since (length (history_of written side)) path ≡ true
-  pub recorded : subtree (mark (tree_of (history_of written side))) path ≡ subtree written.archive.marks path
+  pub recorded : MayOverwrite written side path
   pub source : IsFrom sent (other side) (history_of written (other side)) token.session path new

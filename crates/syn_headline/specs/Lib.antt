@@ -4,7 +4,6 @@ pub mod Acknowledged
 pub mod Report
 pub mod Planning
 pub mod World
-pub mod Invariant
 pub mod Headline
 pub mod Laws
 pub mod Rows

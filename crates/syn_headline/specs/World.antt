@@ -1,17 +1,20 @@
 -- Three machines and the network between them, and what a step may do.
-use Rattle.std.specs.Prelude.{ℕ, ◌+◌, ◌≡◌, ◌≢◌, ◌⊎◌, Bool, List, [], ◌∷◌, ◌++◌, slice_get, map, Option, Some, None, Contains, IfSome, IsSome, IsSomeAnd, All, length, option_map}
+use Rattle.std.specs.Option.{option_map_or}
+use Rattle.std.specs.List.{list_any}
+use Rattle.std.specs.Prelude.{ℕ, zero, suc, true, false, not, is_some, nat_le, ◌≤◌, ◌==◌, if◌then◌else◌, ◌+◌, ◌≡◌, ◌≢◌, ◌⊎◌, Bool, List, [], ◌∷◌, ◌++◌, slice_get, map, Option, Some, None, Contains, IfSome, IsSome, IsSomeAnd, All, length}
 use Rattle.syn_model.specs.Path.{Path}
-use Rattle.syn_model.specs.Refusal.{Refusal, Device}
+use Rattle.syn_model.specs.Refusal.{Refusal, Device, Cause, first_cause}
 use Rattle.syn_model.specs.Refusal as why
-use Rattle.syn_model.specs.Event.{Edit, Event, Edited}
-use Rattle.syn_model.specs.History.{IsAllowed}
+use Rattle.syn_model.specs.Event.{Edit, Event, Edited, IsLawfulEvent}
+use Rattle.syn_model.specs.History.{IsAllowed, event_causes}
+use Rattle.syn_model.specs.Limits.{greatest}
 use Rattle.syn_model.specs.Archive.{Archive, Kept, Session, Recorded, RecordedDir, CanKeep, after_kept, archive_of}
-use Rattle.syn_headline.specs.Side.{Request, Begin, ListAt, Fetch, Stage, Replace, Reply, Done, Refused, token_of, IsLawfulRequest, Side, Served, Serves, answer, stage, add_event}
+use Rattle.syn_headline.specs.Side.{Request, Begin, ListAt, Fetch, Stage, Replace, Reply, Done, Refused, token_of, IsLawfulRequest, Side, Served, Serves, answer, stage, add_event, room_causes}
 use Rattle.syn_headline.specs.Network.{Which, Left, Right, other, Message, Asks, Answers, Sent, NumbersTell, AsksNothingTwice}
 use Rattle.syn_headline.specs.Acknowledged.{Ack, Happened, Kept_by}
 use Rattle.syn_headline.specs.Planning.{Planned, seen_on, HasBegun, IsPlanOf, WritesTo, IsFetched, IsTotal}
 use Rattle.syn_model.specs.Decision.{MarkSame, MarkDir}
-use Rattle.syn_headline.specs.Report.{Report, Incomplete, Counts, EndsAs, kept_in_session}
+use Rattle.syn_headline.specs.Report.{Report, Incomplete, Counts, IsRefusedItem, EndsAs, kept_in_session}
 
 pub data Machine : Type 0 where
   At : (side : Which) → Machine
@@ -33,10 +36,11 @@ pub data Status : Type 0 where
   Halted : Status
   Down : Status
 
--- a side: what it stands for, and what was being written when it stopped or a device failed
+-- a side: what it stands for, what its journal has room for, and what was being written when it stopped or a device failed
 pub record SideMachine : Type 0 where
   pub status : Status
   pub side : Side
+  pub has_room : Event → Bool
   pub writing : Option Event
 
 -- a request that waits for its answer
@@ -45,19 +49,22 @@ pub record Outstanding : Type 0 where
   pub request : Request
   pub resent : ℕ
 
--- a session that runs, with its plan once it is made
+-- a session that runs, with its plan once it is made, and what of it was refused so far
 pub record Running : Type 0 where
   pub session : ℕ
-  pub left : Option Outstanding
-  pub right : Option Outstanding
+  pub refused : List (Refusal × Path)
+  pub left : List Outstanding
+  pub right : List Outstanding
   pub plan : List Planned
 
 pub record CoordinatorMachine : Type 0 where
   pub status : Status
   pub archive : Archive
+  pub has_room : Kept → Bool
   pub writing : Option Kept
   pub running : Option Running
 
+-- `refusals` has what a user's edit, a start, a checkpoint or an opening was refused with, in order of time
 pub record World : Type 0 where
   pub pair : ℕ
   pub left : SideMachine
@@ -65,6 +72,7 @@ pub record World : Type 0 where
   pub coordinator : CoordinatorMachine
   pub sent : Sent
   pub acknowledged : List Ack
+  pub refusals : List Refusal
   pub reports : List (Report × ℕ)
 
 abbrev pub side_of : World → Which → SideMachine
@@ -75,17 +83,29 @@ abbrev pub set_side : World → Which → SideMachine → World
 set_side world Left machine = record world { left = machine }
 set_side world Right machine = record world { right = machine }
 
-abbrev pub outstanding : Running → Which → Option Outstanding
+abbrev pub outstanding : Running → Which → List Outstanding
 outstanding running Left = running.left
 outstanding running Right = running.right
 
+-- so many requests wait on a side at most
+abbrev pub most_outstanding : ℕ
+most_outstanding = 1
+
+-- the request that waits under the number
+abbrev pub asked_in : List Outstanding → ℕ → Option Request
+asked_in [] number = None
+asked_in (waiting ∷ more) number = if waiting.number == number then Some waiting.request else asked_in more number
+
+abbrev pub asked_of : Running → Which → ℕ → Option Request
+asked_of running side number = asked_in (outstanding running side) number
+
 -- a machine that stops forgets all but its disk
 abbrev pub stopped : SideMachine → Option Event → SideMachine
-stopped machine writing = record { status = Down; side = record { history = machine.side.history; staging = None }; writing = writing }
+stopped machine writing = record machine { status = Down; side = record { history = machine.side.history; staging = None }; writing = writing }
 
 -- a call that writes an event is answered, fails at a device call, or is cut off by a stop
 pub data Writes (machine : SideMachine) (event : Event) : SideMachine → List Event → Type 0 where
-  written : Writes machine event (record machine { side = add_event machine.side event }) (event ∷ [])
+  written : (room : Event → Bool) → Writes machine event (record machine { side = add_event machine.side event; has_room = room }) (event ∷ [])
   failed : Writes machine event (record machine { status = Halted; writing = Some event }) []
   cut : Writes machine event (stopped machine (Some event)) []
 
@@ -98,21 +118,13 @@ SideGoes old which Goes messages new =
       acknowledged = old.acknowledged ++ map (λ event. Happened which event) events;
     })
 
--- an edit is refused and nothing changes, or its event is written
-pub data DoesEdit (machine : SideMachine) (user : ℕ) (edit : Edit) : SideMachine → List Event → Type 0 where
-  edit_refused : DoesEdit machine user edit machine []
-  edit_written : (new : SideMachine) (events : List Event) → machine.status ≡ Up → IsAllowed machine.side.history (Edited user edit) →
-      Writes machine (Edited user edit) new events → DoesEdit machine user edit new events
-
 -- an opening gives the history, or it and the event that was being written
 pub data Opens (machine : SideMachine) : SideMachine → List Event → Type 0 where
-  opened : Opens machine (record machine { status = Up; writing = None }) []
-  recovered : (event : Event) → machine.writing ≡ Some event → IsAllowed machine.side.history event →
-      Opens machine (record { status = Up; side = add_event machine.side event; writing = None }) (event ∷ [])
-  not_opened : Opens machine machine []
-  not_reopened : machine.status ≢ Down → Opens machine (record machine { status = Halted }) []
+  opened : (room : Event → Bool) → Opens machine (record machine { status = Up; has_room = room; writing = None }) []
+  recovered : (room : Event → Bool) (event : Event) → machine.writing ≡ Some event → IsAllowed machine.side.history event →
+      Opens machine (record { status = Up; side = add_event machine.side event; has_room = room; writing = None }) (event ∷ [])
 
--- a halted side still stages, and refuses all else
+-- a halted side still stages, and refuses_with all else
 abbrev pub serve_halted : Side → ℕ → Request → Served
 serve_halted side session (Stage item offset bytes) = stage side side.staging (token_of session item) offset bytes
 serve_halted side session _ = answer side (Refused why.Halted)
@@ -123,20 +135,21 @@ ServesAs Halted pair has_room side session request served = served ≡ serve_hal
 ServesAs Down pair has_room side session request served = ⊥
 
 pub record AnswersRequest (pair : ℕ) (old : World) (which : Which) (session number : ℕ) (request : Request) (new : World) : Type 0 where
-  pub has_room : Event → Bool
   pub served : Served
   pub events : List Event
-  pub serves : ServesAs (side_of old which).status pair has_room (side_of old which).side session request served
+  pub room : Event → Bool
+  pub serves : ServesAs (side_of old which).status pair (side_of old which).has_room (side_of old which).side session request served
   pub no_failure : served.reply ≢ Refused Device
+  pub no_halt : (side_of old which).status ≡ Up → served.reply ≢ Refused why.Halted
+  pub same_room : events ≡ [] → room ≡ (side_of old which).has_room
   pub added : served.side.history ≡ (side_of old which).side.history ++ events
-  pub result : new ≡ record (set_side old which (record (side_of old which) { side = served.side })) {
+  pub result : new ≡ record (set_side old which (record (side_of old which) { side = served.side; has_room = room })) {
     sent = old.sent ++ Answers which session number served.reply ∷ [];
     acknowledged = old.acknowledged ++ map (λ event. Happened which event) events;
   }
 
 -- the event that a request adds where no device fails and the side does not stop
-pub record WouldAdd (pair : ℕ) (side : Side) (session : ℕ) (request : Request) (event : Event) : Type 0 where
-  pub has_room : Event → Bool
+pub record WouldAdd (pair : ℕ) (has_room : Event → Bool) (side : Side) (session : ℕ) (request : Request) (event : Event) : Type 0 where
   pub served : Served
   pub serves : Serves pair has_room side session request served
   pub adds : served.side.history ≡ side.history ++ event ∷ []
@@ -145,7 +158,7 @@ pub record WouldAdd (pair : ℕ) (side : Side) (session : ℕ) (request : Reques
 pub record FailsRequest (old : World) (which : Which) (session number : ℕ) (request : Request) (new : World) : Type 0 where
   pub event : Event
   pub up : (side_of old which).status ≡ Up
-  pub would : WouldAdd old.pair (side_of old which).side session request event
+  pub would : WouldAdd old.pair (side_of old which).has_room (side_of old which).side session request event
   pub result : new ≡ record (set_side old which (record (side_of old which) { status = Halted; writing = Some event })) {
     sent = old.sent ++ Answers which session number (Refused Device) ∷ [];
   }
@@ -154,7 +167,7 @@ pub record FailsRequest (old : World) (which : Which) (session number : ℕ) (re
 pub record CutsRequest (old : World) (which : Which) (session : ℕ) (request : Request) (new : World) : Type 0 where
   pub event : Event
   pub up : (side_of old which).status ≡ Up
-  pub would : WouldAdd old.pair (side_of old which).side session request event
+  pub would : WouldAdd old.pair (side_of old which).has_room (side_of old which).side session request event
   pub result : new ≡ set_side old which (stopped (side_of old which) (Some event))
 
 -- a side takes a request
@@ -185,14 +198,14 @@ IsOfSession sent running (Asks to session number request) = (session ≡ running
 IsOfSession sent running (Answers from session number reply) = ⊥
 
 -- what may be recorded when an answer is taken: the item whose replacement is done, with the mark of its source, or where both scans agree
-pub data IsDue (running : Running) (plan : List Planned) (from : Which) (reply : Reply) : Kept → Type 0 where
-  done : (sent : Outstanding) (item : ℕ) (path : Path) (since size : ℕ) (planned : Planned) → reply ≡ Done →
-      outstanding running from ≡ Some sent → sent.request ≡ Replace item path since size → slice_get plan item ≡ Some planned →
-      WritesTo planned.item from path → IsDue running plan from reply (Recorded path (seen_on planned (other from)).marks)
+pub data IsDue (running : Running) (plan : List Planned) (from : Which) (number : ℕ) (reply : Reply) : Kept → Type 0 where
+  done : (item : ℕ) (path : Path) (since size : ℕ) (planned : Planned) → reply ≡ Done →
+      asked_of running from number ≡ Some (Replace item path since size) → slice_get plan item ≡ Some planned →
+      WritesTo planned.item from path → IsDue running plan from number reply (Recorded path (seen_on planned (other from)).marks)
   same : (item : ℕ) (path : Path) (planned : Planned) → slice_get plan item ≡ Some planned → planned.item ≡ MarkSame path →
-      planned.left.marks ≡ planned.right.marks → IsDue running plan from reply (Recorded path planned.left.marks)
+      planned.left.marks ≡ planned.right.marks → IsDue running plan from number reply (Recorded path planned.left.marks)
   directory : (item : ℕ) (path : Path) (planned : Planned) → slice_get plan item ≡ Some planned → planned.item ≡ MarkDir path →
-      IsDue running plan from reply (RecordedDir path)
+      IsDue running plan from number reply (RecordedDir path)
 
 abbrev pub AllOfSession : Sent → Option Running → List Message → Type 0
 AllOfSession sent None messages = messages ≡ []
@@ -212,20 +225,19 @@ GoesOnFrom None plan new = new ≡ None
 GoesOnFrom (Some old) plan new = GoesOnAs old plan new
 
 abbrev pub plan_of : Option Running → List Planned
-plan_of None = []
-plan_of (Some running) = running.plan
+plan_of running = option_map_or (λ running. running.plan) running []
 
 -- a session starts with the next number
 abbrev pub StartsFrom : Archive → Option Running → Type 0
-StartsFrom archive running = IfSome running (λ new. (new.session ≡ archive.last_session + 1) × (new.plan ≡ []))
+StartsFrom archive running = IfSome running (λ new. (new.session ≡ archive.last_session + 1) × (new.plan ≡ []) × (new.refused ≡ []))
 
 -- a request that waits was sent
 abbrev pub WasSent : Sent → Running → Type 0
-WasSent sent running = (side : Which) → IfSome (outstanding running side) (λ waiting. Contains sent (Asks side running.session waiting.number waiting.request))
+WasSent sent running = (side : Which) → All (λ waiting. Contains sent (Asks side running.session waiting.number waiting.request)) (outstanding running side)
 
--- it waits for an answer
+-- it waits for an answer, and for no more than it may at a time
 abbrev pub Waits : Running → Type 0
-Waits running = IsSome running.left ⊎ IsSome running.right
+Waits running = (1 ≤ length running.left + length running.right) × (length running.left ≤ most_outstanding) × (length running.right ≤ most_outstanding)
 
 -- a running session has the number that the archive kept last, waits for an answer, and what waits was sent
 abbrev pub RunsOver : Sent → Archive → Option Running → Type 0
@@ -269,37 +281,52 @@ pub record CoordinatorGoes (old : World) (IsDue_now : Kept → Type 0) (RunsOn :
 
 -- the answer has the session and number of a request that is outstanding
 abbrev pub IsExpected : Option Running → Which → ℕ → ℕ → Type 0
-IsExpected running from session number = IsSomeAnd running (λ running. (session ≡ running.session) × IsSomeAnd (outstanding running from) (λ sent. sent.number ≡ number))
+IsExpected running from session number = IsSomeAnd running (λ running. (session ≡ running.session) × IsSome (asked_of running from number))
 
-abbrev pub IsDueAfter : Option Running → List Planned → Which → Reply → Kept → Type 0
-IsDueAfter running plan from reply kept = IsSomeAnd running (λ running. IsDue running plan from reply kept)
+abbrev pub IsDueAfter : Option Running → List Planned → Which → ℕ → Reply → Kept → Type 0
+IsDueAfter running plan from number reply kept = IsSomeAnd running (λ running. IsDue running plan from number reply kept)
 
 -- what was answered waits no more
 abbrev pub IsOver : Which → ℕ → Option Running → Type 0
-IsOver from number running = IfSome running (λ running. IfSome (outstanding running from) (λ waiting. waiting.number ≢ number))
+IsOver from number running = IfSome running (λ running. asked_of running from number ≡ None)
 
--- the reports stay while the session goes on, or where the machine stops; or it is over and reports how it ended and what it recorded
-abbrev pub Reports : World → World → List Planned → (Running → Report → Type 0) → Type 0
-Reports old new plan Ends =
-    ((new.reports ≡ old.reports) × (IsSome new.coordinator.running ⊎ (new.coordinator.status ≡ Down)))
+-- what was refused before, and what is refused now
+abbrev pub AddsRefused : (Refusal × Path → Type 0) → List (Refusal × Path) → List (Refusal × Path) → Type 0
+AddsRefused IsRefused_now old new = (more : List (Refusal × Path)) × All IsRefused_now more × (new ≡ old ++ more)
+
+-- the session goes on without a report, or is forgotten as the machine stops
+abbrev pub GoesOnUnreported : World → World → (Refusal × Path → Type 0) → Type 0
+GoesOnUnreported old new IsRefused_now =
+    (IsSome new.coordinator.running ⊎ (new.coordinator.status ≡ Down))
+    × IfSome old.coordinator.running (λ running. IfSome new.coordinator.running (λ later. AddsRefused IsRefused_now running.refused later.refused))
+
+-- or it is over, and reports how it ended, what it recorded and what was refused
+abbrev pub Reports : World → World → List Planned → (Refusal × Path → Type 0) → (Running → Report → Type 0) → Type 0
+Reports old new plan IsRefused_now Ends =
+    ((new.reports ≡ old.reports) × GoesOnUnreported old new IsRefused_now)
     ⊎ ((running : Running) × (report : Report) × (old.coordinator.running ≡ Some running) × (new.coordinator.running ≡ None) × (new.coordinator.status ≢ Down)
-    × (new.reports ≡ old.reports ++ (report, length new.acknowledged) ∷ []) × Ends running report × Counts plan (kept_in_session new.acknowledged) report)
+    × (new.reports ≡ old.reports ++ (report, length new.acknowledged) ∷ []) × Ends running report × Counts plan (kept_in_session new.acknowledged) report
+    × AddsRefused IsRefused_now running.refused report.refused)
 
-abbrev pub EndsTaken : World → World → Which → List Planned → Reply → Running → Report → Type 0
-EndsTaken old new from plan reply running report =
-    EndsAs old.sent running.session old.coordinator.archive.marks plan (kept_in_session new.acknowledged) (option_map (λ waiting. waiting.request) (outstanding running from)) reply report
+-- the archive as it was before one of the records of a call, or after them
+abbrev pub IsArchiveWithin : World → World → Archive → Type 0
+IsArchiveWithin old new archive =
+    (kept : List Kept) × (more : List Kept) × (new.acknowledged ≡ old.acknowledged ++ map Kept_by (kept ++ more)) × (archive ≡ archive_of old.coordinator.archive kept)
 
--- nobody answers, or memory is refused
-abbrev pub EndsUnanswered : Running → Report → Type 0
-EndsUnanswered running report = (report.session ≡ running.session) × (report.end ≡ Incomplete) × ((report.ended ≡ Some why.NoAnswer) ⊎ (report.ended ≡ Some why.Memory))
+abbrev pub RefusesTaken : World → World → Which → ℕ → List Planned → Reply → Refusal × Path → Type 0
+RefusesTaken old new from number plan reply refused =
+    IsSomeAnd old.coordinator.running (λ running. IsRefusedItem plan (asked_of running from number) reply (IsArchiveWithin old new) refused)
 
--- the coordinator takes an answer, or ignores one that it does not wait for
-pub data TakesAnswer (old : World) (from : Which) (session number : ℕ) (reply : Reply) (new : World) : Type 0 where
-  taken : (plan : List Planned) → IsExpected old.coordinator.running from session number → HasPlan old.sent old.coordinator.archive old.coordinator.running plan →
-      CoordinatorGoes old (IsDueAfter old.coordinator.running plan from reply) (λ running. GoesOnFrom old.coordinator.running plan running × IsOver from number running) new →
-      Reports old new plan (EndsTaken old new from plan reply) → TakesAnswer old from session number reply new
-  ignored : (IsExpected old.coordinator.running from session number → ⊥) → new ≡ old → TakesAnswer old from session number reply new
-  coordinator_down : old.coordinator.status ≡ Down → new ≡ old → TakesAnswer old from session number reply new
+-- what an archive may answer to a record that is due: its device fails or has failed before, or it has no room
+pub data ArchiveMeets (old new : CoordinatorMachine) (IsDue_now : Kept → Type 0) : Refusal → Type 0 where
+  fails : old.status ≡ Up → new.status ≡ Halted → ArchiveMeets old new IsDue_now Device
+  failed_before : (kept : Kept) → IsDue_now kept → old.status ≡ Halted → ArchiveMeets old new IsDue_now why.Halted
+  no_room : (kept : Kept) → IsDue_now kept → new.has_room kept ≡ false → ArchiveMeets old new IsDue_now why.JournalFull
+
+abbrev pub EndsTaken : World → World → Which → ℕ → List Planned → Reply → Running → Report → Type 0
+EndsTaken old new from number plan reply running report =
+    EndsAs old.sent running.session old.coordinator.archive.marks plan (kept_in_session new.acknowledged) (asked_of running from number) reply
+    (ArchiveMeets old.coordinator new.coordinator (IsDue running plan from number reply)) report
 
 -- a start takes the next number
 abbrev pub IsNext : Archive → Kept → Type 0
@@ -308,6 +335,49 @@ IsNext archive kept = kept ≡ Session (archive.last_session + 1)
 abbrev pub IsNothing : Kept → Type 0
 IsNothing kept = ⊥
 
+abbrev pub IsNoItem : Refusal × Path → Type 0
+IsNoItem refused = ⊥
+
+-- a request is sent again, at most so many times
+abbrev pub most_resends : ℕ
+most_resends = 8
+
+abbrev pub is_resent : Running → Bool
+is_resent running = list_any (λ waiting. nat_le most_resends waiting.resent) (running.left ++ running.right)
+
+abbrev pub once_more : Outstanding → Outstanding
+once_more waiting = record waiting { resent = suc waiting.resent }
+
+abbrev pub resent_to : Which → Running → List Message
+resent_to side running = map (λ waiting. Asks side running.session waiting.number waiting.request) (outstanding running side)
+
+-- nobody answers a request that was sent so often, or memory is refused
+abbrev pub EndsUnanswered : Running → Report → Type 0
+EndsUnanswered running report =
+    (report.session ≡ running.session) × (report.end ≡ Incomplete)
+    × (((is_resent running ≡ true) × (report.ended ≡ Some why.NoAnswer)) ⊎ (report.ended ≡ Some why.Memory))
+
+-- each request that waits is sent once more, unless one was sent so often already
+pub record SendsAgain (old new : World) (running later : Running) : Type 0 where
+  pub not_yet : is_resent running ≡ false
+  pub counted : later ≡ record running { left = map once_more running.left; right = map once_more running.right }
+  pub again : new.sent ≡ old.sent ++ (resent_to Left running ++ resent_to Right running)
+
+-- a tick of a session that runs sends its requests again or ends it, with no device call
+pub record Ticks (old new : World) : Type 0 where
+  pub goes : CoordinatorGoes old IsNothing (GoesOnFrom old.coordinator.running (plan_of old.coordinator.running)) new
+  pub reports : Reports old new (plan_of old.coordinator.running) IsNoItem EndsUnanswered
+  pub same_status : new.coordinator.status ≡ old.coordinator.status
+  pub sends : IfSome old.coordinator.running (λ running. IfSome new.coordinator.running (SendsAgain old new running))
+
+-- the coordinator takes an answer, or ignores one that it does not wait for
+pub data TakesAnswer (old : World) (from : Which) (session number : ℕ) (reply : Reply) (new : World) : Type 0 where
+  taken : (plan : List Planned) → IsExpected old.coordinator.running from session number → HasPlan old.sent old.coordinator.archive old.coordinator.running plan →
+      CoordinatorGoes old (IsDueAfter old.coordinator.running plan from number reply) (λ running. GoesOnFrom old.coordinator.running plan running × IsOver from number running) new →
+      Reports old new plan (RefusesTaken old new from number plan reply) (EndsTaken old new from number plan reply) → TakesAnswer old from session number reply new
+  ignored : (IsExpected old.coordinator.running from session number → ⊥) → new ≡ old → TakesAnswer old from session number reply new
+  coordinator_down : old.coordinator.status ≡ Down → new ≡ old → TakesAnswer old from session number reply new
+
 abbrev pub Delivers : World → Option Message → World → Type 0
 Delivers old None new = new ≡ old
 Delivers old (Some (Asks to session number request)) new = TakesRequest old to session number request new
@@ -315,11 +385,9 @@ Delivers old (Some (Answers from session number reply)) new = TakesAnswer old fr
 
 -- what an opening of the archive gives
 pub data OpensArchive (machine : CoordinatorMachine) : CoordinatorMachine → List Kept → Type 0 where
-  archive_opened : OpensArchive machine (record machine { status = Up; writing = None }) []
-  archive_recovered : (kept : Kept) → machine.writing ≡ Some kept → CanKeep machine.archive kept →
-      OpensArchive machine (record machine { status = Up; archive = after_kept machine.archive kept; writing = None }) (kept ∷ [])
-  archive_not_opened : OpensArchive machine machine []
-  archive_not_reopened : machine.status ≢ Down → OpensArchive machine (record machine { status = Halted }) []
+  archive_opened : (room : Kept → Bool) → OpensArchive machine (record machine { status = Up; has_room = room; writing = None }) []
+  archive_recovered : (room : Kept → Bool) (kept : Kept) → machine.writing ≡ Some kept → CanKeep machine.archive kept →
+      OpensArchive machine (record machine { status = Up; archive = after_kept machine.archive kept; has_room = room; writing = None }) (kept ∷ [])
 
 abbrev pub OpensMachine : World → Machine → World → Type 0
 OpensMachine old (At which) new = SideGoes old which (Opens (side_of old which)) [] new
@@ -341,22 +409,56 @@ abbrev pub halted : World → Machine → World
 halted world (At which) = set_side world which (record (side_of world which) { status = Halted })
 halted world Coordinator = record world { coordinator = record world.coordinator { status = Halted } }
 
--- a checkpoint changes nothing that the machines stand for, whether it is made, fails or is cut off
-abbrev pub Checkpoints : World → Machine → World → Type 0
-Checkpoints old machine new = (new ≡ old) ⊎ ((new ≡ halted old machine) ⊎ (new ≡ cut_off old machine))
+abbrev pub refuses_with : World → Refusal → World
+refuses_with world reason = record world { refusals = world.refusals ++ reason ∷ [] }
+
+-- the first of the causes refuses_with, or want of memory where none stands
+abbrev pub IsRefused : World → List Cause → World → Type 0
+IsRefused old causes new = (reason : Refusal) × (first_cause (causes ++ (true, why.Memory) ∷ []) ≡ Some reason) × (new ≡ refuses_with old reason)
+
+abbrev pub is_halted : Status → Bool
+is_halted Halted = true
+is_halted _ = false
+
+-- a call is lost on a machine that is down; on another it is refused, says why and changes nothing, or no cause stands and it is made
+abbrev pub Calls : World → Machine → List Cause → Type 0 → World → Type 0
+Calls old machine causes Made new =
+    let all = (is_halted (status_of old machine), why.Halted) ∷ causes in
+    ((status_of old machine ≡ Down) × (new ≡ old)) ⊎ ((status_of old machine ≢ Down) × (IsRefused old all new ⊎ ((first_cause all ≡ None) × Made)))
+
+-- a machine opens its disk again, or the device fails, or the machine stops; so too where it makes a checkpoint, which may give it room
+abbrev pub Reopens : World → Machine → World → Type 0
+Reopens old machine new = OpensMachine old machine new ⊎ ((new ≡ refuses_with (halted old machine) Device) ⊎ (new ≡ cut_off old machine))
+
+abbrev pub edit_causes : SideMachine → Event → List Cause
+edit_causes machine event = event_causes machine.side.history event ++ room_causes machine.has_room event
+
+abbrev pub start_causes : CoordinatorMachine → List Cause
+start_causes machine =
+    let next = Session (machine.archive.last_session + 1) in
+    (is_some machine.running, why.Busy) ∷ (nat_le greatest machine.archive.last_session, why.Full) ∷ (not (machine.has_room next), why.JournalFull) ∷ []
+
+-- the next number is kept and the session runs, or the number is still being written
+abbrev pub Starts : World → World → Type 0
+Starts old new =
+    CoordinatorGoes old (IsNext old.coordinator.archive) (StartsFrom old.coordinator.archive) new × (new.reports ≡ old.reports)
+    × (IsSome new.coordinator.running ⊎ IsSome new.coordinator.writing)
 
 -- One step. A device may fail and a machine may stop within any call, of which Fail and Stop say when
 abbrev pub Steps : World → Step → World → Type 0
-Steps old (Edits side user edit) new = SideGoes old side (DoesEdit (side_of old side) user edit) [] new
-Steps old Start new = (new ≡ old) ⊎ ((old.coordinator.running ≡ None) × CoordinatorGoes old (IsNext old.coordinator.archive) (StartsFrom old.coordinator.archive) new × (new.reports ≡ old.reports))
+Steps old (Edits side user edit) new =
+    let event = Edited user edit in let machine = side_of old side in
+    Calls old (At side) (edit_causes machine event) (IsLawfulEvent event × SideGoes old side (Writes machine event) [] new) new
+Steps old Start new = Calls old Coordinator (start_causes old.coordinator) (Starts old new) new
 Steps old (Deliver message) new = Delivers old (slice_get old.sent message) new
-Steps old Tick new =
-    (new ≡ old) ⊎ (CoordinatorGoes old IsNothing (GoesOnFrom old.coordinator.running (plan_of old.coordinator.running)) new × Reports old new (plan_of old.coordinator.running) EndsUnanswered)
-Steps old (Checkpoint machine) new = Checkpoints old machine new
+Steps old Tick new = ((old.coordinator.running ≡ None) × (new ≡ old)) ⊎ ((old.coordinator.running ≢ None) × Ticks old new)
+Steps old (Checkpoint machine) new = (full : Bool) × Calls old machine ((full, why.Full) ∷ []) (Reopens old machine new) new
 Steps old (Fail machine call) new = new ≡ old
-Steps old (Stop machine call) new = (new ≡ old) ⊎ (new ≡ cut_off old machine)
-Steps old (Open machine) new = (new ≡ old) ⊎ ((status_of old machine ≡ Down) × OpensMachine old machine new)
-Steps old (Reopen machine) new = (new ≡ old) ⊎ ((status_of old machine ≢ Down) × (OpensMachine old machine new ⊎ (new ≡ cut_off old machine)))
+Steps old (Stop machine zero) new = ((status_of old machine ≡ Down) × (new ≡ old)) ⊎ ((status_of old machine ≢ Down) × (new ≡ cut_off old machine))
+Steps old (Stop machine (suc calls)) new = new ≡ old
+Steps old (Open machine) new =
+    ((status_of old machine ≢ Down) × (new ≡ old)) ⊎ ((status_of old machine ≡ Down) × (OpensMachine old machine new ⊎ (IsRefused old [] new ⊎ (new ≡ refuses_with old Device))))
+Steps old (Reopen machine) new = ((status_of old machine ≡ Down) × (new ≡ old)) ⊎ ((status_of old machine ≢ Down) × (IsRefused old [] new ⊎ Reopens old machine new))
 
 -- a list of steps, one after another
 abbrev pub Runs : World → List Step → World → Type 0

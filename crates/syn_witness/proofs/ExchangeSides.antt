@@ -18,14 +18,14 @@ use Rattle.syn_headline.specs.Side.{Side, Request, Begin, ListAt, Fetch, Stage, 
 use Rattle.syn_headline.specs.Network.{Which, Left, Right, Asks, Answers, Sent, NumbersTell, AsksNothingTwice}
 use Rattle.syn_headline.specs.Acknowledged.{Ack, Happened, Kept_by}
 use Rattle.syn_headline.specs.Planning.{Planned}
-use Rattle.syn_headline.specs.World.{World, Running, Edits, Deliver, Steps, written, edit_written}
+use Rattle.syn_headline.specs.World.{World, Running, Edits, Deliver, Steps, written}
 use Rattle.syn_witness.specs.Witness.{opened_world, a_path, b_path, put_one, put_two, one, two, complete}
 use Rattle.syn_witness.proofs.WitnessTrees.{replace-entries, fits_by}
 use Rattle.syn_witness.proofs.WitnessFiles.{IsLetter, content, with_file, alone-entries, file-entries, put-entries, put_allowed, one_byte, file_is_part, file_spelling, file_fits_part, file_fits_paths}
 use Rattle.syn_witness.proofs.WitnessScans.{left_history, left_scan, left-entries, left_root}
 use Rattle.syn_witness.proofs.ExchangeScans.{right_history, right_scan, right-entries, right_root}
 use Rattle.syn_witness.proofs.WitnessMessages.{IsNumbered, number_of, numbers_tell, asks_once, tell_before, once_before}
-use Rattle.syn_witness.proofs.WitnessSteps.{waits, runs_with, world_of, reads_nothing, serves, lists}
+use Rattle.syn_witness.proofs.WitnessSteps.{edits, waits, runs_with, world_of, reads_nothing, serves, lists}
 use Rattle.syn_witness.proofs.WitnessLemmas.{edit_allowed}
 
 abbrev pub two_bytes : Bytes
@@ -105,31 +105,31 @@ abbrev pub both_begin : Running
 both_begin = runs_with 1 (waits 0 (Begin 7)) (waits 0 (Begin 7)) []
 
 abbrev pub right_begins : Running
-right_begins = runs_with 1 None (waits 0 (Begin 7)) []
+right_begins = runs_with 1 [] (waits 0 (Begin 7)) []
 
 abbrev pub both_list : Running
 both_list = runs_with 1 (waits 1 (ListAt root)) (waits 1 (ListAt root)) []
 
 abbrev pub right_lists : Running
-right_lists = runs_with 1 None (waits 1 (ListAt root)) []
+right_lists = runs_with 1 [] (waits 1 (ListAt root)) []
 
 abbrev pub left_fetches : Running
-left_fetches = runs_with 1 (waits 2 (Fetch a_path 2 0)) None plan
+left_fetches = runs_with 1 (waits 2 (Fetch a_path 2 0)) [] plan
 
 abbrev pub right_stages : Running
-right_stages = runs_with 1 None (waits 2 (Stage 0 0 file_bytes)) plan
+right_stages = runs_with 1 [] (waits 2 (Stage 0 0 file_bytes)) plan
 
 abbrev pub right_replaces : Running
-right_replaces = runs_with 1 None (waits 3 (Replace 0 a_path 2 6)) plan
+right_replaces = runs_with 1 [] (waits 3 (Replace 0 a_path 2 6)) plan
 
 abbrev pub right_fetches : Running
-right_fetches = runs_with 1 None (waits 4 (Fetch b_path 2 0)) plan
+right_fetches = runs_with 1 [] (waits 4 (Fetch b_path 2 0)) plan
 
 abbrev pub left_stages : Running
-left_stages = runs_with 1 (waits 3 (Stage 1 0 two_bytes)) None plan
+left_stages = runs_with 1 (waits 3 (Stage 1 0 two_bytes)) [] plan
 
 abbrev pub left_replaces : Running
-left_replaces = runs_with 1 (waits 4 (Replace 1 b_path 2 6)) None plan
+left_replaces = runs_with 1 (waits 4 (Replace 1 b_path 2 6)) [] plan
 
 abbrev pub first_edited : World
 first_edited = world left_edited new_right new_archive None 0 1
@@ -223,7 +223,7 @@ once said = once_before (take said messages) (drop said messages) (subst AsksNot
 
 -- The steps of the sides
 pub edits_left : Steps opened_world (Edits Left 1 put_one) first_edited
-edits_left = (first_edited.left, Edited 1 put_one ∷ [], edit_written first_edited.left (Edited 1 put_one ∷ []) refl edit_allowed written, refl)
+edits_left = edits opened_world Left 1 put_one first_edited.left (Edited 1 put_one ∷ []) first_edited refl refl edit_allowed (written has_room) refl
 
 pub letter_b : IsLetter 98
 letter_b = record { ascii = omega arith; no_zero = λ e. omega (arith, e); no_dot = λ e. omega (arith, e); no_slash = λ e. omega (arith, e) }
@@ -233,7 +233,7 @@ second_allowed = put_allowed 2 98 50 (omega arith) letter_b (omega arith)
     (fits_by (replace empty_directory b_path two) (with_file 98 (content (50 ∷ []))) (put-entries empty_directory two 98 (content (50 ∷ [])) alone-entries (file-entries (50 ∷ []))))
 
 pub edits_right : Steps first_edited (Edits Right 2 put_two) both_edited
-edits_right = (both_edited.right, Edited 2 put_two ∷ [], edit_written both_edited.right (Edited 2 put_two ∷ []) refl second_allowed written, refl)
+edits_right = edits first_edited Right 2 put_two both_edited.right (Edited 2 put_two ∷ []) both_edited refl refl second_allowed (written has_room) refl
 
 pub begins_left : Steps started (Deliver 0) left_begun
 begins_left = serves started Left 1 0 (Begin 7) None left_side (Begun 2) (Began 1 ∷ []) refl reads_nothing refl tt refl

@@ -23,11 +23,11 @@ use Rattle.syn_headline.specs.Acknowledged.{Ack, Happened, Kept_by}
 use Rattle.syn_headline.specs.Planning.{Planned, IsPlanOf, IsScanOf, HasBegun, SeesBoth}
 use Rattle.syn_headline.specs.World.{World, Coordinator, Running, Down, Edits, Start, Deliver, Stop, Open, Steps, Runs, IsOfSession, IsDue, same, IsNext, StartsFrom, goes_on, ended, archive_opened, EndsTaken}
 use Rattle.syn_headline.specs.Headline.{IsQuietSession, IsNoEdit, formatted, stores_of}
-use Rattle.syn_witness.specs.Witness.{opened_world, a_path, put_one, one, marked_later, found_later, IsMarkedLater, CarriedIsMarkedLater}
+use Rattle.syn_witness.specs.Witness.{keeps_all, opened_world, a_path, put_one, one, marked_later, found_later, IsMarkedLater, CarriedIsMarkedLater}
 use Rattle.syn_witness.proofs.WitnessTrees.{get_by, fits_archive_by}
 use Rattle.syn_witness.proofs.WitnessFiles.{alone, with_file, digest, alone-entries, file_mark-entries, put-entries, marked_whole, root_only, path_of_letter, one_byte, file_is_part, file_spelling, file_fits_part, file_fits_paths, mark_is_part}
 use Rattle.syn_witness.proofs.WitnessMessages.{IsNumbered, number_of, numbers_tell, asks_once, tell_before, once_before}
-use Rattle.syn_witness.proofs.WitnessSteps.{waits, runs_with, world_of, reads_nothing, serves, lists, goes, takes, both_sent, runs_on_from, up_not_down}
+use Rattle.syn_witness.proofs.WitnessSteps.{none_refused, waits, runs_with, world_of, reads_nothing, serves, lists, goes, takes, both_sent, runs_on_from, up_not_down}
 use Rattle.syn_witness.proofs.WitnessLemmas.{letter_a}
 use Rattle.syn_witness.proofs.WitnessSession.{replaced, begun_archive, left_side, right_done, asked, numbered, root_lawful, none_there, run_to_done}
 use Rattle.syn_witness.proofs.WitnessSession.{messages as first_messages}
@@ -70,7 +70,7 @@ abbrev world : Side → Side → Archive → Option Running → ℕ → ℕ → 
 world = world_of messages acks
 
 abbrev stopped_world : World
-stopped_world = record replaced { coordinator = record { status = Down; archive = begun_archive; writing = None; running = None } }
+stopped_world = record replaced { coordinator = record { status = Down; archive = begun_archive; has_room = keeps_all; writing = None; running = None } }
 
 abbrev opened_again : World
 opened_again = world left_side right_done begun_archive None 14 5
@@ -88,7 +88,7 @@ abbrev both_begun : World
 both_begun = world left_begun_side right_begun_side next_archive (Some both_begin) 18 8
 
 abbrev right_begins : Running
-right_begins = runs_with 2 None (waits 0 (Begin 7)) []
+right_begins = runs_with 2 [] (waits 0 (Begin 7)) []
 
 abbrev right_awaited : World
 right_awaited = world left_begun_side right_begun_side next_archive (Some right_begins) 18 8
@@ -106,7 +106,7 @@ abbrev both_listed : World
 both_listed = world left_begun_side right_begun_side next_archive (Some both_list) 22 8
 
 abbrev right_lists : Running
-right_lists = runs_with 2 None (waits 1 (ListAt root)) []
+right_lists = runs_with 2 [] (waits 1 (ListAt root)) []
 
 abbrev right_list_awaited : World
 right_list_awaited = world left_begun_side right_begun_side next_archive (Some right_lists) 22 8
@@ -127,19 +127,25 @@ once said = once_before (take said messages) (drop said messages) (subst AsksNot
 
 -- The coordinator stops, opens and starts again
 stops : Steps replaced (Stop Coordinator 0) stopped_world
-stops = inr refl
+stops = inr (up_not_down, refl)
 
 opens : Steps stopped_world (Open Coordinator) opened_again
-opens = inr (refl, (opened_again.coordinator, [], archive_opened, refl))
+opens = inr (refl, inl (opened_again.coordinator, [], archive_opened keeps_all, refl))
 
 starts : Steps opened_again Start started
 starts = inr (
-  refl,
-  goes opened_again (IsNext begun_archive) (StartsFrom begun_archive) next_archive (Some both_begin) (drop 14 (take 16 messages)) (Session 2 ∷ []) []
-      refl (All-cons (IsNext begun_archive) (Session 2) [] refl (All-nil (IsNext begun_archive))) (record { lawful = tt; not_refused = refl }, tt) refl
-      (refl, refl) (refl, both_sent (take 16 messages) both_begin (14, omega arith, refl) (15, omega arith, refl), inl refl) (tells 16) (once 16)
-      (All-from_recursion (IsOfSession (take 14 messages) both_begin) (drop 14 (take 16 messages)) ((refl, (omega arith, omega arith), tt), ((refl, (omega arith, omega arith), tt), tt))),
-  refl,
+  up_not_down,
+  inr (
+    refl,
+    (
+      goes opened_again (IsNext begun_archive) (StartsFrom begun_archive) next_archive (Some both_begin) (drop 14 (take 16 messages)) (Session 2 ∷ []) []
+          refl (All-cons (IsNext begun_archive) (Session 2) [] refl (All-nil (IsNext begun_archive))) (record { lawful = tt; not_refused = refl }, tt) refl
+          (refl, refl, refl) (refl, both_sent (take 16 messages) both_begin ((14, omega arith, refl), tt) ((15, omega arith, refl), tt), (omega arith, omega arith, omega arith)) (tells 16) (once 16)
+          (All-from_recursion (IsOfSession (take 14 messages) both_begin) (drop 14 (take 16 messages)) ((refl, (omega arith, omega arith), tt), ((refl, (omega arith, omega arith), tt), tt))),
+      refl,
+      inl refl,
+    ),
+  ),
 )
 
 -- The steps of the sides
@@ -204,19 +210,19 @@ plans = record {
 
 -- The steps of the coordinator
 takes_left_begun : Steps both_begun (Deliver 16) right_awaited
-takes_left_begun = takes 2 both_begun Left 0 (Begun 3) [] next_archive (Some right_begins) [] [] [] refl (refl, refl) (inl refl) (inl (refl, inl refl)) (All-nil (IsDue both_begin [] Left (Begun 3))) tt refl
-    (goes_on right_begins refl refl) tt (refl, both_sent (take 18 messages) right_begins tt (15, omega arith, refl), inr refl) (tells 18) (once 18)
+takes_left_begun = takes 2 both_begun Left 0 (Begun 3) [] next_archive (Some right_begins) [] [] [] refl (refl, refl) (inl refl) (λ P. inl (refl, (inl refl, none_refused P))) (All-nil (IsDue both_begin [] Left 0 (Begun 3))) tt refl
+    (goes_on right_begins refl refl) refl (refl, both_sent (take 18 messages) right_begins tt ((15, omega arith, refl), tt), (omega arith, omega arith, omega arith)) (tells 18) (once 18)
     (All-nil (IsOfSession (take 18 messages) right_begins))
 
 takes_right_begun : Steps right_awaited (Deliver 17) listing
-takes_right_begun = takes 2 right_awaited Right 0 (Begun 3) [] next_archive (Some both_list) (drop 18 (take 20 messages)) [] [] refl (refl, refl) (inl refl) (inl (refl, inl refl)) (All-nil (IsDue right_begins [] Right (Begun 3))) tt refl
-    (goes_on both_list refl refl) (λ e. omega (arith, e)) (refl, both_sent (take 20 messages) both_list (18, omega arith, refl) (19, omega arith, refl), inl refl) (tells 20) (once 20)
+takes_right_begun = takes 2 right_awaited Right 0 (Begun 3) [] next_archive (Some both_list) (drop 18 (take 20 messages)) [] [] refl (refl, refl) (inl refl) (λ P. inl (refl, (inl refl, none_refused P))) (All-nil (IsDue right_begins [] Right 0 (Begun 3))) tt refl
+    (goes_on both_list refl refl) refl (refl, both_sent (take 20 messages) both_list ((18, omega arith, refl), tt) ((19, omega arith, refl), tt), (omega arith, omega arith, omega arith)) (tells 20) (once 20)
     (All-from_recursion (IsOfSession (take 18 messages) both_list) (drop 18 (take 20 messages)) ((refl, (omega arith, root_lawful), have_begun Left), ((refl, (omega arith, root_lawful), have_begun Right), tt)))
 
 takes_left_listing : Steps both_listed (Deliver 20) right_list_awaited
-takes_left_listing = takes 2 both_listed Left 1 (Listed 3 (children left_scan.marks root)) [] next_archive (Some right_lists) [] [] [] refl (refl, refl) (inl refl) (inl (refl, inl refl))
-    (All-nil (IsDue both_list [] Left (Listed 3 (children left_scan.marks root)))) tt refl
-    (goes_on right_lists refl refl) tt (refl, both_sent (take 22 messages) right_lists tt (19, omega arith, refl), inr refl) (tells 22) (once 22)
+takes_left_listing = takes 2 both_listed Left 1 (Listed 3 (children left_scan.marks root)) [] next_archive (Some right_lists) [] [] [] refl (refl, refl) (inl refl) (λ P. inl (refl, (inl refl, none_refused P)))
+    (All-nil (IsDue both_list [] Left 1 (Listed 3 (children left_scan.marks root)))) tt refl
+    (goes_on right_lists refl refl) refl (refl, both_sent (take 22 messages) right_lists tt ((19, omega arith, refl), tt), (omega arith, omega arith, omega arith)) (tells 22) (once 22)
     (All-nil (IsOfSession (take 22 messages) right_lists))
 
 can_record : CanKeep next_archive (Recorded a_path (mark one))
@@ -227,13 +233,14 @@ can_record =
       not_refused = rw (get_by empty_directory alone root alone-entries, fits_archive_by (replace empty_directory a_path (mark one)) (with_file 97 (digest (49 ∷ []))) new) refl;
     }
 
-right_listing_due : IsDue right_lists plan Right (Listed 3 (children right_scan.marks root)) (Recorded a_path (mark one))
+right_listing_due : IsDue right_lists plan Right 1 (Listed 3 (children right_scan.marks root)) (Recorded a_path (mark one))
 right_listing_due = same 0 a_path planned refl refl refl
 
-takes_right_listing_ends : EndsTaken right_list_awaited marked Right plan (Listed 3 (children right_scan.marks root)) right_lists marked_later
+takes_right_listing_ends : EndsTaken right_list_awaited marked Right 1 plan (Listed 3 (children right_scan.marks root)) right_lists marked_later
 takes_right_listing_ends = record {
   session_is = refl;
   cause = tt;
+  incomplete = λ not_whole. cc;
   complete = λ _. (refl, refl);
   made = λ _ nothing. cc;
   settled = λ _. All-from_recursion (λ planned. IsSettled (Recorded a_path (mark one) ∷ []) (marked_later) planned.item) plan (inl refl, tt);
@@ -241,8 +248,8 @@ takes_right_listing_ends = record {
 }
 
 takes_right_listing : Steps right_list_awaited (Deliver 21) marked
-takes_right_listing = takes 2 right_list_awaited Right 1 (Listed 3 (children right_scan.marks root)) plan marked_archive None [] (Recorded a_path (mark one) ∷ []) ((marked_later, 9) ∷ []) refl (refl, refl) (inr (refl, plans)) (inr (right_lists, marked_later, refl, refl, up_not_down, refl, takes_right_listing_ends, record { done = refl; marked = refl }))
-    (All-cons (IsDue right_lists plan Right (Listed 3 (children right_scan.marks root))) (Recorded a_path (mark one)) [] right_listing_due (All-nil (IsDue right_lists plan Right (Listed 3 (children right_scan.marks root)))))
+takes_right_listing = takes 2 right_list_awaited Right 1 (Listed 3 (children right_scan.marks root)) plan marked_archive None [] (Recorded a_path (mark one) ∷ []) ((marked_later, 9) ∷ []) refl (refl, refl) (inr (refl, plans)) (λ P. inr (right_lists, marked_later, refl, refl, up_not_down, refl, takes_right_listing_ends, record { done = refl; marked = refl }, none_refused P))
+    (All-cons (IsDue right_lists plan Right 1 (Listed 3 (children right_scan.marks root))) (Recorded a_path (mark one)) [] right_listing_due (All-nil (IsDue right_lists plan Right 1 (Listed 3 (children right_scan.marks root)))))
     (can_record, tt) refl ended tt tt (tells 22) (once 22) refl
 
 -- The whole run

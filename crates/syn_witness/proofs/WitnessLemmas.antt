@@ -1,7 +1,8 @@
 -- A stop with its recovery, and a session without answers.
-use Rattle.std.proofs.Common.{◌≡◌, ℕ, zero, suc, List, [], ◌∷◌, ◌++◌, ◌+◌, replicate, append-nil, refl, sym, subst, Some, None, arith, inl, inr}
+use Rattle.std.proofs.Common.{◌≡◌, ◌≢◌, ◌≤◌, ◌||◌, nat_le, true, false, ap, ℕ, zero, suc, List, [], ◌∷◌, ◌++◌, ◌+◌, replicate, append-nil, refl, sym, subst, Some, None, arith, inl, inr}
 use Rattle.std.specs.Prelude.{All, Contains}
 use Rattle.std.proofs.lemmas.List.Elements.{All-nil, All-cons, All-append, All-from_recursion, Contains-append_right}
+use Rattle.std.proofs.lemmas.Bool.Decides.{nat_tests}
 use Rattle.syn_model.specs.Tree.{empty_directory, replace}
 use Rattle.syn_model.specs.Event.{Edited}
 use Rattle.syn_model.specs.History.{IsAllowed}
@@ -9,12 +10,13 @@ use Rattle.syn_model.specs.Archive.{Session, new_archive}
 use Rattle.syn_headline.specs.Side.{Begin}
 use Rattle.syn_headline.specs.Network.{Which, Left, Right, Asks, Sent, NumbersTell, AsksNothingTwice}
 use Rattle.syn_headline.specs.Acknowledged.{Happened, Kept_by}
-use Rattle.syn_headline.specs.World.{World, Running, Outstanding, Step, Start, Tick, Up, Steps, Runs, cut, edit_written, recovered, stopped, goes_on, ended, WasSent, IsOfSession, IsNothing, IsNext, StartsFrom, GoesOnAs}
-use Rattle.syn_witness.specs.Witness.{new_machine, opened_world, OpenedIsStart, StopIsRecovered, SilenceEnds, a_path, put_one, one, unanswered}
+use Rattle.syn_headline.specs.World.{IsNoItem, most_resends, World, Running, Outstanding, Step, Start, Tick, Up, Steps, Runs, cut, recovered, stopped, goes_on, ended, WasSent, IsOfSession, IsNothing, IsNext, StartsFrom, GoesOnAs}
+use Rattle.syn_headline.specs.Rows.{has_room}
+use Rattle.syn_witness.specs.Witness.{keeps_all, new_machine, opened_world, OpenedIsStart, StopIsRecovered, SilenceEnds, a_path, put_one, one, unanswered}
 use Rattle.syn_headline.proofs.FormattedLemmas.{formatted_is_pair}
 use Rattle.syn_witness.proofs.WitnessTrees.{fits_by}
 use Rattle.syn_witness.proofs.WitnessFiles.{IsLetter, content, with_file, alone-entries, file-entries, put-entries, put_allowed}
-use Rattle.syn_witness.proofs.WitnessSteps.{goes, up_not_down}
+use Rattle.syn_witness.proofs.WitnessSteps.{both_sent, none_refused, edits, goes, up_not_down}
 use Rattle.syn_witness.proofs.WitnessMessages.{IsNumbered, numbers_tell, asks_once}
 
 pub opened_is_start : OpenedIsStart
@@ -39,7 +41,7 @@ cut_world = record opened_world { left = stopped new_machine (Some (Edited 1 put
 
 recovered_world : World
 recovered_world = record opened_world {
-  left = record { status = Up; side = record { history = Edited 1 put_one ∷ []; staging = None }; writing = None };
+  left = record { status = Up; side = record { history = Edited 1 put_one ∷ []; staging = None }; has_room = has_room; writing = None };
   acknowledged = Happened Left (Edited 1 put_one) ∷ [];
 }
 
@@ -49,8 +51,8 @@ stop_is_recovered = record {
   new = recovered_world;
   runs = (
     cut_world,
-    (stopped new_machine (Some (Edited 1 put_one)), [], edit_written _ [] refl edit_allowed cut, refl),
-    (recovered_world, inr (refl, (recovered_world.left, Edited 1 put_one ∷ [], recovered (Edited 1 put_one) refl edit_allowed, refl)), refl),
+    edits opened_world Left 1 put_one (stopped new_machine (Some (Edited 1 put_one))) [] cut_world refl refl edit_allowed cut refl,
+    (recovered_world, inr (refl, inl (recovered_world.left, Edited 1 put_one ∷ [], recovered has_room (Edited 1 put_one) refl edit_allowed, refl)), refl),
   );
   sent = refl;
   acknowledged_then = refl;
@@ -84,15 +86,14 @@ abbrev begin_again : ℕ → Outstanding
 begin_again resent = record { number = 0; request = Begin 7; resent = resent }
 
 abbrev waiting_for : ℕ → Running
-waiting_for resent = record { session = 1; left = Some (begin_again resent); right = Some (begin_again resent); plan = [] }
+waiting_for resent = record { session = 1; refused = []; left = begin_again resent ∷ []; right = begin_again resent ∷ []; plan = [] }
 
 begin_waits : (resent : ℕ) → WasSent (begins (suc resent)) (waiting_for resent)
-begin_waits resent Left = begin_sent resent Left
-begin_waits resent Right = begin_sent resent Right
+begin_waits resent = both_sent (begins (suc resent)) (waiting_for resent) (begin_sent resent Left, tt) (begin_sent resent Right, tt)
 
 abbrev waiting : ℕ → World
 waiting resent = record opened_world {
-  coordinator = record { status = Up; archive = record { marks = empty_directory; last_session = 1 }; writing = None; running = Some (waiting_for resent) };
+  coordinator = record { status = Up; archive = record { marks = empty_directory; last_session = 1 }; has_room = keeps_all; writing = None; running = Some (waiting_for resent) };
   sent = begins (suc resent);
   acknowledged = Kept_by (Session 1) ∷ [];
 }
@@ -105,38 +106,57 @@ begins_lawful running sent e =
 starts : Steps opened_world Start (waiting 0)
 unfolding begins
 starts = inr (
-  refl,
-  goes opened_world (IsNext new_archive) (StartsFrom new_archive) (record { marks = empty_directory; last_session = 1 }) (Some (waiting_for 0)) (begins 1) (Session 1 ∷ []) []
-      refl (All-cons (IsNext new_archive) (Session 1) [] refl (All-nil (IsNext new_archive))) (record { lawful = tt; not_refused = refl }, tt) refl
-      (refl, refl) (refl, begin_waits 0, inl refl) (begins_tell 1) (begins_once 1) (begins_lawful (waiting_for 0) [] refl),
-  refl,
+  up_not_down,
+  inr (
+    refl,
+    (
+      goes opened_world (IsNext new_archive) (StartsFrom new_archive) (record { marks = empty_directory; last_session = 1 }) (Some (waiting_for 0)) (begins 1) (Session 1 ∷ []) []
+          refl (All-cons (IsNext new_archive) (Session 1) [] refl (All-nil (IsNext new_archive))) (record { lawful = tt; not_refused = refl }, tt) refl
+          (refl, refl, refl) (refl, begin_waits 0, (omega arith, omega arith, omega arith)) (begins_tell 1) (begins_once 1) (begins_lawful (waiting_for 0) [] refl),
+      refl,
+      inl refl,
+    ),
+  ),
 )
 
-resends : (resent : ℕ) → Steps (waiting resent) Tick (waiting (suc resent))
+some_runs : (running : Running) → Some running ≢ None
+some_runs running e = cc
+
+resends : (resent : ℕ) → nat_le most_resends resent ≡ false → Steps (waiting resent) Tick (waiting (suc resent))
 unfolding begins
-resends resent = inr (
-  goes (waiting resent) IsNothing (GoesOnAs (waiting_for resent) []) (record { marks = empty_directory; last_session = 1 }) (Some (waiting_for (suc resent)))
-      (Asks Left 1 0 (Begin 7) ∷ Asks Right 1 0 (Begin 7) ∷ []) [] []
-      refl (All-nil IsNothing) tt refl
-      (goes_on (waiting_for (suc resent)) refl refl) (refl, begin_waits (suc resent), inl refl) (begins_tell (suc (suc resent))) (begins_once (suc (suc resent)))
-      (begins_lawful (waiting_for (suc resent)) (begins (suc resent)) refl),
-  inl (refl, inl refl),
+resends resent early = inr (
+  some_runs (waiting_for resent),
+  record {
+    goes = goes (waiting resent) IsNothing (GoesOnAs (waiting_for resent) []) (record { marks = empty_directory; last_session = 1 }) (Some (waiting_for (suc resent)))
+        (Asks Left 1 0 (Begin 7) ∷ Asks Right 1 0 (Begin 7) ∷ []) [] []
+        refl (All-nil IsNothing) tt refl
+        (goes_on (waiting_for (suc resent)) refl refl) (refl, begin_waits (suc resent), (omega arith, omega arith, omega arith)) (begins_tell (suc (suc resent))) (begins_once (suc (suc resent)))
+        (begins_lawful (waiting_for (suc resent)) (begins (suc resent)) refl);
+    reports = inl (refl, (inl refl, none_refused IsNoItem));
+    same_status = refl;
+    sends = record { not_yet = ap (λ b. b || (b || false)) early; counted = refl; again = refl };
+  },
 )
 
 abbrev ended_world : ℕ → World
 ended_world resent = record (waiting resent) {
-  coordinator = record { status = Up; archive = record { marks = empty_directory; last_session = 1 }; writing = None; running = None };
+  coordinator = record { status = Up; archive = record { marks = empty_directory; last_session = 1 }; has_room = keeps_all; writing = None; running = None };
   reports = (unanswered, 1) ∷ [];
 }
 
-gives_up : (resent : ℕ) → Steps (waiting resent) Tick (ended_world resent)
-gives_up resent =
+gives_up : (resent : ℕ) → nat_le most_resends resent ≡ true → Steps (waiting resent) Tick (ended_world resent)
+gives_up resent late =
     let same = append-nil (begins (suc resent)) in
     subst (λ sent. Steps (waiting resent) Tick (record (ended_world resent) { sent = sent })) same
     (inr (
-      goes (waiting resent) IsNothing (GoesOnAs (waiting_for resent) []) (record { marks = empty_directory; last_session = 1 }) None [] [] ((unanswered, 1) ∷ [])
-          refl (All-nil IsNothing) tt refl ended tt (subst NumbersTell (sym same) (begins_tell (suc resent))) (subst AsksNothingTwice (sym same) (begins_once (suc resent))) refl,
-      inr (waiting_for resent, unanswered, refl, refl, up_not_down, refl, (refl, refl, inl refl), record { done = refl; marked = refl }),
+      some_runs (waiting_for resent),
+      record {
+        goes = goes (waiting resent) IsNothing (GoesOnAs (waiting_for resent) []) (record { marks = empty_directory; last_session = 1 }) None [] [] ((unanswered, 1) ∷ [])
+            refl (All-nil IsNothing) tt refl ended tt (subst NumbersTell (sym same) (begins_tell (suc resent))) (subst AsksNothingTwice (sym same) (begins_once (suc resent))) refl;
+        reports = inr (waiting_for resent, unanswered, refl, refl, up_not_down, refl, (refl, refl, inl (ap (λ b. b || (b || false)) late, refl)), record { done = refl; marked = refl }, none_refused IsNoItem);
+        same_status = refl;
+        sends = tt;
+      },
     ))
 
 one_later : (m n : ℕ) → suc m + n ≡ m + suc n
@@ -145,16 +165,19 @@ one_later m n = omega arith
 none_later : (n : ℕ) → zero + n ≡ n
 none_later n = omega arith
 
-ticks : (times resent : ℕ) (more : List Step) (last : World) → Runs (waiting (times + resent)) more last → Runs (waiting resent) (replicate times Tick ++ more) last
-ticks zero resent more last h = subst (λ n. Runs (waiting n) more last) (none_later resent) h
-ticks (suc times) resent more last h =
-    (waiting (suc resent), resends resent, ticks times (suc resent) more last (subst (λ n. Runs (waiting n) more last) (one_later times resent) h))
+not_yet : (times resent : ℕ) → suc times + resent ≤ most_resends → nat_le most_resends resent ≡ false
+not_yet times resent h = grind (arith, nat_tests)
+
+ticks : (times resent : ℕ) (more : List Step) (last : World) → times + resent ≤ most_resends → Runs (waiting (times + resent)) more last → Runs (waiting resent) (replicate times Tick ++ more) last
+ticks zero resent more last few h = subst (λ n. Runs (waiting n) more last) (none_later resent) h
+ticks (suc times) resent more last few h =
+    (waiting (suc resent), resends resent (not_yet times resent few), ticks times (suc resent) more last (subst (λ n. n ≤ most_resends) (one_later times resent) few) (subst (λ n. Runs (waiting n) more last) (one_later times resent) h))
 
 pub silence_ends : SilenceEnds
 unfolding begins
 silence_ends = record {
   new = ended_world 8;
-  runs = (waiting 0, starts, ticks 8 0 (Tick ∷ []) (ended_world 8) (ended_world 8, gives_up 8, refl));
+  runs = (waiting 0, starts, ticks 8 0 (Tick ∷ []) (ended_world 8) (omega arith) (ended_world 8, gives_up 8 refl, refl));
   sent = refl;
   acknowledged_then = refl;
   reported = refl;

@@ -22,14 +22,14 @@ use Rattle.syn_headline.specs.Side.{Side, Request, Begin, ListAt, Fetch, Stage, 
 use Rattle.syn_headline.specs.Network.{Which, Left, Right, Asks, Answers, Sent, NumbersTell, AsksNothingTwice, WasAnswered}
 use Rattle.syn_headline.specs.Acknowledged.{Ack, Happened, Kept_by}
 use Rattle.syn_headline.specs.Planning.{Planned, IsPlanOf, IsScanOf, HasBegun, SeesBoth}
-use Rattle.syn_headline.specs.World.{World, Running, Edits, Start, Deliver, Steps, written, edit_written, IsOfSession, IsDue, done, IsNext, StartsFrom, goes_on, ended, Runs, EndsTaken}
+use Rattle.syn_headline.specs.World.{World, Running, Edits, Start, Deliver, Steps, written, IsOfSession, IsDue, done, IsNext, StartsFrom, goes_on, ended, Runs, EndsTaken}
 use Rattle.syn_witness.specs.Witness.{opened_world, a_path, put_one, one, complete, FileIsCarried}
 use Rattle.syn_headline.specs.Headline.{IsQuietSession, IsNoEdit, formatted, stores_of}
 use Rattle.syn_witness.proofs.WitnessTrees.{get_by, fits_by, fits_archive_by}
 use Rattle.syn_witness.proofs.WitnessFiles.{alone, with_file, content, digest, alone-entries, file-entries, file_mark-entries, put-entries, marked_whole, alone_whole, root_only, root_alone, path_of_letter, one_byte, file_is_part, file_spelling, file_fits_part, file_fits_paths, mark_is_part}
 use Rattle.syn_witness.proofs.WitnessScans.{left_history, right_history, left_scan, right_scan, left-entries, right_marks-entries, left_marks-entries, left_root, right_root, left_part, plan_is}
 use Rattle.syn_witness.proofs.WitnessMessages.{number_of, IsNumbered, numbers_tell, asks_once, tell_before, once_before}
-use Rattle.syn_witness.proofs.WitnessSteps.{runs_on_from, waits, runs_with, world_of, takes, reads_nothing, serves, lists, goes, both_sent, up_not_down}
+use Rattle.syn_witness.proofs.WitnessSteps.{none_refused, runs_on_from, edits as edits_allowed, waits, runs_with, world_of, takes, reads_nothing, serves, lists, goes, both_sent, up_not_down}
 use Rattle.syn_witness.proofs.WitnessLemmas.{letter_a, edit_allowed}
 
 -- The sides, before and after
@@ -98,7 +98,7 @@ abbrev both_begun : World
 both_begun = world left_side right_side begun_archive (Some both_begin) 4 4
 
 abbrev right_begins : Running
-right_begins = runs_with 1 None (waits 0 (Begin 7)) []
+right_begins = runs_with 1 [] (waits 0 (Begin 7)) []
 
 abbrev right_awaited : World
 right_awaited = world left_side right_side begun_archive (Some right_begins) 4 4
@@ -116,13 +116,13 @@ abbrev both_listed : World
 both_listed = world left_side right_side begun_archive (Some both_list) 8 4
 
 abbrev right_lists : Running
-right_lists = runs_with 1 None (waits 1 (ListAt root)) []
+right_lists = runs_with 1 [] (waits 1 (ListAt root)) []
 
 abbrev right_list_awaited : World
 right_list_awaited = world left_side right_side begun_archive (Some right_lists) 8 4
 
 abbrev left_fetches : Running
-left_fetches = runs_with 1 (waits 2 (Fetch a_path 2 0)) None plan
+left_fetches = runs_with 1 (waits 2 (Fetch a_path 2 0)) [] plan
 
 abbrev fetching : World
 fetching = world left_side right_side begun_archive (Some left_fetches) 9 4
@@ -131,7 +131,7 @@ abbrev fetched : World
 fetched = world left_side right_side begun_archive (Some left_fetches) 10 4
 
 abbrev right_stages : Running
-right_stages = runs_with 1 None (waits 2 (Stage 0 0 file_bytes)) plan
+right_stages = runs_with 1 [] (waits 2 (Stage 0 0 file_bytes)) plan
 
 abbrev staging : World
 staging = world left_side right_side begun_archive (Some right_stages) 11 4
@@ -140,7 +140,7 @@ abbrev staged : World
 staged = world left_side right_staged begun_archive (Some right_stages) 12 4
 
 abbrev pub right_replaces : Running
-right_replaces = runs_with 1 None (waits 3 (Replace 0 a_path 1 6)) plan
+right_replaces = runs_with 1 [] (waits 3 (Replace 0 a_path 1 6)) plan
 
 abbrev replacing : World
 replacing = world left_side right_staged begun_archive (Some right_replaces) 13 4
@@ -170,7 +170,7 @@ once said = once_before (take said messages) (drop said messages) (subst AsksNot
 
 -- The steps of the sides
 edits : Steps opened_world (Edits Left 1 put_one) edited_world
-edits = (edited_world.left, Edited 1 put_one ∷ [], edit_written edited_world.left (Edited 1 put_one ∷ []) refl edit_allowed written, refl)
+edits = edits_allowed opened_world Left 1 put_one edited_world.left (Edited 1 put_one ∷ []) edited_world refl refl edit_allowed (written has_room) refl
 
 begins_left : Steps started (Deliver 0) left_begun
 begins_left = serves started Left 1 0 (Begin 7) None left_side (Begun 2) (Began 1 ∷ []) refl reads_nothing refl tt refl
@@ -264,37 +264,43 @@ plans = record {
 -- The steps of the coordinator
 starts : Steps edited_world Start started
 starts = inr (
-  refl,
-  goes edited_world (IsNext new_archive) (StartsFrom new_archive) begun_archive (Some both_begin) (take 2 messages) (Session 1 ∷ []) []
-      refl (All-cons (IsNext new_archive) (Session 1) [] refl (All-nil (IsNext new_archive))) (record { lawful = tt; not_refused = refl }, tt) refl
-      (refl, refl) (refl, both_sent (take 2 messages) both_begin (0, omega arith, refl) (1, omega arith, refl), inl refl) (tells 2) (once 2)
-      (All-from_recursion (IsOfSession [] both_begin) (take 2 messages) ((refl, (omega arith, omega arith), tt), ((refl, (omega arith, omega arith), tt), tt))),
-  refl,
+  up_not_down,
+  inr (
+    refl,
+    (
+      goes edited_world (IsNext new_archive) (StartsFrom new_archive) begun_archive (Some both_begin) (take 2 messages) (Session 1 ∷ []) []
+          refl (All-cons (IsNext new_archive) (Session 1) [] refl (All-nil (IsNext new_archive))) (record { lawful = tt; not_refused = refl }, tt) refl
+          (refl, refl, refl) (refl, both_sent (take 2 messages) both_begin ((0, omega arith, refl), tt) ((1, omega arith, refl), tt), (omega arith, omega arith, omega arith)) (tells 2) (once 2)
+          (All-from_recursion (IsOfSession [] both_begin) (take 2 messages) ((refl, (omega arith, omega arith), tt), ((refl, (omega arith, omega arith), tt), tt))),
+      refl,
+      inl refl,
+    ),
+  ),
 )
 
 takes_left_begun : Steps both_begun (Deliver 2) right_awaited
-takes_left_begun = takes 1 both_begun Left 0 (Begun 2) [] begun_archive (Some right_begins) [] [] [] refl (refl, refl) (inl refl) (inl (refl, inl refl)) (All-nil (IsDue both_begin [] Left (Begun 2))) tt refl
-    (goes_on right_begins refl refl) tt (refl, both_sent (take 4 messages) right_begins tt (1, omega arith, refl), inr refl) (tells 4) (once 4)
+takes_left_begun = takes 1 both_begun Left 0 (Begun 2) [] begun_archive (Some right_begins) [] [] [] refl (refl, refl) (inl refl) (λ P. inl (refl, (inl refl, none_refused P))) (All-nil (IsDue both_begin [] Left 0 (Begun 2))) tt refl
+    (goes_on right_begins refl refl) refl (refl, both_sent (take 4 messages) right_begins tt ((1, omega arith, refl), tt), (omega arith, omega arith, omega arith)) (tells 4) (once 4)
     (All-nil (IsOfSession (take 4 messages) right_begins))
 
 pub root_lawful : IsPath root
 root_lawful = record { names = All-nil IsName; not_deep = omega arith; not_long = omega arith }
 
 takes_right_begun : Steps right_awaited (Deliver 3) listing
-takes_right_begun = takes 1 right_awaited Right 0 (Begun 1) [] begun_archive (Some both_list) (drop 4 (take 6 messages)) [] [] refl (refl, refl) (inl refl) (inl (refl, inl refl)) (All-nil (IsDue right_begins [] Right (Begun 1))) tt refl
-    (goes_on both_list refl refl) (λ e. omega (arith, e)) (refl, both_sent (take 6 messages) both_list (4, omega arith, refl) (5, omega arith, refl), inl refl) (tells 6) (once 6)
+takes_right_begun = takes 1 right_awaited Right 0 (Begun 1) [] begun_archive (Some both_list) (drop 4 (take 6 messages)) [] [] refl (refl, refl) (inl refl) (λ P. inl (refl, (inl refl, none_refused P))) (All-nil (IsDue right_begins [] Right 0 (Begun 1))) tt refl
+    (goes_on both_list refl refl) refl (refl, both_sent (take 6 messages) both_list ((4, omega arith, refl), tt) ((5, omega arith, refl), tt), (omega arith, omega arith, omega arith)) (tells 6) (once 6)
     (All-from_recursion (IsOfSession (take 4 messages) both_list) (drop 4 (take 6 messages)) ((refl, (omega arith, root_lawful), have_begun Left), ((refl, (omega arith, root_lawful), have_begun Right), tt)))
 
 takes_left_listing : Steps both_listed (Deliver 6) right_list_awaited
-takes_left_listing = takes 1 both_listed Left 1 (Listed 2 (children left_scan.marks root)) [] begun_archive (Some right_lists) [] [] [] refl (refl, refl) (inl refl) (inl (refl, inl refl))
-    (All-nil (IsDue both_list [] Left (Listed 2 (children left_scan.marks root)))) tt refl
-    (goes_on right_lists refl refl) tt (refl, both_sent (take 8 messages) right_lists tt (5, omega arith, refl), inr refl) (tells 8) (once 8)
+takes_left_listing = takes 1 both_listed Left 1 (Listed 2 (children left_scan.marks root)) [] begun_archive (Some right_lists) [] [] [] refl (refl, refl) (inl refl) (λ P. inl (refl, (inl refl, none_refused P)))
+    (All-nil (IsDue both_list [] Left 1 (Listed 2 (children left_scan.marks root)))) tt refl
+    (goes_on right_lists refl refl) refl (refl, both_sent (take 8 messages) right_lists tt ((5, omega arith, refl), tt), (omega arith, omega arith, omega arith)) (tells 8) (once 8)
     (All-nil (IsOfSession (take 8 messages) right_lists))
 
 takes_right_listing : Steps right_list_awaited (Deliver 7) fetching
-takes_right_listing = takes 1 right_list_awaited Right 1 (Listed 1 (children right_scan.marks root)) plan begun_archive (Some left_fetches) (drop 8 (take 9 messages)) [] [] refl (refl, refl) (inr (refl, plans)) (inl (refl, inl refl))
-    (All-nil (IsDue right_lists plan Right (Listed 1 (children right_scan.marks root)))) tt refl
-    (goes_on left_fetches refl refl) tt (refl, both_sent (take 9 messages) left_fetches (8, omega arith, refl) tt, inl refl) (tells 9) (once 9)
+takes_right_listing = takes 1 right_list_awaited Right 1 (Listed 1 (children right_scan.marks root)) plan begun_archive (Some left_fetches) (drop 8 (take 9 messages)) [] [] refl (refl, refl) (inr (refl, plans)) (λ P. inl (refl, (inl refl, none_refused P)))
+    (All-nil (IsDue right_lists plan Right 1 (Listed 1 (children right_scan.marks root)))) tt refl
+    (goes_on left_fetches refl refl) refl (refl, both_sent (take 9 messages) left_fetches ((8, omega arith, refl), tt) tt, (omega arith, omega arith, omega arith)) (tells 9) (once 9)
     (All-from_recursion (IsOfSession (take 8 messages) left_fetches) (drop 8 (take 9 messages))
     ((refl, (omega arith, (path_of_letter 97 letter_a, omega arith, omega arith)), (0, planned, refl, refl, refl)), tt))
 
@@ -302,9 +308,9 @@ bytes_lawful : AreBytes file_bytes
 bytes_lawful = All-from_recursion (λ byte. byte < 256) file_bytes (omega arith, (omega arith, (omega arith, (omega arith, (omega arith, (omega arith, tt))))))
 
 takes_piece : Steps fetched (Deliver 9) staging
-takes_piece = takes 1 fetched Left 2 (Piece 6 file_bytes) plan begun_archive (Some right_stages) (drop 10 (take 11 messages)) [] [] refl (refl, refl) (inl refl) (inl (refl, inl refl))
-    (All-nil (IsDue left_fetches plan Left (Piece 6 file_bytes))) tt refl
-    (goes_on right_stages refl refl) tt (refl, both_sent (take 11 messages) right_stages tt (10, omega arith, refl), inr refl) (tells 11) (once 11)
+takes_piece = takes 1 fetched Left 2 (Piece 6 file_bytes) plan begun_archive (Some right_stages) (drop 10 (take 11 messages)) [] [] refl (refl, refl) (inl refl) (λ P. inl (refl, (inl refl, none_refused P)))
+    (All-nil (IsDue left_fetches plan Left 2 (Piece 6 file_bytes))) tt refl
+    (goes_on right_stages refl refl) refl (refl, both_sent (take 11 messages) right_stages tt ((10, omega arith, refl), tt), (omega arith, omega arith, omega arith)) (tells 11) (once 11)
     (All-from_recursion (IsOfSession (take 10 messages) right_stages) (drop 10 (take 11 messages)) (
       (
         refl,
@@ -315,9 +321,9 @@ takes_piece = takes 1 fetched Left 2 (Piece 6 file_bytes) plan begun_archive (So
     ))
 
 takes_staged : Steps staged (Deliver 11) replacing
-takes_staged = takes 1 staged Right 2 Staged plan begun_archive (Some right_replaces) (drop 12 (take 13 messages)) [] [] refl (refl, refl) (inl refl) (inl (refl, inl refl))
-    (All-nil (IsDue right_stages plan Right Staged)) tt refl
-    (goes_on right_replaces refl refl) (λ e. omega (arith, e)) (refl, both_sent (take 13 messages) right_replaces tt (12, omega arith, refl), inr refl) (tells 13) (once 13)
+takes_staged = takes 1 staged Right 2 Staged plan begun_archive (Some right_replaces) (drop 12 (take 13 messages)) [] [] refl (refl, refl) (inl refl) (λ P. inl (refl, (inl refl, none_refused P)))
+    (All-nil (IsDue right_stages plan Right 2 Staged)) tt refl
+    (goes_on right_replaces refl refl) refl (refl, both_sent (take 13 messages) right_replaces tt ((12, omega arith, refl), tt), (omega arith, omega arith, omega arith)) (tells 13) (once 13)
     (All-from_recursion (IsOfSession (take 12 messages) right_replaces) (drop 12 (take 13 messages)) (
       (
         refl,
@@ -335,10 +341,11 @@ can_record =
       not_refused = rw (get_by empty_directory alone root alone-entries, fits_archive_by (replace empty_directory a_path (mark one)) (with_file 97 (digest (49 ∷ []))) new) refl;
     }
 
-takes_done_ends : EndsTaken replaced carried Right plan Done right_replaces (complete 1)
+takes_done_ends : EndsTaken replaced carried Right 3 plan Done right_replaces (complete 1)
 takes_done_ends = record {
   session_is = refl;
   cause = tt;
+  incomplete = λ not_whole. cc;
   complete = λ _. (refl, refl);
   made = λ _ nothing. cc;
   settled = λ _. All-from_recursion (λ planned. IsSettled (Recorded a_path (mark one) ∷ []) (complete 1) planned.item) plan (inl refl, tt);
@@ -346,8 +353,8 @@ takes_done_ends = record {
 }
 
 takes_done : Steps replaced (Deliver 13) carried
-takes_done = takes 1 replaced Right 3 Done plan recorded_archive None [] (Recorded a_path (mark one) ∷ []) ((complete 1, 6) ∷ []) refl (refl, refl) (inl refl) (inr (right_replaces, complete 1, refl, refl, up_not_down, refl, takes_done_ends, record { done = refl; marked = refl }))
-    (All-cons (IsDue right_replaces plan Right Done) (Recorded a_path (mark one)) [] (done _ 0 a_path 1 6 planned refl refl refl refl refl) (All-nil (IsDue right_replaces plan Right Done)))
+takes_done = takes 1 replaced Right 3 Done plan recorded_archive None [] (Recorded a_path (mark one) ∷ []) ((complete 1, 6) ∷ []) refl (refl, refl) (inl refl) (λ P. inr (right_replaces, complete 1, refl, refl, up_not_down, refl, takes_done_ends, record { done = refl; marked = refl }, none_refused P))
+    (All-cons (IsDue right_replaces plan Right 3 Done) (Recorded a_path (mark one)) [] (done 0 a_path 1 6 planned refl refl refl refl) (All-nil (IsDue right_replaces plan Right 3 Done)))
     (can_record, tt) refl ended tt tt (tells 14) (once 14) refl
 
 right_one : subtree (tree_of right_done.history) a_path ≡ one

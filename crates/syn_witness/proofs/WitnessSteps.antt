@@ -1,22 +1,27 @@
 -- A step of a witness run where no device fails and no machine stops.
-use Rattle.std.proofs.Common.{◌≡◌, ◌≢◌, ℕ, true, true≢false, List, [], ◌∷◌, ◌++◌, map, take, length, if◌then◌else◌, refl, sym, ap, ◌∙◌, subst, Option, Some, None, arith, inl}
-use Rattle.std.specs.Prelude.{All, Contains, IfSome}
+use Rattle.std.proofs.Common.{not, inr, ◌≡◌, ◌≢◌, ℕ, true, true≢false, List, [], ◌∷◌, ◌++◌, map, take, length, if◌then◌else◌, refl, sym, ap, ◌∙◌, subst, Option, Some, None, arith, inl}
+use Rattle.std.specs.Prelude.{All, Contains}
+use Rattle.std.specs.List.{AllByRecursion}
 use Rattle.std.specs.FinMap.{get, len}
+use Rattle.std.proofs.lemmas.List.Elements.{All-nil, All-from_recursion}
 use Rattle.syn_model.specs.Path.{Path, root}
 use Rattle.syn_model.specs.Tree.{Tree, Content, Directory, File, is_directory}
 use Rattle.syn_model.specs.Limits.{children}
 use Rattle.syn_model.specs.Mark.{mark}
-use Rattle.syn_model.specs.Event.{Event}
-use Rattle.syn_model.specs.History.{tree_of}
+use Rattle.syn_model.specs.Event.{Edit, Event, Edited}
+use Rattle.syn_model.specs.History.{tree_of, IsAllowed, event_causes}
 use Rattle.syn_model.specs.Archive.{Archive, Kept, archive_of}
 use Rattle.syn_model.specs.Spelling.{content_spelling, spelling_within}
 use Rattle.syn_headline.specs.Rows.{has_room}
-use Rattle.syn_headline.specs.Side.{Side, Request, Reply, Begun, Listed, NotDir, Piece, Staged, Done, Refused, Reads, answer, serve, list_at, staged_bytes}
+use Rattle.syn_witness.specs.Witness.{keeps_all}
+use Rattle.syn_model.specs.Refusal.{Refusal, first_cause, JournalFull, Halted as Halted_before}
+use Rattle.syn_model.proofs.HistoryLemmas.{append-none}
+use Rattle.syn_headline.specs.Side.{room_causes, Side, Request, Reply, Begun, Listed, NotDir, Piece, Staged, Done, Refused, Reads, answer, serve, list_at, staged_bytes}
 use Rattle.syn_headline.specs.Network.{Which, Left, Right, Message, Asks, Answers, Sent, NumbersTell, AsksNothingTwice}
 use Rattle.syn_headline.specs.Acknowledged.{Ack, Happened, Kept_by}
 use Rattle.syn_headline.specs.Planning.{Planned}
 use Rattle.syn_headline.specs.Report.{Report}
-use Rattle.syn_headline.specs.World.{World, Outstanding, Status, Up, Halted, Down, Running, TakesRequest, answered, ServesAs, CoordinatorGoes, AllCanKeep, RunsOver, WasSent, AllOfSession, side_of, set_side, TakesAnswer, taken, IsExpected, HasPlan, IsDueAfter, GoesOnFrom, IsOver, Reports, EndsTaken, Step, Runs}
+use Rattle.syn_headline.specs.World.{SideMachine, Writes, Edits, Steps, is_halted, edit_causes, World, Outstanding, Status, Up, Halted, Down, Running, TakesRequest, answered, ServesAs, CoordinatorGoes, AllCanKeep, RunsOver, WasSent, AllOfSession, side_of, set_side, TakesAnswer, taken, IsExpected, HasPlan, IsDueAfter, GoesOnFrom, IsOver, Reports, AddsRefused, RefusesTaken, EndsTaken, Step, Runs}
 
 abbrev is_up : Status → Type 0
 is_up Up = Unit {0}
@@ -59,14 +64,16 @@ after_answer old which session number side reply events = record (set_side old w
 }
 
 pub serves : (old : World) (which : Which) (session number : ℕ) (request : Request) (read : Option Tree) (side : Side) (reply : Reply) (events : List Event) →
-    (side_of old which).status ≡ Up → Reads (staged_bytes (side_of old which).side.staging) read → answer side reply ≡ serve old.pair has_room read (side_of old which).side session request →
+    (side_of old which).status ≡ Up → Reads (staged_bytes (side_of old which).side.staging) read → answer side reply ≡ serve old.pair (side_of old which).has_room read (side_of old which).side session request →
     is_granted reply → side.history ≡ (side_of old which).side.history ++ events → TakesRequest old which session number request (after_answer old which session number side reply events)
 serves old which session number request read side reply events up reads is granted added = answered (record {
-  has_room = has_room;
   served = answer side reply;
   events = events;
-  serves = subst (λ status. ServesAs status old.pair has_room (side_of old which).side session request (answer side reply)) (sym up) (inl (read, reads, is));
+  room = (side_of old which).has_room;
+  serves = subst (λ status. ServesAs status old.pair (side_of old which).has_room (side_of old which).side session request (answer side reply)) (sym up) (inl (read, reads, is));
   no_failure = λ e. subst is_granted e granted;
+  no_halt = λ _ e. subst is_granted e granted;
+  same_room = λ _. refl;
   added = added;
   result = refl;
 })
@@ -78,11 +85,22 @@ lists side path h = sym (ap (λ b. answer side (if b then Listed (length side.hi
 
 abbrev pub after_call : World → Archive → Option Running → List Message → List Kept → List (Report × ℕ) → World
 after_call old archive running messages kept reports = record old {
-  coordinator = record { status = Up; archive = archive; writing = None; running = running };
+  coordinator = record { status = Up; archive = archive; has_room = keeps_all; writing = None; running = running };
   sent = old.sent ++ messages;
   acknowledged = old.acknowledged ++ map Kept_by kept;
   reports = old.reports ++ reports;
 }
+
+-- an edit that is allowed on a side that is up and has room for it
+pub edits : (old : World) (which : Which) (user : ℕ) (edit : Edit) (machine : SideMachine) (events : List Event) (new : World) → (side_of old which).status ≡ Up → (side_of old which).has_room (Edited user edit) ≡ true →
+    IsAllowed (side_of old which).side.history (Edited user edit) → Writes (side_of old which) (Edited user edit) machine events →
+    new ≡ record (set_side old which machine) { sent = old.sent ++ []; acknowledged = old.acknowledged ++ map (λ event. Happened which event) events } → Steps old (Edits which user edit) new
+edits old which user edit machine events new up room allowed writes is =
+    let here = side_of old which in
+    let event = Edited user edit in
+    let fits : first_cause (room_causes here.has_room event) ≡ None = ap (λ b. first_cause ((not b, JournalFull) ∷ [])) room in
+    let none : first_cause (edit_causes here event) ≡ None = append-none (event_causes here.side.history event) (room_causes here.has_room event) allowed.not_refused fits in
+    inr (λ e. up_not_down (sym up ∙ e), inr (ap (λ status. first_cause ((is_halted status, Halted_before) ∷ edit_causes here event)) up ∙ none, (allowed.lawful, (machine, events, writes, is))))
 
 -- a call of the coordinator, up before and after
 pub goes : (old : World) (IsDue_now : Kept → Type 0) (RunsOn : Option Running → Type 0) (archive : Archive) (running : Option Running) (messages : List Message) (kept : List Kept) (reports : List (Report × ℕ)) →
@@ -90,7 +108,7 @@ pub goes : (old : World) (IsDue_now : Kept → Type 0) (RunsOn : Option Running 
     RunsOn running → RunsOver (old.sent ++ messages) archive running → NumbersTell (old.sent ++ messages) → AsksNothingTwice (old.sent ++ messages) → AllOfSession old.sent running messages →
     CoordinatorGoes old IsDue_now RunsOn (after_call old archive running messages kept reports)
 goes old IsDue_now RunsOn archive running messages kept reports up due can is on over tell once of = record {
-  machine = record { status = Up; archive = archive; writing = None; running = running };
+  machine = record { status = Up; archive = archive; has_room = keeps_all; writing = None; running = running };
   kept = kept;
   messages = messages;
   reports = reports;
@@ -109,42 +127,47 @@ goes old IsDue_now RunsOn archive running messages kept reports up due can is on
 }
 
 -- what waits on either side was sent
-pub both_sent : (sent : Sent) (running : Running) → IfSome running.left (λ waiting. Contains sent (Asks Left running.session waiting.number waiting.request)) →
-    IfSome running.right (λ waiting. Contains sent (Asks Right running.session waiting.number waiting.request)) → WasSent sent running
-both_sent sent running l r Left = l
-both_sent sent running l r Right = r
+pub both_sent : (sent : Sent) (running : Running) → AllByRecursion (λ waiting. Contains sent (Asks Left running.session waiting.number waiting.request)) running.left →
+    AllByRecursion (λ waiting. Contains sent (Asks Right running.session waiting.number waiting.request)) running.right → WasSent sent running
+both_sent sent running l r Left = All-from_recursion (λ waiting. Contains sent (Asks Left running.session waiting.number waiting.request)) running.left l
+both_sent sent running l r Right = All-from_recursion (λ waiting. Contains sent (Asks Right running.session waiting.number waiting.request)) running.right r
 
 -- a session that runs
-abbrev pub waits : ℕ → Request → Option Outstanding
-waits number request = Some (record { number = number; request = request; resent = 0 })
+abbrev pub waits : ℕ → Request → List Outstanding
+waits number request = record { number = number; request = request; resent = 0 } ∷ []
 
-abbrev pub runs_with : ℕ → Option Outstanding → Option Outstanding → List Planned → Running
-runs_with session left right plan = record { session = session; left = left; right = right; plan = plan }
+abbrev pub runs_with : ℕ → List Outstanding → List Outstanding → List Planned → Running
+runs_with session left right plan = record { session = session; refused = []; left = left; right = right; plan = plan }
 
 -- a world without failures, where so many of the messages have been sent and so much of the rest acknowledged
 abbrev pub world_of : Sent → List Ack → Side → Side → Archive → Option Running → ℕ → ℕ → World
 world_of messages acks left right archive running said acknowledged = record {
   pair = 7;
-  left = record { status = Up; side = left; writing = None };
-  right = record { status = Up; side = right; writing = None };
-  coordinator = record { status = Up; archive = archive; writing = None; running = running };
+  left = record { status = Up; side = left; has_room = has_room; writing = None };
+  right = record { status = Up; side = right; has_room = has_room; writing = None };
+  coordinator = record { status = Up; archive = archive; has_room = keeps_all; writing = None; running = running };
   sent = take said messages;
   acknowledged = take acknowledged acks;
+  refusals = [];
   reports = [];
 }
 
 -- the coordinator takes an answer that it waits for
 pub takes : (session : ℕ) (old : World) (from : Which) (number : ℕ) (reply : Reply) (plan : List Planned) (archive : Archive) (next : Option Running) (messages : List Message) (kept : List Kept) (reports : List (Report × ℕ)) →
     old.coordinator.status ≡ Up → IsExpected old.coordinator.running from session number → HasPlan old.sent old.coordinator.archive old.coordinator.running plan →
-    Reports old (after_call old archive next messages kept reports) plan (EndsTaken old (after_call old archive next messages kept reports) from plan reply) →
-    All (IsDueAfter old.coordinator.running plan from reply) kept → AllCanKeep old.coordinator.archive kept → archive ≡ archive_of old.coordinator.archive kept →
+    ((IsRefused_now : Refusal × Path → Type 0) → Reports old (after_call old archive next messages kept reports) plan IsRefused_now (EndsTaken old (after_call old archive next messages kept reports) from number plan reply)) →
+    All (IsDueAfter old.coordinator.running plan from number reply) kept → AllCanKeep old.coordinator.archive kept → archive ≡ archive_of old.coordinator.archive kept →
     GoesOnFrom old.coordinator.running plan next → IsOver from number next → RunsOver (old.sent ++ messages) archive next →
     NumbersTell (old.sent ++ messages) → AsksNothingTwice (old.sent ++ messages) → AllOfSession old.sent next messages →
     TakesAnswer old from session number reply (after_call old archive next messages kept reports)
 takes session old from number reply plan archive next messages kept reports up expected has ends due can is on over runs tell twice of =
-    taken plan expected has (goes old (IsDueAfter old.coordinator.running plan from reply) (λ running. GoesOnFrom old.coordinator.running plan running × IsOver from number running)
+    taken plan expected has (goes old (IsDueAfter old.coordinator.running plan from number reply) (λ running. GoesOnFrom old.coordinator.running plan running × IsOver from number running)
     archive next messages kept reports up due can is (on, over) runs tell twice of)
-    ends
+    (ends (RefusesTaken old (after_call old archive next messages kept reports) from number plan reply))
+
+-- nothing is refused
+pub none_refused : (IsRefused_now : Refusal × Path → Type 0) → AddsRefused IsRefused_now [] []
+none_refused IsRefused_now = ([], All-nil IsRefused_now, refl)
 
 -- one run after another
 pub runs_on_from : (old between new : World) (steps more : List Step) → Runs old steps between → Runs between more new → Runs old (steps ++ more) new

@@ -1,5 +1,5 @@
 -- Runs that the definitions are to allow: from three formatted disks that have just been opened, each step of the world.
-use Rattle.std.specs.Prelude.{ℕ, ◌≡◌, List, [], ◌∷◌, ◌++◌, None, Some, map, length, replicate}
+use Rattle.std.specs.Prelude.{ℕ, ◌≡◌, Bool, true, List, [], ◌∷◌, ◌++◌, None, Some, map, length, replicate}
 use Rattle.syn_model.specs.Rows.{a_name}
 use Rattle.syn_model.specs.Path.{Path}
 use Rattle.syn_model.specs.Refusal.{NoAnswer}
@@ -7,17 +7,21 @@ use Rattle.syn_model.specs.Event.{Put, Edit, Edited, Began, Replaced}
 use Rattle.syn_model.specs.Tree.{Tree, file, subtree, empty_directory}
 use Rattle.syn_model.specs.History.{tree_of, tree_at}
 use Rattle.syn_model.specs.Mark.{mark}
-use Rattle.syn_model.specs.Archive.{Session, Recorded, new_archive}
+use Rattle.syn_model.specs.Archive.{Kept, Session, Recorded, new_archive}
 use Rattle.syn_headline.specs.Network.{Left, Right}
 use Rattle.syn_headline.specs.Acknowledged.{Ack, Happened, Kept_by, Stores}
 use Rattle.syn_headline.specs.Report.{Report, Complete, Incomplete}
 use Rattle.syn_headline.specs.World.{World, At, Step, Edits, Start, Deliver, Stop, Coordinator, Tick, Open, Up, SideMachine, Runs}
 use Rattle.syn_headline.specs.Headline.{IsStart, formatted, stores_of, IsQuietSession, UntouchedSince}
 use Rattle.syn_headline.specs.Side.{token_of}
-use Rattle.syn_headline.specs.Rows.{new_side}
+use Rattle.syn_headline.specs.Rows.{new_side, has_room}
 
 abbrev pub new_machine : SideMachine
-new_machine = record { status = Up; side = new_side; writing = None }
+new_machine = record { status = Up; side = new_side; has_room = has_room; writing = None }
+
+-- its archive has room for all
+abbrev pub keeps_all : Kept → Bool
+keeps_all kept = true
 
 -- three formatted disks of pair 7, opened
 abbrev pub opened_world : World
@@ -25,9 +29,10 @@ opened_world = record {
   pair = 7;
   left = new_machine;
   right = new_machine;
-  coordinator = record { status = Up; archive = formatted.archive; writing = None; running = None };
+  coordinator = record { status = Up; archive = formatted.archive; has_room = keeps_all; writing = None; running = None };
   sent = [];
   acknowledged = [];
+  refusals = [];
   reports = [];
 }
 
