@@ -44,9 +44,10 @@ path_of (Conflict path) = path
 
 -- a plan goes on below a path that is decided so
 abbrev pub GoesOn : Decision → Type 0
+GoesOn Clean = ⊥
+GoesOn (Do item) = ⊥
 GoesOn (DoAndGoOn item) = Unit {0}
 GoesOn GoOn = Unit {0}
-GoesOn _ = ⊥
 
 -- it goes on at each path above
 abbrev pub IsReached : Scan → Scan → Tree → Path → Type 0

@@ -89,7 +89,9 @@ IsRecordedForEach (item ∷ items) old new = (next : Tree) × IsRecordedFor item
 abbrev pub OverwritesClean : Scan → Scan → Tree → Item → Type 0
 OverwritesClean left right archive (ToLeft path) = dirty left archive path ≡ false
 OverwritesClean left right archive (ToRight path) = dirty right archive path ≡ false
-OverwritesClean left right archive _ = Unit {0}
+OverwritesClean left right archive (MarkSame path) = Unit {0}
+OverwritesClean left right archive (MarkDir path) = Unit {0}
+OverwritesClean left right archive (Conflict path) = Unit {0}
 
 -- what a scan finds of a tree that does not change
 abbrev pub scan_of : Tree → Scan
@@ -123,8 +125,11 @@ abbrev pub PlanIsInOrder : Type 0
 PlanIsInOrder = (left right : Scan) (archive : Tree) → AllPairs StandsBefore (plan left right archive)
 
 abbrev pub is_mark_dir : Item → Bool
+is_mark_dir (ToLeft path) = false
+is_mark_dir (ToRight path) = false
+is_mark_dir (MarkSame path) = false
 is_mark_dir (MarkDir path) = true
-is_mark_dir _ = false
+is_mark_dir (Conflict path) = false
 
 -- that is, no path is named twice, items other than directories are not comparable, and none comes after one below it
 pub record IsOrderly (items : List Item) : Type 0 where

@@ -40,12 +40,14 @@ abbrev pub touches_at : ℕ → Event → List Touch
 touches_at position event = option_map_or (λ path. record { position = position; path = path } ∷ []) (changed_path event) []
 
 abbrev pub session_after : ℕ → Event → ℕ
+session_after last (Edited user edit) = last
 session_after last (Began session) = session
-session_after last _ = last
+session_after last (Replaced token path since new) = last
 
 abbrev pub token_after : Option Token → Event → Option Token
+token_after last (Edited user edit) = last
+token_after last (Began session) = last
 token_after last (Replaced token path since new) = Some token
-token_after last _ = last
 
 -- the standing after one more event: of its touches the oldest go, and the floor with them
 abbrev pub standing_after : Standing → Event → Standing
