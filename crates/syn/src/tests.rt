@@ -2,7 +2,6 @@
 
 use crate::command::command;
 use crate::status::Status;
-use std::alloc::Global;
 use std::fs::{self, File, Files};
 use std::io::{self, Read, Write};
 use std::os::unix::fs::FileExt;
@@ -180,35 +179,6 @@ fn refusals_change_nothing(rt: HostRuntime) -> Result<(), Fail> {
     fs::remove_file(&rt, file)?;
     assert!(rt; before == after);
     Ok(())
-}
-
-// A name of so many bytes.
-fn long_name(alloc: Global, length: usize) -> Result<String, Fail> {
-    let mut name = String::new(alloc);
-    for _ in 0..length {
-        name.push('n')?;
-    }
-    Ok(name)
-}
-
-#[test]
-fn paths_keep_their_limits(rt: HostRuntime) -> Result<(), Fail> {
-    let (alloc, file) = (rt.alloc(), "syn_test_paths");
-    let (most, more) = (long_name(alloc, 64)?, long_name(alloc, 65)?);
-    let (last, beyond) = (long_name(alloc, 58)?, long_name(alloc, 59)?);
-    let two = format!(in alloc; "{most}/{most}")?;
-    let three = format!(in alloc; "{two}/{most}")?;
-    let fits = format!(in alloc; "{three}/{last}")?;
-    let long = format!(in alloc; "{three}/{beyond}")?;
-    prints(&rt, &["format", "replica", "7", file], b"", "ok\n")?;
-    prints(&rt, &["mkdir", file, "1", &most], b"", "ok 1\n")?;
-    refuses(&rt, &["mkdir", file, "1", &more], b"", "1 BadPath")?;
-    prints(&rt, &["mkdir", file, "1", &two], b"", "ok 2\n")?;
-    prints(&rt, &["mkdir", file, "1", &three], b"", "ok 3\n")?;
-    prints(&rt, &["put", file, "1", &fits], b"hi", "ok 4\n")?;
-    refuses(&rt, &["put", file, "1", &long], b"hi", "1 BadPath")?;
-    prints(&rt, &["show", file, &fits], b"", "hi")?;
-    Ok(fs::remove_file(&rt, file)?)
 }
 
 #[test]
