@@ -181,6 +181,47 @@ fn refusals_change_nothing(rt: HostRuntime) -> Result<(), Fail> {
     Ok(())
 }
 
+// A path of names of so many bytes.
+fn long_path<R: AllocGlobal>(rt: &R, lengths: &[usize]) -> Result<String, Fail> {
+    let mut path = String::new(rt.alloc());
+    for length in lengths {
+        path.push_str(if path.is_empty() { "" } else { "/" })?;
+        for _ in 0..*length {
+            path.push('n')?;
+        }
+    }
+    Ok(path)
+}
+
+// Whether the command at such a path, with an input of two bytes, is done.
+fn is_done_at<R: Files<File = File> + AllocGlobal + Abort>(
+    rt: &R,
+    word: &str,
+    file: &str,
+    lengths: &[usize],
+) -> Result<bool, Fail> {
+    let path = long_path(rt, lengths)?;
+    let run = run(rt, &[word, file, "1", path.as_str()], b"hi")?;
+    Ok(run.status == Status::Done)
+}
+
+#[test]
+fn paths_keep_their_limits(rt: HostRuntime) -> Result<(), Fail> {
+    let file = "syn_test_paths";
+    prints(&rt, &["format", "replica", "7", file], b"", "ok\n")?;
+    let done = [
+        is_done_at(&rt, "mkdir", file, &[64])?,
+        is_done_at(&rt, "mkdir", file, &[65])?,
+        is_done_at(&rt, "mkdir", file, &[64, 64])?,
+        is_done_at(&rt, "mkdir", file, &[64, 64, 64])?,
+        is_done_at(&rt, "put", file, &[64, 64, 64, 59])?,
+        is_done_at(&rt, "put", file, &[64, 64, 64, 58])?,
+    ];
+    fs::remove_file(&rt, file)?;
+    assert_eq!(rt; done, [true, false, true, true, false, true]);
+    Ok(())
+}
+
 #[test]
 fn files_that_are_no_disk_are_left_alone(rt: HostRuntime) -> Result<(), Fail> {
     let file = "syn_test_lengths";
