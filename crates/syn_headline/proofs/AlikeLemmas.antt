@@ -16,7 +16,8 @@ use Rattle.syn_model.proofs.TreeLemmas.{get-subtree, same_tree, subtree-append}
 use Rattle.syn_model.proofs.SyncLemmas.{directory_is}
 use Rattle.syn_model.proofs.PlanOrder.{plan_is_decided, reached_below}
 use Rattle.syn_model.proofs.PlanCover.{plan_has_decided}
-use Rattle.syn_model.proofs.ResultLemmas.{by_decision, marked-directory, nothing_relevant}
+use Rattle.syn_model.proofs.QuietLemmas.{directory_of_mark}
+use Rattle.syn_model.proofs.DecisionLemmas.{by_decision, nothing_relevant}
 use Rattle.syn_headline.specs.Network.{Which, Left, Right}
 use Rattle.syn_headline.proofs.AnyOrder.{not_below, two_above}
 use Rattle.syn_headline.proofs.CarriedOut.{recorded_file, HasCarriedOut, items_of, alone_of}
@@ -75,7 +76,7 @@ module _ (found : Which → Tree) (o : Tree) (plannable : (side : Which) → Can
   clean_same p rest clean = sym (get-subtree o p rest) ∙ (ap (λ t. get t rest) (sym (dirty-safe (scan_of a) o p clean)) ∙ get-subtree (mark a) p rest)
 
   marked_directory : (p : Path) → is_directory_in_both a b p ≡ true → get (mark a) p ≡ Some Directory
-  marked_directory p z = directory_is (get (mark a) p) (marked-directory a p ∙ (both_true (is_directory a p) (is_directory b p) z).0)
+  marked_directory p z = directory_is (get (mark a) p) (directory_of_mark a p ∙ (both_true (is_directory a p) (is_directory b p) z).0)
 
   not_decided : (d : Decision) (x : Item) → d ≡ GoOn → (d ≡ Do x) ⊎ (d ≡ DoAndGoOn x) → ⊥
   not_decided d x e (inl y) = cc

@@ -14,7 +14,9 @@ use Rattle.syn_model.proofs.PathLemmas.{same_name}
 use Rattle.syn_model.proofs.DirtyLemmas.{dirty-closed}
 use Rattle.syn_model.proofs.SyncLemmas.{child_relevant}
 use Rattle.syn_model.proofs.PlanOrder.{below, prefix-append, plan_is_decided}
-use Rattle.syn_model.proofs.ResultLemmas.{left_dirty, right_dirty, by_decision, decided_by, clean_below, clean_nothing, nothing_relevant, not_there, nothing_below, mark_none, marked-directory, IsShallow, shallow_below}
+use Rattle.syn_model.proofs.QuietLemmas.{directory_of_mark}
+use Rattle.syn_model.proofs.DirectoryLemmas.{not_there, absent_below, mark_none}
+use Rattle.syn_model.proofs.DecisionLemmas.{left_dirty, right_dirty, by_decision, decided_by, clean_below, clean_nothing, nothing_relevant, IsShallow, shallow_below}
 
 is_clean : Decision → Bool
 is_clean Clean = true
@@ -97,9 +99,9 @@ module _ (a b o : Tree) (left_parents : HasParents a) (right_parents : HasParent
             decided')
         | false ↦ λ not_among.
             let nowhere = not_there (scan_of a) (scan_of b) o p n not_among in
-            let in_archive = nothing_below o (child p n) archive_parents nowhere.in_archive in
-            let on_left = clean_nothing o a (child p n) (nothing_below a (child p n) left_parents (mark_none a (child p n) nowhere.on_left)) in_archive in
-            let on_right = clean_nothing o b (child p n) (nothing_below b (child p n) right_parents (mark_none b (child p n) nowhere.on_right)) in_archive in
+            let in_archive = absent_below o (child p n) archive_parents nowhere.in_archive in
+            let on_left = clean_nothing o a (child p n) (absent_below a (child p n) left_parents (mark_none a (child p n) nowhere.on_left)) in_archive in
+            let on_right = clean_nothing o b (child p n) (absent_below b (child p n) right_parents (mark_none b (child p n) nowhere.on_right)) in_archive in
             absurd (not_decided (decided_at (child p n ++ q)) item (decision_is_clean (child p n ++ q) (clean_below o a (child p n) q on_left) (clean_below o b (child p n) q on_right)) decided')
       ] refl)
 
@@ -133,7 +135,7 @@ module _ (a b o : Tree) (left_parents : HasParents a) (right_parents : HasParent
 
   conflict_decision : (p : Path) → IsConflict a b o p → decided_at p ≡ Do (Conflict p)
   conflict_decision p h =
-      let unmarked : is_directory_in_both (mark a) (mark b) p ≡ false = ap₂ (λ u v. u && v) (marked-directory a p) (marked-directory b p) ∙ h.no_directory in
+      let unmarked : is_directory_in_both (mark a) (mark b) p ≡ false = ap₂ (λ u v. u && v) (directory_of_mark a p) (directory_of_mark b p) ∙ h.no_directory in
       ap₂ (λ x y. decided_by p x y (is_directory_in_both (mark a) (mark b) p) (is_directory o p) (is_alike a b p)) h.left_dirty h.right_dirty
       ∙ ap₂ (λ z v. decided_by p true true z (is_directory o p) v) unmarked h.unlike
 

@@ -106,10 +106,15 @@ pub record CanBePlanned (tree : Tree) : Type 0 where
   pub parents : HasParents tree
   pub depth : HasDepth most_names tree
 
--- what is carried out of the plan leaves a synchronization, and an archive of it
-pub record IsReconciled (left right archive : Tree) (after : Trees) : Type 0 where
-  pub sides : IsSynchronization left right (dirty (scan_of left) archive) (dirty (scan_of right) archive) after.left after.right
-  pub marks : IsReconciledArchive left right (dirty (scan_of left) archive) (dirty (scan_of right) archive) after.left after.right archive after.archive
+-- the sides are a synchronization of what was found, by what was dirty
+abbrev pub IsSynchronized : Trees → Trees → Type 0
+IsSynchronized found after =
+    IsSynchronization found.left found.right (dirty (scan_of found.left) found.archive) (dirty (scan_of found.right) found.archive) after.left after.right
+
+-- and the archive is the archive of that
+abbrev pub IsReconciled : Trees → Trees → Type 0
+IsReconciled found after =
+    IsReconciledArchive found.left found.right (dirty (scan_of found.left) found.archive) (dirty (scan_of found.right) found.archive) after.left after.right found.archive after.archive
 
 abbrev pub stands_among : Name → List (Name × Content) → Bool
 stands_among name entries = list_any (eq_by_cmp name_cmp name) (map (λ entry. entry.0) entries)
@@ -180,7 +185,15 @@ abbrev pub ConflictsArePlanned : Type 0
 ConflictsArePlanned = (left right archive : Tree) → CanBePlanned left → CanBePlanned right → CanBePlanned archive → (path : Path) →
     Contains (plan (scan_of left) (scan_of right) archive) (Conflict path) ↔ IsConflict left right archive path
 
+-- what the plan of the three leaves
+abbrev pub after_plan : Trees → Trees
+after_plan found = carried_out found (plan (scan_of found.left) (scan_of found.right) found.archive)
+
+-- the sides are synchronized, if no two files that they have at one path differ with one digest
+abbrev pub PlanSynchronizes : Type 0
+PlanSynchronizes = (found : Trees) → CanBePlanned found.left → CanBePlanned found.right → CanBePlanned found.archive →
+    AreApart found.left found.right → IsSynchronized found (after_plan found)
+
+-- and the archive is that of it, without this premise, since it speaks of marks alone
 abbrev pub PlanReconciles : Type 0
-PlanReconciles = (left right archive : Tree) → CanBePlanned left → CanBePlanned right → CanBePlanned archive →
-    AreApart (λ tree. (tree ≡ left) ⊎ (tree ≡ right)) →
-    IsReconciled left right archive (carried_out (record { left = left; right = right; archive = archive }) (plan (scan_of left) (scan_of right) archive))
+PlanReconciles = (found : Trees) → CanBePlanned found.left → CanBePlanned found.right → CanBePlanned found.archive → IsReconciled found (after_plan found)
