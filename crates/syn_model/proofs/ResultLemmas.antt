@@ -11,7 +11,7 @@ use Rattle.syn_model.specs.Tree.{Tree, Content, Contents, contents_of, Directory
 use Rattle.syn_model.specs.Mark.{mark, mark_of, AreApart}
 use Rattle.syn_model.specs.Dirty.{dirty, is_same_tree}
 use Rattle.syn_model.specs.Reconcile.{is_directory_in_both, is_relevant, is_alike, is_settled, IsSyncedAt, IsReconciledAt}
-use Rattle.syn_model.specs.Decision.{Item, ToLeft, ToRight, MarkSame, MarkDir, path_of}
+use Rattle.syn_model.specs.Decision.{Item, ToLeft, ToRight, MarkSame, MarkDir, Decision, decision, path_of}
 use Rattle.syn_model.specs.Plan.{names_below, with_items_below, items_from, most_names, Trees, with_directory, after_item, carried_out, scan_of, CanBePlanned, after_plan, PlanSynchronizes, PlanReconciles}
 use Rattle.syn_model.proofs.PathLemmas.{name_itself, same_name, none_some}
 use Rattle.syn_model.proofs.TreeLemmas.{same_tree, get-subtree, subtree-replace, subtree-append}
@@ -23,7 +23,7 @@ use Rattle.syn_model.proofs.QuietLemmas.{directory_of_mark, nothing_below}
 use Rattle.syn_model.proofs.DirectoryLemmas.{root_content, same_content_at, moved-directory, below_name, from_names, none_of, not_there, absent_below, mark_none}
 use Rattle.syn_model.proofs.CarryLemmas.{SameAt, SameContent, same_itself, same-then, same-deeper, untouched, beside_items}
 use Rattle.syn_model.proofs.DecisionLemmas.{left_dirty, right_dirty, by_decision, clean_below, clean_nothing, nothing_relevant, IsShallow, shallow_below}
-use Rattle.syn_model.proofs.PlanOrder.{Apart, names_apart, items-at, prefix-append, siblings, every-weaker, bool_false, below, items-below, name_alike}
+use Rattle.syn_model.proofs.PlanOrder.{Apart, names_apart, decision-fits, items-at, prefix-append, siblings, every-weaker, bool_false, below, items-below, name_alike}
 
 -- Marks of files that are apart
 
@@ -256,18 +256,24 @@ module _ (a b o : Tree) (left_parents : HasParents a) (right_parents : HasParent
 
   -- the names below a directory, one after the other
 
+  abbrev decided_at : Path → Decision
+  decided_at p = decision (scan_of a) (scan_of b) o p
+
+  abbrev names_at : Path → List Name
+  names_at p = names_below (scan_of a) (scan_of b) o p
+
   abbrev items : ℕ → Path → List Item
-  items levels p = items_from levels (scan_of a) (scan_of b) o p
+  items levels p = items_from decided_at names_at levels p
 
   abbrev items_below : ℕ → Path → List Name → List Item
-  items_below levels p names = below (scan_of a) (scan_of b) o levels p names
+  items_below levels p names = below decided_at names_at levels p names
 
   one_then_more : (s : Trees) (levels : ℕ) (p : Path) (m : Name) (names : List Name) →
       carried_out s (items_below levels p (m ∷ names)) ≡ carried_out (carried_out s (items levels (child p m))) (items_below levels p names)
   one_then_more s levels p m names = fold-append after_item s (items levels (child p m)) (items_below levels p names)
 
   beside_one : (s : Trees) (levels : ℕ) (p : Path) (m n : Name) → eq_by_cmp name_cmp m n ≡ false → SameAt (carried_out s (items levels (child p m))) s (child p n)
-  beside_one s levels p m n h = beside_items s (items levels (child p m)) (child p m) (child p n) (items-at (scan_of a) (scan_of b) o levels (child p m)) (siblings p m n h)
+  beside_one s levels p m n h = beside_items s (items levels (child p m)) (child p m) (child p n) (items-at decided_at (decision-fits (scan_of a) (scan_of b) o) names_at levels (child p m)) (siblings p m n h)
 
   -- the items below some names leave what is at another
   beside_names : (s : Trees) (levels : ℕ) (p : Path) (names : List Name) (n : Name) → list_any (eq_by_cmp name_cmp n) names ≡ false → SameAt (carried_out s (items_below levels p names)) s (child p n)
@@ -303,12 +309,12 @@ module _ (a b o : Tree) (left_parents : HasParents a) (right_parents : HasParent
   names_good : (levels : ℕ) (p : Path) (s : Trees) → is_directory_in_both a b p ≡ true →
       ((n : Name) (s : Trees) → SameAt s (start a b o) (child p n) → Good a b o (carried_out s (items levels (child p n))) (child p n)) →
       ((n : Name) → SameAt s (start a b o) (child p n)) → get s.left p ≡ Some Directory → get s.right p ≡ Some Directory → get s.archive p ≡ Some Directory →
-      Good a b o (carried_out s (items_below levels p (names_below (scan_of a) (scan_of b) o p))) p
+      Good a b o (carried_out s (items_below levels p (names_at p))) p
   names_good levels p s z one same left_has right_has archive_has =
-      let names = names_below (scan_of a) (scan_of b) o p in
+      let names = names_at p in
       let s' = carried_out s (items_below levels p names) in
       let here : SameContent s' s p = untouched s (items_below levels p names) p
-      (every-weaker (λ item under. none_of (strip_prefix (path_of item) p) under.1) (items_below levels p names) (items-below (scan_of a) (scan_of b) o levels p names)) in
+      (every-weaker (λ item under. none_of (strip_prefix (path_of item) p) under.1) (items_below levels p names) (items-below decided_at (decision-fits (scan_of a) (scan_of b) o) names_at levels p names)) in
       directory_good s' p z (here.left ∙ left_has) (here.right ∙ right_has) (here.archive ∙ archive_has) (λ n.
       elim (list_any (eq_by_cmp name_cmp n) names) as (λ e. list_any (eq_by_cmp name_cmp n) names ≡ e → Good a b o s' (child p n)) [
         | true ↦ λ among. each_name levels p one names (names_apart (scan_of a) (scan_of b) o p) s (λ k _. same k) n among
@@ -344,7 +350,7 @@ module _ (a b o : Tree) (left_parents : HasParents a) (right_parents : HasParent
       (clean_nothing o a p (λ q. shallow_left q (omega arith)) (λ q. shallow_archive q (omega arith)))
       (clean_nothing o b p (λ q. shallow_right q (omega arith)) (λ q. shallow_archive q (omega arith)))
   items_good (suc levels) p s h shallow_left shallow_right shallow_archive =
-      let under = items_below levels p (names_below (scan_of a) (scan_of b) o p) in
+      let under = items_below levels p (names_at p) in
       let one : (n : Name) (s' : Trees) → SameAt s' (start a b o) (child p n) → Good a b o (carried_out s' (items levels (child p n))) (child p n) = λ n s' same. items_good levels (child p n) s' same (shallow_below levels p n a shallow_left) (shallow_below levels p n b shallow_right) (shallow_below levels p n o shallow_archive) in
       let left_has : is_directory_in_both a b p ≡ true → get s.left p ≡ Some Directory = λ z. same_content_at s.left a p h.left ∙ directory_is (get a p) (both_true (is_directory a p) (is_directory b p) z).0 in
       let right_has : is_directory_in_both a b p ≡ true → get s.right p ≡ Some Directory = λ z. same_content_at s.right b p h.right ∙ directory_is (get b p) (both_true (is_directory a p) (is_directory b p) z).1 in
