@@ -2,6 +2,7 @@
 use Rattle.std.proofs.Common.{◌≡◌, ℕ, suc, ◌≤◌, Bool, true, false, not, if◌then◌else◌, ◌&&◌, ◌||◌, [], ◌∷◌, ◌++◌, length, refl, sym, ap, ap₂, ◌∙◌, None, true≢false, append_assoc}
 use native.Mathlib.Omega.{arith}
 use Rattle.std.specs.FinMap.{get}
+use Rattle.std.proofs.lemmas.Bool.{false_from_ne_true}
 use Rattle.syn_model.specs.Path.{Path, Name, is_root, child, parent}
 use Rattle.syn_model.specs.Tree.{Tree, HasParents, subtree, is_directory, is_directory_content}
 use Rattle.syn_model.specs.Mark.{mark}
@@ -15,7 +16,7 @@ use Rattle.syn_model.proofs.DirtyLemmas.{both_true, tree_itself, dirty-closed}
 use Rattle.syn_model.proofs.SyncLemmas.{directory_is}
 use Rattle.syn_model.proofs.QuietLemmas.{directory_of_mark}
 use Rattle.syn_model.proofs.DirectoryLemmas.{none_mark}
-use Rattle.syn_model.proofs.PlanOrder.{prefix-append, bool_false}
+use Rattle.syn_model.proofs.PlanOrder.{prefix-append}
 
 not_root : (p : Path) (n : Name) (q : Path) → is_root (p ++ n ∷ q) ≡ false
 not_root [] n q = refl
@@ -77,7 +78,7 @@ module _ (a b o : Tree) where
           ] refl
 
 pub clean_below : (o t : Tree) (p q : Path) → dirty (scan_of t) o p ≡ false → dirty (scan_of t) o (p ++ q) ≡ false
-clean_below o t p q h = bool_false (dirty (scan_of t) o (p ++ q)) (λ e. true≢false (sym (dirty-closed (scan_of t) o p (p ++ q) (prefix-append p q) e) ∙ h))
+clean_below o t p q h = false_from_ne_true (dirty (scan_of t) o (p ++ q)) (λ e. true≢false (sym (dirty-closed (scan_of t) o p (p ++ q) (prefix-append p q) e) ∙ h))
 
 clean_itself : (o t : Tree) (p : Path) → subtree (mark t) p ≡ subtree o p → dirty (scan_of t) o p ≡ false
 clean_itself o t p e = ap (λ b. not b || false) (ap (λ w. is_same_tree (subtree (mark t) p) w) (sym e) ∙ tree_itself (subtree (mark t) p))

@@ -1,19 +1,21 @@
 -- What stands in a directory by its names, and what stands nowhere.
-use Rattle.std.proofs.Common.{◌≡◌, true, false, cond, ◌||◌, List, [], ◌∷◌, ◌++◌, refl, sym, ap, ◌∙◌, Option, is_some, option_map, Some, None, true≢false, append_assoc, append-nil}
+use Rattle.std.proofs.Common.{◌≡◌, false, ◌||◌, [], ◌∷◌, ◌++◌, refl, sym, ap, ◌∙◌, Option, is_some, option_map, Some, None, true≢false, append_assoc, append-nil}
 use Rattle.std.specs.Ordering.{eq_by_cmp}
 use Rattle.std.specs.List.{list_any}
-use Rattle.std.specs.FinMap.{get, find, from_entries, get-from_entries, contains_key-keys}
+use Rattle.std.specs.FinMap.{get, find}
+use Rattle.std.specs.FinMap.Entries.{is_some-find}
 use Rattle.syn_model.specs.Path.{Path, Name, name_cmp, root, child}
 use Rattle.syn_model.specs.Tree.{Tree, Content, HasParents, subtree, is_directory, is_directory_content}
 use Rattle.syn_model.specs.Limits.{children}
 use Rattle.syn_model.specs.Mark.{mark, mark_of}
 use Rattle.syn_model.specs.Dirty.{Scan}
-use Rattle.syn_model.specs.Plan.{names_below}
-use Rattle.syn_model.proofs.PathLemmas.{name_total, none_some}
+use Rattle.syn_model.specs.Plan.{names_below, stands_among}
+use Rattle.syn_model.proofs.PathLemmas.{none_some}
 use Rattle.syn_model.proofs.TreeLemmas.{same_tree, get-subtree}
 use Rattle.syn_model.proofs.MarkLemmas.{get-mark}
 use Rattle.syn_model.proofs.DirtyLemmas.{both_false}
 use Rattle.syn_model.proofs.QuietLemmas.{get-children}
+use Rattle.syn_model.proofs.PlanNames.{names_of_three}
 
 pub root_content : (t : Tree) (p : Path) → get (subtree t p) root ≡ get t p
 root_content t p = get-subtree t p root ∙ ap (get t) (append-nil p)
@@ -39,12 +41,7 @@ pub none_of : {X : Type 0} (o : Option X) → is_some o ≡ false → o ≡ None
 none_of None h = refl
 none_of (Some x) h = absurd (true≢false h)
 
-found-append : (n : Name) (xs ys : List (Name × Content)) → is_some (find name_cmp n (xs ++ ys)) ≡ (is_some (find name_cmp n xs) || is_some (find name_cmp n ys))
-found-append n [] ys = refl
-found-append n (x ∷ xs) ys =
-    elim (eq_by_cmp name_cmp n x.0) as (λ b. is_some (cond b (Some x.1) (find name_cmp n (xs ++ ys))) ≡ (is_some (cond b (Some x.1) (find name_cmp n xs)) || is_some (find name_cmp n ys))) [ true ↦ refl | false ↦ found-append n xs ys ]
-
-not_child : (t : Tree) (p : Path) (n : Name) → is_some (find name_cmp n (children t p)) ≡ false → get t (child p n) ≡ None
+pub not_child : (t : Tree) (p : Path) (n : Name) → is_some (find name_cmp n (children t p)) ≡ false → get t (child p n) ≡ None
 not_child t p n h = get-children t p n ∙ none_of (find name_cmp n (children t p)) h
 
 -- a name that is not among those below a path stands there in neither scan nor in the archive
@@ -55,14 +52,10 @@ pub record NotThere (left right : Scan) (archive : Tree) (path : Path) : Type 0 
 
 pub not_there : (left right : Scan) (archive : Tree) (p : Path) (n : Name) → list_any (eq_by_cmp name_cmp n) (names_below left right archive p) ≡ false → NotThere left right archive (child p n)
 not_there left right archive p n h =
-    let xs = children left.marks p in
-    let ys = children right.marks p in
-    let zs = children archive p in
-    let nowhere : is_some (find name_cmp n (xs ++ (ys ++ zs))) ≡ false =
-    ap is_some (sym (get-from_entries name_total (xs ++ (ys ++ zs)) n)) ∙ (contains_key-keys (from_entries {X = Content} {R = name_cmp} (xs ++ (ys ++ zs))) n ∙ h) in
-    let one = both_false (is_some (find name_cmp n xs)) (is_some (find name_cmp n (ys ++ zs))) (sym (found-append n xs (ys ++ zs)) ∙ nowhere) in
-    let two = both_false (is_some (find name_cmp n ys)) (is_some (find name_cmp n zs)) (sym (found-append n ys zs) ∙ one.1) in
-    record { on_left = not_child left.marks p n one.0; on_right = not_child right.marks p n two.0; in_archive = not_child archive p n two.1 }
+    let one = both_false (stands_among n (children left.marks p)) (stands_among n (children right.marks p) || stands_among n (children archive p)) (names_of_three left right archive p n ∙ h) in
+    let two = both_false (stands_among n (children right.marks p)) (stands_among n (children archive p)) one.1 in
+    let absent : (t : Tree) → stands_among n (children t p) ≡ false → get t (child p n) ≡ None = λ t none. not_child t p n (is_some-find name_cmp n (children t p) ∙ none) in
+    record { on_left = absent left.marks one.0; on_right = absent right.marks two.0; in_archive = absent archive two.1 }
 
 -- what is not there has nothing below it
 pub absent_below : (t : Tree) (p : Path) → HasParents t → get t p ≡ None → (q : Path) → get t (p ++ q) ≡ None

@@ -1,16 +1,14 @@
 -- The order of a plan's items.
-use Rattle.std.proofs.Common.{◌≡◌, ◌⊎◌, ℕ, zero, suc, Bool, true, false, not, if◌then◌else◌, ◌&&◌, ◌||◌, T, List, [], ◌∷◌, ◌++◌, map, AllPairs, flat_map, refl, sym, ap, ap₂, ◌∙◌, subst, inl, inr, is_some, Some, None, Ordering, Less, Equal, Greater, is_eq, is_lt, true≢false, append_assoc, append-nil, ◌≢◌}
+use Rattle.std.proofs.Common.{◌≡◌, ◌⊎◌, ℕ, zero, suc, true, false, not, if◌then◌else◌, ◌||◌, List, [], ◌∷◌, ◌++◌, AllPairs, flat_map, refl, sym, ap, ap₂, ◌∙◌, subst, inl, inr, is_some, Some, None, true≢false, append_assoc, append-nil, ◌≢◌}
 use native.Mathlib.Omega.{arith}
 use Rattle.std.specs.Ordering.{eq_by_cmp}
 use Rattle.std.specs.Cmp.{eq_by_cmp_equiv}
 use Rattle.std.specs.List.{list_any, AllByRecursion}
-use Rattle.std.specs.FinMap.{entries, entries_sorted, from_entries, is_sorted}
-use Rattle.std.specs.FinMap.Entries.{below_all}
+use Rattle.std.proofs.lemmas.Bool.{or_cases, false_from_ne_true}
 use Rattle.std.proofs.lemmas.List.Elements.{All-from_recursion, All-weaker}
 use Rattle.std.proofs.lemmas.List.Kept.{AllPairs-cons}
 use Rattle.syn_model.specs.Path.{Path, Name, name_cmp, root, is_root, child, is_prefix, strip_prefix, comparable}
-use Rattle.syn_model.specs.Tree.{Tree, Content, is_directory}
-use Rattle.syn_model.specs.Limits.{children}
+use Rattle.syn_model.specs.Tree.{Tree, is_directory}
 use Rattle.syn_model.specs.Dirty.{Scan, dirty, is_same_tree}
 use Rattle.syn_model.specs.Tree.{subtree}
 use Rattle.syn_model.specs.Reconcile.{is_directory_in_both}
@@ -18,6 +16,7 @@ use Rattle.syn_model.specs.Decision.{Item, ToLeft, ToRight, MarkSame, MarkDir, C
 use Rattle.syn_model.specs.Plan.{names_below, with_items_below, items_from, plan, most_names, StandsBefore, IsDecided, OverwritesClean, PlanIsInOrder, PlanIsDecided, PlanOverwritesClean, is_mark_dir, PlanIsOrderly}
 use Rattle.syn_model.proofs.PathLemmas.{first_or, rest_of, name_total, name_itself, prefixes_comparable, is_prefix-is, strip_prefix-append}
 use Rattle.syn_model.proofs.DirtyLemmas.{prefix_chain, both_false}
+use Rattle.syn_model.proofs.PlanNames.{Apart, names_apart}
 
 -- ---- lists
 
@@ -46,39 +45,6 @@ ordered_pairs : (xs : List Item) → Ordered xs → AllPairs StandsBefore xs
 ordered_pairs [] h = λ i j d lt within. absurd (omega arith)
 ordered_pairs (x ∷ xs) h = AllPairs-cons StandsBefore x xs (All-from_recursion (StandsBefore x) xs h.0) (ordered_pairs xs h.1)
 
--- ---- names
-
--- each name differs from the later ones
-abbrev pub Apart : List Name → Type 0
-Apart [] = Unit {0}
-Apart (name ∷ names) = (list_any (eq_by_cmp name_cmp name) names ≡ false) × Apart names
-
-not_both : (a b : Bool) → T (a && b) → T a × T b
-not_both true b h = (tt, h)
-not_both false b h = absurd h
-
-less_is : (o : Ordering) → T (is_lt o) → is_eq o ≡ false
-less_is Less h = refl
-less_is Equal h = absurd h
-less_is Greater h = absurd h
-
-below-differs : (name : Name) (es : List (Name × Content)) → T (below_all name_cmp name es) → list_any (eq_by_cmp name_cmp name) (map (λ e. e.0) es) ≡ false
-below-differs name [] h = refl
-below-differs name (e ∷ es) h =
-    let parts = not_both (is_lt (name_cmp name e.0)) (below_all name_cmp name es) h in
-    ap₂ (λ x y. x || y) (less_is (name_cmp name e.0) parts.0) (below-differs name es parts.1)
-
-sorted-apart : (es : List (Name × Content)) → T (is_sorted name_cmp es) → Apart (map (λ e. e.0) es)
-sorted-apart [] h = tt
-sorted-apart (e ∷ es) h =
-    let parts = not_both (below_all name_cmp e.0 es) (is_sorted name_cmp es) h in
-    (below-differs e.0 es parts.0, sorted-apart es parts.1)
-
-pub names_apart : (left right : Scan) (archive : Tree) (path : Path) → Apart (names_below left right archive path)
-names_apart left right archive path =
-    let map = from_entries {X = Content} {R = name_cmp} (children left.marks path ++ (children right.marks path ++ children archive path)) in
-    sorted-apart (entries map) (entries_sorted map)
-
 -- ---- paths below two names of one directory
 
 pub name_alike : (n m : Name) → eq_by_cmp name_cmp n m ≡ eq_by_cmp name_cmp m n
@@ -93,23 +59,15 @@ siblings (x ∷ p) n m h =
 pub prefix-append : (p q : Path) → is_prefix p (p ++ q) ≡ true
 prefix-append p q = ap is_some (strip_prefix-append p q)
 
-or_cases : (a b : Bool) → (a || b) ≡ true → (a ≡ true) ⊎ (b ≡ true)
-or_cases true b e = inl refl
-or_cases false b e = inr e
-
 joined : (p q x : Path) → is_prefix p x ≡ true → is_prefix q x ≡ true → comparable p q ≡ true
 joined p q x h k =
     let one = is_prefix-is p x h in
     let two = is_prefix-is q x k in
     prefixes_comparable p q one.0 two.0 (sym one.1 ∙ two.1)
 
-pub bool_false : (b : Bool) → (b ≡ true → ⊥) → b ≡ false
-bool_false true deny = absurd (deny refl)
-bool_false false deny = refl
-
 -- what is below two paths that are not comparable is not either
 pub apart_below : (p q x y : Path) → comparable p q ≡ false → is_prefix p x ≡ true → is_prefix q y ≡ true → comparable x y ≡ false
-apart_below p q x y h px qy = bool_false (comparable x y) (λ both. elim (or_cases (is_prefix x y) (is_prefix y x) both) as (λ _. ⊥) [
+apart_below p q x y h px qy = false_from_ne_true (comparable x y) (λ both. elim (or_cases (is_prefix x y) (is_prefix y x) both) as (λ _. ⊥) [
   | inl xy ↦ true≢false (sym (joined p q y (prefix_chain p x y px xy) qy) ∙ h)
   | inr yx ↦ true≢false (sym (joined p q x px (prefix_chain q y x qy yx)) ∙ h)
 ])
@@ -357,7 +315,7 @@ path_itself_prefix p = ap (is_prefix p) (sym (append-nil p)) ∙ prefix-append p
 orderly : (earlier later : Item) → StandsBefore earlier later → (path_of earlier ≢ path_of later) × (is_mark_dir earlier ≡ false → comparable (path_of earlier) (path_of later) ≡ false)
 orderly earlier later order = (
   λ same. true≢false (sym (ap (is_prefix (path_of later)) same ∙ path_itself_prefix (path_of later)) ∙ order.not_above),
-  λ other. ap₂ (λ x y. x || y) (bool_false (is_prefix (path_of earlier) (path_of later)) (λ e. true≢false (sym (ap is_mark_dir (order.below_directory e)) ∙ other))) order.not_above,
+  λ other. ap₂ (λ x y. x || y) (false_from_ne_true (is_prefix (path_of earlier) (path_of later)) (λ e. true≢false (sym (ap is_mark_dir (order.below_directory e)) ∙ other))) order.not_above,
 )
 
 pub plan_is_orderly : PlanIsOrderly

@@ -4,6 +4,7 @@ use native.Mathlib.Omega.{arith}
 use Rattle.std.specs.Ordering.{eq_by_cmp}
 use Rattle.std.specs.List.{list_any}
 use Rattle.std.specs.FinMap.{get}
+use Rattle.std.proofs.lemmas.Bool.{false_from_ne_true}
 use Rattle.std.proofs.lemmas.List.Sums.{fold-append}
 use Rattle.sha2.specs.Sha256.{sha256}
 use Rattle.syn_model.specs.Path.{Path, Name, Bytes, name_cmp, root, child, strip_prefix}
@@ -23,7 +24,8 @@ use Rattle.syn_model.proofs.QuietLemmas.{directory_of_mark, nothing_below}
 use Rattle.syn_model.proofs.DirectoryLemmas.{root_content, same_content_at, moved-directory, below_name, from_names, none_of, not_there, absent_below, mark_none}
 use Rattle.syn_model.proofs.CarryLemmas.{SameAt, SameContent, same_itself, same-then, same-deeper, untouched, beside_items}
 use Rattle.syn_model.proofs.DecisionLemmas.{left_dirty, right_dirty, by_decision, clean_below, clean_nothing, nothing_relevant, IsShallow, shallow_below}
-use Rattle.syn_model.proofs.PlanOrder.{Apart, names_apart, decision-fits, items-at, prefix-append, siblings, every-weaker, bool_false, below, items-below, name_alike}
+use Rattle.syn_model.proofs.PlanNames.{Apart, names_apart}
+use Rattle.syn_model.proofs.PlanOrder.{decision-fits, items-at, prefix-append, siblings, every-weaker, below, items-below, name_alike}
 
 -- Marks of files that are apart
 
@@ -300,7 +302,7 @@ module _ (a b o : Tree) (left_parents : HasParents a) (right_parents : HasParent
             (moved-good a b o (carried_out s' (items_below levels p names)) s' (child p m) (beside_names s' levels p names m distinct.0) done)
         | false ↦ λ _ among. each_name levels p one names distinct.1 s' (λ k there.
             same-then s' s (start a b o) (child p k)
-            (beside_one s levels p m k (bool_false (eq_by_cmp name_cmp m k) (λ e. true≢false (sym there ∙ (ap (λ w. list_any (eq_by_cmp name_cmp w) names) (sym (same_name m k e)) ∙ distinct.0)))))
+            (beside_one s levels p m k (false_from_ne_true (eq_by_cmp name_cmp m k) (λ e. true≢false (sym there ∙ (ap (λ w. list_any (eq_by_cmp name_cmp w) names) (sym (same_name m k e)) ∙ distinct.0)))))
             (same k (or_true (eq_by_cmp name_cmp k m) (list_any (eq_by_cmp name_cmp k) names) there))) n among
       ] refl h)
 
