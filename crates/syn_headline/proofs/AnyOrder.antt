@@ -30,7 +30,7 @@ goes_on_at_directory false false c d false true g p x h = cc
 goes_on_at_directory false false c d false false true p x h = cc
 goes_on_at_directory false false c d false false false p x h = cc
 
-pub not_below : (l r : Scan) (o : Tree) (x : Item) → IsDecidedAt l r o x → is_mark_dir x ≡ false → GoesOn (decision l r o (path_of x)) → ⊥
+pub not_below : (l r : Scan) (o : Tree) (x : Item) → IsDecidedAt (decision l r o) x → is_mark_dir x ≡ false → GoesOn (decision l r o (path_of x)) → ⊥
 not_below l r o x d file on = elim d.decided as (λ _. ⊥) [
   | inl e ↦ subst GoesOn e on
   | inr e ↦
@@ -41,8 +41,8 @@ not_below l r o x d file on = elim d.decided as (λ _. ⊥) [
 pub plan_stands_alone : (l r : Scan) (o : Tree) → StandAlone (plan l r o)
 plan_stands_alone l r o x y rest in_x in_y file at = alone rest at
   where
-    decided : (z : Item) → Contains (plan l r o) z → IsDecidedAt l r o z
-    decided z c = All-contains (IsDecidedAt l r o) (plan l r o) z (plan_is_decided l r o) c
+    decided : (z : Item) → Contains (plan l r o) z → IsDecidedAt (decision l r o) z
+    decided z c = All-contains (IsDecidedAt (decision l r o)) (plan l r o) z (plan_is_decided l r o) c
 
     alone : (rest : Path) → path_of y ≡ path_of x ++ rest → x ≡ y
     alone [] e = same_item (decision l r o (path_of x)) x y (decided x in_x).decided

@@ -136,7 +136,7 @@ parent-child a n = parent-append a n [] ∙ append-nil a
 
 -- an item of a plan is what is decided at its path, with what the scans have there
 pub record IsPlannedFrom (scan : Which → Scan) (since : Which → Path → ℕ) (archive : Tree) (planned : Planned) : Type 0 where
-  pub reached : IsReached (scan Left) (scan Right) archive (path_of planned.item)
+  pub reached : IsReached (decision (scan Left) (scan Right) archive) (path_of planned.item)
   pub decided : IsDecided (decision (scan Left) (scan Right) archive (path_of planned.item)) planned.item
   pub seen : SeesBoth scan since planned
 
@@ -147,7 +147,7 @@ found_item items plan item planned same e =
 
 pub planned_is : (sent : Sent) (session : ℕ) (found : Tree) (plan : List Planned) (is : IsPlanOf sent session found plan) (item : ℕ) (planned : Planned) → slice_get plan item ≡ Some planned → IsPlannedFrom is.scan is.since found planned
 planned_is sent session found plan is item planned e =
-    let decided = All-contains (IsDecidedAt (is.scan Left) (is.scan Right) found) (items_of (is.scan Left) (is.scan Right) found) planned.item (plan_is_decided (is.scan Left) (is.scan Right) found) (found_item _ plan item planned is.items e) in
+    let decided = All-contains (IsDecidedAt (decision (is.scan Left) (is.scan Right) found)) (items_of (is.scan Left) (is.scan Right) found) planned.item (plan_is_decided (is.scan Left) (is.scan Right) found) (found_item _ plan item planned is.items e) in
     record {
       reached = decided.reached;
       decided = decided.decided;

@@ -1,5 +1,5 @@
 -- What a complete session leaves and reports, where no user's event came since it began.
-use Rattle.std.proofs.Common.{◌≡◌, ℕ, zero, suc, Bool, true, false, ◌&&◌, List, [], ◌∷◌, ◌++◌, map, filter_map, length, refl, sym, ap, ◌∙◌, subst, Some, None, true≢false, arith, inl, inr, ◌⊎◌}
+use Rattle.std.proofs.Common.{◌≡◌, ℕ, zero, suc, Bool, true, false, ◌&&◌, List, [], ◌∷◌, ◌++◌, map, filter_map, length, refl, sym, ap, ◌∙◌, subst, Some, None, true≢false, arith, inl, inr}
 use Rattle.std.specs.Prelude.{Contains, All, Any, ◌↔◌}
 use Rattle.std.specs.List.{cons_option, count_by}
 use Rattle.std.proofs.lemmas.List.Elements.{All-contains, All-weaker}
@@ -11,7 +11,7 @@ use Rattle.syn_model.specs.Event.{Began}
 use Rattle.syn_model.specs.History.{History, IsHistory, tree_of}
 use Rattle.syn_model.specs.Archive.{Archive, Kept, Session, archive_of}
 use Rattle.syn_model.specs.Decision.{Item, ToLeft, ToRight, MarkSame, MarkDir, Conflict}
-use Rattle.syn_model.specs.Plan.{is_mark_dir, HasDepth, most_names, CanBePlanned, carried_out, IsReconciled, IsConflict}
+use Rattle.syn_model.specs.Plan.{is_mark_dir, HasDepth, most_names, CanBePlanned, Trees, carried_out, after_plan, IsSynchronized, IsReconciled, IsConflict}
 use Rattle.syn_headline.specs.Network.{Which, Left, Right, Sent}
 use Rattle.syn_headline.specs.Planning.{Planned}
 use Rattle.syn_headline.specs.Report.{Report, Counts, is_kept, IsSettled, is_carrying, is_marking, conflict_at}
@@ -21,7 +21,7 @@ use Rattle.syn_headline.proofs.Invariant.{Plans, Histories, IsSound}
 use Rattle.syn_model.proofs.PathLemmas.{some_same, none_some}
 use Rattle.syn_model.proofs.FitsLemmas.{history_fits, replica_depth}
 use Rattle.syn_model.proofs.HistoryLemmas.{history-is_tree}
-use Rattle.syn_model.proofs.ResultLemmas.{plan_reconciles}
+use Rattle.syn_model.proofs.ResultLemmas.{plan_synchronizes, plan_reconciles}
 use Rattle.syn_model.proofs.PlanCover.{conflicts_are_planned}
 use Rattle.syn_headline.proofs.MoveLemmas.{all_front}
 use Rattle.syn_headline.proofs.WorldLemmas.{archive-append}
@@ -135,13 +135,19 @@ module _ (before : Archive) (whole : IsTree before.marks) (shallow : HasDepth mo
   archive_plannable : CanBePlanned found.marks
   archive_plannable = record { parents = found_tree.part.parents; depth = all_kept_depth before h.earlier shallow parts.0 }
 
-  -- the trees and the archive are a synchronization of what was found
-  pub reconciled : AreApart (λ tree. (tree ≡ tree_of (first Left)) ⊎ (tree ≡ tree_of (first Right))) →
-      IsReconciled (tree_of (first Left)) (tree_of (first Right)) found.marks (record { left = tree_of (histories Left); right = tree_of (histories Right); archive = (archive_of before kept).marks })
-  reconciled apart =
-      subst (λ a. IsReconciled (tree_of (first Left)) (tree_of (first Right)) found.marks (record { left = tree_of (histories Left); right = tree_of (histories Right); archive = a.marks })) final_archive
-      (subst (IsReconciled (tree_of (first Left)) (tree_of (first Right)) found.marks) (sym trees_are)
-      (plan_reconciles (tree_of (first Left)) (tree_of (first Right)) found.marks (plannable Left) (plannable Right) archive_plannable apart))
+  abbrev pub found_trees : Trees
+  found_trees = record { left = tree_of (first Left); right = tree_of (first Right); archive = found.marks }
+
+  left_trees : after_plan found_trees ≡ record { left = tree_of (histories Left); right = tree_of (histories Right); archive = (archive_of before kept).marks }
+  left_trees = sym trees_are ∙ ap (λ a. record { left = tree_of (histories Left); right = tree_of (histories Right); archive = a.marks }) final_archive
+
+  -- the trees are a synchronization of what was found
+  pub synchronized : AreApart (tree_of (first Left)) (tree_of (first Right)) → IsSynchronized found_trees (record { left = tree_of (histories Left); right = tree_of (histories Right); archive = (archive_of before kept).marks })
+  synchronized apart = subst (IsSynchronized found_trees) left_trees (plan_synchronizes found_trees (plannable Left) (plannable Right) archive_plannable apart)
+
+  -- and the archive is that of it
+  pub reconciled : IsReconciled found_trees (record { left = tree_of (histories Left); right = tree_of (histories Right); archive = (archive_of before kept).marks })
+  reconciled = subst (IsReconciled found_trees) left_trees (plan_reconciles found_trees (plannable Left) (plannable Right) archive_plannable)
 
   conflicts_planned : (path : Path) → Contains items_of_plan (Conflict path) ↔ IsConflict (tree_of (first Left)) (tree_of (first Right)) found.marks path
   conflicts_planned path = conflicts_are_planned (tree_of (first Left)) (tree_of (first Right)) found.marks (plannable Left) (plannable Right) archive_plannable path

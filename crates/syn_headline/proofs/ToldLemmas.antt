@@ -1,5 +1,5 @@
 -- What a complete report tells of a session without edits.
-use Rattle.std.proofs.Common.{◌≡◌, ◌≤◌, ◌+◌, ℕ, true, List, [], ◌∷◌, ◌++◌, filter_map, length, take, fold, sym, ap, ◌∙◌, subst, Some, arith, inl, inr, ◌⊎◌}
+use Rattle.std.proofs.Common.{◌≡◌, ◌≤◌, ◌+◌, ℕ, true, List, [], ◌∷◌, ◌++◌, filter_map, length, take, fold, sym, ap, ap₂, ◌∙◌, subst, Some, arith, inl, inr}
 use Rattle.std.specs.Prelude.{Contains, All, ◌↔◌}
 use Rattle.std.proofs.lemmas.List.{take-append-le, length-append}
 use Rattle.std.proofs.lemmas.List.Elements.{All-weaker, Contains-append_cases}
@@ -11,21 +11,21 @@ use Rattle.syn_model.specs.Reconcile.{is_relevant}
 use Rattle.syn_model.specs.Event.{Began}
 use Rattle.syn_model.specs.History.{History, tree_of}
 use Rattle.syn_model.specs.Archive.{Archive, Kept, Session, archive_of}
-use Rattle.syn_model.specs.Plan.{HasDepth, most_names, IsReconciled, IsConflict}
+use Rattle.syn_model.specs.Plan.{HasDepth, most_names, Trees, IsSynchronized, IsReconciled, IsConflict}
 use Rattle.syn_headline.specs.Side.{Reply}
 use Rattle.syn_headline.specs.Network.{Which, Left, Right, Answers}
 use Rattle.syn_headline.specs.Planning.{Planned}
 use Rattle.syn_headline.specs.Acknowledged.{Ack, kept_in, Stores, history_of, stores_after}
 use Rattle.syn_headline.specs.Report.{Report, Complete, Incomplete, Counts, IsSettled, kept_in_session, since_start}
 use Rattle.syn_headline.specs.World.{IsNoItem, RefusesTaken, World, Running, IsExpected, IsOver, IsDueAfter, HasPlan, GoesOnFrom, plan_of, AllCanKeep, CoordinatorGoes, Reports, EndsTaken, EndsUnanswered}
-use Rattle.syn_headline.specs.Headline.{IsNoEdit, BeganAfter, Synchronizes, HasCounts, StandsFor}
+use Rattle.syn_headline.specs.Headline.{IsNoEdit, BeganAfter, trees_of, HasCounts, StandsFor}
 use Rattle.syn_headline.proofs.Invariant.{Plans, histories_of, IsKept}
 use Rattle.syn_headline.proofs.RunLemmas.{Advances}
 use Rattle.syn_headline.proofs.CourseLemmas.{Course, beside, starts, ticks, takes}
 use Rattle.syn_headline.proofs.CompleteLemmas.{IsRecordDue, carried, alike, marked}
 use Rattle.syn_headline.proofs.UnderwayLemmas.{IsQuietPlan, IsUnderway, underway_records, quiet_plan}
 use Rattle.syn_headline.proofs.KeptLemmas.{IsNoSession, since_last}
-use Rattle.syn_headline.proofs.ReportLemmas.{reconciled, conflicts_reported, counts_reported, alike_marked}
+use Rattle.syn_headline.proofs.ReportLemmas.{synchronized, reconciled, conflicts_reported, counts_reported, alike_marked}
 use Rattle.syn_headline.proofs.SoundLemmas.{only_one}
 use Rattle.syn_headline.proofs.WatchLemmas.{all_kept, RunsWell, plan_then, due_then, goes_kept}
 
@@ -33,7 +33,8 @@ use Rattle.syn_headline.proofs.WatchLemmas.{all_kept, RunsWell, plan_then, due_t
 abbrev pub IsWorth : Stores → List Ack → Report → List Kept → Type 0
 IsWorth before acks report earlier = (found : Stores) → found.archive ≡ archive_of before.archive earlier →
     BeganAfter report.session found.left (stores_after before acks).left → BeganAfter report.session found.right (stores_after before acks).right →
-    (AreApart (λ tree. (tree ≡ tree_of found.left) ⊎ (tree ≡ tree_of found.right)) → Synchronizes found (stores_after before acks))
+    (AreApart (tree_of found.left) (tree_of found.right) → IsSynchronized (trees_of found) (trees_of (stores_after before acks)))
+    × IsReconciled (trees_of found) (trees_of (stores_after before acks))
     × ((path : Path) → Contains report.conflicts path ↔ IsConflict (tree_of found.left) (tree_of found.right) found.archive.marks path)
     × ((path : Path) → is_relevant (tree_of found.left) (tree_of found.right) path ≡ true → subtree (tree_of found.left) path ≡ subtree (tree_of found.right) path → subtree (stores_after before acks).archive.marks path ≡ mark (subtree (tree_of found.left) path))
     × HasCounts found report
@@ -105,13 +106,21 @@ module _ (before : Stores) (whole : IsTree before.archive.marks) (shallow : HasD
       abbrev found_archive : Archive
       found_archive = archive_of before.archive planned.earlier
 
-      synchronizes : AreApart (λ tree. (tree ≡ tree_of found.left) ⊎ (tree ≡ tree_of found.right)) → Synchronizes (record { left = found.left; right = found.right; archive = found_archive }) (stores_after before new.acknowledged)
-      synchronizes apart =
-          let done = reconciled before.archive whole shallow plans (histories_of old) old.coordinator.archive old.sent k.sound (all_kept new) can r.session plan after quiet_made report settled_then (ends.complete complete).1 (ends.conflicts (ends.complete complete).0)
-          (history_of found) later split quiet apart in
-          let there = subst (λ h. IsReconciled (tree_of found.left) (tree_of found.right) found_archive.marks (record { left = tree_of (stores_after before new.acknowledged).left; right = tree_of h; archive = (archive_of before.archive (all_kept new)).marks })) (history_then Right)
-          (subst (λ h. IsReconciled (tree_of found.left) (tree_of found.right) found_archive.marks (record { left = tree_of h; right = tree_of (histories_of old Right); archive = (archive_of before.archive (all_kept new)).marks })) (history_then Left) done) in
-          record { trees = there.sides; archive = there.marks }
+      abbrev found_trees : Trees
+      found_trees = record { left = tree_of found.left; right = tree_of found.right; archive = found_archive.marks }
+
+      trees_then : record { left = tree_of (histories_of old Left); right = tree_of (histories_of old Right); archive = (archive_of before.archive (all_kept new)).marks } ≡ trees_of (stores_after before new.acknowledged)
+      trees_then = ap₂ (λ h k. record { left = tree_of h; right = tree_of k; archive = (archive_of before.archive (all_kept new)).marks }) (history_then Left) (history_then Right)
+
+      synchronizes : AreApart (tree_of found.left) (tree_of found.right) → IsSynchronized found_trees (trees_of (stores_after before new.acknowledged))
+      synchronizes apart = subst (IsSynchronized found_trees) trees_then
+          (synchronized before.archive whole shallow plans (histories_of old) old.coordinator.archive old.sent k.sound (all_kept new) can r.session plan after quiet_made report settled_then (ends.complete complete).1 (ends.conflicts (ends.complete complete).0)
+          (history_of found) later split quiet apart)
+
+      reconciles : IsReconciled found_trees (trees_of (stores_after before new.acknowledged))
+      reconciles = subst (IsReconciled found_trees) trees_then
+          (reconciled before.archive whole shallow plans (histories_of old) old.coordinator.archive old.sent k.sound (all_kept new) can r.session plan after quiet_made report settled_then (ends.complete complete).1 (ends.conflicts (ends.complete complete).0)
+          (history_of found) later split quiet)
 
       has_conflicts : (path : Path) → Contains report.conflicts path ↔ IsConflict (tree_of found.left) (tree_of found.right) found_archive.marks path
       has_conflicts = conflicts_reported before.archive whole shallow plans (histories_of old) old.coordinator.archive old.sent k.sound (all_kept new) can r.session plan after quiet_made report settled_then (ends.complete complete).1 (ends.conflicts (ends.complete complete).0)
@@ -129,7 +138,8 @@ module _ (before : Stores) (whole : IsTree before.archive.marks) (shallow : HasD
     is_worth found archive_is left right =
         let l = subst (λ s. BeganAfter s found.left (stores_after before new.acknowledged).left) ends.session_is left in
         let h = subst (λ s. BeganAfter s found.right (stores_after before new.acknowledged).right) ends.session_is right in (
-          λ apart. subst (λ a. Synchronizes (record { left = found.left; right = found.right; archive = a }) (stores_after before new.acknowledged)) (sym archive_is) (synchronizes found l h apart),
+          λ apart. subst (λ a. IsSynchronized (record { left = tree_of found.left; right = tree_of found.right; archive = a.marks }) (trees_of (stores_after before new.acknowledged))) (sym archive_is) (synchronizes found l h apart),
+          subst (λ a. IsReconciled (record { left = tree_of found.left; right = tree_of found.right; archive = a.marks }) (trees_of (stores_after before new.acknowledged))) (sym archive_is) (reconciles found l h),
           subst (λ a. (path : Path) → Contains report.conflicts path ↔ IsConflict (tree_of found.left) (tree_of found.right) a.marks path) (sym archive_is) (has_conflicts found l h),
           has_marked found l h,
           subst (λ a. HasCounts (record { left = found.left; right = found.right; archive = a }) report) (sym archive_is) (has_counts found l h),

@@ -6,10 +6,8 @@ use Rattle.syn_model.specs.Event.{Token, is_same_token, Event, Edited, Began, Re
 use Rattle.syn_model.specs.History.{History, IsHistory, tree_of, tree_at, last_session}
 use Rattle.syn_model.specs.Mark.{mark, AreApart}
 use Rattle.syn_model.specs.Archive.{Archive, new_archive, Session, BothHeld}
-use Rattle.syn_model.specs.Dirty.{Paths, dirty}
 use Rattle.std.specs.List.{count_by}
-use Rattle.syn_model.specs.Plan.{plan, scan_of, IsConflict}
-use Rattle.syn_model.specs.Reconcile.{IsSynchronization, IsReconciledArchive}
+use Rattle.syn_model.specs.Plan.{plan, scan_of, Trees, IsSynchronized, IsReconciled, IsConflict}
 use Rattle.syn_headline.specs.Network.{Which, Left, Right, other, AsksNothingTwice}
 use Rattle.syn_headline.specs.Acknowledged.{Ack, Happened, Kept_by, Stores, history_of, stores_after, Grown, ArchiveGrown, IsLegal}
 use Rattle.syn_headline.specs.Report.{Report, Complete, is_carrying, is_marking}
@@ -80,23 +78,19 @@ pub record IsQuietSession (before : Stores) (world : World) (report : Report) (f
   pub archive : found.archive ≡ (stores_after before (take started world.acknowledged)).archive
   pub taken : take (started + 1) world.acknowledged ≡ take started world.acknowledged ++ Kept_by (Session report.session) ∷ []
 
--- what a scan of the whole tree finds dirty
-abbrev pub dirty_in : History → Archive → Paths
-dirty_in history archive = dirty (record { marks = mark (tree_of history); unstable = [] }) archive.marks
+-- the trees of both sides, and the marks of the archive
+abbrev pub trees_of : Stores → Trees
+trees_of stores = record { left = tree_of stores.left; right = tree_of stores.right; archive = stores.archive.marks }
 
--- the trees and the archive that it left are a synchronization of what it found
-pub record Synchronizes (found left : Stores) : Type 0 where
-  pub trees : IsSynchronization (tree_of found.left) (tree_of found.right) (dirty_in found.left found.archive) (dirty_in found.right found.archive) (tree_of left.left) (tree_of left.right)
-  pub archive : IsReconciledArchive (tree_of found.left) (tree_of found.right) (dirty_in found.left found.archive) (dirty_in found.right found.archive) (tree_of left.left) (tree_of left.right) found.archive.marks left.archive.marks
-
--- a tree that a side had at some moment of the run or before it
-abbrev pub IsOfRun : World → Tree → Type 0
-IsOfRun world tree = (side : Which) × (position : ℕ) × (tree ≡ tree_at (side_of world side).side.history position)
-
--- A complete session without edits leaves the synchronization of what it found
+-- A complete session without edits leaves on both sides the synchronization of what it found,
+-- if no two files that it found at one path differ with one digest
 abbrev pub CompleteSessionsSynchronize : Stores → World → Type 0
-CompleteSessionsSynchronize before world =
-    AreApart (IsOfRun world) → (report : Report) (found left : Stores) → IsQuietSession before world report found left → Synchronizes found left
+CompleteSessionsSynchronize before world = (report : Report) (found left : Stores) → IsQuietSession before world report found left →
+    AreApart (tree_of found.left) (tree_of found.right) → IsSynchronized (trees_of found) (trees_of left)
+
+-- And it leaves the archive of that, without this premise
+abbrev pub CompleteSessionsReconcile : Stores → World → Type 0
+CompleteSessionsReconcile before world = (report : Report) (found left : Stores) → IsQuietSession before world report found left → IsReconciled (trees_of found) (trees_of left)
 
 -- Its conflicts are the relevant paths that are dirty on both sides, no directory on both and unequal
 abbrev pub ReportsItsConflicts : Stores → World → Type 0
@@ -144,6 +138,7 @@ pub record Headline (stands : Bytes → History → Type 0) (stands_archive : By
   pub replaced : EachReplacementIsLegal before world
   pub archived : EachEntryWasHeld before world
   pub synchronized : CompleteSessionsSynchronize before world
+  pub reconciled : CompleteSessionsReconcile before world
 
 -- The machines stand for what was there before and then what was acknowledged, in order
 pub record StandsFor (before : Stores) (world : World) : Type 0 where

@@ -3,7 +3,7 @@
 
 ghost use Rattle.syn_headline.specs.Laws.{ServesAllowed, RepeatsAreDone, LaterAreOld};
 ghost use Rattle.syn_headline.specs.Rows.{SideRows};
-ghost use Rattle.syn_headline.specs.Headline.{formatted, IsPair, RunsStand, OfEachRun, EachReplacementIsLegal, EachTokenOnce, EachEntryWasHeld, LeavesPair, Owes, CompleteSessionsSynchronize, ReportsItsConflicts, CountsItsItems, CarriedIsMarked};
+ghost use Rattle.syn_headline.specs.Headline.{formatted, IsPair, RunsStand, OfEachRun, EachReplacementIsLegal, EachTokenOnce, EachEntryWasHeld, LeavesPair, Owes, CompleteSessionsSynchronize, CompleteSessionsReconcile, ReportsItsConflicts, CountsItsItems, CarriedIsMarked};
 
 /// A step of a side leaves its history or adds one allowed event, and answers as the worked examples say.
 pub fn side_laws()
@@ -24,9 +24,10 @@ pub fn run_laws()
     ensures owe { OfEachRun Owes }
 {}
 
-/// In every run a complete session without edits leaves the synchronization of what it found, reports its conflicts, counts its items, and marks what was carried before it.
+/// In every run a complete session without edits leaves the synchronization of what it found and the archive of it, reports its conflicts, counts its items, and marks what was carried before it.
 pub fn session_laws()
     ensures synchronized { OfEachRun CompleteSessionsSynchronize }
+    ensures reconciled { OfEachRun CompleteSessionsReconcile }
     ensures conflicts { OfEachRun ReportsItsConflicts }
     ensures counts { OfEachRun CountsItsItems }
     ensures marked { OfEachRun CarriedIsMarked }

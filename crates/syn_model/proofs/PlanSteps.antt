@@ -11,7 +11,8 @@ use Rattle.syn_model.proofs.TreeLemmas.{same_tree, get-subtree, subtree-replace,
 use Rattle.syn_model.proofs.DirtyLemmas.{prefix_chain}
 use Rattle.syn_model.proofs.HistoryLemmas.{get-at_root}
 use Rattle.syn_model.proofs.PlanOrder.{Ordered, plan_before, prefix-append}
-use Rattle.syn_model.proofs.ResultLemmas.{moved-directory, nothing_in}
+use Rattle.syn_model.proofs.QuietLemmas.{nothing_below}
+use Rattle.syn_model.proofs.DirectoryLemmas.{moved-directory}
 
 -- at the item's path the archive is as it was when the plan was made
 abbrev Finds : Tree → Tree → Item → Type 0
@@ -44,8 +45,8 @@ directory_above archive old p n q parents here there =
           same_tree (subtree new (p ++ n ∷ q)) (subtree archive (p ++ n ∷ q)) (λ r.
           ap (λ t. get t r) (sym (subtree-append new p (n ∷ q)) ∙ ap (λ t. subtree t (n ∷ q)) (subtree-replace old p empty_directory))
           ∙ (get-subtree empty_directory (n ∷ q) r ∙ (get-at_root Directory (n ∷ (q ++ r))
-          ∙ sym (get-subtree archive (p ++ n ∷ q) r ∙ (ap (get archive) (append_assoc p (n ∷ q) r ∙ sym (append_assoc p (n ∷ []) (q ++ r)))
-          ∙ nothing_in archive p parents (sym (moved-directory old archive p here) ∙ is) n (q ++ r))))))
+          ∙ sym (get-subtree archive (p ++ n ∷ q) r ∙ (ap (get archive) (append_assoc p (n ∷ q) r)
+          ∙ nothing_below archive p n (q ++ r) parents (sym (moved-directory old archive p here) ∙ is))))))
     ] refl
 
 finds_after : (archive old new : Tree) (earlier item : Item) → HasParents archive → StandsBefore earlier item → Finds archive old earlier → Finds archive old item → IsRecordedFor earlier old new → Finds archive new item

@@ -1,6 +1,7 @@
 -- What no event touched is as it was, also in what a scan listed.
 use Rattle.std.proofs.Common.{◌≡◌, ◌≤◌, ℕ, zero, suc, Bool, true, false, cond, not, List, [], ◌∷◌, ◌++◌, length, take, drop, fold, filter_map, refl, sym, ap, ◌∙◌, subst, Option, Some, None, option_map, is_some, true≢false, append_assoc, append-nil, arith}
 use Rattle.std.proofs.lemmas.List.{take-append-drop, drop-append-le, take-append-le}
+use Rattle.std.proofs.lemmas.Bool.{not-true}
 use Rattle.std.proofs.Math.Seq.{take-length}
 use Rattle.std.proofs.lemmas.List.Folds.{list_all-append}
 use Rattle.std.specs.List.{list_all, cons_option}
@@ -25,10 +26,6 @@ use Rattle.syn_model.proofs.DirtyLemmas.{both_true}
 abbrev pub none_touches : List Event → Path → Bool
 none_touches events path = list_all (λ event. not (touches event path)) events
 
-pub not_is : (b : Bool) → not b ≡ true → b ≡ false
-not_is true e = absurd (true≢false (sym e))
-not_is false e = refl
-
 event_leaves : (t : Tree) (event : Event) (p : Path) → touches event p ≡ false → subtree (after_event t event) p ≡ subtree t p
 event_leaves t (Edited user (Put path bytes)) p h = subtree-replace_other t path _ p h
 event_leaves t (Edited user (MakeDir path)) p h = subtree-replace_other t path _ p h
@@ -40,7 +37,7 @@ events_leave : (t : Tree) (events : List Event) (p : Path) → none_touches even
 events_leave t [] p h = refl
 events_leave t (event ∷ events) p h =
     let both = both_true (not (touches event p)) (none_touches events p) h in
-    events_leave (after_event t event) events p both.1 ∙ event_leaves t event p (not_is _ both.0)
+    events_leave (after_event t event) events p both.1 ∙ event_leaves t event p (not-true _ both.0)
 
 -- events that do not touch a path leave what is there
 pub untouched_stays : (history : History) (events : List Event) (p : Path) → none_touches events p ≡ true → subtree (tree_of (history ++ events)) p ≡ subtree (tree_of history) p

@@ -1,5 +1,6 @@
 -- The worked examples hold.
-use Rattle.std.proofs.Common.{arith, length, ◌≡◌, ◌≢◌, Bool, true, false, List, [], ◌∷◌, refl, sym, ap, ◌∙◌, Some, None}
+use Rattle.std.proofs.Common.{arith, length, ◌≡◌, ◌≢◌, true, false, List, [], ◌∷◌, refl, sym, ap, ◌∙◌, Some, None}
+use Rattle.std.proofs.lemmas.Bool.{false_from_ne_true}
 use Rattle.std.specs.FinMap.{get, empty, get-empty, entries, put, entries-insert, len-entries, len-empty}
 use Rattle.syn_model.specs.Spelling.{spelling_within}
 use Rattle.syn_model.specs.Path.{Bytes, root, path_cmp}
@@ -11,13 +12,9 @@ use Rattle.syn_model.proofs.TreeLemmas.{subtree-root, within}
 use Rattle.syn_model.proofs.DirtyLemmas.{same_tree_is, tree_itself}
 use Rattle.syn_model.proofs.HistoryLemmas.{get-at_root, no_file, same_file}
 
-false_of : (b : Bool) → (b ≡ true → ⊥) → b ≡ false
-false_of true h = absurd (h refl)
-false_of false h = refl
-
 -- trees with different roots differ
 differ_at_root : (t u : Tree) → get t root ≢ get u root → is_same_tree t u ≡ false
-differ_at_root t u h = false_of (is_same_tree t u) (λ e. h (ap (λ w. get w root) (same_tree_is t u e)))
+differ_at_root t u h = false_from_ne_true (is_same_tree t u) (λ e. h (ap (λ w. get w root) (same_tree_is t u e)))
 
 get-file : (f : Bytes) → get (file f) root ≡ Some (File (contents_of f))
 get-file f = get-at_root (File (contents_of f)) root
@@ -57,10 +54,10 @@ get-file_in : (f : Bytes) → get (file_in f) (a_name ∷ []) ≡ Some (File (co
 get-file_in f = within empty_directory (a_name ∷ []) (file f) (a_name ∷ []) root refl ∙ get-file f
 
 file_in-differs : (f g : Bytes) → f ≢ g → is_same_tree (file_in f) (file_in g) ≡ false
-file_in-differs f g h = false_of _ (λ e. h (same_file (contents_of f) (contents_of g) (some_same (sym (get-file_in f) ∙ (ap (λ w. get w (a_name ∷ [])) (same_tree_is (file_in f) (file_in g) e) ∙ get-file_in g)))))
+file_in-differs f g h = false_from_ne_true _ (λ e. h (same_file (contents_of f) (contents_of g) (some_same (sym (get-file_in f) ∙ (ap (λ w. get w (a_name ∷ [])) (same_tree_is (file_in f) (file_in g) e) ∙ get-file_in g)))))
 
 absent_differs_in : (f : Bytes) → is_same_tree absent (file_in f) ≡ false
-absent_differs_in f = false_of _ (λ e. none_some (sym (get-empty path_cmp (a_name ∷ [])) ∙ (ap (λ w. get w (a_name ∷ [])) (same_tree_is absent (file_in f) e) ∙ get-file_in f)))
+absent_differs_in f = false_from_ne_true _ (λ e. none_some (sym (get-empty path_cmp (a_name ∷ [])) ∙ (ap (λ w. get w (a_name ∷ [])) (same_tree_is absent (file_in f) e) ∙ get-file_in f)))
 
 ruleset parts = (subtree-root, tree_itself, file_differs, absent_differs, directory_differs, directory_there, file-no_directory, directory-is, absent-no_directory)
 

@@ -17,7 +17,7 @@ use Rattle.syn_model.proofs.TreeLemmas.{same_tree, get-subtree}
 use Rattle.syn_model.proofs.SubtreeLemmas.{subtree_smaller, subtree-is_part, subtree-fits}
 use Rattle.syn_model.proofs.DirtyLemmas.{both_true}
 use Rattle.syn_model.proofs.HistoryLemmas.{no_file}
-use Rattle.syn_model.proofs.QuietLemmas.{get-children}
+use Rattle.syn_model.proofs.DirectoryLemmas.{not_child, absent_below}
 
 -- ---- bytes
 
@@ -151,15 +151,8 @@ same_directory t u r s ht hu at_root same =
           not_there t ht n p gone ∙ sym (not_there u hu n p (sym (some_by_name n (children t root) (children u root) same.names) ∙ gone))
     ] refl)
   where
-    none_is : (o : Option Content) → is_some o ≡ false → o ≡ None
-    none_is None e = refl
-    none_is (Some c) e = absurd (true≢false e)
-
     not_there : (w : Tree) → IsPart w → (n : Name) (p : Path) → is_some (find name_cmp n (children w root)) ≡ false → get w (n ∷ p) ≡ None
-    not_there w hw n [] gone = none_is (get w (n ∷ [])) (ap is_some (get-children w root n) ∙ gone)
-    not_there w hw n (m ∷ p) gone =
-        let none = none_is (get w (n ∷ [])) (ap is_some (get-children w root n) ∙ gone) in
-        nothing_below w (n ∷ []) m p hw (λ e. none_some (sym none ∙ e))
+    not_there w hw n p gone = absent_below w (n ∷ []) hw.parents (not_child w root n gone) p
 
 -- ---- spellings
 

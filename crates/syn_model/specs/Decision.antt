@@ -49,6 +49,6 @@ GoesOn (Do item) = ⊥
 GoesOn (DoAndGoOn item) = Unit {0}
 GoesOn GoOn = Unit {0}
 
--- it goes on at each path above
-abbrev pub IsReached : Scan → Scan → Tree → Path → Type 0
-IsReached left right archive path = (above : Path) (name : Name) (rest : Path) → path ≡ above ++ name ∷ rest → GoesOn (decision left right archive above)
+-- by what is decided at each path, it goes on at each above
+abbrev pub IsReached : (Path → Decision) → Path → Type 0
+IsReached decide path = (above : Path) (name : Name) (rest : Path) → path ≡ above ++ name ∷ rest → GoesOn (decide above)
