@@ -48,6 +48,7 @@ of_plan-more sent more session plan to (Replace item path since size) h = (h.0, 
 pub scan_of-more : (sent more : Sent) (side : Which) (session : ℕ) (scan : Scan) (since : Path → ℕ) → IsScanOf sent side session scan since → IsScanOf (sent ++ more) side session scan since
 scan_of-more sent more side session scan since h = record {
   tree = h.tree;
+  fits = h.fits;
   listed = λ path d u. answered-more sent more _ _ _ _ (h.listed path d u);
   ordered = h.ordered;
   not_dir = λ path c. ((h.not_dir path c).0, answered-more sent more _ _ _ _ (h.not_dir path c).1);

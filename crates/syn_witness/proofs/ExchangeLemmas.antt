@@ -48,6 +48,7 @@ none_there path (k, less, e) = omega (arith, less)
 both_scanned : (side : Which) → IsScanOf (take 8 messages) side 1 (scans side) (listed_at side)
 both_scanned Left = record {
   tree = marked_whole (tree_of left_history) 97 (49 ∷ []) letter_a left-entries;
+  fits = fits_archive_by left_scan.marks (with_file 97 (digest (49 ∷ []))) left_marks-entries;
   listed = λ path there stable. subst (λ at. WasAnswered (take 8 messages) Left 1 (ListAt at) (Listed 2 (children left_scan.marks at)))
       (sym (root_only left_scan.marks 97 (sha256 (49 ∷ [])) left_marks-entries path there)) (record { number = 1; asked = (4, omega arith, refl); answered = (6, omega arith, refl) });
   ordered = λ path name there. omega arith;
@@ -56,6 +57,7 @@ both_scanned Left = record {
 }
 both_scanned Right = record {
   tree = marked_whole (tree_of right_history) 98 (50 ∷ []) letter_b right-entries;
+  fits = fits_archive_by right_scan.marks (with_file 98 (digest (50 ∷ []))) right_marks-entries;
   listed = λ path there stable. subst (λ at. WasAnswered (take 8 messages) Right 1 (ListAt at) (Listed 2 (children right_scan.marks at)))
       (sym (root_only right_scan.marks 98 (sha256 (50 ∷ [])) right_marks-entries path there)) (record { number = 1; asked = (5, omega arith, refl); answered = (7, omega arith, refl) });
   ordered = λ path name there. omega arith;

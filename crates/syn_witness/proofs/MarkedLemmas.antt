@@ -179,6 +179,7 @@ have_begun Right = record { pair = 7; position = 3; begun = record { number = 0;
 both_scanned : (side : Which) → IsScanOf (take 22 messages) side 2 (scans side) (listed_at side)
 both_scanned Left = record {
   tree = marked_whole (tree_of left_history) 97 (49 ∷ []) letter_a left-entries;
+  fits = fits_archive_by left_scan.marks (with_file 97 (digest (49 ∷ []))) left_marks-entries;
   listed = λ path there stable. subst (λ at. WasAnswered (take 22 messages) Left 2 (ListAt at) (Listed 3 (children left_scan.marks at)))
       (sym (root_only left_scan.marks 97 (sha256 (49 ∷ [])) left_marks-entries path there)) (record { number = 1; asked = (18, omega arith, refl); answered = (20, omega arith, refl) });
   ordered = λ path name there. omega arith;
@@ -187,6 +188,7 @@ both_scanned Left = record {
 }
 both_scanned Right = record {
   tree = marked_whole (tree_of right_history) 97 (49 ∷ []) letter_a right-entries;
+  fits = fits_archive_by right_scan.marks (with_file 97 (digest (49 ∷ []))) right_marks-entries;
   listed = λ path there stable. subst (λ at. WasAnswered (take 22 messages) Right 2 (ListAt at) (Listed 3 (children right_scan.marks at)))
       (sym (root_only right_scan.marks 97 (sha256 (49 ∷ [])) right_marks-entries path there)) (record { number = 1; asked = (19, omega arith, refl); answered = (21, omega arith, refl) });
   ordered = λ path name there. omega arith;

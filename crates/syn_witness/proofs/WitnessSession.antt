@@ -226,6 +226,7 @@ none_there path (k, less, e) = omega (arith, less)
 left_scanned : IsScanOf (take 8 messages) Left 1 left_scan (listed_at Left)
 left_scanned = record {
   tree = marked_whole (tree_of left_history) 97 (49 ∷ []) letter_a left-entries;
+  fits = fits_archive_by left_scan.marks (with_file 97 (digest (49 ∷ []))) left_marks-entries;
   listed = λ path there stable. subst (λ at. WasAnswered (take 8 messages) Left 1 (ListAt at) (Listed 2 (children left_scan.marks at))) (sym (root_only left_scan.marks 97 (sha256 (49 ∷ [])) left_marks-entries path there))
       (record { number = 1; asked = (4, omega arith, refl); answered = (6, omega arith, refl) });
   ordered = λ path name there. omega arith;
@@ -236,6 +237,7 @@ left_scanned = record {
 right_scanned : IsScanOf (take 8 messages) Right 1 right_scan (listed_at Right)
 right_scanned = record {
   tree = alone_whole right_scan.marks right_marks-entries;
+  fits = fits_archive_by right_scan.marks alone right_marks-entries;
   listed = λ path there stable. subst (λ at. WasAnswered (take 8 messages) Right 1 (ListAt at) (Listed 1 (children right_scan.marks at))) (sym (root_alone right_scan.marks right_marks-entries path there))
       (record { number = 1; asked = (5, omega arith, refl); answered = (7, omega arith, refl) });
   ordered = λ path name there. omega arith;
