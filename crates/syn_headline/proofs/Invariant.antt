@@ -71,7 +71,8 @@ IsBorne plan history from request reply = Unit {0}
 pub record IsSound_request (plans : Plans) (archive : Archive) (sent : Sent) (to : Which) (session : ℕ) (request : Request) : Type 0 where
   pub session_kept : session ≤ archive.last_session
   pub lawful : IsLawfulRequest session request
-  pub by_plan : IsOfPlan sent session (plans session) to request
+  pub pair : ℕ
+  pub by_plan : IsOfPlan pair sent session (plans session) to request
 
 -- where the session of an item is the last that its side began, and nothing touched the path since it was listed,
 -- the archive has there what the side has

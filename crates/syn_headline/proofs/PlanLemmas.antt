@@ -38,12 +38,12 @@ answered-more sent more side session request reply w = record {
 pub begun-more : (sent more : Sent) (side : Which) (session : ℕ) → HasBegun sent side session → HasBegun (sent ++ more) side session
 begun-more sent more side session b = record { pair = b.pair; position = b.position; begun = answered-more sent more _ _ _ _ b.begun }
 
-pub of_plan-more : (sent more : Sent) (session : ℕ) (plan : List Planned) (to : Which) (request : Request) → IsOfPlan sent session plan to request → IsOfPlan (sent ++ more) session plan to request
-of_plan-more sent more session plan to (Begin pair) h = h
-of_plan-more sent more session plan to (ListAt path) h = begun-more sent more to session h
-of_plan-more sent more session plan to (Fetch path since offset) h = h
-of_plan-more sent more session plan to (Stage item offset bytes) h = (h.0, h.1, (h.2.0, answered-more sent more _ _ _ _ h.2.1))
-of_plan-more sent more session plan to (Replace item path since size) h = (h.0, h.1, h.2, h.3, (h.4.0, h.4.1, answered-more sent more _ _ _ _ h.4.2))
+pub of_plan-more : (pair : ℕ) (sent more : Sent) (session : ℕ) (plan : List Planned) (to : Which) (request : Request) → IsOfPlan pair sent session plan to request → IsOfPlan pair (sent ++ more) session plan to request
+of_plan-more pair sent more session plan to (Begin asked) h = h
+of_plan-more pair sent more session plan to (ListAt path) h = begun-more sent more to session h
+of_plan-more pair sent more session plan to (Fetch path since offset) h = h
+of_plan-more pair sent more session plan to (Stage item offset bytes) h = (h.0, h.1, (h.2.0, answered-more sent more _ _ _ _ h.2.1))
+of_plan-more pair sent more session plan to (Replace item path since size) h = (h.0, h.1, h.2, h.3, (h.4.0, h.4.1, answered-more sent more _ _ _ _ h.4.2))
 
 pub scan_of-more : (sent more : Sent) (side : Which) (session : ℕ) (scan : Scan) (since : Path → ℕ) → IsScanOf sent side session scan since → IsScanOf (sent ++ more) side session scan since
 scan_of-more sent more side session scan since h = record {

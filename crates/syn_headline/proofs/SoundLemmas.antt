@@ -189,8 +189,8 @@ sound-more plans histories archive sent more sound numbers repeats asks answers 
   begun = sound.begun;
   numbers = numbers;
   asked = λ to session number request c. elim (Contains-append_cases sent more (Asks to session number request) c) as (λ _. IsSound_request plans archive (sent ++ more) to session request) [
-    | inl old ↦ let r = sound.asked to session number request old in record { session_kept = r.session_kept; lawful = r.lawful; by_plan = of_plan-more sent more session (plans session) to request r.by_plan }
-    | inr new ↦ let r = asks to session number request new in record { session_kept = r.session_kept; lawful = r.lawful; by_plan = of_plan-more sent more session (plans session) to request r.by_plan }
+    | inl old ↦ let r = sound.asked to session number request old in record { session_kept = r.session_kept; lawful = r.lawful; pair = r.pair; by_plan = of_plan-more r.pair sent more session (plans session) to request r.by_plan }
+    | inr new ↦ let r = asks to session number request new in record { session_kept = r.session_kept; lawful = r.lawful; pair = r.pair; by_plan = of_plan-more r.pair sent more session (plans session) to request r.by_plan }
   ];
   known = λ from session number reply c. elim (Contains-append_cases sent more (Answers from session number reply) c) as (λ _. (request : Request) × Contains (sent ++ more) (Asks from session number request)) [
     | inl old ↦ let k = sound.known from session number reply old in (k.0, Contains-append_left sent more _ k.1)
@@ -270,18 +270,18 @@ item-grow old new grows session item planned e = elim (grows session) as (λ _. 
   | inr nothing ↦ absurd (some_in_nothing item planned (ap (λ plan. slice_get plan item) (sym nothing) ∙ e))
 ]
 
-of_plan-grow : (old new : Plans) → PlansGrow old new → (sent : Sent) (session : ℕ) (to : Which) (request : Request) → IsOfPlan sent session (old session) to request → IsOfPlan sent session (new session) to request
-of_plan-grow old new grows sent session to (Begin pair) h = h
-of_plan-grow old new grows sent session to (ListAt path) h = h
-of_plan-grow old new grows sent session to (Fetch path since offset) h = (h.0, h.1, item-grow old new grows session h.0 h.1 h.2, h.3, h.4)
-of_plan-grow old new grows sent session to (Stage item offset bytes) h = (h.0, item-grow old new grows session item h.0 h.1, h.2)
-of_plan-grow old new grows sent session to (Replace item path since size) h = (h.0, item-grow old new grows session item h.0 h.1, h.2, h.3, h.4)
+of_plan-grow : (old new : Plans) → PlansGrow old new → (pair : ℕ) (sent : Sent) (session : ℕ) (to : Which) (request : Request) → IsOfPlan pair sent session (old session) to request → IsOfPlan pair sent session (new session) to request
+of_plan-grow old new grows pair sent session to (Begin asked) h = h
+of_plan-grow old new grows pair sent session to (ListAt path) h = h
+of_plan-grow old new grows pair sent session to (Fetch path since offset) h = (h.0, h.1, item-grow old new grows session h.0 h.1 h.2, h.3, h.4)
+of_plan-grow old new grows pair sent session to (Stage item offset bytes) h = (h.0, item-grow old new grows session item h.0 h.1, h.2)
+of_plan-grow old new grows pair sent session to (Replace item path since size) h = (h.0, item-grow old new grows session item h.0 h.1, h.2, h.3, h.4)
 
 -- nothing was asked for by a plan that was not made
-nothing_borne : (sent : Sent) (session : ℕ) (plan : List Planned) (history : History) (from : Which) (request : Request) (reply : Reply) → IsOfPlan sent session [] from request → IsBorne plan history from request reply
-nothing_borne sent session plan history from (Fetch path since offset) (Piece total bytes) h = absurd (some_in_nothing h.0 h.1 h.2)
-nothing_borne sent session plan history from (Replace item path since size) Done h = absurd (some_in_nothing item h.0 h.1)
-nothing_borne sent session plan history from request reply h = tt
+nothing_borne : (pair : ℕ) (sent : Sent) (session : ℕ) (plan : List Planned) (history : History) (from : Which) (request : Request) (reply : Reply) → IsOfPlan pair sent session [] from request → IsBorne plan history from request reply
+nothing_borne pair sent session plan history from (Fetch path since offset) (Piece total bytes) h = absurd (some_in_nothing h.0 h.1 h.2)
+nothing_borne pair sent session plan history from (Replace item path since size) Done h = absurd (some_in_nothing item h.0 h.1)
+nothing_borne pair sent session plan history from request reply h = tt
 
 pub sound-plan : (plans : Plans) (histories : Histories) (archive : Archive) (sent : Sent) → IsSound plans histories archive sent → (session : ℕ) (plan : List Planned) → plans session ≡ [] → IsPlanOf sent session archive.marks plan → IsFresh histories session →
     IsSound (set_plan plans session plan) histories archive sent
@@ -297,13 +297,14 @@ sound-plan plans histories archive sent sound session plan nothing is fresh = re
   numbers = sound.numbers;
   repeats = sound.repeats;
   asked = λ to n number request c. let r = sound.asked to n number request c in
-      record { session_kept = r.session_kept; lawful = r.lawful; by_plan = of_plan-grow plans (set_plan plans session plan) (set_plan-grows plans session plan nothing) sent n to request r.by_plan };
+      record { session_kept = r.session_kept; lawful = r.lawful; pair = r.pair; by_plan = of_plan-grow plans (set_plan plans session plan) (set_plan-grows plans session plan nothing) r.pair sent n to request r.by_plan };
   known = sound.known;
   answered = sound.answered;
   borne = λ from n number reply request c d. elim (n == session) as (λ b. (n == session) ≡ b → IsBorne (if b then plan else plans n) (histories from) from request reply) [
     | true ↦ λ same.
         let at : n ≡ session = grind (arith, nat_tests) in
-        nothing_borne sent n plan (histories from) from request reply (subst (λ p. IsOfPlan sent n p from request) (ap plans at ∙ nothing) (sound.asked from n number request d).by_plan)
+        let r = sound.asked from n number request d in
+        nothing_borne r.pair sent n plan (histories from) from request reply (subst (λ p. IsOfPlan r.pair sent n p from request) (ap plans at ∙ nothing) r.by_plan)
     | false ↦ λ _. sound.borne from n number reply request c d
   ] refl;
   held = sound.held;
@@ -390,7 +391,7 @@ sound-keep plans histories archive sent sound kept can harmless =
       repeats = sound.repeats;
       asked = λ to session number request c. let r = sound.asked to session number request c in
           let k : session ≤ archive.last_session = r.session_kept in
-          record { session_kept = omega (arith, k, grows); lawful = r.lawful; by_plan = r.by_plan };
+          record { session_kept = omega (arith, k, grows); lawful = r.lawful; pair = r.pair; by_plan = r.by_plan };
       known = sound.known;
       answered = sound.answered;
       borne = sound.borne;

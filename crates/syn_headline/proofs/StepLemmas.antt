@@ -214,27 +214,28 @@ keeps_sound plans histories sent D harm (k ∷ more) archive sound due can =
 nothing_in : {m : Message} → Contains [] m → ⊥
 nothing_in c = omega (arith, c.1)
 
-asks_sound : (plans : Plans) (histories : Histories) (archive : Archive) (sent : Sent) (running : Option Running) (messages : List Message) → IfSome running (λ r. plans r.session ≡ r.plan) → RunsOver (sent ++ messages) archive running →
-    AllOfSession sent running messages → (m : Message) → Contains messages m → IfSome running (λ r. IsOfSession sent r m × (r.session ≡ archive.last_session) × (plans r.session ≡ r.plan)) × ((running ≡ None) → ⊥)
-asks_sound plans histories archive sent None messages has over all m c = absurd (nothing_in (subst (λ ms. Contains ms m) all c))
-asks_sound plans histories archive sent (Some r) messages has over all m c = ((All-contains (IsOfSession sent r) messages m all c, over.0, has), λ e. none_some (sym e))
+asks_sound : (pair : ℕ) (plans : Plans) (histories : Histories) (archive : Archive) (sent : Sent) (running : Option Running) (messages : List Message) → IfSome running (λ r. plans r.session ≡ r.plan) → RunsOver (sent ++ messages) archive running →
+    AllOfSession pair sent running messages → (m : Message) → Contains messages m → IfSome running (λ r. IsOfSession pair sent r m × (r.session ≡ archive.last_session) × (plans r.session ≡ r.plan)) × ((running ≡ None) → ⊥)
+asks_sound pair plans histories archive sent None messages has over all m c = absurd (nothing_in (subst (λ ms. Contains ms m) all c))
+asks_sound pair plans histories archive sent (Some r) messages has over all m c = ((All-contains (IsOfSession pair sent r) messages m all c, over.0, has), λ e. none_some (sym e))
 
-request_of : (plans : Plans) (archive : Archive) (sent : Sent) (running : Option Running) (to : Which) (session number : ℕ) (request : Request) →
-    IfSome running (λ r. IsOfSession sent r (Asks to session number request) × (r.session ≡ archive.last_session) × (plans r.session ≡ r.plan)) → (running ≡ None → ⊥) → IsSound_request plans archive sent to session request
-request_of plans archive sent None to session number request h some = absurd (some refl)
-request_of plans archive sent (Some r) to session number request h some =
+request_of : (pair : ℕ) (plans : Plans) (archive : Archive) (sent : Sent) (running : Option Running) (to : Which) (session number : ℕ) (request : Request) →
+    IfSome running (λ r. IsOfSession pair sent r (Asks to session number request) × (r.session ≡ archive.last_session) × (plans r.session ≡ r.plan)) → (running ≡ None → ⊥) → IsSound_request plans archive sent to session request
+request_of pair plans archive sent None to session number request h some = absurd (some refl)
+request_of pair plans archive sent (Some r) to session number request h some =
     let at : session ≡ r.session = h.0.0 in
     let last : r.session ≡ archive.last_session = h.1 in
     record {
       session_kept = omega (arith, at, last);
       lawful = h.0.1;
-      by_plan = subst (λ n. IsOfPlan sent n (plans n) to request) (sym at) (subst (λ plan. IsOfPlan sent r.session plan to request) (sym h.2) h.0.2);
+      pair = pair;
+      by_plan = subst (λ n. IsOfPlan pair sent n (plans n) to request) (sym at) (subst (λ plan. IsOfPlan pair sent r.session plan to request) (sym h.2) h.0.2);
     }
 
-no_answer : (sent : Sent) (archive : Archive) (plans : Plans) (running : Option Running) (from : Which) (session number : ℕ) (said : Reply) →
-    IfSome running (λ r. IsOfSession sent r (Answers from session number said) × (r.session ≡ archive.last_session) × (plans r.session ≡ r.plan)) → (running ≡ None → ⊥) → ⊥
-no_answer sent archive plans None from session number said h some = some refl
-no_answer sent archive plans (Some r) from session number said h some = h.0
+no_answer : (pair : ℕ) (sent : Sent) (archive : Archive) (plans : Plans) (running : Option Running) (from : Which) (session number : ℕ) (said : Reply) →
+    IfSome running (λ r. IsOfSession pair sent r (Answers from session number said) × (r.session ≡ archive.last_session) × (plans r.session ≡ r.plan)) → (running ≡ None → ⊥) → ⊥
+no_answer pair sent archive plans None from session number said h some = some refl
+no_answer pair sent archive plans (Some r) from session number said h some = h.0
 
 event-later : (plans : Plans) (histories : Histories) (old new : Archive) (side : Which) (event : Event) → old.last_session ≤ new.last_session → IsSoundEvent plans histories old side event → IsSoundEvent plans histories new side event
 event-later plans histories old new side (Edited user edit) later h = tt
@@ -280,10 +281,10 @@ coordinator_keeps plans old D R new sound sides harm g runs =
     let now : IsSound plans (histories_of old) machine.archive old.sent = subst (λ a. IsSound plans (histories_of old) a old.sent) (sym g.keeps.archive) k.0 in
     let later : old.coordinator.archive.last_session ≤ machine.archive.last_session = subst (λ a. old.coordinator.archive.last_session ≤ a.last_session) (sym g.keeps.archive) k.1 in
     let has : IfSome machine.running (λ r. plans r.session ≡ r.plan) = if_some machine.running (λ running. (plans running.session ≡ running.plan) × (running.plan ≡ [] → IsFresh (histories_of old) running.session)) (λ r. plans r.session ≡ r.plan) runs (λ r _ h. h.0) in
-    let sends = asks_sound plans (histories_of old) machine.archive old.sent machine.running g.messages has g.runs_over g.of_session in
+    let sends = asks_sound old.pair plans (histories_of old) machine.archive old.sent machine.running g.messages has g.runs_over g.of_session in
     let sound_then = sound-more plans (histories_of old) machine.archive old.sent g.messages now g.numbers g.repeats
-    (λ to session number request c. let x = sends (Asks to session number request) c in request_of plans machine.archive old.sent machine.running to session number request x.0 x.1)
-    (λ from session number said c. let x = sends (Answers from session number said) c in absurd (no_answer old.sent machine.archive plans machine.running from session number said x.0 x.1)) in
+    (λ to session number request c. let x = sends (Asks to session number request) c in request_of old.pair plans machine.archive old.sent machine.running to session number request x.0 x.1)
+    (λ from session number said c. let x = sends (Answers from session number said) c in absurd (no_answer old.pair old.sent machine.archive plans machine.running from session number said x.0 x.1)) in
     subst (IsKept plans) (sym g.result) (record {
       sound = sound_then;
       sides = λ side. on_both (λ s. IsSoundSide plans (histories_of old) machine.archive s (side_of old s)) side

@@ -179,23 +179,23 @@ pub data TakesRequest (old : World) (which : Which) (session number : ℕ) (requ
 
 -- The coordinator
 
--- a side is listed once it has begun the session, and what else is asked of it is by an item of the plan:
+-- a session begins with the pair's number, a side is listed once it has begun it, and what else is asked of it is by an item of the plan:
 -- a piece of what it is to give, a piece that was fetched, or its replacement, once the length of the whole is known
-abbrev pub IsOfPlan : Sent → ℕ → List Planned → Which → Request → Type 0
-IsOfPlan sent session plan to (Begin pair) = Unit {0}
-IsOfPlan sent session plan to (ListAt path) = HasBegun sent to session
-IsOfPlan sent session plan to (Fetch path since offset) =
+abbrev pub IsOfPlan : ℕ → Sent → ℕ → List Planned → Which → Request → Type 0
+IsOfPlan pair sent session plan to (Begin asked) = asked ≡ pair
+IsOfPlan pair sent session plan to (ListAt path) = HasBegun sent to session
+IsOfPlan pair sent session plan to (Fetch path since offset) =
     (item : ℕ) × (planned : Planned) × (slice_get plan item ≡ Some planned) × WritesTo planned.item (other to) path × (since ≡ (seen_on planned to).since)
-IsOfPlan sent session plan to (Stage item offset bytes) =
+IsOfPlan pair sent session plan to (Stage item offset bytes) =
     (planned : Planned) × (slice_get plan item ≡ Some planned) × IsFetched sent to session planned offset bytes
-IsOfPlan sent session plan to (Replace item path since size) =
+IsOfPlan pair sent session plan to (Replace item path since size) =
     (planned : Planned) × (slice_get plan item ≡ Some planned) × WritesTo planned.item to path × (since ≡ (seen_on planned to).since)
     × IsTotal sent to session planned size
 
 -- a request of the running session
-abbrev pub IsOfSession : Sent → Running → Message → Type 0
-IsOfSession sent running (Asks to session number request) = (session ≡ running.session) × IsLawfulRequest session request × IsOfPlan sent running.session running.plan to request
-IsOfSession sent running (Answers from session number reply) = ⊥
+abbrev pub IsOfSession : ℕ → Sent → Running → Message → Type 0
+IsOfSession pair sent running (Asks to session number request) = (session ≡ running.session) × IsLawfulRequest session request × IsOfPlan pair sent running.session running.plan to request
+IsOfSession pair sent running (Answers from session number reply) = ⊥
 
 -- what may be recorded when an answer is taken: the item whose replacement is done, with the mark of its source, or where both scans agree
 pub data IsDue (running : Running) (plan : List Planned) (from : Which) (number : ℕ) (reply : Reply) : Kept → Type 0 where
@@ -207,9 +207,9 @@ pub data IsDue (running : Running) (plan : List Planned) (from : Which) (number 
   directory : (item : ℕ) (path : Path) (planned : Planned) → slice_get plan item ≡ Some planned → planned.item ≡ MarkDir path →
       IsDue running plan from number reply (RecordedDir path)
 
-abbrev pub AllOfSession : Sent → Option Running → List Message → Type 0
-AllOfSession sent None messages = messages ≡ []
-AllOfSession sent (Some running) messages = All (IsOfSession sent running) messages
+abbrev pub AllOfSession : ℕ → Sent → Option Running → List Message → Type 0
+AllOfSession pair sent None messages = messages ≡ []
+AllOfSession pair sent (Some running) messages = All (IsOfSession pair sent running) messages
 
 -- the plan stays, or there was none and it is made of the scans and the archive as they are
 abbrev pub HasPlan : Sent → Archive → Option Running → List Planned → Type 0
@@ -269,7 +269,7 @@ pub record CoordinatorGoes (old : World) (IsDue_now : Kept → Type 0) (RunsOn :
   pub runs_over : RunsOver (old.sent ++ messages) machine.archive machine.running
   pub numbers : NumbersTell (old.sent ++ messages)
   pub repeats : AsksNothingTwice (old.sent ++ messages)
-  pub of_session : AllOfSession old.sent machine.running messages
+  pub of_session : AllOfSession old.pair old.sent machine.running messages
   pub silent_when_writing : IsSome machine.writing → (messages ≡ []) × (machine.running ≡ None)
   pub silent_when_down : machine.status ≡ Down → (messages ≡ []) × (machine.running ≡ None)
   pub result : new ≡ record old {

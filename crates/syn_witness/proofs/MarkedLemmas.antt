@@ -141,7 +141,7 @@ starts = inr (
       goes opened_again (IsNext begun_archive) (StartsFrom begun_archive) next_archive (Some both_begin) (drop 14 (take 16 messages)) (Session 2 ∷ []) []
           refl (All-cons (IsNext begun_archive) (Session 2) [] refl (All-nil (IsNext begun_archive))) (record { lawful = tt; not_refused = refl }, tt) refl
           (refl, refl, refl) (refl, both_sent (take 16 messages) both_begin ((14, omega arith, refl), tt) ((15, omega arith, refl), tt), (omega arith, omega arith, omega arith)) (tells 16) (once 16)
-          (All-from_recursion (IsOfSession (take 14 messages) both_begin) (drop 14 (take 16 messages)) ((refl, (omega arith, omega arith), tt), ((refl, (omega arith, omega arith), tt), tt))),
+          (All-from_recursion (IsOfSession 7 (take 14 messages) both_begin) (drop 14 (take 16 messages)) ((refl, (omega arith, omega arith), refl), ((refl, (omega arith, omega arith), refl), tt))),
       refl,
       inl refl,
     ),
@@ -214,18 +214,18 @@ plans = record {
 takes_left_begun : Steps both_begun (Deliver 16) right_awaited
 takes_left_begun = takes 2 both_begun Left 0 (Begun 3) [] next_archive (Some right_begins) [] [] [] refl (refl, refl) (inl refl) (λ P. inl (refl, (inl refl, none_refused P))) (All-nil (IsDue both_begin [] Left 0 (Begun 3))) tt refl
     (goes_on right_begins refl refl) refl (refl, both_sent (take 18 messages) right_begins tt ((15, omega arith, refl), tt), (omega arith, omega arith, omega arith)) (tells 18) (once 18)
-    (All-nil (IsOfSession (take 18 messages) right_begins))
+    (All-nil (IsOfSession 7 (take 18 messages) right_begins))
 
 takes_right_begun : Steps right_awaited (Deliver 17) listing
 takes_right_begun = takes 2 right_awaited Right 0 (Begun 3) [] next_archive (Some both_list) (drop 18 (take 20 messages)) [] [] refl (refl, refl) (inl refl) (λ P. inl (refl, (inl refl, none_refused P))) (All-nil (IsDue right_begins [] Right 0 (Begun 3))) tt refl
     (goes_on both_list refl refl) refl (refl, both_sent (take 20 messages) both_list ((18, omega arith, refl), tt) ((19, omega arith, refl), tt), (omega arith, omega arith, omega arith)) (tells 20) (once 20)
-    (All-from_recursion (IsOfSession (take 18 messages) both_list) (drop 18 (take 20 messages)) ((refl, (omega arith, root_lawful), have_begun Left), ((refl, (omega arith, root_lawful), have_begun Right), tt)))
+    (All-from_recursion (IsOfSession 7 (take 18 messages) both_list) (drop 18 (take 20 messages)) ((refl, (omega arith, root_lawful), have_begun Left), ((refl, (omega arith, root_lawful), have_begun Right), tt)))
 
 takes_left_listing : Steps both_listed (Deliver 20) right_list_awaited
 takes_left_listing = takes 2 both_listed Left 1 (Listed 3 (children left_scan.marks root)) [] next_archive (Some right_lists) [] [] [] refl (refl, refl) (inl refl) (λ P. inl (refl, (inl refl, none_refused P)))
     (All-nil (IsDue both_list [] Left 1 (Listed 3 (children left_scan.marks root)))) tt refl
     (goes_on right_lists refl refl) refl (refl, both_sent (take 22 messages) right_lists tt ((19, omega arith, refl), tt), (omega arith, omega arith, omega arith)) (tells 22) (once 22)
-    (All-nil (IsOfSession (take 22 messages) right_lists))
+    (All-nil (IsOfSession 7 (take 22 messages) right_lists))
 
 can_record : CanKeep next_archive (Recorded a_path (mark one))
 can_record =

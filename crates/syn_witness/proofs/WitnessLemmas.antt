@@ -98,10 +98,10 @@ waiting resent = record opened_world {
   acknowledged = Kept_by (Session 1) ∷ [];
 }
 
-begins_lawful : (running : Running) (sent : Sent) → running.session ≡ 1 → All (IsOfSession sent running) (Asks Left 1 0 (Begin 7) ∷ Asks Right 1 0 (Begin 7) ∷ [])
+begins_lawful : (running : Running) (sent : Sent) → running.session ≡ 1 → All (IsOfSession 7 sent running) (Asks Left 1 0 (Begin 7) ∷ Asks Right 1 0 (Begin 7) ∷ [])
 begins_lawful running sent e =
-    let one : IsOfSession sent running (Asks Left 1 0 (Begin 7)) = (sym e, (omega arith, omega arith), tt) in
-    All-cons (IsOfSession sent running) (Asks Left 1 0 (Begin 7)) (Asks Right 1 0 (Begin 7) ∷ []) one (All-cons (IsOfSession sent running) (Asks Right 1 0 (Begin 7)) [] one (All-nil (IsOfSession sent running)))
+    let one : IsOfSession 7 sent running (Asks Left 1 0 (Begin 7)) = (sym e, (omega arith, omega arith), refl) in
+    All-cons (IsOfSession 7 sent running) (Asks Left 1 0 (Begin 7)) (Asks Right 1 0 (Begin 7) ∷ []) one (All-cons (IsOfSession 7 sent running) (Asks Right 1 0 (Begin 7)) [] one (All-nil (IsOfSession 7 sent running)))
 
 starts : Steps opened_world Start (waiting 0)
 unfolding begins

@@ -105,7 +105,7 @@ edits old which user edit machine events new up room allowed writes is =
 -- a call of the coordinator, up before and after
 pub goes : (old : World) (IsDue_now : Kept → Type 0) (RunsOn : Option Running → Type 0) (archive : Archive) (running : Option Running) (messages : List Message) (kept : List Kept) (reports : List (Report × ℕ)) →
     old.coordinator.status ≡ Up → All IsDue_now kept → AllCanKeep old.coordinator.archive kept → archive ≡ archive_of old.coordinator.archive kept →
-    RunsOn running → RunsOver (old.sent ++ messages) archive running → NumbersTell (old.sent ++ messages) → AsksNothingTwice (old.sent ++ messages) → AllOfSession old.sent running messages →
+    RunsOn running → RunsOver (old.sent ++ messages) archive running → NumbersTell (old.sent ++ messages) → AsksNothingTwice (old.sent ++ messages) → AllOfSession old.pair old.sent running messages →
     CoordinatorGoes old IsDue_now RunsOn (after_call old archive running messages kept reports)
 goes old IsDue_now RunsOn archive running messages kept reports up due can is on over tell once of = record {
   machine = record { status = Up; archive = archive; has_room = keeps_all; writing = None; running = running };
@@ -158,7 +158,7 @@ pub takes : (session : ℕ) (old : World) (from : Which) (number : ℕ) (reply :
     ((IsRefused_now : Refusal × Path → Type 0) → Reports old (after_call old archive next messages kept reports) plan IsRefused_now (EndsTaken old (after_call old archive next messages kept reports) from number plan reply)) →
     All (IsDueAfter old.coordinator.running plan from number reply) kept → AllCanKeep old.coordinator.archive kept → archive ≡ archive_of old.coordinator.archive kept →
     GoesOnFrom old.coordinator.running plan next → IsOver from number next → RunsOver (old.sent ++ messages) archive next →
-    NumbersTell (old.sent ++ messages) → AsksNothingTwice (old.sent ++ messages) → AllOfSession old.sent next messages →
+    NumbersTell (old.sent ++ messages) → AsksNothingTwice (old.sent ++ messages) → AllOfSession old.pair old.sent next messages →
     TakesAnswer old from session number reply (after_call old archive next messages kept reports)
 takes session old from number reply plan archive next messages kept reports up expected has ends due can is on over runs tell twice of =
     taken plan expected has (goes old (IsDueAfter old.coordinator.running plan from number reply) (λ running. GoesOnFrom old.coordinator.running plan running × IsOver from number running)
