@@ -10,7 +10,6 @@ pub mod Archive
 pub mod Dirty
 pub mod Reconcile
 pub mod Decision
-pub mod Scan
 pub mod Plan
 pub mod Spelling
 pub mod Image
