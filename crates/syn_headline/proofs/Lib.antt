@@ -30,5 +30,6 @@ pub mod CourseLemmas
 pub mod WatchLemmas
 pub mod ToldLemmas
 pub mod SessionRuns
+pub mod LoggedRuns
 pub mod AlikeLemmas
 pub mod CarriedLemmas

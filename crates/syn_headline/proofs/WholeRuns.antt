@@ -1,6 +1,6 @@
 -- What holds of whole runs.
 use Rattle.std.proofs.Common.{◌≡◌, ◌≤◌, ℕ, List, [], ◌∷◌, ◌++◌, refl, sym, ap, ap₂, ◌∙◌, subst, Option, Some, None, append-nil, arith, inl, inr, ◌⊎◌, ◌≢◌}
-use Rattle.std.specs.Prelude.{All, AllPairs, Contains, IfSome}
+use Rattle.std.specs.Prelude.{Contains, IfSome}
 use Rattle.std.proofs.lemmas.List.Elements.{All-nil, Contains-append_left}
 use Rattle.syn_model.specs.Path.{Path}
 use Rattle.syn_model.specs.Tree.{Tree}
@@ -11,7 +11,7 @@ use Rattle.syn_headline.specs.Network.{Which, Left, Right, Sent, Message}
 use Rattle.syn_headline.specs.Acknowledged.{Ack, Happened, Stores, stores_after, IsLegal}
 use Rattle.syn_headline.specs.Planning.{Log, IsPlanOf}
 use Rattle.syn_headline.specs.World.{Up, World, Running, side_of, Step, Waits, RunsOver, Runs}
-use Rattle.syn_headline.specs.Headline.{stores_of, IsStart, EachReplacementIsLegal, EachTokenOnce, StandsFor, LogsPlans, OfEachRun, Owes}
+use Rattle.syn_headline.specs.Headline.{stores_of, IsStart, EachReplacementIsLegal, EachTokenOnce, StandsFor, OfEachRun, Owes}
 use Rattle.syn_headline.proofs.Invariant.{Plans, histories_of, IsHarmless, IsSoundStaging, IsSoundEvent, IsSoundSide, IsKept}
 use Rattle.syn_model.proofs.PathLemmas.{none_some}
 use Rattle.syn_headline.proofs.PlanLemmas.{answered-more}
@@ -132,12 +132,6 @@ run_kept (step ∷ steps) plans old new k g = let a = step_advances plans old k 
 pub runs_use_tokens_once : OfEachRun EachTokenOnce
 runs_use_tokens_once old new steps s g side earlier later token path since u e =
     token_once (histories_of new side) earlier later token path since u ((run_kept steps no_plans old new (start_kept old s) g).1.sound.lawful side) e
-
--- and log their plans
-pub runs_log : OfEachRun LogsPlans
-runs_log old new steps s g =
-    let k = (run_kept steps no_plans old new (start_kept old s) g).1 in
-    subst (λ log. AllPairs (λ earlier later. earlier.session ≢ later.session) log × All (IsPlanOf new.sent) log) (sym k.logged) (k.sound.once, k.sound.planned)
 
 -- and what a session owes
 pub runs_owe : OfEachRun Owes

@@ -1,5 +1,5 @@
 -- What is proved of whole runs.
-use Rattle.std.specs.Prelude.{ℕ, true, ◌≡◌, ◌≢◌, ◌≤◌, ◌↔◌, ◌+◌, drop, false, List, [], ◌∷◌, ◌++◌, take, None, All, AllPairs, Contains, IfSome}
+use Rattle.std.specs.Prelude.{ℕ, true, ◌≡◌, ◌≢◌, ◌≤◌, ◌↔◌, ◌+◌, drop, false, List, [], ◌∷◌, ◌++◌, length, take, None, All, AllPairs, Contains, IfSome}
 use Rattle.syn_model.specs.Path.{Bytes, Path, parent}
 use Rattle.syn_model.specs.Tree.{Tree, IsTree, subtree, is_directory}
 use Rattle.syn_model.specs.Event.{Token, is_same_token, Event, Edited, Began, Replaced, touches}
@@ -160,9 +160,14 @@ RunsStand = (before : Stores) (old new : World) (steps : List Step) → Runs old
 abbrev pub formatted : Stores
 formatted = record { left = []; right = []; archive = new_archive }
 
--- Each session makes one plan at most, and that is of its scans and archive
+-- the archive had these marks at some moment of the run
+abbrev pub HadArchive : Stores → World → Tree → Type 0
+HadArchive before world marks = (acks : ℕ) × (acks ≤ length world.acknowledged) × (marks ≡ (stores_after before (take acks world.acknowledged)).archive.marks)
+
+-- Each session makes one plan at most, and that is of its scans and the archive at some moment
 abbrev pub LogsPlans : Stores → World → Type 0
-LogsPlans before world = AllPairs (λ earlier later. earlier.session ≢ later.session) world.log × All (IsPlanOf world.sent) world.log
+LogsPlans before world =
+    AllPairs (λ earlier later. earlier.session ≢ later.session) world.log × All (λ made. IsPlanOf world.sent made × HadArchive before world made.archive) world.log
 
 -- what holds of every run from a world that has just been opened, with stops of any machine and failing devices
 abbrev pub OfEachRun : (Stores → World → Type 0) → Type 0

@@ -1,6 +1,7 @@
 use Rattle.syn_headline.proofs.WorldLemmas.{run_stands}
 use Rattle.syn_headline.proofs.FormattedLemmas.{formatted_is_pair}
-use Rattle.syn_headline.proofs.WholeRuns.{runs_replace_legally, runs_use_tokens_once, runs_owe, runs_log}
+use Rattle.syn_headline.proofs.WholeRuns.{runs_replace_legally, runs_use_tokens_once, runs_owe}
+use Rattle.syn_headline.proofs.LoggedRuns.{runs_log}
 use Rattle.syn_headline.proofs.ArchiveLemmas.{runs_hold_archive, runs_leave_pair}
 use Rattle.syn_headline.proofs.run_laws.Goals as goal
 
