@@ -5,10 +5,10 @@ use Rattle.std.specs.FinMap.{get}
 use Rattle.std.proofs.lemmas.List.Elements.{All-contains}
 use Rattle.syn_model.specs.Path.{Path, strip_prefix}
 use Rattle.syn_model.specs.Tree.{Tree, Directory, subtree, replace}
-use Rattle.syn_model.specs.Dirty.{Scan, dirty, is_same_tree}
+use Rattle.syn_model.specs.Dirty.{Scan, dirty, is_same_tree, is_unstable}
 use Rattle.syn_model.specs.Reconcile.{is_directory_in_both}
 use Rattle.syn_model.specs.Tree.{is_directory}
-use Rattle.syn_model.specs.Decision.{Item, MarkDir, Do, DoAndGoOn, GoesOn, decision, is_unstable, path_of}
+use Rattle.syn_model.specs.Decision.{Item, MarkDir, Do, DoAndGoOn, GoesOn, decision, path_of}
 use Rattle.syn_model.specs.Plan.{plan, IsDecided as IsDecidedAt, is_mark_dir}
 use Rattle.syn_model.proofs.PathLemmas.{strip_prefix-append, strip_prefix-is}
 use Rattle.syn_model.proofs.TreeLemmas.{get-subtree, same_tree, within, beside}

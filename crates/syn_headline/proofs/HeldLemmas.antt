@@ -5,8 +5,7 @@ use Rattle.syn_model.specs.Path.{Name, Path, name_cmp, child}
 use Rattle.syn_model.specs.Tree.{Content, is_directory, is_directory_content}
 use Rattle.syn_model.specs.Limits.{children}
 use Rattle.syn_model.specs.Mark.{mark, mark_of}
-use Rattle.syn_model.specs.Dirty.{Scan}
-use Rattle.syn_model.specs.Decision.{is_unstable}
+use Rattle.syn_model.specs.Dirty.{Scan, is_unstable}
 use Rattle.syn_model.specs.History.{tree_at}
 use Rattle.syn_model.specs.Archive.{Archive, Held}
 use Rattle.syn_headline.specs.Side.{ListAt, Listed}

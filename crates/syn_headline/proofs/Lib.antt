@@ -1,4 +1,5 @@
 pub mod Invariant
+mod LogLemmas
 pub mod RowLemmas
 pub mod WorldLemmas
 pub mod SideLemmas
@@ -29,5 +30,6 @@ pub mod CourseLemmas
 pub mod WatchLemmas
 pub mod ToldLemmas
 pub mod SessionRuns
+pub mod LoggedRuns
 pub mod AlikeLemmas
 pub mod CarriedLemmas

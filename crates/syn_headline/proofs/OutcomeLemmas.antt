@@ -1,5 +1,5 @@
 -- What a side answers to a request, case by case.
-use Rattle.std.proofs.Common.{◌≡◌, ◌<◌, ◌^◌, ◌≤◌, ℕ, Bool, true, false, not, ◌||◌, ◌&&◌, ◌==◌, nat_lt, nat_le, [], ◌∷◌, ◌++◌, length, take, drop, bytes_eq, if◌then◌else◌, refl, sym, subst, Option, Some, None, true≢false, inl, inr, arith, ◌+◌}
+use Rattle.std.proofs.Common.{◌≡◌, ◌≢◌, ◌<◌, ◌^◌, ◌≤◌, ℕ, Bool, true, false, not, ◌||◌, ◌&&◌, ◌==◌, nat_lt, nat_le, [], ◌∷◌, List, ◌++◌, length, take, drop, bytes_eq, if◌then◌else◌, refl, sym, ap, ◌∙◌, subst, Option, Some, None, true≢false, inl, inr, arith, ◌+◌}
 use Rattle.std.specs.Option.{option_map_or}
 use Rattle.std.proofs.lemmas.Bool.Decides.{nat_tests}
 use Rattle.syn_model.specs.Path.{Path, Bytes, IsPath}
@@ -129,3 +129,22 @@ pub any_outcome : (status : Status) (pair : ℕ) (has_room : Event → Bool) (si
 any_outcome Up pair has_room side session request served lawful s = outcome pair has_room side session request served lawful s
 any_outcome Halted pair has_room side session request served lawful s = subst (Outcome side session request) (sym s) (halted_outcome side session request)
 any_outcome Down pair has_room side session request served lawful s = absurd s
+
+-- a side that is not up adds no event
+stage_same : (side : Side) (session item offset : ℕ) (bytes : List ℕ) (served : Served) → Outcome side session (Stage item offset bytes) served → served.side.history ≡ side.history
+stage_same side session item offset bytes _ (refuses _ reason) = refl
+stage_same side session item offset bytes _ (stages_first _ _ _ z) = refl
+stage_same side session item offset bytes _ (stages_more _ _ _ staging s t at) = refl
+stage_same side session item offset bytes _ (stages_again _ _ _) = refl
+
+halted_same : (side : Side) (session : ℕ) (request : Request) → (serve_halted side session request).side.history ≡ side.history
+halted_same side session (Begin pair) = refl
+halted_same side session (ListAt path) = refl
+halted_same side session (Fetch path since offset) = refl
+halted_same side session (Stage item offset bytes) = stage_same side session item offset bytes _ (halted_outcome side session (Stage item offset bytes))
+halted_same side session (Replace item path since size) = refl
+
+pub unless_up_same : (status : Status) → status ≢ Up → (pair : ℕ) (has_room : Event → Bool) (side : Side) (session : ℕ) (request : Request) (served : Served) → ServesAs status pair has_room side session request served → served.side.history ≡ side.history
+unless_up_same Up h pair has_room side session request served s = absurd (h refl)
+unless_up_same Halted h pair has_room side session request served s = ap (λ x. x.side.history) s ∙ halted_same side session request
+unless_up_same Down h pair has_room side session request served s = absurd s

@@ -10,8 +10,7 @@ use Rattle.syn_model.specs.Path.{Name, Path, child}
 use Rattle.syn_model.specs.Tree.{Tree, HasParents, is_directory, is_directory_content}
 use Rattle.syn_model.specs.Limits.{children}
 use Rattle.syn_model.specs.Mark.{mark, mark_of}
-use Rattle.syn_model.specs.Dirty.{Scan}
-use Rattle.syn_model.specs.Decision.{is_unstable}
+use Rattle.syn_model.specs.Dirty.{Scan, is_unstable}
 use Rattle.syn_model.specs.Plan.{scan_of}
 use Rattle.syn_model.specs.Event.{Event, Edited, Began, Replaced}
 use Rattle.syn_model.specs.History.{History, IsHistory, AllAllowed, tree_of, tree_at, is_quiet, last_session}

@@ -13,7 +13,7 @@ use Rattle.syn_model.specs.Archive.{Archive, Kept, Session, archive_of}
 use Rattle.syn_model.specs.Decision.{Item, ToLeft, ToRight, MarkSame, MarkDir, Conflict}
 use Rattle.syn_model.specs.Plan.{is_mark_dir, HasDepth, most_names, CanBePlanned, Trees, carried_out, after_plan, IsSynchronized, IsReconciled, IsConflict}
 use Rattle.syn_headline.specs.Network.{Which, Left, Right, Sent}
-use Rattle.syn_headline.specs.Planning.{Planned}
+use Rattle.syn_headline.specs.Planning.{Planned, Log}
 use Rattle.syn_headline.specs.Report.{Report, Counts, is_kept, IsSettled, is_carrying, is_marking, conflict_at}
 use Rattle.syn_headline.specs.World.{AllCanKeep}
 use Rattle.syn_headline.specs.Headline.{IsNoEdit, HasCounts}
@@ -86,8 +86,8 @@ settled_kept of_kind unlike kept report (MarkDir path) none (inl is) on = is
 settled_kept of_kind unlike kept report (MarkDir path) none (inr refused) on = absurd (none_refused report path none refused)
 settled_kept of_kind unlike kept report (Conflict path) none settled on = absurd (true≢false (sym on ∙ unlike path))
 
-module _ (before : Archive) (whole : IsTree before.marks) (shallow : HasDepth most_names before.marks) (plans : Plans) (histories : Histories) (archive : Archive) (sent : Sent) (sound : IsSound plans histories archive sent)
-    (kept : List Kept) (can : AllCanKeep before kept) (session : ℕ) (plan : List Planned) (h : IsUnderway before histories sent kept session plan) (made : IsQuietPlan sent histories session (archive_of before h.earlier).marks plan)
+module _ (log : Log) (before : Archive) (whole : IsTree before.marks) (shallow : HasDepth most_names before.marks) (plans : Plans) (histories : Histories) (archive : Archive) (sent : Sent) (sound : IsSound plans histories archive sent)
+    (kept : List Kept) (can : AllCanKeep before kept) (session : ℕ) (plan : List Planned) (h : IsUnderway log before histories sent kept session plan) (made : IsQuietPlan sent histories session (archive_of before h.earlier).marks plan)
     (report : Report) (settled : All (λ planned. IsSettled h.records report planned.item) plan) (none : report.refused ≡ []) (conflicts : report.conflicts ≡ filter_map (λ planned. conflict_at planned.item) plan)
     (first later : Which → History) (split : (side : Which) → histories side ≡ first side ++ Began session ∷ later side) (quiet : (side : Which) → All IsNoEdit (later side)) where
   abbrev pub found : Archive
@@ -106,14 +106,14 @@ module _ (before : Archive) (whole : IsTree before.marks) (shallow : HasDepth mo
   final_archive : archive_of begun h.records ≡ archive_of before kept
   final_archive = sym (ap (archive_of before) h.kept_is ∙ archive-append before h.earlier (Session session ∷ h.records))
 
-  shown : (side : Which) → ShowsTree (made.is.scan side) (made.is.since side) (first side)
+  shown : (side : Which) → ShowsTree (made.scans.scan side) (made.scans.since side) (first side)
   shown side = made.shows side (first side) (later side) (split side) (quiet side)
 
   abbrev items_of_plan : List Item
-  items_of_plan = items first later found.marks found_tree.part.parents sent session plan made.is histories split shown
+  items_of_plan = items first later found.marks found_tree.part.parents sent session made.scans plan made.is histories split shown
 
   plan_is : map (λ planned. planned.item) plan ≡ items_of_plan
-  plan_is = items_are first later found.marks found_tree.part.parents sent session plan made.is histories split shown
+  plan_is = items_are first later found.marks found_tree.part.parents sent session made.scans plan made.is histories split shown
 
   item_settled : (x : Item) → Contains items_of_plan x → IsSettled h.records report x
   item_settled x c =
@@ -121,7 +121,7 @@ module _ (before : Archive) (whole : IsTree before.marks) (shallow : HasDepth mo
       subst (IsSettled h.records report) p.2 (All-contains (λ planned. IsSettled h.records report planned.item) plan p.0 settled p.1)
 
   trees_are : record { left = tree_of (histories Left); right = tree_of (histories Right); archive = (archive_of begun h.records).marks } ≡ carried_out (record { left = tree_of (first Left); right = tree_of (first Right); archive = found.marks }) items_of_plan
-  trees_are = complete_carries_out first later found.marks found_tree.part.parents sent session plan made.is histories split shown
+  trees_are = complete_carries_out first later found.marks found_tree.part.parents sent session made.scans plan made.is histories split shown
       (λ side. h.events side (first side) (later side) (split side)) quiet h.records h.due begun refl found_tree parts.1.1
       (λ x c on. kept_any h.records x on (settled_kept is_recorded (λ p. refl) h.records report x none (item_settled x c) on))
       (λ p c. kept_directory h.records p (settled_kept is_mark_dir (λ p. refl) h.records report (MarkDir p) none (item_settled (MarkDir p) c) refl))

@@ -10,6 +10,7 @@ use Rattle.syn_headline.specs.Report.{Report}
 use Rattle.syn_headline.specs.Side.{Request, Reply, Refused}
 use Rattle.syn_model.specs.Refusal.{Refusal, Device, Cause}
 use Rattle.syn_model.specs.Refusal as why
+use Rattle.syn_headline.specs.Planning.{Log}
 use Rattle.syn_headline.specs.World.{Running, World, SideMachine, CoordinatorMachine, Machine, At, Coordinator, Step, Edits, Start, Deliver, Tick, Checkpoint, Fail, Stop, Open, Reopen, side_of, set_side, stopped, Writes, SideGoes, Opens, OpensArchive, TakesRequest, TakesAnswer, CoordinatorGoes, Delivers, OpensMachine, cut_off, halted, Steps, written, failed, cut, opened, recovered, archive_opened, archive_recovered, refuses_with, edit_causes, start_causes, Starts, Reopens, Calls, answered, request_failed, request_cut, side_down, taken, ignored, coordinator_down}
 use Rattle.syn_headline.specs.Headline.{StandsFor, RunsStand}
 
@@ -102,17 +103,17 @@ side_steps : (before : Stores) (old : World) (which : Which) (Goes : SideMachine
 side_steps before old which Goes new h s g = side_goes before old which g.0 g.1 [] new s (h g.0 g.1 g.2) g.3
 
 -- the coordinator goes on by what it keeps
-coordinator_goes : (before : Stores) (old : World) (machine : CoordinatorMachine) (ks : List Kept) (sent : List Message) (reports : List (Report × ℕ)) (new : World) → StandsFor before old →
+coordinator_goes : (before : Stores) (old : World) (machine : CoordinatorMachine) (ks : List Kept) (sent : List Message) (reports : List (Report × ℕ)) (log : Log) (new : World) → StandsFor before old →
     machine.archive ≡ archive_of old.coordinator.archive ks →
-    new ≡ record old { coordinator = machine; sent = sent; acknowledged = old.acknowledged ++ map Kept_by ks; reports = reports } → StandsFor before new
-coordinator_goes before old machine ks sent reports new s h e = subst (StandsFor before) (sym e) (record {
+    new ≡ record old { coordinator = machine; sent = sent; acknowledged = old.acknowledged ++ map Kept_by ks; reports = reports; log = log } → StandsFor before new
+coordinator_goes before old machine ks sent reports log new s h e = subst (StandsFor before) (sym e) (record {
   left = stays before.left Left old.acknowledged (map Kept_by ks) old.left.side.history s.left (event_kept Left ks);
   right = stays before.right Right old.acknowledged (map Kept_by ks) old.right.side.history s.right (event_kept Right ks);
   archive = archive_goes before.archive old.acknowledged (map Kept_by ks) old.coordinator.archive machine.archive ks s.archive (kept_kept ks) h;
 })
 
-coordinator_steps : (before : Stores) (old : World) (IsDue_now : Kept → Type 0) (RunsOn : Option Running → Type 0) (new : World) → StandsFor before old → CoordinatorGoes old IsDue_now RunsOn new → StandsFor before new
-coordinator_steps before old IsDue_now RunsOn new s g = coordinator_goes before old g.machine g.kept (old.sent ++ g.messages) (old.reports ++ g.reports) new s g.keeps.archive g.result
+coordinator_steps : (before : Stores) (old : World) (logged : Log) (IsDue_now : Kept → Type 0) (RunsOn : Option Running → Type 0) (new : World) → StandsFor before old → CoordinatorGoes old logged IsDue_now RunsOn new → StandsFor before new
+coordinator_steps before old logged IsDue_now RunsOn new s g = coordinator_goes before old g.machine g.kept (old.sent ++ g.messages) (old.reports ++ g.reports) (old.log ++ logged) new s g.keeps.archive g.result
 
 same_world : (before : Stores) (old new : World) → StandsFor before old → new ≡ old → StandsFor before new
 same_world before old new s e = subst (StandsFor before) (sym e) s
@@ -130,7 +131,7 @@ takes_request before old which session number request new s (request_cut c) = si
 takes_request before old which session number request new s (side_down d e) = same_world before old new s e
 
 takes_answer : (before : Stores) (old : World) (from : Which) (session number : ℕ) (reply : Reply) (new : World) → StandsFor before old → TakesAnswer old from session number reply new → StandsFor before new
-takes_answer before old from session number reply new s (taken plan x made g reports) = coordinator_steps before old _ _ new s g
+takes_answer before old from session number reply new s (taken plan logged x made g reports) = coordinator_steps before old logged _ _ new s g
 takes_answer before old from session number reply new s (ignored x e) = same_world before old new s e
 takes_answer before old from session number reply new s (coordinator_down d e) = same_world before old new s e
 
@@ -153,7 +154,7 @@ halt_stands before old Coordinator s = record { left = s.left; right = s.right; 
 
 opens_machine : (before : Stores) (old : World) (machine : Machine) (new : World) → StandsFor before old → OpensMachine old machine new → StandsFor before new
 opens_machine before old (At which) new s g = side_steps before old which (Opens (side_of old which)) new (opens_history (side_of old which)) s g
-opens_machine before old Coordinator new s g = coordinator_goes before old g.0 g.1 old.sent old.reports new s (opens_archive old.coordinator g.0 g.1 g.2) g.3
+opens_machine before old Coordinator new s g = coordinator_goes before old g.0 g.1 old.sent old.reports old.log new s (opens_archive old.coordinator g.0 g.1 g.2) g.3
 
 reopens : (before : Stores) (old : World) (machine : Machine) (new : World) → StandsFor before old → Reopens old machine new → StandsFor before new
 reopens before old machine new s (inl g) = opens_machine before old machine new s g
@@ -168,10 +169,10 @@ calls before old machine causes Made new s made (inr (up, inr (none, g))) = made
 pub step_stands : (before : Stores) (old : World) (step : Step) (new : World) → StandsFor before old → Steps old step new → StandsFor before new
 step_stands before old (Edits side user edit) new s g =
     calls before old (At side) (edit_causes (side_of old side) (Edited user edit)) (IsLawfulEvent (Edited user edit) × SideGoes old side (Writes (side_of old side) (Edited user edit)) [] new) new s (λ h. side_steps before old side (Writes (side_of old side) (Edited user edit)) new (writes_history (side_of old side) (Edited user edit)) s h.1) g
-step_stands before old Start new s g = calls before old Coordinator (start_causes old.coordinator) (Starts old new) new s (λ h. coordinator_steps before old _ _ new s h.0) g
+step_stands before old Start new s g = calls before old Coordinator (start_causes old.coordinator) (Starts old new) new s (λ h. coordinator_steps before old [] _ _ new s h.0) g
 step_stands before old (Deliver message) new s g = delivers before old (slice_get old.sent message) new s g
 step_stands before old Tick new s (inl g) = same_world before old new s g.1
-step_stands before old Tick new s (inr g) = coordinator_steps before old _ _ new s g.1.goes
+step_stands before old Tick new s (inr g) = coordinator_steps before old [] _ _ new s g.1.goes
 step_stands before old (Checkpoint machine) new s (full, g) = calls before old machine ((full, why.Full) ∷ []) (Reopens old machine new) new s (reopens before old machine new s) g
 step_stands before old (Fail machine call) new s e = same_world before old new s e
 step_stands before old (Stop machine zero) new s (inl g) = same_world before old new s g.1

@@ -1,5 +1,5 @@
 -- What is proved of whole runs.
-use Rattle.std.specs.Prelude.{ℕ, true, ◌≡◌, ◌≤◌, ◌↔◌, ◌+◌, drop, false, List, [], ◌∷◌, ◌++◌, take, None, All, Contains, IfSome}
+use Rattle.std.specs.Prelude.{ℕ, true, ◌≡◌, ◌≢◌, ◌≤◌, ◌↔◌, ◌+◌, drop, false, List, [], ◌∷◌, ◌++◌, length, take, None, All, AllPairs, Contains, IfSome}
 use Rattle.syn_model.specs.Path.{Bytes, Path, parent}
 use Rattle.syn_model.specs.Tree.{Tree, IsTree, subtree, is_directory}
 use Rattle.syn_model.specs.Event.{Token, is_same_token, Event, Edited, Began, Replaced, touches}
@@ -10,6 +10,7 @@ use Rattle.std.specs.List.{count_by}
 use Rattle.syn_model.specs.Plan.{plan, scan_of, Trees, IsSynchronized, IsReconciled, IsConflict}
 use Rattle.syn_headline.specs.Network.{Which, Left, Right, other, AsksNothingTwice}
 use Rattle.syn_headline.specs.Acknowledged.{Ack, Happened, Kept_by, Stores, history_of, stores_after, Grown, ArchiveGrown, IsLegal}
+use Rattle.syn_headline.specs.Planning.{IsPlanOf}
 use Rattle.syn_headline.specs.Report.{Report, Complete, is_carrying, is_marking}
 use Rattle.syn_headline.specs.World.{World, Step, Runs, Up, Waits, side_of}
 
@@ -31,7 +32,7 @@ pub record IsStart (world : World) : Type 0 where
   pub left : (world.left.status ≡ Up) × (world.left.side.staging ≡ None) × (world.left.writing ≡ None)
   pub right : (world.right.status ≡ Up) × (world.right.side.staging ≡ None) × (world.right.writing ≡ None)
   pub coordinator : (world.coordinator.status ≡ Up) × (world.coordinator.running ≡ None) × (world.coordinator.writing ≡ None)
-  pub nothing_yet : (world.sent ≡ []) × (world.acknowledged ≡ []) × (world.reports ≡ [])
+  pub nothing_yet : (world.sent ≡ []) × (world.acknowledged ≡ []) × (world.reports ≡ []) × (world.log ≡ [])
 
 -- Opening what any stop leaves: the acknowledged events in order, with at most the one being written.
 -- `stands` says what a disk's bytes stand for, and `leaves` which bytes a stop may then leave
@@ -42,12 +43,12 @@ pub record OpensToAcknowledged (stands : Bytes → History → Type 0) (stands_a
   pub archive : (bytes : Bytes) → leaves_archive bytes →
       (archive : Archive) × stands_archive bytes archive × ArchiveGrown world.coordinator.writing (stores_after before world.acknowledged).archive archive
 
--- Each replacement of the run puts what the other side held over what the archive recorded, untouched since its listing
+-- Each replacement of the run is of its session's plan, and puts what the other side held over what the archive recorded, untouched since its listing
 abbrev pub EachReplacementIsLegal : Stores → World → Type 0
 EachReplacementIsLegal before world =
     (earlier later : List Ack) (side : Which) (token : Token) (path : Path) (since : ℕ) (new : Tree) →
     world.acknowledged ≡ earlier ++ Happened side (Replaced token path since new) ∷ later →
-    IsLegal world.sent side (stores_after before earlier) token path since new
+    IsLegal world.sent world.log side (stores_after before earlier) token path since new
 
 -- Each archive entry was held by both sides, whatever an opening then gives
 abbrev pub EachEntryWasHeld : Stores → World → Type 0
@@ -153,6 +154,15 @@ RunsStand = (before : Stores) (old new : World) (steps : List Step) → Runs old
 -- three disks that were just formatted
 abbrev pub formatted : Stores
 formatted = record { left = []; right = []; archive = new_archive }
+
+-- the archive had these marks at some moment of the run
+abbrev pub HadArchive : Stores → World → Tree → Type 0
+HadArchive before world marks = (acks : ℕ) × (acks ≤ length world.acknowledged) × (marks ≡ (stores_after before (take acks world.acknowledged)).archive.marks)
+
+-- Each session makes one plan at most, and that is of its scans and the archive at some moment
+abbrev pub LogsPlans : Stores → World → Type 0
+LogsPlans before world =
+    AllPairs (λ earlier later. earlier.session ≢ later.session) world.log × All (λ made. IsPlanOf world.sent made × HadArchive before world made.archive) world.log
 
 -- what holds of every run from a world that has just been opened, with stops of any machine and failing devices
 abbrev pub OfEachRun : (Stores → World → Type 0) → Type 0

@@ -9,10 +9,10 @@ use Rattle.std.proofs.lemmas.List.Elements.{All-from_recursion, All-weaker}
 use Rattle.std.proofs.lemmas.List.Kept.{AllPairs-cons}
 use Rattle.syn_model.specs.Path.{Path, Name, name_cmp, root, is_root, child, is_prefix, strip_prefix, comparable}
 use Rattle.syn_model.specs.Tree.{Tree, is_directory}
-use Rattle.syn_model.specs.Dirty.{Scan, dirty, is_same_tree}
+use Rattle.syn_model.specs.Dirty.{Scan, dirty, is_same_tree, is_unstable}
 use Rattle.syn_model.specs.Tree.{subtree}
 use Rattle.syn_model.specs.Reconcile.{is_directory_in_both}
-use Rattle.syn_model.specs.Decision.{Item, ToLeft, ToRight, MarkSame, MarkDir, Conflict, Decision, Clean, Do, DoAndGoOn, GoOn, decision, is_unstable, path_of, GoesOn, IsReached}
+use Rattle.syn_model.specs.Decision.{Item, ToLeft, ToRight, MarkSame, MarkDir, Conflict, Decision, Clean, Do, DoAndGoOn, GoOn, decision, path_of, GoesOn, IsReached}
 use Rattle.syn_model.specs.Plan.{names_below, with_items_below, items_from, plan, most_names, StandsBefore, IsDecided, OverwritesClean, PlanIsInOrder, PlanIsDecided, PlanOverwritesClean, is_mark_dir, PlanIsOrderly}
 use Rattle.syn_model.proofs.PathLemmas.{first_or, rest_of, name_total, name_itself, prefixes_comparable, is_prefix-is, strip_prefix-append}
 use Rattle.syn_model.proofs.DirtyLemmas.{prefix_chain, both_false}

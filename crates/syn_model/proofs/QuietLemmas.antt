@@ -14,8 +14,7 @@ use Rattle.syn_model.specs.Limits.{children, only_name}
 use Rattle.syn_model.specs.Event.{Event, Edited, Began, Replaced, Put, MakeDir, Remove, after_event, touches}
 use Rattle.syn_model.specs.History.{History, tree_of, tree_at, is_quiet}
 use Rattle.syn_model.specs.Mark.{mark, mark_of}
-use Rattle.syn_model.specs.Dirty.{Scan}
-use Rattle.syn_model.specs.Decision.{is_unstable}
+use Rattle.syn_model.specs.Dirty.{Scan, is_unstable}
 use Rattle.syn_model.proofs.PathLemmas.{eq-under, then_rest}
 use Rattle.syn_model.proofs.TreeLemmas.{subtree-replace_other, get-subtree, same_tree}
 use Rattle.syn_model.proofs.HistoryLemmas.{tree_of-append}

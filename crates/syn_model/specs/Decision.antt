@@ -1,9 +1,8 @@
 -- What a session decides at a path, by what the two scans and the archive have there.
-use Rattle.std.specs.Prelude.{◌≡◌, Bool, not, ◌&&◌, ◌||◌, if◌then◌else◌, ◌∷◌, ◌++◌}
-use Rattle.std.specs.List.{list_any}
-use Rattle.syn_model.specs.Path.{Path, Name, is_prefix}
+use Rattle.std.specs.Prelude.{◌≡◌, not, ◌||◌, if◌then◌else◌, ◌∷◌, ◌++◌}
+use Rattle.syn_model.specs.Path.{Path, Name}
 use Rattle.syn_model.specs.Tree.{Tree, subtree, is_directory}
-use Rattle.syn_model.specs.Dirty.{Scan, dirty, is_same_tree}
+use Rattle.syn_model.specs.Dirty.{Scan, is_unstable, dirty, is_same_tree}
 use Rattle.syn_model.specs.Reconcile.{is_directory_in_both}
 
 pub data Item : Type 0 where
@@ -19,10 +18,6 @@ pub data Decision : Type 0 where
   Do : (item : Item) → Decision
   DoAndGoOn : (item : Item) → Decision
   GoOn : Decision
-
--- the path is unstable itself
-abbrev pub is_unstable : Scan → Path → Bool
-is_unstable scan path = list_any (λ other. is_prefix path other && is_prefix other path) scan.unstable
 
 abbrev pub decision : Scan → Scan → Tree → Path → Decision
 decision left right archive path =

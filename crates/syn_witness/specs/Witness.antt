@@ -34,6 +34,7 @@ opened_world = record {
   acknowledged = [];
   refusals = [];
   reports = [];
+  log = [];
 }
 
 abbrev pub OpenedIsStart : Type 0
