@@ -1,5 +1,5 @@
--- Without a stop among the steps no machine goes down.
-use Rattle.std.proofs.Common.{◌≡◌, ◌≢◌, ◌-◌, ℕ, suc, Bool, true, false, if◌then◌else◌, List, [], ◌∷◌, refl, sym, ap, ◌∙◌, subst, Option, Some, None, arith, inl, inr, slice_get}
+-- Without a stop among the steps no machine goes down, and a device call that is armed comes.
+use Rattle.std.proofs.Common.{◌≡◌, ◌≢◌, ◌-◌, ℕ, suc, Bool, true, false, if◌then◌else◌, List, [], ◌∷◌, ◌++◌, append-nil, map, refl, sym, ap, ◌∙◌, subst, Option, Some, None, arith, inl, inr, slice_get}
 use Rattle.std.specs.Prelude.{All}
 use Rattle.std.proofs.lemmas.List.Elements.{All-head, All-tail}
 use Rattle.syn_model.specs.Refusal.{Refusal, Device, Cause}
@@ -8,9 +8,10 @@ use Rattle.syn_model.specs.Event.{Event, Edited, IsLawfulEvent}
 use Rattle.syn_model.specs.Archive.{Kept}
 use Rattle.syn_headline.specs.Side.{Request, Reply}
 use Rattle.syn_headline.specs.Network.{Which, Left, Right, Message, Asks, Answers}
-use Rattle.syn_headline.specs.Arms.{Arms, Meets, all_made, one_fails, one_stops}
+use Rattle.syn_headline.specs.Arms.{Arms, IsBefore, Meets, all_made, one_fails, one_stops}
 use Rattle.syn_headline.specs.World.{Status, Up, Halted, Down, Machine, At, Coordinator, World, SideMachine, CoordinatorMachine, Running, side_of, set_side, Step, Edits, Start, Deliver, Tick, Checkpoint, Fail, Stop, Open, Reopen, Writes, written, failed, cut, SideGoes, Opens, opened, recovered, OpensArchive, archive_opened, archive_recovered, TakesRequest, answered, request_failed, request_cut, side_down, CoordinatorGoes, TakesAnswer, taken, ignored, coordinator_down, Delivers, OpensMachine, refuses_with, is_halted, status_of, arms_of, set_device, answered_by, UnlessDown, edit_causes, start_causes, Starts, Reopens, Calls, Steps, Runs}
-use Rattle.syn_headline.specs.Headline.{IsStart, IsNoStop, StaysWithoutStop}
+use Rattle.syn_headline.specs.Acknowledged.{Happened}
+use Rattle.syn_headline.specs.Headline.{IsStart, IsNoStop, StaysWithoutStop, ArmedCallsCome}
 
 -- a machine that is not down and has no stop to come
 abbrev IsSafe : Status → Arms → Type 0
@@ -24,6 +25,9 @@ none_left stop calls e = omega (arith, e)
 
 up_not_down : Up ≢ Down
 up_not_down e = cc
+
+down_not_up : Down ≢ Up
+down_not_up e = cc
 
 halted_not_down : Halted ≢ Down
 halted_not_down e = cc
@@ -159,3 +163,30 @@ start_safe world s Coordinator = (λ down. up_not_down (sym s.coordinator.0 ∙ 
 
 pub stay_without_stop : StaysWithoutStop
 stay_without_stop old new steps s g none machine = (run_safe steps old new (start_safe old s) none g machine).0
+
+-- What is armed within the calls of an edit
+
+passed : (arms : Arms) (status : Status) (after : Arms) → Meets arms 4 0 status after → status ≡ Up → IsBefore 4 arms.fail × IsBefore 4 arms.stop
+passed arms _ _ (all_made fail stop) e = (fail, stop)
+passed arms _ _ (one_fails made from up_to fail stop) e = absurd (omega (arith, from, up_to))
+passed arms _ _ (one_stops made from up_to fail stop) e = absurd (down_not_up e)
+
+answered_acknowledged : (machine : Machine) (made : World) → (answered_by machine made).acknowledged ≡ made.acknowledged
+answered_acknowledged machine made = told (is_halted (status_of made machine))
+  where
+    told : (b : Bool) → (if b then refuses_with made Device else made).acknowledged ≡ made.acknowledged
+    told true = refl
+    told false = refl
+
+unwritten : (old : World) (side : Which) (event : Event) → (IsBefore 4 (side_of old side).arms.fail × IsBefore 4 (side_of old side).arms.stop → ⊥) →
+    (machine : SideMachine) (events : List Event) → Writes (side_of old side) event machine events → events ≡ []
+unwritten old side event armed _ _ (written room arms meets) = absurd (armed (passed (side_of old side).arms Up arms meets refl))
+unwritten old side event armed _ _ (failed arms meets) = refl
+unwritten old side event armed _ _ (cut meets) = refl
+
+pub armed_calls_come : ArmedCallsCome
+armed_calls_come old new side user edit armed (inl (down, e)) = ap (λ w. w.acknowledged) e
+armed_calls_come old new side user edit armed (inr (up, inl (reason, first, e))) = ap (λ w. w.acknowledged) e
+armed_calls_come old new side user edit armed (inr (up, inr (none, made, (lawful, (machine, events, writes, is)), e))) =
+    ap (λ w. w.acknowledged) e ∙ (answered_acknowledged (At side) made ∙ (ap (λ w. w.acknowledged) is
+    ∙ (ap (λ es. old.acknowledged ++ map (λ event. Happened side event) es) (unwritten old side (Edited user edit) armed machine events writes) ∙ append-nil old.acknowledged)))

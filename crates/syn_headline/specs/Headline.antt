@@ -2,7 +2,7 @@
 use Rattle.std.specs.Prelude.{ℕ, true, ◌≡◌, ◌≢◌, ◌≤◌, ◌↔◌, ◌+◌, drop, false, List, [], ◌∷◌, ◌++◌, take, None, All, Contains, IfSome}
 use Rattle.syn_model.specs.Path.{Bytes, Path, parent}
 use Rattle.syn_model.specs.Tree.{Tree, IsTree, subtree, is_directory}
-use Rattle.syn_model.specs.Event.{Token, is_same_token, Event, Edited, Began, Replaced, touches}
+use Rattle.syn_model.specs.Event.{Token, is_same_token, Edit, Event, Edited, Began, Replaced, touches}
 use Rattle.syn_model.specs.History.{History, IsHistory, tree_of, tree_at, last_session}
 use Rattle.syn_model.specs.Mark.{mark, AreApart}
 use Rattle.syn_model.specs.Archive.{Archive, new_archive, Session, BothHeld}
@@ -13,8 +13,8 @@ use Rattle.syn_model.specs.Reconcile.{IsSynchronization, IsReconciledArchive}
 use Rattle.syn_headline.specs.Network.{Which, Left, Right, other, AsksNothingTwice}
 use Rattle.syn_headline.specs.Acknowledged.{Ack, Happened, Kept_by, Stores, history_of, stores_after, Grown, ArchiveGrown, IsLegal}
 use Rattle.syn_headline.specs.Report.{Report, Complete, is_carrying, is_marking}
-use Rattle.syn_headline.specs.Arms.{unarmed}
-use Rattle.syn_headline.specs.World.{World, Machine, Step, Stop, Runs, Up, Down, Waits, side_of, status_of}
+use Rattle.syn_headline.specs.Arms.{unarmed, IsBefore}
+use Rattle.syn_headline.specs.World.{World, Machine, Step, Edits, Stop, Steps, Runs, Up, Down, Waits, side_of, status_of}
 
 abbrev pub stores_of : World → Stores
 stores_of world = record { left = world.left.side.history; right = world.right.side.history; archive = world.coordinator.archive }
@@ -182,3 +182,8 @@ IsNoStop _ = Unit {0}
 -- a machine goes down only by a stop
 abbrev pub StaysWithoutStop : Type 0
 StaysWithoutStop = (old new : World) (steps : List Step) → IsStart old → Runs old steps new → All IsNoStop steps → (machine : Machine) → status_of new machine ≢ Down
+
+-- an edit is not acknowledged where one of its four device calls is armed
+abbrev pub ArmedCallsCome : Type 0
+ArmedCallsCome = (old new : World) (side : Which) (user : ℕ) (edit : Edit) → let arms = (side_of old side).arms in
+    (IsBefore 4 arms.fail × IsBefore 4 arms.stop → ⊥) → Steps old (Edits side user edit) new → new.acknowledged ≡ old.acknowledged

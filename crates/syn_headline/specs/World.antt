@@ -112,10 +112,7 @@ pub data Writes (machine : SideMachine) (event : Event) : SideMachine → List E
 abbrev pub SideGoes : World → Which → (SideMachine → List Event → Type 0) → List Message → World → Type 0
 SideGoes old which Goes messages new =
     (machine : SideMachine) × (events : List Event) × Goes machine events
-    × (new ≡ record (set_side old which machine) {
-      sent = old.sent ++ messages;
-      acknowledged = old.acknowledged ++ map (λ event. Happened which event) events;
-    })
+    × (new ≡ record (set_side old which machine) { sent = old.sent ++ messages; acknowledged = old.acknowledged ++ map (λ event. Happened which event) events })
 
 -- an opening by so many device calls gives the history, or it and the event that was being written
 pub data Opens (machine : SideMachine) (calls : ℕ) : SideMachine → List Event → Type 0 where
@@ -144,10 +141,7 @@ pub record AnswersRequest (pair : ℕ) (old : World) (which : Which) (session nu
   pub same_room : events ≡ [] → room ≡ (side_of old which).has_room
   pub added : served.side.history ≡ (side_of old which).side.history ++ events
   pub meets : Meets (side_of old which).arms (4 * length events) 0 Up arms
-  pub result : new ≡ record (set_side old which (record (side_of old which) { side = served.side; has_room = room; arms = arms })) {
-    sent = old.sent ++ Answers which session number served.reply ∷ [];
-    acknowledged = old.acknowledged ++ map (λ event. Happened which event) events;
-  }
+  pub result : new ≡ record (set_side old which (record (side_of old which) { side = served.side; has_room = room; arms = arms })) { sent = old.sent ++ Answers which session number served.reply ∷ []; acknowledged = old.acknowledged ++ map (λ event. Happened which event) events }
 
 -- the event that a request adds to a side that is up, where no device fails and the side does not stop
 pub record WouldAdd (pair : ℕ) (machine : SideMachine) (session : ℕ) (request : Request) (event : Event) : Type 0 where
