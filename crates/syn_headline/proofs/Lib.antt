@@ -14,6 +14,8 @@ pub mod MoveLemmas
 pub mod StepLemmas
 pub mod TokenLemmas
 pub mod RunLemmas
+pub mod AdvanceLemmas
+pub mod StopLemmas
 pub mod WholeRuns
 pub mod ArchiveLemmas
 pub mod RepeatLemmas

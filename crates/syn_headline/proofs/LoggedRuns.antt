@@ -13,7 +13,7 @@ use Rattle.syn_headline.specs.World.{World, Running, Step, Runs, IsExpected, Has
 use Rattle.syn_headline.specs.Headline.{stores_of, StandsFor, HadArchive, LogsPlans, OfEachRun}
 use Rattle.syn_headline.proofs.Invariant.{Plans, IsKept}
 use Rattle.syn_headline.proofs.WorldLemmas.{step_stands}
-use Rattle.syn_headline.proofs.RunLemmas.{step_advances}
+use Rattle.syn_headline.proofs.AdvanceLemmas.{step_advances}
 use Rattle.syn_headline.proofs.WholeRuns.{no_plans, start_kept, start_stands, run_kept}
 use Rattle.syn_headline.proofs.CourseLemmas.{Course, beside, starts, ticks, takes, course}
 

@@ -1,22 +1,21 @@
--- Each step of a run keeps the invariant, and its replacements are legal.
-use Rattle.std.proofs.Common.{◌≡◌, ◌≤◌, ◌+◌, ℕ, zero, suc, false, true≢false, List, [], ◌∷◌, ◌++◌, refl, sym, ap, ap₂, ◌∙◌, subst, Option, Some, None, append-nil, arith, inl, inr, ◌⊎◌, slice_get, ◌≢◌, map}
-use Rattle.std.specs.Prelude.{All, Contains, IfSome}
+-- What a step does at one machine keeps the invariant, and its replacements are legal.
+use Rattle.std.proofs.Common.{◌≡◌, ◌≤◌, ◌+◌, ℕ, Bool, false, true≢false, List, [], ◌∷◌, ◌++◌, refl, sym, ap, ap₂, ◌∙◌, subst, Option, Some, None, append-nil, arith, inl, inr, ◌⊎◌, slice_get, ◌≢◌, map, zero, suc}
+use Rattle.std.specs.Prelude.{Contains, IfSome, All}
 use Rattle.std.proofs.lemmas.List.{append_cancel_left}
 use Rattle.std.proofs.lemmas.List.Elements.{Contains-get_or}
 use Rattle.std.proofs.lemmas.Option.{slice_get_within, get_or_from_slice_get}
 use Rattle.syn_model.specs.Path.{Path}
 use Rattle.syn_model.specs.Tree.{Tree}
-use Rattle.syn_model.specs.Refusal.{Refusal, Device, Cause, first_cause}
-use Rattle.syn_model.specs.Refusal as why
-use Rattle.syn_model.proofs.HistoryLemmas.{first_cause-none, none-append}
-use Rattle.syn_model.specs.Event.{Token, Edit, Event, Edited, Began, Replaced, IsLawfulEvent}
-use Rattle.syn_model.specs.History.{History, IsAllowed, event_causes}
+use Rattle.syn_model.specs.Refusal.{Refusal, Device}
+use Rattle.syn_model.specs.Event.{Token, Event, Edited, Began, Replaced}
+use Rattle.syn_model.specs.History.{History, IsAllowed}
 use Rattle.syn_model.specs.Archive.{Kept, Session, CanKeep, after_kept}
-use Rattle.syn_headline.specs.Side.{Side, Served, Request, Begin, ListAt, Fetch, Stage, Replace, Reply, Refused, IsLawfulRequest, room_causes}
+use Rattle.syn_headline.specs.Side.{Side, Served, Request, Begin, ListAt, Fetch, Stage, Replace, Reply, Refused, IsLawfulRequest}
 use Rattle.syn_headline.specs.Network.{Which, Left, Right, other, Sent, Message, Asks, Answers}
 use Rattle.syn_headline.specs.Planning.{Planned, Log}
 use Rattle.syn_headline.specs.Acknowledged.{Ack, Happened, Kept_by, history_of, IsLegal}
-use Rattle.syn_headline.specs.World.{Status, Up, Halted, Down, Machine, At, Coordinator, World, SideMachine, CoordinatorMachine, Running, asked_of, outstanding, side_of, set_side, stopped, Step, Edits, Start, Deliver, Tick, Checkpoint, Fail, Stop, Open, Reopen, Writes, written, failed, cut, SideGoes, Opens, opened, recovered, OpensArchive, archive_opened, archive_recovered, refuses_with, is_halted, status_of, edit_causes, start_causes, Starts, Reopens, Calls, WouldAdd, TakesRequest, answered, request_failed, request_cut, side_down, IsDueAfter, IsOver, IsExpected, HasPlan, GoesOnAs, ended, goes_on, GoesOnFrom, plan_of, StartsFrom, RunsOver, IsNext, IsNothing, CoordinatorGoes, TakesAnswer, taken, ignored, coordinator_down, Delivers, OpensMachine, cut_off, halted, Steps}
+use Rattle.syn_headline.specs.World.{Status, Up, Halted, Down, Machine, At, Coordinator, World, SideMachine, CoordinatorMachine, Running, asked_of, outstanding, side_of, set_side, stopped, Step, Edits, Start, Deliver, Tick, Checkpoint, Fail, Stop, Open, Reopen, Writes, written, failed, cut, SideGoes, Opens, opened, recovered, OpensArchive, archive_opened, archive_recovered, refuses_with, is_halted, status_of, edit_causes, start_causes, Starts, Reopens, Calls, WouldAdd, TakesRequest, answered, request_failed, request_cut, side_down, IsDueAfter, IsOver, IsExpected, HasPlan, GoesOnAs, ended, goes_on, GoesOnFrom, plan_of, StartsFrom, RunsOver, IsNext, IsNothing, CoordinatorGoes, TakesAnswer, taken, ignored, coordinator_down, Delivers, OpensMachine, cut_off, ServesAs, serve_halted}
+use Rattle.syn_headline.specs.Arms.{Arms, unarmed}
 use Rattle.syn_headline.specs.Headline.{stores_of}
 use Rattle.syn_headline.proofs.Invariant.{Plans, plan_in, Histories, histories_of, IsSound, IsTrue, IsFresh, IsHarmless, IsSoundStaging, IsSoundEvent, IsSoundSide, IsSoundCoordinator, IsKept}
 use Rattle.syn_headline.proofs.LogLemmas.{no_plan}
@@ -63,7 +62,7 @@ kept_legal old ks earlier later side token path since u e = absurd (kept_only ks
 stay_moves : (plans : Plans) (old new : World) → histories_of new Left ≡ histories_of old Left → histories_of new Right ≡ histories_of old Right → Moves plans old.coordinator.archive (histories_of old) (histories_of new) Left
 stay_moves plans old new left right = record { here = inl left; there = right }
 
-stays : (plans : Plans) (old new : World) → IsKept plans old → new ≡ old → Advances plans old new
+pub stays : (plans : Plans) (old new : World) → IsKept plans old → new ≡ old → Advances plans old new
 stays plans old new k e = record {
   later = plans;
   kept = subst (IsKept plans) (sym e) k;
@@ -79,7 +78,7 @@ stays plans old new k e = record {
 }
 
 -- what a call was refused with is no part of it
-refuses_advances : (plans : Plans) (old world new : World) (reason : Refusal) → Advances plans old world → new ≡ refuses_with world reason → Advances plans old new
+pub refuses_advances : (plans : Plans) (old world new : World) (reason : Refusal) → Advances plans old world → new ≡ refuses_with world reason → Advances plans old new
 refuses_advances plans old world new reason a e = record {
   later = a.later;
   kept = subst (IsKept a.later) (sym e) (record { logged = a.kept.logged; sound = a.kept.sound; sides = λ side. on_both (λ s. IsSoundSide a.later (histories_of world) world.coordinator.archive s (side_of world s)) side (a.kept.sides side) (a.kept.sides (other side)) side; coordinator = a.kept.coordinator });
@@ -152,7 +151,7 @@ next_sent : (old : World) (which : Which) (machine : SideMachine) (sent : Sent) 
 next_sent old Left machine sent = refl
 next_sent old Right machine sent = refl
 
-next_same : (old : World) (which : Which) (machine : SideMachine) → set_side old which machine ≡ next old which machine old.sent old.acknowledged
+pub next_same : (old : World) (which : Which) (machine : SideMachine) → set_side old which machine ≡ next old which machine old.sent old.acknowledged
 next_same old Left machine = refl
 next_same old Right machine = refl
 
@@ -192,12 +191,12 @@ side_advances plans old k which machine messages events new adds staged writing 
     }
 
 -- with no event and nothing said
-side_settles : (plans : Plans) (old : World) → IsKept plans old → (which : Which) (machine : SideMachine) (new : World) → machine.side.history ≡ histories_of old which →
+pub side_settles : (plans : Plans) (old : World) → IsKept plans old → (which : Which) (machine : SideMachine) (new : World) → machine.side.history ≡ histories_of old which →
     IfSome machine.side.staging (IsSoundStaging plans (histories_of old) which) → IsWritten plans old which machine → new ≡ next old which machine old.sent old.acknowledged → Advances plans old new
 side_settles plans old k which machine new h staged writing e =
     side_advances plans old k which machine [] [] new (no_event h) staged writing nothing (e ∙ ap₂ (λ s a. next old which machine s a) (sym (append-nil old.sent)) (sym (append-nil old.acknowledged)))
 
-was_written : (plans : Plans) (old : World) → IsKept plans old → (which : Which) (status : Status) → (((side_of old which).status ≢ Up) → status ≢ Up) → (side : Side) → side.history ≡ histories_of old which →
+pub was_written : (plans : Plans) (old : World) → IsKept plans old → (which : Which) (status : Status) → (((side_of old which).status ≢ Up) → status ≢ Up) → (side : Side) → side.history ≡ histories_of old which →
     IsWritten plans old which (record (side_of old which) { status = status; side = side })
 was_written plans old k which status keeps side h = if_some (side_of old which).writing (λ event. ((side_of old which).status ≢ Up) × IsSoundEvent plans (histories_of old) old.coordinator.archive which event)
     (λ event. (status ≢ Up) × IsSoundEvent plans (histories_of old) old.coordinator.archive which event × (side.history ≡ histories_of old which)) (k.sides which).writing (λ event _ x. (keeps x.0, x.1, h))
@@ -205,28 +204,28 @@ was_written plans old k which status keeps side h = if_some (side_of old which).
 down_not_up : Down ≢ Up
 down_not_up e = cc
 
-halted_not_up : Halted ≢ Up
+pub halted_not_up : Halted ≢ Up
 halted_not_up e = cc
 
-writes_advances : (plans : Plans) (old : World) → IsKept plans old → (which : Which) (event : Event) → IsAllowed (histories_of old which) event → IsSoundEvent plans (histories_of old) old.coordinator.archive which event →
+pub writes_advances : (plans : Plans) (old : World) → IsKept plans old → (which : Which) (event : Event) → IsAllowed (histories_of old which) event → IsSoundEvent plans (histories_of old) old.coordinator.archive which event →
     (machine : SideMachine) (events : List Event) (new : World) → (side_of old which).status ≡ Up → Writes (side_of old which) event machine events →
     new ≡ next old which machine (old.sent ++ []) (old.acknowledged ++ map (λ event. Happened which event) events) → Advances plans old new
-writes_advances plans old k which event a s _ _ new up (written room) e =
+writes_advances plans old k which event a s _ _ new up (written room arms meets) e =
     side_advances plans old k which _ [] (event ∷ []) new (one_event event a s refl) (k.sides which).staged
     (if_some (side_of old which).writing (λ event. ((side_of old which).status ≢ Up) × IsSoundEvent plans (histories_of old) old.coordinator.archive which event) _ (k.sides which).writing (λ other_event _ x. absurd (x.0 up))) nothing e
-writes_advances plans old k which event a s _ _ new up failed e = side_advances plans old k which _ [] [] new (no_event refl) (k.sides which).staged (halted_not_up, s, refl) nothing e
-writes_advances plans old k which event a s _ _ new up cut e = side_advances plans old k which _ [] [] new (no_event refl) tt (down_not_up, s, refl) nothing e
+writes_advances plans old k which event a s _ _ new up (failed arms meets) e = side_advances plans old k which _ [] [] new (no_event refl) (k.sides which).staged (halted_not_up, s, refl) nothing e
+writes_advances plans old k which event a s _ _ new up (cut meets) e = side_advances plans old k which _ [] [] new (no_event refl) tt (down_not_up, s, refl) nothing e
 
-opens_advances : (plans : Plans) (old : World) → IsKept plans old → (which : Which) (machine : SideMachine) (events : List Event) (new : World) → Opens (side_of old which) machine events →
+opens_advances : (plans : Plans) (old : World) → IsKept plans old → (which : Which) (calls : ℕ) (machine : SideMachine) (events : List Event) (new : World) → Opens (side_of old which) calls machine events →
     new ≡ next old which machine (old.sent ++ []) (old.acknowledged ++ map (λ event. Happened which event) events) → Advances plans old new
-opens_advances plans old k which _ _ new (opened room) e = side_advances plans old k which _ [] [] new (no_event refl) (k.sides which).staged tt nothing e
-opens_advances plans old k which _ _ new (recovered room event w a) e =
+opens_advances plans old k which calls _ _ new (opened room arms meets) e = side_advances plans old k which _ [] [] new (no_event refl) (k.sides which).staged tt nothing e
+opens_advances plans old k which calls _ _ new (recovered room arms event meets w a) e =
     let s : ((side_of old which).status ≢ Up) × IsSoundEvent plans (histories_of old) old.coordinator.archive which event =
     subst (λ o. IfSome o (λ event. ((side_of old which).status ≢ Up) × IsSoundEvent plans (histories_of old) old.coordinator.archive which event)) w (k.sides which).writing in
     side_advances plans old k which _ [] (event ∷ []) new (one_event event a s.1 refl) (k.sides which).staged tt nothing e
 
 -- a machine that is neither halted nor down is up
-neither : (status : Status) → is_halted status ≡ false → status ≢ Down → status ≡ Up
+pub neither : (status : Status) → is_halted status ≡ false → status ≢ Down → status ≡ Up
 neither Up h k = refl
 neither Halted h k = absurd (true≢false h)
 neither Down h k = absurd (k refl)
@@ -255,7 +254,7 @@ module _ (plans : Plans) (old : World) (k : IsKept plans old) (which : Which) (s
       let one : a.0 ∷ [] ≡ events = append_cancel_left (histories_of old which) (a.0 ∷ []) events (sym a.3 ∙ added) in
       subst (Adds plans old which served.side.history) one (one_event a.0 a.1 a.2 a.3)
 
-  would_sound : (event : Event) → WouldAdd old.pair (side_of old which).has_room (side_of old which).side session request event → IsSoundEvent plans (histories_of old) old.coordinator.archive which event
+  would_sound : (event : Event) → WouldAdd old.pair (side_of old which) session request event → IsSoundEvent plans (histories_of old) old.coordinator.archive which event
   would_sound event w =
       let o = outcome old.pair (side_of old which).has_room (side_of old which).side session request w.served lawful w.serves in
       elim (outcome_moves plans old.coordinator.archive old.sent (histories_of old) k.sound which (side_of old which).side refl (k.sides which).staged session number request w.served asked o) as (λ _. IsSoundEvent plans (histories_of old) old.coordinator.archive which event) [
@@ -270,7 +269,7 @@ module _ (plans : Plans) (old : World) (k : IsKept plans old) (which : Which) (s
   request_advances new (answered a) =
       let o = any_outcome (side_of old which).status old.pair (side_of old which).has_room (side_of old which).side session request a.served lawful a.serves in
       let moves = outcome_moves plans old.coordinator.archive old.sent (histories_of old) k.sound which (side_of old which).side refl (k.sides which).staged session number request a.served asked o in
-      side_advances plans old k which (record (side_of old which) { side = a.served.side; has_room = a.room }) (Answers which session number a.served.reply ∷ []) a.events new (events_are a.served a.events a.added moves)
+      side_advances plans old k which (record (side_of old which) { side = a.served.side; has_room = a.room; arms = a.arms }) (Answers which session number a.served.reply ∷ []) a.events new (events_are a.served a.events a.added moves)
       (outcome_staging plans old.coordinator.archive old.sent (histories_of old) k.sound which (side_of old which).side refl (k.sides which).staged session number request a.served asked o)
       (if_some (side_of old which).writing (λ event. ((side_of old which).status ≢ Up) × IsSoundEvent plans (histories_of old) old.coordinator.archive which event)
       (λ event. ((side_of old which).status ≢ Up) × IsSoundEvent plans (histories_of old) old.coordinator.archive which event × (a.served.side.history ≡ histories_of old which)) (k.sides which).writing
@@ -278,13 +277,13 @@ module _ (plans : Plans) (old : World) (k : IsKept plans old) (which : Which) (s
       (reply session number request a.served.reply asked (outcome_true plans old.coordinator.archive old.sent (histories_of old) k.sound which (side_of old which).side refl (k.sides which).staged session number request a.served asked o)
       (outcome_borne plans old.coordinator.archive old.sent (histories_of old) k.sound which (side_of old which).side refl (k.sides which).staged session number request a.served asked o))
       a.result
-  request_advances new (request_failed f) =
-      side_advances plans old k which (record (side_of old which) { status = Halted; writing = Some f.event }) (Answers which session number (Refused Device) ∷ []) [] new (no_event refl) (k.sides which).staged
-      (halted_not_up, would_sound f.event f.would, refl)
+  request_advances new (request_failed event arms would meets e) =
+      side_advances plans old k which (record (side_of old which) { status = Halted; writing = Some event; arms = arms }) (Answers which session number (Refused Device) ∷ []) [] new (no_event refl) (k.sides which).staged
+      (halted_not_up, would_sound event would, refl)
       (reply session number request (Refused Device) asked (refused_is_true (histories_of old which) session request Device) (refused_borne (plan_in plans session) (histories_of old which) which request Device))
-      (f.result ∙ (next_sent old which _ _ ∙ ap (λ a. next old which (record (side_of old which) { status = Halted; writing = Some f.event }) (old.sent ++ Answers which session number (Refused Device) ∷ []) a) (sym (append-nil old.acknowledged))))
-  request_advances new (request_cut c) =
-      side_settles plans old k which (stopped (side_of old which) (Some c.event)) new refl tt (down_not_up, would_sound c.event c.would, refl) (c.result ∙ next_same old which _)
+      (e ∙ (next_sent old which _ _ ∙ ap (λ a. next old which (record (side_of old which) { status = Halted; writing = Some event; arms = arms }) (old.sent ++ Answers which session number (Refused Device) ∷ []) a) (sym (append-nil old.acknowledged))))
+  request_advances new (request_cut event would meets e) =
+      side_settles plans old k which (stopped (side_of old which) (Some event)) new refl tt (down_not_up, would_sound event would, refl) (e ∙ next_same old which _)
   request_advances new (side_down d e) = stays plans old new k e
 
 -- The coordinator
@@ -348,7 +347,7 @@ module _ (plans : Plans) (old : World) (k : IsKept plans old) (new : World) wher
       (λ kept due. due_harmless plans' (histories_of old) old.coordinator.archive old.sent sound r (running_over r e).0 plan planned from number said kept c' (waits_for r e from number) due) g
       (runs_has plans' (histories_of old) r plan planned (λ _. fresh) g.machine.running g.runs_on.0))
 
-  tick_with : (running : Option Running) → old.coordinator.running ≡ running → CoordinatorGoes old [] IsNothing (GoesOnFrom running (plan_of running)) new → Advances plans old new
+  pub tick_with : (running : Option Running) → old.coordinator.running ≡ running → CoordinatorGoes old [] IsNothing (GoesOnFrom running (plan_of running)) new → Advances plans old new
   tick_with None e g = coordinator_advances plans plans old [] IsNothing (GoesOnFrom None []) new g
       (coordinator_keeps plans old [] IsNothing (GoesOnFrom None []) new (append-nil old.log ∙ k.logged) k.sound k.sides (λ kept due. absurd due) g (subst (HasItsPlan plans (histories_of old)) (sym g.runs_on) tt))
   tick_with (Some r) e g =
@@ -365,13 +364,13 @@ module _ (plans : Plans) (old : World) (k : IsKept plans old) (new : World) wher
       let f = next_fresh plans (histories_of old) old.coordinator.archive old.sent k.sound r.session s.0 in
       (no_plan plans r.session f.0 ∙ sym s.1, λ _. f.1)
 
-  start_advances : CoordinatorGoes old [] (IsNext old.coordinator.archive) (StartsFrom old.coordinator.archive) new → Advances plans old new
+  pub start_advances : CoordinatorGoes old [] (IsNext old.coordinator.archive) (StartsFrom old.coordinator.archive) new → Advances plans old new
   start_advances g = coordinator_advances plans plans old [] (IsNext old.coordinator.archive) (StartsFrom old.coordinator.archive) new g
       (coordinator_keeps plans old [] (IsNext old.coordinator.archive) (StartsFrom old.coordinator.archive) new (append-nil old.log ∙ k.logged) k.sound k.sides
       (λ kept due. subst (IsHarmless plans (histories_of old)) (sym due) (session_harmless (old.coordinator.archive.last_session + 1))) g (starts_has g.machine.running g.runs_on))
 
   -- the coordinator's machine alone changes, and says nothing
-  coordinator_settles : (machine : CoordinatorMachine) (ks : List Kept) → IsSound plans (histories_of old) machine.archive old.sent → old.coordinator.archive.last_session ≤ machine.archive.last_session →
+  pub coordinator_settles : (machine : CoordinatorMachine) (ks : List Kept) → IsSound plans (histories_of old) machine.archive old.sent → old.coordinator.archive.last_session ≤ machine.archive.last_session →
       IsSoundCoordinator plans (histories_of old) old.sent machine → new ≡ record old { coordinator = machine; acknowledged = old.acknowledged ++ map (λ k. Kept_by k) ks } → Advances plans old new
   coordinator_settles machine ks sound later coordinator e = record {
     later = plans;
@@ -398,41 +397,41 @@ module _ (plans : Plans) (old : World) (k : IsKept plans old) (new : World) wher
   IsPending status running kept = (status ≢ Up) × (running ≡ None) × CanKeep old.coordinator.archive kept × IsHarmless plans (histories_of old) kept
 
   -- with another status, unless that is up
-  with_status : (status : Status) → (old.coordinator.status ≢ Up → status ≢ Up) → IsSoundCoordinator plans (histories_of old) old.sent (record old.coordinator { status = status })
-  with_status status keeps = record {
+  pub with_status : (status : Status) (arms : Arms) → (old.coordinator.status ≢ Up → status ≢ Up) → IsSoundCoordinator plans (histories_of old) old.sent (record old.coordinator { status = status; arms = arms })
+  with_status status arms keeps = record {
     running = k.coordinator.running;
     runs_over = k.coordinator.runs_over;
     writing = if_some old.coordinator.writing (IsPending old.coordinator.status old.coordinator.running) (IsPending status old.coordinator.running) k.coordinator.writing (λ kept _ x. (keeps x.0, x.1, x.2, x.3));
   }
 
-  opens_archive : (machine : CoordinatorMachine) (ks : List Kept) → OpensArchive old.coordinator machine ks → new ≡ record old { coordinator = machine; acknowledged = old.acknowledged ++ map (λ k. Kept_by k) ks } → Advances plans old new
-  opens_archive _ _ (archive_opened room) e = coordinator_settles (record old.coordinator { status = Up; has_room = room; writing = None }) [] k.sound (omega arith) (record { running = k.coordinator.running; runs_over = k.coordinator.runs_over; writing = tt }) e
-  opens_archive _ _ (archive_recovered room kept w can) e =
+  opens_archive : (calls : ℕ) (machine : CoordinatorMachine) (ks : List Kept) → OpensArchive old.coordinator calls machine ks → new ≡ record old { coordinator = machine; acknowledged = old.acknowledged ++ map (λ k. Kept_by k) ks } → Advances plans old new
+  opens_archive calls _ _ (archive_opened room arms meets) e = coordinator_settles (record old.coordinator { status = Up; has_room = room; writing = None; arms = arms }) [] k.sound (omega arith) (record { running = k.coordinator.running; runs_over = k.coordinator.runs_over; writing = tt }) e
+  opens_archive calls _ _ (archive_recovered room arms kept meets w can) e =
       let pending : IsPending old.coordinator.status old.coordinator.running kept = subst (λ o. IfSome o (IsPending old.coordinator.status old.coordinator.running)) w k.coordinator.writing in
-      coordinator_settles (record old.coordinator { status = Up; archive = after_kept old.coordinator.archive kept; has_room = room; writing = None }) (kept ∷ [])
+      coordinator_settles (record old.coordinator { status = Up; archive = after_kept old.coordinator.archive kept; has_room = room; writing = None; arms = arms }) (kept ∷ [])
       (sound-keep plans (histories_of old) old.coordinator.archive old.sent k.sound kept can pending.3) (kept_session old.coordinator.archive kept can)
       (record { running = k.coordinator.running; runs_over = subst (RunsOver old.sent (after_kept old.coordinator.archive kept)) (sym pending.1) tt; writing = tt }) e
 
   pub no_acks : (machine : CoordinatorMachine) → new ≡ record old { coordinator = machine } → new ≡ record old { coordinator = machine; acknowledged = old.acknowledged ++ map (λ k. Kept_by k) [] }
   no_acks machine e = e ∙ ap (λ a. record old { coordinator = machine; acknowledged = a }) (sym (append-nil old.acknowledged))
 
-  cut_advances : (machine : Machine) → new ≡ cut_off old machine → Advances plans old new
+  pub cut_advances : (machine : Machine) → new ≡ cut_off old machine → Advances plans old new
   cut_advances (At which) e = side_settles plans old k which (stopped (side_of old which) (side_of old which).writing) new refl tt
       (was_written plans old k which Down (λ _. down_not_up) (record { history = (side_of old which).side.history; staging = None }) refl) (e ∙ next_same old which _)
-  cut_advances Coordinator e = coordinator_settles (record old.coordinator { status = Down; running = None }) [] k.sound (omega arith)
+  cut_advances Coordinator e = coordinator_settles (record old.coordinator { status = Down; running = None; arms = unarmed }) [] k.sound (omega arith)
       (record { running = tt; runs_over = tt; writing = if_some old.coordinator.writing (IsPending old.coordinator.status old.coordinator.running) (IsPending Down None) k.coordinator.writing (λ kept _ x. (down_not_up, refl, x.2, x.3)) })
-      (no_acks (record old.coordinator { status = Down; running = None }) e)
+      (no_acks (record old.coordinator { status = Down; running = None; arms = unarmed }) e)
 
-  opens_machine : (machine : Machine) → OpensMachine old machine new → Advances plans old new
-  opens_machine (At which) g = opens_advances plans old k which g.0 g.1 new g.2 g.3
-  opens_machine Coordinator g = opens_archive g.0 g.1 g.2 g.3
+  pub opens_machine : (machine : Machine) (calls : ℕ) → OpensMachine old machine calls new → Advances plans old new
+  opens_machine (At which) calls g = opens_advances plans old k which calls g.0 g.1 new g.2 g.3
+  opens_machine Coordinator calls g = opens_archive calls g.0 g.1 g.2 g.3
 
   answer_advances : (from : Which) (session number : ℕ) (said : Reply) → Contains old.sent (Answers from session number said) → TakesAnswer old from session number said new → Advances plans old new
-  answer_advances from session number said c (taken plan logged expected made g reports) = take_with from session number said plan logged c old.coordinator.running refl expected made g
+  answer_advances from session number said c (taken plan logged expected made g calls reports) = take_with from session number said plan logged c old.coordinator.running refl expected made g
   answer_advances from session number said c (ignored x e) = stays plans old new k e
   answer_advances from session number said c (coordinator_down d e) = stays plans old new k e
 
-  delivers_advances : (o : Option Message) → ((m : Message) → o ≡ Some m → Contains old.sent m) → Delivers old o new → Advances plans old new
+  pub delivers_advances : (o : Option Message) → ((m : Message) → o ≡ Some m → Contains old.sent m) → Delivers old o new → Advances plans old new
   delivers_advances None c e = stays plans old new k e
   delivers_advances (Some (Asks to session number request)) c t = request_advances plans old k to session number request (c _ refl) new t
   delivers_advances (Some (Answers from session number said)) c t = answer_advances from session number said (c _ refl) t
@@ -440,51 +439,5 @@ module _ (plans : Plans) (old : World) (k : IsKept plans old) (new : World) wher
   pub was_sent : (n : ℕ) (m : Message) → slice_get old.sent n ≡ Some m → Contains old.sent m
   was_sent n m e = subst (Contains old.sent) (get_or_from_slice_get old.sent n m m e) (Contains-get_or old.sent n m (slice_get_within old.sent n m e))
 
-  refused_advances : (reason : Refusal) → new ≡ refuses_with old reason → Advances plans old new
+  pub refused_advances : (reason : Refusal) → new ≡ refuses_with old reason → Advances plans old new
   refused_advances reason e = refuses_advances plans old old new reason (stays plans old old k refl) e
-
--- the machine's device failed, and nothing was being written
-halt_advances : (plans : Plans) (old : World) (k : IsKept plans old) (machine : Machine) → Advances plans old (halted old machine)
-halt_advances plans old k (At which) = side_settles plans old k which (record (side_of old which) { status = Halted }) (halted old (At which)) refl (k.sides which).staged
-    (was_written plans old k which Halted (λ _. halted_not_up) (side_of old which).side refl) (next_same old which _)
-halt_advances plans old k Coordinator = coordinator_settles plans old k (halted old Coordinator) (record old.coordinator { status = Halted }) [] k.sound (omega arith) (with_status plans old k (halted old Coordinator) Halted (λ _. halted_not_up))
-    (no_acks plans old k (halted old Coordinator) (record old.coordinator { status = Halted }) refl)
-
-module _ (plans : Plans) (old : World) (k : IsKept plans old) (new : World) where
-  reopens_advances : (machine : Machine) → Reopens old machine new → Advances plans old new
-  reopens_advances machine (inl g) = opens_machine plans old k new machine g
-  reopens_advances machine (inr (inl e)) = refuses_advances plans old (halted old machine) new Device (halt_advances plans old k machine) e
-  reopens_advances machine (inr (inr e)) = cut_advances plans old k new machine e
-
-  calls_advances : (machine : Machine) (causes : List Cause) (Made : Type 0) → (first_cause ((is_halted (status_of old machine), why.Halted) ∷ causes) ≡ None → status_of old machine ≢ Down → Made → Advances plans old new) → Calls old machine causes Made new → Advances plans old new
-  calls_advances machine causes Made made (inl (down, e)) = stays plans old new k e
-  calls_advances machine causes Made made (inr (up, inl (reason, first, e))) = refused_advances plans old k new reason e
-  calls_advances machine causes Made made (inr (up, inr (none, g))) = made none up g
-
-  edit_advances : (which : Which) (user : ℕ) (edit : Edit) → first_cause ((is_halted (side_of old which).status, why.Halted) ∷ edit_causes (side_of old which) (Edited user edit)) ≡ None → (side_of old which).status ≢ Down →
-      IsLawfulEvent (Edited user edit) × SideGoes old which (Writes (side_of old which) (Edited user edit)) [] new → Advances plans old new
-  edit_advances which user edit none up (lawful, g) =
-      let machine_is = side_of old which in
-      let first = first_cause-none (is_halted machine_is.status, why.Halted) (edit_causes machine_is (Edited user edit)) none in
-      let allowed : IsAllowed machine_is.side.history (Edited user edit) = record { lawful = lawful; not_refused = (none-append (event_causes machine_is.side.history (Edited user edit)) (room_causes machine_is.has_room (Edited user edit)) first.1).0 } in
-      writes_advances plans old k which (Edited user edit) allowed tt g.0 g.1 new (neither machine_is.status first.0 up) g.2 g.3
-
-  -- each step keeps the invariant, and its replacements are legal
-  pub step_advances : (step : Step) → Steps old step new → Advances plans old new
-  step_advances (Edits side user edit) g = calls_advances (At side) (edit_causes (side_of old side) (Edited user edit)) (IsLawfulEvent (Edited user edit) × SideGoes old side (Writes (side_of old side) (Edited user edit)) [] new) (edit_advances side user edit) g
-  step_advances Start g = calls_advances Coordinator (start_causes old.coordinator) (Starts old new) (λ none up h. start_advances plans old k new h.0) g
-  step_advances (Deliver message) g = delivers_advances plans old k new (slice_get old.sent message) (was_sent plans old k new message) g
-  step_advances Tick (inl g) = stays plans old new k g.1
-  step_advances Tick (inr g) = tick_with plans old k new old.coordinator.running refl g.1.goes
-  step_advances (Checkpoint machine) (full, g) = calls_advances machine ((full, why.Full) ∷ []) (Reopens old machine new) (λ none up h. reopens_advances machine h) g
-  step_advances (Fail machine call) e = stays plans old new k e
-  step_advances (Stop machine zero) (inl g) = stays plans old new k g.1
-  step_advances (Stop machine zero) (inr g) = cut_advances plans old k new machine g.1
-  step_advances (Stop machine (suc more)) e = stays plans old new k e
-  step_advances (Open machine) (inl g) = stays plans old new k g.1
-  step_advances (Open machine) (inr (down, inl g)) = opens_machine plans old k new machine g
-  step_advances (Open machine) (inr (down, inr (inl g))) = refused_advances plans old k new g.0 g.2
-  step_advances (Open machine) (inr (down, inr (inr e))) = refused_advances plans old k new Device e
-  step_advances (Reopen machine) (inl g) = stays plans old new k g.1
-  step_advances (Reopen machine) (inr (up, inl g)) = refused_advances plans old k new g.0 g.2
-  step_advances (Reopen machine) (inr (up, inr g)) = reopens_advances machine g

@@ -23,7 +23,7 @@ use Rattle.syn_model.proofs.MarkLemmas.{get-mark}
 use Rattle.syn_model.proofs.FitsLemmas.{replica_depth}
 use Rattle.syn_headline.proofs.MoveLemmas.{tree_at_fits, all_front}
 use Rattle.syn_headline.proofs.WorldLemmas.{step_stands, run_stands}
-use Rattle.syn_headline.proofs.RunLemmas.{step_advances}
+use Rattle.syn_headline.proofs.AdvanceLemmas.{step_advances}
 use Rattle.syn_headline.proofs.WholeRuns.{no_plans, start_kept, start_stands, run_kept}
 use Rattle.syn_headline.proofs.KeptLemmas.{one_start}
 use Rattle.syn_headline.proofs.CourseLemmas.{course}

@@ -17,7 +17,8 @@ use Rattle.syn_model.proofs.PathLemmas.{none_some}
 use Rattle.syn_headline.proofs.PlanLemmas.{answered-more}
 use Rattle.syn_headline.proofs.TokenLemmas.{token_once}
 use Rattle.syn_headline.proofs.WorldLemmas.{step_stands}
-use Rattle.syn_headline.proofs.RunLemmas.{Advances, not_nothing, step_advances, HasItsPlan}
+use Rattle.syn_headline.proofs.RunLemmas.{Advances, not_nothing, HasItsPlan}
+use Rattle.syn_headline.proofs.AdvanceLemmas.{step_advances}
 
 legal-more : (sent more : Sent) (log logged : Log) (side : Which) (stores : Stores) (token : Token) (path : Path) (since : ℕ) (u : Tree) → IsLegal sent log side stores token path since u → IsLegal (sent ++ more) (log ++ logged) side stores token path since u
 legal-more sent more log logged side stores token path since u h = record {

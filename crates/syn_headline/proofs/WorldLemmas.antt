@@ -1,5 +1,5 @@
 -- What is acknowledged is what the machines stand for.
-use Rattle.std.proofs.Common.{◌≡◌, ℕ, zero, suc, List, [], ◌∷◌, ◌++◌, map, filter_map, refl, sym, ap, ap₂, ◌∙◌, subst, Option, Some, None, inl, inr, append-nil, append_assoc, slice_get}
+use Rattle.std.proofs.Common.{◌≡◌, ℕ, zero, suc, Bool, true, false, if◌then◌else◌, List, [], ◌∷◌, ◌++◌, map, filter_map, refl, sym, ap, ap₂, ◌∙◌, subst, Option, Some, None, inl, inr, append-nil, append_assoc, slice_get}
 use Rattle.std.proofs.lemmas.List.Elements.{filter_map-append}
 use Rattle.syn_model.specs.Event.{Event, Edited, IsLawfulEvent}
 use Rattle.syn_model.specs.History.{History}
@@ -11,7 +11,8 @@ use Rattle.syn_headline.specs.Side.{Request, Reply, Refused}
 use Rattle.syn_model.specs.Refusal.{Refusal, Device, Cause}
 use Rattle.syn_model.specs.Refusal as why
 use Rattle.syn_headline.specs.Planning.{Log}
-use Rattle.syn_headline.specs.World.{Running, World, SideMachine, CoordinatorMachine, Machine, At, Coordinator, Step, Edits, Start, Deliver, Tick, Checkpoint, Fail, Stop, Open, Reopen, side_of, set_side, stopped, Writes, SideGoes, Opens, OpensArchive, TakesRequest, TakesAnswer, CoordinatorGoes, Delivers, OpensMachine, cut_off, halted, Steps, written, failed, cut, opened, recovered, archive_opened, archive_recovered, refuses_with, edit_causes, start_causes, Starts, Reopens, Calls, answered, request_failed, request_cut, side_down, taken, ignored, coordinator_down}
+use Rattle.syn_headline.specs.World.{Running, World, SideMachine, CoordinatorMachine, Machine, At, Coordinator, Step, Edits, Start, Deliver, Tick, Checkpoint, Fail, Stop, Open, Reopen, side_of, set_side, stopped, Writes, SideGoes, Opens, OpensArchive, TakesRequest, TakesAnswer, CoordinatorGoes, Delivers, OpensMachine, cut_off, set_device, answered_by, is_halted, status_of, UnlessDown, Status, Halted, Steps, written, failed, cut, opened, recovered, archive_opened, archive_recovered, refuses_with, edit_causes, start_causes, Starts, Reopens, Calls, answered, request_failed, request_cut, side_down, taken, ignored, coordinator_down}
+use Rattle.syn_headline.specs.Arms.{Arms}
 use Rattle.syn_headline.specs.Headline.{StandsFor, RunsStand}
 
 left_left : (es : List Event) → filter_map (event_at Left) (map (λ e. Happened Left e) es) ≡ es
@@ -86,17 +87,17 @@ side_stays before old Left machine sent new s h e = subst (StandsFor before) (sy
 side_stays before old Right machine sent new s h e = subst (StandsFor before) (sym e) (record { left = s.left; right = h ∙ s.right; archive = s.archive })
 
 writes_history : (m : SideMachine) (event : Event) (new : SideMachine) (es : List Event) → Writes m event new es → new.side.history ≡ m.side.history ++ es
-writes_history m event new es (written room) = refl
-writes_history m event new es failed = sym (append-nil m.side.history)
-writes_history m event new es cut = sym (append-nil m.side.history)
+writes_history m event new es (written room arms meets) = refl
+writes_history m event new es (failed arms meets) = sym (append-nil m.side.history)
+writes_history m event new es (cut meets) = sym (append-nil m.side.history)
 
-opens_history : (m : SideMachine) (new : SideMachine) (es : List Event) → Opens m new es → new.side.history ≡ m.side.history ++ es
-opens_history m new es (opened room) = sym (append-nil m.side.history)
-opens_history m new es (recovered room event is allowed) = refl
+opens_history : (m : SideMachine) (calls : ℕ) (new : SideMachine) (es : List Event) → Opens m calls new es → new.side.history ≡ m.side.history ++ es
+opens_history m calls new es (opened room arms meets) = sym (append-nil m.side.history)
+opens_history m calls new es (recovered room arms event meets is allowed) = refl
 
-opens_archive : (m new : CoordinatorMachine) (ks : List Kept) → OpensArchive m new ks → new.archive ≡ archive_of m.archive ks
-opens_archive m new ks (archive_opened room) = refl
-opens_archive m new ks (archive_recovered room kept is can) = refl
+opens_archive : (m : CoordinatorMachine) (calls : ℕ) (new : CoordinatorMachine) (ks : List Kept) → OpensArchive m calls new ks → new.archive ≡ archive_of m.archive ks
+opens_archive m calls new ks (archive_opened room arms meets) = refl
+opens_archive m calls new ks (archive_recovered room arms kept meets is can) = refl
 
 side_steps : (before : Stores) (old : World) (which : Which) (Goes : SideMachine → List Event → Type 0) (new : World) → ((m : SideMachine) (es : List Event) → Goes m es → m.side.history ≡ (side_of old which).side.history ++ es) →
     StandsFor before old → SideGoes old which Goes [] new → StandsFor before new
@@ -125,13 +126,13 @@ sent_stays old Right machine = refl
 
 takes_request : (before : Stores) (old : World) (which : Which) (session number : ℕ) (request : Request) (new : World) → StandsFor before old → TakesRequest old which session number request new → StandsFor before new
 takes_request before old which session number request new s (answered a) =
-    side_goes before old which (record (side_of old which) { side = a.served.side; has_room = a.room }) a.events (Answers which session number a.served.reply ∷ []) new s a.added a.result
-takes_request before old which session number request new s (request_failed f) = side_stays before old which _ (old.sent ++ Answers which session number (Refused Device) ∷ []) new s refl f.result
-takes_request before old which session number request new s (request_cut c) = side_stays before old which _ old.sent new s refl (c.result ∙ sent_stays old which _)
+    side_goes before old which (record (side_of old which) { side = a.served.side; has_room = a.room; arms = a.arms }) a.events (Answers which session number a.served.reply ∷ []) new s a.added a.result
+takes_request before old which session number request new s (request_failed event arms would meets e) = side_stays before old which _ (old.sent ++ Answers which session number (Refused Device) ∷ []) new s refl e
+takes_request before old which session number request new s (request_cut event would meets e) = side_stays before old which _ old.sent new s refl (e ∙ sent_stays old which _)
 takes_request before old which session number request new s (side_down d e) = same_world before old new s e
 
 takes_answer : (before : Stores) (old : World) (from : Which) (session number : ℕ) (reply : Reply) (new : World) → StandsFor before old → TakesAnswer old from session number reply new → StandsFor before new
-takes_answer before old from session number reply new s (taken plan logged x made g reports) = coordinator_steps before old logged _ _ new s g
+takes_answer before old from session number reply new s (taken plan logged x made g calls reports) = coordinator_steps before old logged _ _ new s g
 takes_answer before old from session number reply new s (ignored x e) = same_world before old new s e
 takes_answer before old from session number reply new s (coordinator_down d e) = same_world before old new s e
 
@@ -148,43 +149,55 @@ cut_stands before old Coordinator new s e = subst (StandsFor before) (sym e) (re
 refuses_stands : (before : Stores) (world : World) (reason : Refusal) (new : World) → StandsFor before world → new ≡ refuses_with world reason → StandsFor before new
 refuses_stands before world reason new s e = subst (StandsFor before) (sym e) (record { left = s.left; right = s.right; archive = s.archive })
 
-halt_stands : (before : Stores) (old : World) (machine : Machine) → StandsFor before old → StandsFor before (halted old machine)
-halt_stands before old (At which) s = side_stays before old which _ old.sent (halted old (At which)) s refl (sent_stays old which _)
-halt_stands before old Coordinator s = record { left = s.left; right = s.right; archive = s.archive }
+-- nor is what is armed at a machine, and its status
+device_stands : (before : Stores) (old : World) (machine : Machine) (status : Status) (arms : Arms) (new : World) → StandsFor before old → new ≡ set_device old machine status arms → StandsFor before new
+device_stands before old (At which) status arms new s e = side_stays before old which _ old.sent new s refl (e ∙ sent_stays old which _)
+device_stands before old Coordinator status arms new s e = subst (StandsFor before) (sym e) (record { left = s.left; right = s.right; archive = s.archive })
 
-opens_machine : (before : Stores) (old : World) (machine : Machine) (new : World) → StandsFor before old → OpensMachine old machine new → StandsFor before new
-opens_machine before old (At which) new s g = side_steps before old which (Opens (side_of old which)) new (opens_history (side_of old which)) s g
-opens_machine before old Coordinator new s g = coordinator_goes before old g.0 g.1 old.sent old.reports old.log new s (opens_archive old.coordinator g.0 g.1 g.2) g.3
+answered_stands : (before : Stores) (machine : Machine) (made new : World) → StandsFor before made → new ≡ answered_by machine made → StandsFor before new
+answered_stands before machine made new s = told (is_halted (status_of made machine))
+  where
+    told : (b : Bool) → new ≡ (if b then refuses_with made Device else made) → StandsFor before new
+    told true e = refuses_stands before made Device new s e
+    told false e = same_world before made new s e
 
-reopens : (before : Stores) (old : World) (machine : Machine) (new : World) → StandsFor before old → Reopens old machine new → StandsFor before new
-reopens before old machine new s (inl g) = opens_machine before old machine new s g
-reopens before old machine new s (inr (inl e)) = refuses_stands before (halted old machine) Device new (halt_stands before old machine s) e
-reopens before old machine new s (inr (inr e)) = cut_stands before old machine new s e
+opens_machine : (before : Stores) (old : World) (machine : Machine) (calls : ℕ) (new : World) → StandsFor before old → OpensMachine old machine calls new → StandsFor before new
+opens_machine before old (At which) calls new s g = side_steps before old which (Opens (side_of old which) calls) new (opens_history (side_of old which) calls) s g
+opens_machine before old Coordinator calls new s g = coordinator_goes before old g.0 g.1 old.sent old.reports old.log new s (opens_archive old.coordinator calls g.0 g.1 g.2) g.3
 
-calls : (before : Stores) (old : World) (machine : Machine) (causes : List Cause) (Made : Type 0) (new : World) → StandsFor before old → (Made → StandsFor before new) → Calls old machine causes Made new → StandsFor before new
+reopens : (before : Stores) (old : World) (machine : Machine) (calls : ℕ) (new : World) → StandsFor before old → Reopens old machine calls new → StandsFor before new
+reopens before old machine calls new s (inl g) = opens_machine before old machine calls new s g
+reopens before old machine calls new s (inr (inl (arms, meets, e))) = device_stands before old machine Halted arms new s e
+reopens before old machine calls new s (inr (inr (meets, e))) = cut_stands before old machine new s e
+
+unless_down : (before : Stores) (old : World) (machine : Machine) (IsDone : Type 0) (new : World) → StandsFor before old → (IsDone → StandsFor before new) → UnlessDown old machine IsDone new → StandsFor before new
+unless_down before old machine IsDone new s done (inl (down, e)) = same_world before old new s e
+unless_down before old machine IsDone new s done (inr (up, g)) = done g
+
+calls : (before : Stores) (old : World) (machine : Machine) (causes : List Cause) (Made : World → Type 0) (new : World) → StandsFor before old → ((made : World) → Made made → StandsFor before made) → Calls old machine causes Made new → StandsFor before new
 calls before old machine causes Made new s made (inl (down, e)) = same_world before old new s e
 calls before old machine causes Made new s made (inr (up, inl (reason, first, e))) = refuses_stands before old reason new s e
-calls before old machine causes Made new s made (inr (up, inr (none, g))) = made g
+calls before old machine causes Made new s made (inr (up, inr (none, between, g, e))) = answered_stands before machine between new (made between g) e
 
 pub step_stands : (before : Stores) (old : World) (step : Step) (new : World) → StandsFor before old → Steps old step new → StandsFor before new
 step_stands before old (Edits side user edit) new s g =
-    calls before old (At side) (edit_causes (side_of old side) (Edited user edit)) (IsLawfulEvent (Edited user edit) × SideGoes old side (Writes (side_of old side) (Edited user edit)) [] new) new s (λ h. side_steps before old side (Writes (side_of old side) (Edited user edit)) new (writes_history (side_of old side) (Edited user edit)) s h.1) g
-step_stands before old Start new s g = calls before old Coordinator (start_causes old.coordinator) (Starts old new) new s (λ h. coordinator_steps before old [] _ _ new s h.0) g
+    calls before old (At side) (edit_causes (side_of old side) (Edited user edit)) (λ made. IsLawfulEvent (Edited user edit) × SideGoes old side (Writes (side_of old side) (Edited user edit)) [] made) new s
+    (λ made h. side_steps before old side (Writes (side_of old side) (Edited user edit)) made (writes_history (side_of old side) (Edited user edit)) s h.1) g
+step_stands before old Start new s g = calls before old Coordinator (start_causes old.coordinator) (Starts old) new s (λ made h. coordinator_steps before old [] _ _ made s h.0) g
 step_stands before old (Deliver message) new s g = delivers before old (slice_get old.sent message) new s g
 step_stands before old Tick new s (inl g) = same_world before old new s g.1
 step_stands before old Tick new s (inr g) = coordinator_steps before old [] _ _ new s g.1.goes
-step_stands before old (Checkpoint machine) new s (full, g) = calls before old machine ((full, why.Full) ∷ []) (Reopens old machine new) new s (reopens before old machine new s) g
-step_stands before old (Fail machine call) new s e = same_world before old new s e
-step_stands before old (Stop machine zero) new s (inl g) = same_world before old new s g.1
-step_stands before old (Stop machine zero) new s (inr g) = cut_stands before old machine new s g.1
-step_stands before old (Stop machine (suc more)) new s e = same_world before old new s e
+step_stands before old (Checkpoint machine) new s (full, g) = calls before old machine ((full, why.Full) ∷ []) (Reopens old machine 6) new s (λ made. reopens before old machine 6 made s) g
+step_stands before old (Fail machine call) new s g = unless_down before old machine _ new s (device_stands before old machine _ _ new s) g
+step_stands before old (Stop machine zero) new s g = unless_down before old machine _ new s (cut_stands before old machine new s) g
+step_stands before old (Stop machine (suc more)) new s g = unless_down before old machine _ new s (device_stands before old machine _ _ new s) g
 step_stands before old (Open machine) new s (inl g) = same_world before old new s g.1
-step_stands before old (Open machine) new s (inr (down, inl g)) = opens_machine before old machine new s g
+step_stands before old (Open machine) new s (inr (down, inl g)) = opens_machine before old machine 0 new s g
 step_stands before old (Open machine) new s (inr (down, inr (inl g))) = refuses_stands before old g.0 new s g.2
 step_stands before old (Open machine) new s (inr (down, inr (inr e))) = refuses_stands before old Device new s e
 step_stands before old (Reopen machine) new s (inl g) = same_world before old new s g.1
-step_stands before old (Reopen machine) new s (inr (up, inl g)) = refuses_stands before old g.0 new s g.2
-step_stands before old (Reopen machine) new s (inr (up, inr g)) = reopens before old machine new s g
+step_stands before old (Reopen machine) new s (inr (up, (n, inl (arms, meets, g)))) = refuses_stands before (set_device old machine (status_of old machine) arms) g.0 new (device_stands before old machine (status_of old machine) arms _ s refl) g.2
+step_stands before old (Reopen machine) new s (inr (up, (n, inr (some, made, g, e)))) = answered_stands before machine made new (reopens before old machine n made s g) e
 
 -- a whole run
 pub run_stands : RunsStand

@@ -3,6 +3,7 @@ pub mod Network
 pub mod Acknowledged
 pub mod Report
 pub mod Planning
+pub mod Arms
 pub mod World
 pub mod Headline
 pub mod Laws

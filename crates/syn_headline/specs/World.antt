@@ -1,7 +1,7 @@
 -- Three machines and the network between them, and what a step may do.
 use Rattle.std.specs.Option.{option_map_or}
 use Rattle.std.specs.List.{list_any}
-use Rattle.std.specs.Prelude.{ℕ, zero, suc, true, false, not, is_some, nat_le, ◌≤◌, ◌==◌, if◌then◌else◌, ◌+◌, ◌≡◌, ◌≢◌, ◌⊎◌, Bool, List, [], ◌∷◌, ◌++◌, slice_get, map, Option, Some, None, Contains, IfSome, IsSome, IsSomeAnd, All, length}
+use Rattle.std.specs.Prelude.{ℕ, zero, suc, true, false, not, is_some, nat_le, ◌≤◌, ◌==◌, if◌then◌else◌, ◌+◌, ◌*◌, ◌≡◌, ◌≢◌, ◌⊎◌, Bool, List, [], ◌∷◌, ◌++◌, slice_get, map, Option, Some, None, Contains, IfSome, IsSome, IsSomeAnd, All, length}
 use Rattle.syn_model.specs.Path.{Path}
 use Rattle.syn_model.specs.Refusal.{Refusal, Device, Cause, first_cause}
 use Rattle.syn_model.specs.Refusal as why
@@ -11,6 +11,8 @@ use Rattle.syn_model.specs.Limits.{greatest}
 use Rattle.syn_model.specs.Archive.{Archive, Kept, Session, Recorded, RecordedDir, CanKeep, after_kept, archive_of}
 use Rattle.syn_headline.specs.Side.{Request, Begin, ListAt, Fetch, Stage, Replace, Reply, Done, Refused, token_of, IsLawfulRequest, Side, Served, Serves, answer, stage, add_event, room_causes}
 use Rattle.syn_headline.specs.Network.{Which, Left, Right, other, Message, Asks, Answers, Sent, NumbersTell, AsksNothingTwice}
+pub use Rattle.syn_headline.specs.Arms.{Status, Up, Halted, Down}
+use Rattle.syn_headline.specs.Arms.{Arms, unarmed, Meets}
 use Rattle.syn_headline.specs.Acknowledged.{Ack, Happened, Kept_by}
 use Rattle.syn_headline.specs.Planning.{Planned, seen_on, HasBegun, SessionPlan, Log, IsPlanOf, WritesTo, IsFetched, IsTotal}
 use Rattle.syn_model.specs.Decision.{MarkSame, MarkDir}
@@ -31,17 +33,13 @@ pub data Step : Type 0 where
   Open : (machine : Machine) → Step
   Reopen : (machine : Machine) → Step
 
-pub data Status : Type 0 where
-  Up : Status
-  Halted : Status
-  Down : Status
-
 -- a side: what it stands for, what its journal has room for, and what was being written when it stopped or a device failed
 pub record SideMachine : Type 0 where
   pub status : Status
   pub side : Side
   pub has_room : Event → Bool
   pub writing : Option Event
+  pub arms : Arms
 
 -- a request that waits for its answer
 pub record Outstanding : Type 0 where
@@ -63,6 +61,7 @@ pub record CoordinatorMachine : Type 0 where
   pub has_room : Kept → Bool
   pub writing : Option Kept
   pub running : Option Running
+  pub arms : Arms
 
 -- `refusals` has what a user's edit, a start, a checkpoint or an opening was refused with, in order of time, and `log` each session's plan
 pub record World : Type 0 where
@@ -102,30 +101,27 @@ asked_of running side number = asked_in (outstanding running side) number
 
 -- a machine that stops forgets all but its disk
 abbrev pub stopped : SideMachine → Option Event → SideMachine
-stopped machine writing = record machine { status = Down; side = record { history = machine.side.history; staging = None }; writing = writing }
+stopped machine writing = record machine { status = Down; side = record { history = machine.side.history; staging = None }; writing = writing; arms = unarmed }
 
--- a call that writes an event is answered, fails at a device call, or is cut off by a stop
+-- a call that writes an event makes four device calls and is answered, or it fails at one of them, or is cut off by a stop
 pub data Writes (machine : SideMachine) (event : Event) : SideMachine → List Event → Type 0 where
-  written : (room : Event → Bool) → Writes machine event (record machine { side = add_event machine.side event; has_room = room }) (event ∷ [])
-  failed : Writes machine event (record machine { status = Halted; writing = Some event }) []
-  cut : Writes machine event (stopped machine (Some event)) []
+  written : (room : Event → Bool) (arms : Arms) → Meets machine.arms 4 0 Up arms → Writes machine event (record machine { side = add_event machine.side event; has_room = room; arms = arms }) (event ∷ [])
+  failed : (arms : Arms) → Meets machine.arms 0 4 Halted arms → Writes machine event (record machine { status = Halted; writing = Some event; arms = arms }) []
+  cut : Meets machine.arms 0 4 Down unarmed → Writes machine event (stopped machine (Some event)) []
 
 -- a side goes on so, and acknowledges these events
 abbrev pub SideGoes : World → Which → (SideMachine → List Event → Type 0) → List Message → World → Type 0
 SideGoes old which Goes messages new =
     (machine : SideMachine) × (events : List Event) × Goes machine events
-    × (new ≡ record (set_side old which machine) {
-      sent = old.sent ++ messages;
-      acknowledged = old.acknowledged ++ map (λ event. Happened which event) events;
-    })
+    × (new ≡ record (set_side old which machine) { sent = old.sent ++ messages; acknowledged = old.acknowledged ++ map (λ event. Happened which event) events })
 
--- an opening gives the history, or it and the event that was being written
-pub data Opens (machine : SideMachine) : SideMachine → List Event → Type 0 where
-  opened : (room : Event → Bool) → Opens machine (record machine { status = Up; has_room = room; writing = None }) []
-  recovered : (room : Event → Bool) (event : Event) → machine.writing ≡ Some event → IsAllowed machine.side.history event →
-      Opens machine (record { status = Up; side = add_event machine.side event; has_room = room; writing = None }) (event ∷ [])
+-- an opening by so many device calls gives the history, or it and the event that was being written
+pub data Opens (machine : SideMachine) (calls : ℕ) : SideMachine → List Event → Type 0 where
+  opened : (room : Event → Bool) (arms : Arms) → Meets machine.arms calls 0 Up arms → Opens machine calls (record machine { status = Up; has_room = room; writing = None; arms = arms }) []
+  recovered : (room : Event → Bool) (arms : Arms) (event : Event) → Meets machine.arms calls 0 Up arms → machine.writing ≡ Some event → IsAllowed machine.side.history event →
+      Opens machine calls (record { status = Up; side = add_event machine.side event; has_room = room; writing = None; arms = arms }) (event ∷ [])
 
--- a halted side still stages, and refuses_with all else
+-- a halted side still stages, and refuses all else
 abbrev pub serve_halted : Side → ℕ → Request → Served
 serve_halted side session (Stage item offset bytes) = stage side side.staging (token_of session item) offset bytes
 serve_halted side session _ = answer side (Refused why.Halted)
@@ -139,43 +135,29 @@ pub record AnswersRequest (pair : ℕ) (old : World) (which : Which) (session nu
   pub served : Served
   pub events : List Event
   pub room : Event → Bool
+  pub arms : Arms
   pub serves : ServesAs (side_of old which).status pair (side_of old which).has_room (side_of old which).side session request served
   pub no_failure : served.reply ≢ Refused Device
   pub no_halt : (side_of old which).status ≡ Up → served.reply ≢ Refused why.Halted
   pub same_room : events ≡ [] → room ≡ (side_of old which).has_room
   pub added : served.side.history ≡ (side_of old which).side.history ++ events
-  pub result : new ≡ record (set_side old which (record (side_of old which) { side = served.side; has_room = room })) {
-    sent = old.sent ++ Answers which session number served.reply ∷ [];
-    acknowledged = old.acknowledged ++ map (λ event. Happened which event) events;
-  }
+  pub meets : Meets (side_of old which).arms (4 * length events) 0 Up arms
+  pub result : new ≡ record (set_side old which (record (side_of old which) { side = served.side; has_room = room; arms = arms })) { sent = old.sent ++ Answers which session number served.reply ∷ []; acknowledged = old.acknowledged ++ map (λ event. Happened which event) events }
 
--- the event that a request adds where no device fails and the side does not stop
-pub record WouldAdd (pair : ℕ) (has_room : Event → Bool) (side : Side) (session : ℕ) (request : Request) (event : Event) : Type 0 where
+-- the event that a request adds to a side that is up, where no device fails and the side does not stop
+pub record WouldAdd (pair : ℕ) (machine : SideMachine) (session : ℕ) (request : Request) (event : Event) : Type 0 where
   pub served : Served
-  pub serves : Serves pair has_room side session request served
-  pub adds : served.side.history ≡ side.history ++ event ∷ []
+  pub up : machine.status ≡ Up
+  pub serves : Serves pair machine.has_room machine.side session request served
+  pub adds : served.side.history ≡ machine.side.history ++ event ∷ []
 
--- the device fails as the event is written: the side is halted, and says so
-pub record FailsRequest (old : World) (which : Which) (session number : ℕ) (request : Request) (new : World) : Type 0 where
-  pub event : Event
-  pub up : (side_of old which).status ≡ Up
-  pub would : WouldAdd old.pair (side_of old which).has_room (side_of old which).side session request event
-  pub result : new ≡ record (set_side old which (record (side_of old which) { status = Halted; writing = Some event })) {
-    sent = old.sent ++ Answers which session number (Refused Device) ∷ [];
-  }
-
--- the side stops as the event is written: it answers nothing
-pub record CutsRequest (old : World) (which : Which) (session : ℕ) (request : Request) (new : World) : Type 0 where
-  pub event : Event
-  pub up : (side_of old which).status ≡ Up
-  pub would : WouldAdd old.pair (side_of old which).has_room (side_of old which).side session request event
-  pub result : new ≡ set_side old which (stopped (side_of old which) (Some event))
-
--- a side takes a request
+-- a side takes a request: it answers; or the device fails as the event is written, and the side is halted and says so; or the side stops then, and answers nothing
 pub data TakesRequest (old : World) (which : Which) (session number : ℕ) (request : Request) (new : World) : Type 0 where
   answered : AnswersRequest old.pair old which session number request new → TakesRequest old which session number request new
-  request_failed : FailsRequest old which session number request new → TakesRequest old which session number request new
-  request_cut : CutsRequest old which session request new → TakesRequest old which session number request new
+  request_failed : (event : Event) (arms : Arms) → WouldAdd old.pair (side_of old which) session request event → Meets (side_of old which).arms 0 4 Halted arms →
+      new ≡ record (set_side old which (record (side_of old which) { status = Halted; writing = Some event; arms = arms })) { sent = old.sent ++ Answers which session number (Refused Device) ∷ [] } → TakesRequest old which session number request new
+  request_cut : (event : Event) → WouldAdd old.pair (side_of old which) session request event → Meets (side_of old which).arms 0 4 Down unarmed → new ≡ set_side old which (stopped (side_of old which) (Some event)) →
+      TakesRequest old which session number request new
   side_down : (side_of old which).status ≡ Down → new ≡ old → TakesRequest old which session number request new
 
 -- The coordinator
@@ -272,7 +254,7 @@ pub record CoordinatorGoes (old : World) (logged : Log) (IsDue_now : Kept → Ty
   pub messages : List Message
   pub reports : List (Report × ℕ)
   pub not_down : old.coordinator.status ≢ Down
-  pub while_halted : old.coordinator.status ≡ Halted → (kept ≡ []) × (machine.writing ≡ old.coordinator.writing) × (machine.status ≢ Up)
+  pub while_halted : old.coordinator.status ≡ Halted → (kept ≡ []) × (machine.writing ≡ old.coordinator.writing) × (machine.status ≡ Halted) × (machine.arms ≡ old.coordinator.arms)
   pub keeps : Keeps old.coordinator IsDue_now machine kept
   pub unless_up : machine.status ≡ Up → machine.writing ≡ None
   pub runs_on : RunsOn machine.running
@@ -379,12 +361,20 @@ pub record Ticks (old new : World) : Type 0 where
   pub goes : CoordinatorGoes old [] IsNothing (GoesOnFrom old.coordinator.running (plan_of old.coordinator.running)) new
   pub reports : Reports old new (plan_of old.coordinator.running) IsNoItem EndsUnanswered
   pub same_status : new.coordinator.status ≡ old.coordinator.status
+  pub same_arms : new.coordinator.arms ≡ old.coordinator.arms
   pub sends : IfSome old.coordinator.running (λ running. IfSome new.coordinator.running (SendsAgain old new running))
+
+-- the device calls of an answer that is taken: four for each record, and six for a checkpoint that it may make once
+abbrev pub CallsArchive : CoordinatorMachine → List Kept → CoordinatorMachine → Type 0
+CallsArchive old kept new =
+    old.status ≡ Up → (checkpointed : Bool)
+    × Meets old.arms (4 * length kept + (if checkpointed then 6 else 0)) (if is_some new.writing then 4 else (if checkpointed then 0 else 6)) new.status new.arms
 
 -- the coordinator takes an answer, or ignores one that it does not wait for
 pub data TakesAnswer (old : World) (from : Which) (session number : ℕ) (reply : Reply) (new : World) : Type 0 where
   taken : (plan : List Planned) (logged : Log) → IsExpected old.coordinator.running from session number → HasPlan old.sent old.coordinator.archive old.log old.coordinator.running plan logged →
-      CoordinatorGoes old logged (IsDueAfter old.coordinator.running plan from number reply) (λ running. GoesOnFrom old.coordinator.running plan running × IsOver from number running) new →
+      (goes : CoordinatorGoes old logged (IsDueAfter old.coordinator.running plan from number reply) (λ running. GoesOnFrom old.coordinator.running plan running × IsOver from number running) new) →
+      CallsArchive old.coordinator goes.kept new.coordinator →
       Reports old new plan (RefusesTaken old new from number plan reply) (EndsTaken old new from number plan reply) → TakesAnswer old from session number reply new
   ignored : (IsExpected old.coordinator.running from session number → ⊥) → new ≡ old → TakesAnswer old from session number reply new
   coordinator_down : old.coordinator.status ≡ Down → new ≡ old → TakesAnswer old from session number reply new
@@ -395,35 +385,39 @@ Delivers old (Some (Asks to session number request)) new = TakesRequest old to s
 Delivers old (Some (Answers from session number reply)) new = TakesAnswer old from session number reply new
 
 -- what an opening of the archive gives
-pub data OpensArchive (machine : CoordinatorMachine) : CoordinatorMachine → List Kept → Type 0 where
-  archive_opened : (room : Kept → Bool) → OpensArchive machine (record machine { status = Up; has_room = room; writing = None }) []
-  archive_recovered : (room : Kept → Bool) (kept : Kept) → machine.writing ≡ Some kept → CanKeep machine.archive kept →
-      OpensArchive machine (record machine { status = Up; archive = after_kept machine.archive kept; has_room = room; writing = None }) (kept ∷ [])
+pub data OpensArchive (machine : CoordinatorMachine) (calls : ℕ) : CoordinatorMachine → List Kept → Type 0 where
+  archive_opened : (room : Kept → Bool) (arms : Arms) → Meets machine.arms calls 0 Up arms → OpensArchive machine calls (record machine { status = Up; has_room = room; writing = None; arms = arms }) []
+  archive_recovered : (room : Kept → Bool) (arms : Arms) (kept : Kept) → Meets machine.arms calls 0 Up arms → machine.writing ≡ Some kept → CanKeep machine.archive kept →
+      OpensArchive machine calls (record machine { status = Up; archive = after_kept machine.archive kept; has_room = room; writing = None; arms = arms }) (kept ∷ [])
 
-abbrev pub OpensMachine : World → Machine → World → Type 0
-OpensMachine old (At which) new = SideGoes old which (Opens (side_of old which)) [] new
-OpensMachine old Coordinator new =
-    (machine : CoordinatorMachine) × (kept : List Kept) × OpensArchive old.coordinator machine kept
+abbrev pub OpensMachine : World → Machine → ℕ → World → Type 0
+OpensMachine old (At which) calls new = SideGoes old which (Opens (side_of old which) calls) [] new
+OpensMachine old Coordinator calls new =
+    (machine : CoordinatorMachine) × (kept : List Kept) × OpensArchive old.coordinator calls machine kept
     × (new ≡ record old { coordinator = machine; acknowledged = old.acknowledged ++ map Kept_by kept })
 
 abbrev pub status_of : World → Machine → Status
 status_of world (At which) = (side_of world which).status
 status_of world Coordinator = world.coordinator.status
 
--- the machine goes down at once
+abbrev pub arms_of : World → Machine → Arms
+arms_of world (At which) = (side_of world which).arms
+arms_of world Coordinator = world.coordinator.arms
+
+-- the machine goes down, and nothing is armed there any more
 abbrev pub cut_off : World → Machine → World
 cut_off world (At which) = set_side world which (stopped (side_of world which) (side_of world which).writing)
-cut_off world Coordinator = record world { coordinator = record world.coordinator { status = Down; running = None } }
+cut_off world Coordinator = record world { coordinator = record world.coordinator { status = Down; running = None; arms = unarmed } }
 
--- the machine's device failed, and nothing was being written
-abbrev pub halted : World → Machine → World
-halted world (At which) = set_side world which (record (side_of world which) { status = Halted })
-halted world Coordinator = record world { coordinator = record world.coordinator { status = Halted } }
+-- the machine has this status, and this is armed there
+abbrev pub set_device : World → Machine → Status → Arms → World
+set_device world (At which) status arms = set_side world which (record (side_of world which) { status = status; arms = arms })
+set_device world Coordinator status arms = record world { coordinator = record world.coordinator { status = status; arms = arms } }
 
 abbrev pub refuses_with : World → Refusal → World
 refuses_with world reason = record world { refusals = world.refusals ++ reason ∷ [] }
 
--- the first of the causes refuses_with, or want of memory where none stands
+-- the first of the causes refuses it, or want of memory where none stands
 abbrev pub IsRefused : World → List Cause → World → Type 0
 IsRefused old causes new = (reason : Refusal) × (first_cause (causes ++ (true, why.Memory) ∷ []) ≡ Some reason) × (new ≡ refuses_with old reason)
 
@@ -431,15 +425,25 @@ abbrev pub is_halted : Status → Bool
 is_halted Halted = true
 is_halted _ = false
 
--- a call is lost on a machine that is down; on another it is refused, says why and changes nothing, or no cause stands and it is made
-abbrev pub Calls : World → Machine → List Cause → Type 0 → World → Type 0
+-- a call that leaves the machine halted is refused so
+abbrev pub answered_by : Machine → World → World
+answered_by machine world = if is_halted (status_of world machine) then refuses_with world Device else world
+
+-- on a machine that is down nothing is done
+abbrev pub UnlessDown : World → Machine → Type 0 → World → Type 0
+UnlessDown old machine IsDone new = ((status_of old machine ≡ Down) × (new ≡ old)) ⊎ ((status_of old machine ≢ Down) × IsDone)
+
+-- a call is refused, says why and changes nothing, or no cause stands and it is made
+abbrev pub Calls : World → Machine → List Cause → (World → Type 0) → World → Type 0
 Calls old machine causes Made new =
     let all = (is_halted (status_of old machine), why.Halted) ∷ causes in
-    ((status_of old machine ≡ Down) × (new ≡ old)) ⊎ ((status_of old machine ≢ Down) × (IsRefused old all new ⊎ ((first_cause all ≡ None) × Made)))
+    UnlessDown old machine (IsRefused old all new ⊎ ((first_cause all ≡ None) × (made : World) × Made made × (new ≡ answered_by machine made))) new
 
--- a machine opens its disk again, or the device fails, or the machine stops; so too where it makes a checkpoint, which may give it room
-abbrev pub Reopens : World → Machine → World → Type 0
-Reopens old machine new = OpensMachine old machine new ⊎ ((new ≡ refuses_with (halted old machine) Device) ⊎ (new ≡ cut_off old machine))
+-- a machine opens its disk again by so many device calls, or one of them fails, or the machine stops; so too where it makes a checkpoint, which may give it room
+abbrev pub Reopens : World → Machine → ℕ → World → Type 0
+Reopens old machine calls new =
+    OpensMachine old machine calls new
+    ⊎ (((arms : Arms) × Meets (arms_of old machine) 0 calls Halted arms × (new ≡ set_device old machine Halted arms)) ⊎ (Meets (arms_of old machine) 0 calls Down unarmed × (new ≡ cut_off old machine)))
 
 abbrev pub edit_causes : SideMachine → Event → List Cause
 edit_causes machine event = event_causes machine.side.history event ++ room_causes machine.has_room event
@@ -452,24 +456,26 @@ start_causes machine =
 -- the next number is kept and the session runs, or the number is still being written
 abbrev pub Starts : World → World → Type 0
 Starts old new =
-    CoordinatorGoes old [] (IsNext old.coordinator.archive) (StartsFrom old.coordinator.archive) new × (new.reports ≡ old.reports)
-    × (IsSome new.coordinator.running ⊎ IsSome new.coordinator.writing)
+    (goes : CoordinatorGoes old [] (IsNext old.coordinator.archive) (StartsFrom old.coordinator.archive) new) × (new.reports ≡ old.reports)
+    × (((new.coordinator.status ≡ Up) × IsSome new.coordinator.running) ⊎ IsSome new.coordinator.writing) × Meets old.coordinator.arms (4 * length goes.kept) 4 new.coordinator.status new.coordinator.arms
 
--- One step. A device may fail and a machine may stop within any call, of which Fail and Stop say when
+-- One step. A checkpoint makes six device calls, and a reopening at least one. An opening finds nothing armed
 abbrev pub Steps : World → Step → World → Type 0
 Steps old (Edits side user edit) new =
     let event = Edited user edit in let machine = side_of old side in
-    Calls old (At side) (edit_causes machine event) (IsLawfulEvent event × SideGoes old side (Writes machine event) [] new) new
-Steps old Start new = Calls old Coordinator (start_causes old.coordinator) (Starts old new) new
+    Calls old (At side) (edit_causes machine event) (λ made. IsLawfulEvent event × SideGoes old side (Writes machine event) [] made) new
+Steps old Start new = Calls old Coordinator (start_causes old.coordinator) (Starts old) new
 Steps old (Deliver message) new = Delivers old (slice_get old.sent message) new
 Steps old Tick new = ((old.coordinator.running ≡ None) × (new ≡ old)) ⊎ ((old.coordinator.running ≢ None) × Ticks old new)
-Steps old (Checkpoint machine) new = (full : Bool) × Calls old machine ((full, why.Full) ∷ []) (Reopens old machine new) new
-Steps old (Fail machine call) new = new ≡ old
-Steps old (Stop machine zero) new = ((status_of old machine ≡ Down) × (new ≡ old)) ⊎ ((status_of old machine ≢ Down) × (new ≡ cut_off old machine))
-Steps old (Stop machine (suc calls)) new = new ≡ old
+Steps old (Checkpoint machine) new = (full : Bool) × Calls old machine ((full, why.Full) ∷ []) (Reopens old machine 6) new
+Steps old (Fail machine call) new = UnlessDown old machine (new ≡ set_device old machine (status_of old machine) (record (arms_of old machine) { fail = call })) new
+Steps old (Stop machine zero) new = UnlessDown old machine (new ≡ cut_off old machine) new
+Steps old (Stop machine (suc calls)) new = UnlessDown old machine (new ≡ set_device old machine (status_of old machine) (record (arms_of old machine) { stop = suc calls })) new
 Steps old (Open machine) new =
-    ((status_of old machine ≢ Down) × (new ≡ old)) ⊎ ((status_of old machine ≡ Down) × (OpensMachine old machine new ⊎ (IsRefused old [] new ⊎ (new ≡ refuses_with old Device))))
-Steps old (Reopen machine) new = ((status_of old machine ≡ Down) × (new ≡ old)) ⊎ ((status_of old machine ≢ Down) × (IsRefused old [] new ⊎ Reopens old machine new))
+    ((status_of old machine ≢ Down) × (new ≡ old)) ⊎ ((status_of old machine ≡ Down) × (OpensMachine old machine 0 new ⊎ (IsRefused old [] new ⊎ (new ≡ refuses_with old Device))))
+Steps old (Reopen machine) new = UnlessDown old machine ((calls : ℕ) × (
+    ((arms : Arms) × Meets (arms_of old machine) calls 0 Up arms × IsRefused (set_device old machine (status_of old machine) arms) [] new)
+    ⊎ ((1 ≤ calls) × (made : World) × Reopens old machine calls made × (new ≡ answered_by machine made)))) new
 
 -- a list of steps, one after another
 abbrev pub Runs : World → List Step → World → Type 0

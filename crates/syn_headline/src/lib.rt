@@ -3,7 +3,7 @@
 
 ghost use Rattle.syn_headline.specs.Laws.{ServesAllowed, RepeatsAreDone, LaterAreOld};
 ghost use Rattle.syn_headline.specs.Rows.{SideRows};
-ghost use Rattle.syn_headline.specs.Headline.{formatted, IsPair, RunsStand, OfEachRun, EachReplacementIsLegal, EachTokenOnce, EachEntryWasHeld, LeavesPair, LogsPlans, Owes, CompleteSessionsSynchronize, CompleteSessionsReconcile, ReportsItsConflicts, CountsItsItems, CarriedIsMarked};
+ghost use Rattle.syn_headline.specs.Headline.{formatted, IsPair, RunsStand, OfEachRun, EachReplacementIsLegal, EachTokenOnce, EachEntryWasHeld, LeavesPair, LogsPlans, Owes, StaysWithoutStop, ArmedCallsCome, CompleteSessionsSynchronize, CompleteSessionsReconcile, ReportsItsConflicts, CountsItsItems, CarriedIsMarked};
 
 /// A step of a side leaves its history or adds one allowed event, and answers as the worked examples say.
 pub fn side_laws()
@@ -13,7 +13,8 @@ pub fn side_laws()
     ensures rows { SideRows }
 {}
 
-/// In every run, with stops and failing devices, the machines stand for what was acknowledged, each replacement is legal, and each plan is logged.
+/// In every run, with stops and failing devices, the machines stand for what was acknowledged, each replacement is legal, and each plan is
+/// logged. A machine goes down only by a stop, and a device call that is armed comes.
 pub fn run_laws()
     ensures formatted { IsPair formatted }
     ensures stands { RunsStand }
@@ -23,6 +24,8 @@ pub fn run_laws()
     ensures pair { OfEachRun LeavesPair }
     ensures logged { OfEachRun LogsPlans }
     ensures owe { OfEachRun Owes }
+    ensures up { StaysWithoutStop }
+    ensures armed { ArmedCallsCome }
 {}
 
 /// In every run a complete session without edits leaves the synchronization of what it found and the archive of it, reports its conflicts, counts its items, and marks what was carried before it.

@@ -25,7 +25,7 @@ use Rattle.syn_witness.proofs.WitnessTrees.{get_by, replace-entries, fits_archiv
 use Rattle.syn_witness.proofs.WitnessFiles.{alone, with_file, digest, alone-entries, file_mark-entries, put-entries, marked_whole, root_only, path_of_letter, mark_is_part}
 use Rattle.syn_witness.proofs.WitnessScans.{left_history, left_scan, left-entries, left_marks-entries, left_part}
 use Rattle.syn_witness.proofs.ExchangeScans.{right_history, right_scan, right-entries, right_marks-entries, right_part, plan_is}
-use Rattle.syn_witness.proofs.WitnessSteps.{none_refused, runs_on_from, goes, takes, both_sent, up_not_down}
+use Rattle.syn_witness.proofs.WitnessSteps.{meets_unarmed, none_refused, runs_on_from, goes, takes, both_sent, up_not_down}
 use Rattle.syn_witness.proofs.WitnessLemmas.{letter_a}
 use Rattle.syn_witness.proofs.ExchangeSides.{scans, listed_at, made, two_bytes, right_done, left_done, begun_archive, first_archive, both_archive, messages, first_planned, second_planned, plan, both_begin, right_begins, both_list, right_lists, left_fetches, right_stages, right_replaces, right_fetches, left_stages, left_replaces, first_edited, both_edited, started, left_begun, both_begun, right_awaited, listing, left_listed, both_listed, right_list_awaited, fetching, fetched, staging, staged, replacing, replaced, second_fetching, second_fetched, second_staging, second_staged, second_replacing, second_replaced, exchanged, tells, once, edits_left, letter_b, edits_right, begins_left, begins_right, lists_left, lists_right, stays, fetches_first, stages_first, replaces_first, fetches_second, stages_second, replaces_second}
 
@@ -82,14 +82,17 @@ starts = inr (
   up_not_down,
   inr (
     refl,
+    started,
     (
       goes both_edited [] (IsNext new_archive) (StartsFrom new_archive) begun_archive (Some both_begin) (take 2 messages) (Session 1 ∷ []) []
           refl (All-cons (IsNext new_archive) (Session 1) [] refl (All-nil (IsNext new_archive))) (record { lawful = tt; not_refused = refl }, tt) refl
           (refl, refl, refl) (refl, both_sent (take 2 messages) both_begin ((0, omega arith, refl), tt) ((1, omega arith, refl), tt), (omega arith, omega arith, omega arith)) (tells 2) (once 2)
           (All-from_recursion (IsOfSession 7 [] both_begin) (take 2 messages) ((refl, (omega arith, omega arith), refl), ((refl, (omega arith, omega arith), refl), tt))),
       refl,
-      inl refl,
+      inl (refl, refl),
+      meets_unarmed _ _ _ refl,
     ),
+    refl,
   ),
 )
 

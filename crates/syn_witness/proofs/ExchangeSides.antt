@@ -19,6 +19,7 @@ use Rattle.syn_headline.specs.Side.{Side, Request, Begin, ListAt, Fetch, Stage, 
 use Rattle.syn_headline.specs.Network.{Which, Left, Right, Asks, Answers, Sent, NumbersTell, AsksNothingTwice}
 use Rattle.syn_headline.specs.Acknowledged.{Ack, Happened, Kept_by}
 use Rattle.syn_headline.specs.Planning.{Planned, SessionPlan}
+use Rattle.syn_headline.specs.Arms.{unarmed}
 use Rattle.syn_headline.specs.World.{World, Running, Edits, Deliver, Steps, written}
 use Rattle.syn_witness.specs.Witness.{opened_world, a_path, b_path, put_one, put_two, one, two, complete}
 use Rattle.syn_witness.proofs.WitnessTrees.{replace-entries, fits_by}
@@ -26,7 +27,7 @@ use Rattle.syn_witness.proofs.WitnessFiles.{IsLetter, content, with_file, alone-
 use Rattle.syn_witness.proofs.WitnessScans.{left_history, left_scan, left-entries, left_root}
 use Rattle.syn_witness.proofs.ExchangeScans.{right_history, right_scan, right-entries, right_root}
 use Rattle.syn_witness.proofs.WitnessMessages.{IsNumbered, number_of, numbers_tell, asks_once, tell_before, once_before}
-use Rattle.syn_witness.proofs.WitnessSteps.{edits, waits, runs_with, world_of, reads_nothing, serves, lists}
+use Rattle.syn_witness.proofs.WitnessSteps.{meets_unarmed, edits, waits, runs_with, world_of, reads_nothing, serves, lists}
 use Rattle.syn_witness.proofs.WitnessLemmas.{edit_allowed}
 
 abbrev pub two_bytes : Bytes
@@ -236,7 +237,7 @@ once said = once_before (take said messages) (drop said messages) (subst AsksNot
 
 -- The steps of the sides
 pub edits_left : Steps opened_world (Edits Left 1 put_one) first_edited
-edits_left = edits opened_world Left 1 put_one first_edited.left (Edited 1 put_one ∷ []) first_edited refl refl edit_allowed (written has_room) refl
+edits_left = edits opened_world Left 1 put_one first_edited.left (Edited 1 put_one ∷ []) first_edited first_edited refl refl edit_allowed (written has_room unarmed (meets_unarmed _ _ _ refl)) refl refl
 
 pub letter_b : IsLetter 98
 letter_b = record { ascii = omega arith; no_zero = λ e. omega (arith, e); no_dot = λ e. omega (arith, e); no_slash = λ e. omega (arith, e) }
@@ -246,7 +247,7 @@ second_allowed = put_allowed 2 98 50 (omega arith) letter_b (omega arith)
     (fits_by (replace empty_directory b_path two) (with_file 98 (content (50 ∷ []))) (put-entries empty_directory two 98 (content (50 ∷ [])) alone-entries (file-entries (50 ∷ []))))
 
 pub edits_right : Steps first_edited (Edits Right 2 put_two) both_edited
-edits_right = edits first_edited Right 2 put_two both_edited.right (Edited 2 put_two ∷ []) both_edited refl refl second_allowed (written has_room) refl
+edits_right = edits first_edited Right 2 put_two both_edited.right (Edited 2 put_two ∷ []) both_edited both_edited refl refl second_allowed (written has_room unarmed (meets_unarmed _ _ _ refl)) refl refl
 
 pub begins_left : Steps started (Deliver 0) left_begun
 begins_left = serves started Left 1 0 (Begin 7) None left_side (Begun 2) (Began 1 ∷ []) refl reads_nothing refl tt refl

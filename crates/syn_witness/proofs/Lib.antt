@@ -2,6 +2,7 @@ pub mod WitnessTrees
 pub mod WitnessFiles
 pub mod WitnessMessages
 pub mod WitnessLemmas
+pub mod FailLemmas
 pub mod WitnessScans
 pub mod WitnessSteps
 pub mod WitnessSession

@@ -22,12 +22,13 @@ use Rattle.syn_headline.specs.Network.{Which, Left, Right, Asks, Answers, Sent, 
 use Rattle.syn_headline.specs.Acknowledged.{Ack, Happened, Kept_by}
 use Rattle.syn_headline.specs.Planning.{Planned, IsPlanOf, IsScanOf, HasBegun, SeesBoth, SessionPlan}
 use Rattle.syn_headline.specs.World.{MakesPlan, World, Coordinator, Running, Down, Edits, Start, Deliver, Stop, Open, Steps, Runs, IsOfSession, IsDue, same, IsNext, StartsFrom, goes_on, ended, archive_opened, EndsTaken}
+use Rattle.syn_headline.specs.Arms.{unarmed}
 use Rattle.syn_headline.specs.Headline.{IsQuietSession, IsNoEdit, formatted, stores_of}
 use Rattle.syn_witness.specs.Witness.{keeps_all, opened_world, a_path, put_one, one, marked_later, found_later, IsMarkedLater, CarriedIsMarkedLater}
 use Rattle.syn_witness.proofs.WitnessTrees.{get_by, fits_archive_by}
 use Rattle.syn_witness.proofs.WitnessFiles.{alone, with_file, digest, alone-entries, file_mark-entries, put-entries, marked_whole, root_only, path_of_letter, one_byte, file_is_part, file_spelling, file_fits_part, file_fits_paths, mark_is_part}
 use Rattle.syn_witness.proofs.WitnessMessages.{IsNumbered, number_of, numbers_tell, asks_once, tell_before, once_before}
-use Rattle.syn_witness.proofs.WitnessSteps.{none_refused, waits, runs_with, world_of, reads_nothing, serves, lists, goes, takes, both_sent, runs_on_from, up_not_down}
+use Rattle.syn_witness.proofs.WitnessSteps.{meets_unarmed, none_refused, waits, runs_with, world_of, reads_nothing, serves, lists, goes, takes, both_sent, runs_on_from, up_not_down}
 use Rattle.syn_witness.proofs.WitnessLemmas.{letter_a}
 use Rattle.syn_witness.proofs.WitnessSession.{replaced, begun_archive, left_side, right_done, asked, numbered, root_lawful, none_there, run_to_done}
 use Rattle.syn_witness.proofs.WitnessSession.{messages as first_messages, made as first_made}
@@ -82,7 +83,7 @@ abbrev world : Side → Side → Archive → Option Running → ℕ → ℕ → 
 world = world_of messages acks (first_made ∷ []) 0
 
 abbrev stopped_world : World
-stopped_world = record replaced { coordinator = record { status = Down; archive = begun_archive; has_room = keeps_all; writing = None; running = None } }
+stopped_world = record replaced { coordinator = record { status = Down; archive = begun_archive; has_room = keeps_all; writing = None; running = None; arms = unarmed } }
 
 abbrev opened_again : World
 opened_again = world left_side right_done begun_archive None 14 5
@@ -142,21 +143,24 @@ stops : Steps replaced (Stop Coordinator 0) stopped_world
 stops = inr (up_not_down, refl)
 
 opens : Steps stopped_world (Open Coordinator) opened_again
-opens = inr (refl, inl (opened_again.coordinator, [], archive_opened keeps_all, refl))
+opens = inr (refl, inl (opened_again.coordinator, [], archive_opened keeps_all unarmed (meets_unarmed _ _ _ refl), refl))
 
 starts : Steps opened_again Start started
 starts = inr (
   up_not_down,
   inr (
     refl,
+    started,
     (
       goes opened_again [] (IsNext begun_archive) (StartsFrom begun_archive) next_archive (Some both_begin) (drop 14 (take 16 messages)) (Session 2 ∷ []) []
           refl (All-cons (IsNext begun_archive) (Session 2) [] refl (All-nil (IsNext begun_archive))) (record { lawful = tt; not_refused = refl }, tt) refl
           (refl, refl, refl) (refl, both_sent (take 16 messages) both_begin ((14, omega arith, refl), tt) ((15, omega arith, refl), tt), (omega arith, omega arith, omega arith)) (tells 16) (once 16)
           (All-from_recursion (IsOfSession 7 (take 14 messages) both_begin) (drop 14 (take 16 messages)) ((refl, (omega arith, omega arith), refl), ((refl, (omega arith, omega arith), refl), tt))),
       refl,
-      inl refl,
+      inl (refl, refl),
+      meets_unarmed _ _ _ refl,
     ),
+    refl,
   ),
 )
 

@@ -10,21 +10,22 @@ use Rattle.syn_model.specs.Archive.{Session, new_archive}
 use Rattle.syn_headline.specs.Side.{Begin}
 use Rattle.syn_headline.specs.Network.{Which, Left, Right, Asks, Sent, NumbersTell, AsksNothingTwice}
 use Rattle.syn_headline.specs.Acknowledged.{Happened, Kept_by}
+use Rattle.syn_headline.specs.Arms.{unarmed, one_stops}
 use Rattle.syn_headline.specs.World.{IsNoItem, most_resends, World, Running, Outstanding, Step, Start, Tick, Up, Steps, Runs, cut, recovered, stopped, goes_on, ended, WasSent, IsOfSession, IsNothing, IsNext, StartsFrom, GoesOnAs}
 use Rattle.syn_headline.specs.Rows.{has_room}
 use Rattle.syn_witness.specs.Witness.{keeps_all, new_machine, opened_world, OpenedIsStart, StopIsRecovered, SilenceEnds, a_path, put_one, one, unanswered}
 use Rattle.syn_headline.proofs.FormattedLemmas.{formatted_is_pair}
 use Rattle.syn_witness.proofs.WitnessTrees.{fits_by}
 use Rattle.syn_witness.proofs.WitnessFiles.{IsLetter, content, with_file, alone-entries, file-entries, put-entries, put_allowed}
-use Rattle.syn_witness.proofs.WitnessSteps.{both_sent, none_refused, edits, goes, up_not_down}
+use Rattle.syn_witness.proofs.WitnessSteps.{meets_unarmed, both_sent, none_refused, edits, goes, up_not_down}
 use Rattle.syn_witness.proofs.WitnessMessages.{IsNumbered, numbers_tell, asks_once}
 
 pub opened_is_start : OpenedIsStart
 opened_is_start = record {
   pair = formatted_is_pair;
-  left = (refl, refl, refl);
-  right = (refl, refl, refl);
-  coordinator = (refl, refl, refl);
+  left = (refl, refl, refl, refl);
+  right = (refl, refl, refl, refl);
+  coordinator = (refl, refl, refl, refl);
   nothing_yet = (refl, refl, refl, refl);
 }
 
@@ -36,23 +37,30 @@ pub edit_allowed : IsAllowed [] (Edited 1 put_one)
 edit_allowed = put_allowed 1 97 49 (omega arith) letter_a (omega arith)
     (fits_by (replace empty_directory a_path one) (with_file 97 (content (49 ∷ []))) (put-entries empty_directory one 97 (content (49 ∷ [])) alone-entries (file-entries (49 ∷ []))))
 
+armed_world : World
+armed_world = record opened_world { left = record new_machine { arms = record { fail = 0; stop = 3 } } }
+
 cut_world : World
 cut_world = record opened_world { left = stopped new_machine (Some (Edited 1 put_one)) }
 
 recovered_world : World
 recovered_world = record opened_world {
-  left = record { status = Up; side = record { history = Edited 1 put_one ∷ []; staging = None }; has_room = has_room; writing = None };
+  left = record { status = Up; side = record { history = Edited 1 put_one ∷ []; staging = None }; has_room = has_room; writing = None; arms = unarmed };
   acknowledged = Happened Left (Edited 1 put_one) ∷ [];
 }
 
 pub stop_is_recovered : StopIsRecovered
-unfolding cut_world recovered_world
+unfolding armed_world cut_world recovered_world
 stop_is_recovered = record {
   new = recovered_world;
   runs = (
-    cut_world,
-    edits opened_world Left 1 put_one (stopped new_machine (Some (Edited 1 put_one))) [] cut_world refl refl edit_allowed cut refl,
-    (recovered_world, inr (refl, inl (recovered_world.left, Edited 1 put_one ∷ [], recovered has_room (Edited 1 put_one) refl edit_allowed, refl)), refl),
+    armed_world,
+    inr (up_not_down, refl),
+    (
+      cut_world,
+      edits armed_world Left 1 put_one cut_world.left [] cut_world cut_world refl refl edit_allowed (cut (one_stops 2 (omega arith) (omega arith) (inl refl) refl)) refl refl,
+      (recovered_world, inr (refl, inl (recovered_world.left, Edited 1 put_one ∷ [], recovered has_room unarmed (Edited 1 put_one) (meets_unarmed _ _ _ refl) refl edit_allowed, refl)), refl),
+    ),
   );
   sent = refl;
   acknowledged_then = refl;
@@ -93,7 +101,7 @@ begin_waits resent = both_sent (begins (suc resent)) (waiting_for resent) (begin
 
 abbrev waiting : ℕ → World
 waiting resent = record opened_world {
-  coordinator = record { status = Up; archive = record { marks = empty_directory; last_session = 1 }; has_room = keeps_all; writing = None; running = Some (waiting_for resent) };
+  coordinator = record { status = Up; archive = record { marks = empty_directory; last_session = 1 }; has_room = keeps_all; writing = None; running = Some (waiting_for resent); arms = unarmed };
   sent = begins (suc resent);
   acknowledged = Kept_by (Session 1) ∷ [];
 }
@@ -109,13 +117,16 @@ starts = inr (
   up_not_down,
   inr (
     refl,
+    waiting 0,
     (
       goes opened_world [] (IsNext new_archive) (StartsFrom new_archive) (record { marks = empty_directory; last_session = 1 }) (Some (waiting_for 0)) (begins 1) (Session 1 ∷ []) []
           refl (All-cons (IsNext new_archive) (Session 1) [] refl (All-nil (IsNext new_archive))) (record { lawful = tt; not_refused = refl }, tt) refl
           (refl, refl, refl) (refl, begin_waits 0, (omega arith, omega arith, omega arith)) (begins_tell 1) (begins_once 1) (begins_lawful (waiting_for 0) [] refl),
       refl,
-      inl refl,
+      inl (refl, refl),
+      meets_unarmed _ _ _ refl,
     ),
+    refl,
   ),
 )
 
@@ -134,13 +145,14 @@ resends resent early = inr (
         (begins_lawful (waiting_for (suc resent)) (begins (suc resent)) refl);
     reports = inl (refl, (inl refl, none_refused IsNoItem));
     same_status = refl;
+    same_arms = refl;
     sends = record { not_yet = ap (λ b. b || (b || false)) early; counted = refl; again = refl };
   },
 )
 
 abbrev ended_world : ℕ → World
 ended_world resent = record (waiting resent) {
-  coordinator = record { status = Up; archive = record { marks = empty_directory; last_session = 1 }; has_room = keeps_all; writing = None; running = None };
+  coordinator = record { status = Up; archive = record { marks = empty_directory; last_session = 1 }; has_room = keeps_all; writing = None; running = None; arms = unarmed };
   reports = (unanswered, 1) ∷ [];
 }
 
@@ -155,6 +167,7 @@ gives_up resent late =
             refl (All-nil IsNothing) tt refl ended tt (subst NumbersTell (sym same) (begins_tell (suc resent))) (subst AsksNothingTwice (sym same) (begins_once (suc resent))) refl;
         reports = inr (waiting_for resent, unanswered, refl, refl, up_not_down, refl, (refl, refl, inl (ap (λ b. b || (b || false)) late, refl)), record { done = refl; marked = refl }, none_refused IsNoItem);
         same_status = refl;
+        same_arms = refl;
         sends = tt;
       },
     ))

@@ -23,13 +23,14 @@ use Rattle.syn_headline.specs.Network.{Which, Left, Right, Asks, Answers, Sent, 
 use Rattle.syn_headline.specs.Acknowledged.{Ack, Happened, Kept_by}
 use Rattle.syn_headline.specs.Planning.{Planned, IsPlanOf, IsScanOf, HasBegun, SeesBoth, SessionPlan}
 use Rattle.syn_headline.specs.World.{MakesPlan, World, Running, Edits, Start, Deliver, Steps, written, IsOfSession, IsDue, done, IsNext, StartsFrom, goes_on, ended, Runs, EndsTaken}
+use Rattle.syn_headline.specs.Arms.{unarmed}
 use Rattle.syn_witness.specs.Witness.{opened_world, a_path, put_one, one, complete, FileIsCarried}
 use Rattle.syn_headline.specs.Headline.{IsQuietSession, IsNoEdit, formatted, stores_of}
 use Rattle.syn_witness.proofs.WitnessTrees.{get_by, fits_by, fits_archive_by}
 use Rattle.syn_witness.proofs.WitnessFiles.{alone, with_file, content, digest, alone-entries, file-entries, file_mark-entries, put-entries, marked_whole, alone_whole, root_only, root_alone, path_of_letter, one_byte, file_is_part, file_spelling, file_fits_part, file_fits_paths, mark_is_part}
 use Rattle.syn_witness.proofs.WitnessScans.{left_history, right_history, left_scan, right_scan, left-entries, right_marks-entries, left_marks-entries, left_root, right_root, left_part, plan_is}
 use Rattle.syn_witness.proofs.WitnessMessages.{number_of, IsNumbered, numbers_tell, asks_once, tell_before, once_before}
-use Rattle.syn_witness.proofs.WitnessSteps.{none_refused, runs_on_from, edits as edits_allowed, waits, runs_with, world_of, takes, reads_nothing, serves, lists, goes, both_sent, up_not_down}
+use Rattle.syn_witness.proofs.WitnessSteps.{meets_unarmed, none_refused, runs_on_from, edits as edits_allowed, waits, runs_with, world_of, takes, reads_nothing, serves, lists, goes, both_sent, up_not_down}
 use Rattle.syn_witness.proofs.WitnessLemmas.{letter_a, edit_allowed}
 
 -- The sides, before and after
@@ -183,7 +184,7 @@ once said = once_before (take said messages) (drop said messages) (subst AsksNot
 
 -- The steps of the sides
 edits : Steps opened_world (Edits Left 1 put_one) edited_world
-edits = edits_allowed opened_world Left 1 put_one edited_world.left (Edited 1 put_one ∷ []) edited_world refl refl edit_allowed (written has_room) refl
+edits = edits_allowed opened_world Left 1 put_one edited_world.left (Edited 1 put_one ∷ []) edited_world edited_world refl refl edit_allowed (written has_room unarmed (meets_unarmed _ _ _ refl)) refl refl
 
 begins_left : Steps started (Deliver 0) left_begun
 begins_left = serves started Left 1 0 (Begin 7) None left_side (Begun 2) (Began 1 ∷ []) refl reads_nothing refl tt refl
@@ -275,14 +276,17 @@ starts = inr (
   up_not_down,
   inr (
     refl,
+    started,
     (
       goes edited_world [] (IsNext new_archive) (StartsFrom new_archive) begun_archive (Some both_begin) (take 2 messages) (Session 1 ∷ []) []
           refl (All-cons (IsNext new_archive) (Session 1) [] refl (All-nil (IsNext new_archive))) (record { lawful = tt; not_refused = refl }, tt) refl
           (refl, refl, refl) (refl, both_sent (take 2 messages) both_begin ((0, omega arith, refl), tt) ((1, omega arith, refl), tt), (omega arith, omega arith, omega arith)) (tells 2) (once 2)
           (All-from_recursion (IsOfSession 7 [] both_begin) (take 2 messages) ((refl, (omega arith, omega arith), refl), ((refl, (omega arith, omega arith), refl), tt))),
       refl,
-      inl refl,
+      inl (refl, refl),
+      meets_unarmed _ _ _ refl,
     ),
+    refl,
   ),
 )
 

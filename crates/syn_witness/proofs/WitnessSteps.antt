@@ -1,5 +1,5 @@
 -- A step of a witness run where no device fails and no machine stops.
-use Rattle.std.proofs.Common.{not, inr, ◌-◌, ◌≡◌, ◌≢◌, ℕ, true, true≢false, List, [], ◌∷◌, ◌++◌, map, take, length, if◌then◌else◌, refl, sym, ap, ◌∙◌, subst, Option, Some, None, arith, inl}
+use Rattle.std.proofs.Common.{not, inr, ◌-◌, ◌≡◌, ◌≢◌, ℕ, true, true≢false, List, [], ◌∷◌, ◌++◌, map, take, length, if◌then◌else◌, refl, sym, ap, ◌∙◌, subst, Option, Some, None, arith, inl, ◌+◌, ◌*◌, false}
 use Rattle.std.specs.Prelude.{All, Contains}
 use Rattle.std.specs.List.{AllByRecursion}
 use Rattle.std.specs.FinMap.{get, len}
@@ -21,7 +21,8 @@ use Rattle.syn_headline.specs.Network.{Which, Left, Right, Message, Asks, Answer
 use Rattle.syn_headline.specs.Acknowledged.{Ack, Happened, Kept_by}
 use Rattle.syn_headline.specs.Planning.{Planned, Log}
 use Rattle.syn_headline.specs.Report.{Report}
-use Rattle.syn_headline.specs.World.{SideMachine, Writes, Edits, Steps, is_halted, edit_causes, World, Outstanding, Status, Up, Halted, Down, Running, TakesRequest, answered, ServesAs, CoordinatorGoes, AllCanKeep, RunsOver, WasSent, AllOfSession, side_of, set_side, TakesAnswer, taken, IsExpected, HasPlan, IsDueAfter, GoesOnFrom, IsOver, Reports, AddsRefused, RefusesTaken, EndsTaken, Step, Runs}
+use Rattle.syn_headline.specs.Arms.{Arms, unarmed, Meets, all_made}
+use Rattle.syn_headline.specs.World.{answered_by, At, SideMachine, Writes, Edits, Steps, is_halted, edit_causes, World, Outstanding, Status, Up, Halted, Down, Running, TakesRequest, answered, ServesAs, CoordinatorGoes, AllCanKeep, RunsOver, WasSent, AllOfSession, side_of, set_side, TakesAnswer, taken, IsExpected, HasPlan, IsDueAfter, GoesOnFrom, IsOver, Reports, AddsRefused, RefusesTaken, EndsTaken, Step, Runs}
 
 abbrev is_up : Status → Type 0
 is_up Up = Unit {0}
@@ -33,6 +34,27 @@ up_not_down e = subst is_up e tt
 
 pub up_not_halted : Up ≢ Halted
 up_not_halted e = subst is_up e tt
+
+abbrev pub state : Status → Arms → Status × Arms
+state status arms = (status, arms)
+
+-- a machine is up, and nothing is armed at it
+abbrev pub IsReady : Status → Arms → Type 0
+IsReady status arms = state status arms ≡ state Up unarmed
+
+pub is_up_then : (status : Status) (arms : Arms) → IsReady status arms → status ≡ Up
+is_up_then status arms e = ap (λ s. s.0) e
+
+pub is_unarmed : (status : Status) (arms : Arms) → IsReady status arms → arms ≡ unarmed
+is_unarmed status arms e = ap (λ s. s.1) e
+
+-- so its calls are all made
+none_left : (calls : ℕ) → 0 - calls ≡ 0
+none_left calls = omega arith
+
+pub meets_unarmed : (arms : Arms) (whole next : ℕ) → arms ≡ unarmed → Meets arms whole next Up arms
+meets_unarmed arms whole next e =
+    subst (λ a. Meets a whole next Up a) (sym e) (subst (λ n. Meets unarmed whole next Up (record { fail = n; stop = n })) (none_left whole) (all_made (inl refl) (inl refl)))
 
 -- no spelling is empty
 not_nil : {X : Type 0} (x : X) (xs : List X) → x ∷ xs ≢ []
@@ -64,17 +86,19 @@ after_answer old which session number side reply events = record (set_side old w
 }
 
 pub serves : (old : World) (which : Which) (session number : ℕ) (request : Request) (read : Option Tree) (side : Side) (reply : Reply) (events : List Event) →
-    (side_of old which).status ≡ Up → Reads (staged_bytes (side_of old which).side.staging) read → answer side reply ≡ serve old.pair (side_of old which).has_room read (side_of old which).side session request →
+    IsReady (side_of old which).status (side_of old which).arms → Reads (staged_bytes (side_of old which).side.staging) read → answer side reply ≡ serve old.pair (side_of old which).has_room read (side_of old which).side session request →
     is_granted reply → side.history ≡ (side_of old which).side.history ++ events → TakesRequest old which session number request (after_answer old which session number side reply events)
-serves old which session number request read side reply events up reads is granted added = answered (record {
+serves old which session number request read side reply events ready reads is granted added = answered (record {
   served = answer side reply;
   events = events;
   room = (side_of old which).has_room;
-  serves = subst (λ status. ServesAs status old.pair (side_of old which).has_room (side_of old which).side session request (answer side reply)) (sym up) (inl (read, reads, is));
+  arms = (side_of old which).arms;
+  serves = subst (λ status. ServesAs status old.pair (side_of old which).has_room (side_of old which).side session request (answer side reply)) (sym (is_up_then _ _ ready)) (inl (read, reads, is));
   no_failure = λ e. subst is_granted e granted;
   no_halt = λ _ e. subst is_granted e granted;
   same_room = λ _. refl;
   added = added;
+  meets = meets_unarmed _ _ _ (is_unarmed _ _ ready);
   result = refl;
 })
 
@@ -85,7 +109,7 @@ lists side path h = sym (ap (λ b. answer side (if b then Listed (length side.hi
 
 abbrev pub after_call : World → Log → Archive → Option Running → List Message → List Kept → List (Report × ℕ) → World
 after_call old logged archive running messages kept reports = record old {
-  coordinator = record { status = Up; archive = archive; has_room = keeps_all; writing = None; running = running };
+  coordinator = record { status = Up; archive = archive; has_room = keeps_all; writing = None; running = running; arms = unarmed };
   sent = old.sent ++ messages;
   acknowledged = old.acknowledged ++ map Kept_by kept;
   reports = old.reports ++ reports;
@@ -93,28 +117,28 @@ after_call old logged archive running messages kept reports = record old {
 }
 
 -- an edit that is allowed on a side that is up and has room for it
-pub edits : (old : World) (which : Which) (user : ℕ) (edit : Edit) (machine : SideMachine) (events : List Event) (new : World) → (side_of old which).status ≡ Up → (side_of old which).has_room (Edited user edit) ≡ true →
+pub edits : (old : World) (which : Which) (user : ℕ) (edit : Edit) (machine : SideMachine) (events : List Event) (made new : World) → (side_of old which).status ≡ Up → (side_of old which).has_room (Edited user edit) ≡ true →
     IsAllowed (side_of old which).side.history (Edited user edit) → Writes (side_of old which) (Edited user edit) machine events →
-    new ≡ record (set_side old which machine) { sent = old.sent ++ []; acknowledged = old.acknowledged ++ map (λ event. Happened which event) events } → Steps old (Edits which user edit) new
-edits old which user edit machine events new up room allowed writes is =
+    made ≡ record (set_side old which machine) { sent = old.sent ++ []; acknowledged = old.acknowledged ++ map (λ event. Happened which event) events } → new ≡ answered_by (At which) made → Steps old (Edits which user edit) new
+edits old which user edit machine events made new up room allowed writes is says =
     let here = side_of old which in
     let event = Edited user edit in
     let fits : first_cause (room_causes here.has_room event) ≡ None = ap (λ b. first_cause ((not b, JournalFull) ∷ [])) room in
     let none : first_cause (edit_causes here event) ≡ None = append-none (event_causes here.side.history event) (room_causes here.has_room event) allowed.not_refused fits in
-    inr (λ e. up_not_down (sym up ∙ e), inr (ap (λ status. first_cause ((is_halted status, Halted_before) ∷ edit_causes here event)) up ∙ none, (allowed.lawful, (machine, events, writes, is))))
+    inr (λ e. up_not_down (sym up ∙ e), inr (ap (λ status. first_cause ((is_halted status, Halted_before) ∷ edit_causes here event)) up ∙ none, made, (allowed.lawful, (machine, events, writes, is)), says))
 
 -- a call of the coordinator, up before and after
-pub goes : (old : World) (logged : Log) (IsDue_now : Kept → Type 0) (RunsOn : Option Running → Type 0) (archive : Archive) (running : Option Running) (messages : List Message) (kept : List Kept) (reports : List (Report × ℕ)) →
-    old.coordinator.status ≡ Up → All IsDue_now kept → AllCanKeep old.coordinator.archive kept → archive ≡ archive_of old.coordinator.archive kept →
+abbrev pub goes : (old : World) (logged : Log) (IsDue_now : Kept → Type 0) (RunsOn : Option Running → Type 0) (archive : Archive) (running : Option Running) (messages : List Message) (kept : List Kept) (reports : List (Report × ℕ)) →
+    IsReady old.coordinator.status old.coordinator.arms → All IsDue_now kept → AllCanKeep old.coordinator.archive kept → archive ≡ archive_of old.coordinator.archive kept →
     RunsOn running → RunsOver (old.sent ++ messages) archive running → NumbersTell (old.sent ++ messages) → AsksNothingTwice (old.sent ++ messages) → AllOfSession old.pair old.sent running messages →
     CoordinatorGoes old logged IsDue_now RunsOn (after_call old logged archive running messages kept reports)
-goes old logged IsDue_now RunsOn archive running messages kept reports up due can is on over tell once of = record {
-  machine = record { status = Up; archive = archive; has_room = keeps_all; writing = None; running = running };
+goes old logged IsDue_now RunsOn archive running messages kept reports ready due can is on over tell once of = record {
+  machine = record { status = Up; archive = archive; has_room = keeps_all; writing = None; running = running; arms = unarmed };
   kept = kept;
   messages = messages;
   reports = reports;
-  not_down = λ e. up_not_down (sym up ∙ e);
-  while_halted = λ e. absurd (up_not_halted (sym up ∙ e));
+  not_down = λ e. up_not_down (sym (is_up_then _ _ ready) ∙ e);
+  while_halted = λ e. absurd (up_not_halted (sym (is_up_then _ _ ready) ∙ e));
   keeps = record { due = due; can = can; archive = is; writing = tt };
   unless_up = λ e. refl;
   runs_on = on;
@@ -144,9 +168,9 @@ runs_with session left right plan = record { session = session; refused = []; le
 abbrev pub world_of : Sent → List Ack → Log → ℕ → Side → Side → Archive → Option Running → ℕ → ℕ → World
 world_of messages acks log made_at left right archive running said acknowledged = record {
   pair = 7;
-  left = record { status = Up; side = left; has_room = has_room; writing = None };
-  right = record { status = Up; side = right; has_room = has_room; writing = None };
-  coordinator = record { status = Up; archive = archive; has_room = keeps_all; writing = None; running = running };
+  left = record { status = Up; side = left; has_room = has_room; writing = None; arms = unarmed };
+  right = record { status = Up; side = right; has_room = has_room; writing = None; arms = unarmed };
+  coordinator = record { status = Up; archive = archive; has_room = keeps_all; writing = None; running = running; arms = unarmed };
   sent = take said messages;
   acknowledged = take acknowledged acks;
   refusals = [];
@@ -156,15 +180,16 @@ world_of messages acks log made_at left right archive running said acknowledged 
 
 -- the coordinator takes an answer that it waits for
 pub takes : (session : ℕ) (old : World) (from : Which) (number : ℕ) (reply : Reply) (plan : List Planned) (logged : Log) (archive : Archive) (next : Option Running) (messages : List Message) (kept : List Kept) (reports : List (Report × ℕ)) →
-    old.coordinator.status ≡ Up → IsExpected old.coordinator.running from session number → HasPlan old.sent old.coordinator.archive old.log old.coordinator.running plan logged →
+    IsReady old.coordinator.status old.coordinator.arms → IsExpected old.coordinator.running from session number → HasPlan old.sent old.coordinator.archive old.log old.coordinator.running plan logged →
     ((IsRefused_now : Refusal × Path → Type 0) → Reports old (after_call old logged archive next messages kept reports) plan IsRefused_now (EndsTaken old (after_call old logged archive next messages kept reports) from number plan reply)) →
     All (IsDueAfter old.coordinator.running plan from number reply) kept → AllCanKeep old.coordinator.archive kept → archive ≡ archive_of old.coordinator.archive kept →
     GoesOnFrom old.coordinator.running plan next → IsOver from number next → RunsOver (old.sent ++ messages) archive next →
     NumbersTell (old.sent ++ messages) → AsksNothingTwice (old.sent ++ messages) → AllOfSession old.pair old.sent next messages →
     TakesAnswer old from session number reply (after_call old logged archive next messages kept reports)
-takes session old from number reply plan logged archive next messages kept reports up expected has ends due can is on over runs tell twice of =
+takes session old from number reply plan logged archive next messages kept reports ready expected has ends due can is on over runs tell twice of =
     taken plan logged expected has (goes old logged (IsDueAfter old.coordinator.running plan from number reply) (λ running. GoesOnFrom old.coordinator.running plan running × IsOver from number running)
-    archive next messages kept reports up due can is (on, over) runs tell twice of)
+    archive next messages kept reports ready due can is (on, over) runs tell twice of)
+    (λ _. (false, subst (Meets old.coordinator.arms (4 * length kept + 0) 6 Up) (is_unarmed _ _ ready) (meets_unarmed _ _ _ (is_unarmed _ _ ready))))
     (ends (RefusesTaken old (after_call old logged archive next messages kept reports) from number plan reply))
 
 -- nothing is refused

@@ -2,22 +2,23 @@
 use Rattle.std.specs.Prelude.{ℕ, ◌≡◌, Bool, true, List, [], ◌∷◌, ◌++◌, None, Some, map, length, replicate}
 use Rattle.syn_model.specs.Rows.{a_name}
 use Rattle.syn_model.specs.Path.{Path}
-use Rattle.syn_model.specs.Refusal.{NoAnswer}
+use Rattle.syn_model.specs.Refusal.{NoAnswer, Device, Halted}
 use Rattle.syn_model.specs.Event.{Put, Edit, Edited, Began, Replaced}
 use Rattle.syn_model.specs.Tree.{Tree, file, subtree, empty_directory}
-use Rattle.syn_model.specs.History.{tree_of, tree_at}
+use Rattle.syn_model.specs.History.{History, tree_of, tree_at}
 use Rattle.syn_model.specs.Mark.{mark}
 use Rattle.syn_model.specs.Archive.{Kept, Session, Recorded, new_archive}
 use Rattle.syn_headline.specs.Network.{Left, Right}
 use Rattle.syn_headline.specs.Acknowledged.{Ack, Happened, Kept_by, Stores}
 use Rattle.syn_headline.specs.Report.{Report, Complete, Incomplete}
-use Rattle.syn_headline.specs.World.{World, At, Step, Edits, Start, Deliver, Stop, Coordinator, Tick, Open, Up, SideMachine, Runs}
+use Rattle.syn_headline.specs.Arms.{unarmed}
+use Rattle.syn_headline.specs.World.{World, At, Step, Edits, Start, Deliver, Stop, Coordinator, Tick, Open, Fail, Reopen, Up, SideMachine, Runs}
 use Rattle.syn_headline.specs.Headline.{IsStart, formatted, stores_of, IsQuietSession, UntouchedSince}
 use Rattle.syn_headline.specs.Side.{token_of}
 use Rattle.syn_headline.specs.Rows.{new_side, has_room}
 
 abbrev pub new_machine : SideMachine
-new_machine = record { status = Up; side = new_side; has_room = has_room; writing = None }
+new_machine = record { status = Up; side = new_side; has_room = has_room; writing = None; arms = unarmed }
 
 -- its archive has room for all
 abbrev pub keeps_all : Kept → Bool
@@ -29,7 +30,7 @@ opened_world = record {
   pair = 7;
   left = new_machine;
   right = new_machine;
-  coordinator = record { status = Up; archive = formatted.archive; has_room = keeps_all; writing = None; running = None };
+  coordinator = record { status = Up; archive = formatted.archive; has_room = keeps_all; writing = None; running = None; arms = unarmed };
   sent = [];
   acknowledged = [];
   refusals = [];
@@ -56,11 +57,20 @@ a_path = a_name ∷ []
 abbrev pub put_one : Edit
 put_one = Put a_path (49 ∷ [])
 
--- a stop cuts off an edit while it is written, and the opening recovers it
+-- a stop after its third device call cuts off an edit, and the opening recovers it
 abbrev pub StopIsRecovered : Type 0
 StopIsRecovered =
-    IsWitness (Edits Left 1 put_one ∷ Open (At Left) ∷ []) 0 (Happened Left (Edited 1 put_one) ∷ []) []
+    IsWitness (Stop (At Left) 3 ∷ Edits Left 1 put_one ∷ Open (At Left) ∷ []) 0 (Happened Left (Edited 1 put_one) ∷ []) []
     (λ world. (world.left.status ≡ Up) × (world.left.side.history ≡ Edited 1 put_one ∷ []))
+
+-- the third device call of an edit fails: the edit is refused 9, the next one 10, and a reopening gives the first back or not
+abbrev pub FailedEdit : List Ack → History → Type 0
+FailedEdit acknowledged history =
+    IsWitness (Fail (At Left) 3 ∷ Edits Left 1 put_one ∷ Edits Left 1 put_one ∷ Reopen (At Left) ∷ []) 0 acknowledged []
+    (λ world. (world.refusals ≡ Device ∷ Halted ∷ []) × (world.left.status ≡ Up) × (world.left.side.history ≡ history))
+
+abbrev pub FailIsRefused : Type 0
+FailIsRefused = FailedEdit (Happened Left (Edited 1 put_one) ∷ []) (Edited 1 put_one ∷ []) × FailedEdit [] []
 
 -- a session that is never answered: its requests are sent again eight times, and the ninth tick ends it
 abbrev pub unanswered : Report

@@ -1,3 +1,4 @@
+use Rattle.syn_witness.proofs.FailLemmas.{fail_is_refused}
 use Rattle.syn_witness.proofs.WitnessLemmas.{opened_is_start, stop_is_recovered, silence_ends}
 use Rattle.syn_witness.proofs.WitnessSession.{file_is_carried}
 use Rattle.syn_witness.proofs.ExchangeLemmas.{files_are_exchanged}
@@ -21,3 +22,6 @@ returns-clause-exchanged c = files_are_exchanged
 
 pub returns-clause-marked : goal.returns-clause-marked
 returns-clause-marked c = carried_is_marked_later
+
+pub returns-clause-failed : goal.returns-clause-failed
+returns-clause-failed c = fail_is_refused

@@ -1,0 +1,81 @@
+-- An edit whose third device call fails, and the reopening after it.
+use Rattle.std.proofs.Common.{◌≢◌, List, [], ◌∷◌, refl, Some, None, arith, inl, inr}
+use Rattle.syn_model.specs.Refusal.{Device, Halted as Halted_before}
+use Rattle.syn_model.specs.Event.{Edited}
+use Rattle.syn_headline.specs.Network.{Left}
+use Rattle.syn_headline.specs.Acknowledged.{Happened}
+use Rattle.syn_headline.specs.Arms.{unarmed, one_fails}
+use Rattle.syn_headline.specs.World.{World, Step, Halted, Down, At, Edits, Fail, Reopen, Steps, Runs, failed, opened, recovered}
+use Rattle.syn_headline.specs.Rows.{has_room}
+use Rattle.syn_witness.specs.Witness.{new_machine, opened_world, FailIsRefused, put_one}
+use Rattle.syn_witness.proofs.WitnessSteps.{edits, meets_unarmed, up_not_down}
+use Rattle.syn_witness.proofs.WitnessLemmas.{edit_allowed}
+
+armed_world : World
+armed_world = record opened_world { left = record new_machine { arms = record { fail = 3; stop = 0 } } }
+
+halted_world : World
+halted_world = record opened_world { left = record new_machine { status = Halted; writing = Some (Edited 1 put_one) } }
+
+refused_world : World
+refused_world = record halted_world { refusals = Device ∷ [] }
+
+twice_refused : World
+twice_refused = record halted_world { refusals = Device ∷ Halted_before ∷ [] }
+
+recovered_world : World
+recovered_world = record twice_refused {
+  left = record new_machine { side = record { history = Edited 1 put_one ∷ []; staging = None } };
+  acknowledged = Happened Left (Edited 1 put_one) ∷ [];
+}
+
+lost_world : World
+lost_world = record twice_refused { left = new_machine }
+
+halted_not_down : Halted ≢ Down
+halted_not_down e = cc
+
+-- up to the reopening
+refuses : (steps : List Step) (new : World) → Runs twice_refused steps new → Runs opened_world (Fail (At Left) 3 ∷ Edits Left 1 put_one ∷ Edits Left 1 put_one ∷ steps) new
+unfolding armed_world halted_world refused_world twice_refused
+refuses steps new more = (
+  armed_world,
+  inr (up_not_down, refl),
+  (
+    refused_world,
+    edits armed_world Left 1 put_one halted_world.left [] halted_world refused_world refl refl edit_allowed (failed unarmed (one_fails 2 (omega arith) (omega arith) (inr (omega arith)) (inl refl))) refl refl,
+    (twice_refused, inr (halted_not_down, inl (Halted_before, refl, refl)), more),
+  ),
+)
+
+gives_back : Steps twice_refused (Reopen (At Left)) recovered_world
+unfolding halted_world twice_refused recovered_world
+gives_back = inr (
+  halted_not_down,
+  (1, inr (omega arith, recovered_world, inl (recovered_world.left, Edited 1 put_one ∷ [], recovered has_room unarmed (Edited 1 put_one) (meets_unarmed _ _ _ refl) refl edit_allowed, refl), refl)),
+)
+
+loses : Steps twice_refused (Reopen (At Left)) lost_world
+unfolding halted_world twice_refused lost_world
+loses = inr (halted_not_down, (1, inr (omega arith, lost_world, inl (lost_world.left, [], opened has_room unarmed (meets_unarmed _ _ _ refl), refl), refl)))
+
+pub fail_is_refused : FailIsRefused
+unfolding halted_world twice_refused recovered_world lost_world
+fail_is_refused = (
+  record {
+    new = recovered_world;
+    runs = refuses (Reopen (At Left) ∷ []) recovered_world (recovered_world, gives_back, refl);
+    sent = refl;
+    acknowledged_then = refl;
+    reported = refl;
+    ends_well = (refl, refl, refl);
+  },
+  record {
+    new = lost_world;
+    runs = refuses (Reopen (At Left) ∷ []) lost_world (lost_world, loses, refl);
+    sent = refl;
+    acknowledged_then = refl;
+    reported = refl;
+    ends_well = (refl, refl, refl);
+  },
+)
