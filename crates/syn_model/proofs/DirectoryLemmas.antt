@@ -5,16 +5,17 @@ use Rattle.std.specs.List.{list_any}
 use Rattle.std.specs.FinMap.{get, find}
 use Rattle.std.specs.FinMap.Entries.{is_some-find}
 use Rattle.syn_model.specs.Path.{Path, Name, name_cmp, root, child}
-use Rattle.syn_model.specs.Tree.{Tree, Content, HasParents, subtree, is_directory, is_directory_content}
+use Rattle.syn_model.specs.Tree.{Tree, Content, Directory, HasParents, subtree, replace, empty_directory, is_directory, is_directory_content}
 use Rattle.syn_model.specs.Limits.{children}
 use Rattle.syn_model.specs.Mark.{mark, mark_of}
 use Rattle.syn_model.specs.Dirty.{Scan}
 use Rattle.syn_model.specs.Plan.{names_below, stands_among}
-use Rattle.syn_model.proofs.PathLemmas.{none_some}
-use Rattle.syn_model.proofs.TreeLemmas.{same_tree, get-subtree}
+use Rattle.syn_model.proofs.PathLemmas.{strip_prefix-append, none_some}
+use Rattle.syn_model.proofs.TreeLemmas.{same_tree, get-subtree, within}
 use Rattle.syn_model.proofs.MarkLemmas.{get-mark}
 use Rattle.syn_model.proofs.DirtyLemmas.{both_false}
-use Rattle.syn_model.proofs.QuietLemmas.{get-children}
+use Rattle.syn_model.proofs.HistoryLemmas.{get-below_root}
+use Rattle.syn_model.proofs.QuietLemmas.{get-children, nothing_below}
 use Rattle.syn_model.proofs.PlanNames.{names_of_three}
 
 pub root_content : (t : Tree) (p : Path) → get (subtree t p) root ≡ get t p
@@ -74,3 +75,12 @@ mark_none t p e = unmarked_none (get t p) (sym (get-mark t p) ∙ e)
 
 pub none_mark : (t : Tree) (p : Path) → get t p ≡ None → get (mark t) p ≡ None
 none_mark t p e = get-mark t p ∙ ap (option_map mark_of) e
+
+-- an empty directory has nothing below it, as what was no directory
+pub below_new_directory : (t u : Tree) (p : Path) (n : Name) (q : Path) → HasParents u → is_directory u p ≡ false → subtree (replace t p empty_directory) (p ++ n ∷ q) ≡ subtree u (p ++ n ∷ q)
+below_new_directory t u p n q parents none =
+    let new = replace t p empty_directory in
+    same_tree (subtree new (p ++ n ∷ q)) (subtree u (p ++ n ∷ q)) (λ r.
+    let at = append_assoc p (n ∷ q) r in
+    get-subtree new (p ++ n ∷ q) r ∙ (ap (get new) at ∙ (within t p empty_directory (p ++ n ∷ (q ++ r)) (n ∷ (q ++ r)) (strip_prefix-append p (n ∷ (q ++ r)))
+    ∙ (get-below_root Directory [] n (q ++ r) ∙ sym (get-subtree u (p ++ n ∷ q) r ∙ (ap (get u) at ∙ nothing_below u p n (q ++ r) parents none))))))

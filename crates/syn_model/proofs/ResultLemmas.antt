@@ -20,8 +20,8 @@ use Rattle.syn_model.proofs.HistoryLemmas.{get-at_root}
 use Rattle.syn_model.proofs.MarkLemmas.{get-mark, mark-subtree}
 use Rattle.syn_model.proofs.DirtyLemmas.{both_true, both_false, or_true, same_tree_is, tree_itself, dirty-closed, dirty-safe}
 use Rattle.syn_model.proofs.SyncLemmas.{directory_is, child_relevant}
-use Rattle.syn_model.proofs.QuietLemmas.{directory_of_mark, nothing_below}
-use Rattle.syn_model.proofs.DirectoryLemmas.{root_content, same_content_at, moved-directory, below_name, from_names, none_of, not_there, absent_below, mark_none}
+use Rattle.syn_model.proofs.QuietLemmas.{directory_of_mark}
+use Rattle.syn_model.proofs.DirectoryLemmas.{root_content, same_content_at, moved-directory, from_names, none_of, not_there, absent_below, mark_none, below_new_directory}
 use Rattle.syn_model.proofs.CarryLemmas.{SameAt, SameContent, same_itself, same-then, same-deeper, untouched, beside_items}
 use Rattle.syn_model.proofs.DecisionLemmas.{left_dirty, right_dirty, by_decision, clean_below, clean_nothing, nothing_relevant, IsShallow, shallow_below}
 use Rattle.syn_model.proofs.PlanNames.{Apart, names_apart}
@@ -332,14 +332,11 @@ module _ (a b o : Tree) (left_parents : HasParents a) (right_parents : HasParent
   recorded_directory : (s : Trees) (p : Path) (n : Name) → SameAt s (start a b o) p → is_directory o p ≡ false → SameAt (after_item s (MarkDir p)) (start a b o) (child p n)
   recorded_directory s p n h none =
       let is : is_directory s.archive p ≡ false = moved-directory s.archive o p h.archive ∙ none in
-      let new = replace s.archive p empty_directory in
       let deeper = same-deeper s (start a b o) p (n ∷ []) h in
       record {
         left = deeper.left;
         right = deeper.right;
-        archive = ap (λ w. subtree (if w then s.archive else new) (child p n)) is ∙ same_tree (subtree new (child p n)) (subtree o (child p n)) (λ q.
-            sym (below_name new p n q) ∙ (ap (λ w. get w (n ∷ q)) (subtree-replace s.archive p empty_directory) ∙ (get-at_root Directory (n ∷ q)
-            ∙ sym (get-subtree o (child p n) q ∙ (ap (get o) (append_assoc p (n ∷ []) q) ∙ nothing_below o p n q archive_parents none)))));
+        archive = ap (λ w. subtree (if w then s.archive else replace s.archive p empty_directory) (child p n)) is ∙ below_new_directory s.archive o p n [] archive_parents none;
       }
 
   recorded_here : (s : Trees) (p : Path) → SameAt s (start a b o) p → is_directory o p ≡ false → get (with_directory s.archive p) p ≡ Some Directory

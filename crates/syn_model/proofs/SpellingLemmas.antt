@@ -1,5 +1,5 @@
 -- The spelling of a tree, or of a part of one, tells it.
-use Rattle.std.proofs.Common.{◌≡◌, ◌<◌, ◌^◌, ℕ, zero, suc, true, false, ◌&&◌, nat_le, List, [], ◌∷◌, ◌++◌, length, take, drop, map, flat_map, refl, sym, ap, ap₂, ◌∙◌, subst, Option, Some, None, is_some, IsSome, append_assoc, true≢false, ◌≢◌, arith, cond}
+use Rattle.std.proofs.Common.{◌≡◌, ◌<◌, ◌^◌, ℕ, zero, suc, true, false, ◌&&◌, nat_le, List, [], ◌∷◌, ◌++◌, length, take, drop, map, flat_map, refl, sym, ap, ap₂, ◌∙◌, subst, Option, Some, None, is_some, append_assoc, true≢false, ◌≢◌, arith, cond}
 use Rattle.std.specs.Int.{from_be_bytes, to_be_bytes, w16, w32}
 use Rattle.std.proofs.lemmas.Nat.{from_be_bytes-to_be_bytes_2, from_be_bytes-to_be_bytes_4}
 use Rattle.std.proofs.lemmas.Bool.{leb-true}
@@ -7,8 +7,9 @@ use Rattle.std.proofs.Math.Seq.{take-append_seam, drop-append_seam}
 use Rattle.std.specs.Ordering.{eq_by_cmp}
 use Rattle.std.specs.List.{list_all, AllByRecursion}
 use Rattle.std.specs.FinMap.{entries, find, get, get-entries, len}
+use Rattle.std.proofs.lemmas.Bool.{false_from_ne_true}
 use Rattle.syn_model.specs.Path.{Bytes, Name, Path, name_cmp, path_cmp, root}
-use Rattle.syn_model.specs.Tree.{Tree, Content, Contents, contents_of, Directory, File, IsPart, subtree}
+use Rattle.syn_model.specs.Tree.{Tree, Content, Contents, contents_of, Directory, File, IsPart, subtree, is_directory}
 use Rattle.syn_model.specs.Limits.{children, fits_content, fits_part}
 use Rattle.syn_model.specs.Spelling.{content_spelling, spelling, spelling_within}
 use Rattle.syn_model.specs.Laws.{NoSpellingBeginsAnother, SpellingUnfolds}
@@ -17,6 +18,8 @@ use Rattle.syn_model.proofs.TreeLemmas.{same_tree, get-subtree}
 use Rattle.syn_model.proofs.SubtreeLemmas.{subtree_smaller, subtree-is_part, subtree-fits}
 use Rattle.syn_model.proofs.DirtyLemmas.{both_true}
 use Rattle.syn_model.proofs.HistoryLemmas.{no_file}
+use Rattle.syn_model.proofs.SyncLemmas.{directory_is}
+use Rattle.syn_model.proofs.QuietLemmas.{nothing_below}
 use Rattle.syn_model.proofs.DirectoryLemmas.{not_child, absent_below}
 
 -- ---- bytes
@@ -65,14 +68,6 @@ module _ (t : Tree) (h : fits_part t ≡ true) where
 
 -- ---- parts
 
--- where no directory is, nothing stands below
-nothing_below : (t : Tree) (p : Path) (n : Name) (rest : Path) → IsPart t → get t p ≢ Some Directory → get t (p ++ n ∷ rest) ≡ None
-nothing_below t p n rest h denied =
-    elim (get t (p ++ n ∷ rest)) as (λ o. get t (p ++ n ∷ rest) ≡ o → o ≡ None) [
-      | None ↦ λ _. refl
-      | Some c ↦ λ e. absurd (denied (h.parents p n rest (subst IsSome (sym e) refl)))
-    ] refl
-
 -- parts with one content at the root and one part at each name are one
 same_part : (t u : Tree) → get t root ≡ get u root → ((n : Name) (p : Path) → get t (n ∷ p) ≡ get u (n ∷ p)) → t ≡ u
 same_part t u h each = same_tree t u (λ q. at q)
@@ -83,7 +78,8 @@ same_part t u h each = same_tree t u (λ q. at q)
 
 no_directory : (t u : Tree) → IsPart t → IsPart u → get t root ≡ get u root → get t root ≢ Some Directory → t ≡ u
 no_directory t u ht hu same denied =
-    same_part t u same (λ n p. nothing_below t root n p ht denied ∙ sym (nothing_below u root n p hu (λ e. denied (same ∙ e))))
+    let none : (w : Tree) → get t root ≡ get w root → is_directory w root ≡ false = λ w e. false_from_ne_true (is_directory w root) (λ is. denied (e ∙ directory_is (get w root) is)) in
+    same_part t u same (λ n p. nothing_below t root n p ht.parents (none t refl) ∙ sym (nothing_below u root n p hu.parents (none u same)))
 
 -- ---- the entries of a directory
 
