@@ -175,13 +175,10 @@ LeavesPair before new =
 abbrev pub Owes : Stores → World → Type 0
 Owes before new = IfSome new.coordinator.running Waits × AsksNothingTwice new.sent
 
-abbrev pub IsNoStop : Step → Type 0
-IsNoStop (Stop machine call) = ⊥
-IsNoStop _ = Unit {0}
-
--- a machine goes down only by a stop
+-- without a stop among the steps no machine goes down
 abbrev pub StaysWithoutStop : Type 0
-StaysWithoutStop = (old new : World) (steps : List Step) → IsStart old → Runs old steps new → All IsNoStop steps → (machine : Machine) → status_of new machine ≢ Down
+StaysWithoutStop = (old new : World) (steps : List Step) → IsStart old → Runs old steps new →
+    ((machine : Machine) (call : ℕ) → Contains steps (Stop machine call) → ⊥) → (machine : Machine) → status_of new machine ≢ Down
 
 -- an edit is not acknowledged where one of its four device calls is armed
 abbrev pub ArmedCallsCome : Type 0

@@ -349,8 +349,7 @@ pub record SendsAgain (old new : World) (running later : Running) : Type 0 where
 pub record Ticks (old new : World) : Type 0 where
   pub goes : CoordinatorGoes old IsNothing (GoesOnFrom old.coordinator.running (plan_of old.coordinator.running)) new
   pub reports : Reports old new (plan_of old.coordinator.running) IsNoItem EndsUnanswered
-  pub same_status : new.coordinator.status ≡ old.coordinator.status
-  pub same_arms : new.coordinator.arms ≡ old.coordinator.arms
+  pub no_call : (new.coordinator.status ≡ old.coordinator.status) × (new.coordinator.arms ≡ old.coordinator.arms)
   pub sends : IfSome old.coordinator.running (λ running. IfSome new.coordinator.running (SendsAgain old new running))
 
 -- the device calls of an answer that is taken: four for each record, and six for a checkpoint that it may make once

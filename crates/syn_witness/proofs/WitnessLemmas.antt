@@ -144,8 +144,7 @@ resends resent early = inr (
         (goes_on (waiting_for (suc resent)) refl refl) (refl, begin_waits (suc resent), (omega arith, omega arith, omega arith)) (begins_tell (suc (suc resent))) (begins_once (suc (suc resent)))
         (begins_lawful (waiting_for (suc resent)) (begins (suc resent)) refl);
     reports = inl (refl, (inl refl, none_refused IsNoItem));
-    same_status = refl;
-    same_arms = refl;
+    no_call = (refl, refl);
     sends = record { not_yet = ap (λ b. b || (b || false)) early; counted = refl; again = refl };
   },
 )
@@ -166,8 +165,7 @@ gives_up resent late =
         goes = goes (waiting resent) IsNothing (GoesOnAs (waiting_for resent) []) (record { marks = empty_directory; last_session = 1 }) None [] [] ((unanswered, 1) ∷ [])
             refl (All-nil IsNothing) tt refl ended tt (subst NumbersTell (sym same) (begins_tell (suc resent))) (subst AsksNothingTwice (sym same) (begins_once (suc resent))) refl;
         reports = inr (waiting_for resent, unanswered, refl, refl, up_not_down, refl, (refl, refl, inl (ap (λ b. b || (b || false)) late, refl)), record { done = refl; marked = refl }, none_refused IsNoItem);
-        same_status = refl;
-        same_arms = refl;
+        no_call = (refl, refl);
         sends = tt;
       },
     ))
