@@ -31,8 +31,8 @@ pub record IsPair (stores : Stores) : Type 0 where
 -- a world that has just been opened
 pub record IsStart (world : World) : Type 0 where
   pub pair : IsPair (stores_of world)
-  pub left : (world.left.status ≡ Up) × (world.left.side.staging ≡ None) × (world.left.writing ≡ None) × (world.left.arms ≡ unarmed)
-  pub right : (world.right.status ≡ Up) × (world.right.side.staging ≡ None) × (world.right.writing ≡ None) × (world.right.arms ≡ unarmed)
+  pub left : (world.left.status ≡ Up) × (world.left.side.staging ≡ None) × (world.left.writing ≡ None) × (world.left.compacting ≡ false) × (world.left.arms ≡ unarmed)
+  pub right : (world.right.status ≡ Up) × (world.right.side.staging ≡ None) × (world.right.writing ≡ None) × (world.right.compacting ≡ false) × (world.right.arms ≡ unarmed)
   pub coordinator : (world.coordinator.status ≡ Up) × (world.coordinator.running ≡ None) × (world.coordinator.writing ≡ None) × (world.coordinator.arms ≡ unarmed)
   pub nothing_yet : (world.sent ≡ []) × (world.acknowledged ≡ []) × (world.reports ≡ [])
 
