@@ -5,12 +5,12 @@ use Rattle.syn_model.specs.Refusal as why
 use Rattle.syn_model.proofs.HistoryLemmas.{first_cause-none, none-append}
 use Rattle.syn_model.specs.Event.{Edit, Edited, IsLawfulEvent}
 use Rattle.syn_model.specs.History.{IsAllowed, event_causes}
-use Rattle.syn_headline.specs.Side.{room_causes}
+use Rattle.syn_headline.specs.Side.{room_causes, fits_in}
 use Rattle.syn_headline.specs.Network.{Which}
 use Rattle.syn_headline.specs.Arms.{Arms}
-use Rattle.syn_headline.specs.World.{Status, Up, Halted, Down, Machine, At, Coordinator, World, side_of, Step, Edits, Start, Deliver, Tick, Checkpoint, Fail, Stop, Open, Reopen, Writes, SideGoes, refuses_with, is_halted, status_of, set_device, answered_by, UnlessDown, edit_causes, start_causes, Starts, Reopens, Calls, Steps}
+use Rattle.syn_headline.specs.World.{Status, Up, Halted, Down, Machine, At, Coordinator, World, side_of, Step, Edits, Start, Deliver, Tick, Checkpoint, Fail, Stop, Open, Reopen, Writes, SideGoes, Compacts, refuses_with, is_halted, status_of, set_device, answered_by, UnlessDown, edit_causes, start_causes, Starts, Reopens, Calls, Steps}
 use Rattle.syn_headline.proofs.Invariant.{Plans, IsKept}
-use Rattle.syn_headline.proofs.RunLemmas.{Advances, next_same, stays, refuses_advances, side_settles, was_written, halted_not_up, writes_advances, neither, coordinator_settles, with_status, no_acks, cut_advances, opens_machine, delivers_advances, refused_advances, tick_with, start_advances, was_sent}
+use Rattle.syn_headline.proofs.RunLemmas.{Advances, next_same, stays, refuses_advances, side_settles, was_written, halted_not_up, writes_advances, compacts_advances, neither, coordinator_settles, with_status, no_acks, cut_advances, opens_machine, delivers_advances, refused_advances, tick_with, start_advances, was_sent}
 
 -- the machine has another status, unless that is up, and other arms
 device_advances : (plans : Plans) (old : World) (k : IsKept plans old) (machine : Machine) (status : Status) (arms : Arms) → (status_of old machine ≢ Up → status ≢ Up) → (new : World) → new ≡ set_device old machine status arms → Advances plans old new
@@ -37,7 +37,7 @@ module _ (plans : Plans) (old : World) (k : IsKept plans old) (new : World) wher
   edit_advances which user edit none up (lawful, g) =
       let machine_is = side_of old which in
       let first = first_cause-none (is_halted machine_is.status, why.Halted) (edit_causes machine_is (Edited user edit)) none in
-      let allowed : IsAllowed machine_is.side.history (Edited user edit) = record { lawful = lawful; not_refused = (none-append (event_causes machine_is.side.history (Edited user edit)) (room_causes machine_is.has_room (Edited user edit)) first.1).0 } in
+      let allowed : IsAllowed machine_is.side.history (Edited user edit) = record { lawful = lawful; not_refused = (none-append (event_causes machine_is.side.history (Edited user edit)) (room_causes (fits_in machine_is.room) (Edited user edit)) first.1).0 } in
       writes_advances plans old k which (Edited user edit) allowed tt g.0 g.1 new (neither machine_is.status first.0 up) g.2 g.3
 
 module _ (plans : Plans) (old : World) (k : IsKept plans old) (new : World) where
@@ -59,7 +59,8 @@ module _ (plans : Plans) (old : World) (k : IsKept plans old) (new : World) wher
   step_advances (Deliver message) g = delivers_advances plans old k new (slice_get old.sent message) (was_sent plans old k new message) g
   step_advances Tick (inl g) = stays plans old new k g.1
   step_advances Tick (inr g) = tick_with plans old k new old.coordinator.running refl g.1.goes
-  step_advances (Checkpoint machine) (full, g) = calls_advances machine ((full, why.Full) ∷ []) (Reopens old machine 6) (λ made none up h. reopens_advances plans old k made machine 6 h) g
+  step_advances (Checkpoint (At which)) (full, g) = calls_advances (At which) ((full, why.Full) ∷ []) (SideGoes old which (Compacts old.pair (side_of old which)) []) (λ made none up h. compacts_advances plans old k which h.0 h.1 made h.2 h.3) g
+  step_advances (Checkpoint Coordinator) (full, g) = calls_advances Coordinator ((full, why.Full) ∷ []) (Reopens old Coordinator 6) (λ made none up h. reopens_advances plans old k made Coordinator 6 h) g
   step_advances (Fail machine call) g = unless_down machine _ (device_advances plans old k machine (status_of old machine) _ (λ h. h) new) g
   step_advances (Stop machine zero) g = unless_down machine _ (cut_advances plans old k new machine) g
   step_advances (Stop machine (suc more)) g = unless_down machine _ (device_advances plans old k machine (status_of old machine) _ (λ h. h) new) g

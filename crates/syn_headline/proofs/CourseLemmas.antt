@@ -9,7 +9,7 @@ use Rattle.syn_headline.specs.Side.{Request, Reply}
 use Rattle.syn_headline.specs.Network.{Which, Left, Right, Sent, Message, Asks, Answers}
 use Rattle.syn_headline.specs.Planning.{Planned, Log}
 use Rattle.syn_headline.specs.Acknowledged.{Ack, Happened, Kept_by, kept_in}
-use Rattle.syn_headline.specs.World.{IsNoItem, RefusesTaken, Up, Halted, Machine, At, Coordinator, World, SideMachine, CoordinatorMachine, set_side, Step, Edits, Start, Deliver, Tick, Checkpoint, Fail, Stop, Open, Reopen, OpensArchive, archive_opened, archive_recovered, refuses_with, edit_causes, start_causes, Starts, Writes, SideGoes, Reopens, Calls, side_of, TakesRequest, answered, request_failed, request_cut, side_down, IsDueAfter, IsOver, IsExpected, HasPlan, GoesOnFrom, plan_of, StartsFrom, IsNext, IsNothing, AllCanKeep, CoordinatorGoes, Reports, EndsTaken, EndsUnanswered, TakesAnswer, taken, ignored, coordinator_down, Delivers, OpensMachine, cut_off, Status, set_device, answered_by, is_halted, status_of, UnlessDown, Steps}
+use Rattle.syn_headline.specs.World.{IsNoItem, RefusesTaken, Up, Halted, Machine, At, Coordinator, World, SideMachine, CoordinatorMachine, set_side, Step, Edits, Start, Deliver, Tick, Checkpoint, Fail, Stop, Open, Reopen, OpensArchive, archive_opened, archive_recovered, refuses_with, edit_causes, start_causes, Starts, Writes, SideGoes, Compacts, Reopens, Calls, side_of, TakesRequest, answered, request_failed, request_cut, side_down, IsDueAfter, IsOver, IsExpected, HasPlan, GoesOnFrom, plan_of, StartsFrom, IsNext, IsNothing, AllCanKeep, CoordinatorGoes, Reports, EndsTaken, EndsUnanswered, TakesAnswer, taken, ignored, coordinator_down, Delivers, OpensMachine, cut_off, Status, set_device, answered_by, is_halted, status_of, UnlessDown, Steps}
 use Rattle.syn_headline.specs.Arms.{Arms}
 use Rattle.syn_headline.proofs.Invariant.{Plans, histories_of, IsHarmless, IsKept}
 use Rattle.syn_headline.proofs.WorldLemmas.{kept_events, kept_kept}
@@ -191,7 +191,8 @@ module _ (plans : Plans) (old : World) (k : IsKept plans old) (new : World) wher
   course (Deliver message) g = delivers old new (slice_get old.sent message) (was_sent plans old k new message) g
   course Tick (inl g) = stays old new g.1
   course Tick (inr g) = ticks g.1.goes g.1.reports
-  course (Checkpoint machine) (full, g) = calls machine ((full, why.Full) ∷ []) (Reopens old machine 6) (λ made h. answers_aside machine made (reopens plans old k made machine 6 h)) g
+  course (Checkpoint (At which)) (full, g) = calls (At which) ((full, why.Full) ∷ []) (SideGoes old which (Compacts old.pair (side_of old which)) []) (λ made h. answers_aside (At which) made (side_goes old made which h.0 _ h.1 h.3)) g
+  course (Checkpoint Coordinator) (full, g) = calls Coordinator ((full, why.Full) ∷ []) (Reopens old Coordinator 6) (λ made h. answers_aside Coordinator made (reopens plans old k made Coordinator 6 h)) g
   course (Fail machine call) g = unless_down machine _ (λ e. aside old new (sets_device plans old k new machine _ _ e)) g
   course (Stop machine zero) g = unless_down machine _ (λ e. aside old new (cuts plans old k new machine e)) g
   course (Stop machine (suc more)) g = unless_down machine _ (λ e. aside old new (sets_device plans old k new machine _ _ e)) g

@@ -10,12 +10,12 @@ use Rattle.syn_model.specs.Refusal.{Refusal, Device}
 use Rattle.syn_model.specs.Event.{Token, Event, Edited, Began, Replaced}
 use Rattle.syn_model.specs.History.{History, IsAllowed}
 use Rattle.syn_model.specs.Archive.{Kept, Session, CanKeep, after_kept}
-use Rattle.syn_headline.specs.Side.{Side, Served, Request, Begin, ListAt, Fetch, Stage, Replace, Reply, Refused, IsLawfulRequest}
+use Rattle.syn_headline.specs.Side.{Side, Served, Request, Begin, ListAt, Fetch, Stage, Replace, Reply, Refused, IsLawfulRequest, fits_in}
 use Rattle.syn_headline.specs.Network.{Which, Left, Right, other, Sent, Message, Asks, Answers}
 use Rattle.syn_headline.specs.Planning.{Planned, Log}
 use Rattle.syn_headline.specs.Acknowledged.{Ack, Happened, Kept_by, history_of, IsLegal}
-use Rattle.syn_headline.specs.World.{Status, Up, Halted, Down, Machine, At, Coordinator, World, SideMachine, CoordinatorMachine, Running, asked_of, outstanding, side_of, set_side, stopped, Step, Edits, Start, Deliver, Tick, Checkpoint, Fail, Stop, Open, Reopen, Writes, written, failed, cut, SideGoes, Opens, opened, recovered, OpensArchive, archive_opened, archive_recovered, refuses_with, is_halted, status_of, edit_causes, start_causes, Starts, Reopens, Calls, WouldAdd, TakesRequest, answered, request_failed, request_cut, side_down, IsDueAfter, IsOver, IsExpected, HasPlan, GoesOnAs, ended, goes_on, GoesOnFrom, plan_of, StartsFrom, RunsOver, IsNext, IsNothing, CoordinatorGoes, TakesAnswer, taken, ignored, coordinator_down, Delivers, OpensMachine, cut_off, ServesAs, serve_halted}
 use Rattle.syn_headline.specs.Arms.{Arms, unarmed}
+use Rattle.syn_headline.specs.World.{Status, Up, Halted, Down, Machine, At, Coordinator, World, SideMachine, CoordinatorMachine, Running, asked_of, outstanding, side_of, set_side, stopped, Writes, written, failed, cut, Opens, opened, recovered, OpensArchive, archive_opened, archive_recovered, refuses_with, is_halted, WouldAdd, TakesRequest, answered, request_failed, request_cut, side_down, IsDueAfter, IsOver, IsExpected, HasPlan, GoesOnAs, ended, goes_on, GoesOnFrom, plan_of, StartsFrom, RunsOver, IsNext, IsNothing, CoordinatorGoes, TakesAnswer, taken, ignored, coordinator_down, Delivers, OpensMachine, cut_off, Compacts, compacted, compacting_failed, compacting_cut, room_after}
 use Rattle.syn_headline.specs.Headline.{stores_of}
 use Rattle.syn_headline.proofs.Invariant.{Plans, plan_in, Histories, histories_of, IsSound, IsTrue, IsFresh, IsHarmless, IsSoundStaging, IsSoundEvent, IsSoundSide, IsSoundCoordinator, IsKept}
 use Rattle.syn_headline.proofs.LogLemmas.{no_plan}
@@ -210,19 +210,26 @@ halted_not_up e = cc
 pub writes_advances : (plans : Plans) (old : World) → IsKept plans old → (which : Which) (event : Event) → IsAllowed (histories_of old which) event → IsSoundEvent plans (histories_of old) old.coordinator.archive which event →
     (machine : SideMachine) (events : List Event) (new : World) → (side_of old which).status ≡ Up → Writes (side_of old which) event machine events →
     new ≡ next old which machine (old.sent ++ []) (old.acknowledged ++ map (λ event. Happened which event) events) → Advances plans old new
-writes_advances plans old k which event a s _ _ new up (written room arms meets) e =
+writes_advances plans old k which event a s _ _ new up (written arms meets) e =
     side_advances plans old k which _ [] (event ∷ []) new (one_event event a s refl) (k.sides which).staged
     (if_some (side_of old which).writing (λ event. ((side_of old which).status ≢ Up) × IsSoundEvent plans (histories_of old) old.coordinator.archive which event) _ (k.sides which).writing (λ other_event _ x. absurd (x.0 up))) nothing e
 writes_advances plans old k which event a s _ _ new up (failed arms meets) e = side_advances plans old k which _ [] [] new (no_event refl) (k.sides which).staged (halted_not_up, s, refl) nothing e
 writes_advances plans old k which event a s _ _ new up (cut meets) e = side_advances plans old k which _ [] [] new (no_event refl) tt (down_not_up, s, refl) nothing e
 
-opens_advances : (plans : Plans) (old : World) → IsKept plans old → (which : Which) (calls : ℕ) (machine : SideMachine) (events : List Event) (new : World) → Opens (side_of old which) calls machine events →
+opens_advances : (plans : Plans) (old : World) → IsKept plans old → (which : Which) (calls : ℕ) (machine : SideMachine) (events : List Event) (new : World) → Opens old.pair (side_of old which) calls machine events →
     new ≡ next old which machine (old.sent ++ []) (old.acknowledged ++ map (λ event. Happened which event) events) → Advances plans old new
-opens_advances plans old k which calls _ _ new (opened room arms meets) e = side_advances plans old k which _ [] [] new (no_event refl) (k.sides which).staged tt nothing e
-opens_advances plans old k which calls _ _ new (recovered room arms event meets w a) e =
+opens_advances plans old k which calls _ _ new (opened room arms meets left) e = side_advances plans old k which _ [] [] new (no_event refl) (k.sides which).staged tt nothing e
+opens_advances plans old k which calls _ _ new (recovered arms event meets w a) e =
     let s : ((side_of old which).status ≢ Up) × IsSoundEvent plans (histories_of old) old.coordinator.archive which event =
     subst (λ o. IfSome o (λ event. ((side_of old which).status ≢ Up) × IsSoundEvent plans (histories_of old) old.coordinator.archive which event)) w (k.sides which).writing in
     side_advances plans old k which _ [] (event ∷ []) new (one_event event a s.1 refl) (k.sides which).staged tt nothing e
+
+pub compacts_advances : (plans : Plans) (old : World) → IsKept plans old → (which : Which) (machine : SideMachine) (events : List Event) (new : World) → Compacts old.pair (side_of old which) machine events →
+    new ≡ next old which machine (old.sent ++ []) (old.acknowledged ++ map (λ event. Happened which event) events) → Advances plans old new
+compacts_advances plans old k which _ _ new (compacted arms meets) e = side_advances plans old k which _ [] [] new (no_event refl) (k.sides which).staged (was_written plans old k which (side_of old which).status (λ h. h) (side_of old which).side refl) nothing e
+compacts_advances plans old k which _ _ new (compacting_failed arms meets) e = side_advances plans old k which _ [] [] new (no_event refl) (k.sides which).staged (was_written plans old k which Halted (λ _. halted_not_up) (side_of old which).side refl) nothing e
+compacts_advances plans old k which _ _ new (compacting_cut meets) e =
+    side_advances plans old k which _ [] [] new (no_event refl) tt (was_written plans old k which Down (λ _. down_not_up) (record { history = (side_of old which).side.history; staging = None }) refl) nothing e
 
 -- a machine that is neither halted nor down is up
 pub neither : (status : Status) → is_halted status ≡ false → status ≢ Down → status ≡ Up
@@ -256,7 +263,7 @@ module _ (plans : Plans) (old : World) (k : IsKept plans old) (which : Which) (s
 
   would_sound : (event : Event) → WouldAdd old.pair (side_of old which) session request event → IsSoundEvent plans (histories_of old) old.coordinator.archive which event
   would_sound event w =
-      let o = outcome old.pair (side_of old which).has_room (side_of old which).side session request w.served lawful w.serves in
+      let o = outcome old.pair (fits_in (side_of old which).room) (side_of old which).side session request w.served lawful w.serves in
       elim (outcome_moves plans old.coordinator.archive old.sent (histories_of old) k.sound which (side_of old which).side refl (k.sides which).staged session number request w.served asked o) as (λ _. IsSoundEvent plans (histories_of old) old.coordinator.archive which event) [
         | inl e ↦ absurd (longer (histories_of old which) event (sym e ∙ w.adds))
         | inr a ↦
@@ -267,13 +274,13 @@ module _ (plans : Plans) (old : World) (k : IsKept plans old) (which : Which) (s
 
   pub request_advances : (new : World) → TakesRequest old which session number request new → Advances plans old new
   request_advances new (answered a) =
-      let o = any_outcome (side_of old which).status old.pair (side_of old which).has_room (side_of old which).side session request a.served lawful a.serves in
+      let o = any_outcome (side_of old which).status old.pair (fits_in (side_of old which).room) (side_of old which).side session request a.served lawful a.serves in
       let moves = outcome_moves plans old.coordinator.archive old.sent (histories_of old) k.sound which (side_of old which).side refl (k.sides which).staged session number request a.served asked o in
-      side_advances plans old k which (record (side_of old which) { side = a.served.side; has_room = a.room; arms = a.arms }) (Answers which session number a.served.reply ∷ []) a.events new (events_are a.served a.events a.added moves)
+      side_advances plans old k which (record (side_of old which) { side = a.served.side; room = room_after (side_of old which).room a.events; arms = a.arms }) (Answers which session number a.served.reply ∷ []) a.events new (events_are a.served a.events a.added moves)
       (outcome_staging plans old.coordinator.archive old.sent (histories_of old) k.sound which (side_of old which).side refl (k.sides which).staged session number request a.served asked o)
       (if_some (side_of old which).writing (λ event. ((side_of old which).status ≢ Up) × IsSoundEvent plans (histories_of old) old.coordinator.archive which event)
       (λ event. ((side_of old which).status ≢ Up) × IsSoundEvent plans (histories_of old) old.coordinator.archive which event × (a.served.side.history ≡ histories_of old which)) (k.sides which).writing
-      (λ event _ x. (x.0, x.1, unless_up_same (side_of old which).status x.0 old.pair (side_of old which).has_room (side_of old which).side session request a.served a.serves)))
+      (λ event _ x. (x.0, x.1, unless_up_same (side_of old which).status x.0 old.pair (fits_in (side_of old which).room) (side_of old which).side session request a.served a.serves)))
       (reply session number request a.served.reply asked (outcome_true plans old.coordinator.archive old.sent (histories_of old) k.sound which (side_of old which).side refl (k.sides which).staged session number request a.served asked o)
       (outcome_borne plans old.coordinator.archive old.sent (histories_of old) k.sound which (side_of old which).side refl (k.sides which).staged session number request a.served asked o))
       a.result

@@ -1,7 +1,7 @@
 -- Without a stop among the steps no machine goes down, and a device call that is armed comes.
 use Rattle.std.proofs.Common.{◌≡◌, ◌≢◌, ◌-◌, ℕ, suc, Bool, true, false, if◌then◌else◌, List, [], ◌∷◌, ◌++◌, append-nil, map, refl, sym, ap, ◌∙◌, subst, Option, Some, None, arith, inl, inr, slice_get}
-use Rattle.std.specs.Prelude.{All}
-use Rattle.std.proofs.lemmas.List.Elements.{All-head, All-tail}
+use Rattle.std.specs.Prelude.{Contains}
+use Rattle.std.proofs.lemmas.List.Elements.{Contains-append_right}
 use Rattle.syn_model.specs.Refusal.{Refusal, Device, Cause}
 use Rattle.syn_model.specs.Refusal as why
 use Rattle.syn_model.specs.Event.{Event, Edited, IsLawfulEvent}
@@ -10,9 +10,9 @@ use Rattle.syn_headline.specs.Side.{Request, Reply}
 use Rattle.syn_headline.specs.Network.{Which, Left, Right, Message, Asks, Answers}
 use Rattle.syn_headline.specs.Arms.{Arms, IsBefore, Meets, all_made, one_fails, one_stops}
 use Rattle.syn_headline.specs.Planning.{Log}
-use Rattle.syn_headline.specs.World.{Status, Up, Halted, Down, Machine, At, Coordinator, World, SideMachine, CoordinatorMachine, Running, side_of, set_side, Step, Edits, Start, Deliver, Tick, Checkpoint, Fail, Stop, Open, Reopen, Writes, written, failed, cut, SideGoes, Opens, opened, recovered, OpensArchive, archive_opened, archive_recovered, TakesRequest, answered, request_failed, request_cut, side_down, CoordinatorGoes, TakesAnswer, taken, ignored, coordinator_down, Delivers, OpensMachine, refuses_with, is_halted, status_of, arms_of, set_device, answered_by, UnlessDown, edit_causes, start_causes, Starts, Reopens, Calls, Steps, Runs}
+use Rattle.syn_headline.specs.World.{Status, Up, Halted, Down, Machine, At, Coordinator, World, SideMachine, CoordinatorMachine, Running, side_of, set_side, Step, Edits, Start, Deliver, Tick, Checkpoint, Fail, Stop, Open, Reopen, Writes, written, failed, cut, SideGoes, Opens, opened, recovered, OpensArchive, archive_opened, archive_recovered, TakesRequest, answered, request_failed, request_cut, side_down, CoordinatorGoes, TakesAnswer, taken, ignored, coordinator_down, Delivers, OpensMachine, refuses_with, is_halted, status_of, arms_of, set_device, answered_by, UnlessDown, edit_causes, start_causes, Starts, Reopens, Calls, Steps, Runs, Compacts, compacted, compacting_failed, compacting_cut, room_after}
 use Rattle.syn_headline.specs.Acknowledged.{Happened}
-use Rattle.syn_headline.specs.Headline.{IsStart, IsNoStop, StaysWithoutStop, ArmedCallsCome}
+use Rattle.syn_headline.specs.Headline.{IsStart, StaysWithoutStop, ArmedCallsCome}
 
 -- a machine that is not down and has no stop to come
 abbrev IsSafe : Status → Arms → Type 0
@@ -59,7 +59,7 @@ module _ (old : World) (h : AllSafe old) (new : World) where
 
   request_safe : (which : Which) (session number : ℕ) (request : Request) → TakesRequest old which session number request new → AllSafe new
   request_safe which session number request (answered a) = subst AllSafe (sym a.result)
-      (side_safe old h which (record (side_of old which) { side = a.served.side; has_room = a.room; arms = a.arms }) ((h (At which)).0, (meets_safe _ _ _ _ _ (h (At which)).1 a.meets).1))
+      (side_safe old h which (record (side_of old which) { side = a.served.side; room = room_after (side_of old which).room a.events; arms = a.arms }) ((h (At which)).0, (meets_safe _ _ _ _ _ (h (At which)).1 a.meets).1))
   request_safe which session number request (request_failed event arms would meets e) = subst AllSafe (sym e)
       (side_safe old h which (record (side_of old which) { status = Halted; writing = Some event; arms = arms }) (meets_safe _ _ _ _ _ (h (At which)).1 meets))
   request_safe which session number request (request_cut event would meets e) = absurd ((meets_safe _ _ _ _ _ (h (At which)).1 meets).0 refl)
@@ -90,13 +90,18 @@ module _ (old : World) (h : AllSafe old) (new : World) where
   device_safe Coordinator status arms s e = subst AllSafe (sym e) (coordinator_safe old h (record old.coordinator { status = status; arms = arms }) s)
 
   writes_safe : (which : Which) (event : Event) (machine : SideMachine) (events : List Event) → Writes (side_of old which) event machine events → IsSafe machine.status machine.arms
-  writes_safe which event _ _ (written room arms meets) = ((h (At which)).0, (meets_safe _ _ _ _ _ (h (At which)).1 meets).1)
+  writes_safe which event _ _ (written arms meets) = ((h (At which)).0, (meets_safe _ _ _ _ _ (h (At which)).1 meets).1)
   writes_safe which event _ _ (failed arms meets) = meets_safe _ _ _ _ _ (h (At which)).1 meets
   writes_safe which event _ _ (cut meets) = absurd ((meets_safe _ _ _ _ _ (h (At which)).1 meets).0 refl)
 
-  opens_safe : (which : Which) (calls : ℕ) (machine : SideMachine) (events : List Event) → Opens (side_of old which) calls machine events → IsSafe machine.status machine.arms
-  opens_safe which calls _ _ (opened room arms meets) = meets_safe _ _ _ _ _ (h (At which)).1 meets
-  opens_safe which calls _ _ (recovered room arms event meets w a) = meets_safe _ _ _ _ _ (h (At which)).1 meets
+  opens_safe : (which : Which) (calls : ℕ) (machine : SideMachine) (events : List Event) → Opens old.pair (side_of old which) calls machine events → IsSafe machine.status machine.arms
+  opens_safe which calls _ _ (opened room arms meets left) = meets_safe _ _ _ _ _ (h (At which)).1 meets
+  opens_safe which calls _ _ (recovered arms event meets w a) = meets_safe _ _ _ _ _ (h (At which)).1 meets
+
+  compacts_safe : (which : Which) (machine : SideMachine) (events : List Event) → Compacts old.pair (side_of old which) machine events → IsSafe machine.status machine.arms
+  compacts_safe which _ _ (compacted arms meets) = ((h (At which)).0, (meets_safe _ _ _ _ _ (h (At which)).1 meets).1)
+  compacts_safe which _ _ (compacting_failed arms meets) = meets_safe _ _ _ _ _ (h (At which)).1 meets
+  compacts_safe which _ _ (compacting_cut meets) = absurd ((meets_safe _ _ _ _ _ (h (At which)).1 meets).0 refl)
 
   opens_archive_safe : (calls : ℕ) (machine : CoordinatorMachine) (kept : List Kept) → OpensArchive old.coordinator calls machine kept → IsSafe machine.status machine.arms
   opens_archive_safe calls _ _ (archive_opened room arms meets) = meets_safe _ _ _ _ _ (h Coordinator).1 meets
@@ -106,7 +111,7 @@ module _ (old : World) (h : AllSafe old) (new : World) where
   side_goes_safe which Goes safe (machine, events, goes, e) = subst AllSafe (sym e) (side_safe old h which machine (safe machine events goes))
 
   opens_machine_safe : (machine : Machine) (calls : ℕ) → OpensMachine old machine calls new → AllSafe new
-  opens_machine_safe (At which) calls g = side_goes_safe which (Opens (side_of old which) calls) (opens_safe which calls) g
+  opens_machine_safe (At which) calls g = side_goes_safe which (Opens old.pair (side_of old which) calls) (opens_safe which calls) g
   opens_machine_safe Coordinator calls (machine, kept, opens, e) = subst AllSafe (sym e) (coordinator_safe old h machine (opens_archive_safe calls machine kept opens))
 
   reopens_safe : (machine : Machine) (calls : ℕ) → Reopens old machine calls new → AllSafe new
@@ -134,17 +139,19 @@ module _ (old : World) (h : AllSafe old) (new : World) where
   calls_safe machine causes Made safe (inr (up, inl (reason, first, e))) = refused_safe old h reason new e
   calls_safe machine causes Made safe (inr (up, inr (none, made, g, e))) = answered_safe machine made new (safe made g) e
 
-  step_safe : (step : Step) → IsNoStop step → Steps old step new → AllSafe new
+  step_safe : (step : Step) → ((machine : Machine) (call : ℕ) → step ≡ Stop machine call → ⊥) → Steps old step new → AllSafe new
   step_safe (Edits side user edit) none g =
       calls_safe (At side) (edit_causes (side_of old side) (Edited user edit)) (λ made. IsLawfulEvent (Edited user edit) × SideGoes old side (Writes (side_of old side) (Edited user edit)) [] made)
       (λ made m. side_goes_safe old h made side (Writes (side_of old side) (Edited user edit)) (writes_safe old h made side (Edited user edit)) m.1) g
   step_safe Start none g = calls_safe Coordinator (start_causes old.coordinator) (Starts old) (λ made s. goes_safe old h made [] _ _ s.0 (meets_safe _ _ _ _ _ (h Coordinator).1 s.3)) g
   step_safe (Deliver message) none g = delivers_safe old h new (slice_get old.sent message) g
   step_safe Tick none (inl g) = same_safe old h new g.1
-  step_safe Tick none (inr g) = goes_safe old h new [] _ _ g.1.goes (λ down. (h Coordinator).0 (sym g.1.same_status ∙ down), ap (λ a. a.stop) g.1.same_arms ∙ (h Coordinator).1)
-  step_safe (Checkpoint machine) none (full, g) = calls_safe machine ((full, why.Full) ∷ []) (Reopens old machine 6) (λ made r. reopens_safe old h made machine 6 r) g
+  step_safe Tick none (inr g) = goes_safe old h new [] _ _ g.1.goes (λ down. (h Coordinator).0 (sym g.1.no_call.0 ∙ down), ap (λ a. a.stop) g.1.no_call.1 ∙ (h Coordinator).1)
+  step_safe (Checkpoint (At which)) none (full, g) = calls_safe (At which) ((full, why.Full) ∷ []) (SideGoes old which (Compacts old.pair (side_of old which)) [])
+      (λ made r. side_goes_safe old h made which (Compacts old.pair (side_of old which)) (compacts_safe old h made which) r) g
+  step_safe (Checkpoint Coordinator) none (full, g) = calls_safe Coordinator ((full, why.Full) ∷ []) (Reopens old Coordinator 6) (λ made r. reopens_safe old h made Coordinator 6 r) g
   step_safe (Fail machine call) none g = unless_down_safe machine _ (device_safe old h new machine _ _ (h machine)) g
-  step_safe (Stop machine calls) none g = absurd none
+  step_safe (Stop machine calls) none g = absurd (none machine calls refl)
   step_safe (Open machine) none (inl g) = same_safe old h new g.1
   step_safe (Open machine) none (inr (down, g)) = absurd ((h machine).0 down)
   step_safe (Reopen machine) none (inl g) = same_safe old h new g.1
@@ -153,13 +160,18 @@ module _ (old : World) (h : AllSafe old) (new : World) where
       refused_safe armed (device_safe old h armed machine (status_of old machine) arms ((h machine).0, (meets_safe _ _ _ _ _ (h machine).1 meets).1) refl) g.0 new g.2
   step_safe (Reopen machine) none (inr (up, (calls, inr (some, made, r, e)))) = answered_safe machine made new (reopens_safe old h made machine calls r) e
 
-run_safe : (steps : List Step) (old new : World) → AllSafe old → All IsNoStop steps → Runs old steps new → AllSafe new
+abbrev HasNoStop : List Step → Type 0
+HasNoStop steps = (machine : Machine) (call : ℕ) → Contains steps (Stop machine call) → ⊥
+
+run_safe : (steps : List Step) (old new : World) → AllSafe old → HasNoStop steps → Runs old steps new → AllSafe new
 run_safe [] old new h none e = subst AllSafe (sym e) h
-run_safe (step ∷ steps) old new h none (between, g, more) = run_safe steps between new (step_safe old h between step (All-head IsNoStop step steps none) g) (All-tail IsNoStop step steps none) more
+run_safe (step ∷ steps) old new h none (between, g, more) =
+    run_safe steps between new (step_safe old h between step (λ machine call e. none machine call (subst (Contains (step ∷ steps)) e (0, omega arith, refl))) g)
+    (λ machine call c. none machine call (Contains-append_right (step ∷ []) steps _ c)) more
 
 start_safe : (world : World) → IsStart world → AllSafe world
-start_safe world s (At Left) = (λ down. up_not_down (sym s.left.0 ∙ down), ap (λ a. a.stop) (s.left.3))
-start_safe world s (At Right) = (λ down. up_not_down (sym s.right.0 ∙ down), ap (λ a. a.stop) (s.right.3))
+start_safe world s (At Left) = (λ down. up_not_down (sym s.left.0 ∙ down), ap (λ a. a.stop) (s.left.4))
+start_safe world s (At Right) = (λ down. up_not_down (sym s.right.0 ∙ down), ap (λ a. a.stop) (s.right.4))
 start_safe world s Coordinator = (λ down. up_not_down (sym s.coordinator.0 ∙ down), ap (λ a. a.stop) (s.coordinator.3))
 
 pub stay_without_stop : StaysWithoutStop
@@ -181,7 +193,7 @@ answered_acknowledged machine made = told (is_halted (status_of made machine))
 
 unwritten : (old : World) (side : Which) (event : Event) → (IsBefore 4 (side_of old side).arms.fail × IsBefore 4 (side_of old side).arms.stop → ⊥) →
     (machine : SideMachine) (events : List Event) → Writes (side_of old side) event machine events → events ≡ []
-unwritten old side event armed _ _ (written room arms meets) = absurd (armed (passed (side_of old side).arms Up arms meets refl))
+unwritten old side event armed _ _ (written arms meets) = absurd (armed (passed (side_of old side).arms Up arms meets refl))
 unwritten old side event armed _ _ (failed arms meets) = refl
 unwritten old side event armed _ _ (cut meets) = refl
 

@@ -11,7 +11,7 @@ use Rattle.syn_headline.specs.Side.{Request, Reply, Refused}
 use Rattle.syn_model.specs.Refusal.{Refusal, Device, Cause}
 use Rattle.syn_model.specs.Refusal as why
 use Rattle.syn_headline.specs.Planning.{Log}
-use Rattle.syn_headline.specs.World.{Running, World, SideMachine, CoordinatorMachine, Machine, At, Coordinator, Step, Edits, Start, Deliver, Tick, Checkpoint, Fail, Stop, Open, Reopen, side_of, set_side, stopped, Writes, SideGoes, Opens, OpensArchive, TakesRequest, TakesAnswer, CoordinatorGoes, Delivers, OpensMachine, cut_off, set_device, answered_by, is_halted, status_of, UnlessDown, Status, Halted, Steps, written, failed, cut, opened, recovered, archive_opened, archive_recovered, refuses_with, edit_causes, start_causes, Starts, Reopens, Calls, answered, request_failed, request_cut, side_down, taken, ignored, coordinator_down}
+use Rattle.syn_headline.specs.World.{Running, World, SideMachine, CoordinatorMachine, Machine, At, Coordinator, Step, Edits, Start, Deliver, Tick, Checkpoint, Fail, Stop, Open, Reopen, side_of, set_side, stopped, Writes, SideGoes, Opens, OpensArchive, TakesRequest, TakesAnswer, CoordinatorGoes, Delivers, OpensMachine, cut_off, set_device, answered_by, is_halted, status_of, UnlessDown, Status, Halted, Steps, written, failed, cut, opened, recovered, archive_opened, archive_recovered, refuses_with, edit_causes, start_causes, Starts, Reopens, Calls, answered, request_failed, request_cut, side_down, taken, ignored, coordinator_down, Compacts, compacted, compacting_failed, compacting_cut, room_after}
 use Rattle.syn_headline.specs.Arms.{Arms}
 use Rattle.syn_headline.specs.Headline.{StandsFor, RunsStand}
 
@@ -87,13 +87,18 @@ side_stays before old Left machine sent new s h e = subst (StandsFor before) (sy
 side_stays before old Right machine sent new s h e = subst (StandsFor before) (sym e) (record { left = s.left; right = h ∙ s.right; archive = s.archive })
 
 writes_history : (m : SideMachine) (event : Event) (new : SideMachine) (es : List Event) → Writes m event new es → new.side.history ≡ m.side.history ++ es
-writes_history m event new es (written room arms meets) = refl
+writes_history m event new es (written arms meets) = refl
 writes_history m event new es (failed arms meets) = sym (append-nil m.side.history)
 writes_history m event new es (cut meets) = sym (append-nil m.side.history)
 
-opens_history : (m : SideMachine) (calls : ℕ) (new : SideMachine) (es : List Event) → Opens m calls new es → new.side.history ≡ m.side.history ++ es
-opens_history m calls new es (opened room arms meets) = sym (append-nil m.side.history)
-opens_history m calls new es (recovered room arms event meets is allowed) = refl
+opens_history : (pair : ℕ) (m : SideMachine) (calls : ℕ) (new : SideMachine) (es : List Event) → Opens pair m calls new es → new.side.history ≡ m.side.history ++ es
+opens_history pair m calls new es (opened room arms meets left) = sym (append-nil m.side.history)
+opens_history pair m calls new es (recovered arms event meets is allowed) = refl
+
+compacts_history : (pair : ℕ) (m : SideMachine) (new : SideMachine) (es : List Event) → Compacts pair m new es → new.side.history ≡ m.side.history ++ es
+compacts_history pair m new es (compacted arms meets) = sym (append-nil m.side.history)
+compacts_history pair m new es (compacting_failed arms meets) = sym (append-nil m.side.history)
+compacts_history pair m new es (compacting_cut meets) = sym (append-nil m.side.history)
 
 opens_archive : (m : CoordinatorMachine) (calls : ℕ) (new : CoordinatorMachine) (ks : List Kept) → OpensArchive m calls new ks → new.archive ≡ archive_of m.archive ks
 opens_archive m calls new ks (archive_opened room arms meets) = refl
@@ -126,7 +131,7 @@ sent_stays old Right machine = refl
 
 takes_request : (before : Stores) (old : World) (which : Which) (session number : ℕ) (request : Request) (new : World) → StandsFor before old → TakesRequest old which session number request new → StandsFor before new
 takes_request before old which session number request new s (answered a) =
-    side_goes before old which (record (side_of old which) { side = a.served.side; has_room = a.room; arms = a.arms }) a.events (Answers which session number a.served.reply ∷ []) new s a.added a.result
+    side_goes before old which (record (side_of old which) { side = a.served.side; room = room_after (side_of old which).room a.events; arms = a.arms }) a.events (Answers which session number a.served.reply ∷ []) new s a.added a.result
 takes_request before old which session number request new s (request_failed event arms would meets e) = side_stays before old which _ (old.sent ++ Answers which session number (Refused Device) ∷ []) new s refl e
 takes_request before old which session number request new s (request_cut event would meets e) = side_stays before old which _ old.sent new s refl (e ∙ sent_stays old which _)
 takes_request before old which session number request new s (side_down d e) = same_world before old new s e
@@ -162,7 +167,7 @@ answered_stands before machine made new s = told (is_halted (status_of made mach
     told false e = same_world before made new s e
 
 opens_machine : (before : Stores) (old : World) (machine : Machine) (calls : ℕ) (new : World) → StandsFor before old → OpensMachine old machine calls new → StandsFor before new
-opens_machine before old (At which) calls new s g = side_steps before old which (Opens (side_of old which) calls) new (opens_history (side_of old which) calls) s g
+opens_machine before old (At which) calls new s g = side_steps before old which (Opens old.pair (side_of old which) calls) new (opens_history old.pair (side_of old which) calls) s g
 opens_machine before old Coordinator calls new s g = coordinator_goes before old g.0 g.1 old.sent old.reports old.log new s (opens_archive old.coordinator calls g.0 g.1 g.2) g.3
 
 reopens : (before : Stores) (old : World) (machine : Machine) (calls : ℕ) (new : World) → StandsFor before old → Reopens old machine calls new → StandsFor before new
@@ -187,7 +192,9 @@ step_stands before old Start new s g = calls before old Coordinator (start_cause
 step_stands before old (Deliver message) new s g = delivers before old (slice_get old.sent message) new s g
 step_stands before old Tick new s (inl g) = same_world before old new s g.1
 step_stands before old Tick new s (inr g) = coordinator_steps before old [] _ _ new s g.1.goes
-step_stands before old (Checkpoint machine) new s (full, g) = calls before old machine ((full, why.Full) ∷ []) (Reopens old machine 6) new s (λ made. reopens before old machine 6 made s) g
+step_stands before old (Checkpoint (At which)) new s (full, g) = calls before old (At which) ((full, why.Full) ∷ []) (SideGoes old which (Compacts old.pair (side_of old which)) []) new s
+    (λ made. side_steps before old which (Compacts old.pair (side_of old which)) made (compacts_history old.pair (side_of old which)) s) g
+step_stands before old (Checkpoint Coordinator) new s (full, g) = calls before old Coordinator ((full, why.Full) ∷ []) (Reopens old Coordinator 6) new s (λ made. reopens before old Coordinator 6 made s) g
 step_stands before old (Fail machine call) new s g = unless_down before old machine _ new s (device_stands before old machine _ _ new s) g
 step_stands before old (Stop machine zero) new s g = unless_down before old machine _ new s (cut_stands before old machine new s) g
 step_stands before old (Stop machine (suc more)) new s g = unless_down before old machine _ new s (device_stands before old machine _ _ new s) g

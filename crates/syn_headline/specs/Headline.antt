@@ -30,8 +30,8 @@ pub record IsPair (stores : Stores) : Type 0 where
 -- a world that has just been opened
 pub record IsStart (world : World) : Type 0 where
   pub pair : IsPair (stores_of world)
-  pub left : (world.left.status ≡ Up) × (world.left.side.staging ≡ None) × (world.left.writing ≡ None) × (world.left.arms ≡ unarmed)
-  pub right : (world.right.status ≡ Up) × (world.right.side.staging ≡ None) × (world.right.writing ≡ None) × (world.right.arms ≡ unarmed)
+  pub left : (world.left.status ≡ Up) × (world.left.side.staging ≡ None) × (world.left.writing ≡ None) × (world.left.compacting ≡ false) × (world.left.arms ≡ unarmed)
+  pub right : (world.right.status ≡ Up) × (world.right.side.staging ≡ None) × (world.right.writing ≡ None) × (world.right.compacting ≡ false) × (world.right.arms ≡ unarmed)
   pub coordinator : (world.coordinator.status ≡ Up) × (world.coordinator.running ≡ None) × (world.coordinator.writing ≡ None) × (world.coordinator.arms ≡ unarmed)
   pub nothing_yet : (world.sent ≡ []) × (world.acknowledged ≡ []) × (world.reports ≡ []) × (world.log ≡ [])
 
@@ -180,13 +180,10 @@ LeavesPair before new =
 abbrev pub Owes : Stores → World → Type 0
 Owes before new = IfSome new.coordinator.running Waits × AsksNothingTwice new.sent
 
-abbrev pub IsNoStop : Step → Type 0
-IsNoStop (Stop machine call) = ⊥
-IsNoStop _ = Unit {0}
-
--- a machine goes down only by a stop
+-- without a stop among the steps no machine goes down
 abbrev pub StaysWithoutStop : Type 0
-StaysWithoutStop = (old new : World) (steps : List Step) → IsStart old → Runs old steps new → All IsNoStop steps → (machine : Machine) → status_of new machine ≢ Down
+StaysWithoutStop = (old new : World) (steps : List Step) → IsStart old → Runs old steps new →
+    ((machine : Machine) (call : ℕ) → Contains steps (Stop machine call) → ⊥) → (machine : Machine) → status_of new machine ≢ Down
 
 -- an edit is not acknowledged where one of its four device calls is armed
 abbrev pub ArmedCallsCome : Type 0

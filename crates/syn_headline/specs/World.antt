@@ -1,7 +1,7 @@
 -- Three machines and the network between them, and what a step may do.
 use Rattle.std.specs.Option.{option_map_or}
 use Rattle.std.specs.List.{list_any}
-use Rattle.std.specs.Prelude.{ℕ, zero, suc, true, false, not, is_some, nat_le, ◌≤◌, ◌==◌, if◌then◌else◌, ◌+◌, ◌*◌, ◌≡◌, ◌≢◌, ◌⊎◌, Bool, List, [], ◌∷◌, ◌++◌, slice_get, map, Option, Some, None, Contains, IfSome, IsSome, IsSomeAnd, All, length}
+use Rattle.std.specs.Prelude.{ℕ, zero, suc, true, false, not, is_some, nat_le, ◌≤◌, ◌==◌, if◌then◌else◌, ◌+◌, ◌*◌, ◌-◌, fold, ◌≡◌, ◌≢◌, ◌⊎◌, Bool, List, [], ◌∷◌, ◌++◌, slice_get, map, Option, Some, None, Contains, IfSome, IsSome, IsSomeAnd, All, length}
 use Rattle.syn_model.specs.Path.{Path}
 use Rattle.syn_model.specs.Refusal.{Refusal, Device, Cause, first_cause}
 use Rattle.syn_model.specs.Refusal as why
@@ -9,7 +9,7 @@ use Rattle.syn_model.specs.Event.{Edit, Event, Edited, IsLawfulEvent}
 use Rattle.syn_model.specs.History.{IsAllowed, event_causes}
 use Rattle.syn_model.specs.Limits.{greatest}
 use Rattle.syn_model.specs.Archive.{Archive, Kept, Session, Recorded, RecordedDir, CanKeep, after_kept, archive_of}
-use Rattle.syn_headline.specs.Side.{Request, Begin, ListAt, Fetch, Stage, Replace, Reply, Done, Refused, token_of, IsLawfulRequest, Side, Served, Serves, answer, stage, add_event, room_causes}
+use Rattle.syn_headline.specs.Side.{Request, Begin, ListAt, Fetch, Stage, Replace, Reply, Done, Refused, token_of, IsLawfulRequest, Side, Served, Serves, answer, stage, add_event, record_size, room_behind, fits_in, room_causes}
 use Rattle.syn_headline.specs.Network.{Which, Left, Right, other, Message, Asks, Answers, Sent, NumbersTell, AsksNothingTwice}
 pub use Rattle.syn_headline.specs.Arms.{Status, Up, Halted, Down}
 use Rattle.syn_headline.specs.Arms.{Arms, unarmed, Meets}
@@ -33,11 +33,12 @@ pub data Step : Type 0 where
   Open : (machine : Machine) → Step
   Reopen : (machine : Machine) → Step
 
--- a side: what it stands for, what its journal has room for, and what was being written when it stopped or a device failed
+-- a side: what it stands for, how many bytes its journal has left, and whether a checkpoint and what event was being written when it stopped or a device failed
 pub record SideMachine : Type 0 where
   pub status : Status
   pub side : Side
-  pub has_room : Event → Bool
+  pub room : ℕ
+  pub compacting : Bool
   pub writing : Option Event
   pub arms : Arms
 
@@ -105,7 +106,7 @@ stopped machine writing = record machine { status = Down; side = record { histor
 
 -- a call that writes an event makes four device calls and is answered, or it fails at one of them, or is cut off by a stop
 pub data Writes (machine : SideMachine) (event : Event) : SideMachine → List Event → Type 0 where
-  written : (room : Event → Bool) (arms : Arms) → Meets machine.arms 4 0 Up arms → Writes machine event (record machine { side = add_event machine.side event; has_room = room; arms = arms }) (event ∷ [])
+  written : (arms : Arms) → Meets machine.arms 4 0 Up arms → Writes machine event (record machine { side = add_event machine.side event; room = machine.room - record_size event; arms = arms }) (event ∷ [])
   failed : (arms : Arms) → Meets machine.arms 0 4 Halted arms → Writes machine event (record machine { status = Halted; writing = Some event; arms = arms }) []
   cut : Meets machine.arms 0 4 Down unarmed → Writes machine event (stopped machine (Some event)) []
 
@@ -115,11 +116,18 @@ SideGoes old which Goes messages new =
     (machine : SideMachine) × (events : List Event) × Goes machine events
     × (new ≡ record (set_side old which machine) { sent = old.sent ++ messages; acknowledged = old.acknowledged ++ map (λ event. Happened which event) events })
 
--- an opening by so many device calls gives the history, or it and the event that was being written
-pub data Opens (machine : SideMachine) (calls : ℕ) : SideMachine → List Event → Type 0 where
-  opened : (room : Event → Bool) (arms : Arms) → Meets machine.arms calls 0 Up arms → Opens machine calls (record machine { status = Up; has_room = room; writing = None; arms = arms }) []
-  recovered : (room : Event → Bool) (arms : Arms) (event : Event) → Meets machine.arms calls 0 Up arms → machine.writing ≡ Some event → IsAllowed machine.side.history event →
-      Opens machine calls (record { status = Up; side = add_event machine.side event; has_room = room; writing = None; arms = arms }) (event ∷ [])
+-- a checkpoint of a side leaves the image alone in its journal; one that fails or is cut off is under way until the next opening
+pub data Compacts (pair : ℕ) (machine : SideMachine) : SideMachine → List Event → Type 0 where
+  compacted : (arms : Arms) → Meets machine.arms 6 0 Up arms → Compacts pair machine (record machine { room = room_behind pair machine.side.history; arms = arms }) []
+  compacting_failed : (arms : Arms) → Meets machine.arms 0 6 Halted arms → Compacts pair machine (record machine { status = Halted; compacting = true; arms = arms }) []
+  compacting_cut : Meets machine.arms 0 6 Down unarmed → Compacts pair machine (record (stopped machine machine.writing) { compacting = true }) []
+
+-- an opening by so many device calls gives the history, and the journal as it was or as the checkpoint that was being written leaves it; or the event too that was being written
+pub data Opens (pair : ℕ) (machine : SideMachine) (calls : ℕ) : SideMachine → List Event → Type 0 where
+  opened : (room : ℕ) (arms : Arms) → Meets machine.arms calls 0 Up arms → (room ≡ machine.room) ⊎ ((machine.compacting ≡ true) × (room ≡ room_behind pair machine.side.history)) →
+      Opens pair machine calls (record machine { status = Up; room = room; compacting = false; writing = None; arms = arms }) []
+  recovered : (arms : Arms) (event : Event) → Meets machine.arms calls 0 Up arms → machine.writing ≡ Some event → IsAllowed machine.side.history event →
+      Opens pair machine calls (record { status = Up; side = add_event machine.side event; room = machine.room - record_size event; compacting = false; writing = None; arms = arms }) (event ∷ [])
 
 -- a halted side still stages, and refuses all else
 abbrev pub serve_halted : Side → ℕ → Request → Served
@@ -131,24 +139,26 @@ ServesAs Up pair has_room side session request served = Serves pair has_room sid
 ServesAs Halted pair has_room side session request served = served ≡ serve_halted side session request
 ServesAs Down pair has_room side session request served = ⊥
 
+-- what the records of these events leave of the room
+abbrev pub room_after : ℕ → List Event → ℕ
+room_after room events = fold (λ left event. left - record_size event) room events
+
 pub record AnswersRequest (pair : ℕ) (old : World) (which : Which) (session number : ℕ) (request : Request) (new : World) : Type 0 where
   pub served : Served
   pub events : List Event
-  pub room : Event → Bool
   pub arms : Arms
-  pub serves : ServesAs (side_of old which).status pair (side_of old which).has_room (side_of old which).side session request served
+  pub serves : ServesAs (side_of old which).status pair (fits_in (side_of old which).room) (side_of old which).side session request served
   pub no_failure : served.reply ≢ Refused Device
   pub no_halt : (side_of old which).status ≡ Up → served.reply ≢ Refused why.Halted
-  pub same_room : events ≡ [] → room ≡ (side_of old which).has_room
   pub added : served.side.history ≡ (side_of old which).side.history ++ events
   pub meets : Meets (side_of old which).arms (4 * length events) 0 Up arms
-  pub result : new ≡ record (set_side old which (record (side_of old which) { side = served.side; has_room = room; arms = arms })) { sent = old.sent ++ Answers which session number served.reply ∷ []; acknowledged = old.acknowledged ++ map (λ event. Happened which event) events }
+  pub result : new ≡ record (set_side old which (record (side_of old which) { side = served.side; room = room_after (side_of old which).room events; arms = arms })) { sent = old.sent ++ Answers which session number served.reply ∷ []; acknowledged = old.acknowledged ++ map (λ event. Happened which event) events }
 
 -- the event that a request adds to a side that is up, where no device fails and the side does not stop
 pub record WouldAdd (pair : ℕ) (machine : SideMachine) (session : ℕ) (request : Request) (event : Event) : Type 0 where
   pub served : Served
   pub up : machine.status ≡ Up
-  pub serves : Serves pair machine.has_room machine.side session request served
+  pub serves : Serves pair (fits_in machine.room) machine.side session request served
   pub adds : served.side.history ≡ machine.side.history ++ event ∷ []
 
 -- a side takes a request: it answers; or the device fails as the event is written, and the side is halted and says so; or the side stops then, and answers nothing
@@ -360,8 +370,7 @@ pub record SendsAgain (old new : World) (running later : Running) : Type 0 where
 pub record Ticks (old new : World) : Type 0 where
   pub goes : CoordinatorGoes old [] IsNothing (GoesOnFrom old.coordinator.running (plan_of old.coordinator.running)) new
   pub reports : Reports old new (plan_of old.coordinator.running) IsNoItem EndsUnanswered
-  pub same_status : new.coordinator.status ≡ old.coordinator.status
-  pub same_arms : new.coordinator.arms ≡ old.coordinator.arms
+  pub no_call : (new.coordinator.status ≡ old.coordinator.status) × (new.coordinator.arms ≡ old.coordinator.arms)
   pub sends : IfSome old.coordinator.running (λ running. IfSome new.coordinator.running (SendsAgain old new running))
 
 -- the device calls of an answer that is taken: four for each record, and six for a checkpoint that it may make once
@@ -391,7 +400,7 @@ pub data OpensArchive (machine : CoordinatorMachine) (calls : ℕ) : Coordinator
       OpensArchive machine calls (record machine { status = Up; archive = after_kept machine.archive kept; has_room = room; writing = None; arms = arms }) (kept ∷ [])
 
 abbrev pub OpensMachine : World → Machine → ℕ → World → Type 0
-OpensMachine old (At which) calls new = SideGoes old which (Opens (side_of old which) calls) [] new
+OpensMachine old (At which) calls new = SideGoes old which (Opens old.pair (side_of old which) calls) [] new
 OpensMachine old Coordinator calls new =
     (machine : CoordinatorMachine) × (kept : List Kept) × OpensArchive old.coordinator calls machine kept
     × (new ≡ record old { coordinator = machine; acknowledged = old.acknowledged ++ map Kept_by kept })
@@ -439,14 +448,14 @@ Calls old machine causes Made new =
     let all = (is_halted (status_of old machine), why.Halted) ∷ causes in
     UnlessDown old machine (IsRefused old all new ⊎ ((first_cause all ≡ None) × (made : World) × Made made × (new ≡ answered_by machine made))) new
 
--- a machine opens its disk again by so many device calls, or one of them fails, or the machine stops; so too where it makes a checkpoint, which may give it room
+-- a machine opens its disk again by so many device calls, or one of them fails, or the machine stops; so too where the archive makes a checkpoint, which may give it room
 abbrev pub Reopens : World → Machine → ℕ → World → Type 0
 Reopens old machine calls new =
     OpensMachine old machine calls new
     ⊎ (((arms : Arms) × Meets (arms_of old machine) 0 calls Halted arms × (new ≡ set_device old machine Halted arms)) ⊎ (Meets (arms_of old machine) 0 calls Down unarmed × (new ≡ cut_off old machine)))
 
 abbrev pub edit_causes : SideMachine → Event → List Cause
-edit_causes machine event = event_causes machine.side.history event ++ room_causes machine.has_room event
+edit_causes machine event = event_causes machine.side.history event ++ room_causes (fits_in machine.room) event
 
 abbrev pub start_causes : CoordinatorMachine → List Cause
 start_causes machine =
@@ -467,7 +476,8 @@ Steps old (Edits side user edit) new =
 Steps old Start new = Calls old Coordinator (start_causes old.coordinator) (Starts old) new
 Steps old (Deliver message) new = Delivers old (slice_get old.sent message) new
 Steps old Tick new = ((old.coordinator.running ≡ None) × (new ≡ old)) ⊎ ((old.coordinator.running ≢ None) × Ticks old new)
-Steps old (Checkpoint machine) new = (full : Bool) × Calls old machine ((full, why.Full) ∷ []) (Reopens old machine 6) new
+Steps old (Checkpoint (At which)) new = (full : Bool) × Calls old (At which) ((full, why.Full) ∷ []) (SideGoes old which (Compacts old.pair (side_of old which)) []) new
+Steps old (Checkpoint Coordinator) new = (full : Bool) × Calls old Coordinator ((full, why.Full) ∷ []) (Reopens old Coordinator 6) new
 Steps old (Fail machine call) new = UnlessDown old machine (new ≡ set_device old machine (status_of old machine) (record (arms_of old machine) { fail = call })) new
 Steps old (Stop machine zero) new = UnlessDown old machine (new ≡ cut_off old machine) new
 Steps old (Stop machine (suc calls)) new = UnlessDown old machine (new ≡ set_device old machine (status_of old machine) (record (arms_of old machine) { stop = suc calls })) new

@@ -14,8 +14,8 @@ use Rattle.syn_model.specs.Archive.{Archive, Session, Recorded, new_archive}
 use Rattle.syn_model.specs.Decision.{ToLeft, ToRight}
 use Rattle.syn_model.proofs.TreeLemmas.{subtree-replace, subtree-replace_other}
 use Rattle.syn_model.specs.Dirty.{Scan}
-use Rattle.syn_headline.specs.Rows.{file_bytes, has_room}
-use Rattle.syn_headline.specs.Side.{Side, Request, Begin, ListAt, Fetch, Stage, Replace, Begun, Listed, Piece, Staged, Done, answer, serve, token_of}
+use Rattle.syn_headline.specs.Rows.{file_bytes}
+use Rattle.syn_headline.specs.Side.{Side, Request, Begin, ListAt, Fetch, Stage, Replace, Begun, Listed, Piece, Staged, Done, answer, serve, token_of, fits_in}
 use Rattle.syn_headline.specs.Network.{Which, Left, Right, Asks, Answers, Sent, NumbersTell, AsksNothingTwice}
 use Rattle.syn_headline.specs.Acknowledged.{Ack, Happened, Kept_by}
 use Rattle.syn_headline.specs.Planning.{Planned, SessionPlan}
@@ -27,7 +27,7 @@ use Rattle.syn_witness.proofs.WitnessFiles.{IsLetter, content, with_file, alone-
 use Rattle.syn_witness.proofs.WitnessScans.{left_history, left_scan, left-entries, left_root}
 use Rattle.syn_witness.proofs.ExchangeScans.{right_history, right_scan, right-entries, right_root}
 use Rattle.syn_witness.proofs.WitnessMessages.{IsNumbered, number_of, numbers_tell, asks_once, tell_before, once_before}
-use Rattle.syn_witness.proofs.WitnessSteps.{meets_unarmed, edits, waits, runs_with, world_of, reads_nothing, serves, lists}
+use Rattle.syn_witness.proofs.WitnessSteps.{room_of, meets_unarmed, edits, waits, runs_with, world_of, reads_nothing, serves, lists}
 use Rattle.syn_witness.proofs.WitnessLemmas.{edit_allowed}
 
 abbrev pub two_bytes : Bytes
@@ -237,7 +237,7 @@ once said = once_before (take said messages) (drop said messages) (subst AsksNot
 
 -- The steps of the sides
 pub edits_left : Steps opened_world (Edits Left 1 put_one) first_edited
-edits_left = edits opened_world Left 1 put_one first_edited.left (Edited 1 put_one ∷ []) first_edited first_edited refl refl edit_allowed (written has_room unarmed (meets_unarmed _ _ _ refl)) refl refl
+edits_left = edits opened_world Left 1 put_one first_edited.left (Edited 1 put_one ∷ []) first_edited first_edited refl refl edit_allowed (written unarmed (meets_unarmed _ _ _ refl)) refl refl
 
 pub letter_b : IsLetter 98
 letter_b = record { ascii = omega arith; no_zero = λ e. omega (arith, e); no_dot = λ e. omega (arith, e); no_slash = λ e. omega (arith, e) }
@@ -247,7 +247,7 @@ second_allowed = put_allowed 2 98 50 (omega arith) letter_b (omega arith)
     (fits_by (replace empty_directory b_path two) (with_file 98 (content (50 ∷ []))) (put-entries empty_directory two 98 (content (50 ∷ [])) alone-entries (file-entries (50 ∷ []))))
 
 pub edits_right : Steps first_edited (Edits Right 2 put_two) both_edited
-edits_right = edits first_edited Right 2 put_two both_edited.right (Edited 2 put_two ∷ []) both_edited both_edited refl refl second_allowed (written has_room unarmed (meets_unarmed _ _ _ refl)) refl refl
+edits_right = edits first_edited Right 2 put_two both_edited.right (Edited 2 put_two ∷ []) both_edited both_edited refl refl second_allowed (written unarmed (meets_unarmed _ _ _ refl)) refl refl
 
 pub begins_left : Steps started (Deliver 0) left_begun
 begins_left = serves started Left 1 0 (Begin 7) None left_side (Begun 2) (Began 1 ∷ []) refl reads_nothing refl tt refl
@@ -269,7 +269,7 @@ left_first : subtree (tree_of left_history) a_path ≡ one
 unfolding tree_of
 left_first = subtree-replace empty_directory a_path one
 
-first_piece : answer left_side (Piece 6 file_bytes) ≡ serve 7 has_room None left_side 1 (Fetch a_path 2 0)
+first_piece : answer left_side (Piece 6 file_bytes) ≡ serve 7 (fits_in (room_of left_side.history)) None left_side 1 (Fetch a_path 2 0)
 first_piece = ap (λ bytes. answer left_side (Piece (length bytes) (take 32768 (drop 0 bytes)))) (sym (ap spelling left_first ∙ file_spelling (49 ∷ [])))
 
 pub fetches_first : Steps fetching (Deliver 8) fetched
@@ -285,8 +285,8 @@ right_fits : fits_replica (replace (tree_of right_history) a_path one) ≡ true
 right_fits = fits_by (replace (tree_of right_history) a_path one) (with_both (content (49 ∷ [])) (content (50 ∷ [])))
     (replace-entries (tree_of right_history) a_path one (with_file 98 (content (50 ∷ []))) ((root, content (49 ∷ [])) ∷ []) right-entries (file-entries (49 ∷ [])))
 
-first_done : answer right_done Done ≡ serve 7 has_room (Some one) right_staged 1 (Replace 0 a_path 2 6)
-first_done = rw (right_root, right_fits) refl
+first_done : answer right_done Done ≡ serve 7 (fits_in (room_of right_staged.history)) (Some one) right_staged 1 (Replace 0 a_path 2 6)
+first_done = rw (right_root, right_fits, file_spelling (49 ∷ [])) refl
 
 pub replaces_first : Steps replacing (Deliver 12) replaced
 replaces_first = serves replacing Right 1 3 (Replace 0 a_path 2 6) (Some one) right_done Done (Replaced (token_of 1 0) a_path 2 one ∷ []) refl
@@ -296,7 +296,7 @@ pub right_second : subtree (tree_of right_done.history) b_path ≡ two
 unfolding tree_of
 right_second = stays empty_directory two one b_path a_path refl
 
-second_piece : answer right_done (Piece 6 two_bytes) ≡ serve 7 has_room None right_done 1 (Fetch b_path 2 0)
+second_piece : answer right_done (Piece 6 two_bytes) ≡ serve 7 (fits_in (room_of right_done.history)) None right_done 1 (Fetch b_path 2 0)
 second_piece = ap (λ bytes. answer right_done (Piece (length bytes) (take 32768 (drop 0 bytes)))) (sym (ap spelling right_second ∙ file_spelling (50 ∷ [])))
 
 pub fetches_second : Steps second_fetching (Deliver 14) second_fetched
@@ -310,8 +310,8 @@ left_fits : fits_replica (replace (tree_of left_history) b_path two) ≡ true
 left_fits = fits_by (replace (tree_of left_history) b_path two) (with_both (content (49 ∷ [])) (content (50 ∷ [])))
     (replace-entries (tree_of left_history) b_path two (with_file 97 (content (49 ∷ []))) ((root, content (50 ∷ [])) ∷ []) left-entries (file-entries (50 ∷ [])))
 
-second_done : answer left_done Done ≡ serve 7 has_room (Some two) left_staged 1 (Replace 1 b_path 2 6)
-second_done = rw (left_root, left_fits) refl
+second_done : answer left_done Done ≡ serve 7 (fits_in (room_of left_staged.history)) (Some two) left_staged 1 (Replace 1 b_path 2 6)
+second_done = rw (left_root, left_fits, file_spelling (50 ∷ [])) refl
 
 pub replaces_second : Steps second_replacing (Deliver 18) second_replaced
 replaces_second = serves second_replacing Left 1 4 (Replace 1 b_path 2 6) (Some two) left_done Done (Replaced (token_of 1 1) b_path 2 two ∷ []) refl

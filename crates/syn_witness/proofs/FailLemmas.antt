@@ -6,9 +6,8 @@ use Rattle.syn_headline.specs.Network.{Left}
 use Rattle.syn_headline.specs.Acknowledged.{Happened}
 use Rattle.syn_headline.specs.Arms.{unarmed, one_fails}
 use Rattle.syn_headline.specs.World.{World, Step, Halted, Down, At, Edits, Fail, Reopen, Steps, Runs, failed, opened, recovered}
-use Rattle.syn_headline.specs.Rows.{has_room}
-use Rattle.syn_witness.specs.Witness.{new_machine, opened_world, FailIsRefused, put_one}
-use Rattle.syn_witness.proofs.WitnessSteps.{edits, meets_unarmed, up_not_down}
+use Rattle.syn_witness.specs.Witness.{new_room, new_machine, opened_world, FailIsRefused, put_one}
+use Rattle.syn_witness.proofs.WitnessSteps.{room_of, edits, meets_unarmed, up_not_down}
 use Rattle.syn_witness.proofs.WitnessLemmas.{edit_allowed}
 
 armed_world : World
@@ -25,7 +24,7 @@ twice_refused = record halted_world { refusals = Device ∷ Halted_before ∷ []
 
 recovered_world : World
 recovered_world = record twice_refused {
-  left = record new_machine { side = record { history = Edited 1 put_one ∷ []; staging = None } };
+  left = record new_machine { side = record { history = Edited 1 put_one ∷ []; staging = None }; room = room_of (Edited 1 put_one ∷ []) };
   acknowledged = Happened Left (Edited 1 put_one) ∷ [];
 }
 
@@ -52,12 +51,12 @@ gives_back : Steps twice_refused (Reopen (At Left)) recovered_world
 unfolding halted_world twice_refused recovered_world
 gives_back = inr (
   halted_not_down,
-  (1, inr (omega arith, recovered_world, inl (recovered_world.left, Edited 1 put_one ∷ [], recovered has_room unarmed (Edited 1 put_one) (meets_unarmed _ _ _ refl) refl edit_allowed, refl), refl)),
+  (1, inr (omega arith, recovered_world, inl (recovered_world.left, Edited 1 put_one ∷ [], recovered unarmed (Edited 1 put_one) (meets_unarmed _ _ _ refl) refl edit_allowed, refl), refl)),
 )
 
 loses : Steps twice_refused (Reopen (At Left)) lost_world
 unfolding halted_world twice_refused lost_world
-loses = inr (halted_not_down, (1, inr (omega arith, lost_world, inl (lost_world.left, [], opened has_room unarmed (meets_unarmed _ _ _ refl), refl), refl)))
+loses = inr (halted_not_down, (1, inr (omega arith, lost_world, inl (lost_world.left, [], opened (new_room) unarmed (meets_unarmed _ _ _ refl) (inl refl), refl), refl)))
 
 pub fail_is_refused : FailIsRefused
 unfolding halted_world twice_refused recovered_world lost_world

@@ -172,7 +172,7 @@ reads_one : Reads file_bytes (Some one)
 reads_one = (file_is_part (49 ∷ []) (one_byte 49 (omega arith)), file_fits_part 49, file_fits_paths 49, file_spelling (49 ∷ []))
 
 begins_right : Steps left_begun (Deliver 15) both_begun
-begins_right = serves left_begun Right 2 0 (Begin 7) (Some one) right_begun_side (Begun 3) (Began 2 ∷ []) refl reads_one refl tt refl
+begins_right = serves left_begun Right 2 0 (Begin 7) (Some one) right_begun_side (Begun 3) (Began 2 ∷ []) refl reads_one (rw (file_spelling (49 ∷ [])) refl) tt refl
 
 lists_left : Steps listing (Deliver 18) left_listed
 lists_left = serves listing Left 2 1 (ListAt root) None left_begun_side (Listed 3 (children left_scan.marks root)) [] refl reads_nothing (lists left_begun_side root left_root) tt refl

@@ -5,29 +5,33 @@ use Rattle.std.proofs.lemmas.List.Elements.{All-nil, All-cons, All-append, All-f
 use Rattle.std.proofs.lemmas.Bool.Decides.{nat_tests}
 use Rattle.syn_model.specs.Tree.{empty_directory, replace}
 use Rattle.syn_model.specs.Event.{Edited}
-use Rattle.syn_model.specs.History.{IsAllowed}
+use Rattle.syn_model.specs.History.{IsAllowed, tree_of}
 use Rattle.syn_model.specs.Archive.{Session, new_archive}
+use Rattle.syn_model.proofs.RowLemmas.{spellings}
 use Rattle.syn_headline.specs.Side.{Begin}
 use Rattle.syn_headline.specs.Network.{Which, Left, Right, Asks, Sent, NumbersTell, AsksNothingTwice}
 use Rattle.syn_headline.specs.Acknowledged.{Happened, Kept_by}
 use Rattle.syn_headline.specs.Arms.{unarmed, one_stops}
 use Rattle.syn_headline.specs.World.{IsNoItem, most_resends, World, Running, Outstanding, Step, Start, Tick, Up, Steps, Runs, cut, recovered, stopped, goes_on, ended, WasSent, IsOfSession, IsNothing, IsNext, StartsFrom, GoesOnAs}
-use Rattle.syn_headline.specs.Rows.{has_room}
-use Rattle.syn_witness.specs.Witness.{keeps_all, new_machine, opened_world, OpenedIsStart, StopIsRecovered, SilenceEnds, a_path, put_one, one, unanswered}
+use Rattle.syn_witness.specs.Witness.{NewRoomIs, keeps_all, new_machine, opened_world, OpenedIsStart, StopIsRecovered, SilenceEnds, a_path, put_one, one, unanswered}
 use Rattle.syn_headline.proofs.FormattedLemmas.{formatted_is_pair}
 use Rattle.syn_witness.proofs.WitnessTrees.{fits_by}
 use Rattle.syn_witness.proofs.WitnessFiles.{IsLetter, content, with_file, alone-entries, file-entries, put-entries, put_allowed}
-use Rattle.syn_witness.proofs.WitnessSteps.{meets_unarmed, both_sent, none_refused, edits, goes, up_not_down}
+use Rattle.syn_witness.proofs.WitnessSteps.{room_of, meets_unarmed, both_sent, none_refused, edits, goes, up_not_down}
 use Rattle.syn_witness.proofs.WitnessMessages.{IsNumbered, numbers_tell, asks_once}
 
 pub opened_is_start : OpenedIsStart
 opened_is_start = record {
   pair = formatted_is_pair;
-  left = (refl, refl, refl, refl);
-  right = (refl, refl, refl, refl);
+  left = (refl, refl, refl, refl, refl);
+  right = (refl, refl, refl, refl, refl);
   coordinator = (refl, refl, refl, refl);
   nothing_yet = (refl, refl, refl, refl);
 }
+
+pub new_room_is : NewRoomIs
+unfolding tree_of
+new_room_is = rw (spellings.no_names) refl
 
 pub letter_a : IsLetter 97
 letter_a = record { ascii = omega arith; no_zero = λ e. omega (arith, e); no_dot = λ e. omega (arith, e); no_slash = λ e. omega (arith, e) }
@@ -45,7 +49,7 @@ cut_world = record opened_world { left = stopped new_machine (Some (Edited 1 put
 
 recovered_world : World
 recovered_world = record opened_world {
-  left = record { status = Up; side = record { history = Edited 1 put_one ∷ []; staging = None }; has_room = has_room; writing = None; arms = unarmed };
+  left = record { status = Up; side = record { history = Edited 1 put_one ∷ []; staging = None }; room = room_of (Edited 1 put_one ∷ []); compacting = false; writing = None; arms = unarmed };
   acknowledged = Happened Left (Edited 1 put_one) ∷ [];
 }
 
@@ -59,7 +63,7 @@ stop_is_recovered = record {
     (
       cut_world,
       edits armed_world Left 1 put_one cut_world.left [] cut_world cut_world refl refl edit_allowed (cut (one_stops 2 (omega arith) (omega arith) (inl refl) refl)) refl refl,
-      (recovered_world, inr (refl, inl (recovered_world.left, Edited 1 put_one ∷ [], recovered has_room unarmed (Edited 1 put_one) (meets_unarmed _ _ _ refl) refl edit_allowed, refl)), refl),
+      (recovered_world, inr (refl, inl (recovered_world.left, Edited 1 put_one ∷ [], recovered unarmed (Edited 1 put_one) (meets_unarmed _ _ _ refl) refl edit_allowed, refl)), refl),
     ),
   );
   sent = refl;
@@ -144,8 +148,7 @@ resends resent early = inr (
         (goes_on (waiting_for (suc resent)) refl refl) (refl, begin_waits (suc resent), (omega arith, omega arith, omega arith)) (begins_tell (suc (suc resent))) (begins_once (suc (suc resent)))
         (begins_lawful (waiting_for (suc resent)) (begins (suc resent)) refl);
     reports = inl (refl, (inl refl, none_refused IsNoItem));
-    same_status = refl;
-    same_arms = refl;
+    no_call = (refl, refl);
     sends = record { not_yet = ap (λ b. b || (b || false)) early; counted = refl; again = refl };
   },
 )
@@ -166,8 +169,7 @@ gives_up resent late =
         goes = goes (waiting resent) [] IsNothing (GoesOnAs (waiting_for resent) []) (record { marks = empty_directory; last_session = 1 }) None [] [] ((unanswered, 1) ∷ [])
             refl (All-nil IsNothing) tt refl ended tt (subst NumbersTell (sym same) (begins_tell (suc resent))) (subst AsksNothingTwice (sym same) (begins_once (suc resent))) refl;
         reports = inr (waiting_for resent, unanswered, refl, refl, up_not_down, refl, (refl, refl, inl (ap (λ b. b || (b || false)) late, refl)), record { done = refl; marked = refl }, none_refused IsNoItem);
-        same_status = refl;
-        same_arms = refl;
+        no_call = (refl, refl);
         sends = tt;
       },
     ))

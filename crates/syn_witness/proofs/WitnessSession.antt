@@ -17,8 +17,8 @@ use Rattle.syn_model.specs.Archive.{Archive, Session, Recorded, CanKeep, new_arc
 use Rattle.syn_model.specs.Decision.{ToRight}
 use Rattle.syn_model.specs.Dirty.{Scan}
 use Rattle.syn_model.proofs.TreeLemmas.{subtree-replace}
-use Rattle.syn_headline.specs.Rows.{file_bytes, has_room}
-use Rattle.syn_headline.specs.Side.{Side, Request, Begin, ListAt, Fetch, Stage, Replace, Begun, Listed, Piece, Staged, Done, answer, serve, token_of}
+use Rattle.syn_headline.specs.Rows.{file_bytes}
+use Rattle.syn_headline.specs.Side.{fits_in, Side, Request, Begin, ListAt, Fetch, Stage, Replace, Begun, Listed, Piece, Staged, Done, answer, serve, token_of}
 use Rattle.syn_headline.specs.Network.{Which, Left, Right, Asks, Answers, Sent, NumbersTell, AsksNothingTwice, WasAnswered}
 use Rattle.syn_headline.specs.Acknowledged.{Ack, Happened, Kept_by}
 use Rattle.syn_headline.specs.Planning.{Planned, IsPlanOf, IsScanOf, HasBegun, SeesBoth, SessionPlan}
@@ -30,7 +30,7 @@ use Rattle.syn_witness.proofs.WitnessTrees.{get_by, fits_by, fits_archive_by}
 use Rattle.syn_witness.proofs.WitnessFiles.{alone, with_file, content, digest, alone-entries, file-entries, file_mark-entries, put-entries, marked_whole, alone_whole, root_only, root_alone, path_of_letter, one_byte, file_is_part, file_spelling, file_fits_part, file_fits_paths, mark_is_part}
 use Rattle.syn_witness.proofs.WitnessScans.{left_history, right_history, left_scan, right_scan, left-entries, right_marks-entries, left_marks-entries, left_root, right_root, left_part, plan_is}
 use Rattle.syn_witness.proofs.WitnessMessages.{number_of, IsNumbered, numbers_tell, asks_once, tell_before, once_before}
-use Rattle.syn_witness.proofs.WitnessSteps.{meets_unarmed, none_refused, runs_on_from, edits as edits_allowed, waits, runs_with, world_of, takes, reads_nothing, serves, lists, goes, both_sent, up_not_down}
+use Rattle.syn_witness.proofs.WitnessSteps.{room_of, meets_unarmed, none_refused, runs_on_from, edits as edits_allowed, waits, runs_with, world_of, takes, reads_nothing, serves, lists, goes, both_sent, up_not_down}
 use Rattle.syn_witness.proofs.WitnessLemmas.{letter_a, edit_allowed}
 
 -- The sides, before and after
@@ -184,7 +184,7 @@ once said = once_before (take said messages) (drop said messages) (subst AsksNot
 
 -- The steps of the sides
 edits : Steps opened_world (Edits Left 1 put_one) edited_world
-edits = edits_allowed opened_world Left 1 put_one edited_world.left (Edited 1 put_one ∷ []) edited_world edited_world refl refl edit_allowed (written has_room unarmed (meets_unarmed _ _ _ refl)) refl refl
+edits = edits_allowed opened_world Left 1 put_one edited_world.left (Edited 1 put_one ∷ []) edited_world edited_world refl refl edit_allowed (written unarmed (meets_unarmed _ _ _ refl)) refl refl
 
 begins_left : Steps started (Deliver 0) left_begun
 begins_left = serves started Left 1 0 (Begin 7) None left_side (Begun 2) (Began 1 ∷ []) refl reads_nothing refl tt refl
@@ -202,7 +202,7 @@ left_one : subtree (tree_of left_history) a_path ≡ one
 unfolding tree_of
 left_one = subtree-replace empty_directory a_path one
 
-piece_is : answer left_side (Piece 6 file_bytes) ≡ serve 7 has_room None left_side 1 (Fetch a_path 2 0)
+piece_is : answer left_side (Piece 6 file_bytes) ≡ serve 7 (fits_in (room_of left_side.history)) None left_side 1 (Fetch a_path 2 0)
 piece_is = ap (λ bytes. answer left_side (Piece (length bytes) (take 32768 (drop 0 bytes)))) (sym (ap spelling left_one ∙ file_spelling (49 ∷ [])))
 
 fetches : Steps fetching (Deliver 8) fetched
@@ -211,12 +211,12 @@ fetches = serves fetching Left 1 2 (Fetch a_path 2 0) None left_side (Piece 6 fi
 stages : Steps staging (Deliver 10) staged
 stages = serves staging Right 1 2 (Stage 0 0 file_bytes) None right_staged Staged [] refl reads_nothing refl tt refl
 
-done_is : answer right_done Done ≡ serve 7 has_room (Some one) right_staged 1 (Replace 0 a_path 1 6)
+done_is : answer right_done Done ≡ serve 7 (fits_in (room_of right_staged.history)) (Some one) right_staged 1 (Replace 0 a_path 1 6)
 unfolding tree_of
 done_is =
     let new = put-entries empty_directory one 97 (content (49 ∷ [])) alone-entries (file-entries (49 ∷ [])) in
     let fits = fits_by (replace empty_directory a_path one) (with_file 97 (content (49 ∷ []))) new in
-    rw (get_by empty_directory alone root alone-entries, fits) refl
+    rw (get_by empty_directory alone root alone-entries, fits, file_spelling (49 ∷ [])) refl
 
 replaces : Steps replacing (Deliver 12) replaced
 replaces = serves replacing Right 1 3 (Replace 0 a_path 1 6) (Some one) right_done Done (Replaced (token_of 1 0) a_path 1 one ∷ []) refl (file_is_part (49 ∷ []) (one_byte 49 (omega arith)), file_fits_part 49, file_fits_paths 49, file_spelling (49 ∷ [])) done_is tt refl

@@ -9,20 +9,19 @@ use Rattle.syn_model.specs.Tree.{Tree, Content, Directory, File, is_directory}
 use Rattle.syn_model.specs.Limits.{children}
 use Rattle.syn_model.specs.Mark.{mark}
 use Rattle.syn_model.specs.Event.{Edit, Event, Edited}
-use Rattle.syn_model.specs.History.{tree_of, IsAllowed, event_causes}
+use Rattle.syn_model.specs.History.{History, tree_of, IsAllowed, event_causes}
 use Rattle.syn_model.specs.Archive.{Archive, Kept, archive_of}
 use Rattle.syn_model.specs.Spelling.{content_spelling, spelling_within}
-use Rattle.syn_headline.specs.Rows.{has_room}
-use Rattle.syn_witness.specs.Witness.{keeps_all}
+use Rattle.syn_witness.specs.Witness.{keeps_all, new_room}
 use Rattle.syn_model.specs.Refusal.{Refusal, first_cause, JournalFull, Halted as Halted_before}
 use Rattle.syn_model.proofs.HistoryLemmas.{append-none}
-use Rattle.syn_headline.specs.Side.{room_causes, Side, Request, Reply, Begun, Listed, NotDir, Piece, Staged, Done, Refused, Reads, answer, serve, list_at, staged_bytes}
+use Rattle.syn_headline.specs.Side.{fits_in, room_causes, Side, Request, Reply, Begun, Listed, NotDir, Piece, Staged, Done, Refused, Reads, answer, serve, list_at, staged_bytes}
 use Rattle.syn_headline.specs.Network.{Which, Left, Right, Message, Asks, Answers, Sent, NumbersTell, AsksNothingTwice}
 use Rattle.syn_headline.specs.Acknowledged.{Ack, Happened, Kept_by}
 use Rattle.syn_headline.specs.Planning.{Planned, Log}
 use Rattle.syn_headline.specs.Report.{Report}
 use Rattle.syn_headline.specs.Arms.{Arms, unarmed, Meets, all_made}
-use Rattle.syn_headline.specs.World.{answered_by, At, SideMachine, Writes, Edits, Steps, is_halted, edit_causes, World, Outstanding, Status, Up, Halted, Down, Running, TakesRequest, answered, ServesAs, CoordinatorGoes, AllCanKeep, RunsOver, WasSent, AllOfSession, side_of, set_side, TakesAnswer, taken, IsExpected, HasPlan, IsDueAfter, GoesOnFrom, IsOver, Reports, AddsRefused, RefusesTaken, EndsTaken, Step, Runs}
+use Rattle.syn_headline.specs.World.{room_after, answered_by, At, SideMachine, Writes, Edits, Steps, is_halted, edit_causes, World, Outstanding, Status, Up, Halted, Down, Running, TakesRequest, answered, ServesAs, CoordinatorGoes, AllCanKeep, RunsOver, WasSent, AllOfSession, side_of, set_side, TakesAnswer, taken, IsExpected, HasPlan, IsDueAfter, GoesOnFrom, IsOver, Reports, AddsRefused, RefusesTaken, EndsTaken, Step, Runs}
 
 abbrev is_up : Status → Type 0
 is_up Up = Unit {0}
@@ -80,23 +79,21 @@ is_granted Done = Unit {0}
 is_granted (Refused why) = ⊥
 
 abbrev pub after_answer : World → Which → ℕ → ℕ → Side → Reply → List Event → World
-after_answer old which session number side reply events = record (set_side old which (record (side_of old which) { side = side })) {
+after_answer old which session number side reply events = record (set_side old which (record (side_of old which) { side = side; room = room_after (side_of old which).room events })) {
   sent = old.sent ++ Answers which session number reply ∷ [];
   acknowledged = old.acknowledged ++ map (λ event. Happened which event) events;
 }
 
 pub serves : (old : World) (which : Which) (session number : ℕ) (request : Request) (read : Option Tree) (side : Side) (reply : Reply) (events : List Event) →
-    IsReady (side_of old which).status (side_of old which).arms → Reads (staged_bytes (side_of old which).side.staging) read → answer side reply ≡ serve old.pair (side_of old which).has_room read (side_of old which).side session request →
+    IsReady (side_of old which).status (side_of old which).arms → Reads (staged_bytes (side_of old which).side.staging) read → answer side reply ≡ serve old.pair (fits_in (side_of old which).room) read (side_of old which).side session request →
     is_granted reply → side.history ≡ (side_of old which).side.history ++ events → TakesRequest old which session number request (after_answer old which session number side reply events)
 serves old which session number request read side reply events ready reads is granted added = answered (record {
   served = answer side reply;
   events = events;
-  room = (side_of old which).has_room;
   arms = (side_of old which).arms;
-  serves = subst (λ status. ServesAs status old.pair (side_of old which).has_room (side_of old which).side session request (answer side reply)) (sym (is_up_then _ _ ready)) (inl (read, reads, is));
+  serves = subst (λ status. ServesAs status old.pair (fits_in (side_of old which).room) (side_of old which).side session request (answer side reply)) (sym (is_up_then _ _ ready)) (inl (read, reads, is));
   no_failure = λ e. subst is_granted e granted;
   no_halt = λ _ e. subst is_granted e granted;
-  same_room = λ _. refl;
   added = added;
   meets = meets_unarmed _ _ _ (is_unarmed _ _ ready);
   result = refl;
@@ -117,14 +114,14 @@ after_call old logged archive running messages kept reports = record old {
 }
 
 -- an edit that is allowed on a side that is up and has room for it
-pub edits : (old : World) (which : Which) (user : ℕ) (edit : Edit) (machine : SideMachine) (events : List Event) (made new : World) → (side_of old which).status ≡ Up → (side_of old which).has_room (Edited user edit) ≡ true →
+pub edits : (old : World) (which : Which) (user : ℕ) (edit : Edit) (machine : SideMachine) (events : List Event) (made new : World) → (side_of old which).status ≡ Up → fits_in (side_of old which).room (Edited user edit) ≡ true →
     IsAllowed (side_of old which).side.history (Edited user edit) → Writes (side_of old which) (Edited user edit) machine events →
     made ≡ record (set_side old which machine) { sent = old.sent ++ []; acknowledged = old.acknowledged ++ map (λ event. Happened which event) events } → new ≡ answered_by (At which) made → Steps old (Edits which user edit) new
 edits old which user edit machine events made new up room allowed writes is says =
     let here = side_of old which in
     let event = Edited user edit in
-    let fits : first_cause (room_causes here.has_room event) ≡ None = ap (λ b. first_cause ((not b, JournalFull) ∷ [])) room in
-    let none : first_cause (edit_causes here event) ≡ None = append-none (event_causes here.side.history event) (room_causes here.has_room event) allowed.not_refused fits in
+    let fits : first_cause (room_causes (fits_in here.room) event) ≡ None = ap (λ b. first_cause ((not b, JournalFull) ∷ [])) room in
+    let none : first_cause (edit_causes here event) ≡ None = append-none (event_causes here.side.history event) (room_causes (fits_in here.room) event) allowed.not_refused fits in
     inr (λ e. up_not_down (sym up ∙ e), inr (ap (λ status. first_cause ((is_halted status, Halted_before) ∷ edit_causes here event)) up ∙ none, made, (allowed.lawful, (machine, events, writes, is)), says))
 
 -- a call of the coordinator, up before and after
@@ -164,12 +161,16 @@ waits number request = record { number = number; request = request; resent = 0 }
 abbrev pub runs_with : ℕ → List Outstanding → List Outstanding → List Planned → Running
 runs_with session left right plan = record { session = session; refused = []; left = left; right = right; plan = plan }
 
+-- what is left of a formatted journal after these events
+abbrev pub room_of : History → ℕ
+room_of history = room_after new_room history
+
 -- a world without failures, where so many of the messages have been sent, so much of the rest acknowledged, and a plan logged after so many messages
 abbrev pub world_of : Sent → List Ack → Log → ℕ → Side → Side → Archive → Option Running → ℕ → ℕ → World
 world_of messages acks log made_at left right archive running said acknowledged = record {
   pair = 7;
-  left = record { status = Up; side = left; has_room = has_room; writing = None; arms = unarmed };
-  right = record { status = Up; side = right; has_room = has_room; writing = None; arms = unarmed };
+  left = record { status = Up; side = left; room = room_of left.history; compacting = false; writing = None; arms = unarmed };
+  right = record { status = Up; side = right; room = room_of right.history; compacting = false; writing = None; arms = unarmed };
   coordinator = record { status = Up; archive = archive; has_room = keeps_all; writing = None; running = running; arms = unarmed };
   sent = take said messages;
   acknowledged = take acknowledged acks;

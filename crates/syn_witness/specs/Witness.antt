@@ -1,5 +1,5 @@
 -- Runs that the definitions are to allow: from three formatted disks that have just been opened, each step of the world.
-use Rattle.std.specs.Prelude.{ℕ, ◌≡◌, Bool, true, List, [], ◌∷◌, ◌++◌, None, Some, map, length, replicate}
+use Rattle.std.specs.Prelude.{ℕ, ◌≡◌, Bool, true, false, List, [], ◌∷◌, ◌++◌, None, Some, map, length, replicate}
 use Rattle.syn_model.specs.Rows.{a_name}
 use Rattle.syn_model.specs.Path.{Path}
 use Rattle.syn_model.specs.Refusal.{NoAnswer, Device, Halted}
@@ -14,11 +14,18 @@ use Rattle.syn_headline.specs.Report.{Report, Complete, Incomplete}
 use Rattle.syn_headline.specs.Arms.{unarmed}
 use Rattle.syn_headline.specs.World.{World, At, Step, Edits, Start, Deliver, Stop, Coordinator, Tick, Open, Fail, Reopen, Up, SideMachine, Runs}
 use Rattle.syn_headline.specs.Headline.{IsStart, formatted, stores_of, IsQuietSession, UntouchedSince}
-use Rattle.syn_headline.specs.Side.{token_of}
-use Rattle.syn_headline.specs.Rows.{new_side, has_room}
+use Rattle.syn_headline.specs.Side.{token_of, room_behind}
+use Rattle.syn_headline.specs.Rows.{new_side}
+
+-- what the image of no events leaves of a half of the disk
+abbrev pub new_room : ℕ
+new_room = 4194247
+
+abbrev pub NewRoomIs : Type 0
+NewRoomIs = room_behind 7 [] ≡ new_room
 
 abbrev pub new_machine : SideMachine
-new_machine = record { status = Up; side = new_side; has_room = has_room; writing = None; arms = unarmed }
+new_machine = record { status = Up; side = new_side; room = new_room; compacting = false; writing = None; arms = unarmed }
 
 -- its archive has room for all
 abbrev pub keeps_all : Kept → Bool

@@ -1,5 +1,5 @@
 use Rattle.syn_witness.proofs.FailLemmas.{fail_is_refused}
-use Rattle.syn_witness.proofs.WitnessLemmas.{opened_is_start, stop_is_recovered, silence_ends}
+use Rattle.syn_witness.proofs.WitnessLemmas.{opened_is_start, new_room_is, stop_is_recovered, silence_ends}
 use Rattle.syn_witness.proofs.WitnessSession.{file_is_carried}
 use Rattle.syn_witness.proofs.ExchangeLemmas.{files_are_exchanged}
 use Rattle.syn_witness.proofs.MarkedLemmas.{carried_is_marked_later}
@@ -25,3 +25,6 @@ returns-clause-marked c = carried_is_marked_later
 
 pub returns-clause-failed : goal.returns-clause-failed
 returns-clause-failed c = fail_is_refused
+
+pub returns-clause-room : goal.returns-clause-room
+returns-clause-room c = new_room_is
