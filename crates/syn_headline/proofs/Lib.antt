@@ -1,6 +1,5 @@
 pub mod Invariant
 mod LogLemmas
-pub mod RowLemmas
 pub mod WorldLemmas
 pub mod SideLemmas
 pub mod FormattedLemmas

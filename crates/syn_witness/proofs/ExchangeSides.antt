@@ -14,7 +14,7 @@ use Rattle.syn_model.specs.Archive.{Archive, Session, Recorded, new_archive}
 use Rattle.syn_model.specs.Decision.{ToLeft, ToRight}
 use Rattle.syn_model.proofs.TreeLemmas.{subtree-replace, subtree-replace_other}
 use Rattle.syn_model.specs.Dirty.{Scan}
-use Rattle.syn_headline.specs.Rows.{file_bytes}
+use Rattle.syn_witness.specs.Rows.{file_bytes}
 use Rattle.syn_headline.specs.Side.{Side, Request, Begin, ListAt, Fetch, Stage, Replace, Begun, Listed, Piece, Staged, Done, answer, serve, token_of, fits_in}
 use Rattle.syn_headline.specs.Network.{Which, Left, Right, Asks, Answers, Sent, NumbersTell, AsksNothingTwice}
 use Rattle.syn_headline.specs.Acknowledged.{Ack, Happened, Kept_by}

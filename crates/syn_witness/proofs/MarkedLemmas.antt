@@ -15,7 +15,7 @@ use Rattle.syn_model.specs.Archive.{Archive, Session, Recorded, CanKeep}
 use Rattle.syn_model.specs.Decision.{MarkSame}
 use Rattle.syn_model.specs.Dirty.{Scan}
 use Rattle.syn_model.proofs.TreeLemmas.{subtree-replace}
-use Rattle.syn_headline.specs.Rows.{file_bytes}
+use Rattle.syn_witness.specs.Rows.{file_bytes}
 use Rattle.syn_headline.specs.Side.{Side, Begin, ListAt, Begun, Listed, Reads, token_of}
 use Rattle.syn_headline.proofs.PlanLemmas.{begun-more}
 use Rattle.syn_headline.specs.Network.{Which, Left, Right, Asks, Answers, Sent, NumbersTell, AsksNothingTwice, WasAnswered}

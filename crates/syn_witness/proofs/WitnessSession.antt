@@ -17,7 +17,7 @@ use Rattle.syn_model.specs.Archive.{Archive, Session, Recorded, CanKeep, new_arc
 use Rattle.syn_model.specs.Decision.{ToRight}
 use Rattle.syn_model.specs.Dirty.{Scan}
 use Rattle.syn_model.proofs.TreeLemmas.{subtree-replace}
-use Rattle.syn_headline.specs.Rows.{file_bytes}
+use Rattle.syn_witness.specs.Rows.{file_bytes}
 use Rattle.syn_headline.specs.Side.{fits_in, Side, Request, Begin, ListAt, Fetch, Stage, Replace, Begun, Listed, Piece, Staged, Done, answer, serve, token_of}
 use Rattle.syn_headline.specs.Network.{Which, Left, Right, Asks, Answers, Sent, NumbersTell, AsksNothingTwice, WasAnswered}
 use Rattle.syn_headline.specs.Acknowledged.{Ack, Happened, Kept_by}

@@ -1,7 +1,13 @@
 //! Runs of the world that the definitions allow, step by step: what no run meets proves nothing.
 #![tactic(auto)]
 
+ghost use Rattle.syn_witness.specs.Rows.{SideRows};
 ghost use Rattle.syn_witness.specs.Witness.{OpenedIsStart, NewRoomIs, StopIsRecovered, FailIsRefused, SilenceEnds, FileIsCarried, FilesAreExchanged, CarriedIsMarkedLater};
+
+/// What a side answers in worked examples, which its definition gives.
+pub fn examples()
+    ensures sides { SideRows }
+{}
 
 /// Runs from three formatted disks, step by step, that the definitions of a run allow: a stop while an edit is written and its
 /// recovery, an edit whose device call fails and what a reopening gives, a session that nobody answers, a whole session over one file, one that carries a file each way, and one that marks
