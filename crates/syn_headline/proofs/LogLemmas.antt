@@ -3,15 +3,15 @@ use Rattle.std.proofs.Common.{◌≡◌, ◌≢◌, ℕ, suc, true, false, ◌==
 use Rattle.std.specs.Prelude.{Contains, All}
 use Rattle.std.proofs.lemmas.Bool.Decides.{nat_tests}
 use Rattle.std.proofs.lemmas.List.Elements.{All-head, All-tail}
+use Rattle.std.proofs.lemmas.Option.{none-some}
 use Rattle.syn_headline.specs.Network.{Sent}
 use Rattle.syn_headline.specs.Planning.{Planned, SessionPlan, Log, IsPlanOf}
 use Rattle.syn_headline.proofs.Invariant.{plan_in, Scans, IsPlanFrom}
-use Rattle.syn_model.proofs.PathLemmas.{none_some}
 
 -- a session's plan that has items is that of its entry
 pub entry_of : (log : Log) (session item : ℕ) (planned : Planned) → slice_get (plan_in log session) item ≡ Some planned →
     (made : SessionPlan) × Contains log made × (made.session ≡ session) × (made.plan ≡ plan_in log session)
-entry_of [] session item planned e = absurd (none_some e)
+entry_of [] session item planned e = absurd (none-some _ e)
 entry_of (first ∷ log) session item planned e = elim (first.session == session) as (λ b. (first.session == session) ≡ b → slice_get (if b then first.plan else plan_in log session) item ≡ Some planned →
     (made : SessionPlan) × Contains (first ∷ log) made × (made.session ≡ session) × (made.plan ≡ (if b then first.plan else plan_in log session))) [
       | true ↦ λ same e. (first, (0, omega arith, refl), grind (arith, nat_tests), refl)

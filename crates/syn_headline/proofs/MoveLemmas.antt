@@ -1,10 +1,11 @@
 -- The invariant is kept as a side answers a request.
-use Rattle.std.proofs.Common.{◌≡◌, ◌≤◌, ◌+◌, ℕ, Bool, true, false, not, ◌||◌, ◌==◌, List, [], ◌∷◌, ◌++◌, length, take, drop, refl, sym, ap, ap₂, ◌∙◌, subst, Option, Some, None, is_some, true≢false, append_assoc, append-nil, arith, inl, inr, ◌⊎◌, slice_get, fold}
+use Rattle.std.proofs.Common.{◌≡◌, ◌≤◌, ◌+◌, ℕ, true, false, not, ◌||◌, ◌==◌, List, [], ◌∷◌, ◌++◌, length, take, drop, refl, sym, ap, ap₂, ◌∙◌, subst, Option, Some, None, is_some, true≢false, append_assoc, append-nil, arith, inl, inr, ◌⊎◌, slice_get, fold}
 use Rattle.std.specs.Prelude.{Contains, IfSome}
 use Rattle.std.specs.Option.{option_map_or}
-use Rattle.std.proofs.lemmas.Bool.Decides.{nat_tests}
 use Rattle.std.proofs.lemmas.List.{length-append, take-append-drop}
 use Rattle.std.proofs.Math.Seq.{take-append_seam, take-length}
+use Rattle.std.proofs.lemmas.Option.{same_Some}
+use Rattle.std.proofs.lemmas.Bool.{and_parts, eqb-true, not-false, or_parts}
 use Rattle.syn_model.specs.Path.{Bytes, Path, parent, comparable, is_prefix}
 use Rattle.syn_model.specs.Tree.{Tree, is_directory, IsTree, subtree, replace}
 use Rattle.syn_model.specs.Limits.{children, fits_replica}
@@ -20,11 +21,10 @@ use Rattle.syn_headline.specs.Network.{Which, Left, Right, other, Sent, Asks}
 use Rattle.syn_model.specs.Decision.{path_of}
 use Rattle.syn_headline.specs.Planning.{Planned, seen_on, WritesTo}
 use Rattle.syn_headline.proofs.Invariant.{Plans, plan_in, Histories, IsSound, IsTrue, IsBorne, HadMarks, IsSpent, IsTruePiece, IsSoundStaging, IsSoundReplacement, IsSoundEvent, source_of, part_at}
-use Rattle.syn_model.proofs.PathLemmas.{some_same, strip_prefix-append}
+use Rattle.syn_model.proofs.PathLemmas.{strip_prefix-append}
 use Rattle.syn_headline.proofs.SpellingLemmas.{spellings_tell}
 use Rattle.syn_model.proofs.FitsLemmas.{history_fits}
 use Rattle.syn_model.proofs.HistoryLemmas.{history-is_tree, first_cause-none, tree_of-append}
-use Rattle.syn_model.proofs.DirtyLemmas.{both_true, both_false}
 use Rattle.syn_model.proofs.QuietLemmas.{quiet_before, quiet_same}
 use Rattle.syn_headline.proofs.PlanLemmas.{writes_path, since_reached, seen_is, writes_of, parent-child}
 use Rattle.syn_model.proofs.MarkLemmas.{mark-subtree}
@@ -41,16 +41,13 @@ on_both P Left here there Right = there
 on_both P Right here there Right = here
 on_both P Right here there Left = there
 
-same_number : (a b : ℕ) → (a == b) ≡ true → a ≡ b
-same_number a b h = grind (arith, nat_tests)
-
 pub same_token : (a b : Token) → is_same_token a b ≡ true → a ≡ b
 same_token a b e =
-    let both = both_true (a.session == b.session) (a.item == b.item) e in
+    let both = and_parts (a.session == b.session) (a.item == b.item) e in
     let s : (a.session == b.session) ≡ true = both.0 in
     let i : (a.item == b.item) ≡ true = both.1 in
-    let same_session : a.session ≡ b.session = same_number a.session b.session s in
-    let same_item : a.item ≡ b.item = same_number a.item b.item i in
+    let same_session : a.session ≡ b.session = eqb-true a.session b.session s in
+    let same_item : a.item ≡ b.item = eqb-true a.item b.item i in
     ap₂ (λ s i. token_of s i) same_session same_item
 
 pub token_one : (last : Option Token) (history : History) (event : Event) → fold token_after last (history ++ event ∷ []) ≡ token_after (fold token_after last history) event
@@ -65,7 +62,7 @@ touched_now : (history : History) (event : Event) (since : ℕ) (p : Path) → s
 touched_now history event since p h t =
     elim (is_quiet (history ++ event ∷ []) since (length (history ++ event ∷ [])) p) as (λ b. is_quiet (history ++ event ∷ []) since (length (history ++ event ∷ [])) p ≡ b → b ≡ false) [
       | false ↦ λ _. refl
-      | true ↦ λ q. absurd (true≢false (sym (both_true (not (touches event p)) true (quiet_before history (event ∷ []) since p h q).1).0 ∙ ap not t))
+      | true ↦ λ q. absurd (true≢false (sym (and_parts (not (touches event p)) true (quiet_before history (event ∷ []) since p h q).1).0 ∙ ap not t))
     ] refl
 
 -- what is put at a path is there then
@@ -114,8 +111,8 @@ module _ (plans : Plans) (archive : Archive) (sent : Sent) (old new : Histories)
   used_after (Edited user edit) a s token planned path last e w = used_before (Edited user edit) a token planned path last e w
   used_after (Began session) a s token planned path last e w = used_before (Began session) a token planned path last e w
   used_after (Replaced token' path' since u) a s token planned path last e w =
-      let token_is : token' ≡ token = some_same last in
-      let planned_is : s.planned ≡ planned = some_same (sym s.item ∙ (ap (λ t. slice_get (plan_in plans t.session) t.item) token_is ∙ e)) in
+      let token_is : token' ≡ token = same_Some _ _ last in
+      let planned_is : s.planned ≡ planned = same_Some _ _ (sym s.item ∙ (ap (λ t. slice_get (plan_in plans t.session) t.item) token_is ∙ e)) in
       let path_is : path' ≡ path = sym (writes_path s.planned.item side path' s.writes) ∙ (ap (λ d. path_of d.item) planned_is ∙ writes_path planned.item side path w) in
       let since_is : since ≡ (seen_on planned side).since = s.listed ∙ ap (λ d. (seen_on d side).since) planned_is in
       record {
@@ -219,6 +216,14 @@ refused_borne plan history from (Fetch path since offset) reason = tt
 refused_borne plan history from (Stage item offset bytes) reason = tt
 refused_borne plan history from (Replace item path since size) reason = tt
 
+-- a refusal tells nothing
+pub refused_true : (history : History) (n : ℕ) (request : Request) (reason : Refusal) → IsTrue history n request (Refused reason)
+refused_true history n (Begin pair) reason = tt
+refused_true history n (ListAt path) reason = tt
+refused_true history n (Fetch path since offset) reason = tt
+refused_true history n (Stage item offset bytes) reason = tt
+refused_true history n (Replace item path since size) reason = tt
+
 module _ (plans : Plans) (archive : Archive) (sent : Sent) (histories : Histories) (sound : IsSound plans histories archive sent) (which : Which) (side : Side) (same : side.history ≡ histories which)
     (staged : IfSome side.staging (IsSoundStaging plans histories which)) (session number : ℕ) where
   staged_is : (o : Option Staging) (token : Token) → IfSome o (IsSoundStaging plans histories which) → is_staged o token ≡ true → (staging : Staging) × IsSoundStaging plans histories which staging × (staging.token ≡ token) × (staged_bytes o ≡ staging.bytes)
@@ -233,7 +238,7 @@ module _ (plans : Plans) (archive : Archive) (sent : Sent) (histories : Historie
       let by_plan = (sound.asked which session number (Replace item path since size) asked).by_plan in
       let planned = by_plan.0 in
       let item_is : slice_get (plan_in plans session) item ≡ Some st.1.planned = ap (λ t. slice_get (plan_in plans t.session) t.item) (sym st.2) ∙ st.1.item in
-      let same_planned : st.1.planned ≡ planned = some_same (sym item_is ∙ by_plan.1) in
+      let same_planned : st.1.planned ≡ planned = same_Some _ _ (sym item_is ∙ by_plan.1) in
       let piece = by_plan.4.2 in
       let true_piece : IsTruePiece (histories (other which)) (path_of planned.item) (seen_on planned (other which)).since by_plan.4.0 size by_plan.4.1 =
       sound.answered (other which) session piece.number (Piece size by_plan.4.1) (Fetch (path_of planned.item) (seen_on planned (other which)).since by_plan.4.0) piece.answered piece.asked in
@@ -280,13 +285,6 @@ module _ (plans : Plans) (archive : Archive) (sent : Sent) (histories : Historie
   outcome_moves _ served asked (done_again item path since size e) = inl refl
   outcome_moves _ served asked (replaces item path since size new reads at_token long within quiet a) =
       inr (Replaced (token_of session item) path since new, a, replacement_is item path since size new asked reads at_token long within quiet, refl)
-
-  refused_true : (history : History) (n : ℕ) (request : Request) (reason : Refusal) → IsTrue history n request (Refused reason)
-  refused_true history n (Begin pair) reason = tt
-  refused_true history n (ListAt path) reason = tt
-  refused_true history n (Fetch path since offset) reason = tt
-  refused_true history n (Stage item offset bytes) reason = tt
-  refused_true history n (Replace item path since size) reason = tt
 
   last_is : (o : Option Token) (token : Token) → option_map_or (λ last. is_same_token last token) o false ≡ true → o ≡ Some token
   last_is None token e = absurd (true≢false (sym e))
@@ -341,13 +339,13 @@ module _ (plans : Plans) (archive : Archive) (sent : Sent) (histories : Historie
   outcome_borne _ served asked (done_again item path since size e) = λ planned at.
       let by_plan = (sound.asked which session number (Replace item path since size) asked).by_plan in
       let spent = sound.used which (token_of session item) by_plan.0 path (ap last_token (sym same) ∙ last_is (last_token side.history) (token_of session item) e) by_plan.1 by_plan.2 in
-      subst (λ h. HadMarks h path (seen_on planned (other which)).marks) (sym same) (subst (λ d. HadMarks (histories which) path (seen_on d (other which)).marks) (some_same (sym by_plan.1 ∙ at)) spent.put)
+      subst (λ h. HadMarks h path (seen_on planned (other which)).marks) (sym same) (subst (λ d. HadMarks (histories which) path (seen_on d (other which)).marks) (same_Some _ _ (sym by_plan.1 ∙ at)) spent.put)
   outcome_borne _ served asked (replaces item path since size new reads at_token long within quiet a) = λ planned at.
       let r = replacement_is item path since size new asked reads at_token long within quiet in
       record {
         position = length side.history + 1;
         reached = omega (arith, length-append side.history (Replaced (token_of session item) path since new ∷ []));
-        had = ap (λ d. (seen_on d (other which)).marks) (some_same (sym at ∙ r.item)) ∙ (r.carries ∙ put_there side.history (token_of session item) path since new);
+        had = ap (λ d. (seen_on d (other which)).marks) (same_Some _ _ (sym at ∙ r.item)) ∙ (r.carries ∙ put_there side.history (token_of session item) path since new);
       }
 
   piece_of : (item offset : ℕ) (bytes : Bytes) → Contains sent (Asks which session number (Stage item offset bytes)) → (planned : Planned) × (slice_get (plan_in plans session) item ≡ Some planned)
@@ -375,7 +373,7 @@ module _ (plans : Plans) (archive : Archive) (sent : Sent) (histories : Historie
       let piece = piece_of item offset bytes asked in
       let had : IsSoundStaging plans histories which staging = subst (λ o. IfSome o (IsSoundStaging plans histories which)) s staged in
       let item_is : slice_get (plan_in plans session) item ≡ Some had.planned = ap (λ t. slice_get (plan_in plans t.session) t.item) (same_token (token_of session item) staging.token t) ∙ had.item in
-      let same_planned : had.planned ≡ piece.0 = some_same (sym item_is ∙ piece.1) in
+      let same_planned : had.planned ≡ piece.0 = same_Some _ _ (sym item_is ∙ piece.1) in
       record {
         planned = piece.0;
         item = piece.1;
@@ -388,17 +386,13 @@ module _ (plans : Plans) (archive : Archive) (sent : Sent) (histories : Historie
 
 -- Legal replacements
 
-not_false : (b : Bool) → not b ≡ false → b ≡ true
-not_false true e = refl
-not_false false e = absurd (true≢false e)
-
 pub current : (history : History) (token : Token) (path : Path) (since : ℕ) (new : Tree) → IsAllowed history (Replaced token path since new) → token.session ≡ last_session history
 current history token path since new a =
     let rest = place_causes (tree_of history) path ++ (full_causes (replace (tree_of history) path new) ++ position_causes history) in
     let one = (first_cause-none (is_old_token history token, OldSession) rest a.not_refused).0 in
-    let two = (both_false (token.session == 0 || not (token.session == last_session history)) (option_map_or (λ last. not (is_below last token)) (last_token history) false) one).0 in
-    let three = (both_false (token.session == 0) (not (token.session == last_session history)) two).1 in
-    same_number token.session (last_session history) (not_false _ three)
+    let two = (or_parts (token.session == 0 || not (token.session == last_session history)) (option_map_or (λ last. not (is_below last token)) (last_token history) false) one).0 in
+    let three = (or_parts (token.session == 0) (not (token.session == last_session history)) two).1 in
+    eqb-true token.session (last_session history) (not-false _ three)
 
 -- a replacement by its session's plan is legal
 pub legal : (plans : Plans) (histories : Histories) (archive : Archive) (sent : Sent) → IsSound plans histories archive sent → (side : Which) (token : Token) (path : Path) (since : ℕ) (new : Tree) →

@@ -5,6 +5,7 @@ use Rattle.std.specs.List.{list_any}
 use Rattle.std.specs.Ordering.{eq_by_cmp}
 use Rattle.std.proofs.lemmas.List.Elements.{Contains-append_left, All-get_or, All-contains, Contains-get_or}
 use Rattle.std.proofs.lemmas.Option.{slice_get_within, get_or_from_slice_get, slice_get-map}
+use Rattle.std.proofs.lemmas.Bool.{and_parts, not-true, or_parts}
 use Rattle.syn_model.specs.Plan.{plan as items_of, IsDecided as IsDecidedAt}
 use Rattle.syn_model.proofs.PlanOrder.{plan_is_decided}
 use Rattle.syn_model.specs.Path.{Name, Path, name_cmp, is_prefix, strip_prefix, parent, child}
@@ -23,7 +24,7 @@ use Rattle.syn_headline.specs.World.{IsOfPlan}
 use Rattle.syn_headline.proofs.Invariant.{Plans, Scans, IsPlanFrom, Histories, IsSound, IsTrueListing, IsTrueNotDir}
 use Rattle.syn_model.proofs.PathLemmas.{parent-append, same_name, name_itself}
 use Rattle.syn_model.proofs.HistoryLemmas.{history-is_tree}
-use Rattle.syn_model.proofs.DirtyLemmas.{both_true, both_false, dirty-safe}
+use Rattle.syn_model.proofs.DirtyLemmas.{dirty-safe}
 use Rattle.syn_model.proofs.QuietLemmas.{ScansHistory, scan_is}
 
 -- What was answered stays so
@@ -122,10 +123,6 @@ goes_on_below false false c d false true g p x = absurd x
 goes_on_below false false c d false false true p x = absurd x
 goes_on_below false false c d false false false p x = absurd x
 
-not_to_false : (b : Bool) → not b ≡ true → b ≡ false
-not_to_false false e = refl
-not_to_false true e = absurd (true≢false (sym e))
-
 pub last_name : (n : Name) (p : Path) → (a : Path) × (m : Name) × (n ∷ p ≡ child a m)
 last_name n [] = ([], n, refl)
 last_name n (m ∷ p) = let rest = last_name m p in (n ∷ rest.0, rest.1, ap (λ w. n ∷ w) rest.2)
@@ -167,10 +164,10 @@ pub writes_clean : (l r : Scan) (o : Tree) (p : Path) (item : Item) (side : Whic
     (is_directory_in_both l.marks r.marks p ≡ false) × (dirty (scan side) o p ≡ false)
 writes_clean l r o p (ToLeft at) Left path scan el er w d =
     let both = to_left (not (dirty l o p || dirty r o p)) (is_directory_in_both l.marks r.marks p) (is_unstable l p || is_unstable r p) (is_directory o p) (is_same_tree (subtree l.marks p) (subtree r.marks p)) (not (dirty r o p)) (not (dirty l o p)) p at d in
-    (both.0, ap (λ s. dirty s o p) el ∙ not_to_false _ both.1)
+    (both.0, ap (λ s. dirty s o p) el ∙ not-true _ both.1)
 writes_clean l r o p (ToRight at) Right path scan el er w d =
     let both = to_right (not (dirty l o p || dirty r o p)) (is_directory_in_both l.marks r.marks p) (is_unstable l p || is_unstable r p) (is_directory o p) (is_same_tree (subtree l.marks p) (subtree r.marks p)) (not (dirty r o p)) (not (dirty l o p)) p at d in
-    (both.0, ap (λ s. dirty s o p) er ∙ not_to_false _ both.1)
+    (both.0, ap (λ s. dirty s o p) er ∙ not-true _ both.1)
 writes_clean l r o p (ToLeft at) Right path scan el er w d = absurd w
 writes_clean l r o p (ToRight at) Left path scan el er w d = absurd w
 writes_clean l r o p (MarkSame at) side path scan el er w d = absurd w
@@ -183,8 +180,8 @@ goes_on_at scan o p g side =
     let l = scan Left in
     let r = scan Right in
     let both = goes_on_below (not (dirty l o p || dirty r o p)) (is_directory_in_both l.marks r.marks p) (is_unstable l p || is_unstable r p) (is_directory o p) (is_same_tree (subtree l.marks p) (subtree r.marks p)) (not (dirty r o p)) (not (dirty l o p)) p g in
-    let ds = both_true (is_directory l.marks p) (is_directory r.marks p) both.0 in
-    let us = both_false (is_unstable l p) (is_unstable r p) both.1 in
+    let ds = and_parts (is_directory l.marks p) (is_directory r.marks p) both.0 in
+    let us = or_parts (is_unstable l p) (is_unstable r p) both.1 in
     elim side as (λ side. (is_directory (scan side).marks p ≡ true) × (is_unstable (scan side) p ≡ false)) [ Left ↦ (ds.0, us.0) | Right ↦ (ds.1, us.1) ]
 
 -- what is known of an item that writes
@@ -237,7 +234,7 @@ pub found_unstable : (p : Path) (us : List Path) → list_any (λ other. is_pref
 found_unstable p [] e = absurd (true≢false (sym e))
 found_unstable p (u ∷ us) e =
     elim (is_prefix p u && is_prefix u p) as (λ b. (is_prefix p u && is_prefix u p) ≡ b → (b || list_any (λ other. is_prefix p other && is_prefix other p) us) ≡ true → Contains (u ∷ us) p) [
-      | true ↦ λ y _. let both = both_true (is_prefix p u) (is_prefix u p) y in (0, omega arith, sym (both_ways p u both.0 both.1))
+      | true ↦ λ y _. let both = and_parts (is_prefix p u) (is_prefix u p) y in (0, omega arith, sym (both_ways p u both.0 both.1))
       | false ↦ λ _ rest. let c = found_unstable p us rest in (suc c.0, omega (arith, c.1), c.2)
     ] refl e
 

@@ -3,6 +3,7 @@ use Rattle.std.proofs.Common.{◌≡◌, ℕ, zero, suc, Bool, true, false, ◌&
 use Rattle.std.specs.Prelude.{Contains, All, Any, ◌↔◌}
 use Rattle.std.specs.List.{cons_option, count_by}
 use Rattle.std.proofs.lemmas.List.Elements.{All-contains, All-weaker}
+use Rattle.std.proofs.lemmas.Option.{none-some, same_Some}
 use Rattle.syn_model.specs.Path.{Path}
 use Rattle.syn_model.specs.Tree.{IsTree, subtree}
 use Rattle.syn_model.specs.Mark.{mark, AreApart}
@@ -18,7 +19,6 @@ use Rattle.syn_headline.specs.Report.{Report, Counts, is_kept, IsSettled, is_car
 use Rattle.syn_headline.specs.World.{AllCanKeep}
 use Rattle.syn_headline.specs.Headline.{IsNoEdit, HasCounts}
 use Rattle.syn_headline.proofs.Invariant.{Plans, Histories, IsSound}
-use Rattle.syn_model.proofs.PathLemmas.{some_same, none_some}
 use Rattle.syn_model.proofs.FitsLemmas.{history_fits, replica_depth}
 use Rattle.syn_model.proofs.HistoryLemmas.{history-is_tree}
 use Rattle.syn_model.proofs.ResultLemmas.{plan_synchronizes, plan_reconciles}
@@ -40,11 +40,11 @@ from_map f (x ∷ xs) y (suc k, h, e) = let rest = from_map f xs y (k, omega (ar
 
 -- the conflicts of a plan's items
 conflict_is : (item : Item) (path : Path) → conflict_at item ≡ Some path → item ≡ Conflict path
-conflict_is (Conflict p) path e = ap Conflict (some_same e)
-conflict_is (ToLeft p) path e = absurd (none_some e)
-conflict_is (ToRight p) path e = absurd (none_some e)
-conflict_is (MarkSame p) path e = absurd (none_some e)
-conflict_is (MarkDir p) path e = absurd (none_some e)
+conflict_is (Conflict p) path e = ap Conflict (same_Some _ _ e)
+conflict_is (ToLeft p) path e = absurd (none-some _ e)
+conflict_is (ToRight p) path e = absurd (none-some _ e)
+conflict_is (MarkSame p) path e = absurd (none-some _ e)
+conflict_is (MarkDir p) path e = absurd (none-some _ e)
 
 later_item : (item : Item) (items : List Item) (x : Item) → Contains items x → Contains (item ∷ items) x
 later_item item items x c = let within = c.1 in (suc c.0, omega arith, c.2)

@@ -1,5 +1,5 @@
 -- What a step does at one machine keeps the invariant, and its replacements are legal.
-use Rattle.std.proofs.Common.{◌≡◌, ◌≤◌, ◌+◌, ℕ, Bool, false, true≢false, List, [], ◌∷◌, ◌++◌, refl, sym, ap, ap₂, ◌∙◌, subst, Option, Some, None, append-nil, arith, inl, inr, ◌⊎◌, slice_get, ◌≢◌, map, zero, suc}
+use Rattle.std.proofs.Common.{◌≡◌, ◌≤◌, ◌+◌, ℕ, false, true≢false, List, [], ◌∷◌, ◌++◌, refl, sym, ap, ap₂, ◌∙◌, subst, Option, Some, None, append-nil, arith, inl, inr, ◌⊎◌, slice_get, ◌≢◌, map}
 use Rattle.std.specs.Prelude.{Contains, IfSome, All}
 use Rattle.std.proofs.lemmas.List.{append_cancel_left}
 use Rattle.std.proofs.lemmas.List.Elements.{Contains-get_or}
@@ -10,18 +10,18 @@ use Rattle.syn_model.specs.Refusal.{Refusal, Device}
 use Rattle.syn_model.specs.Event.{Token, Event, Edited, Began, Replaced}
 use Rattle.syn_model.specs.History.{History, IsAllowed}
 use Rattle.syn_model.specs.Archive.{Kept, Session, CanKeep, after_kept}
-use Rattle.syn_headline.specs.Side.{Side, Served, Request, Begin, ListAt, Fetch, Stage, Replace, Reply, Refused, IsLawfulRequest, fits_in}
+use Rattle.syn_headline.specs.Side.{Side, Served, Request, Reply, Refused, IsLawfulRequest, fits_in}
 use Rattle.syn_headline.specs.Network.{Which, Left, Right, other, Sent, Message, Asks, Answers}
 use Rattle.syn_headline.specs.Planning.{Planned, Log}
 use Rattle.syn_headline.specs.Acknowledged.{Ack, Happened, Kept_by, history_of, IsLegal}
 use Rattle.syn_headline.specs.Arms.{Arms, unarmed}
 use Rattle.syn_headline.specs.World.{Status, Up, Halted, Down, Machine, At, Coordinator, World, SideMachine, CoordinatorMachine, Running, asked_of, outstanding, side_of, set_side, stopped, Writes, written, failed, cut, Opens, opened, recovered, OpensArchive, archive_opened, archive_recovered, refuses_with, is_halted, WouldAdd, TakesRequest, answered, request_failed, request_cut, side_down, IsDueAfter, IsOver, IsExpected, HasPlan, GoesOnAs, ended, goes_on, GoesOnFrom, plan_of, StartsFrom, RunsOver, IsNext, IsNothing, CoordinatorGoes, TakesAnswer, taken, ignored, coordinator_down, Delivers, OpensMachine, cut_off, Compacts, compacted, compacting_failed, compacting_cut, room_after}
 use Rattle.syn_headline.specs.Headline.{stores_of}
-use Rattle.syn_headline.proofs.Invariant.{Plans, plan_in, Histories, histories_of, IsSound, IsTrue, IsFresh, IsHarmless, IsSoundStaging, IsSoundEvent, IsSoundSide, IsSoundCoordinator, IsKept}
+use Rattle.syn_headline.proofs.Invariant.{Plans, plan_in, Histories, histories_of, IsSound, IsFresh, IsHarmless, IsSoundStaging, IsSoundEvent, IsSoundSide, IsSoundCoordinator, IsKept}
 use Rattle.syn_headline.proofs.LogLemmas.{no_plan}
 use Rattle.syn_headline.proofs.SoundLemmas.{IsNew, push-grows, push-here, sound-plan, sound-keep, kept_session}
 use Rattle.syn_headline.proofs.OutcomeLemmas.{any_outcome, outcome, unless_up_same}
-use Rattle.syn_headline.proofs.MoveLemmas.{on_both, Moves, refused_borne, outcome_moves, outcome_true, outcome_borne, outcome_staging, legal}
+use Rattle.syn_headline.proofs.MoveLemmas.{on_both, Moves, refused_borne, outcome_moves, outcome_true, outcome_borne, outcome_staging, legal, refused_true}
 use Rattle.syn_headline.proofs.HarmlessLemmas.{due_harmless}
 use Rattle.syn_headline.proofs.StepLemmas.{if_some, asked_was_sent, Says, nothing, reply, SideStep, step_moves, side_keeps, coordinator_keeps, next_fresh, sides-later, sides-plan}
 
@@ -237,13 +237,6 @@ neither Up h k = refl
 neither Halted h k = absurd (true≢false h)
 neither Down h k = absurd (k refl)
 
-pub refused_is_true : (history : History) (n : ℕ) (request : Request) (reason : Refusal) → IsTrue history n request (Refused reason)
-refused_is_true history n (Begin pair) reason = tt
-refused_is_true history n (ListAt path) reason = tt
-refused_is_true history n (Fetch path since offset) reason = tt
-refused_is_true history n (Stage item offset bytes) reason = tt
-refused_is_true history n (Replace item path since size) reason = tt
-
 longer : (h : History) (event : Event) → h ≡ h ++ event ∷ [] → ⊥
 longer h event e = let x : [] ≡ event ∷ [] = append_cancel_left h [] (event ∷ []) (append-nil h ∙ e) in cc
 
@@ -287,7 +280,7 @@ module _ (plans : Plans) (old : World) (k : IsKept plans old) (which : Which) (s
   request_advances new (request_failed event arms would meets e) =
       side_advances plans old k which (record (side_of old which) { status = Halted; writing = Some event; arms = arms }) (Answers which session number (Refused Device) ∷ []) [] new (no_event refl) (k.sides which).staged
       (halted_not_up, would_sound event would, refl)
-      (reply session number request (Refused Device) asked (refused_is_true (histories_of old which) session request Device) (refused_borne (plan_in plans session) (histories_of old which) which request Device))
+      (reply session number request (Refused Device) asked (refused_true (histories_of old which) session request Device) (refused_borne (plan_in plans session) (histories_of old which) which request Device))
       (e ∙ (next_sent old which _ _ ∙ ap (λ a. next old which (record (side_of old which) { status = Halted; writing = Some event; arms = arms }) (old.sent ++ Answers which session number (Refused Device) ∷ []) a) (sym (append-nil old.acknowledged))))
   request_advances new (request_cut event would meets e) =
       side_settles plans old k which (stopped (side_of old which) (Some event)) new refl tt (down_not_up, would_sound event would, refl) (e ∙ next_same old which _)

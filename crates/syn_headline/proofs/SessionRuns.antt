@@ -4,6 +4,7 @@ use Rattle.std.specs.Prelude.{Contains, ◌↔◌}
 use Rattle.std.specs.FinMap.{get}
 use Rattle.std.proofs.lemmas.List.{take-append-drop}
 use Rattle.std.proofs.lemmas.List.Elements.{filter_map-append}
+use Rattle.std.proofs.lemmas.Option.{none-some}
 use Rattle.syn_model.specs.Path.{Path}
 use Rattle.syn_model.specs.Tree.{IsTree, subtree}
 use Rattle.syn_model.specs.Mark.{mark, mark_of, AreApart}
@@ -18,7 +19,6 @@ use Rattle.syn_headline.specs.Report.{Report}
 use Rattle.syn_headline.specs.World.{World, Step, Runs, AllCanKeep}
 use Rattle.syn_headline.specs.Headline.{stores_of, IsPair, IsStart, BeganAfter, IsQuietSession, trees_of, StandsFor, CompleteSessionsSynchronize, CompleteSessionsReconcile, ReportsItsConflicts, HasCounts, CountsItsItems, OfEachRun}
 use Rattle.syn_headline.proofs.Invariant.{Plans, histories_of, IsKept}
-use Rattle.syn_model.proofs.PathLemmas.{none_some}
 use Rattle.syn_model.proofs.MarkLemmas.{get-mark}
 use Rattle.syn_model.proofs.FitsLemmas.{replica_depth}
 use Rattle.syn_headline.proofs.MoveLemmas.{tree_at_fits, all_front}
@@ -53,7 +53,7 @@ pair_depth stores pair path deep = elim (get stores.archive.marks path) as (λ o
   | Some content ↦ λ has.
       let held = (pair.held path content has).0 in
       let none = replica_depth (tree_at stores.left held.0) (tree_at_fits stores.left held.0 pair.left) path deep in
-      absurd (none_some (sym (get-mark (tree_at stores.left held.0) path ∙ ap (option_map mark_of) none) ∙ held.2))
+      absurd (none-some _ (sym (get-mark (tree_at stores.left held.0) path ∙ ap (option_map mark_of) none) ∙ held.2))
 ] refl
 
 start_watched : (old : World) → IsStart old → IsWatched (stores_of old) old

@@ -7,6 +7,8 @@ use Rattle.std.proofs.lemmas.Bool.Decides.{nat_tests}
 use Rattle.std.proofs.lemmas.List.{length-append, take-append-le}
 use Rattle.std.proofs.lemmas.List.Elements.{All-contains, All-weaker, All-push, All-get_or, Contains-append_left, Contains-append_cases}
 use Rattle.std.proofs.lemmas.List.Quantifiers.{all_pairs_push}
+use Rattle.std.proofs.lemmas.Option.{none-some, same_Some}
+use Rattle.std.proofs.lemmas.Bool.{leb-false}
 use Rattle.syn_model.specs.Path.{Path, is_root, strip_prefix, IsName}
 use Rattle.syn_model.specs.Tree.{Tree, Content, Directory, IsTree, IsPart, empty_directory, subtree, replace, is_directory}
 use Rattle.syn_model.specs.Mark.{mark}
@@ -24,7 +26,7 @@ use Rattle.syn_headline.specs.Network.{Which, other, Sent, Asks, Answers, Number
 use Rattle.syn_headline.specs.Planning.{Planned, seen_on, SessionPlan, IsPlanOf}
 use Rattle.syn_headline.specs.World.{IsOfPlan}
 use Rattle.syn_headline.proofs.Invariant.{Plans, plan_in, Scans, IsPlanFrom, Histories, IsSound, IsSound_request, IsStillRecorded, IsTrue, IsBorne, HadMarks, IsSpent, IsHeld, IsHeldRecord, IsHarmless, IsUsed, IsFresh, part_at}
-use Rattle.syn_model.proofs.PathLemmas.{none_some, some_same, strip_prefix-is}
+use Rattle.syn_model.proofs.PathLemmas.{strip_prefix-is}
 use Rattle.syn_model.proofs.TreeLemmas.{get-replace}
 use Rattle.syn_model.proofs.HistoryLemmas.{get-at_root, first_cause-none, replace-is_tree, place-stands, empty-is_tree, allowed_goes_on}
 use Rattle.syn_model.proofs.MarkLemmas.{mark-subtree}
@@ -38,11 +40,8 @@ pub fold_one : (last : ℕ) (history : History) (event : Event) → fold session
 fold_one last [] event = refl
 fold_one last (e ∷ history) event = fold_one (session_after last e) history event
 
-pub number_above : (n last : ℕ) → nat_le n last ≡ false → last < n
-number_above n last h = grind (arith, nat_tests)
-
 pub began_above : (history : History) (session : ℕ) → IsAllowed history (Began session) → last_session history < session
-began_above history session a = number_above session (last_session history) (first_cause-none (nat_le session (last_session history), OldSession) (position_causes history) a.not_refused).0
+began_above history session a = leb-false session (last_session history) (first_cause-none (nat_le session (last_session history), OldSession) (position_causes history) a.not_refused).0
 
 after_grows : (history : History) (event : Event) → IsAllowed history event → last_session history ≤ session_after (last_session history) event
 after_grows history (Edited user edit) a = omega arith
@@ -139,7 +138,7 @@ borne-grow old new a plan from session (Replace item path since size) Done t b =
 borne-grow old new a plan from session request reply t b = tt
 
 some_in_nothing : (item : ℕ) (planned : Planned) → slice_get [] item ≡ Some planned → ⊥
-some_in_nothing item planned e = none_some e
+some_in_nothing item planned e = none-some _ e
 
 -- an item of a plan is of one that was made as said
 pub made : (plans : Plans) (histories : Histories) (archive : Archive) (sent : Sent) → IsSound plans histories archive sent → (session item : ℕ) (planned : Planned) → slice_get (plan_in plans session) item ≡ Some planned →
@@ -367,8 +366,8 @@ put_held histories marks path new h n p x e side = elim (recorded_entry marks pa
 ]
 
 at_root_alone : (rest : Path) (x : Content) → get empty_directory rest ≡ Some x → (rest ≡ []) × (x ≡ Directory)
-at_root_alone [] x e = (refl, sym (some_same (sym (get-at_root Directory []) ∙ e)))
-at_root_alone (n ∷ rest) x e = absurd (none_some (sym (get-at_root Directory (n ∷ rest)) ∙ e))
+at_root_alone [] x e = (refl, sym (same_Some _ _ (sym (get-at_root Directory []) ∙ e)))
+at_root_alone (n ∷ rest) x e = absurd (none-some _ (sym (get-at_root Directory (n ∷ rest)) ∙ e))
 
 -- what is recorded was held
 pub kept_held : (histories : Histories) (archive : Archive) (kept : Kept) → IsHeld histories archive.marks → IsHeldRecord histories kept → IsHeld histories (after_kept archive kept).marks

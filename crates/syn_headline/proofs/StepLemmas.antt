@@ -2,6 +2,8 @@
 use Rattle.std.proofs.Common.{◌≡◌, ◌≤◌, ◌+◌, ℕ, true, false, ◌==◌, if◌then◌else◌, List, [], ◌∷◌, ◌++◌, refl, sym, ap, ◌∙◌, subst, Option, Some, None, is_some, append_assoc, append-nil, arith, inl, inr, ◌⊎◌, slice_get, ◌≢◌}
 use Rattle.std.specs.Prelude.{Contains, IfSome, All}
 use Rattle.std.proofs.lemmas.List.Elements.{All-weaker, All-head, All-tail, All-contains, Contains-append_left}
+use Rattle.std.proofs.lemmas.Option.{none-some, same_Some}
+use Rattle.std.proofs.lemmas.Bool.{eqb-true}
 use Rattle.syn_model.specs.Tree.{Directory}
 use Rattle.syn_model.specs.Event.{Token, Event, Edited, Began, Replaced}
 use Rattle.syn_model.specs.History.{History, AllAllowed, IsAllowed, last_session, last_token}
@@ -13,8 +15,6 @@ use Rattle.syn_headline.specs.Network.{Which, Left, other, Sent, Message, Asks, 
 use Rattle.syn_headline.specs.Planning.{seen_on, Log, IsPlanOf}
 use Rattle.syn_headline.specs.World.{Up, World, SideMachine, Running, Outstanding, outstanding, asked_in, side_of, IsOfPlan, IsOfSession, AllOfSession, RunsOver, WasSent, AllCanKeep, CoordinatorGoes}
 use Rattle.syn_headline.proofs.Invariant.{Plans, plan_in, Histories, histories_of, IsSound, IsSound_request, IsTrue, IsBorne, IsHeldRecord, IsFresh, IsSoundStaging, IsSoundEvent, IsSoundSide, IsSoundCoordinator, IsHarmless, IsKept}
-use Rattle.syn_model.proofs.PathLemmas.{none_some, some_same}
-use Rattle.syn_headline.proofs.OutcomeLemmas.{same_number}
 use Rattle.syn_headline.proofs.LogLemmas.{scans_of, plan_from}
 use Rattle.syn_headline.proofs.PlanLemmas.{fenced, since_reached}
 use Rattle.syn_headline.proofs.SoundLemmas.{fold_one, held-grow, made, extends, quiet_was, session_grows, sound-more, sound-answer, sound-keep, item-grow, PlansGrow, kept_session}
@@ -42,8 +42,8 @@ module _ (plans : Plans) (archive : Archive) (sent : Sent) (old new : Histories)
   fresh_after side (Edited user edit) s session empty token h e same = h token e same
   fresh_after side (Began n) s session empty token h e same = h token e same
   fresh_after side (Replaced used path since u) s session empty token h e same =
-      let at : slice_get (plan_in plans session) used.item ≡ Some s.planned = ap (λ n. slice_get (plan_in plans n) used.item) (sym (ap (λ t. t.session) (some_same e) ∙ same)) ∙ s.item in
-      none_some (ap (λ plan. slice_get plan used.item) (sym empty) ∙ at)
+      let at : slice_get (plan_in plans session) used.item ≡ Some s.planned = ap (λ n. slice_get (plan_in plans n) used.item) (sym (ap (λ t. t.session) (same_Some _ _ e) ∙ same)) ∙ s.item in
+      none-some _ (ap (λ plan. slice_get plan used.item) (sym empty) ∙ at)
 
   pub fresh-moves : (side : Which) → Moves plans archive old new side → (session : ℕ) → plan_in plans session ≡ [] → IsFresh old session → IsFresh new session
   fresh-moves side m session empty fresh = on_both (λ s. (token : Token) → last_token (new s) ≡ Some token → token.session ≢ session) side
@@ -70,11 +70,11 @@ was_sent-more sent more running w side = All-weaker (λ waiting. Contains sent (
 -- the request that waits under a number was sent
 pub asked_was_sent : (sent : Sent) (side : Which) (session number : ℕ) (waiting : List Outstanding) → All (λ waiting. Contains sent (Asks side session waiting.number waiting.request)) waiting → (request : Request) →
     asked_in waiting number ≡ Some request → Contains sent (Asks side session number request)
-asked_was_sent sent side session number [] all request e = absurd (none_some e)
+asked_was_sent sent side session number [] all request e = absurd (none-some _ e)
 asked_was_sent sent side session number (first ∷ more) all request e =
     let P = λ (waiting : Outstanding). Contains sent (Asks side session waiting.number waiting.request) in
     elim (first.number == number) as (λ b. (first.number == number) ≡ b → (if b then Some first.request else asked_in more number) ≡ Some request → Contains sent (Asks side session number request)) [
-      | true ↦ λ same is. subst (λ n. Contains sent (Asks side session n request)) (same_number first.number number same) (subst (λ r. Contains sent (Asks side session first.number r)) (some_same is) (All-head P first more all))
+      | true ↦ λ same is. subst (λ n. Contains sent (Asks side session n request)) (eqb-true first.number number same) (subst (λ r. Contains sent (Asks side session first.number r)) (same_Some _ _ is) (All-head P first more all))
       | false ↦ λ _ is. asked_was_sent sent side session number more (All-tail P first more all) request is
     ] refl e
 
@@ -174,7 +174,7 @@ token_below : (history : History) → ((token : Token) → last_token history �
 token_below history h (Edited user edit) a g token e = h token e
 token_below history h (Began session) a g token e = let b : token.session ≤ last_session history = h token e in omega (arith, b, g)
 token_below history h (Replaced used path since u) a g token e =
-    let same : used.session ≡ token.session = ap (λ t. t.session) (some_same e) in
+    let same : used.session ≡ token.session = ap (λ t. t.session) (same_Some _ _ e) in
     let now : used.session ≡ last_session history = current history used path since u a in
     omega (arith, same, now)
 
@@ -187,7 +187,7 @@ tokens_below start (event ∷ events) h all =
     subst (λ n. token.session ≤ n) (sym (fold_one 0 start event)) (token_below start h event all.0 (subst (λ n. last_session start ≤ n) (fold_one 0 start event) later) token (sym (token_one None start event) ∙ e))) all.1)
 
 nothing_is_some : (token : Token) → last_token [] ≡ Some token → ⊥
-nothing_is_some token e = none_some e
+nothing_is_some token e = none-some _ e
 
 -- a session above all has no plan and no token yet
 pub next_fresh : (plans : Plans) (histories : Histories) (archive : Archive) (sent : Sent) → IsSound plans histories archive sent → (session : ℕ) → session ≡ archive.last_session + 1 → All (λ made. made.session ≢ session) plans × IsFresh histories session
@@ -217,7 +217,7 @@ nothing_in c = omega (arith, c.1)
 asks_sound : (pair : ℕ) (plans : Plans) (histories : Histories) (archive : Archive) (sent : Sent) (running : Option Running) (messages : List Message) → IfSome running (λ r. plan_in plans r.session ≡ r.plan) → RunsOver (sent ++ messages) archive running →
     AllOfSession pair sent running messages → (m : Message) → Contains messages m → IfSome running (λ r. IsOfSession pair sent r m × (r.session ≡ archive.last_session) × (plan_in plans r.session ≡ r.plan)) × ((running ≡ None) → ⊥)
 asks_sound pair plans histories archive sent None messages has over all m c = absurd (nothing_in (subst (λ ms. Contains ms m) all c))
-asks_sound pair plans histories archive sent (Some r) messages has over all m c = ((All-contains (IsOfSession pair sent r) messages m all c, over.0, has), λ e. none_some (sym e))
+asks_sound pair plans histories archive sent (Some r) messages has over all m c = ((All-contains (IsOfSession pair sent r) messages m all c, over.0, has), λ e. none-some _ (sym e))
 
 request_of : (pair : ℕ) (plans : Plans) (archive : Archive) (sent : Sent) (running : Option Running) (to : Which) (session number : ℕ) (request : Request) →
     IfSome running (λ r. IsOfSession pair sent r (Asks to session number request) × (r.session ≡ archive.last_session) × (plan_in plans r.session ≡ r.plan)) → (running ≡ None → ⊥) → IsSound_request plans archive sent to session request
@@ -295,7 +295,7 @@ coordinator_keeps plans old logged D R new logs sound sides harm g runs =
         running = runs;
         runs_over = g.runs_over;
         writing = if_some machine.writing (λ more. D more × CanKeep machine.archive more) (λ kept. (machine.status ≢ Up) × (machine.running ≡ None) × CanKeep machine.archive kept × IsHarmless plans (histories_of old) kept) g.keeps.writing (λ kept e h.
-            let down : machine.status ≢ Up = λ up. none_some (sym (g.unless_up up) ∙ e) in
+            let down : machine.status ≢ Up = λ up. none-some _ (sym (g.unless_up up) ∙ e) in
             (down, (g.silent_when_writing (ap is_some e)).1, h.1, harm kept h.0));
       };
     })

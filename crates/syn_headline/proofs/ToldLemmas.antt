@@ -1,5 +1,5 @@
 -- What a complete report tells of a session without edits.
-use Rattle.std.proofs.Common.{◌≡◌, ◌≤◌, ◌+◌, ℕ, true, List, [], ◌∷◌, ◌++◌, filter_map, length, take, fold, sym, ap, ap₂, ◌∙◌, subst, Some, arith, inl, inr, ◌≢◌, ◌⊎◌}
+use Rattle.std.proofs.Common.{◌≡◌, ◌≤◌, ◌+◌, ℕ, true, List, [], ◌∷◌, ◌++◌, filter_map, length, take, fold, sym, ap, ap₂, ◌∙◌, subst, Some, arith, inl, inr, ◌≢◌}
 use Rattle.std.specs.Prelude.{Contains, All, ◌↔◌, Any}
 use Rattle.std.proofs.lemmas.List.{take-append-le, length-append}
 use Rattle.std.proofs.lemmas.List.Elements.{All-weaker, Contains-append_cases}

@@ -2,6 +2,7 @@
 use Rattle.std.proofs.Common.{◌≡◌, ◌≢◌, ◌≤◌, ◌<◌, ◌+◌, ℕ, List, [], ◌∷◌, ◌++◌, length, refl, sym, ap, ◌∙◌, subst, append_assoc, arith, inl, inr, ◌⊎◌, slice_get}
 use Rattle.std.specs.Prelude.{All}
 use Rattle.std.proofs.lemmas.List.Elements.{All-head, All-tail, All-nil, All-cons, All-append, All-push, All-weaker}
+use Rattle.std.proofs.lemmas.Option.{none-some}
 use Rattle.syn_model.specs.Tree.{Tree}
 use Rattle.syn_model.specs.Event.{Event, Edited, Began, Replaced}
 use Rattle.syn_model.specs.History.{History, IsAllowed, last_session}
@@ -12,7 +13,6 @@ use Rattle.syn_headline.specs.Network.{Which, other, Sent}
 use Rattle.syn_headline.specs.Planning.{Planned, Log, seen_on}
 use Rattle.syn_headline.specs.Headline.{IsNoEdit}
 use Rattle.syn_headline.proofs.Invariant.{Plans, plan_in, Scans, IsPlanFrom, Histories, IsSound, IsSoundEvent}
-use Rattle.syn_model.proofs.PathLemmas.{none_some}
 use Rattle.syn_headline.proofs.PlanLemmas.{plan_of-more, fenced}
 use Rattle.syn_headline.proofs.SoundLemmas.{began_above, extends, length_grows, part_at_stays, still_touched}
 use Rattle.syn_headline.proofs.StepLemmas.{next_fresh}
@@ -183,9 +183,9 @@ underway_records log before histories sent kept more session plan due h = record
 }
 
 no_item : (histories : Histories) (kept : Kept) → IsRecordDue [] histories kept → ⊥
-no_item histories _ (carried side item planned path at w reached touched) = none_some at
-no_item histories _ (alike item planned path at kind) = none_some at
-no_item histories _ (marked item planned path at kind) = none_some at
+no_item histories _ (carried side item planned path at w reached touched) = none-some _ at
+no_item histories _ (alike item planned path at kind) = none-some _ at
+no_item histories _ (marked item planned path at kind) = none-some _ at
 
 no_records : (histories : Histories) (records : List Kept) → All (IsRecordDue [] histories) records → records ≡ []
 no_records histories [] due = refl
@@ -194,7 +194,7 @@ no_records histories (kept ∷ records) due = absurd (no_item histories kept (Al
 no_replacement : (plan : List Planned) (histories : Histories) (side : Which) (event : Event) → IsPlannedEvent [] histories side event → IsPlannedEvent plan histories side event
 no_replacement plan histories side (Edited user edit) h = h
 no_replacement plan histories side (Began session) h = h
-no_replacement plan histories side (Replaced token path since new) h = absurd (none_some h.at)
+no_replacement plan histories side (Replaced token path since new) h = absurd (none-some _ h.at)
 
 -- a plan that is made where none was
 pub quiet_plan : (log : Log) (before : Archive) (plans : Plans) (histories : Histories) (archive : Archive) (sent : Sent) → IsSound plans histories archive sent → (kept : List Kept) → archive ≡ archive_of before kept → (session : ℕ) (had plan : List Planned) → had ≡ [] →

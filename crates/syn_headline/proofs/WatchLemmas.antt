@@ -2,6 +2,7 @@
 use Rattle.std.proofs.Common.{◌≡◌, ◌≤◌, ◌+◌, ℕ, List, [], ◌∷◌, ◌++◌, map, filter_map, length, refl, sym, ap, ◌∙◌, subst, Option, Some, None, append-nil, arith, inl, inr, slice_get}
 use Rattle.std.specs.Prelude.{Contains, All, IfSome}
 use Rattle.std.proofs.lemmas.List.Elements.{All-head, All-tail, All-weaker, filter_map-append}
+use Rattle.std.proofs.lemmas.Option.{none-some, same_Some}
 use Rattle.syn_model.specs.Path.{Path}
 use Rattle.syn_model.specs.History.{is_quiet}
 use Rattle.syn_model.specs.Archive.{Archive, Kept, Session, Recorded, archive_of}
@@ -12,7 +13,6 @@ use Rattle.syn_headline.specs.Acknowledged.{Ack, Kept_by, kept_in, Stores}
 use Rattle.syn_headline.specs.World.{World, Running, asked_of, IsExpected, IsOver, IsDue, done, same, directory, IsDueAfter, HasPlan, GoesOnAs, goes_on, ended, GoesOnFrom, plan_of, StartsFrom, RunsOver, IsNext, IsNothing, AllCanKeep, CoordinatorGoes}
 use Rattle.syn_headline.specs.Headline.{StandsFor}
 use Rattle.syn_headline.proofs.Invariant.{Plans, plan_in, IsPlanFrom, Histories, histories_of, IsSound, IsKept}
-use Rattle.syn_model.proofs.PathLemmas.{none_some, some_same}
 use Rattle.syn_headline.proofs.LogLemmas.{no_plan, scans_of, plan_from}
 use Rattle.syn_headline.proofs.WorldLemmas.{kept_kept}
 use Rattle.syn_headline.proofs.RunLemmas.{Advances, running_has, running_over, waits_for}
@@ -37,7 +37,7 @@ module _ (plans : Plans) (histories : Histories) (archive : Archive) (sent : Sen
       IsRecordDue plan histories (Recorded path (seen_on planned (other from)).marks)
   done_due item path since size planned has is asked at w =
       let by_plan = (sound.asked from r.session number (Replace item path since size) asked).by_plan in
-      let same_planned : by_plan.0 ≡ planned = some_same (sym by_plan.1 ∙ (ap (λ p. slice_get p item) has ∙ at)) in
+      let same_planned : by_plan.0 ≡ planned = same_Some _ _ (sym by_plan.1 ∙ (ap (λ p. slice_get p item) has ∙ at)) in
       let since_is : since ≡ (seen_on planned from).since = by_plan.3 ∙ ap (λ d. (seen_on d from).since) same_planned in
       let true_done = sound.answered from r.session number Done (Replace item path since size) (subst (λ said. Contains sent (Answers from r.session number said)) is heard) asked in
       carried from item planned path at w (subst (λ k. k ≤ length (histories from)) since_is true_done.0) (ap (λ k. is_quiet (histories from) k (length (histories from)) path) (sym since_is) ∙ true_done.1)
@@ -47,7 +47,7 @@ module _ (plans : Plans) (histories : Histories) (archive : Archive) (sent : Sen
   done_recorded logged (inl stays) has item path since size planned is asked at w = done_due item path since size planned (has ∙ sym stays.0) is asked at w
   done_recorded logged (inr made) has item path since size planned is asked at w =
       let by_plan = (sound.asked from r.session number (Replace item path since size) asked).by_plan in
-      absurd (none_some (ap (λ p. slice_get p item) (sym (no_plan plans r.session made.1.once)) ∙ by_plan.1))
+      absurd (none-some _ (ap (λ p. slice_get p item) (sym (no_plan plans r.session made.1.once)) ∙ by_plan.1))
 
   due_recorded : (logged : Log) → HasPlan sent archive plans (Some r) plan logged → plan_in plans r.session ≡ r.plan → (kept : Kept) → IsDue r plan from number reply kept → IsRecordDue plan histories kept
   due_recorded logged made has _ (done item path since size planned is out at w) = done_recorded logged made has item path since size planned is (asks (Replace item path since size) out) at w

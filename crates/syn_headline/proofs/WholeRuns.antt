@@ -2,6 +2,7 @@
 use Rattle.std.proofs.Common.{◌≡◌, ◌≤◌, ℕ, List, [], ◌∷◌, ◌++◌, refl, sym, ap, ap₂, ◌∙◌, subst, Option, Some, None, append-nil, arith, inl, inr, ◌⊎◌, ◌≢◌}
 use Rattle.std.specs.Prelude.{Contains, IfSome}
 use Rattle.std.proofs.lemmas.List.Elements.{All-nil, Contains-append_left}
+use Rattle.std.proofs.lemmas.Option.{none-some}
 use Rattle.syn_model.specs.Path.{Path}
 use Rattle.syn_model.specs.Tree.{Tree}
 use Rattle.syn_model.specs.Event.{Token, Replaced}
@@ -13,7 +14,6 @@ use Rattle.syn_headline.specs.Planning.{Log, IsPlanOf}
 use Rattle.syn_headline.specs.World.{Up, World, Running, side_of, Step, Waits, RunsOver, Runs}
 use Rattle.syn_headline.specs.Headline.{stores_of, IsStart, EachReplacementIsLegal, EachTokenOnce, StandsFor, OfEachRun, Owes}
 use Rattle.syn_headline.proofs.Invariant.{Plans, histories_of, IsHarmless, IsSoundStaging, IsSoundEvent, IsSoundSide, IsKept}
-use Rattle.syn_model.proofs.PathLemmas.{none_some}
 use Rattle.syn_headline.proofs.PlanLemmas.{answered-more}
 use Rattle.syn_headline.proofs.TokenLemmas.{token_once}
 use Rattle.syn_headline.proofs.WorldLemmas.{step_stands}
@@ -99,8 +99,8 @@ start_kept old s =
         held = λ path content e side. let both = p.held path content e in elim side as (λ side. Held (histories_of old side) path content) [ Left ↦ both.0 | Right ↦ both.1 ];
         once = λ i j d less within. absurd (omega (arith, within));
         planned = All-nil (IsPlanOf old.sent);
-        recorded = λ session item planned side path e w. absurd (none_some e);
-        used = λ side token planned path last e w. absurd (none_some e);
+        recorded = λ session item planned side path e w. absurd (none-some _ e);
+        used = λ side token planned path last e w. absurd (none-some _ e);
       };
       sides = λ side. elim side as (λ side. IsSoundSide no_plans (histories_of old) old.coordinator.archive side (side_of old side)) [
         | Left ↦ record { staged = subst (λ o. IfSome o (IsSoundStaging no_plans (histories_of old) Left)) (sym s.left.1) tt; writing = subst (λ o. IfSome o (λ event. (old.left.status ≢ Up) × IsSoundEvent no_plans (histories_of old) old.coordinator.archive Left event)) (sym s.left.2) tt }

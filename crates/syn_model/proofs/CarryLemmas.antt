@@ -2,12 +2,13 @@
 use Rattle.std.proofs.Common.{◌≡◌, true, false, if◌then◌else◌, List, [], ◌∷◌, ◌++◌, refl, sym, ap, ◌∙◌, Some, None, append_assoc}
 use Rattle.std.specs.List.{AllByRecursion}
 use Rattle.std.specs.FinMap.{get}
+use Rattle.std.proofs.lemmas.Option.{none-some}
 use Rattle.syn_model.specs.Path.{Path, is_prefix, strip_prefix, comparable}
 use Rattle.syn_model.specs.Tree.{Tree, subtree, replace, is_directory, empty_directory}
 use Rattle.syn_model.specs.Mark.{mark}
 use Rattle.syn_model.specs.Decision.{Item, ToLeft, ToRight, MarkSame, MarkDir, Conflict, path_of}
 use Rattle.syn_model.specs.Plan.{Trees, with_directory, after_item, carried_out}
-use Rattle.syn_model.proofs.PathLemmas.{strip_prefix-append, strip_prefix-is, none_some, not_under, is_prefix-is}
+use Rattle.syn_model.proofs.PathLemmas.{strip_prefix-append, strip_prefix-is, not_under, is_prefix-is}
 use Rattle.syn_model.proofs.TreeLemmas.{same_tree, get-subtree, subtree-append, beside}
 use Rattle.syn_model.proofs.PlanOrder.{IsAt, every-weaker}
 
@@ -59,7 +60,7 @@ out_of p q x h px = elim (strip_prefix x q) as (λ o. strip_prefix x q ≡ o →
   | None ↦ λ _. refl
   | Some r ↦ λ y.
       let rest = is_prefix-is p x px in
-      absurd (none_some (sym h ∙ (ap (strip_prefix p) (strip_prefix-is x q r y ∙ (ap (λ w. w ++ r) rest.1 ∙ append_assoc p rest.0 r)) ∙ strip_prefix-append p (rest.0 ++ r))))
+      absurd (none-some _ (sym h ∙ (ap (strip_prefix p) (strip_prefix-is x q r y ∙ (ap (λ w. w ++ r) rest.1 ∙ append_assoc p rest.0 r)) ∙ strip_prefix-append p (rest.0 ++ r))))
 ] refl
 
 -- nor do items whose paths it does not begin with

@@ -2,7 +2,7 @@
 use Rattle.std.proofs.Common.{◌≡◌, ℕ, suc, ◌≤◌, Bool, true, false, not, if◌then◌else◌, ◌&&◌, ◌||◌, [], ◌∷◌, ◌++◌, length, refl, sym, ap, ap₂, ◌∙◌, None, true≢false, append_assoc}
 use native.Mathlib.Omega.{arith}
 use Rattle.std.specs.FinMap.{get}
-use Rattle.std.proofs.lemmas.Bool.{false_from_ne_true}
+use Rattle.std.proofs.lemmas.Bool.{false_from_ne_true, and_parts}
 use Rattle.syn_model.specs.Path.{Path, Name, is_root, child, parent}
 use Rattle.syn_model.specs.Tree.{Tree, HasParents, subtree, is_directory, is_directory_content}
 use Rattle.syn_model.specs.Mark.{mark}
@@ -12,7 +12,7 @@ use Rattle.syn_model.specs.Decision.{ToLeft, ToRight, MarkSame, MarkDir, Conflic
 use Rattle.syn_model.specs.Plan.{scan_of}
 use Rattle.syn_model.proofs.PathLemmas.{parent-append}
 use Rattle.syn_model.proofs.TreeLemmas.{same_tree, get-subtree, by_rest}
-use Rattle.syn_model.proofs.DirtyLemmas.{both_true, tree_itself, dirty-closed}
+use Rattle.syn_model.proofs.DirtyLemmas.{tree_itself, dirty-closed}
 use Rattle.syn_model.proofs.SyncLemmas.{directory_is}
 use Rattle.syn_model.proofs.QuietLemmas.{directory_of_mark}
 use Rattle.syn_model.proofs.DirectoryLemmas.{none_mark}
@@ -93,7 +93,7 @@ pub nothing_relevant : (a b : Tree) → HasParents a → HasParents b → (p : P
 nothing_relevant a b left_parents right_parents p n q z r =
     let parents : is_directory_in_both a b (p ++ parent (n ∷ q)) ≡ true =
     ap (is_directory_in_both a b) (sym (parent-append p n q)) ∙ (sym (ap (λ u. u || is_directory_in_both a b (parent (p ++ n ∷ q))) (not_root p n q)) ∙ r) in
-    let each = both_true (is_directory a (p ++ parent (n ∷ q))) (is_directory b (p ++ parent (n ∷ q))) parents in
+    let each = and_parts (is_directory a (p ++ parent (n ∷ q))) (is_directory b (p ++ parent (n ∷ q))) parents in
     let on_left = by_rest a p n q left_parents (directory_is (get a (p ++ parent (n ∷ q))) each.0) in
     let on_right = by_rest b p n q right_parents (directory_is (get b (p ++ parent (n ∷ q))) each.1) in
     true≢false (sym (ap₂ (λ u v. is_directory_content u && is_directory_content v) on_left on_right) ∙ z)

@@ -4,16 +4,17 @@ use Rattle.std.specs.Ordering.{eq_by_cmp}
 use Rattle.std.specs.List.{list_any}
 use Rattle.std.specs.FinMap.{get, find}
 use Rattle.std.specs.FinMap.Entries.{is_some-find}
+use Rattle.std.proofs.lemmas.Option.{none-some}
+use Rattle.std.proofs.lemmas.Bool.{or_parts}
 use Rattle.syn_model.specs.Path.{Path, Name, name_cmp, root, child}
 use Rattle.syn_model.specs.Tree.{Tree, Content, Directory, HasParents, subtree, replace, empty_directory, is_directory, is_directory_content}
 use Rattle.syn_model.specs.Limits.{children}
 use Rattle.syn_model.specs.Mark.{mark, mark_of}
 use Rattle.syn_model.specs.Dirty.{Scan}
 use Rattle.syn_model.specs.Plan.{names_below, stands_among}
-use Rattle.syn_model.proofs.PathLemmas.{strip_prefix-append, none_some}
+use Rattle.syn_model.proofs.PathLemmas.{strip_prefix-append}
 use Rattle.syn_model.proofs.TreeLemmas.{same_tree, get-subtree, within}
 use Rattle.syn_model.proofs.MarkLemmas.{get-mark}
-use Rattle.syn_model.proofs.DirtyLemmas.{both_false}
 use Rattle.syn_model.proofs.HistoryLemmas.{get-below_root}
 use Rattle.syn_model.proofs.QuietLemmas.{get-children, nothing_below}
 use Rattle.syn_model.proofs.PlanNames.{names_of_three}
@@ -53,8 +54,8 @@ pub record NotThere (left right : Scan) (archive : Tree) (path : Path) : Type 0 
 
 pub not_there : (left right : Scan) (archive : Tree) (p : Path) (n : Name) → list_any (eq_by_cmp name_cmp n) (names_below left right archive p) ≡ false → NotThere left right archive (child p n)
 not_there left right archive p n h =
-    let one = both_false (stands_among n (children left.marks p)) (stands_among n (children right.marks p) || stands_among n (children archive p)) (names_of_three left right archive p n ∙ h) in
-    let two = both_false (stands_among n (children right.marks p)) (stands_among n (children archive p)) one.1 in
+    let one = or_parts (stands_among n (children left.marks p)) (stands_among n (children right.marks p) || stands_among n (children archive p)) (names_of_three left right archive p n ∙ h) in
+    let two = or_parts (stands_among n (children right.marks p)) (stands_among n (children archive p)) one.1 in
     let absent : (t : Tree) → stands_among n (children t p) ≡ false → get t (child p n) ≡ None = λ t none. not_child t p n (is_some-find name_cmp n (children t p) ∙ none) in
     record { on_left = absent left.marks one.0; on_right = absent right.marks two.0; in_archive = absent archive two.1 }
 
@@ -63,12 +64,12 @@ pub absent_below : (t : Tree) (p : Path) → HasParents t → get t p ≡ None �
 absent_below t p parents h [] = ap (get t) (append-nil p) ∙ h
 absent_below t p parents h (n ∷ q) = elim (get t (p ++ n ∷ q)) as (λ o. get t (p ++ n ∷ q) ≡ o → o ≡ None) [
   | None ↦ λ _. refl
-  | Some c ↦ λ y. absurd (none_some (sym h ∙ parents p n q (ap is_some y)))
+  | Some c ↦ λ y. absurd (none-some _ (sym h ∙ parents p n q (ap is_some y)))
 ] refl
 
 unmarked_none : (o : Option Content) → option_map mark_of o ≡ None → o ≡ None
 unmarked_none None e = refl
-unmarked_none (Some c) e = absurd (none_some (sym e))
+unmarked_none (Some c) e = absurd (none-some _ (sym e))
 
 pub mark_none : (t : Tree) (p : Path) → get (mark t) p ≡ None → get t p ≡ None
 mark_none t p e = unmarked_none (get t p) (sym (get-mark t p) ∙ e)

@@ -36,10 +36,11 @@ later_item (DoAndGoOn other) item rest on at =
     (suc at.0, omega arith, at.2)
 later_item GoOn item rest on at = at
 
-not_decided : (d : Decision) (item : Item) → d ≡ Clean → (d ≡ Do item) ⊎ (d ≡ DoAndGoOn item) → ⊥
+-- what is clean has no item
+pub not_clean : (d : Decision) (item : Item) → d ≡ Clean → (d ≡ Do item) ⊎ (d ≡ DoAndGoOn item) → ⊥
 unfolding is_clean
-not_decided d item clean (inl e) = true≢false (ap is_clean (sym clean ∙ e))
-not_decided d item clean (inr e) = true≢false (ap is_clean (sym clean ∙ e))
+not_clean d item clean (inl e) = true≢false (ap is_clean (sym clean ∙ e))
+not_clean d item clean (inr e) = true≢false (ap is_clean (sym clean ∙ e))
 
 in_flat_map : (f : Name → List Item) (names : List Name) (n : Name) (item : Item) → list_any (eq_by_cmp name_cmp n) names ≡ true → Contains (f n) item → Contains (flat_map f names) item
 in_flat_map f [] n item h at = absurd (true≢false (sym h))
@@ -85,7 +86,7 @@ module _ (a b o : Tree) (left_parents : HasParents a) (right_parents : HasParent
   items_have zero p q item shallow_left shallow_right shallow_archive reached decided =
       let on_left = clean_nothing o a p (λ r. shallow_left r (omega arith)) (λ r. shallow_archive r (omega arith)) in
       let on_right = clean_nothing o b p (λ r. shallow_right r (omega arith)) (λ r. shallow_archive r (omega arith)) in
-      absurd (not_decided (decided_at (p ++ q)) item (decision_is_clean (p ++ q) (clean_below o a p q on_left) (clean_below o b p q on_right)) decided)
+      absurd (not_clean (decided_at (p ++ q)) item (decision_is_clean (p ++ q) (clean_below o a p q on_left) (clean_below o b p q on_right)) decided)
   items_have (suc levels) p [] item shallow_left shallow_right shallow_archive reached decided =
       first_item (decided_at p) item (below decided_at names_at levels p (names_at p))
       (subst (λ w. (decided_at w ≡ Do item) ⊎ (decided_at w ≡ DoAndGoOn item)) (append-nil p) decided)
@@ -105,7 +106,7 @@ module _ (a b o : Tree) (left_parents : HasParents a) (right_parents : HasParent
             let in_archive = absent_below o (child p n) archive_parents nowhere.in_archive in
             let on_left = clean_nothing o a (child p n) (absent_below a (child p n) left_parents (mark_none a (child p n) nowhere.on_left)) in_archive in
             let on_right = clean_nothing o b (child p n) (absent_below b (child p n) right_parents (mark_none b (child p n) nowhere.on_right)) in_archive in
-            absurd (not_decided (decided_at (child p n ++ q)) item (decision_is_clean (child p n ++ q) (clean_below o a (child p n) q on_left) (clean_below o b (child p n) q on_right)) decided')
+            absurd (not_clean (decided_at (child p n ++ q)) item (decision_is_clean (child p n ++ q) (clean_below o a (child p n) q on_left) (clean_below o b (child p n) q on_right)) decided')
       ] refl)
 
   -- ---- conflicts

@@ -4,7 +4,7 @@ use native.Mathlib.Omega.{arith}
 use Rattle.std.specs.Ordering.{eq_by_cmp}
 use Rattle.std.specs.Cmp.{eq_by_cmp_equiv}
 use Rattle.std.specs.List.{list_any, AllByRecursion}
-use Rattle.std.proofs.lemmas.Bool.{or_cases, false_from_ne_true}
+use Rattle.std.proofs.lemmas.Bool.{or_cases, false_from_ne_true, or_parts}
 use Rattle.std.proofs.lemmas.List.Elements.{All-from_recursion, All-weaker}
 use Rattle.std.proofs.lemmas.List.Kept.{AllPairs-cons}
 use Rattle.syn_model.specs.Path.{Path, Name, name_cmp, root, is_root, child, is_prefix, strip_prefix, comparable}
@@ -15,7 +15,7 @@ use Rattle.syn_model.specs.Reconcile.{is_directory_in_both}
 use Rattle.syn_model.specs.Decision.{Item, ToLeft, ToRight, MarkSame, MarkDir, Conflict, Decision, Clean, Do, DoAndGoOn, GoOn, decision, path_of, GoesOn, IsReached}
 use Rattle.syn_model.specs.Plan.{names_below, with_items_below, items_from, plan, most_names, StandsBefore, IsDecided, OverwritesClean, PlanIsInOrder, PlanIsDecided, PlanOverwritesClean, is_mark_dir, PlanIsOrderly}
 use Rattle.syn_model.proofs.PathLemmas.{first_or, rest_of, name_total, name_itself, prefixes_comparable, is_prefix-is, strip_prefix-append}
-use Rattle.syn_model.proofs.DirtyLemmas.{prefix_chain, both_false}
+use Rattle.syn_model.proofs.DirtyLemmas.{prefix_chain}
 use Rattle.syn_model.proofs.PlanNames.{Apart, names_apart}
 
 -- ---- lists
@@ -169,10 +169,10 @@ module _ (decide : Path → Decision) (fits : (path : Path) → FitsAt path (dec
       AllByRecursion (StandsBefore item) (under levels path names)
   beside_each path name item at levels [] h = tt
   beside_each path name item at levels (other ∷ names) h =
-      let parts = both_false (eq_by_cmp name_cmp name other) (list_any (eq_by_cmp name_cmp name) names) h in
+      let parts = or_parts (eq_by_cmp name_cmp name other) (list_any (eq_by_cmp name_cmp name) names) h in
       every-append (StandsBefore item) (from levels (child path other)) (under levels path names)
       (every-weaker (λ later there.
-      let apart = both_false (is_prefix (path_of item) (path_of later)) (is_prefix (path_of later) (path_of item)) (apart_below (child path name) (child path other) (path_of item) (path_of later) (siblings path name other parts.0) at there) in
+      let apart = or_parts (is_prefix (path_of item) (path_of later)) (is_prefix (path_of later) (path_of item)) (apart_below (child path name) (child path other) (path_of item) (path_of later) (siblings path name other parts.0) at there) in
       record { not_above = apart.1; below_directory = λ e. absurd (true≢false (sym e ∙ apart.0)) })
       (from levels (child path other)) (items-at levels (child path other)))
       (beside_each path name item at levels names parts.1)

@@ -4,8 +4,9 @@ use native.Mathlib.Omega.{arith}
 use Rattle.std.specs.Ordering.{eq_by_cmp}
 use Rattle.std.specs.List.{list_any}
 use Rattle.std.specs.FinMap.{get}
-use Rattle.std.proofs.lemmas.Bool.{false_from_ne_true}
+use Rattle.std.proofs.lemmas.Bool.{false_from_ne_true, and_parts, or_parts, or_right}
 use Rattle.std.proofs.lemmas.List.Sums.{fold-append}
+use Rattle.std.proofs.lemmas.Option.{none-some}
 use Rattle.sha2.specs.Sha256.{sha256}
 use Rattle.syn_model.specs.Path.{Path, Name, Bytes, name_cmp, root, child, strip_prefix}
 use Rattle.syn_model.specs.Tree.{Tree, Content, Contents, contents_of, Directory, File, HasParents, subtree, replace, is_directory, is_directory_content, empty_directory}
@@ -14,11 +15,11 @@ use Rattle.syn_model.specs.Dirty.{dirty, is_same_tree}
 use Rattle.syn_model.specs.Reconcile.{is_directory_in_both, is_relevant, is_alike, is_settled, IsSyncedAt, IsReconciledAt}
 use Rattle.syn_model.specs.Decision.{Item, ToLeft, ToRight, MarkSame, MarkDir, Decision, decision, path_of}
 use Rattle.syn_model.specs.Plan.{names_below, with_items_below, items_from, most_names, Trees, with_directory, after_item, carried_out, scan_of, CanBePlanned, after_plan, PlanSynchronizes, PlanReconciles}
-use Rattle.syn_model.proofs.PathLemmas.{name_itself, same_name, none_some}
+use Rattle.syn_model.proofs.PathLemmas.{name_itself, same_name}
 use Rattle.syn_model.proofs.TreeLemmas.{same_tree, get-subtree, subtree-replace, subtree-append}
 use Rattle.syn_model.proofs.HistoryLemmas.{get-at_root}
 use Rattle.syn_model.proofs.MarkLemmas.{get-mark, mark-subtree}
-use Rattle.syn_model.proofs.DirtyLemmas.{both_true, both_false, or_true, same_tree_is, tree_itself, dirty-closed, dirty-safe}
+use Rattle.syn_model.proofs.DirtyLemmas.{same_tree_is, tree_itself, dirty-closed, dirty-safe}
 use Rattle.syn_model.proofs.SyncLemmas.{directory_is, child_relevant}
 use Rattle.syn_model.proofs.QuietLemmas.{directory_of_mark}
 use Rattle.syn_model.proofs.DirectoryLemmas.{root_content, same_content_at, moved-directory, from_names, none_of, not_there, absent_below, mark_none, below_new_directory}
@@ -37,8 +38,8 @@ bytes_in (Some (File contents)) = contents.bytes
 unmarked : (x y : Option Content) → ((c d : Contents) → x ≡ Some (File c) → y ≡ Some (File d) → sha256 c.bytes ≡ sha256 d.bytes → c.bytes ≡ d.bytes) → option_map mark_of x ≡ option_map mark_of y → x ≡ y
 unfolding bytes_in
 unmarked None None h e = refl
-unmarked None (Some d) h e = absurd (none_some e)
-unmarked (Some c) None h e = absurd (none_some (sym e))
+unmarked None (Some d) h e = absurd (none-some _ e)
+unmarked (Some c) None h e = absurd (none-some _ (sym e))
 unmarked (Some Directory) (Some Directory) h e = refl
 unmarked (Some Directory) (Some (File d)) h e = absurd (true≢false (ap is_directory_content e))
 unmarked (Some (File c)) (Some Directory) h e = absurd (true≢false (sym (ap is_directory_content e)))
@@ -116,7 +117,7 @@ module _ (a b o : Tree) (left_parents : HasParents a) (right_parents : HasParent
             left_has = moved-mark s.left a p h.left ∙ (left_mark ∙ sym h.archive);
             right_has = moved-mark s.right b p h.right ∙ (right_mark ∙ sym h.archive);
           };
-          directory = λ z. moved-directory s.archive o p h.archive ∙ (moved-directory o (mark a) p (sym left_mark) ∙ (directory_of_mark a p ∙ (both_true (is_directory a p) (is_directory b p) z).0));
+          directory = λ z. moved-directory s.archive o p h.archive ∙ (moved-directory o (mark a) p (sym left_mark) ∙ (directory_of_mark a p ∙ (and_parts (is_directory a p) (is_directory b p) z).0));
           conflict = λ _ _. h.archive;
         };
       }
@@ -177,7 +178,7 @@ module _ (a b o : Tree) (left_parents : HasParents a) (right_parents : HasParent
       record {
         sides = λ apart. one_part (after_item s (MarkSame p)) p (subtree a p) h.left (h.right ∙ sym (same apart)) z (λ _. same apart) (λ _. refl) (λ _ _. (refl, same apart));
         marks = one_mark (after_item s (MarkSame p)) p recorded (ap mark h.right ∙ (mark-subtree b p ∙ (sym alike ∙ (sym (mark-subtree a p) ∙ (ap mark (sym h.left) ∙ recorded))))) z
-            (ap (λ w. not (left_dirty a b o p && right_dirty a b o p) || w) v ∙ or_true (not (left_dirty a b o p && right_dirty a b o p)) true refl);
+            (ap (λ w. not (left_dirty a b o p && right_dirty a b o p) || w) v ∙ or_right (not (left_dirty a b o p && right_dirty a b o p)) true refl);
       }
 
   conflict : (s : Trees) (p : Path) → SameAt s (start a b o) p → is_directory_in_both a b p ≡ false → is_alike a b p ≡ false → left_dirty a b o p ≡ true → right_dirty a b o p ≡ true → Result a b o s p
@@ -221,7 +222,7 @@ module _ (a b o : Tree) (left_parents : HasParents a) (right_parents : HasParent
   directory_result : (s : Trees) (p : Path) → is_directory_in_both a b p ≡ true → get s.left p ≡ Some Directory → get s.right p ≡ Some Directory → get s.archive p ≡ Some Directory →
       ((n : Name) → Result a b o s (child p n)) → Result a b o s p
   directory_result s p z left_has right_has archive_has each =
-      let directories = both_true (is_directory a p) (is_directory b p) z in
+      let directories = and_parts (is_directory a p) (is_directory b p) z in
       let a_has : get a p ≡ Some Directory = directory_is (get a p) directories.0 in
       let b_has : get b p ≡ Some Directory = directory_is (get b p) directories.1 in
       let marked : (t : Tree) → get t p ≡ Some Directory → get (mark t) p ≡ Some Directory = λ t e. get-mark t p ∙ ap (option_map mark_of) e in
@@ -281,7 +282,7 @@ module _ (a b o : Tree) (left_parents : HasParents a) (right_parents : HasParent
   beside_names : (s : Trees) (levels : ℕ) (p : Path) (names : List Name) (n : Name) → list_any (eq_by_cmp name_cmp n) names ≡ false → SameAt (carried_out s (items_below levels p names)) s (child p n)
   beside_names s levels p [] n h = same_itself s (child p n)
   beside_names s levels p (m ∷ names) n h =
-      let parts = both_false (eq_by_cmp name_cmp n m) (list_any (eq_by_cmp name_cmp n) names) h in
+      let parts = or_parts (eq_by_cmp name_cmp n m) (list_any (eq_by_cmp name_cmp n) names) h in
       let s' = carried_out s (items levels (child p m)) in
       subst (λ t. SameAt t s (child p n)) (sym (one_then_more s levels p m names))
       (same-then (carried_out s' (items_below levels p names)) s' s (child p n) (beside_names s' levels p names n parts.1) (beside_one s levels p m n (name_alike m n ∙ parts.0)))
@@ -303,7 +304,7 @@ module _ (a b o : Tree) (left_parents : HasParents a) (right_parents : HasParent
         | false ↦ λ _ among. each_name levels p one names distinct.1 s' (λ k there.
             same-then s' s (start a b o) (child p k)
             (beside_one s levels p m k (false_from_ne_true (eq_by_cmp name_cmp m k) (λ e. true≢false (sym there ∙ (ap (λ w. list_any (eq_by_cmp name_cmp w) names) (sym (same_name m k e)) ∙ distinct.0)))))
-            (same k (or_true (eq_by_cmp name_cmp k m) (list_any (eq_by_cmp name_cmp k) names) there))) n among
+            (same k (or_right (eq_by_cmp name_cmp k m) (list_any (eq_by_cmp name_cmp k) names) there))) n among
       ] refl h)
 
   -- the whole plan from a path on
@@ -351,8 +352,8 @@ module _ (a b o : Tree) (left_parents : HasParents a) (right_parents : HasParent
   items_good (suc levels) p s h shallow_left shallow_right shallow_archive =
       let under = items_below levels p (names_at p) in
       let one : (n : Name) (s' : Trees) → SameAt s' (start a b o) (child p n) → Good a b o (carried_out s' (items levels (child p n))) (child p n) = λ n s' same. items_good levels (child p n) s' same (shallow_below levels p n a shallow_left) (shallow_below levels p n b shallow_right) (shallow_below levels p n o shallow_archive) in
-      let left_has : is_directory_in_both a b p ≡ true → get s.left p ≡ Some Directory = λ z. same_content_at s.left a p h.left ∙ directory_is (get a p) (both_true (is_directory a p) (is_directory b p) z).0 in
-      let right_has : is_directory_in_both a b p ≡ true → get s.right p ≡ Some Directory = λ z. same_content_at s.right b p h.right ∙ directory_is (get b p) (both_true (is_directory a p) (is_directory b p) z).1 in
+      let left_has : is_directory_in_both a b p ≡ true → get s.left p ≡ Some Directory = λ z. same_content_at s.left a p h.left ∙ directory_is (get a p) (and_parts (is_directory a p) (is_directory b p) z).0 in
+      let right_has : is_directory_in_both a b p ≡ true → get s.right p ≡ Some Directory = λ z. same_content_at s.right b p h.right ∙ directory_is (get b p) (and_parts (is_directory a p) (is_directory b p) z).1 in
       by_decision a b o (λ d. Good a b o (carried_out s (with_items_below d under)) p) p
       (λ x y. good_clean s p h x y)
       (λ z w. names_good levels p s z one (λ n. same-deeper s (start a b o) p (n ∷ []) h) (left_has z) (right_has z) (same_content_at s.archive o p h.archive ∙ directory_is (get o p) w))

@@ -1,7 +1,7 @@
 -- The pairs of a subtree are those of the tree at and below its path, in their order.
 use Rattle.std.proofs.Common.{◌≡◌, ◌<◌, ◌≤◌, suc, Bool, true, false, if◌then◌else◌, ◌&&◌, T, List, [], ◌∷◌, ◌++◌, ℕ, length, length-append, filter_map, flat_map, refl, sym, ap, ap₂, ◌∙◌, subst, Option, Some, None, is_some, IsSome, All, nat_le, append_assoc, is_lt, option_map, option_and_then, true≢false, arith}
 use Rattle.std.proofs.lemmas.List.Elements.{All-tail}
-use Rattle.std.proofs.lemmas.Bool.{and_from}
+use Rattle.std.proofs.lemmas.Bool.{and_from, and_parts}
 use Rattle.std.proofs.lemmas.Bool.Decides.{nat_tests}
 use Rattle.std.specs.Ordering.{ordering_then, eq_by_cmp}
 use Rattle.std.specs.Cmp.{tied_itself}
@@ -12,7 +12,6 @@ use Rattle.syn_model.specs.Path.{IsName, Name, Path, name_cmp, path_cmp, path_sp
 use Rattle.syn_model.specs.Tree.{Tree, Content, Pair, IsPart, subtree, taken_off}
 use Rattle.syn_model.specs.Limits.{children, only_name, fits_content, fits_part, fits_path, fits_paths}
 use Rattle.syn_model.proofs.TreeLemmas.{get-subtree}
-use Rattle.syn_model.proofs.DirtyLemmas.{both_true}
 use Rattle.syn_model.proofs.PathLemmas.{name_total, path_total, path_exact, strip_prefix-is}
 
 pub joined : (a b : Bool) → T a → T b → T (a && b)
@@ -118,7 +117,7 @@ fits_at t pair = fits_content pair.1 && nat_le (length (children t pair.0)) 256
 still_fits : (t : Tree) (p : Path) (es : List Pair) → list_all (fits_at t) es ≡ true → list_all (fits_at (subtree t p)) (below p es) ≡ true
 still_fits t p [] h = refl
 still_fits t p (e ∷ es) h =
-    let two = both_true (fits_at t e) (list_all (fits_at t) es) h in
+    let two = and_parts (fits_at t e) (list_all (fits_at t) es) h in
     let more = still_fits t p es two.1 in
     elim (strip_prefix p e.0) as (λ o. strip_prefix p e.0 ≡ o → list_all (fits_at (subtree t p)) (cons_option (option_map (λ r. (r, e.1)) o) (below p es)) ≡ true) [
       | None ↦ λ _. more
@@ -148,7 +147,7 @@ one_more a b l = omega (arith, l)
 
 fits_later : (p q : Path) → fits_path (p ++ q) ≡ true → fits_path q ≡ true
 fits_later p q h =
-    let two = both_true (nat_le (length (p ++ q)) 16) (nat_le (length (path_spelling (p ++ q))) 255) h in
+    let two = and_parts (nat_le (length (p ++ q)) 16) (nat_le (length (path_spelling (p ++ q))) 255) h in
     let less = ending_shorter p q in
     and_from (nat_le (length q) 16) (nat_le (length (path_spelling q)) 255)
     (smaller (length q) (length (p ++ q)) 16 less.0 two.0)
@@ -160,7 +159,7 @@ path_fits pair = fits_path pair.0
 still_short : (p : Path) (es : List Pair) → list_all path_fits es ≡ true → list_all path_fits (below p es) ≡ true
 still_short p [] h = refl
 still_short p (e ∷ es) h =
-    let two = both_true (path_fits e) (list_all path_fits es) h in
+    let two = and_parts (path_fits e) (list_all path_fits es) h in
     let more = still_short p es two.1 in
     elim (strip_prefix p e.0) as (λ o. strip_prefix p e.0 ≡ o → list_all path_fits (cons_option (option_map (λ r. (r, e.1)) o) (below p es)) ≡ true) [
       | None ↦ λ _. more
