@@ -27,9 +27,6 @@ none_left stop calls e = omega (arith, e)
 up_not_down : Up ≢ Down
 up_not_down e = cc
 
-down_not_up : Down ≢ Up
-down_not_up e = cc
-
 halted_not_down : Halted ≢ Down
 halted_not_down e = cc
 
@@ -182,7 +179,7 @@ stay_without_stop old new steps s g none machine = (run_safe steps old new (star
 passed : (arms : Arms) (status : Status) (after : Arms) → Meets arms 4 0 status after → status ≡ Up → IsBefore 4 arms.fail × IsBefore 4 arms.stop
 passed arms _ _ (all_made fail stop) e = (fail, stop)
 passed arms _ _ (one_fails made from up_to fail stop) e = absurd (omega (arith, from, up_to))
-passed arms _ _ (one_stops made from up_to fail stop) e = absurd (down_not_up e)
+passed arms _ _ (one_stops made from up_to fail stop) e = absurd (cc)
 
 answered_acknowledged : (machine : Machine) (made : World) → (answered_by machine made).acknowledged ≡ made.acknowledged
 answered_acknowledged machine made = told (is_halted (status_of made machine))
