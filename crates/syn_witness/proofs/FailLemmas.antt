@@ -1,12 +1,13 @@
--- An edit whose third device call fails, and the reopening after it.
-use Rattle.std.proofs.Common.{◌≢◌, List, [], ◌∷◌, refl, Some, None, arith, inl, inr}
+-- An edit whose third device call fails, and the reopening after it; and a checkpoint that is cut off.
+use Rattle.std.proofs.Common.{◌≡◌, true, false, ◌⊎◌, ℕ, ◌≢◌, List, [], ◌∷◌, refl, Some, None, arith, inl, inr}
 use Rattle.syn_model.specs.Refusal.{Device, Halted as Halted_before}
 use Rattle.syn_model.specs.Event.{Edited}
 use Rattle.syn_headline.specs.Network.{Left}
 use Rattle.syn_headline.specs.Acknowledged.{Happened}
-use Rattle.syn_headline.specs.Arms.{unarmed, one_fails}
-use Rattle.syn_headline.specs.World.{World, Step, Halted, Down, At, Edits, Fail, Reopen, Steps, Runs, failed, opened, recovered}
-use Rattle.syn_witness.specs.Witness.{new_room, new_machine, opened_world, FailIsRefused, put_one}
+use Rattle.syn_headline.specs.Arms.{unarmed, all_made, one_fails, one_stops}
+use Rattle.syn_headline.specs.World.{SideMachine, written, compacting_cut, World, Step, Halted, Down, At, Edits, Fail, Reopen, Steps, Runs, failed, opened, recovered}
+use Rattle.syn_headline.specs.Side.{room_behind}
+use Rattle.syn_witness.specs.Witness.{CutCheckpoint, CheckpointIsCut, new_room, new_machine, opened_world, FailIsRefused, put_one}
 use Rattle.syn_witness.proofs.WitnessSteps.{room_of, edits, meets_unarmed, up_not_down}
 use Rattle.syn_witness.proofs.WitnessLemmas.{edit_allowed}
 
@@ -78,3 +79,53 @@ fail_is_refused = (
     ends_well = (refl, refl, refl);
   },
 )
+
+-- A checkpoint that is cut off after its fifth call
+
+nine_ahead : World
+nine_ahead = record opened_world { left = record new_machine { arms = record { fail = 0; stop = 9 } } }
+
+edited_machine : SideMachine
+edited_machine = record new_machine { side = record { history = Edited 1 put_one ∷ []; staging = None }; room = room_of (Edited 1 put_one ∷ []) }
+
+five_ahead : World
+five_ahead = record opened_world { left = record edited_machine { arms = record { fail = 0; stop = 5 } }; acknowledged = Happened Left (Edited 1 put_one) ∷ [] }
+
+cut_off_world : World
+cut_off_world = record five_ahead { left = record edited_machine { status = Down; compacting = true } }
+
+found : ℕ → World
+found room = record five_ahead { left = record edited_machine { room = room } }
+
+-- up to the opening
+cuts : (room : ℕ) → (room ≡ room_of (Edited 1 put_one ∷ [])) ⊎ (room ≡ room_behind 7 (Edited 1 put_one ∷ [])) → CutCheckpoint room
+unfolding nine_ahead edited_machine five_ahead cut_off_world found
+cuts room finds = record {
+  new = found room;
+  runs = (
+    nine_ahead,
+    inr (up_not_down, refl),
+    (
+      five_ahead,
+      edits nine_ahead Left 1 put_one five_ahead.left (Edited 1 put_one ∷ []) five_ahead five_ahead refl refl edit_allowed (written five_ahead.left.arms (all_made (inl refl) (inr (omega arith)))) refl refl,
+      (
+        cut_off_world,
+        (false, inr (up_not_down, inr (refl, cut_off_world, (cut_off_world.left, [], compacting_cut (one_stops 4 (omega arith) (omega arith) (inl refl) refl), refl), refl))),
+        (found room, inr (refl, inl ((found room).left, [], opened room unarmed (meets_unarmed _ _ _ refl) finds_it, refl)), refl),
+      ),
+    ),
+  );
+  sent = refl;
+  acknowledged_then = refl;
+  reported = refl;
+  ends_well = (refl, refl, refl);
+}
+  where
+    finds_it : (room ≡ room_of (Edited 1 put_one ∷ [])) ⊎ ((true ≡ true) × (room ≡ room_behind 7 (Edited 1 put_one ∷ [])))
+    finds_it = elim finds as (λ _. (room ≡ room_of (Edited 1 put_one ∷ [])) ⊎ ((true ≡ true) × (room ≡ room_behind 7 (Edited 1 put_one ∷ [])))) [
+      | inl same ↦ inl same
+      | inr alone ↦ inr (refl, alone)
+    ]
+
+pub checkpoint_is_cut : CheckpointIsCut
+checkpoint_is_cut = (cuts _ (inl refl), cuts _ (inr refl))

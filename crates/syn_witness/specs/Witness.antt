@@ -1,5 +1,5 @@
 -- Runs that the definitions are to allow: from three formatted disks that have just been opened, each step of the world.
-use Rattle.std.specs.Prelude.{ℕ, ◌≡◌, Bool, true, false, List, [], ◌∷◌, ◌++◌, None, Some, map, length, replicate}
+use Rattle.std.specs.Prelude.{ℕ, ◌-◌, ◌≡◌, Bool, true, false, List, [], ◌∷◌, ◌++◌, None, Some, map, length, replicate}
 use Rattle.syn_model.specs.Rows.{a_name}
 use Rattle.syn_model.specs.Path.{Path}
 use Rattle.syn_model.specs.Refusal.{NoAnswer, Device, Halted}
@@ -12,9 +12,9 @@ use Rattle.syn_headline.specs.Network.{Left, Right}
 use Rattle.syn_headline.specs.Acknowledged.{Ack, Happened, Kept_by, Stores}
 use Rattle.syn_headline.specs.Report.{Report, Complete, Incomplete}
 use Rattle.syn_headline.specs.Arms.{unarmed}
-use Rattle.syn_headline.specs.World.{World, At, Step, Edits, Start, Deliver, Stop, Coordinator, Tick, Open, Fail, Reopen, Up, SideMachine, Runs}
+use Rattle.syn_headline.specs.World.{World, At, Step, Edits, Start, Deliver, Stop, Coordinator, Tick, Open, Fail, Checkpoint, Reopen, Up, SideMachine, Runs}
 use Rattle.syn_headline.specs.Headline.{IsStart, formatted, stores_of, IsQuietSession, UntouchedSince}
-use Rattle.syn_headline.specs.Side.{token_of, room_behind}
+use Rattle.syn_headline.specs.Side.{token_of, record_size, room_behind}
 use Rattle.syn_witness.specs.Rows.{new_side}
 
 -- what the image of no events leaves of a half of the disk
@@ -78,6 +78,15 @@ FailedEdit acknowledged history =
 
 abbrev pub FailIsRefused : Type 0
 FailIsRefused = FailedEdit (Happened Left (Edited 1 put_one) ∷ []) (Edited 1 put_one ∷ []) × FailedEdit [] []
+
+-- a stop after nine device calls comes in a checkpoint, after the four of an edit: the opening finds the journal as the edit left it, or the image alone
+abbrev pub CutCheckpoint : ℕ → Type 0
+CutCheckpoint room =
+    IsWitness (Stop (At Left) 9 ∷ Edits Left 1 put_one ∷ Checkpoint (At Left) ∷ Open (At Left) ∷ []) 0 (Happened Left (Edited 1 put_one) ∷ []) []
+    (λ world. (world.left.status ≡ Up) × (world.left.side.history ≡ Edited 1 put_one ∷ []) × (world.left.room ≡ room))
+
+abbrev pub CheckpointIsCut : Type 0
+CheckpointIsCut = CutCheckpoint (new_room - record_size (Edited 1 put_one)) × CutCheckpoint (room_behind 7 (Edited 1 put_one ∷ []))
 
 -- a session that is never answered: its requests are sent again eight times, and the ninth tick ends it
 abbrev pub unanswered : Report

@@ -2,7 +2,7 @@
 #![tactic(auto)]
 
 ghost use Rattle.syn_witness.specs.Rows.{SideRows};
-ghost use Rattle.syn_witness.specs.Witness.{OpenedIsStart, NewRoomIs, StopIsRecovered, FailIsRefused, SilenceEnds, FileIsCarried, FilesAreExchanged, CarriedIsMarkedLater};
+ghost use Rattle.syn_witness.specs.Witness.{OpenedIsStart, NewRoomIs, StopIsRecovered, FailIsRefused, CheckpointIsCut, SilenceEnds, FileIsCarried, FilesAreExchanged, CarriedIsMarkedLater};
 
 /// What a side answers in worked examples, which its definition gives.
 pub fn examples()
@@ -10,13 +10,15 @@ pub fn examples()
 {}
 
 /// Runs from three formatted disks, step by step, that the definitions of a run allow: a stop while an edit is written and its
-/// recovery, an edit whose device call fails and what a reopening gives, a session that nobody answers, a whole session over one file, one that carries a file each way, and one that marks
+/// recovery, an edit whose device call fails and what a reopening gives, a checkpoint that is cut
+/// off, a session that nobody answers, a whole session over one file, one that carries a file each way, and one that marks
 /// what an earlier session carried and did not record.
 pub fn witnesses()
     ensures start { OpenedIsStart }
     ensures room { NewRoomIs }
     ensures recovered { StopIsRecovered }
     ensures failed { FailIsRefused }
+    ensures checkpoint { CheckpointIsCut }
     ensures ended { SilenceEnds }
     ensures carried { FileIsCarried }
     ensures exchanged { FilesAreExchanged }

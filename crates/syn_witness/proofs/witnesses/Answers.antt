@@ -1,4 +1,4 @@
-use Rattle.syn_witness.proofs.FailLemmas.{fail_is_refused}
+use Rattle.syn_witness.proofs.FailLemmas.{fail_is_refused, checkpoint_is_cut}
 use Rattle.syn_witness.proofs.WitnessLemmas.{opened_is_start, new_room_is, stop_is_recovered, silence_ends}
 use Rattle.syn_witness.proofs.WitnessSession.{file_is_carried}
 use Rattle.syn_witness.proofs.ExchangeLemmas.{files_are_exchanged}
@@ -28,3 +28,6 @@ returns-clause-failed c = fail_is_refused
 
 pub returns-clause-room : goal.returns-clause-room
 returns-clause-room c = new_room_is
+
+pub returns-clause-checkpoint : goal.returns-clause-checkpoint
+returns-clause-checkpoint c = checkpoint_is_cut
