@@ -1,7 +1,7 @@
 //! Each call over a disk in memory: what stands after a stop, and each refusal.
 //!
-//! The helpers have no contracts and hand out plain values, so that a test is proved quickly. A put or an
-//! opening that was refused for want of memory is made again, so the tests can be run with an allocation failing.
+//! The helpers have no contracts and hand out plain values, so that a test is proved quickly. What becomes of a call
+//! whose memory is refused is looked at by `bench/fail_alloc`.
 use super::*;
 use std::alloc::Global;
 use std::test::Fail;
@@ -30,20 +30,11 @@ fn new_replica(alloc: Global) -> Option<TestReplica> {
 }
 
 fn restarted(alloc: Global, replica: TestReplica) -> Option<TestReplica> {
-    match Replica::open(alloc, replica.into_disk().restart(), Some(PAIR)) {
-        Ok(replica) => Some(replica),
-        Err((ReplicaError::Memory, disk)) => Replica::open(alloc, disk, Some(PAIR)).ok(),
-        Err(_) => None,
-    }
+    Replica::open(alloc, replica.into_disk().restart(), Some(PAIR)).ok()
 }
 
-// The refusal of an opening. It is made again where memory was refused.
+// The refusal of an opening, or 0.
 fn open_number(alloc: Global, disk: Cut<MemDisk>, pair: Option<u64>) -> u8 {
-    let disk = match Replica::open(alloc, disk, pair) {
-        Ok(_) => return 0,
-        Err((ReplicaError::Memory, disk)) => disk,
-        Err((refusal, _)) => return refusal.number(),
-    };
     match Replica::open(alloc, disk, pair) {
         Ok(_) => 0,
         Err((refusal, _)) => refusal.number(),
@@ -79,7 +70,7 @@ fn edit_of(alloc: Global, ask: Ask<'_>) -> Option<Edit> {
 }
 
 // The refusal of an edit, or 0.
-fn edit_once(alloc: Global, replica: &mut TestReplica, ask: Ask<'_>) -> u8 {
+fn edit(alloc: Global, replica: &mut TestReplica, ask: Ask<'_>) -> u8 {
     let Some(edit) = edit_of(alloc, ask) else {
         return 11;
     };
@@ -89,22 +80,12 @@ fn edit_once(alloc: Global, replica: &mut TestReplica, ask: Ask<'_>) -> u8 {
     }
 }
 
-// The refusal of an edit, or 0. It is made again where memory was refused and the replica is as it was.
-fn edit(alloc: Global, replica: &mut TestReplica, ask: Ask<'_>) -> u8 {
-    let before = (replica.position(), replica.room());
-    let answer = edit_once(alloc, replica, ask);
-    if answer == 11 && (replica.position(), replica.room()) == before {
-        edit_once(alloc, replica, ask)
-    } else {
-        answer
-    }
-}
-
 fn put(alloc: Global, replica: &mut TestReplica, path: &str, bytes: &[u8]) -> u8 {
     edit(alloc, replica, Ask::Put(path, bytes))
 }
 
-fn get_once(alloc: Global, replica: &TestReplica, path: &str) -> Result<u8, u8> {
+// The first byte of the file at the path, or the refusal.
+fn get(alloc: Global, replica: &TestReplica, path: &str) -> Result<u8, u8> {
     let Ok(path) = Path::parse(alloc, path) else {
         return Err(11);
     };
@@ -115,29 +96,14 @@ fn get_once(alloc: Global, replica: &TestReplica, path: &str) -> Result<u8, u8> 
     }
 }
 
-// The first byte of the file at the path, or the refusal. It is asked for again where memory was refused.
-fn get(alloc: Global, replica: &TestReplica, path: &str) -> Result<u8, u8> {
-    match get_once(alloc, replica, path) {
-        Err(11) => get_once(alloc, replica, path),
-        answer => answer,
-    }
-}
-
-fn list_once(alloc: Global, replica: &TestReplica, path: &str) -> Result<usize, u8> {
+// How many names the directory has, or the refusal.
+fn list(alloc: Global, replica: &TestReplica, path: &str) -> Result<usize, u8> {
     let Ok(path) = Path::parse(alloc, path) else {
         return Err(11);
     };
     match replica.list(alloc, &path) {
         Ok(names) => Ok(names.len()),
         Err(refusal) => Err(refusal.number()),
-    }
-}
-
-// How many names the directory has, or the refusal. It is asked for again where memory was refused.
-fn list(alloc: Global, replica: &TestReplica, path: &str) -> Result<usize, u8> {
-    match list_once(alloc, replica, path) {
-        Err(11) => list_once(alloc, replica, path),
-        answer => answer,
     }
 }
 
