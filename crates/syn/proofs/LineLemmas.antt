@@ -10,9 +10,10 @@ use Rattle.clap.specs.declared.parser.matches.ArgMatches.TheViews.{out-ArgMatche
 use Rattle.clap.proofs.OnLiterals.{clap_on_literals}
 use Rattle.clap.proofs.WalkLemmas.{first_value-rows}
 use Rattle.syn.specs.App.{syn_app}
-use Rattle.syn.specs.Reads.{Asks, AsksHelp, HasText, IfUsage, IsMistake, IsRequest, IsFormat, IsEdit, IsValue, NothingReads, Reads, ReadsRows}
+use Rattle.syn.specs.Reads.{Asks, AsksHelp, HasText, IfUsage, IsMistake, IsRequest, IsFormat, IsEdit, IsEditName, IsRight, IsValue, IsWanting, IfValue, Lacks, NothingReads, Reads, ReadsRows}
 use Rattle.syn.specs.declared.line.Line.{Line}
 use Rattle.syn.specs.declared.line.Line.TheVariants.{Format, Put, MakeDir, Remove, Show}
+use Rattle.syn.specs.declared.line.ValueName.{ValueName}
 use Rattle.syn.specs.declared.line.LineError.{LineError}
 use Rattle.syn.specs.declared.line.LineError.TheVariants.{Usage, Value, Memory}
 
@@ -76,12 +77,22 @@ pub reads_found : (found : Option (Text × List Row)) (name : Text) (rows : List
     → ReadsRows name rows line → Reads found line
 reads_found found name rows line same read = let P : Option (Text × List Row) → Type 0 = λ f. Reads f line in subst P (sym same) read
 
+pub IfValue-weaker : (error : LineError) (P Q : ValueName → Type 0) → ((value : ValueName) → P value → Q value) → IfValue error P → IfValue error Q
+IfValue-weaker (Usage e) P Q h p = tt
+IfValue-weaker (Value value) P Q h p = h value p
+IfValue-weaker Memory P Q h p = tt
+
+-- the error of a value that is told is of it
+pub of_value : {T : Type 0} (r : Result T LineError) (value : ValueName) (P : ValueName → Type 0) → IfErr r (λ e. e ≡ Value value) → OnErr r (P value) → IfErr r (λ e. IfValue e P)
+of_value (Ok x) value P is p = tt
+of_value (Err e) value P is p = subst (λ (e : LineError). IfValue e P) (sym is) p
+
 pub value_is : {T : Type 0} (r : Result T LineError) (P Q : Type 0) → OnErr r P → (P → Q) → IfErr r (λ e. IsValue e → Q)
 value_is (Ok x) P Q p h = tt
 value_is (Err e) P Q p h = λ _. h p
 
 -- the names of the commands differ by their first letters
-differ : (a b : Text) → (slice_index a 0 ≡ slice_index b 0 → ⊥) → a ≡ b → ⊥
+pub differ : (a b : Text) → (slice_index a 0 ≡ slice_index b 0 → ⊥) → a ≡ b → ⊥
 differ a b letters e = letters (ap (λ (t : List ℕ). slice_index t 0) e)
 
 pub only_format : (name : Text) (rows : List Row) → name ≡ codes "format"

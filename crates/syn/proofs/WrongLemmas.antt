@@ -1,6 +1,6 @@
 -- Where `clap` finds no fault in the program's words, they name a command with each value that it requires, so a value is wrong
 -- where no line is what they say.
-use Rattle.std.proofs.Common.{◌≡◌, ◌⊎◌, ◌&&◌, ◌||◌, ◌∙◌, ℕ, Bool, cond, true, false, not, List, [], ◌∷◌, length, Option, Some, None, is_some, option_map, codes, inl, inr, refl, sym, ap, subst, arith, true≢false, IfSome}
+use Rattle.std.proofs.Common.{◌≡◌, ◌⊎◌, ◌&&◌, ◌||◌, ◌∙◌, ℕ, Bool, cond, true, false, not, List, [], ◌∷◌, length, Option, Some, None, is_some, option_map, slice_index, codes, inl, inr, refl, sym, ap, subst, arith, true≢false, IfSome}
 use Rattle.std.specs.Borrow.{Bor}
 use Rattle.std.specs.List.{find, fold, list_any}
 use Rattle.std.specs.Option.{option_map_or}
@@ -15,8 +15,10 @@ use Rattle.clap.specs.Walk.{Held, Names, Outcome, Row, Rule, Step, Text, Waiting
 use Rattle.clap.specs.declared.error.kind.ErrorKind.TheVariants.{DisplayHelp, InvalidSubcommand}
 use Rattle.clap.proofs.OnLiterals.{clap_on_literals}
 use Rattle.syn.specs.App.{edit_app, show_app, syn_app, word_app}
-use Rattle.syn.specs.Reads.{HasEditValues, HasFormatValues, IsComplete, IsEdit, IsEditName, IsGiven, IsNoNumber, IsOtherKind, IsWrongIn, IsWrongValue, NothingReads}
-use Rattle.syn.specs.declared.line.Line.TheVariants.{Format, Put, MakeDir, Remove, Show}
+use Rattle.syn.specs.Reads.{HasEditValues, HasFormatValues, IsCommandName, IsComplete, IsEditName, IsGiven, IsWrongIn, IsWrongValue, Lacks}
+use Rattle.syn.specs.declared.line.ValueName.{ValueName}
+use Rattle.syn.specs.declared.line.ValueName.TheVariants.{Command, Kind, Pair, User, File, Path}
+use Rattle.syn.proofs.LineLemmas.{differ}
 use Rattle.syn.proofs.GivenLemmas.{IsFull, full_finished, full_walk, give, given_text, no_faults}
 
 -- ---- `help` is refused, so no walk that is not stops at it
@@ -245,44 +247,62 @@ syn_whole words e = whole (built syn_app) (argument_words syn_app words) sound r
 
 -- ---- a value is wrong
 
-abbrev borrowed : Text → Bor Text
-borrowed text = record { ref_ptr = (0, 0); now = text }
+edit_differs : (name other : Text) → IsEditName name → name ≡ other → (slice_index (codes "put") 0 ≡ slice_index other 0 → ⊥)
+    → (slice_index (codes "mkdir") 0 ≡ slice_index other 0 → ⊥) → (slice_index (codes "rm") 0 ≡ slice_index other 0 → ⊥) → ⊥
+edit_differs name other (inl put) same a b c = differ (codes "put") other a (sym put ∙ same)
+edit_differs name other (inr (inl make_dir)) same a b c = differ (codes "mkdir") other b (sym make_dir ∙ same)
+edit_differs name other (inr (inr remove)) same a b c = differ (codes "rm") other c (sym remove ∙ same)
 
-wrong_format : (rows : List Row) → HasFormatValues rows → NothingReads (Some (codes "format", rows)) → IsOtherKind rows ⊎ IsNoNumber 64 rows (codes "PAIR")
-wrong_format rows (kind, pair, file) nothing = go (bytes_eq kind.0 (codes "replica")) refl
-  where
-    go : (b : Bool) → bytes_eq kind.0 (codes "replica") ≡ b → IsOtherKind rows ⊎ IsNoNumber 64 rows (codes "PAIR")
-    go true same =
-        let is_replica = (bytes_eq-Decides kind.0 (codes "replica")).0 same in
-        inr (pair.0, pair.1, λ n is. nothing (Format n (borrowed file.0)) (refl, (kind.1 ∙ ap Some is_replica, (pair.0, pair.1, is), file.1)))
-    go false same = inl (kind.0, kind.1, λ e. true≢false (sym ((bytes_eq-Decides kind.0 (codes "replica")).1 e) ∙ same))
+no_edit_format : (name : Text) → IsEditName name → name ≡ codes "format" → ⊥
+no_edit_format name edit same =
+    edit_differs name (codes "format") edit same (λ (e : 112 ≡ 102). omega (arith, e)) (λ (e : 109 ≡ 102). omega (arith, e)) (λ (e : 114 ≡ 102). omega (arith, e))
 
--- where no edit is read, the user is no number
-wrong_edit : (name : Text) (rows : List Row) → IsEditName name → HasEditValues rows → NothingReads (Some (name, rows)) → IsNoNumber 32 rows (codes "USER")
-wrong_edit name rows named (file, user, path) nothing = (user.0, user.1, λ n is. go n (file.1, (user.0, user.1, is), path.1) named)
-  where
-    go : (n : ℕ) → IsEdit rows file.0 n path.0 → IsEditName name → ⊥
-    go n edit (inl put) = nothing (Put (borrowed file.0) n (borrowed path.0)) (put, edit)
-    go n edit (inr (inl make_dir)) = nothing (MakeDir (borrowed file.0) n (borrowed path.0)) (make_dir, edit)
-    go n edit (inr (inr remove)) = nothing (Remove (borrowed file.0) n (borrowed path.0)) (remove, edit)
+no_edit_show : (name : Text) → IsEditName name → name ≡ codes "show" → ⊥
+no_edit_show name edit same =
+    edit_differs name (codes "show") edit same (λ (e : 112 ≡ 115). omega (arith, e)) (λ (e : 109 ≡ 115). omega (arith, e)) (λ (e : 114 ≡ 115). omega (arith, e))
 
-shows : (rows : List Row) → IsGiven rows (codes "FILE") → NothingReads (Some (codes "show", rows)) → ⊥
-shows rows file nothing = go (first_of (codes "PATH") rows) refl
-  where
-    go : (o : Option Text) → first_of (codes "PATH") rows ≡ o → ⊥
-    go None is = nothing (Show (borrowed file.0) None) (refl, file.1, is)
-    go (Some path) is = nothing (Show (borrowed file.0) (Some (borrowed path))) (refl, file.1, is)
+no_show_format : (name : Text) → name ≡ codes "show" → name ≡ codes "format" → ⊥
+no_show_format name show same = differ (codes "show") (codes "format") (λ (e : 115 ≡ 102). omega (arith, e)) (sym show ∙ same)
 
-wrong_in : (name : Text) (rows : List Row) → IsComplete name rows → NothingReads (Some (name, rows)) → IsWrongIn name rows
-wrong_in name rows (inl format) nothing =
-    inl (format.0, format.1, wrong_format rows format.1 (subst (λ (n : Text). NothingReads (Some (n, rows))) format.0 nothing))
-wrong_in name rows (inr (inl edit)) nothing = inr (edit.0, edit.1, wrong_edit name rows edit.0 edit.1 nothing)
-wrong_in name rows (inr (inr show)) nothing = absurd (shows rows show.1 (subst (λ (n : Text). NothingReads (Some (n, rows))) show.0 nothing))
+format_values : (name : Text) (rows : List Row) → IsComplete name rows → name ≡ codes "format" → HasFormatValues rows
+format_values name rows (inl format) same = format.1
+format_values name rows (inr (inl edit)) same = absurd (no_edit_format name edit.0 same)
+format_values name rows (inr (inr show)) same = absurd (no_show_format name show.0 same)
 
--- a value is wrong where the words have no fault, and no line is what they say
-pub wrong_found : (words : List Text) (name : Text) (rows : List Row) → fault_of syn_app words ≡ [] → subcommand_of syn_app words ≡ Some (name, rows)
-    → NothingReads (Some (name, rows)) → IsWrongValue (subcommand_of syn_app words)
-wrong_found words name rows taken found nothing =
+edit_values_of : (name : Text) (rows : List Row) → IsComplete name rows → IsEditName name → HasEditValues rows
+edit_values_of name rows (inl format) edit = absurd (no_edit_format name edit format.0)
+edit_values_of name rows (inr (inl edit)) named = edit.1
+edit_values_of name rows (inr (inr show)) edit = absurd (no_edit_show name edit show.0)
+
+has_file : (name : Text) (rows : List Row) → IsComplete name rows → IsGiven rows (codes "FILE")
+has_file name rows (inl format) = format.1.2
+has_file name rows (inr (inl edit)) = edit.1.0
+has_file name rows (inr (inr show)) = show.1
+
+is_command : (name : Text) (rows : List Row) → IsComplete name rows → IsCommandName name
+is_command name rows (inl format) = inl format.0
+is_command name rows (inr (inl edit)) = inr (inl edit.0)
+is_command name rows (inr (inr show)) = inr (inr show.0)
+
+-- of the values that are given, only these can be wrong
+wrong_in : (name : Text) (rows : List Row) (value : ValueName) → IsComplete name rows → Lacks name rows value → IsWrongIn name rows value
+wrong_in name rows Command complete lacks = absurd (lacks (is_command name rows complete))
+wrong_in name rows Kind complete lacks =
+    let values = format_values name rows complete lacks.0 in
+    (lacks.0, values, (values.0.0, values.0.1, lacks.1 values.0.0 values.0.1))
+wrong_in name rows Pair complete lacks =
+    let values = format_values name rows complete lacks.0 in
+    (lacks.0, values, (values.1.0, values.1.1, λ n is. lacks.1 values.1.0 values.1.1 (n, is)))
+wrong_in name rows User complete lacks =
+    let values = edit_values_of name rows complete lacks.0 in
+    (lacks.0, values, (values.1.0, values.1.1, λ n is. lacks.1 values.1.0 values.1.1 (n, is)))
+wrong_in name rows File complete lacks = let file = has_file name rows complete in absurd (lacks file.0 file.1 tt)
+wrong_in name rows Path complete lacks = let path = (edit_values_of name rows complete lacks.0).2 in absurd (lacks.1 path.0 path.1 tt)
+
+-- where the words have no fault, what the command lacks is wrong
+pub wrong_found : (words : List Text) (name : Text) (rows : List Row) (told : ValueName) → fault_of syn_app words ≡ [] → subcommand_of syn_app words ≡ Some (name, rows)
+    → Lacks name rows told → IsWrongValue (subcommand_of syn_app words) told
+wrong_found words name rows told taken found lacks =
     let complete = subst IsWhole found (syn_whole words taken) in
-    let P : Option (Text × List Row) → Type 0 = IsWrongValue in
-    subst P (sym found) (wrong_in name rows complete nothing)
+    let P : Option (Text × List Row) → Type 0 = λ o. IsWrongValue o told in
+    subst P (sym found) (wrong_in name rows told complete lacks)

@@ -7,6 +7,8 @@ use Rattle.clap.specs.declared.error.kind.ErrorKind.TheVariants.{DisplayHelp, Di
 use Rattle.syn.specs.App.{syn_app}
 use Rattle.syn.specs.declared.line.Line.{Line}
 use Rattle.syn.specs.declared.line.Line.TheVariants.{Format, Put, MakeDir, Remove, Show}
+use Rattle.syn.specs.declared.line.ValueName.{ValueName}
+use Rattle.syn.specs.declared.line.ValueName.TheVariants.{Command, Kind, Pair, User, File, Path}
 use Rattle.syn.specs.declared.line.LineError.{LineError}
 use Rattle.syn.specs.declared.line.LineError.TheVariants.{Usage, Value, Memory}
 
@@ -75,14 +77,48 @@ IsOtherKind rows = (kind : Text) × HasText rows (codes "KIND") kind × (kind �
 abbrev pub IsNoNumber : ℕ → List Row → Text → Type 0
 IsNoNumber bits rows id = (text : Text) × HasText rows id text × ((n : ℕ) → ¬ IsNumber bits text n)
 
--- each value is given, and one is wrong: the KIND or the PAIR of a format, or the USER of an edit
-abbrev pub IsWrongIn : Text → List Row → Type 0
-IsWrongIn name rows = ((name ≡ codes "format") × HasFormatValues rows × (IsOtherKind rows ⊎ IsNoNumber 64 rows (codes "PAIR")))
-    ⊎ (IsEditName name × HasEditValues rows × IsNoNumber 32 rows (codes "USER"))
+-- each value is given, and this one is wrong: the KIND or the PAIR of a format, or the USER of an edit
+abbrev pub IsWrongIn : Text → List Row → ValueName → Type 0
+IsWrongIn name rows Kind = (name ≡ codes "format") × HasFormatValues rows × IsOtherKind rows
+IsWrongIn name rows Pair = (name ≡ codes "format") × HasFormatValues rows × IsNoNumber 64 rows (codes "PAIR")
+IsWrongIn name rows User = IsEditName name × HasEditValues rows × IsNoNumber 32 rows (codes "USER")
+IsWrongIn name rows _ = ⊥
 
-abbrev pub IsWrongValue : Option (Text × List Row) → Type 0
-IsWrongValue None = ⊥
-IsWrongValue (Some found) = IsWrongIn found.0 found.1
+abbrev pub IsWrongValue : Option (Text × List Row) → ValueName → Type 0
+IsWrongValue None value = ⊥
+IsWrongValue (Some found) value = IsWrongIn found.0 found.1 value
+
+-- its id for `clap`
+abbrev pub name_of : ValueName → Text
+name_of Command = codes "COMMAND"
+name_of Kind = codes "KIND"
+name_of Pair = codes "PAIR"
+name_of User = codes "USER"
+name_of File = codes "FILE"
+name_of Path = codes "PATH"
+
+-- what is right for a value, where a text is given for it
+abbrev pub IsRight : ValueName → Text → Type 0
+IsRight Kind text = text ≡ codes "replica"
+IsRight Pair text = (n : ℕ) × IsNumber 64 text n
+IsRight User text = (n : ℕ) × IsNumber 32 text n
+IsRight _ text = Unit {0}
+
+-- no text that is right is given for the value
+abbrev pub IsWanting : List Row → ValueName → Type 0
+IsWanting rows value = (text : Text) → HasText rows (name_of value) text → ¬ IsRight value text
+
+abbrev pub IsCommandName : Text → Type 0
+IsCommandName name = (name ≡ codes "format") ⊎ (IsEditName name ⊎ (name ≡ codes "show"))
+
+-- the value is one of the command, and is wanting, or there is no such command
+abbrev pub Lacks : Text → List Row → ValueName → Type 0
+Lacks name rows Command = ¬ IsCommandName name
+Lacks name rows Kind = (name ≡ codes "format") × IsWanting rows Kind
+Lacks name rows Pair = (name ≡ codes "format") × IsWanting rows Pair
+Lacks name rows User = IsEditName name × IsWanting rows User
+Lacks name rows File = IsWanting rows File
+Lacks name rows Path = IsEditName name × IsWanting rows Path
 
 -- the words ask for what the line says: `clap` takes them, and their values are the line's
 pub record Asks (words : List Text) (line : Line) : Type 0 where
@@ -95,8 +131,13 @@ AsksHelp words = IsAmong DisplayHelp (fault_of syn_app words) ⊎ IsAmong Displa
 
 -- a value is wrong
 abbrev pub IsValue : LineError → Type 0
-IsValue (Value id) = Unit {0}
+IsValue (Value value) = Unit {0}
 IsValue _ = ⊥
+
+-- a fact of the value that is wrong
+abbrev pub IfValue : LineError → (ValueName → Type 0) → Type 0
+IfValue (Value value) P = P value
+IfValue _ P = Unit {0}
 
 -- a fact of what `clap` tells, where it refuses the words
 abbrev pub IfUsage : LineError → (Error → Type 0) → Type 0

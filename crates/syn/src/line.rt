@@ -1,4 +1,6 @@
 //! What a command line asks for.
+ghost use Rattle.std.specs.Prelude.{◌≡◌};
+ghost use Rattle.syn.specs.Reads.{name_of};
 
 use thiserror::Error;
 
@@ -35,6 +37,33 @@ pub enum Line<'a> {
     },
 }
 
+/// What a word of a command stands for.
+#[derive(Clone, Copy, Debug, PartialEq, Eq)]
+pub enum ValueName {
+    Command,
+    Kind,
+    Pair,
+    User,
+    File,
+    Path,
+}
+
+impl ValueName {
+    /// The name as the help prints it, which is its id for `clap`.
+    pub fn as_str(self) -> &'static str
+        ensures { result.now ≡ name_of self }
+    {
+        match self {
+            ValueName::Command => "COMMAND",
+            ValueName::Kind => "KIND",
+            ValueName::Pair => "PAIR",
+            ValueName::User => "USER",
+            ValueName::File => "FILE",
+            ValueName::Path => "PATH",
+        }
+    }
+}
+
 /// Why the words are no command.
 #[derive(Debug, Drop, Error)]
 pub enum LineError {
@@ -42,8 +71,8 @@ pub enum LineError {
     #[error("{0}")]
     Usage(clap::Error),
     /// The value of this name is not what it has to be.
-    #[error("error: invalid value for '<{0}>': KIND is 'replica', PAIR and USER are decimal numbers\n\nFor more information, try '--help'.\n")]
-    Value(&'static str),
+    #[error("error: invalid value for '<{}>': KIND is 'replica', PAIR and USER are decimal numbers\n\nFor more information, try '--help'.\n", .0.as_str())]
+    Value(ValueName),
     /// Memory was refused.
     #[error("Memory")]
     Memory,

@@ -3,6 +3,7 @@ use Rattle.std.proofs.Common.{◌≡◌, true, false, List, [], ◌∷◌, ◌++
 use Rattle.std.specs.Prelude.{Contains}
 use Rattle.std.specs.FinMap.{get}
 use Rattle.std.proofs.lemmas.List.Elements.{All-contains}
+use Rattle.std.proofs.lemmas.Bool.{and_parts}
 use Rattle.syn_model.specs.Path.{Name, Path, child}
 use Rattle.syn_model.specs.Tree.{Tree, Directory, subtree, is_directory}
 use Rattle.syn_model.specs.Mark.{mark}
@@ -10,13 +11,14 @@ use Rattle.syn_model.specs.Dirty.{dirty, is_same_tree}
 use Rattle.syn_model.specs.Reconcile.{is_directory_in_both, is_relevant, is_alike}
 use Rattle.syn_model.specs.Decision.{Item, MarkSame, MarkDir, Decision, Clean, Do, DoAndGoOn, GoOn, GoesOn, IsReached, decision, path_of}
 use Rattle.syn_model.specs.Plan.{plan, IsDecided, is_mark_dir, scan_of, CanBePlanned, Trees}
-use Rattle.syn_model.proofs.DirtyLemmas.{both_true, dirty-safe, tree_itself}
+use Rattle.syn_model.proofs.DirtyLemmas.{dirty-safe, tree_itself}
 use Rattle.syn_model.proofs.MarkLemmas.{mark-subtree}
 use Rattle.syn_model.proofs.TreeLemmas.{get-subtree, same_tree, subtree-append}
 use Rattle.syn_model.proofs.SyncLemmas.{directory_is}
 use Rattle.syn_model.proofs.PlanOrder.{plan_is_decided, reached_below}
-use Rattle.syn_model.proofs.PlanCover.{plan_has_decided}
-use Rattle.syn_model.proofs.ResultLemmas.{by_decision, marked-directory, nothing_relevant}
+use Rattle.syn_model.proofs.PlanCover.{plan_has_decided, not_clean}
+use Rattle.syn_model.proofs.QuietLemmas.{directory_of_mark}
+use Rattle.syn_model.proofs.DecisionLemmas.{by_decision, nothing_relevant}
 use Rattle.syn_headline.specs.Network.{Which, Left, Right}
 use Rattle.syn_headline.proofs.AnyOrder.{not_below, two_above}
 use Rattle.syn_headline.proofs.CarriedOut.{recorded_file, HasCarriedOut, items_of, alone_of}
@@ -36,18 +38,14 @@ module _ (found : Which → Tree) (o : Tree) (plannable : (side : Which) → Can
   decided_at p = decision (scan_of a) (scan_of b) o p
 
   abbrev Reached : Path → Type 0
-  Reached = IsReached (scan_of a) (scan_of b) o
+  Reached = IsReached decided_at
 
-  decided : (x : Item) → Contains items x → IsDecided (scan_of a) (scan_of b) o x
-  decided x c = All-contains (IsDecided (scan_of a) (scan_of b) o) items x (plan_is_decided (scan_of a) (scan_of b) o) c
+  decided : (x : Item) → Contains items x → IsDecided decided_at x
+  decided x c = All-contains (IsDecided decided_at) items x (plan_is_decided (scan_of a) (scan_of b) o) c
 
   -- no part is put above a path that is reached
   none_above : (p : Path) (x : Item) (n : Name) (r : Path) → Reached p → Contains items x → is_mark_dir x ≡ false → p ≡ path_of x ++ n ∷ r → ⊥
   none_above p x n r reached in_x file e = not_below (scan_of a) (scan_of b) o x (decided x in_x) file (reached (path_of x) n r e)
-
-  not_clean : (d : Decision) (x : Item) → d ≡ Clean → (d ≡ Do x) ⊎ (d ≡ DoAndGoOn x) → ⊥
-  not_clean d x e (inl y) = cc
-  not_clean d x e (inr y) = cc
 
   -- nor is there an item at or below one that is clean
   none_at : (p : Path) (x : Item) (rest : Path) → decided_at p ≡ Clean → Contains items x → path_of x ≡ p ++ rest → ⊥
@@ -75,7 +73,7 @@ module _ (found : Which → Tree) (o : Tree) (plannable : (side : Which) → Can
   clean_same p rest clean = sym (get-subtree o p rest) ∙ (ap (λ t. get t rest) (sym (dirty-safe (scan_of a) o p clean)) ∙ get-subtree (mark a) p rest)
 
   marked_directory : (p : Path) → is_directory_in_both a b p ≡ true → get (mark a) p ≡ Some Directory
-  marked_directory p z = directory_is (get (mark a) p) (marked-directory a p ∙ (both_true (is_directory a p) (is_directory b p) z).0)
+  marked_directory p z = directory_is (get (mark a) p) (directory_of_mark a p ∙ (and_parts (is_directory a p) (is_directory b p) z).0)
 
   not_decided : (d : Decision) (x : Item) → d ≡ GoOn → (d ≡ Do x) ⊎ (d ≡ DoAndGoOn x) → ⊥
   not_decided d x e (inl y) = cc
@@ -125,7 +123,7 @@ module _ (found : Which → Tree) (o : Tree) (plannable : (side : Which) → Can
   marked_here (n ∷ r) p reached way =
       let at : child p n ++ r ≡ p ++ n ∷ r = append_assoc p (n ∷ []) r in
       let deeper : GoesOn (decided_at p) → get s.archive (p ++ n ∷ r) ≡ get (mark a) (p ++ n ∷ r) = λ on.
-      subst (λ q. get s.archive q ≡ get (mark a) q) at (marked_here r (child p n) (reached_below (scan_of a) (scan_of b) o p n reached on)
+      subst (λ q. get s.archive q ≡ get (mark a) q) at (marked_here r (child p n) (reached_below decided_at p n reached on)
       (λ front back e. subst SameOrBoth (sym (append_assoc p (n ∷ []) front)) (way (n ∷ front) back (ap (λ w. n ∷ w) e)))) in
       by_decision a b o (λ d. decided_at p ≡ d → get s.archive (p ++ n ∷ r) ≡ get (mark a) (p ++ n ∷ r)) p
       (λ x y e. clean_stays p (n ∷ r) reached e ∙ clean_same p (n ∷ r) x)

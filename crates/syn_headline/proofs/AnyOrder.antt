@@ -5,10 +5,10 @@ use Rattle.std.specs.FinMap.{get}
 use Rattle.std.proofs.lemmas.List.Elements.{All-contains}
 use Rattle.syn_model.specs.Path.{Path, strip_prefix}
 use Rattle.syn_model.specs.Tree.{Tree, Directory, subtree, replace}
-use Rattle.syn_model.specs.Dirty.{Scan, dirty, is_same_tree}
+use Rattle.syn_model.specs.Dirty.{Scan, dirty, is_same_tree, is_unstable}
 use Rattle.syn_model.specs.Reconcile.{is_directory_in_both}
 use Rattle.syn_model.specs.Tree.{is_directory}
-use Rattle.syn_model.specs.Decision.{Item, MarkDir, Do, DoAndGoOn, GoesOn, decision, is_unstable, path_of}
+use Rattle.syn_model.specs.Decision.{Item, MarkDir, Do, DoAndGoOn, GoesOn, decision, path_of}
 use Rattle.syn_model.specs.Plan.{plan, IsDecided as IsDecidedAt, is_mark_dir}
 use Rattle.syn_model.proofs.PathLemmas.{strip_prefix-append, strip_prefix-is}
 use Rattle.syn_model.proofs.TreeLemmas.{get-subtree, same_tree, within, beside}
@@ -30,7 +30,7 @@ goes_on_at_directory false false c d false true g p x h = cc
 goes_on_at_directory false false c d false false true p x h = cc
 goes_on_at_directory false false c d false false false p x h = cc
 
-pub not_below : (l r : Scan) (o : Tree) (x : Item) → IsDecidedAt l r o x → is_mark_dir x ≡ false → GoesOn (decision l r o (path_of x)) → ⊥
+pub not_below : (l r : Scan) (o : Tree) (x : Item) → IsDecidedAt (decision l r o) x → is_mark_dir x ≡ false → GoesOn (decision l r o (path_of x)) → ⊥
 not_below l r o x d file on = elim d.decided as (λ _. ⊥) [
   | inl e ↦ subst GoesOn e on
   | inr e ↦
@@ -41,8 +41,8 @@ not_below l r o x d file on = elim d.decided as (λ _. ⊥) [
 pub plan_stands_alone : (l r : Scan) (o : Tree) → StandAlone (plan l r o)
 plan_stands_alone l r o x y rest in_x in_y file at = alone rest at
   where
-    decided : (z : Item) → Contains (plan l r o) z → IsDecidedAt l r o z
-    decided z c = All-contains (IsDecidedAt l r o) (plan l r o) z (plan_is_decided l r o) c
+    decided : (z : Item) → Contains (plan l r o) z → IsDecidedAt (decision l r o) z
+    decided z c = All-contains (IsDecidedAt (decision l r o)) (plan l r o) z (plan_is_decided l r o) c
 
     alone : (rest : Path) → path_of y ≡ path_of x ++ rest → x ≡ y
     alone [] e = same_item (decision l r o (path_of x)) x y (decided x in_x).decided

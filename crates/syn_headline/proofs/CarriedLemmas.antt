@@ -4,6 +4,7 @@ use Rattle.std.specs.Prelude.{All}
 use Rattle.std.specs.FinMap.{get}
 use Rattle.std.proofs.lemmas.List.{length-append, take-append-drop}
 use Rattle.std.proofs.lemmas.List.Elements.{All-head, All-tail}
+use Rattle.std.proofs.lemmas.Bool.{or_right}
 use Rattle.syn_model.specs.Path.{Name, Path, strip_prefix, parent, is_root, comparable}
 use Rattle.syn_model.specs.Tree.{Tree, Directory, StandsIn, subtree, replace, is_directory, is_directory_content}
 use Rattle.syn_model.specs.Refusal.{OldSession}
@@ -16,7 +17,6 @@ use Rattle.syn_headline.specs.Acknowledged.{history_of}
 use Rattle.syn_headline.specs.Headline.{UntouchedSince, CarriedIsMarked, OfEachRun}
 use Rattle.syn_model.proofs.PathLemmas.{strip_prefix-is}
 use Rattle.syn_model.proofs.TreeLemmas.{subtree-replace, beside}
-use Rattle.syn_model.proofs.DirtyLemmas.{or_true}
 use Rattle.syn_model.proofs.HistoryLemmas.{first_cause-none, place-stands, tree_of-append}
 use Rattle.syn_model.proofs.PlanSteps.{replaced_beside}
 use Rattle.syn_headline.proofs.PlanLemmas.{last_name, parent-child}
@@ -104,5 +104,5 @@ runs_mark_carried old new steps s g side first rest token path since fetched u r
     let source = source_is (history_of found (other side)) fetched path source_untouched target.0 directory in
     let both = on_both (λ which. (subtree (tree_of (history_of found which)) path ≡ u) × (is_directory (tree_of (history_of found which)) (parent path) ≡ true)) side
     (ap (λ h. subtree (tree_of h) path) is ∙ target.1, ap (λ h. is_directory (tree_of h) (parent path)) is ∙ target.2) (source.0 ∙ sym held, source.1) in
-    let relevant = or_true (is_root path) (is_directory (tree_of found.left) (parent path) && is_directory (tree_of found.right) (parent path)) (ap₂ (λ x y. x && y) (both Left).1 (both Right).1) in
+    let relevant = or_right (is_root path) (is_directory (tree_of found.left) (parent path) && is_directory (tree_of found.right) (parent path)) (ap₂ (λ x y. x && y) (both Left).1 (both Right).1) in
     marks_alike old new steps s g report found left q path relevant ((both Left).0 ∙ sym (both Right).0) ∙ ap mark (both Left).0

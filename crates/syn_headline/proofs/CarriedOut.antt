@@ -16,7 +16,7 @@ use Rattle.syn_model.proofs.MarkLemmas.{mark-subtree}
 use Rattle.syn_model.proofs.QuietLemmas.{nothing_below}
 use Rattle.syn_model.proofs.HistoryLemmas.{get-at_root}
 use Rattle.syn_model.proofs.PlanSteps.{item_finds_archive}
-use Rattle.syn_model.proofs.ResultLemmas.{moved-directory}
+use Rattle.syn_model.proofs.DirectoryLemmas.{moved-directory}
 use Rattle.syn_headline.specs.Network.{Which, Left, Right, other}
 use Rattle.syn_headline.proofs.SoundLemmas.{only_one}
 use Rattle.syn_headline.proofs.AnyOrder.{StandAlone, plan_stands_alone, one_above, put, put_within, IsDone, done_stays, IsCovered, put_covers, IsCoveredToo, put_covers_too, covered_same, covered_same_too, directory_stays, HasMore, more_covers, more_stays, more_directory_stays}

@@ -14,11 +14,11 @@ use Rattle.syn_model.specs.Archive.{Archive, Kept, Recorded, RecordedDir, archiv
 use Rattle.syn_model.specs.Decision.{Item, ToLeft, ToRight, MarkSame, MarkDir, Conflict, path_of}
 use Rattle.syn_model.specs.Plan.{plan as items_by, is_mark_dir, scan_of, Trees, carried_out}
 use Rattle.syn_headline.specs.Network.{Which, Left, Right, other, Sent}
-use Rattle.syn_headline.specs.Planning.{Planned, seen_on, IsPlanOf, WritesTo}
+use Rattle.syn_headline.specs.Planning.{Planned, seen_on, WritesTo}
 use Rattle.syn_headline.proofs.CountLemmas.{IsRecordOf}
 use Rattle.syn_headline.specs.World.{AllCanKeep}
 use Rattle.syn_headline.specs.Headline.{IsNoEdit}
-use Rattle.syn_headline.proofs.Invariant.{Histories}
+use Rattle.syn_headline.proofs.Invariant.{Scans, IsPlanFrom, Histories}
 use Rattle.syn_model.proofs.HistoryLemmas.{tree_of-append}
 use Rattle.syn_model.proofs.QuietLemmas.{none_touches, quiet_rest}
 use Rattle.syn_headline.proofs.PlanLemmas.{planned_is, found_item, writes_at, writes_path}
@@ -72,9 +72,9 @@ not_same_to : (side : Which) (path : Path) → is_to side (MarkSame path) ≡ tr
 not_same_to Left path e = true≢false (sym e)
 not_same_to Right path e = true≢false (sym e)
 
-module _ (first later : Which → History) (o : Tree) (parents : HasParents o) (sent : Sent) (session : ℕ) (plan : List Planned) (is : IsPlanOf sent session o plan) (histories : Histories)
+module _ (first later : Which → History) (o : Tree) (parents : HasParents o) (sent : Sent) (session : ℕ) (both : Scans) (plan : List Planned) (is : IsPlanFrom sent session o both plan) (histories : Histories)
     (split : (side : Which) → histories side ≡ first side ++ Began session ∷ later side)
-    (shown : (side : Which) → (is.scan side ≡ scan_of (tree_of (first side))) × ((path : Path) → is_directory (is.scan side).marks path ≡ true → is.since side path ≡ length (first side) + 1)) where
+    (shown : (side : Which) → (both.scan side ≡ scan_of (tree_of (first side))) × ((path : Path) → is_directory (both.scan side).marks path ≡ true → both.since side path ≡ length (first side) + 1)) where
   abbrev pub found : Which → Tree
   found side = tree_of (first side)
 
@@ -93,11 +93,11 @@ module _ (first later : Which → History) (o : Tree) (parents : HasParents o) (
     in_items = found_item items plan item planned items_are at
 
     seen_marks : (side : Which) → (seen_on planned side).marks ≡ subtree (mark (found side)) (path_of planned.item)
-    seen_marks side = ((planned_is sent session o plan is item planned at).seen side).0 ∙ ap (λ scan. subtree scan.marks (path_of planned.item)) (shown side).0
+    seen_marks side = ((planned_is sent session o both plan is item planned at).seen side).0 ∙ ap (λ scan. subtree scan.marks (path_of planned.item)) (shown side).0
 
     seen_since : (side : Which) (path : Path) → WritesTo planned.item side path → (s : Which) → (seen_on planned s).since ≡ length (first s) + 1
     seen_since side path w s =
-        let writes = writes_at is.scan is.since o planned side path (λ s. (is.scanned s).tree) (planned_is sent session o plan is item planned at) w (writes_path planned.item side path w) in
+        let writes = writes_at both.scan both.since o planned side path (λ s. (is.scanned s).tree) (planned_is sent session o both plan is item planned at) w (writes_path planned.item side path w) in
         writes.since_is s ∙ (shown s).1 writes.above (writes.above_is s).0
 
   tree_then : (side : Which) → tree_at (histories side) (length (first side) + 1) ≡ found side

@@ -7,7 +7,7 @@ use Rattle.syn_model.specs.Refusal as why
 use Rattle.syn_model.specs.Archive.{Archive, Kept, CanKeep}
 use Rattle.syn_headline.specs.Side.{Request, Reply}
 use Rattle.syn_headline.specs.Network.{Which, Left, Right, Sent, Message, Asks, Answers}
-use Rattle.syn_headline.specs.Planning.{Planned}
+use Rattle.syn_headline.specs.Planning.{Planned, Log}
 use Rattle.syn_headline.specs.Acknowledged.{Ack, Happened, Kept_by, kept_in}
 use Rattle.syn_headline.specs.World.{IsNoItem, RefusesTaken, Up, Halted, Machine, At, Coordinator, World, SideMachine, CoordinatorMachine, set_side, Step, Edits, Start, Deliver, Tick, Checkpoint, Fail, Stop, Open, Reopen, OpensArchive, archive_opened, archive_recovered, refuses_with, edit_causes, start_causes, Starts, Writes, SideGoes, Compacts, Reopens, Calls, side_of, TakesRequest, answered, request_failed, request_cut, side_down, IsDueAfter, IsOver, IsExpected, HasPlan, GoesOnFrom, plan_of, StartsFrom, IsNext, IsNothing, AllCanKeep, CoordinatorGoes, Reports, EndsTaken, EndsUnanswered, TakesAnswer, taken, ignored, coordinator_down, Delivers, OpensMachine, cut_off, Status, set_device, answered_by, is_halted, status_of, UnlessDown, Steps}
 use Rattle.syn_headline.specs.Arms.{Arms}
@@ -18,12 +18,12 @@ use Rattle.syn_headline.proofs.RunLemmas.{was_sent, no_acks}
 -- the session stays or is forgotten as something is kept or not; or it starts, waits or takes an answer
 pub data Course (old new : World) : Type 0 where
   beside : (acks : List Ack) → new.acknowledged ≡ old.acknowledged ++ acks → AllCanKeep old.coordinator.archive (filter_map kept_in acks) →
-      (new.coordinator.running ≡ None) ⊎ ((new.coordinator.running ≡ old.coordinator.running) × (filter_map kept_in acks ≡ [])) → new.reports ≡ old.reports → Course old new
-  starts : CoordinatorGoes old (IsNext old.coordinator.archive) (StartsFrom old.coordinator.archive) new → new.reports ≡ old.reports → Course old new
-  ticks : CoordinatorGoes old IsNothing (GoesOnFrom old.coordinator.running (plan_of old.coordinator.running)) new → Reports old new (plan_of old.coordinator.running) IsNoItem EndsUnanswered → Course old new
-  takes : (from : Which) (session number : ℕ) (reply : Reply) (plan : List Planned) → Contains old.sent (Answers from session number reply) → IsExpected old.coordinator.running from session number →
-      HasPlan old.sent old.coordinator.archive old.coordinator.running plan →
-      CoordinatorGoes old (IsDueAfter old.coordinator.running plan from number reply) (λ running. GoesOnFrom old.coordinator.running plan running × IsOver from number running) new → Reports old new plan (RefusesTaken old new from number plan reply) (EndsTaken old new from number plan reply) → Course old new
+      (new.coordinator.running ≡ None) ⊎ ((new.coordinator.running ≡ old.coordinator.running) × (filter_map kept_in acks ≡ [])) → new.reports ≡ old.reports → new.log ≡ old.log → Course old new
+  starts : CoordinatorGoes old [] (IsNext old.coordinator.archive) (StartsFrom old.coordinator.archive) new → new.reports ≡ old.reports → Course old new
+  ticks : CoordinatorGoes old [] IsNothing (GoesOnFrom old.coordinator.running (plan_of old.coordinator.running)) new → Reports old new (plan_of old.coordinator.running) IsNoItem EndsUnanswered → Course old new
+  takes : (from : Which) (session number : ℕ) (reply : Reply) (plan : List Planned) (logged : Log) → Contains old.sent (Answers from session number reply) → IsExpected old.coordinator.running from session number →
+      HasPlan old.sent old.coordinator.archive old.log old.coordinator.running plan logged →
+      CoordinatorGoes old logged (IsDueAfter old.coordinator.running plan from number reply) (λ running. GoesOnFrom old.coordinator.running plan running × IsOver from number running) new → Reports old new plan (RefusesTaken old new from number plan reply) (EndsTaken old new from number plan reply) → Course old new
 
 -- the first of these, which is no matter of what was refused
 pub record IsAside (old new : World) : Type 0 where
@@ -32,29 +32,31 @@ pub record IsAside (old new : World) : Type 0 where
   pub can : AllCanKeep old.coordinator.archive (filter_map kept_in acks)
   pub runs : (new.coordinator.running ≡ None) ⊎ ((new.coordinator.running ≡ old.coordinator.running) × (filter_map kept_in acks ≡ []))
   pub reports : new.reports ≡ old.reports
+  pub log : new.log ≡ old.log
 
 aside : (old new : World) → IsAside old new → Course old new
-aside old new a = beside a.acks a.added a.can a.runs a.reports
+aside old new a = beside a.acks a.added a.can a.runs a.reports a.log
 
 -- nothing is kept
 nothing_kept : (a : Archive) (kept : List Kept) → kept ≡ [] → AllCanKeep a kept
 nothing_kept a kept e = subst (AllCanKeep a) (sym e) tt
 
 stays : (old new : World) → new ≡ old → Course old new
-stays old new e = beside [] (ap (λ w. w.acknowledged) e ∙ sym (append-nil old.acknowledged)) tt (inr (ap (λ w. w.coordinator.running) e, refl)) (ap (λ w. w.reports) e)
+stays old new e = beside [] (ap (λ w. w.acknowledged) e ∙ sym (append-nil old.acknowledged)) tt (inr (ap (λ w. w.coordinator.running) e, refl)) (ap (λ w. w.reports) e) (ap (λ w. w.log) e)
 
 told : (old made new : World) (reason : Refusal) → IsAside old made → new ≡ refuses_with made reason → IsAside old new
-told old made new reason a e = subst (IsAside old) (sym e) (record { acks = a.acks; added = a.added; can = a.can; runs = a.runs; reports = a.reports })
+told old made new reason a e = subst (IsAside old) (sym e) (record { acks = a.acks; added = a.added; can = a.can; runs = a.runs; reports = a.reports; log = a.log })
 
 -- a side's machine is set, and nothing else
 pub record IsBeside (old new : World) : Type 0 where
   pub coordinator : new.coordinator ≡ old.coordinator
   pub acknowledged : new.acknowledged ≡ old.acknowledged
   pub reports : new.reports ≡ old.reports
+  pub log : new.log ≡ old.log
 
 set_beside : (old : World) (which : Which) (machine : SideMachine) → IsBeside old (set_side old which machine)
-set_beside old Left machine = record { coordinator = refl; acknowledged = refl; reports = refl }
-set_beside old Right machine = record { coordinator = refl; acknowledged = refl; reports = refl }
+set_beside old Left machine = record { coordinator = refl; acknowledged = refl; reports = refl; log = refl }
+set_beside old Right machine = record { coordinator = refl; acknowledged = refl; reports = refl; log = refl }
 
 side_goes : (old new : World) (which : Which) (machine : SideMachine) (sent : Sent) (events : List Event) → new ≡ record (set_side old which machine) { sent = sent; acknowledged = old.acknowledged ++ map (λ event. Happened which event) events } → IsAside old new
 side_goes old new which machine sent events e =
@@ -66,12 +68,13 @@ side_goes old new which machine sent events e =
       can = nothing_kept old.coordinator.archive _ none;
       runs = inr (ap (λ w. w.coordinator.running) e ∙ ap (λ c. c.running) b.coordinator, none);
       reports = ap (λ w. w.reports) e ∙ b.reports;
+      log = ap (λ w. w.log) e ∙ b.log;
     }
 
 side_says : (old new : World) (which : Which) (machine : SideMachine) (sent : Sent) → new ≡ record (set_side old which machine) { sent = sent } → Course old new
 side_says old new which machine sent e =
     let b = set_beside old which machine in
-    beside [] (ap (λ w. w.acknowledged) e ∙ (b.acknowledged ∙ sym (append-nil old.acknowledged))) tt (inr (ap (λ w. w.coordinator.running) e ∙ ap (λ c. c.running) b.coordinator, refl)) (ap (λ w. w.reports) e ∙ b.reports)
+    beside [] (ap (λ w. w.acknowledged) e ∙ (b.acknowledged ∙ sym (append-nil old.acknowledged))) tt (inr (ap (λ w. w.coordinator.running) e ∙ ap (λ c. c.running) b.coordinator, refl)) (ap (λ w. w.reports) e ∙ b.reports) (ap (λ w. w.log) e ∙ b.log)
 
 besides : (old world new : World) → new ≡ world → IsBeside old world → IsAside old new
 besides old world new e b = record {
@@ -80,13 +83,14 @@ besides old world new e b = record {
   can = tt;
   runs = inr (ap (λ w. w.coordinator.running) e ∙ ap (λ c. c.running) b.coordinator, refl);
   reports = ap (λ w. w.reports) e ∙ b.reports;
+  log = ap (λ w. w.log) e ∙ b.log;
 }
 
 side_set : (old new : World) (which : Which) (machine : SideMachine) → new ≡ set_side old which machine → IsAside old new
 side_set old new which machine e = besides old (set_side old which machine) new e (set_beside old which machine)
 
 refused : (old new : World) (reason : Refusal) → new ≡ refuses_with old reason → Course old new
-refused old new reason e = aside old new (besides old (refuses_with old reason) new e (record { coordinator = refl; acknowledged = refl; reports = refl }))
+refused old new reason e = aside old new (besides old (refuses_with old reason) new e (record { coordinator = refl; acknowledged = refl; reports = refl; log = refl }))
 
 takes_request : (old new : World) (which : Which) (session number : ℕ) (request : Request) → TakesRequest old which session number request new → Course old new
 takes_request old new which session number request (answered a) = aside old new (side_goes old new which _ _ a.events a.result)
@@ -95,7 +99,7 @@ takes_request old new which session number request (request_cut event would meet
 takes_request old new which session number request (side_down d e) = stays old new e
 
 takes_answer : (old new : World) (from : Which) (session number : ℕ) (reply : Reply) → Contains old.sent (Answers from session number reply) → TakesAnswer old from session number reply new → Course old new
-takes_answer old new from session number reply c (taken plan expected made goes calls reports) = takes from session number reply plan c expected made goes reports
+takes_answer old new from session number reply c (taken plan logged expected made goes calls reports) = takes from session number reply plan logged c expected made goes reports
 takes_answer old new from session number reply c (ignored x e) = stays old new e
 takes_answer old new from session number reply c (coordinator_down d e) = stays old new e
 
@@ -118,6 +122,7 @@ alone old new machine kept can runs e =
         | inr same ↦ inr (ap (λ w. w.coordinator.running) e ∙ same.0, is ∙ same.1)
       ];
       reports = ap (λ w. w.reports) e;
+      log = ap (λ w. w.log) e;
     }
 
 -- a start that fails as it is written runs no session
@@ -131,6 +136,7 @@ start_fails old made h halts = record {
     | inr some ↦ ap (λ w. w.coordinator.running) h.0.result ∙ (h.0.silent_when_writing (subst (λ w. IsSome w.coordinator.writing) h.0.result some)).1
   ]);
   reports = h.1;
+  log = ap (λ w. w.log) h.0.result ∙ append-nil old.log;
 }
 
 module _ (plans : Plans) (old : World) (k : IsKept plans old) (new : World) where

@@ -1,29 +1,29 @@
 -- What a session records leaves alone each path of a replacement that may still come.
-use Rattle.std.proofs.Common.{◌≡◌, ◌≤◌, ℕ, Bool, true, false, not, ◌&&◌, ◌||◌, List, [], ◌∷◌, ◌++◌, length, refl, sym, ap, ap₂, ◌∙◌, subst, Some, true≢false, append_assoc, append-nil, arith, inl, inr, ◌⊎◌, if◌then◌else◌, slice_get}
+use Rattle.std.proofs.Common.{◌≡◌, ◌≤◌, ℕ, Bool, true, false, not, ◌&&◌, ◌||◌, List, [], ◌∷◌, ◌++◌, length, refl, sym, ap, ap₂, ◌∙◌, subst, Some, true≢false, append-nil, arith, inl, inr, if◌then◌else◌, slice_get}
 use Rattle.std.specs.Prelude.{Contains}
 use Rattle.std.specs.FinMap.{get}
+use Rattle.std.proofs.lemmas.Option.{same_Some}
+use Rattle.std.proofs.lemmas.Bool.{and_parts, or_cases}
 use Rattle.syn_model.specs.Path.{Name, Path, parent, is_prefix, comparable}
-use Rattle.syn_model.specs.Tree.{Tree, Content, IsTree, HasParents, Directory, empty_directory, subtree, replace, is_directory}
-use Rattle.syn_model.specs.Dirty.{Scan, dirty, is_same_tree}
+use Rattle.syn_model.specs.Tree.{Tree, Content, IsTree, Directory, empty_directory, subtree, replace, is_directory}
+use Rattle.syn_model.specs.Dirty.{Scan, dirty, is_same_tree, is_unstable}
 use Rattle.syn_model.specs.Reconcile.{is_directory_in_both}
-use Rattle.syn_model.specs.Decision.{Item, ToLeft, ToRight, MarkSame, MarkDir, Conflict, Decision, Do, DoAndGoOn, decision, is_unstable, path_of, GoesOn}
+use Rattle.syn_model.specs.Decision.{Item, ToLeft, ToRight, MarkSame, MarkDir, Conflict, Decision, Do, DoAndGoOn, decision, path_of, GoesOn}
 use Rattle.syn_model.specs.History.{History, tree_at, is_quiet, last_session}
 use Rattle.syn_model.specs.Archive.{Archive, Kept, Recorded, RecordedDir, after_kept, Held}
 use Rattle.syn_headline.specs.Side.{Request, Replace, Reply, Done}
 use Rattle.syn_headline.specs.Network.{Which, Left, Right, other, Sent, Asks, Answers}
-use Rattle.syn_headline.specs.Planning.{Planned, seen_on, IsPlanOf, WritesTo}
+use Rattle.syn_headline.specs.Planning.{Planned, seen_on, WritesTo}
 use Rattle.syn_headline.specs.World.{Running, asked_of, IsDue, done, same, directory}
-use Rattle.syn_headline.proofs.Invariant.{Plans, Histories, IsSound, HadMarks, IsHeldRecord, IsHarmless}
-use Rattle.syn_model.proofs.PathLemmas.{is_prefix-is, strip_prefix-append, some_same}
-use Rattle.syn_model.proofs.TreeLemmas.{get-subtree, same_tree, subtree-replace_other, within}
-use Rattle.syn_model.proofs.HistoryLemmas.{get-below_root}
-use Rattle.syn_model.proofs.QuietLemmas.{nothing_below}
+use Rattle.syn_headline.proofs.Invariant.{Plans, plan_in, Scans, IsPlanFrom, Histories, IsSound, HadMarks, IsHeldRecord, IsHarmless}
+use Rattle.syn_model.proofs.DirectoryLemmas.{below_new_directory}
+use Rattle.syn_model.proofs.PathLemmas.{is_prefix-is}
+use Rattle.syn_model.proofs.TreeLemmas.{get-subtree, subtree-replace_other}
 use Rattle.syn_headline.proofs.PlanLemmas.{IsDecided, IsPlannedFrom, decided_by, goes_on_at, writes_clean, writes_path, planned_is, fenced}
 use Rattle.syn_headline.proofs.SoundLemmas.{made}
 use Rattle.syn_headline.proofs.MoveLemmas.{on_both}
 use Rattle.syn_headline.proofs.HeldLemmas.{scan_held}
 use Rattle.syn_model.proofs.SyncLemmas.{directory_is}
-use Rattle.syn_model.proofs.DirtyLemmas.{both_true}
 use Rattle.syn_model.specs.Mark.{mark}
 
 -- of two comparable paths, which are one, or one lies above the other
@@ -40,12 +40,8 @@ meets_to : (q p rest : Path) → q ≡ p ++ rest → Meets q p
 meets_to q p [] e = one (e ∙ append-nil p)
 meets_to q p (n ∷ r) e = below n r e
 
-or_is : (a b : Bool) → (a || b) ≡ true → (a ≡ true) ⊎ (b ≡ true)
-or_is true b e = inl refl
-or_is false b e = inr e
-
 pub meets : (q p : Path) → comparable q p ≡ true → Meets q p
-meets q p e = elim (or_is (is_prefix q p) (is_prefix p q) e) as (λ _. Meets q p) [
+meets q p e = elim (or_cases (is_prefix q p) (is_prefix p q) e) as (λ _. Meets q p) [
   | inl x ↦ let s = is_prefix-is q p x in meets_from q p s.0 s.1
   | inr x ↦ let s = is_prefix-is p q x in meets_to q p s.0 s.1
 ]
@@ -96,14 +92,6 @@ not_reached scan o p beside g =
     let r = goes_on_at scan o p g Right in
     true≢false (sym (ap₂ (λ a b. a && b) l.0 r.0) ∙ beside)
 
--- an empty directory put where there was none changes nothing below
-below_new_directory : (t : Tree) (q : Path) (n : Name) (r : Path) → HasParents t → is_directory t q ≡ false → subtree (replace t q empty_directory) (q ++ n ∷ r) ≡ subtree t (q ++ n ∷ r)
-below_new_directory t q n r h file = same_tree (subtree (replace t q empty_directory) (q ++ n ∷ r)) (subtree t (q ++ n ∷ r)) (λ s.
-    let at : (q ++ n ∷ r) ++ s ≡ q ++ n ∷ (r ++ s) = append_assoc q (n ∷ r) s in
-    get-subtree (replace t q empty_directory) (q ++ n ∷ r) s ∙ (ap (get (replace t q empty_directory)) at
-    ∙ (within t q empty_directory (q ++ n ∷ (r ++ s)) (n ∷ (r ++ s)) (strip_prefix-append q (n ∷ (r ++ s)))
-    ∙ (get-below_root Directory [] n (r ++ s) ∙ (sym (nothing_below t q n (r ++ s) h file) ∙ (ap (get t) (sym at) ∙ sym (get-subtree t (q ++ n ∷ r) s)))))))
-
 different : (which other_one : Which) (item : Item) (p q : Path) → WritesTo item which p → WritesTo item other_one q → which ≡ other_one
 different Left Left item p q x y = refl
 different Right Right item p q x y = refl
@@ -130,7 +118,7 @@ directory_beside archive q p h = elim (is_directory archive.marks q) as (λ b. s
 directory_above : (archive : Archive) (q : Path) (n : Name) (r : Path) → IsTree archive.marks → subtree (after_kept archive (RecordedDir q)).marks (q ++ n ∷ r) ≡ subtree archive.marks (q ++ n ∷ r)
 directory_above archive q n r h = elim (is_directory archive.marks q) as (λ b. is_directory archive.marks q ≡ b → subtree (if b then archive else record archive { marks = replace archive.marks q empty_directory }).marks (q ++ n ∷ r) ≡ subtree archive.marks (q ++ n ∷ r)) [
   | true ↦ λ _. refl
-  | false ↦ λ file. below_new_directory archive.marks q n r h.part.parents file
+  | false ↦ λ file. below_new_directory archive.marks archive.marks q n r h.part.parents file
 ] refl
 
 -- two items of one plan, of which one writes
@@ -153,65 +141,65 @@ module _ (scan : Which → Scan) (since : Which → Path → ℕ) (found : Tree)
 
 module _ (plans : Plans) (histories : Histories) (archive : Archive) (sent : Sent) (sound : IsSound plans histories archive sent) (running : Running) (last : running.session ≡ archive.last_session) where
   -- an item whose session is still the last on a side is one of the running session, where that has a plan
-  of_running : (found : Tree) → IsPlanOf sent running.session found (plans running.session) → (side : Which) (session : ℕ) → session ≡ last_session (histories side) → session ≡ running.session
-  of_running found is side session current =
-      let fence : running.session ≤ last_session (histories side) = fenced plans histories archive sent sound running.session found (plans running.session) is side in
+  of_running : (found : Tree) (scans : Scans) → IsPlanFrom sent running.session found scans (plan_in plans running.session) → (side : Which) (session : ℕ) → session ≡ last_session (histories side) → session ≡ running.session
+  of_running found scans is side session current =
+      let fence : running.session ≤ last_session (histories side) = fenced plans histories archive sent sound running.session found scans (plan_in plans running.session) is side in
       let begun : last_session (histories side) ≤ archive.last_session = sound.begun side in
       omega (arith, current, fence, begun, last)
 
   -- what a scan showed at an item's path was held there
-  seen_held : (item : ℕ) (due : Planned) → slice_get (plans running.session) item ≡ Some due → (side : Which) (rest : Path) (content : Content) → get (seen_on due side).marks rest ≡ Some content →
+  seen_held : (item : ℕ) (due : Planned) → slice_get (plan_in plans running.session) item ≡ Some due → (side : Which) (rest : Path) (content : Content) → get (seen_on due side).marks rest ≡ Some content →
       Held (histories side) (path_of due.item ++ rest) content
   seen_held item due e side rest content at =
       let is = made plans histories archive sent sound running.session item due e in
-      let due_is = planned_is sent running.session is.0 (plans running.session) is.1 item due e in
-      scan_held plans histories archive sent sound side running.session (is.1.scan side) (is.1.since side) (is.1.scanned side) (path_of due.item ++ rest) content
+      let due_is = planned_is sent running.session is.0 is.1 (plan_in plans running.session) is.2 item due e in
+      scan_held plans histories archive sent sound side running.session (is.1.scan side) (is.1.since side) (is.2.scanned side) (path_of due.item ++ rest) content
       (sym (get-subtree (is.1.scan side).marks (path_of due.item) rest) ∙ (ap (λ t. get t rest) (sym (due_is.seen side).0) ∙ at))
 
   had_held : (history : History) (path : Path) (marks : Tree) → HadMarks history path marks → (rest : Path) (content : Content) → get marks rest ≡ Some content → Held history (path ++ rest) content
   had_held history path marks h rest content at = (h.position, h.reached, sym (get-subtree (mark (tree_at history h.position)) path rest) ∙ (ap (λ t. get t rest) (sym h.had) ∙ at))
 
   done_held : (from : Which) (number : ℕ) (item : ℕ) (path : Path) (since size : ℕ) (due : Planned) → Contains sent (Answers from running.session number Done) → Contains sent (Asks from running.session number (Replace item path since size)) →
-      slice_get (plans running.session) item ≡ Some due → WritesTo due.item from path → IsHeldRecord histories (Recorded path (seen_on due (other from)).marks)
+      slice_get (plan_in plans running.session) item ≡ Some due → WritesTo due.item from path → IsHeldRecord histories (Recorded path (seen_on due (other from)).marks)
   done_held from number item path since size due answered asked e w rest content at side =
       let here = had_held (histories from) path (seen_on due (other from)).marks (sound.borne from running.session number Done (Replace item path since size) answered asked due e) rest content at in
       let there = subst (λ p. Held (histories (other from)) (p ++ rest) content) (writes_path due.item from path w) (seen_held item due e (other from) rest content at) in
       on_both (λ s. Held (histories s) (path ++ rest) content) from here there side
 
-  same_held : (item : ℕ) (path : Path) (due : Planned) → slice_get (plans running.session) item ≡ Some due → due.item ≡ MarkSame path → due.left.marks ≡ due.right.marks → IsHeldRecord histories (Recorded path due.left.marks)
+  same_held : (item : ℕ) (path : Path) (due : Planned) → slice_get (plan_in plans running.session) item ≡ Some due → due.item ≡ MarkSame path → due.left.marks ≡ due.right.marks → IsHeldRecord histories (Recorded path due.left.marks)
   same_held item path due e kind alike rest content at side =
       subst (λ p. Held (histories side) (p ++ rest) content) (ap path_of kind) (elim side as (λ s. Held (histories s) (path_of due.item ++ rest) content) [
         | Left ↦ seen_held item due e Left rest content at
         | Right ↦ seen_held item due e Right rest content (ap (λ t. get t rest) (sym alike) ∙ at)
       ])
 
-  directory_held : (item : ℕ) (path : Path) (due : Planned) → slice_get (plans running.session) item ≡ Some due → due.item ≡ MarkDir path → IsHeldRecord histories (RecordedDir path)
+  directory_held : (item : ℕ) (path : Path) (due : Planned) → slice_get (plan_in plans running.session) item ≡ Some due → due.item ≡ MarkDir path → IsHeldRecord histories (RecordedDir path)
   directory_held item path due e kind side =
       let is = made plans histories archive sent sound running.session item due e in
-      let due_is = planned_is sent running.session is.0 (plans running.session) is.1 item due e in
+      let due_is = planned_is sent running.session is.0 is.1 (plan_in plans running.session) is.2 item due e in
       let both = mark_dir_is (is.1.scan Left) (is.1.scan Right) is.0 (path_of due.item) path (subst (IsDecided (decision (is.1.scan Left) (is.1.scan Right) is.0 (path_of due.item))) kind due_is.decided) in
-      let each = both_true (is_directory (is.1.scan Left).marks (path_of due.item)) (is_directory (is.1.scan Right).marks (path_of due.item)) both in
+      let each = and_parts (is_directory (is.1.scan Left).marks (path_of due.item)) (is_directory (is.1.scan Right).marks (path_of due.item)) both in
       let there : is_directory (is.1.scan side).marks (path_of due.item) ≡ true = elim side as (λ s. is_directory (is.1.scan s).marks (path_of due.item) ≡ true) [ Left ↦ each.0 | Right ↦ each.1 ] in
       subst (λ p. Held (histories side) p Directory) (ap path_of kind)
-      (scan_held plans histories archive sent sound side running.session (is.1.scan side) (is.1.since side) (is.1.scanned side) (path_of due.item) Directory (directory_is (get (is.1.scan side).marks (path_of due.item)) there))
+      (scan_held plans histories archive sent sound side running.session (is.1.scan side) (is.1.since side) (is.2.scanned side) (path_of due.item) Directory (directory_is (get (is.1.scan side).marks (path_of due.item)) there))
 
   -- what is recorded as an item is done
   done_harmless : (from : Which) (number : ℕ) (item : ℕ) (path : Path) (since size : ℕ) (due : Planned) → Contains sent (Answers from running.session number Done) → Contains sent (Asks from running.session number (Replace item path since size)) →
-      slice_get (plans running.session) item ≡ Some due → WritesTo due.item from path → IsHarmless plans histories (Recorded path (seen_on due (other from)).marks)
+      slice_get (plan_in plans running.session) item ≡ Some due → WritesTo due.item from path → IsHarmless plans histories (Recorded path (seen_on due (other from)).marks)
   done_harmless from number item q since size due answered asked e w =
       let is = made plans histories archive sent sound running.session item due e in
       let touched = (sound.answered from running.session number Done (Replace item q since size) answered asked).1 in
       let by_plan = (sound.asked from running.session number (Replace item q since size) asked).by_plan in
-      let same_due : by_plan.0 ≡ due = some_same (sym by_plan.1 ∙ e) in
+      let same_due : by_plan.0 ≡ due = same_Some _ _ (sym by_plan.1 ∙ e) in
       let since_is : since ≡ (seen_on due from).since = by_plan.3 ∙ ap (λ d. (seen_on d from).since) same_due in
       let marks = (seen_on due (other from)).marks in
       record {
         held = done_held from number item q since size due answered asked e w;
         leaves = λ session j planned side p ej wp current quiet a tree can.
-            let here : session ≡ running.session = of_running is.0 is.1 side session current in
-            let ej' = ap (λ n. slice_get (plans n) j) (sym here) ∙ ej in
-            let due_is = planned_is sent running.session is.0 (plans running.session) is.1 item due e in
-            let p_is = planned_is sent running.session is.0 (plans running.session) is.1 j planned ej' in
+            let here : session ≡ running.session = of_running is.0 is.1 is.2 side session current in
+            let ej' = ap (λ n. slice_get (plan_in plans n) j) (sym here) ∙ ej in
+            let due_is = planned_is sent running.session is.0 is.1 (plan_in plans running.session) is.2 item due e in
+            let p_is = planned_is sent running.session is.0 is.1 (plan_in plans running.session) is.2 j planned ej' in
             let at = writes_path planned.item side p wp in
             let due_at = writes_path due.item from q w in
             let clean = writes_clean (is.1.scan Left) (is.1.scan Right) is.0 (path_of due.item) due.item from q is.1.scan refl refl w due_is.decided in
@@ -231,17 +219,17 @@ module _ (plans : Plans) (histories : Histories) (archive : Archive) (sent : Sen
             ] refl;
       }
 
-  same_harmless : (item : ℕ) (path : Path) (due : Planned) → slice_get (plans running.session) item ≡ Some due → due.item ≡ MarkSame path → due.left.marks ≡ due.right.marks → IsHarmless plans histories (Recorded path due.left.marks)
+  same_harmless : (item : ℕ) (path : Path) (due : Planned) → slice_get (plan_in plans running.session) item ≡ Some due → due.item ≡ MarkSame path → due.left.marks ≡ due.right.marks → IsHarmless plans histories (Recorded path due.left.marks)
   same_harmless item q due e kind alike =
       let is = made plans histories archive sent sound running.session item due e in
       let marks = due.left.marks in
       record {
         held = same_held item q due e kind alike;
         leaves = λ session j planned side p ej wp current quiet a tree can.
-            let here : session ≡ running.session = of_running is.0 is.1 side session current in
-            let ej' = ap (λ n. slice_get (plans n) j) (sym here) ∙ ej in
-            let due_is = planned_is sent running.session is.0 (plans running.session) is.1 item due e in
-            let p_is = planned_is sent running.session is.0 (plans running.session) is.1 j planned ej' in
+            let here : session ≡ running.session = of_running is.0 is.1 is.2 side session current in
+            let ej' = ap (λ n. slice_get (plan_in plans n) j) (sym here) ∙ ej in
+            let due_is = planned_is sent running.session is.0 is.1 (plan_in plans running.session) is.2 item due e in
+            let p_is = planned_is sent running.session is.0 is.1 (plan_in plans running.session) is.2 j planned ej' in
             let at = writes_path planned.item side p wp in
             let due_at = ap path_of kind in
             let beside = mark_same_is (is.1.scan Left) (is.1.scan Right) is.0 q q (subst (λ x. IsDecided (decision (is.1.scan Left) (is.1.scan Right) is.0 x) (MarkSame q)) due_at (subst (λ i. IsDecided (decision (is.1.scan Left) (is.1.scan Right) is.0 (path_of due.item)) i) kind due_is.decided)) in
@@ -255,16 +243,16 @@ module _ (plans : Plans) (histories : Histories) (archive : Archive) (sent : Sen
             ] refl;
       }
 
-  directory_harmless : (item : ℕ) (path : Path) (due : Planned) → slice_get (plans running.session) item ≡ Some due → due.item ≡ MarkDir path → IsHarmless plans histories (RecordedDir path)
+  directory_harmless : (item : ℕ) (path : Path) (due : Planned) → slice_get (plan_in plans running.session) item ≡ Some due → due.item ≡ MarkDir path → IsHarmless plans histories (RecordedDir path)
   directory_harmless item q due e kind =
       let is = made plans histories archive sent sound running.session item due e in
       record {
         held = directory_held item q due e kind;
         leaves = λ session j planned side p ej wp current quiet a tree can.
-            let here : session ≡ running.session = of_running is.0 is.1 side session current in
-            let ej' = ap (λ n. slice_get (plans n) j) (sym here) ∙ ej in
-            let due_is = planned_is sent running.session is.0 (plans running.session) is.1 item due e in
-            let p_is = planned_is sent running.session is.0 (plans running.session) is.1 j planned ej' in
+            let here : session ≡ running.session = of_running is.0 is.1 is.2 side session current in
+            let ej' = ap (λ n. slice_get (plan_in plans n) j) (sym here) ∙ ej in
+            let due_is = planned_is sent running.session is.0 is.1 (plan_in plans running.session) is.2 item due e in
+            let p_is = planned_is sent running.session is.0 is.1 (plan_in plans running.session) is.2 j planned ej' in
             let at = writes_path planned.item side p wp in
             let due_at = ap path_of kind in
             elim (comparable q p) as (λ b. comparable q p ≡ b → subtree (after_kept a (RecordedDir q)).marks p ≡ subtree a.marks p) [
@@ -278,7 +266,7 @@ module _ (plans : Plans) (histories : Histories) (archive : Archive) (sent : Sen
       }
 
   -- what is due as a session goes on is harmless
-  pub due_harmless : (plan : List Planned) → plans running.session ≡ plan → (from : Which) (number : ℕ) (reply : Reply) (kept : Kept) → Contains sent (Answers from running.session number reply) →
+  pub due_harmless : (plan : List Planned) → plan_in plans running.session ≡ plan → (from : Which) (number : ℕ) (reply : Reply) (kept : Kept) → Contains sent (Answers from running.session number reply) →
       ((request : Request) → asked_of running from number ≡ Some request → Contains sent (Asks from running.session number request)) →
       IsDue running plan from number reply kept → IsHarmless plans histories kept
   due_harmless plan has from number reply _ answered waits (done item path since size planned is_done out e w) =

@@ -1,19 +1,18 @@
 -- What a scan shows was held.
 use Rattle.std.proofs.Common.{◌≡◌, ℕ, true, false, [], ◌∷◌, refl, sym, ap, ◌∙◌, subst, Some, is_some, arith, option_map}
 use Rattle.std.specs.FinMap.{get, find}
+use Rattle.std.proofs.lemmas.Option.{none-some}
 use Rattle.syn_model.specs.Path.{Name, Path, name_cmp, child}
 use Rattle.syn_model.specs.Tree.{Content, is_directory, is_directory_content}
 use Rattle.syn_model.specs.Limits.{children}
 use Rattle.syn_model.specs.Mark.{mark, mark_of}
-use Rattle.syn_model.specs.Dirty.{Scan}
-use Rattle.syn_model.specs.Decision.{is_unstable}
+use Rattle.syn_model.specs.Dirty.{Scan, is_unstable}
 use Rattle.syn_model.specs.History.{tree_at}
 use Rattle.syn_model.specs.Archive.{Archive, Held}
 use Rattle.syn_headline.specs.Side.{ListAt, Listed}
 use Rattle.syn_headline.specs.Network.{Which, Sent}
 use Rattle.syn_headline.specs.Planning.{IsScanOf}
 use Rattle.syn_headline.proofs.Invariant.{Plans, Histories, IsSound, IsTrueListing}
-use Rattle.syn_model.proofs.PathLemmas.{none_some}
 use Rattle.syn_model.proofs.MarkLemmas.{get-mark}
 use Rattle.syn_model.proofs.QuietLemmas.{get-children, same_child}
 use Rattle.syn_headline.proofs.PlanLemmas.{last_name, found_unstable}
@@ -23,7 +22,7 @@ module _ (plans : Plans) (histories : Histories) (archive : Archive) (sent : Sen
   nothing_unstable : (a : Path) (n : Name) (x : Content) → is_unstable scan a ≡ true → get scan.marks (child a n) ≡ Some x → ⊥
   nothing_unstable a n x u e =
       let empty = is.nothing_below a (found_unstable a scan.unstable u) in
-      none_some (sym (get-children scan.marks a n ∙ ap (λ cs. find name_cmp n cs) empty) ∙ e)
+      none-some _ (sym (get-children scan.marks a n ∙ ap (λ cs. find name_cmp n cs) empty) ∙ e)
 
   -- what a scan shows in a directory was there when that was listed
   child_held : (a : Path) (n : Name) (x : Content) → get scan.marks (child a n) ≡ Some x → Held (histories side) (child a n) x

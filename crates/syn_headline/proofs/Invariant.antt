@@ -1,5 +1,5 @@
 -- What each step of a run keeps.
-use Rattle.std.specs.Prelude.{ℕ, ◌≡◌, ◌≢◌, ◌≤◌, ◌⊎◌, true, false, List, [], ◌++◌, length, take, drop, slice_get, Some, None, Contains, IfSome}
+use Rattle.std.specs.Prelude.{ℕ, ◌≡◌, ◌≢◌, ◌≤◌, ◌==◌, if◌then◌else◌, true, false, List, [], ◌∷◌, ◌++◌, length, take, drop, slice_get, Some, None, All, AllPairs, Contains, IfSome}
 use Rattle.std.specs.FinMap.{get}
 use Rattle.syn_model.specs.Path.{Bytes, Name, Path}
 use Rattle.syn_model.specs.Tree.{Tree, Content, Directory, IsTree, subtree, is_directory}
@@ -12,7 +12,8 @@ use Rattle.syn_model.specs.Archive.{Archive, Kept, Session, Recorded, RecordedDi
 use Rattle.syn_headline.specs.Side.{Request, Begin, ListAt, Fetch, Replace, IsLawfulRequest, Reply, Begun, Listed, NotDir, Piece, Done, Staging}
 use Rattle.syn_headline.specs.Network.{Which, other, Asks, Answers, Sent, NumbersTell, AsksNothingTwice}
 use Rattle.syn_model.specs.Decision.{path_of}
-use Rattle.syn_headline.specs.Planning.{Planned, seen_on, IsPlanOf, WritesTo}
+use Rattle.syn_model.specs.Dirty.{Scan}
+use Rattle.syn_headline.specs.Planning.{Planned, seen_on, Log, IsPlanOf, WritesTo}
 use Rattle.syn_headline.specs.World.{World, Up, SideMachine, CoordinatorMachine, side_of, IsOfPlan, RunsOver}
 
 -- the history of each side
@@ -22,9 +23,23 @@ Histories = Which → History
 abbrev pub histories_of : World → Histories
 histories_of world side = (side_of world side).side.history
 
--- the plan of each session that had one, which the coordinator forgets as it stops
+-- the log of the sessions' plans, which the coordinator forgets as it stops
 abbrev pub Plans : Type 0
-Plans = ℕ → List Planned
+Plans = Log
+
+-- the plan of a session, or none
+abbrev pub plan_in : Log → ℕ → List Planned
+plan_in [] session = []
+plan_in (made ∷ log) session = if made.session == session then made.plan else plan_in log session
+
+-- the scans that a plan was made of
+pub record Scans : Type 0 where
+  pub scan : Which → Scan
+  pub since : Which → Path → ℕ
+
+-- a session's plan, made of these
+abbrev pub IsPlanFrom : Sent → ℕ → Tree → Scans → List Planned → Type 0
+IsPlanFrom sent session archive scans plan = IsPlanOf sent (record { session = session; preference = None; scan = scans.scan; since = scans.since; archive = archive; plan = plan })
 
 abbrev pub part_at : History → ℕ → Path → Tree
 part_at history position path = subtree (tree_at history position) path
@@ -71,7 +86,8 @@ IsBorne plan history from request reply = Unit {0}
 pub record IsSound_request (plans : Plans) (archive : Archive) (sent : Sent) (to : Which) (session : ℕ) (request : Request) : Type 0 where
   pub session_kept : session ≤ archive.last_session
   pub lawful : IsLawfulRequest session request
-  pub by_plan : IsOfPlan sent session (plans session) to request
+  pub pair : ℕ
+  pub by_plan : IsOfPlan pair sent session (plan_in plans session) to request
 
 -- where the session of an item is the last that its side began, and nothing touched the path since it was listed,
 -- the archive has there what the side has
@@ -87,7 +103,7 @@ pub record IsSpent (history : History) (path : Path) (since : ℕ) (marks : Tree
 -- and so is the path of a side's last token
 abbrev pub IsUsed : Plans → Histories → Type 0
 IsUsed plans histories = (side : Which) (token : Token) (planned : Planned) (path : Path) → last_token (histories side) ≡ Some token →
-    slice_get (plans token.session) token.item ≡ Some planned → WritesTo planned.item side path → IsSpent (histories side) path (seen_on planned side).since (seen_on planned (other side)).marks
+    slice_get (plan_in plans token.session) token.item ≡ Some planned → WritesTo planned.item side path → IsSpent (histories side) path (seen_on planned side).since (seen_on planned (other side)).marks
 
 -- both sides held each entry
 abbrev pub IsHeld : Histories → Tree → Type 0
@@ -110,10 +126,11 @@ pub record IsSound (plans : Plans) (histories : Histories) (archive : Archive) (
   pub answered : (from : Which) (session number : ℕ) (reply : Reply) (request : Request) → Contains sent (Answers from session number reply) →
       Contains sent (Asks from session number request) → IsTrue (histories from) session request reply
   pub borne : (from : Which) (session number : ℕ) (reply : Reply) (request : Request) → Contains sent (Answers from session number reply) →
-      Contains sent (Asks from session number request) → IsBorne (plans session) (histories from) from request reply
+      Contains sent (Asks from session number request) → IsBorne (plan_in plans session) (histories from) from request reply
   pub held : IsHeld histories archive.marks
-  pub planned : (session : ℕ) → (plans session ≡ []) ⊎ ((found : Tree) × IsPlanOf sent session found (plans session))
-  pub recorded : (session item : ℕ) (planned : Planned) (side : Which) (path : Path) → slice_get (plans session) item ≡ Some planned → WritesTo planned.item side path →
+  pub once : AllPairs (λ earlier later. earlier.session ≢ later.session) plans
+  pub planned : All (IsPlanOf sent) plans
+  pub recorded : (session item : ℕ) (planned : Planned) (side : Which) (path : Path) → slice_get (plan_in plans session) item ≡ Some planned → WritesTo planned.item side path →
       IsStillRecorded (histories side) archive session path (seen_on planned side).since
   pub used : IsUsed plans histories
 
@@ -124,14 +141,14 @@ source_of histories side planned = part_at (histories (other side)) (seen_on pla
 -- what is staged on a side is a beginning of the spelling of what the item's source had
 pub record IsSoundStaging (plans : Plans) (histories : Histories) (side : Which) (staging : Staging) : Type 0 where
   pub planned : Planned
-  pub item : slice_get (plans staging.token.session) staging.token.item ≡ Some planned
+  pub item : slice_get (plan_in plans staging.token.session) staging.token.item ≡ Some planned
   pub reached : (seen_on planned (other side)).since ≤ length (histories (other side))
   pub begins : staging.bytes ≡ take (length staging.bytes) (spelling (source_of histories side planned))
 
 -- a replacement by its session's plan, of a path that was not touched since, with all that the source had
 pub record IsSoundReplacement (plans : Plans) (histories : Histories) (side : Which) (token : Token) (path : Path) (since : ℕ) (new : Tree) : Type 0 where
   pub planned : Planned
-  pub item : slice_get (plans token.session) token.item ≡ Some planned
+  pub item : slice_get (plan_in plans token.session) token.item ≡ Some planned
   pub writes : WritesTo planned.item side path
   pub listed : since ≡ (seen_on planned side).since
   pub within : since ≤ length (histories side)
@@ -158,19 +175,20 @@ IsHeldRecord histories (RecordedDir path) = (side : Which) → Held (histories s
 
 -- what is recorded leaves alone each path of a replacement that may still come, and both sides held it
 pub record IsHarmless (plans : Plans) (histories : Histories) (kept : Kept) : Type 0 where
-  pub leaves : (session item : ℕ) (planned : Planned) (side : Which) (path : Path) → slice_get (plans session) item ≡ Some planned → WritesTo planned.item side path →
+  pub leaves : (session item : ℕ) (planned : Planned) (side : Which) (path : Path) → slice_get (plan_in plans session) item ≡ Some planned → WritesTo planned.item side path →
       session ≡ last_session (histories side) → is_quiet (histories side) (seen_on planned side).since (length (histories side)) path ≡ true →
       (archive : Archive) → IsTree archive.marks → CanKeep archive kept → subtree (after_kept archive kept).marks path ≡ subtree archive.marks path
   pub held : IsHeldRecord histories kept
 
 -- a running session has its plan, and none runs while a record is written
 pub record IsSoundCoordinator (plans : Plans) (histories : Histories) (sent : Sent) (machine : CoordinatorMachine) : Type 0 where
-  pub running : IfSome machine.running (λ running. (plans running.session ≡ running.plan) × (running.plan ≡ [] → IsFresh histories running.session))
+  pub running : IfSome machine.running (λ running. (plan_in plans running.session ≡ running.plan) × (running.plan ≡ [] → IsFresh histories running.session))
   pub runs_over : RunsOver sent machine.archive machine.running
   pub writing : IfSome machine.writing (λ kept. (machine.status ≢ Up) × (machine.running ≡ None) × CanKeep machine.archive kept × IsHarmless plans histories kept)
 
 -- The invariant of a run
 pub record IsKept (plans : Plans) (world : World) : Type 0 where
+  pub logged : world.log ≡ plans
   pub sound : IsSound plans (histories_of world) world.coordinator.archive world.sent
   pub sides : (side : Which) → IsSoundSide plans (histories_of world) world.coordinator.archive side (side_of world side)
   pub coordinator : IsSoundCoordinator plans (histories_of world) world.sent world.coordinator

@@ -4,6 +4,7 @@ use Rattle.std.specs.Prelude.{All}
 use Rattle.std.proofs.lemmas.Bool.Decides.{nat_tests}
 use Rattle.std.proofs.lemmas.List.Elements.{All-head, All-tail}
 use Rattle.std.proofs.lemmas.List.Sums.{fold-append}
+use Rattle.std.proofs.lemmas.Bool.{and_parts, not-false}
 use Rattle.syn_model.specs.Path.{Path, is_root}
 use Rattle.syn_model.specs.Tree.{Tree, IsTree, empty_directory, is_directory, replace}
 use Rattle.syn_model.specs.Limits.{greatest, fits_archive, fits_paths}
@@ -13,8 +14,7 @@ use Rattle.syn_model.specs.Archive.{Archive, Kept, Session, Recorded, RecordedDi
 use Rattle.syn_model.specs.Plan.{HasDepth, most_names}
 use Rattle.syn_headline.specs.Report.{since_start}
 use Rattle.syn_headline.specs.World.{AllCanKeep}
-use Rattle.syn_model.proofs.HistoryLemmas.{first_cause-none, none-append, not_true}
-use Rattle.syn_model.proofs.DirtyLemmas.{both_true}
+use Rattle.syn_model.proofs.HistoryLemmas.{first_cause-none, none-append}
 use Rattle.syn_model.proofs.FitsLemmas.{paths_depth}
 use Rattle.syn_headline.proofs.SoundLemmas.{kept_session, kept_is_tree}
 
@@ -35,8 +35,8 @@ all_kept_tree a (k ∷ kept) tree can = all_kept_tree (after_kept a k) kept (kep
 recorded_depth : (marks : Tree) (path : Path) (new : Tree) → first_cause (record_causes marks path new) ≡ None → HasDepth most_names (replace marks path new)
 recorded_depth marks path new e =
     let full = (none-append (place_causes marks path) ((not (fits_archive (replace marks path new)), Full) ∷ []) e).1 in
-    let fits = not_true (fits_archive (replace marks path new)) (first_cause-none (not (fits_archive (replace marks path new)), Full) [] full).0 in
-    paths_depth (replace marks path new) (both_true _ (fits_paths (replace marks path new)) fits).1
+    let fits = not-false (fits_archive (replace marks path new)) (first_cause-none (not (fits_archive (replace marks path new)), Full) [] full).0 in
+    paths_depth (replace marks path new) (and_parts _ (fits_paths (replace marks path new)) fits).1
 
 kept_depth : (a : Archive) (kept : Kept) → HasDepth most_names a.marks → CanKeep a kept → HasDepth most_names (after_kept a kept).marks
 kept_depth a (Session session) depth can = depth

@@ -1,5 +1,5 @@
 pub mod Invariant
-pub mod RowLemmas
+mod LogLemmas
 pub mod WorldLemmas
 pub mod SideLemmas
 pub mod FormattedLemmas
@@ -30,5 +30,6 @@ pub mod CourseLemmas
 pub mod WatchLemmas
 pub mod ToldLemmas
 pub mod SessionRuns
+pub mod LoggedRuns
 pub mod AlikeLemmas
 pub mod CarriedLemmas

@@ -1,10 +1,11 @@
 -- The invariant is kept as a side answers a request.
-use Rattle.std.proofs.Common.{◌≡◌, ◌≤◌, ◌+◌, ℕ, Bool, true, false, not, ◌||◌, ◌==◌, List, [], ◌∷◌, ◌++◌, length, take, drop, refl, sym, ap, ap₂, ◌∙◌, subst, Option, Some, None, is_some, true≢false, append_assoc, append-nil, arith, inl, inr, ◌⊎◌, slice_get, fold}
+use Rattle.std.proofs.Common.{◌≡◌, ◌≤◌, ◌+◌, ℕ, true, false, not, ◌||◌, ◌==◌, List, [], ◌∷◌, ◌++◌, length, take, drop, refl, sym, ap, ap₂, ◌∙◌, subst, Option, Some, None, is_some, true≢false, append_assoc, append-nil, arith, inl, inr, ◌⊎◌, slice_get, fold}
 use Rattle.std.specs.Prelude.{Contains, IfSome}
 use Rattle.std.specs.Option.{option_map_or}
-use Rattle.std.proofs.lemmas.Bool.Decides.{nat_tests}
 use Rattle.std.proofs.lemmas.List.{length-append, take-append-drop}
 use Rattle.std.proofs.Math.Seq.{take-append_seam, take-length}
+use Rattle.std.proofs.lemmas.Option.{same_Some}
+use Rattle.std.proofs.lemmas.Bool.{and_parts, eqb-true, not-false, or_parts}
 use Rattle.syn_model.specs.Path.{Bytes, Path, parent, comparable, is_prefix}
 use Rattle.syn_model.specs.Tree.{Tree, is_directory, IsTree, subtree, replace}
 use Rattle.syn_model.specs.Limits.{children, fits_replica}
@@ -19,18 +20,18 @@ use Rattle.syn_headline.specs.Side.{Side, Served, Staging, Request, Begin, ListA
 use Rattle.syn_headline.specs.Network.{Which, Left, Right, other, Sent, Asks}
 use Rattle.syn_model.specs.Decision.{path_of}
 use Rattle.syn_headline.specs.Planning.{Planned, seen_on, WritesTo}
-use Rattle.syn_headline.proofs.Invariant.{Plans, Histories, IsSound, IsTrue, IsBorne, HadMarks, IsSpent, IsTruePiece, IsSoundStaging, IsSoundReplacement, IsSoundEvent, source_of, part_at}
-use Rattle.syn_model.proofs.PathLemmas.{some_same, strip_prefix-append}
+use Rattle.syn_headline.proofs.Invariant.{Plans, plan_in, Histories, IsSound, IsTrue, IsBorne, HadMarks, IsSpent, IsTruePiece, IsSoundStaging, IsSoundReplacement, IsSoundEvent, source_of, part_at}
+use Rattle.syn_model.proofs.PathLemmas.{strip_prefix-append}
 use Rattle.syn_headline.proofs.SpellingLemmas.{spellings_tell}
 use Rattle.syn_model.proofs.FitsLemmas.{history_fits}
 use Rattle.syn_model.proofs.HistoryLemmas.{history-is_tree, first_cause-none, tree_of-append}
-use Rattle.syn_model.proofs.DirtyLemmas.{both_true, both_false}
 use Rattle.syn_model.proofs.QuietLemmas.{quiet_before, quiet_same}
 use Rattle.syn_headline.proofs.PlanLemmas.{writes_path, since_reached, seen_is, writes_of, parent-child}
 use Rattle.syn_model.proofs.MarkLemmas.{mark-subtree}
 use Rattle.syn_model.proofs.TreeLemmas.{subtree-replace}
 use Rattle.syn_model.specs.Refusal.{Refusal, OldSession}
 use Rattle.syn_headline.specs.Acknowledged.{Stores, history_of, WasListed, IsLegal}
+use Rattle.syn_headline.proofs.LogLemmas.{entry_of}
 use Rattle.syn_headline.proofs.SoundLemmas.{fold_one, had-grow, made, extends, length_grows, part_at_stays, still_touched, sound-grow}
 use Rattle.syn_headline.proofs.OutcomeLemmas.{Outcome, refuses, begins_again, begins, lists, lists_none, fetches, stages_first, stages_more, stages_again, done_again, replaces}
 
@@ -40,16 +41,13 @@ on_both P Left here there Right = there
 on_both P Right here there Right = here
 on_both P Right here there Left = there
 
-same_number : (a b : ℕ) → (a == b) ≡ true → a ≡ b
-same_number a b h = grind (arith, nat_tests)
-
 pub same_token : (a b : Token) → is_same_token a b ≡ true → a ≡ b
 same_token a b e =
-    let both = both_true (a.session == b.session) (a.item == b.item) e in
+    let both = and_parts (a.session == b.session) (a.item == b.item) e in
     let s : (a.session == b.session) ≡ true = both.0 in
     let i : (a.item == b.item) ≡ true = both.1 in
-    let same_session : a.session ≡ b.session = same_number a.session b.session s in
-    let same_item : a.item ≡ b.item = same_number a.item b.item i in
+    let same_session : a.session ≡ b.session = eqb-true a.session b.session s in
+    let same_item : a.item ≡ b.item = eqb-true a.item b.item i in
     ap₂ (λ s i. token_of s i) same_session same_item
 
 pub token_one : (last : Option Token) (history : History) (event : Event) → fold token_after last (history ++ event ∷ []) ≡ token_after (fold token_after last history) event
@@ -64,7 +62,7 @@ touched_now : (history : History) (event : Event) (since : ℕ) (p : Path) → s
 touched_now history event since p h t =
     elim (is_quiet (history ++ event ∷ []) since (length (history ++ event ∷ [])) p) as (λ b. is_quiet (history ++ event ∷ []) since (length (history ++ event ∷ [])) p ≡ b → b ≡ false) [
       | false ↦ λ _. refl
-      | true ↦ λ q. absurd (true≢false (sym (both_true (not (touches event p)) true (quiet_before history (event ∷ []) since p h q).1).0 ∙ ap not t))
+      | true ↦ λ q. absurd (true≢false (sym (and_parts (not (touches event p)) true (quiet_before history (event ∷ []) since p h q).1).0 ∙ ap not t))
     ] refl
 
 -- what is put at a path is there then
@@ -97,24 +95,24 @@ module _ (plans : Plans) (archive : Archive) (sent : Sent) (old new : Histories)
   event_below (Replaced token path since u) e = subst (λ n. n ≤ archive.last_session) (sym (fold_one 0 (old side) (Replaced token path since u))) (sound.begun side)
 
   -- where the last token is that of an event before, its path is still touched
-  used_before : (event : Event) → IsAllowed (old side) event → (token : Token) (planned : Planned) (path : Path) → last_token (old side) ≡ Some token → slice_get (plans token.session) token.item ≡ Some planned → WritesTo planned.item side path →
+  used_before : (event : Event) → IsAllowed (old side) event → (token : Token) (planned : Planned) (path : Path) → last_token (old side) ≡ Some token → slice_get (plan_in plans token.session) token.item ≡ Some planned → WritesTo planned.item side path →
       IsSpent (old side ++ event ∷ []) path (seen_on planned side).since (seen_on planned (other side)).marks
   used_before event a token planned path last e w =
       let is = made plans old archive sent sound token.session token.item planned e in
       let was = sound.used side token planned path last e w in
       record {
         touched = still_touched (old side) (old side ++ event ∷ []) (event ∷ [], refl) (seen_on planned side).since path
-            (since_reached plans old archive sent sound token.session is.0 (plans token.session) is.1 token.item planned side path e w side) was.touched;
+            (since_reached plans old archive sent sound token.session is.0 is.1 (plan_in plans token.session) is.2 token.item planned side path e w side) was.touched;
         put = had-grow (old side) (old side ++ event ∷ []) (event ∷ [], refl) path (seen_on planned (other side)).marks was.put;
       }
 
   used_after : (event : Event) → IsAllowed (old side) event → IsSoundEvent plans old archive side event → (token : Token) (planned : Planned) (path : Path) → token_after (last_token (old side)) event ≡ Some token →
-      slice_get (plans token.session) token.item ≡ Some planned → WritesTo planned.item side path → IsSpent (old side ++ event ∷ []) path (seen_on planned side).since (seen_on planned (other side)).marks
+      slice_get (plan_in plans token.session) token.item ≡ Some planned → WritesTo planned.item side path → IsSpent (old side ++ event ∷ []) path (seen_on planned side).since (seen_on planned (other side)).marks
   used_after (Edited user edit) a s token planned path last e w = used_before (Edited user edit) a token planned path last e w
   used_after (Began session) a s token planned path last e w = used_before (Began session) a token planned path last e w
   used_after (Replaced token' path' since u) a s token planned path last e w =
-      let token_is : token' ≡ token = some_same last in
-      let planned_is : s.planned ≡ planned = some_same (sym s.item ∙ (ap (λ t. slice_get (plans t.session) t.item) token_is ∙ e)) in
+      let token_is : token' ≡ token = same_Some _ _ last in
+      let planned_is : s.planned ≡ planned = same_Some _ _ (sym s.item ∙ (ap (λ t. slice_get (plan_in plans t.session) t.item) token_is ∙ e)) in
       let path_is : path' ≡ path = sym (writes_path s.planned.item side path' s.writes) ∙ (ap (λ d. path_of d.item) planned_is ∙ writes_path planned.item side path w) in
       let since_is : since ≡ (seen_on planned side).since = s.listed ∙ ap (λ d. (seen_on d side).since) planned_is in
       record {
@@ -133,7 +131,7 @@ module _ (plans : Plans) (archive : Archive) (sent : Sent) (old new : Histories)
     | inr a ↦ subst (λ h. last_session h ≤ archive.last_session) (sym a.3) (event_below a.0 a.2)
   ]
 
-  used_here : (token : Token) (planned : Planned) (path : Path) → last_token (new side) ≡ Some token → slice_get (plans token.session) token.item ≡ Some planned → WritesTo planned.item side path →
+  used_here : (token : Token) (planned : Planned) (path : Path) → last_token (new side) ≡ Some token → slice_get (plan_in plans token.session) token.item ≡ Some planned → WritesTo planned.item side path →
       IsSpent (new side) path (seen_on planned side).since (seen_on planned (other side)).marks
   used_here token planned path last e w = elim m.here as (λ _. IsSpent (new side) path (seen_on planned side).since (seen_on planned (other side)).marks) [
     | inl same ↦ subst (λ h. IsSpent h path (seen_on planned side).since (seen_on planned (other side)).marks) (sym same) (sound.used side token planned path (ap last_token (sym same) ∙ last) e w)
@@ -143,7 +141,7 @@ module _ (plans : Plans) (archive : Archive) (sent : Sent) (old new : Histories)
   pub sound_moves : IsSound plans new archive sent
   sound_moves = sound-grow plans old new archive sent sound (moves_grow plans archive old new side m)
       (on_both (λ s. last_session (new s) ≤ archive.last_session) side begun_below (subst (λ h. last_session h ≤ archive.last_session) (sym m.there) (sound.begun (other side))))
-      (on_both (λ s. (token : Token) (planned : Planned) (path : Path) → last_token (new s) ≡ Some token → slice_get (plans token.session) token.item ≡ Some planned → WritesTo planned.item s path →
+      (on_both (λ s. (token : Token) (planned : Planned) (path : Path) → last_token (new s) ≡ Some token → slice_get (plan_in plans token.session) token.item ≡ Some planned → WritesTo planned.item s path →
       IsSpent (new s) path (seen_on planned s).since (seen_on planned (other s)).marks) side used_here
       (λ token planned path last e w. subst (λ h. IsSpent h path (seen_on planned (other side)).since (seen_on planned (other (other side))).marks) (sym m.there)
       (sound.used (other side) token planned path (ap last_token (sym m.there) ∙ last) e w)))
@@ -218,6 +216,14 @@ refused_borne plan history from (Fetch path since offset) reason = tt
 refused_borne plan history from (Stage item offset bytes) reason = tt
 refused_borne plan history from (Replace item path since size) reason = tt
 
+-- a refusal tells nothing
+pub refused_true : (history : History) (n : ℕ) (request : Request) (reason : Refusal) → IsTrue history n request (Refused reason)
+refused_true history n (Begin pair) reason = tt
+refused_true history n (ListAt path) reason = tt
+refused_true history n (Fetch path since offset) reason = tt
+refused_true history n (Stage item offset bytes) reason = tt
+refused_true history n (Replace item path since size) reason = tt
+
 module _ (plans : Plans) (archive : Archive) (sent : Sent) (histories : Histories) (sound : IsSound plans histories archive sent) (which : Which) (side : Side) (same : side.history ≡ histories which)
     (staged : IfSome side.staging (IsSoundStaging plans histories which)) (session number : ℕ) where
   staged_is : (o : Option Staging) (token : Token) → IfSome o (IsSoundStaging plans histories which) → is_staged o token ≡ true → (staging : Staging) × IsSoundStaging plans histories which staging × (staging.token ≡ token) × (staged_bytes o ≡ staging.bytes)
@@ -231,8 +237,8 @@ module _ (plans : Plans) (archive : Archive) (sent : Sent) (histories : Historie
       let st = staged_is side.staging (token_of session item) staged at_token in
       let by_plan = (sound.asked which session number (Replace item path since size) asked).by_plan in
       let planned = by_plan.0 in
-      let item_is : slice_get (plans session) item ≡ Some st.1.planned = ap (λ t. slice_get (plans t.session) t.item) (sym st.2) ∙ st.1.item in
-      let same_planned : st.1.planned ≡ planned = some_same (sym item_is ∙ by_plan.1) in
+      let item_is : slice_get (plan_in plans session) item ≡ Some st.1.planned = ap (λ t. slice_get (plan_in plans t.session) t.item) (sym st.2) ∙ st.1.item in
+      let same_planned : st.1.planned ≡ planned = same_Some _ _ (sym item_is ∙ by_plan.1) in
       let piece = by_plan.4.2 in
       let true_piece : IsTruePiece (histories (other which)) (path_of planned.item) (seen_on planned (other which)).since by_plan.4.0 size by_plan.4.1 =
       sound.answered (other which) session piece.number (Piece size by_plan.4.1) (Fetch (path_of planned.item) (seen_on planned (other which)).since by_plan.4.0) piece.answered piece.asked in
@@ -280,13 +286,6 @@ module _ (plans : Plans) (archive : Archive) (sent : Sent) (histories : Historie
   outcome_moves _ served asked (replaces item path since size new reads at_token long within quiet a) =
       inr (Replaced (token_of session item) path since new, a, replacement_is item path since size new asked reads at_token long within quiet, refl)
 
-  refused_true : (history : History) (n : ℕ) (request : Request) (reason : Refusal) → IsTrue history n request (Refused reason)
-  refused_true history n (Begin pair) reason = tt
-  refused_true history n (ListAt path) reason = tt
-  refused_true history n (Fetch path since offset) reason = tt
-  refused_true history n (Stage item offset bytes) reason = tt
-  refused_true history n (Replace item path since size) reason = tt
-
   last_is : (o : Option Token) (token : Token) → option_map_or (λ last. is_same_token last token) o false ≡ true → o ≡ Some token
   last_is None token e = absurd (true≢false (sym e))
   last_is (Some last) token e = ap (λ t. Some t) (same_token last token e)
@@ -315,7 +314,7 @@ module _ (plans : Plans) (archive : Archive) (sent : Sent) (histories : Historie
       let is = made plans histories archive sent sound session item by_plan.0 by_plan.1 in
       let spent = sound.used which (token_of session item) by_plan.0 path (ap last_token (sym same) ∙ last_is (last_token side.history) (token_of session item) e) by_plan.1 by_plan.2 in
       let touched = spent.touched in
-      let within = since_reached plans histories archive sent sound session is.0 (plans session) is.1 item by_plan.0 which path by_plan.1 by_plan.2 which in (
+      let within = since_reached plans histories archive sent sound session is.0 is.1 (plan_in plans session) is.2 item by_plan.0 which path by_plan.1 by_plan.2 which in (
         subst (λ h. since ≤ length h) (sym same) (subst (λ k. k ≤ length (histories which)) (sym by_plan.3) within),
         subst (λ h. is_quiet h since (length h) path ≡ false) (sym same) (subst (λ k. is_quiet (histories which) k (length (histories which)) path ≡ false) (sym by_plan.3) touched),
       )
@@ -323,8 +322,8 @@ module _ (plans : Plans) (archive : Archive) (sent : Sent) (histories : Historie
       (omega (arith, within, length-append side.history (Replaced (token_of session item) path since new ∷ [])), touched_now side.history (Replaced (token_of session item) path since new) since path within (path_meets_itself path))
 
   -- and so is what it says of its item
-  pub outcome_borne : (request : Request) (served : Served) → Contains sent (Asks which session number request) → Outcome side session request served → IsBorne (plans session) served.side.history which request served.reply
-  outcome_borne request served asked (refuses r reason) = refused_borne (plans session) side.history which request reason
+  pub outcome_borne : (request : Request) (served : Served) → Contains sent (Asks which session number request) → Outcome side session request served → IsBorne (plan_in plans session) served.side.history which request served.reply
+  outcome_borne request served asked (refuses r reason) = refused_borne (plan_in plans session) side.history which request reason
   outcome_borne _ served asked (begins_again pair e) = tt
   outcome_borne _ served asked (begins pair a) = tt
   outcome_borne _ served asked (lists path) = tt
@@ -332,7 +331,7 @@ module _ (plans : Plans) (archive : Archive) (sent : Sent) (histories : Historie
   outcome_borne _ served asked (fetches path since offset w q) = λ item planned e writes since_is.
       let is = made plans histories archive sent sound session item planned e in
       let quiet = ap₂ (λ k h. is_quiet h k (length h) path) (sym since_is) (sym same) ∙ q in
-      let seen = seen_is plans histories archive sent sound session is.0 (plans session) is.1 item planned (other which) path e writes which quiet in
+      let seen = seen_is plans histories archive sent sound session is.0 is.1 (plan_in plans session) is.2 item planned (other which) path e writes which quiet in
       seen ∙ (ap (λ h. subtree (mark (tree_of h)) path) (sym same) ∙ (sym (mark-subtree (tree_of side.history) path) ∙ ap mark (quiet_same side.history since path q)))
   outcome_borne _ served asked (stages_first item offset bytes z) = tt
   outcome_borne _ served asked (stages_more item offset bytes staging s t at) = tt
@@ -340,16 +339,16 @@ module _ (plans : Plans) (archive : Archive) (sent : Sent) (histories : Historie
   outcome_borne _ served asked (done_again item path since size e) = λ planned at.
       let by_plan = (sound.asked which session number (Replace item path since size) asked).by_plan in
       let spent = sound.used which (token_of session item) by_plan.0 path (ap last_token (sym same) ∙ last_is (last_token side.history) (token_of session item) e) by_plan.1 by_plan.2 in
-      subst (λ h. HadMarks h path (seen_on planned (other which)).marks) (sym same) (subst (λ d. HadMarks (histories which) path (seen_on d (other which)).marks) (some_same (sym by_plan.1 ∙ at)) spent.put)
+      subst (λ h. HadMarks h path (seen_on planned (other which)).marks) (sym same) (subst (λ d. HadMarks (histories which) path (seen_on d (other which)).marks) (same_Some _ _ (sym by_plan.1 ∙ at)) spent.put)
   outcome_borne _ served asked (replaces item path since size new reads at_token long within quiet a) = λ planned at.
       let r = replacement_is item path since size new asked reads at_token long within quiet in
       record {
         position = length side.history + 1;
         reached = omega (arith, length-append side.history (Replaced (token_of session item) path since new ∷ []));
-        had = ap (λ d. (seen_on d (other which)).marks) (some_same (sym at ∙ r.item)) ∙ (r.carries ∙ put_there side.history (token_of session item) path since new);
+        had = ap (λ d. (seen_on d (other which)).marks) (same_Some _ _ (sym at ∙ r.item)) ∙ (r.carries ∙ put_there side.history (token_of session item) path since new);
       }
 
-  piece_of : (item offset : ℕ) (bytes : Bytes) → Contains sent (Asks which session number (Stage item offset bytes)) → (planned : Planned) × (slice_get (plans session) item ≡ Some planned)
+  piece_of : (item offset : ℕ) (bytes : Bytes) → Contains sent (Asks which session number (Stage item offset bytes)) → (planned : Planned) × (slice_get (plan_in plans session) item ≡ Some planned)
       × ((seen_on planned (other which)).since ≤ length (histories (other which))) × (bytes ≡ take 32768 (drop offset (spelling (source_of histories which planned))))
   piece_of item offset bytes asked =
       let by_plan = (sound.asked which session number (Stage item offset bytes) asked).by_plan in
@@ -373,8 +372,8 @@ module _ (plans : Plans) (archive : Archive) (sent : Sent) (histories : Historie
   outcome_staging _ served asked (stages_more item offset bytes staging s t at) =
       let piece = piece_of item offset bytes asked in
       let had : IsSoundStaging plans histories which staging = subst (λ o. IfSome o (IsSoundStaging plans histories which)) s staged in
-      let item_is : slice_get (plans session) item ≡ Some had.planned = ap (λ t. slice_get (plans t.session) t.item) (same_token (token_of session item) staging.token t) ∙ had.item in
-      let same_planned : had.planned ≡ piece.0 = some_same (sym item_is ∙ piece.1) in
+      let item_is : slice_get (plan_in plans session) item ≡ Some had.planned = ap (λ t. slice_get (plan_in plans t.session) t.item) (same_token (token_of session item) staging.token t) ∙ had.item in
+      let same_planned : had.planned ≡ piece.0 = same_Some _ _ (sym item_is ∙ piece.1) in
       record {
         planned = piece.0;
         item = piece.1;
@@ -387,32 +386,32 @@ module _ (plans : Plans) (archive : Archive) (sent : Sent) (histories : Historie
 
 -- Legal replacements
 
-not_false : (b : Bool) → not b ≡ false → b ≡ true
-not_false true e = refl
-not_false false e = absurd (true≢false e)
-
 pub current : (history : History) (token : Token) (path : Path) (since : ℕ) (new : Tree) → IsAllowed history (Replaced token path since new) → token.session ≡ last_session history
 current history token path since new a =
     let rest = place_causes (tree_of history) path ++ (full_causes (replace (tree_of history) path new) ++ position_causes history) in
     let one = (first_cause-none (is_old_token history token, OldSession) rest a.not_refused).0 in
-    let two = (both_false (token.session == 0 || not (token.session == last_session history)) (option_map_or (λ last. not (is_below last token)) (last_token history) false) one).0 in
-    let three = (both_false (token.session == 0) (not (token.session == last_session history)) two).1 in
-    same_number token.session (last_session history) (not_false _ three)
+    let two = (or_parts (token.session == 0 || not (token.session == last_session history)) (option_map_or (λ last. not (is_below last token)) (last_token history) false) one).0 in
+    let three = (or_parts (token.session == 0) (not (token.session == last_session history)) two).1 in
+    eqb-true token.session (last_session history) (not-false _ three)
 
 -- a replacement by its session's plan is legal
 pub legal : (plans : Plans) (histories : Histories) (archive : Archive) (sent : Sent) → IsSound plans histories archive sent → (side : Which) (token : Token) (path : Path) (since : ℕ) (new : Tree) →
     IsAllowed (histories side) (Replaced token path since new) → IsSoundReplacement plans histories side token path since new →
-    (stores : Stores) → ((s : Which) → history_of stores s ≡ histories s) → stores.archive ≡ archive → IsLegal sent side stores token path since new
+    (stores : Stores) → ((s : Which) → history_of stores s ≡ histories s) → stores.archive ≡ archive → IsLegal sent plans side stores token path since new
 legal plans histories archive sent sound side token path since new allowed h stores at archive_is =
     let is = made plans histories archive sent sound token.session token.item h.planned h.item in
-    let w = writes_of plans histories archive sent sound token.session is.0 (plans token.session) is.1 token.item h.planned side path h.item h.writes in
+    let w = writes_of plans histories archive sent sound token.session is.0 is.1 (plan_in plans token.session) is.2 token.item h.planned side path h.item h.writes in
+    let entry = entry_of plans token.session token.item h.planned h.item in
     let above_is : parent path ≡ w.above = ap parent w.at ∙ parent-child w.above w.name in
     let listed = λ (s : Which). subst (λ k. WasListed sent s token.session (parent path) k) (sym (w.since_is s)) (subst (λ q. WasListed sent s token.session q (is.1.since s w.above)) (sym above_is)
-    (children (is.1.scan s).marks w.above, (is.1.scanned s).listed w.above (w.above_is s).0 (w.above_is s).1)) in
+    (children (is.1.scan s).marks w.above, (is.2.scanned s).listed w.above (w.above_is s).0 (w.above_is s).1)) in
     record {
       listed = subst (λ k. WasListed sent side token.session (parent path) k) (sym h.listed) (listed side);
       reached = subst (λ w. since ≤ length w) (sym (at side)) h.within;
       untouched = ap (λ w. is_quiet w since (length w) path) (at side) ∙ h.quiet;
+      made = entry.0;
+      logged = (entry.1, entry.2);
+      planned = (h.planned, ap (λ plan. slice_get plan token.item) entry.3 ∙ h.item, h.writes);
       recorded = sym (mark-subtree (tree_of (history_of stores side)) path) ∙ (mark-subtree (tree_of (history_of stores side)) path ∙ (ap (λ w. subtree (mark (tree_of w)) path) (at side)
           ∙ (sound.recorded token.session token.item h.planned side path h.item h.writes (current (histories side) token path since new allowed) (ap (λ k. is_quiet (histories side) k (length (histories side)) path) (sym h.listed) ∙ h.quiet)
           ∙ ap (λ a. subtree a.marks path) (sym archive_is))));

@@ -1,7 +1,8 @@
 -- What a side answers to a request, case by case.
-use Rattle.std.proofs.Common.{◌≡◌, ◌<◌, ◌^◌, ◌≤◌, ℕ, Bool, true, false, not, ◌||◌, ◌&&◌, ◌==◌, nat_lt, nat_le, [], ◌∷◌, ◌++◌, length, take, drop, bytes_eq, if◌then◌else◌, refl, sym, subst, Option, Some, None, true≢false, inl, inr, arith, ◌+◌}
+use Rattle.std.proofs.Common.{◌≡◌, ◌≢◌, ◌<◌, ◌^◌, ◌≤◌, ℕ, Bool, true, false, not, ◌||◌, ◌&&◌, ◌==◌, nat_lt, nat_le, [], ◌∷◌, List, ◌++◌, length, take, drop, bytes_eq, if◌then◌else◌, refl, sym, ap, ◌∙◌, subst, Option, Some, None, inl, inr, arith, ◌+◌}
 use Rattle.std.specs.Option.{option_map_or}
 use Rattle.std.proofs.lemmas.Bool.Decides.{nat_tests}
+use Rattle.std.proofs.lemmas.Bool.{and_parts, eqb-true, not-false}
 use Rattle.syn_model.specs.Path.{Path, Bytes, IsPath}
 use Rattle.syn_model.specs.Tree.{Tree, replace, subtree, is_directory}
 use Rattle.syn_model.specs.Limits.{children}
@@ -16,7 +17,6 @@ use Rattle.syn_headline.specs.Side.{Side, Served, Staging, Request, Begin, ListA
 use Rattle.syn_headline.specs.World.{Status, Up, Halted, Down, serve_halted, ServesAs}
 use Rattle.syn_model.proofs.HistoryLemmas.{first_cause-none, none-append}
 use Rattle.syn_headline.proofs.SideLemmas.{began_allowed, replaced_allowed}
-use Rattle.syn_model.proofs.DirtyLemmas.{both_true}
 
 pub data Outcome (side : Side) (session : ℕ) : Request → Served → Type 0 where
   refuses : (request : Request) (reason : Refusal) → Outcome side session request (answer side (Refused reason))
@@ -44,26 +44,19 @@ choose : (P : Served → Type 0) (b : Bool) (x y : Served) → (b ≡ true → P
 choose P true x y h k = h refl
 choose P false x y h k = k refl
 
-not_false : (b : Bool) → not b ≡ false → b ≡ true
-not_false true e = refl
-not_false false e = absurd (true≢false e)
-
 not_above : (a b c : ℕ) → (nat_lt a b || nat_lt c a) ≡ false → a ≤ c
 not_above a b c h = grind (arith, nat_tests)
-
-pub same_number : (a b : ℕ) → (a == b) ≡ true → a ≡ b
-same_number a b h = grind (arith, nat_tests)
 
 since_holds : (history : History) (path : Path) (since : ℕ) → first_cause (since_causes history path since) ≡ None → (since ≤ length history) × (is_quiet history since (length history) path ≡ true)
 since_holds history path since e =
     let one = first_cause-none (nat_lt since (floor history) || nat_lt (length history) since, BelowFloor) ((not (is_quiet history since (length history) path), Touched) ∷ []) e in
     let two = first_cause-none (not (is_quiet history since (length history) path), Touched) [] one.1 in
-    (not_above since (floor history) (length history) one.0, not_false _ two.0)
+    (not_above since (floor history) (length history) one.0, not-false _ two.0)
 
 first_outcome : (side : Side) (session item offset : ℕ) (bytes : Bytes) → Outcome side session (Stage item offset bytes) (stage_first side (token_of session item) offset bytes)
 first_outcome side session item offset bytes =
     unless (Outcome side session (Stage item offset bytes)) side (first_cause ((not (offset == 0), NotStaged) ∷ [])) _ (refuses _) (λ e.
-    stages_first item offset bytes (same_number offset 0 (not_false _ (first_cause-none (not (offset == 0), NotStaged) [] e).0)))
+    stages_first item offset bytes (eqb-true offset 0 (not-false _ (first_cause-none (not (offset == 0), NotStaged) [] e).0)))
 
 stage_outcome : (side : Side) (o : Option Staging) (session item offset : ℕ) (bytes : Bytes) → side.staging ≡ o → Outcome side session (Stage item offset bytes) (stage side o (token_of session item) offset bytes)
 stage_outcome side None session item offset bytes e = first_outcome side session item offset bytes
@@ -73,7 +66,7 @@ stage_outcome side (Some staging) session item offset bytes e =
     choose P (is_below token staging.token) _ _ (λ _. refuses _ OldSession) (λ _.
     choose P (is_same_token token staging.token) _ _
     (λ same. choose P (offset == length staging.bytes && nat_le (length staging.bytes + length bytes) 524288) _ _
-    (λ fits. stages_more item offset bytes staging e same (same_number offset (length staging.bytes) (both_true (offset == length staging.bytes) (nat_le (length staging.bytes + length bytes) 524288) fits).0))
+    (λ fits. stages_more item offset bytes staging e same (eqb-true offset (length staging.bytes) (and_parts (offset == length staging.bytes) (nat_le (length staging.bytes + length bytes) 524288) fits).0))
     (λ _. choose P (bytes_eq (take (length bytes) (drop offset staging.bytes)) bytes && nat_le (offset + length bytes) (length staging.bytes)) _ _ (λ _. stages_again item offset bytes) (λ _. refuses _ BadStage)))
     (λ _. first_outcome side session item offset bytes))
 
@@ -98,7 +91,7 @@ serve_outcome pair has_room side session (Stage item offset bytes) read reads la
 serve_outcome pair has_room side session (Begin asked) read reads lawful =
     let P = Outcome side session (Begin asked) in
     unless P side (first_cause ((not (asked == pair), WrongPair) ∷ (nat_lt session (last_session side.history), OldSession) ∷ [])) _ (refuses _) (λ e.
-    choose P (session == last_session side.history) _ _ (λ k. begins_again asked (same_number session (last_session side.history) k)) (λ k.
+    choose P (session == last_session side.history) _ _ (λ k. begins_again asked (eqb-true session (last_session side.history) k)) (λ k.
     unless P side (first_cause (position_causes side.history ++ room_causes has_room (Began session))) _ (refuses _) (λ f.
     let second = first_cause-none (nat_lt session (last_session side.history), OldSession) [] (first_cause-none (not (asked == pair), WrongPair) ((nat_lt session (last_session side.history), OldSession) ∷ []) e).1 in
     begins asked (began_allowed side.history session lawful.0 second.0 k (none-append (position_causes side.history) (room_causes has_room (Began session)) f).0))))
@@ -110,7 +103,7 @@ serve_outcome pair has_room side session (Replace item path since size) read rea
     let one = first_cause-none (is_dead_token side token, OldSession) ((not (is_staged side.staging token), NotStaged) ∷ (not (length (staged_bytes side.staging) == size), BadStage) ∷ []) e in
     let two = first_cause-none (not (is_staged side.staging token), NotStaged) ((not (length (staged_bytes side.staging) == size), BadStage) ∷ []) one.1 in
     let three = first_cause-none (not (length (staged_bytes side.staging) == size), BadStage) [] two.1 in
-    with_outcome has_room side session item path since size read ((lawful.0, lawful.1.0), lawful.1.1, lawful.1.2) reads fresh one.0 (not_false _ two.0) (same_number (length (staged_bytes side.staging)) size (not_false _ three.0))))
+    with_outcome has_room side session item path since size read ((lawful.0, lawful.1.0), lawful.1.1, lawful.1.2) reads fresh one.0 (not-false _ two.0) (eqb-true (length (staged_bytes side.staging)) size (not-false _ three.0))))
 
 -- what a side answers while no device fails
 pub outcome : (pair : ℕ) (has_room : Event → Bool) (side : Side) (session : ℕ) (request : Request) (served : Served) → IsLawfulRequest session request → Serves pair has_room side session request served → Outcome side session request served
@@ -129,3 +122,22 @@ pub any_outcome : (status : Status) (pair : ℕ) (has_room : Event → Bool) (si
 any_outcome Up pair has_room side session request served lawful s = outcome pair has_room side session request served lawful s
 any_outcome Halted pair has_room side session request served lawful s = subst (Outcome side session request) (sym s) (halted_outcome side session request)
 any_outcome Down pair has_room side session request served lawful s = absurd s
+
+-- a side that is not up adds no event
+stage_same : (side : Side) (session item offset : ℕ) (bytes : List ℕ) (served : Served) → Outcome side session (Stage item offset bytes) served → served.side.history ≡ side.history
+stage_same side session item offset bytes _ (refuses _ reason) = refl
+stage_same side session item offset bytes _ (stages_first _ _ _ z) = refl
+stage_same side session item offset bytes _ (stages_more _ _ _ staging s t at) = refl
+stage_same side session item offset bytes _ (stages_again _ _ _) = refl
+
+halted_same : (side : Side) (session : ℕ) (request : Request) → (serve_halted side session request).side.history ≡ side.history
+halted_same side session (Begin pair) = refl
+halted_same side session (ListAt path) = refl
+halted_same side session (Fetch path since offset) = refl
+halted_same side session (Stage item offset bytes) = stage_same side session item offset bytes _ (halted_outcome side session (Stage item offset bytes))
+halted_same side session (Replace item path since size) = refl
+
+pub unless_up_same : (status : Status) → status ≢ Up → (pair : ℕ) (has_room : Event → Bool) (side : Side) (session : ℕ) (request : Request) (served : Served) → ServesAs status pair has_room side session request served → served.side.history ≡ side.history
+unless_up_same Up h pair has_room side session request served s = absurd (h refl)
+unless_up_same Halted h pair has_room side session request served s = ap (λ x. x.side.history) s ∙ halted_same side session request
+unless_up_same Down h pair has_room side session request served s = absurd s

@@ -5,25 +5,26 @@ use Rattle.std.specs.List.{list_any}
 use Rattle.std.specs.Ordering.{eq_by_cmp}
 use Rattle.std.proofs.lemmas.List.Elements.{Contains-append_left, All-get_or, All-contains, Contains-get_or}
 use Rattle.std.proofs.lemmas.Option.{slice_get_within, get_or_from_slice_get, slice_get-map}
+use Rattle.std.proofs.lemmas.Bool.{and_parts, not-true, or_parts}
 use Rattle.syn_model.specs.Plan.{plan as items_of, IsDecided as IsDecidedAt}
 use Rattle.syn_model.proofs.PlanOrder.{plan_is_decided}
 use Rattle.syn_model.specs.Path.{Name, Path, name_cmp, is_prefix, strip_prefix, parent, child}
 use Rattle.syn_model.specs.Tree.{Tree, IsTree, subtree, is_directory, is_directory_content}
 use Rattle.syn_model.specs.Limits.{children}
-use Rattle.syn_model.specs.Dirty.{Scan, dirty, is_same_tree}
+use Rattle.syn_model.specs.Dirty.{Scan, dirty, is_same_tree, is_unstable}
 use Rattle.syn_model.specs.Mark.{mark}
 use Rattle.syn_model.specs.History.{tree_of, is_quiet, last_session}
 use Rattle.syn_model.specs.Reconcile.{is_directory_in_both}
-use Rattle.syn_model.specs.Decision.{IsReached, Item, ToLeft, ToRight, MarkSame, MarkDir, Conflict, Decision, Clean, Do, DoAndGoOn, GoOn, decision, is_unstable, path_of, GoesOn}
+use Rattle.syn_model.specs.Decision.{IsReached, Item, ToLeft, ToRight, MarkSame, MarkDir, Conflict, Decision, Clean, Do, DoAndGoOn, GoOn, decision, path_of, GoesOn}
 use Rattle.syn_headline.specs.Side.{Request, Reply, Begin, ListAt, Fetch, Stage, Replace, Listed, NotDir, Begun}
 use Rattle.syn_headline.specs.Network.{Which, Left, Right, Sent, Asks, Answers, WasAnswered}
 use Rattle.syn_model.specs.Archive.{Archive}
-use Rattle.syn_headline.specs.Planning.{Planned, seen_on, HasBegun, IsScanOf, SeesBoth, IsPlanOf, WritesTo}
+use Rattle.syn_headline.specs.Planning.{Planned, seen_on, HasBegun, IsScanOf, SeesBoth, SessionPlan, IsPlanOf, WritesTo}
 use Rattle.syn_headline.specs.World.{IsOfPlan}
-use Rattle.syn_headline.proofs.Invariant.{Plans, Histories, IsSound, IsTrueListing, IsTrueNotDir}
+use Rattle.syn_headline.proofs.Invariant.{Plans, Scans, IsPlanFrom, Histories, IsSound, IsTrueListing, IsTrueNotDir}
 use Rattle.syn_model.proofs.PathLemmas.{parent-append, same_name, name_itself}
 use Rattle.syn_model.proofs.HistoryLemmas.{history-is_tree}
-use Rattle.syn_model.proofs.DirtyLemmas.{both_true, both_false, dirty-safe}
+use Rattle.syn_model.proofs.DirtyLemmas.{dirty-safe}
 use Rattle.syn_model.proofs.QuietLemmas.{ScansHistory, scan_is}
 
 -- What was answered stays so
@@ -38,28 +39,27 @@ answered-more sent more side session request reply w = record {
 pub begun-more : (sent more : Sent) (side : Which) (session : ℕ) → HasBegun sent side session → HasBegun (sent ++ more) side session
 begun-more sent more side session b = record { pair = b.pair; position = b.position; begun = answered-more sent more _ _ _ _ b.begun }
 
-pub of_plan-more : (sent more : Sent) (session : ℕ) (plan : List Planned) (to : Which) (request : Request) → IsOfPlan sent session plan to request → IsOfPlan (sent ++ more) session plan to request
-of_plan-more sent more session plan to (Begin pair) h = h
-of_plan-more sent more session plan to (ListAt path) h = begun-more sent more to session h
-of_plan-more sent more session plan to (Fetch path since offset) h = h
-of_plan-more sent more session plan to (Stage item offset bytes) h = (h.0, h.1, (h.2.0, answered-more sent more _ _ _ _ h.2.1))
-of_plan-more sent more session plan to (Replace item path since size) h = (h.0, h.1, h.2, h.3, (h.4.0, h.4.1, answered-more sent more _ _ _ _ h.4.2))
+pub of_plan-more : (pair : ℕ) (sent more : Sent) (session : ℕ) (plan : List Planned) (to : Which) (request : Request) → IsOfPlan pair sent session plan to request → IsOfPlan pair (sent ++ more) session plan to request
+of_plan-more pair sent more session plan to (Begin asked) h = h
+of_plan-more pair sent more session plan to (ListAt path) h = begun-more sent more to session h
+of_plan-more pair sent more session plan to (Fetch path since offset) h = h
+of_plan-more pair sent more session plan to (Stage item offset bytes) h = (h.0, h.1, (h.2.0, answered-more sent more _ _ _ _ h.2.1))
+of_plan-more pair sent more session plan to (Replace item path since size) h = (h.0, h.1, h.2, h.3, (h.4.0, h.4.1, answered-more sent more _ _ _ _ h.4.2))
 
 pub scan_of-more : (sent more : Sent) (side : Which) (session : ℕ) (scan : Scan) (since : Path → ℕ) → IsScanOf sent side session scan since → IsScanOf (sent ++ more) side session scan since
 scan_of-more sent more side session scan since h = record {
   tree = h.tree;
+  fits = h.fits;
   listed = λ path d u. answered-more sent more _ _ _ _ (h.listed path d u);
   ordered = h.ordered;
   not_dir = λ path c. ((h.not_dir path c).0, answered-more sent more _ _ _ _ (h.not_dir path c).1);
   nothing_below = h.nothing_below;
 }
 
-abbrev pub plan_of-more : (sent more : Sent) (session : ℕ) (archive : Tree) (plan : List Planned) → IsPlanOf sent session archive plan → IsPlanOf (sent ++ more) session archive plan
-plan_of-more sent more session archive plan h = record {
-  scan = h.scan;
-  since = h.since;
-  begun = λ side. begun-more sent more side session (h.begun side);
-  scanned = λ side. scan_of-more sent more side session (h.scan side) (h.since side) (h.scanned side);
+pub plan_of-more : (sent more : Sent) (made : SessionPlan) → IsPlanOf sent made → IsPlanOf (sent ++ more) made
+plan_of-more sent more made h = record {
+  begun = λ side. begun-more sent more side made.session (h.begun side);
+  scanned = λ side. scan_of-more sent more side made.session (made.scan side) (made.since side) (h.scanned side);
   items = h.items;
   seen = h.seen;
 }
@@ -123,10 +123,6 @@ goes_on_below false false c d false true g p x = absurd x
 goes_on_below false false c d false false true p x = absurd x
 goes_on_below false false c d false false false p x = absurd x
 
-not_to_false : (b : Bool) → not b ≡ true → b ≡ false
-not_to_false false e = refl
-not_to_false true e = absurd (true≢false (sym e))
-
 pub last_name : (n : Name) (p : Path) → (a : Path) × (m : Name) × (n ∷ p ≡ child a m)
 last_name n [] = ([], n, refl)
 last_name n (m ∷ p) = let rest = last_name m p in (n ∷ rest.0, rest.1, ap (λ w. n ∷ w) rest.2)
@@ -136,7 +132,7 @@ parent-child a n = parent-append a n [] ∙ append-nil a
 
 -- an item of a plan is what is decided at its path, with what the scans have there
 pub record IsPlannedFrom (scan : Which → Scan) (since : Which → Path → ℕ) (archive : Tree) (planned : Planned) : Type 0 where
-  pub reached : IsReached (scan Left) (scan Right) archive (path_of planned.item)
+  pub reached : IsReached (decision (scan Left) (scan Right) archive) (path_of planned.item)
   pub decided : IsDecided (decision (scan Left) (scan Right) archive (path_of planned.item)) planned.item
   pub seen : SeesBoth scan since planned
 
@@ -145,13 +141,13 @@ found_item items plan item planned same e =
     let at : slice_get items item ≡ Some planned.item = ap (λ xs. slice_get xs item) (sym same) ∙ (slice_get-map (λ p. p.item) plan item ∙ ap (option_map (λ p. p.item)) e) in
     subst (Contains items) (get_or_from_slice_get items item planned.item planned.item at) (Contains-get_or items item planned.item (slice_get_within items item planned.item at))
 
-pub planned_is : (sent : Sent) (session : ℕ) (found : Tree) (plan : List Planned) (is : IsPlanOf sent session found plan) (item : ℕ) (planned : Planned) → slice_get plan item ≡ Some planned → IsPlannedFrom is.scan is.since found planned
-planned_is sent session found plan is item planned e =
-    let decided = All-contains (IsDecidedAt (is.scan Left) (is.scan Right) found) (items_of (is.scan Left) (is.scan Right) found) planned.item (plan_is_decided (is.scan Left) (is.scan Right) found) (found_item _ plan item planned is.items e) in
+pub planned_is : (sent : Sent) (session : ℕ) (found : Tree) (both : Scans) (plan : List Planned) (is : IsPlanFrom sent session found both plan) (item : ℕ) (planned : Planned) → slice_get plan item ≡ Some planned → IsPlannedFrom both.scan both.since found planned
+planned_is sent session found both plan is item planned e =
+    let decided = All-contains (IsDecidedAt (decision (both.scan Left) (both.scan Right) found)) (items_of (both.scan Left) (both.scan Right) found) planned.item (plan_is_decided (both.scan Left) (both.scan Right) found) (found_item _ plan item planned is.items e) in
     record {
       reached = decided.reached;
       decided = decided.decided;
-      seen = subst (SeesBoth is.scan is.since) (get_or_from_slice_get plan item planned planned e) (All-get_or (SeesBoth is.scan is.since) plan item planned (slice_get_within plan item planned e) is.seen);
+      seen = subst (SeesBoth both.scan both.since) (get_or_from_slice_get plan item planned planned e) (All-get_or (SeesBoth both.scan both.since) plan item planned (slice_get_within plan item planned e) is.seen);
     }
 
 pub writes_path : (item : Item) (side : Which) (path : Path) → WritesTo item side path → path_of item ≡ path
@@ -168,10 +164,10 @@ pub writes_clean : (l r : Scan) (o : Tree) (p : Path) (item : Item) (side : Whic
     (is_directory_in_both l.marks r.marks p ≡ false) × (dirty (scan side) o p ≡ false)
 writes_clean l r o p (ToLeft at) Left path scan el er w d =
     let both = to_left (not (dirty l o p || dirty r o p)) (is_directory_in_both l.marks r.marks p) (is_unstable l p || is_unstable r p) (is_directory o p) (is_same_tree (subtree l.marks p) (subtree r.marks p)) (not (dirty r o p)) (not (dirty l o p)) p at d in
-    (both.0, ap (λ s. dirty s o p) el ∙ not_to_false _ both.1)
+    (both.0, ap (λ s. dirty s o p) el ∙ not-true _ both.1)
 writes_clean l r o p (ToRight at) Right path scan el er w d =
     let both = to_right (not (dirty l o p || dirty r o p)) (is_directory_in_both l.marks r.marks p) (is_unstable l p || is_unstable r p) (is_directory o p) (is_same_tree (subtree l.marks p) (subtree r.marks p)) (not (dirty r o p)) (not (dirty l o p)) p at d in
-    (both.0, ap (λ s. dirty s o p) er ∙ not_to_false _ both.1)
+    (both.0, ap (λ s. dirty s o p) er ∙ not-true _ both.1)
 writes_clean l r o p (ToLeft at) Right path scan el er w d = absurd w
 writes_clean l r o p (ToRight at) Left path scan el er w d = absurd w
 writes_clean l r o p (MarkSame at) side path scan el er w d = absurd w
@@ -184,8 +180,8 @@ goes_on_at scan o p g side =
     let l = scan Left in
     let r = scan Right in
     let both = goes_on_below (not (dirty l o p || dirty r o p)) (is_directory_in_both l.marks r.marks p) (is_unstable l p || is_unstable r p) (is_directory o p) (is_same_tree (subtree l.marks p) (subtree r.marks p)) (not (dirty r o p)) (not (dirty l o p)) p g in
-    let ds = both_true (is_directory l.marks p) (is_directory r.marks p) both.0 in
-    let us = both_false (is_unstable l p) (is_unstable r p) both.1 in
+    let ds = and_parts (is_directory l.marks p) (is_directory r.marks p) both.0 in
+    let us = or_parts (is_unstable l p) (is_unstable r p) both.1 in
     elim side as (λ side. (is_directory (scan side).marks p ≡ true) × (is_unstable (scan side) p ≡ false)) [ Left ↦ (ds.0, us.0) | Right ↦ (ds.1, us.1) ]
 
 -- what is known of an item that writes
@@ -238,7 +234,7 @@ pub found_unstable : (p : Path) (us : List Path) → list_any (λ other. is_pref
 found_unstable p [] e = absurd (true≢false (sym e))
 found_unstable p (u ∷ us) e =
     elim (is_prefix p u && is_prefix u p) as (λ b. (is_prefix p u && is_prefix u p) ≡ b → (b || list_any (λ other. is_prefix p other && is_prefix other p) us) ≡ true → Contains (u ∷ us) p) [
-      | true ↦ λ y _. let both = both_true (is_prefix p u) (is_prefix u p) y in (0, omega arith, sym (both_ways p u both.0 both.1))
+      | true ↦ λ y _. let both = and_parts (is_prefix p u) (is_prefix u p) y in (0, omega arith, sym (both_ways p u both.0 both.1))
       | false ↦ λ _ rest. let c = found_unstable p us rest in (suc c.0, omega (arith, c.1), c.2)
     ] refl e
 
@@ -269,27 +265,27 @@ module _ (plans : Plans) (histories : Histories) (archive : Archive) (sent : Sen
       let true_one : IsTrueNotDir (histories side) path (since path) = sound.answered side session w.number (NotDir (since path)) (ListAt path) w.answered w.asked in
       true_one.reached
 
-  module _ (session : ℕ) (found : Tree) (plan : List Planned) (is : IsPlanOf sent session found plan) where
+  module _ (session : ℕ) (found : Tree) (both : Scans) (plan : List Planned) (is : IsPlanFrom sent session found both plan) where
     pub fenced : (side : Which) → session ≤ last_session (histories side)
     fenced side = let b = is.begun side in sound.answered side session b.begun.number (Begun b.position) (Begin b.pair) b.begun.answered b.begun.asked
 
     module _ (item : ℕ) (planned : Planned) (side : Which) (path : Path) (e : slice_get plan item ≡ Some planned) (w : WritesTo planned.item side path) where
-      pub writes_of : Writes is.scan is.since found planned side path
-      writes_of = writes_at is.scan is.since found planned side path (λ s. (is.scanned s).tree) (planned_is sent session found plan is item planned e) w (writes_path planned.item side path w)
+      pub writes_of : Writes both.scan both.since found planned side path
+      writes_of = writes_at both.scan both.since found planned side path (λ s. (is.scanned s).tree) (planned_is sent session found both plan is item planned e) w (writes_path planned.item side path w)
 
       pub since_reached : (s : Which) → (seen_on planned s).since ≤ length (histories s)
       since_reached s =
           let at = writes_of in
-          subst (λ k. k ≤ length (histories s)) (sym (at.since_is s)) (listing_reached s session (is.scan s) (is.since s) (is.scanned s) at.above (at.above_is s).0 (at.above_is s).1)
+          subst (λ k. k ≤ length (histories s)) (sym (at.since_is s)) (listing_reached s session (both.scan s) (both.since s) (is.scanned s) at.above (at.above_is s).0 (at.above_is s).1)
 
       -- where nothing touched the path since it was listed, a side's scan has the mark of what is there
       pub seen_is : (s : Which) → is_quiet (histories s) (seen_on planned s).since (length (histories s)) path ≡ true → (seen_on planned s).marks ≡ subtree (mark (tree_of (histories s))) path
       seen_is s quiet =
           let at = writes_of in
-          let seen = scan_is (is.scan s) (is.since s) (histories s) (scans s session (is.scan s) (is.since s) (is.scanned s)) at.above at.name (at.above_is s).0 (at.above_is s).1
+          let seen = scan_is (both.scan s) (both.since s) (histories s) (scans s session (both.scan s) (both.since s) (is.scanned s)) at.above at.name (at.above_is s).0 (at.above_is s).1
           (ap₂ (λ k p. is_quiet (histories s) k (length (histories s)) p) (sym (at.since_is s)) (sym at.at) ∙ quiet) in
-          at.marks_are s ∙ subst (λ p. subtree (is.scan s).marks p ≡ subtree (mark (tree_of (histories s))) p) (sym at.at) seen
+          at.marks_are s ∙ subst (λ p. subtree (both.scan s).marks p ≡ subtree (mark (tree_of (histories s))) p) (sym at.at) seen
 
       -- the path that an item writes has what was found in the archive, as long as nothing touched it
       pub target_is : is_quiet (histories side) (seen_on planned side).since (length (histories side)) path ≡ true → subtree (mark (tree_of (histories side))) path ≡ subtree found path
-      target_is quiet = sym (seen_is side quiet) ∙ (writes_of.marks_are side ∙ dirty-safe (is.scan side) found path writes_of.clean)
+      target_is quiet = sym (seen_is side quiet) ∙ (writes_of.marks_are side ∙ dirty-safe (both.scan side) found path writes_of.clean)

@@ -1,10 +1,10 @@
 -- What the replacements and records of a session leave, where no user's event came since it began.
-use Rattle.std.proofs.Common.{◌≡◌, true, false, not, ◌&&◌, if◌then◌else◌, List, [], ◌∷◌, ◌++◌, fold, refl, sym, ap, ap₂, ◌∙◌, subst, Some, None, true≢false, append-nil, arith, inl, inr}
+use Rattle.std.proofs.Common.{◌≡◌, true, false, not, ◌&&◌, if◌then◌else◌, List, [], ◌∷◌, fold, refl, sym, ap, ap₂, ◌∙◌, subst, Some, true≢false, append-nil, arith, inl, inr}
 use Rattle.std.specs.Prelude.{Contains, All, Any}
 use Rattle.std.specs.FinMap.{get}
 use Rattle.std.proofs.lemmas.List.Elements.{All-head, All-tail, Contains-append_cases}
-use Rattle.syn_model.specs.Path.{Name, Path, comparable}
-use Rattle.syn_model.specs.Tree.{Tree, Directory, IsTree, HasParents, subtree, replace, is_directory, empty_directory}
+use Rattle.syn_model.specs.Path.{Path, comparable}
+use Rattle.syn_model.specs.Tree.{Tree, Directory, IsTree, subtree, replace, is_directory, empty_directory}
 use Rattle.syn_model.specs.Event.{Event, Edited, Began, Replaced, after_event}
 use Rattle.syn_model.specs.Archive.{Archive, Kept, Session, Recorded, RecordedDir, after_kept, archive_of}
 use Rattle.syn_model.specs.Decision.{Item, MarkDir, path_of}
@@ -89,11 +89,8 @@ module _ (found : Which → Tree) (o : Tree) (items : List Item) (alone : StandA
   with_directory_is : (a : Archive) (p : Path) → (after_kept a (RecordedDir p)).marks ≡ with_directory a.marks p
   with_directory_is a p = elim (is_directory a.marks p) as (λ b. (if b then a else record a { marks = replace a.marks p empty_directory }).marks ≡ (if b then a.marks else replace a.marks p empty_directory)) [ true ↦ refl | false ↦ refl ]
 
-  nothing_in : (t : Tree) (p : Path) → HasParents t → (n : Name) (r : Path) → is_directory t p ≡ false → get t (p ++ n ∷ r) ≡ None
-  nothing_in t p parents n r none = nothing_below t p n r parents none
-
   more_of : (a : Archive) (p : Path) → IsTree a.marks → HasMore p a.marks (after_kept a (RecordedDir p)).marks × (get (after_kept a (RecordedDir p)).marks p ≡ Some Directory)
-  more_of a p tree = subst (λ t. HasMore p a.marks t × (get t p ≡ Some Directory)) (sym (with_directory_is a p)) (directory_more a.marks p (nothing_in a.marks p tree.part.parents))
+  more_of a p tree = subst (λ t. HasMore p a.marks t × (get t p ≡ Some Directory)) (sym (with_directory_is a p)) (directory_more a.marks p (λ n r none. nothing_below a.marks p n r tree.part.parents none))
 
   kept_covers : (a : Archive) (kept : Kept) → IsTree a.marks → IsRecord kept → CoversArchive found o items alone a.marks → CoversArchive found o items alone (after_kept a kept).marks
   kept_covers a (Session session) tree c covered = absurd c

@@ -6,12 +6,13 @@ use Rattle.std.proofs.lemmas.Bool.Decides.{nat_tests}
 use Rattle.std.proofs.lemmas.List.{length-append, take-append-drop, take-append-le}
 use Rattle.std.proofs.lemmas.List.Elements.{All-head}
 use Rattle.std.proofs.Math.Seq.{take-length, drop-length}
+use Rattle.std.proofs.lemmas.Option.{none-some}
+use Rattle.std.proofs.lemmas.Bool.{leb-false}
 use Rattle.syn_model.specs.Path.{Name, Path, child}
 use Rattle.syn_model.specs.Tree.{Tree, HasParents, is_directory, is_directory_content}
 use Rattle.syn_model.specs.Limits.{children}
 use Rattle.syn_model.specs.Mark.{mark, mark_of}
-use Rattle.syn_model.specs.Dirty.{Scan}
-use Rattle.syn_model.specs.Decision.{is_unstable}
+use Rattle.syn_model.specs.Dirty.{Scan, is_unstable}
 use Rattle.syn_model.specs.Plan.{scan_of}
 use Rattle.syn_model.specs.Event.{Event, Edited, Began, Replaced}
 use Rattle.syn_model.specs.History.{History, IsHistory, AllAllowed, tree_of, tree_at, is_quiet, last_session}
@@ -21,14 +22,13 @@ use Rattle.syn_headline.specs.Network.{Which, other, Sent}
 use Rattle.syn_headline.specs.Planning.{Planned, seen_on, IsScanOf, WritesTo}
 use Rattle.syn_headline.specs.Headline.{IsNoEdit}
 use Rattle.syn_headline.proofs.Invariant.{Plans, Histories, IsSound, IsTrueListing, IsTrueNotDir, source_of}
-use Rattle.syn_model.proofs.PathLemmas.{none_some}
 use Rattle.syn_model.proofs.TreeLemmas.{same_tree, get-subtree}
 use Rattle.syn_model.proofs.HistoryLemmas.{tree_of-append}
 use Rattle.syn_model.proofs.MarkLemmas.{get-mark}
 use Rattle.syn_model.proofs.SyncLemmas.{directory_is}
 use Rattle.syn_model.proofs.QuietLemmas.{ScansHistory, scan_is, directory_of_mark, quiet_rest, none_touches}
 use Rattle.syn_headline.proofs.PlanLemmas.{scans, listing_reached, not_dir_reached}
-use Rattle.syn_headline.proofs.SoundLemmas.{number_above, began_above, session_grows, fold_one}
+use Rattle.syn_headline.proofs.SoundLemmas.{began_above, session_grows, fold_one}
 use Rattle.syn_headline.proofs.MoveLemmas.{all_front, tree_at_is_tree}
 use Rattle.syn_headline.proofs.TokenLemmas.{after_front}
 
@@ -81,7 +81,7 @@ nothing_later : (histories : Histories) (side : Which) (later : History) → All
 nothing_later histories side [] planned quiet = refl
 nothing_later histories side (Edited user edit ∷ later) planned quiet = absurd (All-head IsNoEdit (Edited user edit) later quiet)
 nothing_later histories side (Began session ∷ later) planned quiet = absurd (All-head (IsPlannedEvent [] histories side) (Began session) later planned)
-nothing_later histories side (Replaced token path since new ∷ later) planned quiet = absurd (none_some (All-head (IsPlannedEvent [] histories side) (Replaced token path since new) later planned).at)
+nothing_later histories side (Replaced token path since new ∷ later) planned quiet = absurd (none-some _ (All-head (IsPlannedEvent [] histories side) (Replaced token path since new) later planned).at)
 
 -- what stands below a path stands in directories
 directory_above : (t : Tree) (p rest : Path) → HasParents t → is_directory t (p ++ rest) ≡ true → is_directory t p ≡ true
@@ -116,7 +116,7 @@ module _ (plans : Plans) (histories : Histories) (archive : Archive) (sent : Sen
       let listing : IsTrueListing (histories side) session [] (since []) (children scan.marks []) = sound.answered side session w.number (Listed (since []) (children scan.marks [])) (ListAt []) w.answered w.asked in
       let above : last_session before < session = (begun_within (histories side) before [] session (sound.lawful side) e).1 in
       elim (nat_le (since []) (length before)) as (λ b. nat_le (since []) (length before) ≡ b → length before + 1 ≤ since []) [
-        | false ↦ λ late. let above_it : length before < since [] = number_above (since []) (length before) late in omega (arith, above_it)
+        | false ↦ λ late. let above_it : length before < since [] = leb-false (since []) (length before) late in omega (arith, above_it)
         | true ↦ λ early.
             let early' : since [] ≤ length before = grind (arith, nat_tests) in
             let front : take (since []) (histories side) ≡ take (since []) before = ap (take (since [])) e ∙ take-append-le (since []) before (Began session ∷ []) early' in

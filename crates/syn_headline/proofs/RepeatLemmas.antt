@@ -1,19 +1,15 @@
 -- What becomes of a repeated replacement.
-use Rattle.std.proofs.Common.{◌≡◌, ℕ, true, false, not, ◌==◌, if◌then◌else◌, [], ◌∷◌, length, refl, ap, ◌∙◌, inl, inr}
+use Rattle.std.proofs.Common.{◌≡◌, true, false, not, ◌==◌, if◌then◌else◌, [], ◌∷◌, length, refl, ap, ◌∙◌, inl, inr}
 use Rattle.std.specs.Option.{option_map_or}
-use Rattle.std.proofs.lemmas.Bool.Decides.{nat_tests}
-use native.Mathlib.Omega.{arith}
+use Rattle.std.proofs.lemmas.Bool.{eq-eqb}
 use Rattle.syn_model.specs.Refusal.{OldSession, NotStaged, BadStage, first_cause}
 use Rattle.syn_model.specs.Event.{Token, is_same_token}
 use Rattle.syn_model.specs.History.{last_token}
 use Rattle.syn_headline.specs.Side.{Done, answer, token_of, is_dead_token, is_staged, staged_bytes, unless_refused, replace_with}
 use Rattle.syn_headline.specs.Laws.{RepeatsAreDone, LaterAreOld}
 
-same : (a : ℕ) → (a == a) ≡ true
-same a = grind (arith, nat_tests)
-
 itself : (token : Token) → is_same_token token token ≡ true
-itself token = rw (same token.session, same token.item) refl
+itself token = rw (eq-eqb token.session token.session refl, eq-eqb token.item token.item refl) refl
 
 pub repeats_are_done : RepeatsAreDone
 repeats_are_done pair has_room side session item path since size served last (inr interrupted) = inr interrupted

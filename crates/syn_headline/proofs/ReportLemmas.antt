@@ -1,8 +1,9 @@
 -- What a complete session leaves and reports, where no user's event came since it began.
-use Rattle.std.proofs.Common.{◌≡◌, ℕ, zero, suc, Bool, true, false, ◌&&◌, List, [], ◌∷◌, ◌++◌, map, filter_map, length, refl, sym, ap, ◌∙◌, subst, Some, None, true≢false, arith, inl, inr, ◌⊎◌}
+use Rattle.std.proofs.Common.{◌≡◌, ℕ, zero, suc, Bool, true, false, ◌&&◌, List, [], ◌∷◌, ◌++◌, map, filter_map, length, refl, sym, ap, ◌∙◌, subst, Some, None, true≢false, arith, inl, inr}
 use Rattle.std.specs.Prelude.{Contains, All, Any, ◌↔◌}
 use Rattle.std.specs.List.{cons_option, count_by}
 use Rattle.std.proofs.lemmas.List.Elements.{All-contains, All-weaker}
+use Rattle.std.proofs.lemmas.Option.{none-some, same_Some}
 use Rattle.syn_model.specs.Path.{Path}
 use Rattle.syn_model.specs.Tree.{IsTree, subtree}
 use Rattle.syn_model.specs.Mark.{mark, AreApart}
@@ -11,17 +12,16 @@ use Rattle.syn_model.specs.Event.{Began}
 use Rattle.syn_model.specs.History.{History, IsHistory, tree_of}
 use Rattle.syn_model.specs.Archive.{Archive, Kept, Session, archive_of}
 use Rattle.syn_model.specs.Decision.{Item, ToLeft, ToRight, MarkSame, MarkDir, Conflict}
-use Rattle.syn_model.specs.Plan.{is_mark_dir, HasDepth, most_names, CanBePlanned, carried_out, IsReconciled, IsConflict}
+use Rattle.syn_model.specs.Plan.{is_mark_dir, HasDepth, most_names, CanBePlanned, Trees, carried_out, after_plan, IsSynchronized, IsReconciled, IsConflict}
 use Rattle.syn_headline.specs.Network.{Which, Left, Right, Sent}
-use Rattle.syn_headline.specs.Planning.{Planned}
+use Rattle.syn_headline.specs.Planning.{Planned, Log}
 use Rattle.syn_headline.specs.Report.{Report, Counts, is_kept, IsSettled, is_carrying, is_marking, conflict_at}
 use Rattle.syn_headline.specs.World.{AllCanKeep}
 use Rattle.syn_headline.specs.Headline.{IsNoEdit, HasCounts}
 use Rattle.syn_headline.proofs.Invariant.{Plans, Histories, IsSound}
-use Rattle.syn_model.proofs.PathLemmas.{some_same, none_some}
 use Rattle.syn_model.proofs.FitsLemmas.{history_fits, replica_depth}
 use Rattle.syn_model.proofs.HistoryLemmas.{history-is_tree}
-use Rattle.syn_model.proofs.ResultLemmas.{plan_reconciles}
+use Rattle.syn_model.proofs.ResultLemmas.{plan_synchronizes, plan_reconciles}
 use Rattle.syn_model.proofs.PlanCover.{conflicts_are_planned}
 use Rattle.syn_headline.proofs.MoveLemmas.{all_front}
 use Rattle.syn_headline.proofs.WorldLemmas.{archive-append}
@@ -40,11 +40,11 @@ from_map f (x ∷ xs) y (suc k, h, e) = let rest = from_map f xs y (k, omega (ar
 
 -- the conflicts of a plan's items
 conflict_is : (item : Item) (path : Path) → conflict_at item ≡ Some path → item ≡ Conflict path
-conflict_is (Conflict p) path e = ap Conflict (some_same e)
-conflict_is (ToLeft p) path e = absurd (none_some e)
-conflict_is (ToRight p) path e = absurd (none_some e)
-conflict_is (MarkSame p) path e = absurd (none_some e)
-conflict_is (MarkDir p) path e = absurd (none_some e)
+conflict_is (Conflict p) path e = ap Conflict (same_Some _ _ e)
+conflict_is (ToLeft p) path e = absurd (none-some _ e)
+conflict_is (ToRight p) path e = absurd (none-some _ e)
+conflict_is (MarkSame p) path e = absurd (none-some _ e)
+conflict_is (MarkDir p) path e = absurd (none-some _ e)
 
 later_item : (item : Item) (items : List Item) (x : Item) → Contains items x → Contains (item ∷ items) x
 later_item item items x c = let within = c.1 in (suc c.0, omega arith, c.2)
@@ -86,8 +86,8 @@ settled_kept of_kind unlike kept report (MarkDir path) none (inl is) on = is
 settled_kept of_kind unlike kept report (MarkDir path) none (inr refused) on = absurd (none_refused report path none refused)
 settled_kept of_kind unlike kept report (Conflict path) none settled on = absurd (true≢false (sym on ∙ unlike path))
 
-module _ (before : Archive) (whole : IsTree before.marks) (shallow : HasDepth most_names before.marks) (plans : Plans) (histories : Histories) (archive : Archive) (sent : Sent) (sound : IsSound plans histories archive sent)
-    (kept : List Kept) (can : AllCanKeep before kept) (session : ℕ) (plan : List Planned) (h : IsUnderway before histories sent kept session plan) (made : IsQuietPlan sent histories session (archive_of before h.earlier).marks plan)
+module _ (log : Log) (before : Archive) (whole : IsTree before.marks) (shallow : HasDepth most_names before.marks) (plans : Plans) (histories : Histories) (archive : Archive) (sent : Sent) (sound : IsSound plans histories archive sent)
+    (kept : List Kept) (can : AllCanKeep before kept) (session : ℕ) (plan : List Planned) (h : IsUnderway log before histories sent kept session plan) (made : IsQuietPlan sent histories session (archive_of before h.earlier).marks plan)
     (report : Report) (settled : All (λ planned. IsSettled h.records report planned.item) plan) (none : report.refused ≡ []) (conflicts : report.conflicts ≡ filter_map (λ planned. conflict_at planned.item) plan)
     (first later : Which → History) (split : (side : Which) → histories side ≡ first side ++ Began session ∷ later side) (quiet : (side : Which) → All IsNoEdit (later side)) where
   abbrev pub found : Archive
@@ -106,14 +106,14 @@ module _ (before : Archive) (whole : IsTree before.marks) (shallow : HasDepth mo
   final_archive : archive_of begun h.records ≡ archive_of before kept
   final_archive = sym (ap (archive_of before) h.kept_is ∙ archive-append before h.earlier (Session session ∷ h.records))
 
-  shown : (side : Which) → ShowsTree (made.is.scan side) (made.is.since side) (first side)
+  shown : (side : Which) → ShowsTree (made.scans.scan side) (made.scans.since side) (first side)
   shown side = made.shows side (first side) (later side) (split side) (quiet side)
 
   abbrev items_of_plan : List Item
-  items_of_plan = items first later found.marks found_tree.part.parents sent session plan made.is histories split shown
+  items_of_plan = items first later found.marks found_tree.part.parents sent session made.scans plan made.is histories split shown
 
   plan_is : map (λ planned. planned.item) plan ≡ items_of_plan
-  plan_is = items_are first later found.marks found_tree.part.parents sent session plan made.is histories split shown
+  plan_is = items_are first later found.marks found_tree.part.parents sent session made.scans plan made.is histories split shown
 
   item_settled : (x : Item) → Contains items_of_plan x → IsSettled h.records report x
   item_settled x c =
@@ -121,7 +121,7 @@ module _ (before : Archive) (whole : IsTree before.marks) (shallow : HasDepth mo
       subst (IsSettled h.records report) p.2 (All-contains (λ planned. IsSettled h.records report planned.item) plan p.0 settled p.1)
 
   trees_are : record { left = tree_of (histories Left); right = tree_of (histories Right); archive = (archive_of begun h.records).marks } ≡ carried_out (record { left = tree_of (first Left); right = tree_of (first Right); archive = found.marks }) items_of_plan
-  trees_are = complete_carries_out first later found.marks found_tree.part.parents sent session plan made.is histories split shown
+  trees_are = complete_carries_out first later found.marks found_tree.part.parents sent session made.scans plan made.is histories split shown
       (λ side. h.events side (first side) (later side) (split side)) quiet h.records h.due begun refl found_tree parts.1.1
       (λ x c on. kept_any h.records x on (settled_kept is_recorded (λ p. refl) h.records report x none (item_settled x c) on))
       (λ p c. kept_directory h.records p (settled_kept is_mark_dir (λ p. refl) h.records report (MarkDir p) none (item_settled (MarkDir p) c) refl))
@@ -135,13 +135,19 @@ module _ (before : Archive) (whole : IsTree before.marks) (shallow : HasDepth mo
   archive_plannable : CanBePlanned found.marks
   archive_plannable = record { parents = found_tree.part.parents; depth = all_kept_depth before h.earlier shallow parts.0 }
 
-  -- the trees and the archive are a synchronization of what was found
-  pub reconciled : AreApart (λ tree. (tree ≡ tree_of (first Left)) ⊎ (tree ≡ tree_of (first Right))) →
-      IsReconciled (tree_of (first Left)) (tree_of (first Right)) found.marks (record { left = tree_of (histories Left); right = tree_of (histories Right); archive = (archive_of before kept).marks })
-  reconciled apart =
-      subst (λ a. IsReconciled (tree_of (first Left)) (tree_of (first Right)) found.marks (record { left = tree_of (histories Left); right = tree_of (histories Right); archive = a.marks })) final_archive
-      (subst (IsReconciled (tree_of (first Left)) (tree_of (first Right)) found.marks) (sym trees_are)
-      (plan_reconciles (tree_of (first Left)) (tree_of (first Right)) found.marks (plannable Left) (plannable Right) archive_plannable apart))
+  abbrev pub found_trees : Trees
+  found_trees = record { left = tree_of (first Left); right = tree_of (first Right); archive = found.marks }
+
+  left_trees : after_plan found_trees ≡ record { left = tree_of (histories Left); right = tree_of (histories Right); archive = (archive_of before kept).marks }
+  left_trees = sym trees_are ∙ ap (λ a. record { left = tree_of (histories Left); right = tree_of (histories Right); archive = a.marks }) final_archive
+
+  -- the trees are a synchronization of what was found
+  pub synchronized : AreApart (tree_of (first Left)) (tree_of (first Right)) → IsSynchronized found_trees (record { left = tree_of (histories Left); right = tree_of (histories Right); archive = (archive_of before kept).marks })
+  synchronized apart = subst (IsSynchronized found_trees) left_trees (plan_synchronizes found_trees (plannable Left) (plannable Right) archive_plannable apart)
+
+  -- and the archive is that of it
+  pub reconciled : IsReconciled found_trees (record { left = tree_of (histories Left); right = tree_of (histories Right); archive = (archive_of before kept).marks })
+  reconciled = subst (IsReconciled found_trees) left_trees (plan_reconciles found_trees (plannable Left) (plannable Right) archive_plannable)
 
   conflicts_planned : (path : Path) → Contains items_of_plan (Conflict path) ↔ IsConflict (tree_of (first Left)) (tree_of (first Right)) found.marks path
   conflicts_planned path = conflicts_are_planned (tree_of (first Left)) (tree_of (first Right)) found.marks (plannable Left) (plannable Right) archive_plannable path

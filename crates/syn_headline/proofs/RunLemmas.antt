@@ -1,6 +1,6 @@
 -- What a step does at one machine keeps the invariant, and its replacements are legal.
-use Rattle.std.proofs.Common.{◌≡◌, ◌≤◌, ◌+◌, ℕ, Bool, false, true≢false, List, [], ◌∷◌, ◌++◌, refl, sym, ap, ap₂, ◌∙◌, subst, Option, Some, None, append-nil, arith, inl, inr, ◌⊎◌, slice_get, ◌≢◌, map}
-use Rattle.std.specs.Prelude.{Contains, IfSome}
+use Rattle.std.proofs.Common.{◌≡◌, ◌≤◌, ◌+◌, ℕ, false, true≢false, List, [], ◌∷◌, ◌++◌, refl, sym, ap, ap₂, ◌∙◌, subst, Option, Some, None, append-nil, arith, inl, inr, ◌⊎◌, slice_get, ◌≢◌, map}
+use Rattle.std.specs.Prelude.{Contains, IfSome, All}
 use Rattle.std.proofs.lemmas.List.{append_cancel_left}
 use Rattle.std.proofs.lemmas.List.Elements.{Contains-get_or}
 use Rattle.std.proofs.lemmas.Option.{slice_get_within, get_or_from_slice_get}
@@ -10,17 +10,18 @@ use Rattle.syn_model.specs.Refusal.{Refusal, Device}
 use Rattle.syn_model.specs.Event.{Token, Event, Edited, Began, Replaced}
 use Rattle.syn_model.specs.History.{History, IsAllowed}
 use Rattle.syn_model.specs.Archive.{Kept, Session, CanKeep, after_kept}
-use Rattle.syn_headline.specs.Side.{Side, Served, Request, Begin, ListAt, Fetch, Stage, Replace, Reply, Refused, IsLawfulRequest, fits_in}
+use Rattle.syn_headline.specs.Side.{Side, Served, Request, Reply, Refused, IsLawfulRequest, fits_in}
 use Rattle.syn_headline.specs.Network.{Which, Left, Right, other, Sent, Message, Asks, Answers}
-use Rattle.syn_headline.specs.Planning.{Planned}
+use Rattle.syn_headline.specs.Planning.{Planned, Log}
 use Rattle.syn_headline.specs.Acknowledged.{Ack, Happened, Kept_by, history_of, IsLegal}
 use Rattle.syn_headline.specs.Arms.{Arms, unarmed}
-use Rattle.syn_headline.specs.World.{Status, Up, Halted, Down, Machine, At, Coordinator, World, SideMachine, CoordinatorMachine, Running, asked_of, outstanding, side_of, set_side, stopped, Compacts, compacted, compacting_failed, compacting_cut, Writes, written, failed, cut, Opens, opened, recovered, OpensArchive, archive_opened, archive_recovered, refuses_with, is_halted, ServesAs, serve_halted, WouldAdd, TakesRequest, answered, request_failed, request_cut, side_down, IsDueAfter, IsOver, IsExpected, HasPlan, GoesOnAs, ended, goes_on, GoesOnFrom, plan_of, StartsFrom, RunsOver, IsNext, IsNothing, CoordinatorGoes, TakesAnswer, taken, ignored, coordinator_down, Delivers, OpensMachine, cut_off}
+use Rattle.syn_headline.specs.World.{Status, Up, Halted, Down, Machine, At, Coordinator, World, SideMachine, CoordinatorMachine, Running, asked_of, outstanding, side_of, set_side, stopped, Writes, written, failed, cut, Opens, opened, recovered, OpensArchive, archive_opened, archive_recovered, refuses_with, is_halted, WouldAdd, TakesRequest, answered, request_failed, request_cut, side_down, IsDueAfter, IsOver, IsExpected, HasPlan, GoesOnAs, ended, goes_on, GoesOnFrom, plan_of, StartsFrom, RunsOver, IsNext, IsNothing, CoordinatorGoes, TakesAnswer, taken, ignored, coordinator_down, Delivers, OpensMachine, cut_off, Compacts, compacted, compacting_failed, compacting_cut}
 use Rattle.syn_headline.specs.Headline.{stores_of}
-use Rattle.syn_headline.proofs.Invariant.{Plans, Histories, histories_of, IsSound, IsTrue, IsFresh, IsHarmless, IsSoundStaging, IsSoundEvent, IsSoundSide, IsSoundCoordinator, IsKept}
-use Rattle.syn_headline.proofs.SoundLemmas.{set_plan, set_plan-grows, set_plan-here, sound-plan, sound-keep, kept_session}
-use Rattle.syn_headline.proofs.OutcomeLemmas.{Outcome, refuses, stages_first, stages_more, stages_again, any_outcome, outcome, halted_outcome}
-use Rattle.syn_headline.proofs.MoveLemmas.{on_both, Moves, refused_borne, outcome_moves, outcome_true, outcome_borne, outcome_staging, legal}
+use Rattle.syn_headline.proofs.Invariant.{Plans, plan_in, Histories, histories_of, IsSound, IsFresh, IsHarmless, IsSoundStaging, IsSoundEvent, IsSoundSide, IsSoundCoordinator, IsKept}
+use Rattle.syn_headline.proofs.LogLemmas.{no_plan}
+use Rattle.syn_headline.proofs.SoundLemmas.{IsNew, push-grows, push-here, sound-plan, sound-keep, kept_session}
+use Rattle.syn_headline.proofs.OutcomeLemmas.{any_outcome, outcome, unless_up_same}
+use Rattle.syn_headline.proofs.MoveLemmas.{on_both, Moves, refused_borne, outcome_moves, outcome_true, outcome_borne, outcome_staging, legal, refused_true}
 use Rattle.syn_headline.proofs.HarmlessLemmas.{due_harmless}
 use Rattle.syn_headline.proofs.StepLemmas.{if_some, asked_was_sent, Says, nothing, reply, SideStep, step_moves, side_keeps, coordinator_keeps, next_fresh, sides-later, sides-plan}
 use Rattle.syn_headline.proofs.WorldLemmas.{room_after}
@@ -28,7 +29,7 @@ use Rattle.syn_headline.proofs.WorldLemmas.{room_after}
 -- each acknowledged replacement of a step is the first of its events, and legal
 abbrev pub IsLegalStep : World → List Ack → Type 0
 IsLegalStep old acks = (earlier later : List Ack) (side : Which) (token : Token) (path : Path) (since : ℕ) (u : Tree) → acks ≡ earlier ++ Happened side (Replaced token path since u) ∷ later →
-    (earlier ≡ []) × IsLegal old.sent side (stores_of old) token path since u
+    (earlier ≡ []) × IsLegal old.sent old.log side (stores_of old) token path since u
 
 pub record Advances (plans : Plans) (old new : World) : Type 0 where
   pub later : Plans
@@ -37,6 +38,8 @@ pub record Advances (plans : Plans) (old new : World) : Type 0 where
   pub moves : Moves plans old.coordinator.archive (histories_of old) (histories_of new) which
   pub messages : Sent
   pub sends : new.sent ≡ old.sent ++ messages
+  pub logged : Log
+  pub logs : new.log ≡ old.log ++ logged
   pub acks : List Ack
   pub acknowledges : new.acknowledged ≡ old.acknowledged ++ acks
   pub legal_step : IsLegalStep old acks
@@ -68,6 +71,8 @@ stays plans old new k e = record {
   moves = stay_moves plans old new (ap (λ w. histories_of w Left) e) (ap (λ w. histories_of w Right) e);
   messages = [];
   sends = ap (λ w. w.sent) e ∙ sym (append-nil old.sent);
+  logged = [];
+  logs = ap (λ w. w.log) e ∙ sym (append-nil old.log);
   acks = [];
   acknowledges = ap (λ w. w.acknowledged) e ∙ sym (append-nil old.acknowledged);
   legal_step = none_legal old;
@@ -77,11 +82,13 @@ stays plans old new k e = record {
 pub refuses_advances : (plans : Plans) (old world new : World) (reason : Refusal) → Advances plans old world → new ≡ refuses_with world reason → Advances plans old new
 refuses_advances plans old world new reason a e = record {
   later = a.later;
-  kept = subst (IsKept a.later) (sym e) (record { sound = a.kept.sound; sides = λ side. on_both (λ s. IsSoundSide a.later (histories_of world) world.coordinator.archive s (side_of world s)) side (a.kept.sides side) (a.kept.sides (other side)) side; coordinator = a.kept.coordinator });
+  kept = subst (IsKept a.later) (sym e) (record { logged = a.kept.logged; sound = a.kept.sound; sides = λ side. on_both (λ s. IsSoundSide a.later (histories_of world) world.coordinator.archive s (side_of world s)) side (a.kept.sides side) (a.kept.sides (other side)) side; coordinator = a.kept.coordinator });
   which = a.which;
   moves = subst (λ w. Moves plans old.coordinator.archive (histories_of old) (histories_of w) a.which) (sym e) a.moves;
   messages = a.messages;
   sends = ap (λ w. w.sent) e ∙ a.sends;
+  logged = a.logged;
+  logs = ap (λ w. w.log) e ∙ a.logs;
   acks = a.acks;
   acknowledges = ap (λ w. w.acknowledged) e ∙ a.acknowledges;
   legal_step = a.legal_step;
@@ -104,7 +111,7 @@ stores_history w Left = refl
 stores_history w Right = refl
 
 event_legal : (plans : Plans) (old : World) → IsKept plans old → (which : Which) (event : Event) → IsAllowed (histories_of old which) event → IsSoundEvent plans (histories_of old) old.coordinator.archive which event →
-    (side : Which) (token : Token) (path : Path) (since : ℕ) (u : Tree) → Happened which event ≡ Happened side (Replaced token path since u) → IsLegal old.sent side (stores_of old) token path since u
+    (side : Which) (token : Token) (path : Path) (since : ℕ) (u : Tree) → Happened which event ≡ Happened side (Replaced token path since u) → IsLegal old.sent old.log side (stores_of old) token path since u
 event_legal plans old k which (Edited user edit) a s side token path since u e = absurd (let x : Edited user edit ≡ Replaced token path since u = cc in cc)
 event_legal plans old k which (Began session) a s side token path since u e = absurd (let x : Began session ≡ Replaced token path since u = cc in cc)
 event_legal plans old k which (Replaced token' path' since' u') a s side token path since u e =
@@ -113,9 +120,9 @@ event_legal plans old k which (Replaced token' path' since' u') a s side token p
     let e2 : path' ≡ path = cc in
     let e3 : since' ≡ since = cc in
     let e4 : u' ≡ u = cc in
-    subst (λ v. IsLegal old.sent side (stores_of old) token path since v) e4 (subst (λ v. IsLegal old.sent side (stores_of old) token path v u') e3 (subst (λ v. IsLegal old.sent side (stores_of old) token v since' u') e2
-    (subst (λ v. IsLegal old.sent side (stores_of old) v path' since' u') e1 (subst (λ v. IsLegal old.sent v (stores_of old) token' path' since' u') e0
-    (legal plans (histories_of old) old.coordinator.archive old.sent k.sound which token' path' since' u' a s (stores_of old) (stores_history old) refl)))))
+    subst (λ v. IsLegal old.sent old.log side (stores_of old) token path since v) e4 (subst (λ v. IsLegal old.sent old.log side (stores_of old) token path v u') e3 (subst (λ v. IsLegal old.sent old.log side (stores_of old) token v since' u') e2
+    (subst (λ v. IsLegal old.sent old.log side (stores_of old) v path' since' u') e1 (subst (λ v. IsLegal old.sent old.log v (stores_of old) token' path' since' u') e0
+    (subst (λ log. IsLegal old.sent log which (stores_of old) token' path' since' u') (sym k.logged) (legal plans (histories_of old) old.coordinator.archive old.sent k.sound which token' path' since' u' a s (stores_of old) (stores_history old) refl))))))
 
 adds_legal : (plans : Plans) (old : World) → IsKept plans old → (which : Which) (history : History) (events : List Event) → Adds plans old which history events → IsLegalStep old (map (λ event. Happened which event) events)
 adds_legal plans old k which history _ (no_event e) earlier later side token path since u same = none_legal old earlier later side token path since u same
@@ -136,6 +143,10 @@ next_there old Right machine sent acks = refl
 next_coordinator : (old : World) (which : Which) (machine : SideMachine) (sent : Sent) (acks : List Ack) → (next old which machine sent acks).coordinator ≡ old.coordinator
 next_coordinator old Left machine sent acks = refl
 next_coordinator old Right machine sent acks = refl
+
+next_log : (old : World) (which : Which) (machine : SideMachine) (sent : Sent) (acks : List Ack) → (next old which machine sent acks).log ≡ old.log
+next_log old Left machine sent acks = refl
+next_log old Right machine sent acks = refl
 
 next_sent : (old : World) (which : Which) (machine : SideMachine) (sent : Sent) → record (set_side old which machine) { sent = sent } ≡ next old which machine sent old.acknowledged
 next_sent old Left machine sent = refl
@@ -160,6 +171,7 @@ side_advances plans old k which machine messages events new adds staged writing 
       there = next_there old which machine says_now acks_now;
       coordinator = next_coordinator old which machine says_now acks_now;
       sent = refl;
+      log = next_log old which machine says_now acks_now;
       moves = moves_of plans old which machine.side.history events adds;
       staged = staged;
       writing = writing;
@@ -172,6 +184,8 @@ side_advances plans old k which machine messages events new adds staged writing 
       moves = subst (λ w. Moves plans old.coordinator.archive (histories_of old) (histories_of w) which) (sym e) (step_moves plans old n k which machine messages step);
       messages = messages;
       sends = ap (λ w. w.sent) e;
+      logged = [];
+      logs = ap (λ w. w.log) e ∙ (next_log old which machine says_now acks_now ∙ sym (append-nil old.log));
       acks = map (λ event. Happened which event) events;
       acknowledges = ap (λ w. w.acknowledged) e;
       legal_step = adds_legal plans old k which machine.side.history events adds;
@@ -224,31 +238,6 @@ neither Up h k = refl
 neither Halted h k = absurd (true≢false h)
 neither Down h k = absurd (k refl)
 
-stage_same : (side : Side) (session item offset : ℕ) (bytes : List ℕ) (served : Served) → Outcome side session (Stage item offset bytes) served → served.side.history ≡ side.history
-stage_same side session item offset bytes _ (refuses _ reason) = refl
-stage_same side session item offset bytes _ (stages_first _ _ _ z) = refl
-stage_same side session item offset bytes _ (stages_more _ _ _ staging s t at) = refl
-stage_same side session item offset bytes _ (stages_again _ _ _) = refl
-
-halted_same : (side : Side) (session : ℕ) (request : Request) → (serve_halted side session request).side.history ≡ side.history
-halted_same side session (Begin pair) = refl
-halted_same side session (ListAt path) = refl
-halted_same side session (Fetch path since offset) = refl
-halted_same side session (Stage item offset bytes) = stage_same side session item offset bytes _ (halted_outcome side session (Stage item offset bytes))
-halted_same side session (Replace item path since size) = refl
-
-unless_up_same : (status : Status) → status ≢ Up → (pair : ℕ) (has_room : Event → Bool) (side : Side) (session : ℕ) (request : Request) (served : Served) → ServesAs status pair has_room side session request served → served.side.history ≡ side.history
-unless_up_same Up h pair has_room side session request served s = absurd (h refl)
-unless_up_same Halted h pair has_room side session request served s = ap (λ x. x.side.history) s ∙ halted_same side session request
-unless_up_same Down h pair has_room side session request served s = absurd s
-
-pub refused_is_true : (history : History) (n : ℕ) (request : Request) (reason : Refusal) → IsTrue history n request (Refused reason)
-refused_is_true history n (Begin pair) reason = tt
-refused_is_true history n (ListAt path) reason = tt
-refused_is_true history n (Fetch path since offset) reason = tt
-refused_is_true history n (Stage item offset bytes) reason = tt
-refused_is_true history n (Replace item path since size) reason = tt
-
 longer : (h : History) (event : Event) → h ≡ h ++ event ∷ [] → ⊥
 longer h event e = let x : [] ≡ event ∷ [] = append_cancel_left h [] (event ∷ []) (append-nil h ∙ e) in cc
 
@@ -292,7 +281,7 @@ module _ (plans : Plans) (old : World) (k : IsKept plans old) (which : Which) (s
   request_advances new (request_failed event arms would meets e) =
       side_advances plans old k which (record (side_of old which) { status = Halted; writing = Some event; arms = arms }) (Answers which session number (Refused Device) ∷ []) [] new (no_event refl) (k.sides which).staged
       (halted_not_up, would_sound event would, refl)
-      (reply session number request (Refused Device) asked (refused_is_true (histories_of old which) session request Device) (refused_borne (plans session) (histories_of old which) which request Device))
+      (reply session number request (Refused Device) asked (refused_true (histories_of old which) session request Device) (refused_borne (plan_in plans session) (histories_of old which) which request Device))
       (e ∙ (next_sent old which _ _ ∙ ap (λ a. next old which (record (side_of old which) { status = Halted; writing = Some event; arms = arms }) (old.sent ++ Answers which session number (Refused Device) ∷ []) a) (sym (append-nil old.acknowledged))))
   request_advances new (request_cut event would meets e) =
       side_settles plans old k which (stopped (side_of old which) (Some event)) new refl tt (down_not_up, would_sound event would, refl) (e ∙ next_same old which _)
@@ -300,29 +289,31 @@ module _ (plans : Plans) (old : World) (k : IsKept plans old) (which : Which) (s
 
 -- The coordinator
 
-coordinator_advances : (plans later : Plans) (old : World) (D : Kept → Type 0) (R : Option Running → Type 0) (new : World) → (g : CoordinatorGoes old D R new) → IsKept later new → Advances plans old new
-coordinator_advances plans later old D R new g k = record {
+coordinator_advances : (plans later : Plans) (old : World) (logged : Log) (D : Kept → Type 0) (R : Option Running → Type 0) (new : World) → (g : CoordinatorGoes old logged D R new) → IsKept later new → Advances plans old new
+coordinator_advances plans later old logged D R new g k = record {
   later = later;
   kept = k;
   which = Left;
   moves = stay_moves plans old new (ap (λ w. histories_of w Left) g.result) (ap (λ w. histories_of w Right) g.result);
   messages = g.messages;
   sends = ap (λ w. w.sent) g.result;
+  logged = logged;
+  logs = ap (λ w. w.log) g.result;
   acks = map (λ k. Kept_by k) g.kept;
   acknowledges = ap (λ w. w.acknowledged) g.result;
   legal_step = kept_legal old g.kept;
 }
 
 abbrev pub HasItsPlan : Plans → Histories → Option Running → Type 0
-HasItsPlan plans histories o = IfSome o (λ running. (plans running.session ≡ running.plan) × (running.plan ≡ [] → IsFresh histories running.session))
+HasItsPlan plans histories o = IfSome o (λ running. (plan_in plans running.session ≡ running.plan) × (running.plan ≡ [] → IsFresh histories running.session))
 
-runs_has : (plans : Plans) (histories : Histories) (r : Running) (plan : List Planned) → plans r.session ≡ plan → (plan ≡ [] → IsFresh histories r.session) → (o : Option Running) → GoesOnAs r plan o → HasItsPlan plans histories o
+runs_has : (plans : Plans) (histories : Histories) (r : Running) (plan : List Planned) → plan_in plans r.session ≡ plan → (plan ≡ [] → IsFresh histories r.session) → (o : Option Running) → GoesOnAs r plan o → HasItsPlan plans histories o
 runs_has plans histories r plan has fresh _ ended = tt
 runs_has plans histories r plan has fresh _ (goes_on new session_is plan_is) =
-    (ap plans session_is ∙ (has ∙ sym plan_is), λ e. subst (IsFresh histories) (sym session_is) (fresh (sym plan_is ∙ e)))
+    (ap (plan_in plans) session_is ∙ (has ∙ sym plan_is), λ e. subst (IsFresh histories) (sym session_is) (fresh (sym plan_is ∙ e)))
 
 module _ (plans : Plans) (old : World) (k : IsKept plans old) (new : World) where
-  pub running_has : (r : Running) → old.coordinator.running ≡ Some r → (plans r.session ≡ r.plan) × (r.plan ≡ [] → IsFresh (histories_of old) r.session)
+  pub running_has : (r : Running) → old.coordinator.running ≡ Some r → (plan_in plans r.session ≡ r.plan) × (r.plan ≡ [] → IsFresh (histories_of old) r.session)
   running_has r e = subst (HasItsPlan plans (histories_of old)) e k.coordinator.running
 
   pub running_over : (r : Running) → old.coordinator.running ≡ Some r → RunsOver old.sent old.coordinator.archive (Some r)
@@ -331,38 +322,39 @@ module _ (plans : Plans) (old : World) (k : IsKept plans old) (new : World) wher
   pub waits_for : (r : Running) → old.coordinator.running ≡ Some r → (from : Which) (number : ℕ) (request : Request) → asked_of r from number ≡ Some request → Contains old.sent (Asks from r.session number request)
   waits_for r e from number request asked = asked_was_sent old.sent from r.session number (outstanding r from) ((running_over r e).1 from) request asked
 
-  take_with : (from : Which) (session number : ℕ) (said : Reply) (plan : List Planned) → Contains old.sent (Answers from session number said) → (running : Option Running) → old.coordinator.running ≡ running → IsExpected running from session number →
-      HasPlan old.sent old.coordinator.archive running plan → CoordinatorGoes old (IsDueAfter running plan from number said) (λ running'. GoesOnFrom running plan running' × IsOver from number running') new → Advances plans old new
-  take_with from session number said plan c None e expected made g = absurd expected
-  take_with from session number said plan c (Some r) e expected (inl same) g =
+  take_with : (from : Which) (session number : ℕ) (said : Reply) (plan : List Planned) (logged : Log) → Contains old.sent (Answers from session number said) → (running : Option Running) → old.coordinator.running ≡ running → IsExpected running from session number →
+      HasPlan old.sent old.coordinator.archive old.log running plan logged → CoordinatorGoes old logged (IsDueAfter running plan from number said) (λ running'. GoesOnFrom running plan running' × IsOver from number running') new → Advances plans old new
+  take_with from session number said plan logged c None e expected made g = absurd expected
+  take_with from session number said plan logged c (Some r) e expected (inl (same, none)) g =
       let has = running_has r e in
-      let planned : plans r.session ≡ plan = has.0 ∙ sym same in
+      let planned : plan_in plans r.session ≡ plan = has.0 ∙ sym same in
       let c' = subst (λ n. Contains old.sent (Answers from n number said)) expected.0 c in
-      coordinator_advances plans plans old (IsDueAfter (Some r) plan from number said) (λ running'. GoesOnFrom (Some r) plan running' × IsOver from number running') new g
-      (coordinator_keeps plans old (IsDueAfter (Some r) plan from number said) (λ running'. GoesOnFrom (Some r) plan running' × IsOver from number running') new k.sound k.sides
+      coordinator_advances plans plans old logged (IsDueAfter (Some r) plan from number said) (λ running'. GoesOnFrom (Some r) plan running' × IsOver from number running') new g
+      (coordinator_keeps plans old logged (IsDueAfter (Some r) plan from number said) (λ running'. GoesOnFrom (Some r) plan running' × IsOver from number running') new (ap (λ more. old.log ++ more) none ∙ (append-nil old.log ∙ k.logged)) k.sound k.sides
       (λ kept due. due_harmless plans (histories_of old) old.coordinator.archive old.sent k.sound r (running_over r e).0 plan planned from number said kept c' (waits_for r e from number) due) g
       (runs_has plans (histories_of old) r plan planned (λ x. has.1 (sym same ∙ x)) g.machine.running g.runs_on.0))
-  take_with from session number said plan c (Some r) e expected (inr made) g =
+  take_with from session number said plan logged c (Some r) e expected (inr (entry, makes, plan_is, logs)) g =
       let has = running_has r e in
-      let empty : plans r.session ≡ [] = has.0 ∙ made.0 in
-      let fresh = has.1 made.0 in
-      let plans' = set_plan plans r.session plan in
-      let planned : plans' r.session ≡ plan = set_plan-here plans r.session plan in
-      let sound = sound-plan plans (histories_of old) old.coordinator.archive old.sent k.sound r.session plan empty made.1 fresh in
+      let new_one : IsNew plans entry = subst (λ n. All (λ earlier. earlier.session ≢ n) plans) (sym makes.of_session) (subst (All (λ earlier. earlier.session ≢ r.session)) k.logged makes.once) in
+      let none : plan_in plans r.session ≡ [] = ap (plan_in plans) (sym makes.of_session) ∙ no_plan plans entry.session new_one in
+      let fresh = has.1 (sym has.0 ∙ none) in
+      let plans' = plans ++ entry ∷ [] in
+      let planned : plan_in plans' r.session ≡ plan = ap (plan_in plans') (sym makes.of_session) ∙ (push-here plans entry new_one ∙ sym plan_is) in
+      let sound = sound-plan plans (histories_of old) old.coordinator.archive old.sent k.sound entry new_one makes.archive_is makes.is (subst (IsFresh (histories_of old)) (sym makes.of_session) fresh) in
       let c' = subst (λ n. Contains old.sent (Answers from n number said)) expected.0 c in
-      coordinator_advances plans plans' old (IsDueAfter (Some r) plan from number said) (λ running'. GoesOnFrom (Some r) plan running' × IsOver from number running') new g
-      (coordinator_keeps plans' old (IsDueAfter (Some r) plan from number said) (λ running'. GoesOnFrom (Some r) plan running' × IsOver from number running') new sound
-      (λ side. sides-plan plans plans' (set_plan-grows plans r.session plan empty) (histories_of old) old.coordinator.archive side (side_of old side) (k.sides side))
+      coordinator_advances plans plans' old logged (IsDueAfter (Some r) plan from number said) (λ running'. GoesOnFrom (Some r) plan running' × IsOver from number running') new g
+      (coordinator_keeps plans' old logged (IsDueAfter (Some r) plan from number said) (λ running'. GoesOnFrom (Some r) plan running' × IsOver from number running') new (ap₂ (λ had more. had ++ more) k.logged logs) sound
+      (λ side. sides-plan plans plans' (push-grows plans entry new_one) (histories_of old) old.coordinator.archive side (side_of old side) (k.sides side))
       (λ kept due. due_harmless plans' (histories_of old) old.coordinator.archive old.sent sound r (running_over r e).0 plan planned from number said kept c' (waits_for r e from number) due) g
       (runs_has plans' (histories_of old) r plan planned (λ _. fresh) g.machine.running g.runs_on.0))
 
-  pub tick_with : (running : Option Running) → old.coordinator.running ≡ running → CoordinatorGoes old IsNothing (GoesOnFrom running (plan_of running)) new → Advances plans old new
-  tick_with None e g = coordinator_advances plans plans old IsNothing (GoesOnFrom None []) new g
-      (coordinator_keeps plans old IsNothing (GoesOnFrom None []) new k.sound k.sides (λ kept due. absurd due) g (subst (HasItsPlan plans (histories_of old)) (sym g.runs_on) tt))
+  pub tick_with : (running : Option Running) → old.coordinator.running ≡ running → CoordinatorGoes old [] IsNothing (GoesOnFrom running (plan_of running)) new → Advances plans old new
+  tick_with None e g = coordinator_advances plans plans old [] IsNothing (GoesOnFrom None []) new g
+      (coordinator_keeps plans old [] IsNothing (GoesOnFrom None []) new (append-nil old.log ∙ k.logged) k.sound k.sides (λ kept due. absurd due) g (subst (HasItsPlan plans (histories_of old)) (sym g.runs_on) tt))
   tick_with (Some r) e g =
       let has = running_has r e in
-      coordinator_advances plans plans old IsNothing (GoesOnFrom (Some r) r.plan) new g
-      (coordinator_keeps plans old IsNothing (GoesOnFrom (Some r) r.plan) new k.sound k.sides (λ kept due. absurd due) g (runs_has plans (histories_of old) r r.plan has.0 has.1 g.machine.running g.runs_on))
+      coordinator_advances plans plans old [] IsNothing (GoesOnFrom (Some r) r.plan) new g
+      (coordinator_keeps plans old [] IsNothing (GoesOnFrom (Some r) r.plan) new (append-nil old.log ∙ k.logged) k.sound k.sides (λ kept due. absurd due) g (runs_has plans (histories_of old) r r.plan has.0 has.1 g.machine.running g.runs_on))
 
   session_harmless : (n : ℕ) → IsHarmless plans (histories_of old) (Session n)
   session_harmless n = record { leaves = λ session item planned side path e w last quiet archive tree can. refl; held = tt }
@@ -371,11 +363,11 @@ module _ (plans : Plans) (old : World) (k : IsKept plans old) (new : World) wher
   starts_has None s = tt
   starts_has (Some r) s =
       let f = next_fresh plans (histories_of old) old.coordinator.archive old.sent k.sound r.session s.0 in
-      (f.0 ∙ sym s.1, λ _. f.1)
+      (no_plan plans r.session f.0 ∙ sym s.1, λ _. f.1)
 
-  pub start_advances : CoordinatorGoes old (IsNext old.coordinator.archive) (StartsFrom old.coordinator.archive) new → Advances plans old new
-  start_advances g = coordinator_advances plans plans old (IsNext old.coordinator.archive) (StartsFrom old.coordinator.archive) new g
-      (coordinator_keeps plans old (IsNext old.coordinator.archive) (StartsFrom old.coordinator.archive) new k.sound k.sides
+  pub start_advances : CoordinatorGoes old [] (IsNext old.coordinator.archive) (StartsFrom old.coordinator.archive) new → Advances plans old new
+  start_advances g = coordinator_advances plans plans old [] (IsNext old.coordinator.archive) (StartsFrom old.coordinator.archive) new g
+      (coordinator_keeps plans old [] (IsNext old.coordinator.archive) (StartsFrom old.coordinator.archive) new (append-nil old.log ∙ k.logged) k.sound k.sides
       (λ kept due. subst (IsHarmless plans (histories_of old)) (sym due) (session_harmless (old.coordinator.archive.last_session + 1))) g (starts_has g.machine.running g.runs_on))
 
   -- the coordinator's machine alone changes, and says nothing
@@ -386,6 +378,7 @@ module _ (plans : Plans) (old : World) (k : IsKept plans old) (new : World) wher
     which = Left;
     moves = stay_moves plans old new (ap (λ w. histories_of w Left) e) (ap (λ w. histories_of w Right) e);
     kept = subst (IsKept plans) (sym e) (record {
+      logged = k.logged;
       sound = sound;
       sides = λ side. on_both (λ s. IsSoundSide plans (histories_of old) machine.archive s (side_of old s)) side
           (sides-later plans (histories_of old) old.coordinator.archive machine.archive side (side_of old side) later (k.sides side))
@@ -394,6 +387,8 @@ module _ (plans : Plans) (old : World) (k : IsKept plans old) (new : World) wher
     });
     messages = [];
     sends = ap (λ w. w.sent) e ∙ sym (append-nil old.sent);
+    logged = [];
+    logs = ap (λ w. w.log) e ∙ sym (append-nil old.log);
     acks = map (λ k. Kept_by k) ks;
     acknowledges = ap (λ w. w.acknowledged) e;
     legal_step = kept_legal old ks;
@@ -433,7 +428,7 @@ module _ (plans : Plans) (old : World) (k : IsKept plans old) (new : World) wher
   opens_machine Coordinator calls g = opens_archive calls g.0 g.1 g.2 g.3
 
   answer_advances : (from : Which) (session number : ℕ) (said : Reply) → Contains old.sent (Answers from session number said) → TakesAnswer old from session number said new → Advances plans old new
-  answer_advances from session number said c (taken plan expected made g calls reports) = take_with from session number said plan c old.coordinator.running refl expected made g
+  answer_advances from session number said c (taken plan logged expected made g calls reports) = take_with from session number said plan logged c old.coordinator.running refl expected made g
   answer_advances from session number said c (ignored x e) = stays plans old new k e
   answer_advances from session number said c (coordinator_down d e) = stays plans old new k e
 

@@ -1,25 +1,24 @@
 -- What the sessions of whole runs leave.
-use Rattle.std.proofs.Common.{true, ◌≡◌, ◌+◌, List, [], ◌∷◌, ◌++◌, filter_map, length, take, drop, refl, sym, ap, ◌∙◌, subst, Some, None, option_map, append_assoc, arith, inl, inr, ◌⊎◌}
+use Rattle.std.proofs.Common.{true, ◌≡◌, ◌+◌, List, [], ◌∷◌, ◌++◌, filter_map, take, drop, refl, sym, ap, ◌∙◌, subst, Some, None, option_map, append_assoc, arith}
 use Rattle.std.specs.Prelude.{Contains, ◌↔◌}
 use Rattle.std.specs.FinMap.{get}
 use Rattle.std.proofs.lemmas.List.{take-append-drop}
 use Rattle.std.proofs.lemmas.List.Elements.{filter_map-append}
-use Rattle.std.proofs.Math.Seq.{take-append_seam}
+use Rattle.std.proofs.lemmas.Option.{none-some}
 use Rattle.syn_model.specs.Path.{Path}
-use Rattle.syn_model.specs.Tree.{Tree, IsTree, subtree}
+use Rattle.syn_model.specs.Tree.{IsTree, subtree}
 use Rattle.syn_model.specs.Mark.{mark, mark_of, AreApart}
 use Rattle.syn_model.specs.Reconcile.{is_relevant}
 use Rattle.syn_model.specs.Event.{Began}
 use Rattle.syn_model.specs.History.{History, IsHistory, tree_of, tree_at}
 use Rattle.syn_model.specs.Archive.{Session, archive_of}
-use Rattle.syn_model.specs.Plan.{IsConflict, HasDepth, most_names}
+use Rattle.syn_model.specs.Plan.{IsSynchronized, IsReconciled, IsConflict, HasDepth, most_names}
 use Rattle.syn_headline.specs.Network.{Which, Left, Right}
 use Rattle.syn_headline.specs.Acknowledged.{Ack, Kept_by, event_at, kept_in, Stores, history_of, stores_after}
 use Rattle.syn_headline.specs.Report.{Report}
 use Rattle.syn_headline.specs.World.{World, Step, Runs, AllCanKeep}
-use Rattle.syn_headline.specs.Headline.{stores_of, IsPair, IsStart, BeganAfter, IsQuietSession, IsOfRun, Synchronizes, StandsFor, CompleteSessionsSynchronize, ReportsItsConflicts, HasCounts, CountsItsItems, OfEachRun}
+use Rattle.syn_headline.specs.Headline.{stores_of, IsPair, IsStart, BeganAfter, IsQuietSession, trees_of, StandsFor, CompleteSessionsSynchronize, CompleteSessionsReconcile, ReportsItsConflicts, HasCounts, CountsItsItems, OfEachRun}
 use Rattle.syn_headline.proofs.Invariant.{Plans, histories_of, IsKept}
-use Rattle.syn_model.proofs.PathLemmas.{none_some}
 use Rattle.syn_model.proofs.MarkLemmas.{get-mark}
 use Rattle.syn_model.proofs.FitsLemmas.{replica_depth}
 use Rattle.syn_headline.proofs.MoveLemmas.{tree_at_fits, all_front}
@@ -54,7 +53,7 @@ pair_depth stores pair path deep = elim (get stores.archive.marks path) as (λ o
   | Some content ↦ λ has.
       let held = (pair.held path content has).0 in
       let none = replica_depth (tree_at stores.left held.0) (tree_at_fits stores.left held.0 pair.left) path deep in
-      absurd (none_some (sym (get-mark (tree_at stores.left held.0) path ∙ ap (option_map mark_of) none) ∙ held.2))
+      absurd (none-some _ (sym (get-mark (tree_at stores.left held.0) path ∙ ap (option_map mark_of) none) ∙ held.2))
 ] refl
 
 start_watched : (old : World) → IsStart old → IsWatched (stores_of old) old
@@ -113,39 +112,35 @@ module _ (old new : World) (steps : List Step) (s : IsStart old) (g : Runs old s
     found_then Left = goes_on Left before.left found.left new.left.side.history stands.left left_began
     found_then Right = goes_on Right before.right found.right new.right.side.history stands.right right_began
 
-    -- what it found was there at some moment of the run
-    found_at : (which : Which) → tree_of (history_of found which) ≡ tree_at (histories_of new which) (length (history_of found which))
-    found_at which =
-        let then = found_then which in
-        sym (ap (λ w. tree_at w (length (history_of found which))) then.1 ∙ ap tree_of (take-append_seam (history_of found which) then.0))
-
-    -- and was a history
+    -- and what it found was a history
     pub found_lawful : (which : Which) → IsHistory (history_of found which)
     found_lawful which =
         let then = found_then which in
         all_front [] (history_of found which) then.0 (subst IsHistory then.1 ((run_kept steps no_plans old new (start_kept old s) g).1.sound.lawful which))
 
-    of_run : (tree : Tree) → (tree ≡ tree_of found.left) ⊎ (tree ≡ tree_of found.right) → IsOfRun new tree
-    of_run tree (inl is) = (Left, length found.left, is ∙ found_at Left)
-    of_run tree (inr is) = (Right, length found.right, is ∙ found_at Right)
+    synchronizes : AreApart (tree_of found.left) (tree_of found.right) → IsSynchronized (trees_of found) (trees_of left)
+    synchronizes apart = subst (λ s. IsSynchronized (trees_of found) (trees_of s)) (sym q.at_end) ((told.worth found archive_is left_began right_began).0 apart)
 
-    synchronizes : AreApart (IsOfRun new) → Synchronizes found left
-    synchronizes apart = subst (Synchronizes found) (sym q.at_end)
-        ((told.worth found archive_is left_began right_began).0 (λ t u a b is_t is_u has_t has_u same. apart t u a b (of_run t is_t) (of_run u is_u) has_t has_u same))
+    reconciles : IsReconciled (trees_of found) (trees_of left)
+    reconciles = subst (λ s. IsReconciled (trees_of found) (trees_of s)) (sym q.at_end) (told.worth found archive_is left_began right_began).1
 
     has_conflicts : (path : Path) → Contains report.conflicts path ↔ IsConflict (tree_of found.left) (tree_of found.right) found.archive.marks path
-    has_conflicts = (told.worth found archive_is left_began right_began).1
+    has_conflicts = (told.worth found archive_is left_began right_began).2
 
     has_counts : HasCounts found report
-    has_counts = (told.worth found archive_is left_began right_began).3
+    has_counts = (told.worth found archive_is left_began right_began).4
 
     -- a relevant path where both sides had the same is marked
     pub marks_alike : (path : Path) → is_relevant (tree_of found.left) (tree_of found.right) path ≡ true → subtree (tree_of found.left) path ≡ subtree (tree_of found.right) path → subtree left.archive.marks path ≡ mark (subtree (tree_of found.left) path)
-    marks_alike path relevant same = ap (λ w. subtree w.archive.marks path) q.at_end ∙ (told.worth found archive_is left_began right_began).2 path relevant same
+    marks_alike path relevant same = ap (λ w. subtree w.archive.marks path) q.at_end ∙ (told.worth found archive_is left_began right_began).3 path relevant same
 
 -- a complete session without edits leaves the synchronization of what it found
 pub runs_synchronize : OfEachRun CompleteSessionsSynchronize
-runs_synchronize old new steps s g apart report found left q = synchronizes old new steps s g report found left q apart
+runs_synchronize old new steps s g report found left q apart = synchronizes old new steps s g report found left q apart
+
+-- and the archive of it
+pub runs_reconcile : OfEachRun CompleteSessionsReconcile
+runs_reconcile old new steps s g report found left q = reconciles old new steps s g report found left q
 
 -- and reports its conflicts
 pub runs_report_conflicts : OfEachRun ReportsItsConflicts

@@ -1,7 +1,8 @@
 -- A side adds only allowed events.
-use Rattle.std.proofs.Common.{◌≡◌, ◌<◌, ◌^◌, ℕ, Bool, true, false, not, ◌||◌, ◌&&◌, ◌==◌, nat_lt, nat_le, [], ◌∷◌, ◌++◌, length, take, drop, bytes_eq, if◌then◌else◌, refl, sym, ap, ◌∙◌, subst, Option, Some, None, true≢false, inl, inr, arith, ◌+◌}
+use Rattle.std.proofs.Common.{◌≡◌, ◌<◌, ◌^◌, ℕ, Bool, true, false, not, ◌||◌, ◌&&◌, ◌==◌, nat_lt, nat_le, [], ◌∷◌, ◌++◌, length, take, drop, bytes_eq, if◌then◌else◌, refl, sym, ap, ◌∙◌, subst, Option, Some, None, inl, inr, arith, ◌+◌}
 use Rattle.std.specs.Option.{option_map_or}
 use Rattle.std.proofs.lemmas.Bool.Decides.{nat_tests}
+use Rattle.std.proofs.lemmas.Bool.{or_from, or_parts}
 use Rattle.syn_model.specs.Path.{Path, Bytes, IsPath}
 use Rattle.syn_model.specs.Tree.{Tree, IsPart, replace}
 use Rattle.syn_model.specs.Refusal.{Refusal, first_cause, OldSession, WrongPair, NotStaged, BadStage}
@@ -11,7 +12,6 @@ use Rattle.syn_model.specs.Standing.{place_causes, full_causes}
 use Rattle.syn_headline.specs.Side.{Side, Served, Staging, Request, Begin, ListAt, Fetch, Stage, Replace, IsLawfulRequest, unless_refused, stage, stage_first, replace_with, replace_causes, since_causes, room_causes, is_dead_token, serve, token_of, Reads, is_staged, staged_bytes}
 use Rattle.syn_headline.specs.Laws.{AddsAllowed, ServesAllowed}
 use Rattle.syn_model.proofs.HistoryLemmas.{first_cause-none, none-append, append-none}
-use Rattle.syn_model.proofs.DirtyLemmas.{both_false}
 
 -- what is answered unless a cause stands adds what it adds where none stands
 unless : (old : History) (side : Side) (why : Option Refusal) (served : Served) → side.history ≡ old → (why ≡ None → AddsAllowed old served.side.history) → AddsAllowed old (unless_refused side why served).side.history
@@ -42,14 +42,6 @@ old_token : (history : History) (token : Token) (o : Option Token) → option_ma
 old_token history token None h k = refl
 old_token history token (Some last) h k = ap not (later_token token last k h)
 
-or_false : (a b : Bool) → a ≡ false → b ≡ false → (a || b) ≡ false
-or_false true b e f = e
-or_false false b e f = f
-
-not_same : (b : Bool) → not b ≡ false → b ≡ true
-not_same true e = refl
-not_same false e = absurd (true≢false e)
-
 pub replaced_allowed : (has_room : Event → Bool) (side : Side) (token : Token) (path : Path) (since : ℕ) (new : Tree) → IsLawfulToken token × IsPath path × (since < 2 ^ 64) → IsPart new →
     option_map_or (λ last. is_same_token last token) (last_token side.history) false ≡ false → is_dead_token side token ≡ false →
     first_cause (replace_causes has_room side token path since new) ≡ None → IsAllowed side.history (Replaced token path since new)
@@ -59,12 +51,12 @@ replaced_allowed has_room side token path since new lawful part fresh alive e =
     let two = none-append (place_causes tree path) (full_causes (replace tree path new) ++ (position_causes side.history ++ room_causes has_room (Replaced token path since new))) one.1 in
     let three = none-append (full_causes (replace tree path new)) (position_causes side.history ++ room_causes has_room (Replaced token path since new)) two.1 in
     let four = none-append (position_causes side.history) (room_causes has_room (Replaced token path since new)) three.1 in
-    let staged = both_false (token.session == 0 || not (token.session == last_session side.history) || option_map_or (λ last. is_below token last) (last_token side.history) false) (option_map_or (λ staging. is_below token staging.token) side.staging false) alive in
-    let last = both_false (token.session == 0 || not (token.session == last_session side.history)) (option_map_or (λ last. is_below token last) (last_token side.history) false) staged.0 in
+    let staged = or_parts (token.session == 0 || not (token.session == last_session side.history) || option_map_or (λ last. is_below token last) (last_token side.history) false) (option_map_or (λ staging. is_below token staging.token) side.staging false) alive in
+    let last = or_parts (token.session == 0 || not (token.session == last_session side.history)) (option_map_or (λ last. is_below token last) (last_token side.history) false) staged.0 in
     record {
       lawful = (lawful.0, lawful.1, lawful.2, part);
       not_refused = ap (λ b. if b then Some OldSession else first_cause (place_causes tree path ++ (full_causes (replace tree path new) ++ position_causes side.history)))
-          (or_false (token.session == 0 || not (token.session == last_session side.history)) _ last.0 (old_token side.history token (last_token side.history) fresh last.1))
+          (or_from (token.session == 0 || not (token.session == last_session side.history)) _ last.0 (old_token side.history token (last_token side.history) fresh last.1))
           ∙ append-none (place_causes tree path) (full_causes (replace tree path new) ++ position_causes side.history) two.0 (append-none (full_causes (replace tree path new)) (position_causes side.history) three.0 four.0);
     }
 

@@ -1,11 +1,14 @@
 -- The invariant is kept as histories, messages, plans and the archive go on.
-use Rattle.std.proofs.Common.{◌≡◌, ◌≤◌, ◌<◌, ◌+◌, ℕ, zero, suc, true, false, not, ◌==◌, nat_le, List, [], ◌∷◌, ◌++◌, length, take, drop, refl, sym, ap, ◌∙◌, subst, Some, None, true≢false, append-nil, arith, inl, inr, ◌⊎◌, if◌then◌else◌, slice_get, fold}
+use Rattle.std.proofs.Common.{◌≡◌, ◌≢◌, ◌≤◌, ◌<◌, ◌+◌, ℕ, zero, suc, true, false, not, ◌==◌, nat_le, List, [], ◌∷◌, ◌++◌, length, take, drop, refl, sym, ap, ◌∙◌, subst, Some, None, true≢false, append-nil, arith, inl, inr, ◌⊎◌, if◌then◌else◌, slice_get, fold}
 use Rattle.std.specs.Prelude.{Contains, All}
 use Rattle.std.specs.Option.{option_map_or}
 use Rattle.std.specs.FinMap.{get}
 use Rattle.std.proofs.lemmas.Bool.Decides.{nat_tests}
 use Rattle.std.proofs.lemmas.List.{length-append, take-append-le}
-use Rattle.std.proofs.lemmas.List.Elements.{Contains-append_left, Contains-append_cases}
+use Rattle.std.proofs.lemmas.List.Elements.{All-contains, All-weaker, All-push, All-get_or, Contains-append_left, Contains-append_cases}
+use Rattle.std.proofs.lemmas.List.Quantifiers.{all_pairs_push}
+use Rattle.std.proofs.lemmas.Option.{none-some, same_Some}
+use Rattle.std.proofs.lemmas.Bool.{leb-false}
 use Rattle.syn_model.specs.Path.{Path, is_root, strip_prefix, IsName}
 use Rattle.syn_model.specs.Tree.{Tree, Content, Directory, IsTree, IsPart, empty_directory, subtree, replace, is_directory}
 use Rattle.syn_model.specs.Mark.{mark}
@@ -20,14 +23,15 @@ use Rattle.syn_model.specs.Limits.{greatest, fits_archive}
 use Rattle.syn_headline.specs.Laws.{AddsAllowed}
 use Rattle.syn_headline.specs.Side.{Request, Begin, ListAt, Fetch, Stage, Replace, Reply, Begun, Listed, NotDir, Piece, Done}
 use Rattle.syn_headline.specs.Network.{Which, other, Sent, Asks, Answers, NumbersTell, AsksNothingTwice}
-use Rattle.syn_headline.specs.Planning.{Planned, seen_on, IsPlanOf, WritesTo}
+use Rattle.syn_headline.specs.Planning.{Planned, seen_on, SessionPlan, IsPlanOf}
 use Rattle.syn_headline.specs.World.{IsOfPlan}
-use Rattle.syn_headline.proofs.Invariant.{Plans, Histories, IsSound, IsSound_request, IsStillRecorded, IsTrue, IsBorne, HadMarks, IsSpent, IsHeld, IsHeldRecord, IsHarmless, IsUsed, IsFresh, part_at}
-use Rattle.syn_model.proofs.PathLemmas.{none_some, some_same, strip_prefix-is}
+use Rattle.syn_headline.proofs.Invariant.{Plans, plan_in, Scans, IsPlanFrom, Histories, IsSound, IsSound_request, IsStillRecorded, IsTrue, IsBorne, HadMarks, IsSpent, IsHeld, IsHeldRecord, IsHarmless, IsUsed, IsFresh, part_at}
+use Rattle.syn_model.proofs.PathLemmas.{strip_prefix-is}
 use Rattle.syn_model.proofs.TreeLemmas.{get-replace}
 use Rattle.syn_model.proofs.HistoryLemmas.{get-at_root, first_cause-none, replace-is_tree, place-stands, empty-is_tree, allowed_goes_on}
 use Rattle.syn_model.proofs.MarkLemmas.{mark-subtree}
 use Rattle.syn_model.proofs.QuietLemmas.{quiet_before, tree_at-append, untouched_stays}
+use Rattle.syn_headline.proofs.LogLemmas.{entry_of, no_plan, plan_in-push, scans_of, plan_from}
 use Rattle.syn_headline.proofs.PlanLemmas.{of_plan-more, plan_of-more, fenced, since_reached, target_is}
 
 -- A history that goes on
@@ -36,11 +40,8 @@ pub fold_one : (last : ℕ) (history : History) (event : Event) → fold session
 fold_one last [] event = refl
 fold_one last (e ∷ history) event = fold_one (session_after last e) history event
 
-pub number_above : (n last : ℕ) → nat_le n last ≡ false → last < n
-number_above n last h = grind (arith, nat_tests)
-
 pub began_above : (history : History) (session : ℕ) → IsAllowed history (Began session) → last_session history < session
-began_above history session a = number_above session (last_session history) (first_cause-none (nat_le session (last_session history), OldSession) (position_causes history) a.not_refused).0
+began_above history session a = leb-false session (last_session history) (first_cause-none (nat_le session (last_session history), OldSession) (position_causes history) a.not_refused).0
 
 after_grows : (history : History) (event : Event) → IsAllowed history event → last_session history ≤ session_after (last_session history) event
 after_grows history (Edited user edit) a = omega arith
@@ -137,16 +138,16 @@ borne-grow old new a plan from session (Replace item path since size) Done t b =
 borne-grow old new a plan from session request reply t b = tt
 
 some_in_nothing : (item : ℕ) (planned : Planned) → slice_get [] item ≡ Some planned → ⊥
-some_in_nothing item planned e = none_some e
+some_in_nothing item planned e = none-some _ e
 
 -- an item of a plan is of one that was made as said
-pub made : (plans : Plans) (histories : Histories) (archive : Archive) (sent : Sent) → IsSound plans histories archive sent → (session item : ℕ) (planned : Planned) → slice_get (plans session) item ≡ Some planned →
-    (found : Tree) × IsPlanOf sent session found (plans session)
+pub made : (plans : Plans) (histories : Histories) (archive : Archive) (sent : Sent) → IsSound plans histories archive sent → (session item : ℕ) (planned : Planned) → slice_get (plan_in plans session) item ≡ Some planned →
+    (found : Tree) × (scans : Scans) × IsPlanFrom sent session found scans (plan_in plans session)
 made plans histories archive sent sound session item planned e =
-    elim (sound.planned session) as (λ _. (found : Tree) × IsPlanOf sent session found (plans session)) [
-      | inl nothing ↦ absurd (some_in_nothing item planned (ap (λ plan. slice_get plan item) (sym nothing) ∙ e))
-      | inr is ↦ is
-    ]
+    let entry = entry_of plans session item planned e in
+    let one = entry.0 in
+    let from = plan_from sent one (All-contains (IsPlanOf sent) plans one sound.planned entry.1) in
+    (one.archive, scans_of one, subst (IsPlanFrom sent session one.archive (scans_of one)) entry.3 (subst (λ n. IsPlanFrom sent n one.archive (scans_of one) one.plan) entry.2 from))
 
 pub sound-grow : (plans : Plans) (histories new : Histories) (archive : Archive) (sent : Sent) → IsSound plans histories archive sent → ((s : Which) → AddsAllowed (histories s) (new s)) →
     ((s : Which) → last_session (new s) ≤ archive.last_session) → IsUsed plans new → IsSound plans new archive sent
@@ -160,14 +161,15 @@ sound-grow plans histories new archive sent sound grows below used = record {
   asked = sound.asked;
   known = sound.known;
   answered = λ from session number reply request c d. true-grow (histories from) (new from) (grows from) session request reply (sound.answered from session number reply request c d);
-  borne = λ from session number reply request c d. borne-grow (histories from) (new from) (grows from) (plans session) from session request reply (sound.answered from session number reply request c d) (sound.borne from session number reply request c d);
+  borne = λ from session number reply request c d. borne-grow (histories from) (new from) (grows from) (plan_in plans session) from session request reply (sound.answered from session number reply request c d) (sound.borne from session number reply request c d);
   held = λ path content e side. held-grow (histories side) (new side) (extends (histories side) (new side) (grows side)) path content (sound.held path content e side);
+  once = sound.once;
   planned = sound.planned;
   recorded = λ session item planned side path e w.
       let is = made plans histories archive sent sound session item planned e in
       still_recorded-grow (histories side) (new side) archive session path (seen_on planned side).since (grows side)
-      (fenced plans histories archive sent sound session is.0 (plans session) is.1 side)
-      (since_reached plans histories archive sent sound session is.0 (plans session) is.1 item planned side path e w side)
+      (fenced plans histories archive sent sound session is.0 is.1 (plan_in plans session) is.2 side)
+      (since_reached plans histories archive sent sound session is.0 is.1 (plan_in plans session) is.2 item planned side path e w side)
       (sound.recorded session item planned side path e w);
 }
 
@@ -179,7 +181,7 @@ only_one x y (suc k, h, e) = absurd (omega (arith, h))
 
 pub sound-more : (plans : Plans) (histories : Histories) (archive : Archive) (sent more : Sent) → IsSound plans histories archive sent → NumbersTell (sent ++ more) → AsksNothingTwice (sent ++ more) →
     ((to : Which) (session number : ℕ) (request : Request) → Contains more (Asks to session number request) → IsSound_request plans archive sent to session request) →
-    ((from : Which) (session number : ℕ) (reply : Reply) → Contains more (Answers from session number reply) → (request : Request) × Contains sent (Asks from session number request) × IsTrue (histories from) session request reply × IsBorne (plans session) (histories from) from request reply) →
+    ((from : Which) (session number : ℕ) (reply : Reply) → Contains more (Answers from session number reply) → (request : Request) × Contains sent (Asks from session number request) × IsTrue (histories from) session request reply × IsBorne (plan_in plans session) (histories from) from request reply) →
     IsSound plans histories archive (sent ++ more)
 sound-more plans histories archive sent more sound numbers repeats asks answers = record {
   repeats = repeats;
@@ -189,8 +191,8 @@ sound-more plans histories archive sent more sound numbers repeats asks answers 
   begun = sound.begun;
   numbers = numbers;
   asked = λ to session number request c. elim (Contains-append_cases sent more (Asks to session number request) c) as (λ _. IsSound_request plans archive (sent ++ more) to session request) [
-    | inl old ↦ let r = sound.asked to session number request old in record { session_kept = r.session_kept; lawful = r.lawful; by_plan = of_plan-more sent more session (plans session) to request r.by_plan }
-    | inr new ↦ let r = asks to session number request new in record { session_kept = r.session_kept; lawful = r.lawful; by_plan = of_plan-more sent more session (plans session) to request r.by_plan }
+    | inl old ↦ let r = sound.asked to session number request old in record { session_kept = r.session_kept; lawful = r.lawful; pair = r.pair; by_plan = of_plan-more r.pair sent more session (plan_in plans session) to request r.by_plan }
+    | inr new ↦ let r = asks to session number request new in record { session_kept = r.session_kept; lawful = r.lawful; pair = r.pair; by_plan = of_plan-more r.pair sent more session (plan_in plans session) to request r.by_plan }
   ];
   known = λ from session number reply c. elim (Contains-append_cases sent more (Answers from session number reply) c) as (λ _. (request : Request) × Contains (sent ++ more) (Asks from session number request)) [
     | inl old ↦ let k = sound.known from session number reply old in (k.0, Contains-append_left sent more _ k.1)
@@ -204,19 +206,17 @@ sound-more plans histories archive sent more sound numbers repeats asks answers 
         let k = answers from session number reply new in
         subst (λ r. IsTrue (histories from) session r reply) (numbers from session number k.0 request (Contains-append_left sent more _ k.1) d) k.2
   ];
-  borne = λ from session number reply request c d. elim (Contains-append_cases sent more (Answers from session number reply) c) as (λ _. IsBorne (plans session) (histories from) from request reply) [
+  borne = λ from session number reply request c d. elim (Contains-append_cases sent more (Answers from session number reply) c) as (λ _. IsBorne (plan_in plans session) (histories from) from request reply) [
     | inl old ↦
         let k = sound.known from session number reply old in
-        subst (λ r. IsBorne (plans session) (histories from) from r reply) (numbers from session number k.0 request (Contains-append_left sent more _ k.1) d) (sound.borne from session number reply k.0 old k.1)
+        subst (λ r. IsBorne (plan_in plans session) (histories from) from r reply) (numbers from session number k.0 request (Contains-append_left sent more _ k.1) d) (sound.borne from session number reply k.0 old k.1)
     | inr new ↦
         let k = answers from session number reply new in
-        subst (λ r. IsBorne (plans session) (histories from) from r reply) (numbers from session number k.0 request (Contains-append_left sent more _ k.1) d) k.3
+        subst (λ r. IsBorne (plan_in plans session) (histories from) from r reply) (numbers from session number k.0 request (Contains-append_left sent more _ k.1) d) k.3
   ];
   held = sound.held;
-  planned = λ session. elim (sound.planned session) as (λ _. (plans session ≡ []) ⊎ ((found : Tree) × IsPlanOf (sent ++ more) session found (plans session))) [
-    | inl nothing ↦ inl nothing
-    | inr is ↦ inr (is.0, plan_of-more sent more session is.0 (plans session) is.1)
-  ];
+  once = sound.once;
+  planned = All-weaker (IsPlanOf sent) (IsPlanOf (sent ++ more)) (plan_of-more sent more) plans sound.planned;
   recorded = sound.recorded;
 }
 
@@ -228,7 +228,7 @@ ask_before sent from session number reply to n m request c = elim (Contains-appe
 ]
 
 pub sound-answer : (plans : Plans) (histories : Histories) (archive : Archive) (sent : Sent) → IsSound plans histories archive sent → (from : Which) (session number : ℕ) (request : Request) (reply : Reply) →
-    Contains sent (Asks from session number request) → IsTrue (histories from) session request reply → IsBorne (plans session) (histories from) from request reply → IsSound plans histories archive (sent ++ Answers from session number reply ∷ [])
+    Contains sent (Asks from session number request) → IsTrue (histories from) session request reply → IsBorne (plan_in plans session) (histories from) from request reply → IsSound plans histories archive (sent ++ Answers from session number reply ∷ [])
 sound-answer plans histories archive sent sound from session number request reply asked is_true is_borne =
     sound-more plans histories archive sent (Answers from session number reply ∷ []) sound
     (λ side n m a b c d. sound.numbers side n m a b (ask_before sent from session number reply side n m a c) (ask_before sent from session number reply side n m b d))
@@ -243,79 +243,83 @@ sound-answer plans histories archive sent sound from session number request repl
       request,
       subst (λ m. Contains sent (Asks side n m request)) e2 (subst (λ n. Contains sent (Asks side n number request)) e1 (subst (λ s. Contains sent (Asks s session number request)) e0 asked)),
       subst (λ r. IsTrue (histories side) n request r) e3 (subst (λ n. IsTrue (histories side) n request reply) e1 (subst (λ s. IsTrue (histories s) session request reply) e0 is_true)),
-      subst (λ r. IsBorne (plans n) (histories side) side request r) e3 (subst (λ n. IsBorne (plans n) (histories side) side request reply) e1 (subst (λ s. IsBorne (plans session) (histories s) s request reply) e0 is_borne)),
+      subst (λ r. IsBorne (plan_in plans n) (histories side) side request r) e3 (subst (λ n. IsBorne (plan_in plans n) (histories side) side request reply) e1 (subst (λ s. IsBorne (plan_in plans session) (histories s) s request reply) e0 is_borne)),
     ))
 
 -- A plan that is made
 
-abbrev pub set_plan : Plans → ℕ → List Planned → Plans
-set_plan plans session plan n = if n == session then plan else plans n
-
 -- a plan is only made where there was none
 abbrev pub PlansGrow : Plans → Plans → Type 0
-PlansGrow old new = (n : ℕ) → (new n ≡ old n) ⊎ (old n ≡ [])
+PlansGrow old new = (n : ℕ) → (plan_in new n ≡ plan_in old n) ⊎ (plan_in old n ≡ [])
 
-pub set_plan-grows : (plans : Plans) (session : ℕ) (plan : List Planned) → plans session ≡ [] → PlansGrow plans (set_plan plans session plan)
-set_plan-grows plans session plan e n = elim (n == session) as (λ b. (n == session) ≡ b → ((if b then plan else plans n) ≡ plans n) ⊎ (plans n ≡ [])) [
-  | true ↦ λ same. let at : n ≡ session = grind (arith, nat_tests) in inr (ap plans at ∙ e)
-  | false ↦ λ _. inl refl
+abbrev pub IsNew : Plans → SessionPlan → Type 0
+IsNew plans entry = All (λ earlier. earlier.session ≢ entry.session) plans
+
+pub push-grows : (plans : Plans) (entry : SessionPlan) → IsNew plans entry → PlansGrow plans (plans ++ entry ∷ [])
+push-grows plans entry new n = elim (n == entry.session) as (λ b. (n == entry.session) ≡ b → (plan_in (plans ++ entry ∷ []) n ≡ plan_in plans n) ⊎ (plan_in plans n ≡ [])) [
+  | true ↦ λ same. let at : n ≡ entry.session = grind (arith, nat_tests) in inr (ap (plan_in plans) at ∙ no_plan plans entry.session new)
+  | false ↦ λ other. inl (plan_in-push plans entry new n ∙ ap (λ b. if b then entry.plan else plan_in plans n) other)
 ] refl
 
-pub set_plan-here : (plans : Plans) (session : ℕ) (plan : List Planned) → set_plan plans session plan session ≡ plan
-set_plan-here plans session plan = let e : (session == session) ≡ true = grind (arith, nat_tests) in ap (λ b. if b then plan else plans session) e
+pub push-here : (plans : Plans) (entry : SessionPlan) → IsNew plans entry → plan_in (plans ++ entry ∷ []) entry.session ≡ entry.plan
+push-here plans entry new =
+    let e : (entry.session == entry.session) ≡ true = grind (arith, nat_tests) in plan_in-push plans entry new entry.session ∙ ap (λ b. if b then entry.plan else plan_in plans entry.session) e
 
-pub item-grow : (old new : Plans) → PlansGrow old new → (session item : ℕ) (planned : Planned) → slice_get (old session) item ≡ Some planned → slice_get (new session) item ≡ Some planned
-item-grow old new grows session item planned e = elim (grows session) as (λ _. slice_get (new session) item ≡ Some planned) [
+pub item-grow : (old new : Plans) → PlansGrow old new → (session item : ℕ) (planned : Planned) → slice_get (plan_in old session) item ≡ Some planned → slice_get (plan_in new session) item ≡ Some planned
+item-grow old new grows session item planned e = elim (grows session) as (λ _. slice_get (plan_in new session) item ≡ Some planned) [
   | inl same ↦ ap (λ plan. slice_get plan item) same ∙ e
   | inr nothing ↦ absurd (some_in_nothing item planned (ap (λ plan. slice_get plan item) (sym nothing) ∙ e))
 ]
 
-of_plan-grow : (old new : Plans) → PlansGrow old new → (sent : Sent) (session : ℕ) (to : Which) (request : Request) → IsOfPlan sent session (old session) to request → IsOfPlan sent session (new session) to request
-of_plan-grow old new grows sent session to (Begin pair) h = h
-of_plan-grow old new grows sent session to (ListAt path) h = h
-of_plan-grow old new grows sent session to (Fetch path since offset) h = (h.0, h.1, item-grow old new grows session h.0 h.1 h.2, h.3, h.4)
-of_plan-grow old new grows sent session to (Stage item offset bytes) h = (h.0, item-grow old new grows session item h.0 h.1, h.2)
-of_plan-grow old new grows sent session to (Replace item path since size) h = (h.0, item-grow old new grows session item h.0 h.1, h.2, h.3, h.4)
+of_plan-grow : (old new : Plans) → PlansGrow old new → (pair : ℕ) (sent : Sent) (session : ℕ) (to : Which) (request : Request) → IsOfPlan pair sent session (plan_in old session) to request → IsOfPlan pair sent session (plan_in new session) to request
+of_plan-grow old new grows pair sent session to (Begin asked) h = h
+of_plan-grow old new grows pair sent session to (ListAt path) h = h
+of_plan-grow old new grows pair sent session to (Fetch path since offset) h = (h.0, h.1, item-grow old new grows session h.0 h.1 h.2, h.3, h.4)
+of_plan-grow old new grows pair sent session to (Stage item offset bytes) h = (h.0, item-grow old new grows session item h.0 h.1, h.2)
+of_plan-grow old new grows pair sent session to (Replace item path since size) h = (h.0, item-grow old new grows session item h.0 h.1, h.2, h.3, h.4)
 
 -- nothing was asked for by a plan that was not made
-nothing_borne : (sent : Sent) (session : ℕ) (plan : List Planned) (history : History) (from : Which) (request : Request) (reply : Reply) → IsOfPlan sent session [] from request → IsBorne plan history from request reply
-nothing_borne sent session plan history from (Fetch path since offset) (Piece total bytes) h = absurd (some_in_nothing h.0 h.1 h.2)
-nothing_borne sent session plan history from (Replace item path since size) Done h = absurd (some_in_nothing item h.0 h.1)
-nothing_borne sent session plan history from request reply h = tt
+nothing_borne : (pair : ℕ) (sent : Sent) (session : ℕ) (plan : List Planned) (history : History) (from : Which) (request : Request) (reply : Reply) → IsOfPlan pair sent session [] from request → IsBorne plan history from request reply
+nothing_borne pair sent session plan history from (Fetch path since offset) (Piece total bytes) h = absurd (some_in_nothing h.0 h.1 h.2)
+nothing_borne pair sent session plan history from (Replace item path since size) Done h = absurd (some_in_nothing item h.0 h.1)
+nothing_borne pair sent session plan history from request reply h = tt
 
-pub sound-plan : (plans : Plans) (histories : Histories) (archive : Archive) (sent : Sent) → IsSound plans histories archive sent → (session : ℕ) (plan : List Planned) → plans session ≡ [] → IsPlanOf sent session archive.marks plan → IsFresh histories session →
-    IsSound (set_plan plans session plan) histories archive sent
-sound-plan plans histories archive sent sound session plan nothing is fresh = record {
-  used = λ side token planned path last. elim (token.session == session) as (λ b. (token.session == session) ≡ b → slice_get (if b then plan else plans token.session) token.item ≡ Some planned → WritesTo planned.item side path →
+pub sound-plan : (plans : Plans) (histories : Histories) (archive : Archive) (sent : Sent) → IsSound plans histories archive sent → (entry : SessionPlan) → IsNew plans entry → entry.archive ≡ archive.marks → IsPlanOf sent entry →
+    IsFresh histories entry.session → IsSound (plans ++ entry ∷ []) histories archive sent
+sound-plan plans histories archive sent sound entry new archive_is is fresh = record {
+  used = λ side token planned path last e w. elim (token.session == entry.session) as (λ b. (token.session == entry.session) ≡ b → slice_get (if b then entry.plan else plan_in plans token.session) token.item ≡ Some planned →
       IsSpent (histories side) path (seen_on planned side).since (seen_on planned (other side)).marks) [
-        | true ↦ λ same _ _. absurd (fresh side token last (grind (arith, nat_tests)))
-        | false ↦ λ _ e w. sound.used side token planned path last e w
-      ] refl;
+        | true ↦ λ same _. absurd (fresh side token last (grind (arith, nat_tests)))
+        | false ↦ λ _ e. sound.used side token planned path last e w
+      ] refl (item_in token.session token.item planned e);
   lawful = sound.lawful;
   marks = sound.marks;
   begun = sound.begun;
   numbers = sound.numbers;
   repeats = sound.repeats;
   asked = λ to n number request c. let r = sound.asked to n number request c in
-      record { session_kept = r.session_kept; lawful = r.lawful; by_plan = of_plan-grow plans (set_plan plans session plan) (set_plan-grows plans session plan nothing) sent n to request r.by_plan };
+      record { session_kept = r.session_kept; lawful = r.lawful; pair = r.pair; by_plan = of_plan-grow plans (plans ++ entry ∷ []) (push-grows plans entry new) r.pair sent n to request r.by_plan };
   known = sound.known;
   answered = sound.answered;
-  borne = λ from n number reply request c d. elim (n == session) as (λ b. (n == session) ≡ b → IsBorne (if b then plan else plans n) (histories from) from request reply) [
-    | true ↦ λ same.
-        let at : n ≡ session = grind (arith, nat_tests) in
-        nothing_borne sent n plan (histories from) from request reply (subst (λ p. IsOfPlan sent n p from request) (ap plans at ∙ nothing) (sound.asked from n number request d).by_plan)
-    | false ↦ λ _. sound.borne from n number reply request c d
-  ] refl;
+  borne = λ from n number reply request c d. subst (λ plan. IsBorne plan (histories from) from request reply) (sym (plan_in-push plans entry new n))
+      (elim (n == entry.session) as (λ b. (n == entry.session) ≡ b → IsBorne (if b then entry.plan else plan_in plans n) (histories from) from request reply) [
+        | true ↦ λ same.
+            let at : n ≡ entry.session = grind (arith, nat_tests) in
+            let r = sound.asked from n number request d in
+            nothing_borne r.pair sent n entry.plan (histories from) from request reply (subst (λ p. IsOfPlan r.pair sent n p from request) (ap (plan_in plans) at ∙ no_plan plans entry.session new) r.by_plan)
+        | false ↦ λ _. sound.borne from n number reply request c d
+      ] refl);
   held = sound.held;
-  planned = λ n. elim (n == session) as (λ b. (n == session) ≡ b → ((if b then plan else plans n) ≡ []) ⊎ ((found : Tree) × IsPlanOf sent n found (if b then plan else plans n))) [
-    | true ↦ λ same. let at : session ≡ n = grind (arith, nat_tests) in inr (archive.marks, subst (λ m. IsPlanOf sent m archive.marks plan) at is)
-    | false ↦ λ _. sound.planned n
-  ] refl;
-  recorded = λ n item planned side path. elim (n == session) as (λ b. (n == session) ≡ b → slice_get (if b then plan else plans n) item ≡ Some planned → WritesTo planned.item side path → IsStillRecorded (histories side) archive n path (seen_on planned side).since) [
-    | true ↦ λ same e w _ quiet. target_is plans histories archive sent sound session archive.marks plan is item planned side path e w quiet
-    | false ↦ λ _ e w. sound.recorded n item planned side path e w
-  ] refl;
+  once = all_pairs_push (λ earlier later. earlier.session ≢ later.session) plans entry sound.once (λ k d within. All-get_or (λ earlier. earlier.session ≢ entry.session) plans k d within new);
+  planned = All-push (IsPlanOf sent) plans entry sound.planned is;
+  recorded = λ n item planned side path e w. elim (n == entry.session) as (λ b. (n == entry.session) ≡ b → slice_get (if b then entry.plan else plan_in plans n) item ≡ Some planned → IsStillRecorded (histories side) archive n path (seen_on planned side).since) [
+    | true ↦ λ same e _ quiet. target_is plans histories archive sent sound entry.session entry.archive (scans_of entry) entry.plan (plan_from sent entry is) item planned side path e w quiet ∙ ap (λ marks. subtree marks path) archive_is
+    | false ↦ λ _ e. sound.recorded n item planned side path e w
+  ] refl (item_in n item planned e);
 }
+  where
+    item_in : (n item : ℕ) (planned : Planned) → slice_get (plan_in (plans ++ entry ∷ []) n) item ≡ Some planned → slice_get (if n == entry.session then entry.plan else plan_in plans n) item ≡ Some planned
+    item_in n item planned e = ap (λ plan. slice_get plan item) (sym (plan_in-push plans entry new n)) ∙ e
 
 -- What the archive keeps
 
@@ -362,8 +366,8 @@ put_held histories marks path new h n p x e side = elim (recorded_entry marks pa
 ]
 
 at_root_alone : (rest : Path) (x : Content) → get empty_directory rest ≡ Some x → (rest ≡ []) × (x ≡ Directory)
-at_root_alone [] x e = (refl, sym (some_same (sym (get-at_root Directory []) ∙ e)))
-at_root_alone (n ∷ rest) x e = absurd (none_some (sym (get-at_root Directory (n ∷ rest)) ∙ e))
+at_root_alone [] x e = (refl, sym (same_Some _ _ (sym (get-at_root Directory []) ∙ e)))
+at_root_alone (n ∷ rest) x e = absurd (none-some _ (sym (get-at_root Directory (n ∷ rest)) ∙ e))
 
 -- what is recorded was held
 pub kept_held : (histories : Histories) (archive : Archive) (kept : Kept) → IsHeld histories archive.marks → IsHeldRecord histories kept → IsHeld histories (after_kept archive kept).marks
@@ -390,11 +394,12 @@ sound-keep plans histories archive sent sound kept can harmless =
       repeats = sound.repeats;
       asked = λ to session number request c. let r = sound.asked to session number request c in
           let k : session ≤ archive.last_session = r.session_kept in
-          record { session_kept = omega (arith, k, grows); lawful = r.lawful; by_plan = r.by_plan };
+          record { session_kept = omega (arith, k, grows); lawful = r.lawful; pair = r.pair; by_plan = r.by_plan };
       known = sound.known;
       answered = sound.answered;
       borne = sound.borne;
       held = kept_held histories archive kept sound.held harmless.held;
+      once = sound.once;
       planned = sound.planned;
       recorded = λ session item planned side path e w current quiet.
           sound.recorded session item planned side path e w current quiet ∙ sym (harmless.leaves session item planned side path e w current quiet archive sound.marks can);

@@ -1,9 +1,10 @@
 -- Each token has one replacement at most.
-use Rattle.std.proofs.Common.{◌≡◌, ℕ, Bool, true, false, not, ◌&&◌, ◌||◌, ◌==◌, nat_lt, [], ◌∷◌, ◌++◌, refl, sym, ap, ◌∙◌, subst, Some, None, true≢false, append_assoc, append-nil, arith}
+use Rattle.std.proofs.Common.{◌≡◌, ℕ, true, false, not, ◌&&◌, ◌||◌, ◌==◌, nat_lt, [], ◌∷◌, ◌++◌, sym, ap, ◌∙◌, subst, Some, None, append_assoc, append-nil, arith}
 use Rattle.std.specs.Prelude.{All}
 use Rattle.std.specs.Option.{option_map_or}
 use Rattle.std.proofs.lemmas.Bool.Decides.{nat_tests}
 use Rattle.std.proofs.lemmas.List.Elements.{All-nil, All-cons}
+use Rattle.std.proofs.lemmas.Bool.{not-false, or_parts}
 use Rattle.syn_model.specs.Path.{Path}
 use Rattle.syn_model.specs.Tree.{Tree, replace}
 use Rattle.syn_model.specs.Refusal.{OldSession}
@@ -12,12 +13,7 @@ use Rattle.syn_model.specs.History.{History, IsHistory, AllAllowed, IsAllowed, t
 use Rattle.syn_model.specs.Standing.{place_causes, full_causes}
 use Rattle.syn_headline.specs.Headline.{IsOtherToken}
 use Rattle.syn_model.proofs.HistoryLemmas.{first_cause-none}
-use Rattle.syn_model.proofs.DirtyLemmas.{both_false}
 use Rattle.syn_headline.proofs.MoveLemmas.{token_one}
-
-not_to_true : (b : Bool) → not b ≡ false → b ≡ true
-not_to_true true e = refl
-not_to_true false e = absurd (true≢false e)
 
 numbers_above : (ls li us ui ts ti : ℕ) → (nat_lt ls ts || (ls == ts && nat_lt li ti)) ≡ false → (nat_lt ls us || (ls == us && nat_lt li ui)) ≡ true → ((us == ts && ui == ti) ≡ false) × ((nat_lt us ts || (us == ts && nat_lt ui ti)) ≡ false)
 numbers_above ls li us ui ts ti h k = (grind (arith, nat_tests), grind (arith, nat_tests))
@@ -29,8 +25,8 @@ above_last : (history : History) (last token : Token) (path : Path) (since : ℕ
 above_last history last token path since new e a =
     let rest = place_causes (tree_of history) path ++ (full_causes (replace (tree_of history) path new) ++ position_causes history) in
     let one = (first_cause-none (is_old_token history token, OldSession) rest a.not_refused).0 in
-    let two = (both_false (token.session == 0 || not (token.session == last_session history)) (option_map_or (λ last. not (is_below last token)) (last_token history) false) one).1 in
-    not_to_true _ (ap (λ o. option_map_or (λ last. not (is_below last token)) o false) (sym e) ∙ two)
+    let two = (or_parts (token.session == 0 || not (token.session == last_session history)) (option_map_or (λ last. not (is_below last token)) (last_token history) false) one).1 in
+    not-false _ (ap (λ o. option_map_or (λ last. not (is_below last token)) o false) (sym e) ∙ two)
 
 others_later : (done events : History) (last token : Token) → last_token done ≡ Some last → is_below last token ≡ false → AllAllowed done events → All (IsOtherToken token) events
 others_later done [] last token e b all = All-nil (IsOtherToken token)

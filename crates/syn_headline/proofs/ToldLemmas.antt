@@ -1,6 +1,6 @@
 -- What a complete report tells of a session without edits.
-use Rattle.std.proofs.Common.{◌≡◌, ◌≤◌, ◌+◌, ℕ, true, List, [], ◌∷◌, ◌++◌, filter_map, length, take, fold, sym, ap, ◌∙◌, subst, Some, arith, inl, inr, ◌⊎◌}
-use Rattle.std.specs.Prelude.{Contains, All, ◌↔◌}
+use Rattle.std.proofs.Common.{◌≡◌, ◌≤◌, ◌+◌, ℕ, true, List, [], ◌∷◌, ◌++◌, filter_map, length, take, fold, sym, ap, ap₂, ◌∙◌, subst, Some, arith, inl, inr, ◌≢◌}
+use Rattle.std.specs.Prelude.{Contains, All, ◌↔◌, Any}
 use Rattle.std.proofs.lemmas.List.{take-append-le, length-append}
 use Rattle.std.proofs.lemmas.List.Elements.{All-weaker, Contains-append_cases}
 use Rattle.std.proofs.Math.Seq.{take-length}
@@ -11,21 +11,21 @@ use Rattle.syn_model.specs.Reconcile.{is_relevant}
 use Rattle.syn_model.specs.Event.{Began}
 use Rattle.syn_model.specs.History.{History, tree_of}
 use Rattle.syn_model.specs.Archive.{Archive, Kept, Session, archive_of}
-use Rattle.syn_model.specs.Plan.{HasDepth, most_names, IsReconciled, IsConflict}
+use Rattle.syn_model.specs.Plan.{HasDepth, most_names, Trees, IsSynchronized, IsReconciled, IsConflict}
 use Rattle.syn_headline.specs.Side.{Reply}
 use Rattle.syn_headline.specs.Network.{Which, Left, Right, Answers}
-use Rattle.syn_headline.specs.Planning.{Planned}
+use Rattle.syn_headline.specs.Planning.{Planned, Log}
 use Rattle.syn_headline.specs.Acknowledged.{Ack, kept_in, Stores, history_of, stores_after}
 use Rattle.syn_headline.specs.Report.{Report, Complete, Incomplete, Counts, IsSettled, kept_in_session, since_start}
 use Rattle.syn_headline.specs.World.{IsNoItem, RefusesTaken, World, Running, IsExpected, IsOver, IsDueAfter, HasPlan, GoesOnFrom, plan_of, AllCanKeep, CoordinatorGoes, Reports, EndsTaken, EndsUnanswered}
-use Rattle.syn_headline.specs.Headline.{IsNoEdit, BeganAfter, Synchronizes, HasCounts, StandsFor}
+use Rattle.syn_headline.specs.Headline.{IsNoEdit, BeganAfter, trees_of, HasCounts, StandsFor}
 use Rattle.syn_headline.proofs.Invariant.{Plans, histories_of, IsKept}
 use Rattle.syn_headline.proofs.RunLemmas.{Advances}
 use Rattle.syn_headline.proofs.CourseLemmas.{Course, beside, starts, ticks, takes}
 use Rattle.syn_headline.proofs.CompleteLemmas.{IsRecordDue, carried, alike, marked}
-use Rattle.syn_headline.proofs.UnderwayLemmas.{IsQuietPlan, IsUnderway, underway_records, quiet_plan}
+use Rattle.syn_headline.proofs.UnderwayLemmas.{IsQuietPlan, IsUnderway, underway_records}
 use Rattle.syn_headline.proofs.KeptLemmas.{IsNoSession, since_last}
-use Rattle.syn_headline.proofs.ReportLemmas.{reconciled, conflicts_reported, counts_reported, alike_marked}
+use Rattle.syn_headline.proofs.ReportLemmas.{synchronized, reconciled, conflicts_reported, counts_reported, alike_marked}
 use Rattle.syn_headline.proofs.SoundLemmas.{only_one}
 use Rattle.syn_headline.proofs.WatchLemmas.{all_kept, RunsWell, plan_then, due_then, goes_kept}
 
@@ -33,7 +33,8 @@ use Rattle.syn_headline.proofs.WatchLemmas.{all_kept, RunsWell, plan_then, due_t
 abbrev pub IsWorth : Stores → List Ack → Report → List Kept → Type 0
 IsWorth before acks report earlier = (found : Stores) → found.archive ≡ archive_of before.archive earlier →
     BeganAfter report.session found.left (stores_after before acks).left → BeganAfter report.session found.right (stores_after before acks).right →
-    (AreApart (λ tree. (tree ≡ tree_of found.left) ⊎ (tree ≡ tree_of found.right)) → Synchronizes found (stores_after before acks))
+    (AreApart (tree_of found.left) (tree_of found.right) → IsSynchronized (trees_of found) (trees_of (stores_after before acks)))
+    × IsReconciled (trees_of found) (trees_of (stores_after before acks))
     × ((path : Path) → Contains report.conflicts path ↔ IsConflict (tree_of found.left) (tree_of found.right) found.archive.marks path)
     × ((path : Path) → is_relevant (tree_of found.left) (tree_of found.right) path ≡ true → subtree (tree_of found.left) path ≡ subtree (tree_of found.right) path → subtree (stores_after before acks).archive.marks path ≡ mark (subtree (tree_of found.left) path))
     × HasCounts found report
@@ -44,6 +45,9 @@ pub record IsTold (before : Stores) (acks : List Ack) (report : Report) : Type 0
   pub kept_is : filter_map kept_in acks ≡ earlier ++ Session report.session ∷ records
   pub worth : IsWorth before acks report earlier
 
+not_any : (log : Log) (session : ℕ) → All (λ made. made.session ≢ session) log → Any (λ made. made.session ≡ session) log → ⊥
+not_any log session none (k, made, within, at, is) = none k made within (ap (λ found. found.session) at ∙ is)
+
 no_session : (plan : List Planned) (w : World) (kept : Kept) → IsRecordDue plan (histories_of w) kept → IsNoSession kept
 no_session plan w _ (carried side item planned path at writes reached touched) = tt
 no_session plan w _ (alike item planned path at kind) = tt
@@ -51,29 +55,29 @@ no_session plan w _ (marked item planned path at kind) = tt
 
 module _ (before : Stores) (whole : IsTree before.archive.marks) (shallow : HasDepth most_names before.archive.marks) (plans : Plans) (old new : World) (k : IsKept plans old) (stands : StandsFor before old) (stands_then : StandsFor before new)
     (runs : RunsWell before.archive old old.coordinator.running) (can : AllCanKeep before.archive (all_kept new)) where
-  module _ (r : Running) (e : old.coordinator.running ≡ Some r) (from : Which) (session number : ℕ) (reply : Reply) (plan : List Planned) (heard : Contains old.sent (Answers from session number reply)) (expected : IsExpected (Some r) from session number)
-      (made : HasPlan old.sent old.coordinator.archive (Some r) plan)
-      (g : CoordinatorGoes old (IsDueAfter (Some r) plan from number reply) (λ running. GoesOnFrom (Some r) plan running × IsOver from number running) new) (report : Report) (ends : EndsTaken old new from number plan reply r report)
+  module _ (r : Running) (e : old.coordinator.running ≡ Some r) (from : Which) (session number : ℕ) (reply : Reply) (plan : List Planned) (logged : Log) (heard : Contains old.sent (Answers from session number reply)) (expected : IsExpected (Some r) from session number)
+      (made : HasPlan old.sent old.coordinator.archive old.log (Some r) plan logged)
+      (g : CoordinatorGoes old logged (IsDueAfter (Some r) plan from number reply) (λ running. GoesOnFrom (Some r) plan running × IsOver from number running) new) (report : Report) (ends : EndsTaken old new from number plan reply r report)
       (counts : Counts plan (kept_in_session new.acknowledged) report) (complete : report.end ≡ Complete) where
-    planned : IsUnderway before.archive (histories_of old) old.sent (all_kept old) r.session plan
-    planned = plan_then before plans old new k stands runs r e from session number reply plan heard expected made
+    planned : IsUnderway (old.log ++ logged) before.archive (histories_of old) old.sent (all_kept old) r.session plan
+    planned = plan_then before plans old new k stands runs r e from session number reply plan logged heard expected made
 
     due : All (IsRecordDue plan (histories_of old)) g.kept
-    due = due_then before plans old new k stands runs r e from session number reply plan heard expected made g.kept g.keeps.due
+    due = due_then before plans old new k stands runs r e from session number reply plan logged heard expected made g.kept g.keeps.due
 
     quiet_made : IsQuietPlan old.sent (histories_of old) r.session (archive_of before.archive planned.earlier).marks plan
     quiet_made = elim planned.planned as (λ _. IsQuietPlan old.sent (histories_of old) r.session (archive_of before.archive planned.earlier).marks plan) [
-      | inl none ↦ quiet_plan before.archive plans (histories_of old) old.coordinator.archive old.sent k.sound (all_kept old) stands.archive r.session plan plan none (ends.made (ends.complete complete).0 none) planned
+      | inl none ↦ absurd (not_any new.log r.session (subst (All (λ made. made.session ≢ r.session)) (sym (ap (λ w. w.log) g.result)) none) (ends.made (ends.complete complete).0))
       | inr is ↦ is
     ]
 
-    abbrev after : IsUnderway before.archive (histories_of old) old.sent (all_kept new) r.session plan
+    abbrev after : IsUnderway (old.log ++ logged) before.archive (histories_of old) old.sent (all_kept new) r.session plan
     after =
-        let more = underway_records before.archive (histories_of old) old.sent (all_kept old) g.kept r.session plan due planned in
+        let more = underway_records (old.log ++ logged) before.archive (histories_of old) old.sent (all_kept old) g.kept r.session plan due planned in
         record {
           earlier = more.earlier;
           records = more.records;
-          kept_is = goes_kept before plans old new k stands runs (IsDueAfter (Some r) plan from number reply) (λ running. GoesOnFrom (Some r) plan running × IsOver from number running) g ∙ more.kept_is;
+          kept_is = goes_kept before plans old new k stands runs logged (IsDueAfter (Some r) plan from number reply) (λ running. GoesOnFrom (Some r) plan running × IsOver from number running) g ∙ more.kept_is;
           due = more.due;
           events = more.events;
           planned = more.planned;
@@ -105,31 +109,40 @@ module _ (before : Stores) (whole : IsTree before.archive.marks) (shallow : HasD
       abbrev found_archive : Archive
       found_archive = archive_of before.archive planned.earlier
 
-      synchronizes : AreApart (λ tree. (tree ≡ tree_of found.left) ⊎ (tree ≡ tree_of found.right)) → Synchronizes (record { left = found.left; right = found.right; archive = found_archive }) (stores_after before new.acknowledged)
-      synchronizes apart =
-          let done = reconciled before.archive whole shallow plans (histories_of old) old.coordinator.archive old.sent k.sound (all_kept new) can r.session plan after quiet_made report settled_then (ends.complete complete).1 (ends.conflicts (ends.complete complete).0)
-          (history_of found) later split quiet apart in
-          let there = subst (λ h. IsReconciled (tree_of found.left) (tree_of found.right) found_archive.marks (record { left = tree_of (stores_after before new.acknowledged).left; right = tree_of h; archive = (archive_of before.archive (all_kept new)).marks })) (history_then Right)
-          (subst (λ h. IsReconciled (tree_of found.left) (tree_of found.right) found_archive.marks (record { left = tree_of h; right = tree_of (histories_of old Right); archive = (archive_of before.archive (all_kept new)).marks })) (history_then Left) done) in
-          record { trees = there.sides; archive = there.marks }
+      abbrev found_trees : Trees
+      found_trees = record { left = tree_of found.left; right = tree_of found.right; archive = found_archive.marks }
+
+      trees_then : record { left = tree_of (histories_of old Left); right = tree_of (histories_of old Right); archive = (archive_of before.archive (all_kept new)).marks } ≡ trees_of (stores_after before new.acknowledged)
+      trees_then = ap₂ (λ h k. record { left = tree_of h; right = tree_of k; archive = (archive_of before.archive (all_kept new)).marks }) (history_then Left) (history_then Right)
+
+      synchronizes : AreApart (tree_of found.left) (tree_of found.right) → IsSynchronized found_trees (trees_of (stores_after before new.acknowledged))
+      synchronizes apart = subst (IsSynchronized found_trees) trees_then
+          (synchronized (old.log ++ logged) before.archive whole shallow plans (histories_of old) old.coordinator.archive old.sent k.sound (all_kept new) can r.session plan after quiet_made report settled_then (ends.complete complete).1 (ends.conflicts (ends.complete complete).0)
+          (history_of found) later split quiet apart)
+
+      reconciles : IsReconciled found_trees (trees_of (stores_after before new.acknowledged))
+      reconciles = subst (IsReconciled found_trees) trees_then
+          (reconciled (old.log ++ logged) before.archive whole shallow plans (histories_of old) old.coordinator.archive old.sent k.sound (all_kept new) can r.session plan after quiet_made report settled_then (ends.complete complete).1 (ends.conflicts (ends.complete complete).0)
+          (history_of found) later split quiet)
 
       has_conflicts : (path : Path) → Contains report.conflicts path ↔ IsConflict (tree_of found.left) (tree_of found.right) found_archive.marks path
-      has_conflicts = conflicts_reported before.archive whole shallow plans (histories_of old) old.coordinator.archive old.sent k.sound (all_kept new) can r.session plan after quiet_made report settled_then (ends.complete complete).1 (ends.conflicts (ends.complete complete).0)
+      has_conflicts = conflicts_reported (old.log ++ logged) before.archive whole shallow plans (histories_of old) old.coordinator.archive old.sent k.sound (all_kept new) can r.session plan after quiet_made report settled_then (ends.complete complete).1 (ends.conflicts (ends.complete complete).0)
           (history_of found) later split quiet
 
       has_counts : HasCounts (record { left = found.left; right = found.right; archive = found_archive }) report
-      has_counts = counts_reported before.archive whole shallow plans (histories_of old) old.coordinator.archive old.sent k.sound (all_kept new) can r.session plan after quiet_made report settled_then (ends.complete complete).1 (ends.conflicts (ends.complete complete).0)
+      has_counts = counts_reported (old.log ++ logged) before.archive whole shallow plans (histories_of old) old.coordinator.archive old.sent k.sound (all_kept new) can r.session plan after quiet_made report settled_then (ends.complete complete).1 (ends.conflicts (ends.complete complete).0)
           (history_of found) later split quiet (subst (λ kept. Counts plan kept report) since counts)
 
       has_marked : (path : Path) → is_relevant (tree_of found.left) (tree_of found.right) path ≡ true → subtree (tree_of found.left) path ≡ subtree (tree_of found.right) path → subtree (archive_of before.archive (all_kept new)).marks path ≡ mark (subtree (tree_of found.left) path)
-      has_marked = alike_marked before.archive whole shallow plans (histories_of old) old.coordinator.archive old.sent k.sound (all_kept new) can r.session plan after quiet_made report settled_then (ends.complete complete).1 (ends.conflicts (ends.complete complete).0)
+      has_marked = alike_marked (old.log ++ logged) before.archive whole shallow plans (histories_of old) old.coordinator.archive old.sent k.sound (all_kept new) can r.session plan after quiet_made report settled_then (ends.complete complete).1 (ends.conflicts (ends.complete complete).0)
           (history_of found) later split quiet
 
     is_worth : IsWorth before new.acknowledged report planned.earlier
     is_worth found archive_is left right =
         let l = subst (λ s. BeganAfter s found.left (stores_after before new.acknowledged).left) ends.session_is left in
         let h = subst (λ s. BeganAfter s found.right (stores_after before new.acknowledged).right) ends.session_is right in (
-          λ apart. subst (λ a. Synchronizes (record { left = found.left; right = found.right; archive = a }) (stores_after before new.acknowledged)) (sym archive_is) (synchronizes found l h apart),
+          λ apart. subst (λ a. IsSynchronized (record { left = tree_of found.left; right = tree_of found.right; archive = a.marks }) (trees_of (stores_after before new.acknowledged))) (sym archive_is) (synchronizes found l h apart),
+          subst (λ a. IsReconciled (record { left = tree_of found.left; right = tree_of found.right; archive = a.marks }) (trees_of (stores_after before new.acknowledged))) (sym archive_is) (reconciles found l h),
           subst (λ a. (path : Path) → Contains report.conflicts path ↔ IsConflict (tree_of found.left) (tree_of found.right) a.marks path) (sym archive_is) (has_conflicts found l h),
           has_marked found l h,
           subst (λ a. HasCounts (record { left = found.left; right = found.right; archive = a }) report) (sym archive_is) (has_counts found l h),
@@ -184,16 +197,16 @@ module _ (before : Stores) (whole : IsTree before.archive.marks) (shallow : HasD
   told_ticks (inl (e, on)) = told_still e
   told_ticks (inr (running, report, runs, none, up, e, ends, counts, refused)) = told_now report e (λ complete. absurd (not_complete (sym complete ∙ ends.1)))
 
-  told_takes : (from : Which) (session number : ℕ) (reply : Reply) (plan : List Planned) → Contains old.sent (Answers from session number reply) → IsExpected old.coordinator.running from session number → HasPlan old.sent old.coordinator.archive old.coordinator.running plan →
-      CoordinatorGoes old (IsDueAfter old.coordinator.running plan from number reply) (λ running. GoesOnFrom old.coordinator.running plan running × IsOver from number running) new → Reports old new plan (RefusesTaken old new from number plan reply) (EndsTaken old new from number plan reply) → AllTold before new
-  told_takes from session number reply plan heard expected made g (inl (e, on)) = told_still e
-  told_takes from session number reply plan heard expected made g (inr (running, report, is, none, up, e, ends, counts, refused)) = told_now report e (λ complete.
-      tells before whole shallow plans old new k stands stands_then runs can running is from session number reply plan heard
-      (subst (λ o. IsExpected o from session number) is expected) (subst (λ o. HasPlan old.sent old.coordinator.archive o plan) is made)
-      (subst (λ o. CoordinatorGoes old (IsDueAfter o plan from number reply) (λ running. GoesOnFrom o plan running × IsOver from number running) new) is g) report ends counts complete)
+  told_takes : (from : Which) (session number : ℕ) (reply : Reply) (plan : List Planned) (logged : Log) → Contains old.sent (Answers from session number reply) → IsExpected old.coordinator.running from session number → HasPlan old.sent old.coordinator.archive old.log old.coordinator.running plan logged →
+      CoordinatorGoes old logged (IsDueAfter old.coordinator.running plan from number reply) (λ running. GoesOnFrom old.coordinator.running plan running × IsOver from number running) new → Reports old new plan (RefusesTaken old new from number plan reply) (EndsTaken old new from number plan reply) → AllTold before new
+  told_takes from session number reply plan logged heard expected made g (inl (e, on)) = told_still e
+  told_takes from session number reply plan logged heard expected made g (inr (running, report, is, none, up, e, ends, counts, refused)) = told_now report e (λ complete.
+      tells before whole shallow plans old new k stands stands_then runs can running is from session number reply plan logged heard
+      (subst (λ o. IsExpected o from session number) is expected) (subst (λ o. HasPlan old.sent old.coordinator.archive old.log o plan logged) is made)
+      (subst (λ o. CoordinatorGoes old logged (IsDueAfter o plan from number reply) (λ running. GoesOnFrom o plan running × IsOver from number running) new) is g) report ends counts complete)
 
   pub all_told : Course old new → AllTold before new
-  all_told (beside acks added more runs_on reports) = told_still reports
+  all_told (beside acks added more runs_on reports logs) = told_still reports
   all_told (starts g reports) = told_still reports
   all_told (ticks g reports) = told_ticks reports
-  all_told (takes from session number reply plan heard expected made g reports) = told_takes from session number reply plan heard expected made g reports
+  all_told (takes from session number reply plan logged heard expected made g reports) = told_takes from session number reply plan logged heard expected made g reports

@@ -1,7 +1,8 @@
 -- What a session that runs has done so far: its records are due, and its sides' events since it began are by its plan.
-use Rattle.std.proofs.Common.{◌≡◌, ◌≤◌, ◌<◌, ◌+◌, ℕ, List, [], ◌∷◌, ◌++◌, length, refl, sym, ap, ◌∙◌, subst, append_assoc, arith, inl, inr, ◌⊎◌, slice_get}
+use Rattle.std.proofs.Common.{◌≡◌, ◌≢◌, ◌≤◌, ◌<◌, ◌+◌, ℕ, List, [], ◌∷◌, ◌++◌, length, refl, sym, ap, ◌∙◌, subst, append_assoc, arith, inl, inr, ◌⊎◌, slice_get}
 use Rattle.std.specs.Prelude.{All}
 use Rattle.std.proofs.lemmas.List.Elements.{All-head, All-tail, All-nil, All-cons, All-append, All-push, All-weaker}
+use Rattle.std.proofs.lemmas.Option.{none-some}
 use Rattle.syn_model.specs.Tree.{Tree}
 use Rattle.syn_model.specs.Event.{Event, Edited, Began, Replaced}
 use Rattle.syn_model.specs.History.{History, IsAllowed, last_session}
@@ -9,12 +10,12 @@ use Rattle.syn_model.specs.Archive.{Archive, Kept, Session, archive_of}
 use Rattle.syn_model.specs.Decision.{path_of}
 use Rattle.syn_headline.specs.Laws.{AddsAllowed}
 use Rattle.syn_headline.specs.Network.{Which, other, Sent}
-use Rattle.syn_headline.specs.Planning.{Planned, seen_on, IsPlanOf}
+use Rattle.syn_headline.specs.Planning.{Planned, Log, seen_on}
 use Rattle.syn_headline.specs.Headline.{IsNoEdit}
-use Rattle.syn_headline.proofs.Invariant.{Plans, Histories, IsSound, IsSoundEvent}
-use Rattle.syn_model.proofs.PathLemmas.{none_some}
+use Rattle.syn_headline.proofs.Invariant.{Plans, plan_in, Scans, IsPlanFrom, Histories, IsSound, IsSoundEvent}
 use Rattle.syn_headline.proofs.PlanLemmas.{plan_of-more, fenced}
 use Rattle.syn_headline.proofs.SoundLemmas.{began_above, extends, length_grows, part_at_stays, still_touched}
+use Rattle.syn_headline.proofs.StepLemmas.{next_fresh}
 use Rattle.syn_headline.proofs.MoveLemmas.{on_both, Moves, moves_grow, current}
 use Rattle.syn_headline.proofs.WorldLemmas.{archive-append}
 use Rattle.syn_headline.proofs.QuietScans.{IsPlannedEvent, ShowsTree, ShowsFound, begun_within, plan_shows}
@@ -22,16 +23,17 @@ use Rattle.syn_headline.proofs.CompleteLemmas.{IsRecordDue, carried, alike, mark
 
 -- a plan whose scans show what was found, where no user's event came since the session began
 pub record IsQuietPlan (sent : Sent) (histories : Histories) (session : ℕ) (found : Tree) (plan : List Planned) : Type 0 where
-  pub is : IsPlanOf sent session found plan
-  pub shows : (side : Which) → ShowsFound (histories side) session (is.scan side) (is.since side)
+  pub scans : Scans
+  pub is : IsPlanFrom sent session found scans plan
+  pub shows : (side : Which) → ShowsFound (histories side) session (scans.scan side) (scans.since side)
 
-pub record IsUnderway (before : Archive) (histories : Histories) (sent : Sent) (kept : List Kept) (session : ℕ) (plan : List Planned) : Type 0 where
+pub record IsUnderway (log : Log) (before : Archive) (histories : Histories) (sent : Sent) (kept : List Kept) (session : ℕ) (plan : List Planned) : Type 0 where
   pub earlier : List Kept
   pub records : List Kept
   pub kept_is : kept ≡ earlier ++ Session session ∷ records
   pub due : All (IsRecordDue plan histories) records
   pub events : (side : Which) (first later : History) → histories side ≡ first ++ Began session ∷ later → All (IsPlannedEvent plan histories side) later
-  pub planned : (plan ≡ []) ⊎ IsQuietPlan sent histories session (archive_of before earlier).marks plan
+  pub planned : All (λ made. made.session ≢ session) log ⊎ IsQuietPlan sent histories session (archive_of before earlier).marks plan
 
 -- the last of a list is that which is looked for, or comes after it
 split_last : (xs : History) (e : Event) (first : History) (b : Event) (later : History) → xs ++ e ∷ [] ≡ first ++ b ∷ later →
@@ -81,7 +83,7 @@ module _ (plan : List Planned) (old new : Histories) (grows : (side : Which) →
 
 -- a side goes on
 module _ (plans : Plans) (archive : Archive) (sent : Sent) (old new : Histories) (sound : IsSound plans old archive sent) (which : Which) (m : Moves plans archive old new which) (session : ℕ) (last : session ≡ archive.last_session)
-    (plan : List Planned) (has : plans session ≡ plan) where
+    (plan : List Planned) (has : plan_in plans session ≡ plan) where
   grows : (side : Which) → AddsAllowed (old side) (new side)
   grows = moves_grow plans archive old new which m
 
@@ -95,7 +97,7 @@ module _ (plans : Plans) (archive : Archive) (sent : Sent) (old new : Histories)
       let same : token.session ≡ session = omega (arith, now, below, begun, last) in
       record {
         planned = s.planned;
-        at = ap (λ p. slice_get p token.item) (sym (ap plans same ∙ has)) ∙ s.item;
+        at = ap (λ p. slice_get p token.item) (sym (ap (plan_in plans) same ∙ has)) ∙ s.item;
         writes = s.writes;
         reached = s.reached;
         whole = s.whole;
@@ -121,12 +123,12 @@ module _ (plans : Plans) (archive : Archive) (sent : Sent) (old new : Histories)
         (λ first later e. more_planned (other which) later (events (other which) first later (sym m.there ∙ e)))
 
   module _ (found : Tree) (h : IsQuietPlan sent old session found plan) where
-    shows_here : ShowsFound (new which) session (h.is.scan which) (h.is.since which)
-    shows_here first later e quiet = elim m.here as (λ _. ShowsTree (h.is.scan which) (h.is.since which) first) [
+    shows_here : ShowsFound (new which) session (h.scans.scan which) (h.scans.since which)
+    shows_here first later e quiet = elim m.here as (λ _. ShowsTree (h.scans.scan which) (h.scans.since which) first) [
       | inl same ↦ h.shows which first later (sym same ∙ e) quiet
-      | inr a ↦ elim (split_last (old which) a.0 first (Began session) later (sym a.3 ∙ e)) as (λ _. ShowsTree (h.is.scan which) (h.is.since which) first) [
+      | inr a ↦ elim (split_last (old which) a.0 first (Began session) later (sym a.3 ∙ e)) as (λ _. ShowsTree (h.scans.scan which) (h.scans.since which) first) [
         | inl now ↦
-            let fence : session ≤ last_session (old which) = fenced plans old archive sent sound session found plan h.is which in
+            let fence : session ≤ last_session (old which) = fenced plans old archive sent sound session found h.scans plan h.is which in
             let above : last_session (old which) < session = began_above (old which) session (subst (IsAllowed (old which)) now.0 a.1) in
             absurd (omega (arith, fence, above))
         | inr more ↦ h.shows which first more.0 more.2 (front_of IsNoEdit more.0 (a.0 ∷ []) (subst (All IsNoEdit) more.1 quiet))
@@ -135,42 +137,43 @@ module _ (plans : Plans) (archive : Archive) (sent : Sent) (old new : Histories)
 
     quiet_then : (more : Sent) → IsQuietPlan (sent ++ more) new session found plan
     quiet_then more = record {
-      is = plan_of-more sent more session found plan h.is;
-      shows = on_both (λ side. ShowsFound (new side) session (h.is.scan side) (h.is.since side)) which shows_here
+      scans = h.scans;
+      is = plan_of-more sent more _ h.is;
+      shows = on_both (λ side. ShowsFound (new side) session (h.scans.scan side) (h.scans.since side)) which shows_here
           (λ first later e quiet. h.shows (other which) first later (sym m.there ∙ e) quiet);
     }
 
-  pub underway_moves : (before : Archive) (kept : List Kept) (more : Sent) → IsUnderway before old sent kept session plan → IsUnderway before new (sent ++ more) kept session plan
-  underway_moves before kept more h = record {
+  pub underway_moves : (log : Log) (before : Archive) (kept : List Kept) (more : Sent) → IsUnderway log before old sent kept session plan → IsUnderway log before new (sent ++ more) kept session plan
+  underway_moves log before kept more h = record {
     earlier = h.earlier;
     records = h.records;
     kept_is = h.kept_is;
     due = All-weaker (IsRecordDue plan old) (IsRecordDue plan new) (due-grow plan old new grows) h.records h.due;
     events = events_then h.events;
-    planned = elim h.planned as (λ _. (plan ≡ []) ⊎ IsQuietPlan (sent ++ more) new session (archive_of before h.earlier).marks plan) [
+    planned = elim h.planned as (λ _. All (λ made. made.session ≢ session) log ⊎ IsQuietPlan (sent ++ more) new session (archive_of before h.earlier).marks plan) [
       | inl none ↦ inl none
       | inr is ↦ inr (quiet_then (archive_of before h.earlier).marks is more)
     ];
   }
 
 -- the coordinator says more
-pub underway_says : (before : Archive) (histories : Histories) (sent more : Sent) (kept : List Kept) (session : ℕ) (plan : List Planned) → IsUnderway before histories sent kept session plan → IsUnderway before histories (sent ++ more) kept session plan
-underway_says before histories sent more kept session plan h = record {
+pub underway_says : (log : Log) (before : Archive) (histories : Histories) (sent more : Sent) (kept : List Kept) (session : ℕ) (plan : List Planned) → IsUnderway log before histories sent kept session plan → IsUnderway log before histories (sent ++ more) kept session plan
+underway_says log before histories sent more kept session plan h = record {
   earlier = h.earlier;
   records = h.records;
   kept_is = h.kept_is;
   due = h.due;
   events = h.events;
-  planned = elim h.planned as (λ _. (plan ≡ []) ⊎ IsQuietPlan (sent ++ more) histories session (archive_of before h.earlier).marks plan) [
+  planned = elim h.planned as (λ _. All (λ made. made.session ≢ session) log ⊎ IsQuietPlan (sent ++ more) histories session (archive_of before h.earlier).marks plan) [
     | inl none ↦ inl none
-    | inr is ↦ inr (record { is = plan_of-more sent more session (archive_of before h.earlier).marks plan is.is; shows = is.shows })
+    | inr is ↦ inr (record { scans = is.scans; is = plan_of-more sent more _ is.is; shows = is.shows })
   ];
 }
 
 -- it records what is due
-abbrev pub underway_records : (before : Archive) (histories : Histories) (sent : Sent) (kept more : List Kept) (session : ℕ) (plan : List Planned) → All (IsRecordDue plan histories) more → IsUnderway before histories sent kept session plan →
-    IsUnderway before histories sent (kept ++ more) session plan
-underway_records before histories sent kept more session plan due h = record {
+abbrev pub underway_records : (log : Log) (before : Archive) (histories : Histories) (sent : Sent) (kept more : List Kept) (session : ℕ) (plan : List Planned) → All (IsRecordDue plan histories) more → IsUnderway log before histories sent kept session plan →
+    IsUnderway log before histories sent (kept ++ more) session plan
+underway_records log before histories sent kept more session plan due h = record {
   earlier = h.earlier;
   records = h.records ++ more;
   kept_is = ap (λ ks. ks ++ more) h.kept_is ∙ append_assoc h.earlier (Session session ∷ h.records) more;
@@ -180,9 +183,9 @@ underway_records before histories sent kept more session plan due h = record {
 }
 
 no_item : (histories : Histories) (kept : Kept) → IsRecordDue [] histories kept → ⊥
-no_item histories _ (carried side item planned path at w reached touched) = none_some at
-no_item histories _ (alike item planned path at kind) = none_some at
-no_item histories _ (marked item planned path at kind) = none_some at
+no_item histories _ (carried side item planned path at w reached touched) = none-some _ at
+no_item histories _ (alike item planned path at kind) = none-some _ at
+no_item histories _ (marked item planned path at kind) = none-some _ at
 
 no_records : (histories : Histories) (records : List Kept) → All (IsRecordDue [] histories) records → records ≡ []
 no_records histories [] due = refl
@@ -191,35 +194,36 @@ no_records histories (kept ∷ records) due = absurd (no_item histories kept (Al
 no_replacement : (plan : List Planned) (histories : Histories) (side : Which) (event : Event) → IsPlannedEvent [] histories side event → IsPlannedEvent plan histories side event
 no_replacement plan histories side (Edited user edit) h = h
 no_replacement plan histories side (Began session) h = h
-no_replacement plan histories side (Replaced token path since new) h = absurd (none_some h.at)
+no_replacement plan histories side (Replaced token path since new) h = absurd (none-some _ h.at)
 
 -- a plan that is made where none was
-pub quiet_plan : (before : Archive) (plans : Plans) (histories : Histories) (archive : Archive) (sent : Sent) → IsSound plans histories archive sent → (kept : List Kept) → archive ≡ archive_of before kept → (session : ℕ) (had plan : List Planned) → had ≡ [] →
-    IsPlanOf sent session archive.marks plan → (h : IsUnderway before histories sent kept session had) → IsQuietPlan sent histories session (archive_of before h.earlier).marks plan
-quiet_plan before plans histories archive sent sound kept archive_is session had plan empty is h =
+pub quiet_plan : (log : Log) (before : Archive) (plans : Plans) (histories : Histories) (archive : Archive) (sent : Sent) → IsSound plans histories archive sent → (kept : List Kept) → archive ≡ archive_of before kept → (session : ℕ) (had plan : List Planned) → had ≡ [] →
+    (scans : Scans) → IsPlanFrom sent session archive.marks scans plan → (h : IsUnderway log before histories sent kept session had) → IsQuietPlan sent histories session (archive_of before h.earlier).marks plan
+quiet_plan log before plans histories archive sent sound kept archive_is session had plan empty scans is h =
     let none : h.records ≡ [] = no_records histories h.records (subst (λ p. All (IsRecordDue p histories) h.records) empty h.due) in
     let found_is : archive.marks ≡ (archive_of before h.earlier).marks =
     ap (λ a. a.marks) (archive_is ∙ (ap (archive_of before) (h.kept_is ∙ ap (λ ks. h.earlier ++ Session session ∷ ks) none) ∙ archive-append before h.earlier (Session session ∷ []))) in
     subst (λ marks. IsQuietPlan sent histories session marks plan) found_is (record {
+      scans = scans;
       is = is;
-      shows = λ side. plan_shows plans histories archive sent sound side session (is.scan side) (is.since side) (is.scanned side)
+      shows = λ side. plan_shows plans histories archive sent sound side session (scans.scan side) (scans.since side) (is.scanned side)
           (λ first later e. subst (λ p. All (IsPlannedEvent p histories side) later) empty (h.events side first later e));
     })
 
-pub underway_plans : (before : Archive) (plans : Plans) (histories : Histories) (archive : Archive) (sent : Sent) → IsSound plans histories archive sent → (kept : List Kept) → archive ≡ archive_of before kept → (session : ℕ) (had plan : List Planned) → had ≡ [] →
-    IsPlanOf sent session archive.marks plan → IsUnderway before histories sent kept session had → IsUnderway before histories sent kept session plan
-underway_plans before plans histories archive sent sound kept archive_is session had plan empty is h = record {
+pub underway_plans : (log later : Log) (before : Archive) (plans : Plans) (histories : Histories) (archive : Archive) (sent : Sent) → IsSound plans histories archive sent → (kept : List Kept) → archive ≡ archive_of before kept → (session : ℕ) (had plan : List Planned) → had ≡ [] →
+    (scans : Scans) → IsPlanFrom sent session archive.marks scans plan → IsUnderway log before histories sent kept session had → IsUnderway later before histories sent kept session plan
+underway_plans log later before plans histories archive sent sound kept archive_is session had plan empty scans is h = record {
   earlier = h.earlier;
   records = h.records;
   kept_is = h.kept_is;
   due = subst (All (IsRecordDue plan histories)) (sym (no_records histories h.records (subst (λ p. All (IsRecordDue p histories) h.records) empty h.due))) (All-nil (IsRecordDue plan histories));
   events = λ side first later e. All-weaker (IsPlannedEvent [] histories side) (IsPlannedEvent plan histories side) (no_replacement plan histories side) later (subst (λ p. All (IsPlannedEvent p histories side) later) empty (h.events side first later e));
-  planned = inr (quiet_plan before plans histories archive sent sound kept archive_is session had plan empty is h);
+  planned = inr (quiet_plan log before plans histories archive sent sound kept archive_is session had plan empty scans is h);
 }
 
 -- it starts
 pub underway_starts : (before : Archive) (plans : Plans) (histories : Histories) (archive : Archive) (sent : Sent) → IsSound plans histories archive sent → (kept : List Kept) (session : ℕ) → session ≡ archive.last_session + 1 →
-    IsUnderway before histories sent (kept ++ Session session ∷ []) session []
+    IsUnderway plans before histories sent (kept ++ Session session ∷ []) session []
 underway_starts before plans histories archive sent sound kept session next = record {
   earlier = kept;
   records = [];
@@ -229,5 +233,5 @@ underway_starts before plans histories archive sent sound kept session next = re
       let within : session ≤ last_session (histories side) = (begun_within (histories side) first later session (sound.lawful side) e).0 in
       let below : last_session (histories side) ≤ archive.last_session = sound.begun side in
       absurd (omega (arith, next, within, below));
-  planned = inl refl;
+  planned = inl (next_fresh plans histories archive sent sound session next).0;
 }

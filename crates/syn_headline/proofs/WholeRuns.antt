@@ -1,6 +1,8 @@
 -- What holds of whole runs.
 use Rattle.std.proofs.Common.{◌≡◌, ◌≤◌, ℕ, List, [], ◌∷◌, ◌++◌, refl, sym, ap, ap₂, ◌∙◌, subst, Option, Some, None, append-nil, arith, inl, inr, ◌⊎◌, ◌≢◌}
 use Rattle.std.specs.Prelude.{Contains, IfSome}
+use Rattle.std.proofs.lemmas.List.Elements.{All-nil, Contains-append_left}
+use Rattle.std.proofs.lemmas.Option.{none-some}
 use Rattle.syn_model.specs.Path.{Path}
 use Rattle.syn_model.specs.Tree.{Tree}
 use Rattle.syn_model.specs.Event.{Token, Replaced}
@@ -8,21 +10,24 @@ use Rattle.syn_model.specs.History.{IsHistory, last_session}
 use Rattle.syn_model.specs.Archive.{CanKeep, Held}
 use Rattle.syn_headline.specs.Network.{Which, Left, Right, Sent, Message}
 use Rattle.syn_headline.specs.Acknowledged.{Ack, Happened, Stores, stores_after, IsLegal}
+use Rattle.syn_headline.specs.Planning.{Log, IsPlanOf}
 use Rattle.syn_headline.specs.World.{Up, World, Running, side_of, Step, Waits, RunsOver, Runs}
 use Rattle.syn_headline.specs.Headline.{stores_of, IsStart, EachReplacementIsLegal, EachTokenOnce, StandsFor, OfEachRun, Owes}
 use Rattle.syn_headline.proofs.Invariant.{Plans, histories_of, IsHarmless, IsSoundStaging, IsSoundEvent, IsSoundSide, IsKept}
-use Rattle.syn_model.proofs.PathLemmas.{none_some}
 use Rattle.syn_headline.proofs.PlanLemmas.{answered-more}
 use Rattle.syn_headline.proofs.TokenLemmas.{token_once}
 use Rattle.syn_headline.proofs.WorldLemmas.{step_stands}
 use Rattle.syn_headline.proofs.RunLemmas.{Advances, not_nothing, HasItsPlan}
 use Rattle.syn_headline.proofs.AdvanceLemmas.{step_advances}
 
-legal-more : (sent more : Sent) (side : Which) (stores : Stores) (token : Token) (path : Path) (since : ℕ) (u : Tree) → IsLegal sent side stores token path since u → IsLegal (sent ++ more) side stores token path since u
-legal-more sent more side stores token path since u h = record {
+legal-more : (sent more : Sent) (log logged : Log) (side : Which) (stores : Stores) (token : Token) (path : Path) (since : ℕ) (u : Tree) → IsLegal sent log side stores token path since u → IsLegal (sent ++ more) (log ++ logged) side stores token path since u
+legal-more sent more log logged side stores token path since u h = record {
   listed = (h.listed.0, answered-more sent more _ _ _ _ h.listed.1);
   reached = h.reached;
   untouched = h.untouched;
+  made = h.made;
+  logged = (Contains-append_left log logged h.made h.logged.0, h.logged.1);
+  planned = h.planned;
   recorded = h.recorded;
   source = record {
     listed = h.source.listed;
@@ -51,17 +56,17 @@ stores_same a b l r o = ap₂ (λ x y. record { left = x; right = y; archive = a
 
 legal_extends : (before : Stores) (plans : Plans) (old new : World) → StandsFor before old → Advances plans old new → EachReplacementIsLegal before old → EachReplacementIsLegal before new
 legal_extends before plans old new stands a all earlier later side token path since u e =
-    subst (λ sent. IsLegal sent side (stores_after before earlier) token path since u) (sym a.sends)
-    (legal-more old.sent a.messages side (stores_after before earlier) token path since u
-    (elim (split_at old.acknowledged a.acks earlier (Happened side (Replaced token path since u)) later (sym a.acknowledges ∙ e)) as (λ _. IsLegal old.sent side (stores_after before earlier) token path since u) [
+    subst (λ sent. IsLegal sent new.log side (stores_after before earlier) token path since u) (sym a.sends) (subst (λ log. IsLegal (old.sent ++ a.messages) log side (stores_after before earlier) token path since u) (sym a.logs)
+    (legal-more old.sent a.messages old.log a.logged side (stores_after before earlier) token path since u
+    (elim (split_at old.acknowledged a.acks earlier (Happened side (Replaced token path since u)) later (sym a.acknowledges ∙ e)) as (λ _. IsLegal old.sent old.log side (stores_after before earlier) token path since u) [
       | inl l ↦ all earlier l.0 side token path since u l.1
       | inr r ↦
           let first = a.legal_step r.0 later side token path since u r.2 in
           let at : stores_of old ≡ stores_after before earlier =
           stores_same (stores_of old) (stores_after before old.acknowledged) stands.left stands.right stands.archive
           ∙ ap (stores_after before) (sym (append-nil old.acknowledged) ∙ (ap (λ w. old.acknowledged ++ w) (sym first.0) ∙ sym r.1)) in
-          subst (λ s. IsLegal old.sent side s token path since u) at first.1
-    ]))
+          subst (λ s. IsLegal old.sent old.log side s token path since u) at first.1
+    ])))
 
 runs_legally : (before : Stores) (steps : List Step) (plans : Plans) (old new : World) → IsKept plans old → StandsFor before old → EachReplacementIsLegal before old → Runs old steps new → EachReplacementIsLegal before new
 runs_legally before [] plans old new k stands all e = subst (EachReplacementIsLegal before) (sym e) all
@@ -73,13 +78,14 @@ nothing_sent : (sent : Sent) (m : Message) → sent ≡ [] → Contains sent m �
 nothing_sent sent m e c = let d : Contains [] m = subst (λ s. Contains s m) e c in omega (arith, d.1)
 
 abbrev pub no_plans : Plans
-no_plans session = []
+no_plans = []
 
 pub start_kept : (old : World) → IsStart old → IsKept no_plans old
 start_kept old s =
     let p = s.pair in
     let empty = s.nothing_yet.0 in
     record {
+      logged = s.nothing_yet.3;
       sound = record {
         lawful = λ side. elim side as (λ side. IsHistory (histories_of old side)) [ Left ↦ p.left | Right ↦ p.right ];
         marks = p.marks;
@@ -91,9 +97,10 @@ start_kept old s =
         answered = λ from session number said request c d. absurd (nothing_sent old.sent _ empty c);
         borne = λ from session number said request c d. absurd (nothing_sent old.sent _ empty c);
         held = λ path content e side. let both = p.held path content e in elim side as (λ side. Held (histories_of old side) path content) [ Left ↦ both.0 | Right ↦ both.1 ];
-        planned = λ session. inl refl;
-        recorded = λ session item planned side path e w. absurd (none_some e);
-        used = λ side token planned path last e w. absurd (none_some e);
+        once = λ i j d less within. absurd (omega (arith, within));
+        planned = All-nil (IsPlanOf old.sent);
+        recorded = λ session item planned side path e w. absurd (none-some _ e);
+        used = λ side token planned path last e w. absurd (none-some _ e);
       };
       sides = λ side. elim side as (λ side. IsSoundSide no_plans (histories_of old) old.coordinator.archive side (side_of old side)) [
         | Left ↦ record { staged = subst (λ o. IfSome o (IsSoundStaging no_plans (histories_of old) Left)) (sym s.left.1) tt; writing = subst (λ o. IfSome o (λ event. (old.left.status ≢ Up) × IsSoundEvent no_plans (histories_of old) old.coordinator.archive Left event)) (sym s.left.2) tt }

@@ -10,7 +10,8 @@ use Rattle.syn_headline.specs.Report.{Report}
 use Rattle.syn_headline.specs.Side.{Request, Reply, Refused, record_size}
 use Rattle.syn_model.specs.Refusal.{Refusal, Device, Cause}
 use Rattle.syn_model.specs.Refusal as why
-use Rattle.syn_headline.specs.World.{Running, World, SideMachine, CoordinatorMachine, Machine, At, Coordinator, Step, Edits, Start, Deliver, Tick, Checkpoint, Fail, Stop, Open, Reopen, side_of, set_side, stopped, Writes, SideGoes, Compacts, compacted, compacting_failed, compacting_cut, Opens, OpensArchive, TakesRequest, TakesAnswer, CoordinatorGoes, Delivers, OpensMachine, cut_off, set_device, answered_by, is_halted, status_of, UnlessDown, Status, Halted, Steps, written, failed, cut, opened, recovered, archive_opened, archive_recovered, refuses_with, edit_causes, start_causes, Starts, Reopens, Calls, answered, request_failed, request_cut, side_down, taken, ignored, coordinator_down}
+use Rattle.syn_headline.specs.Planning.{Log}
+use Rattle.syn_headline.specs.World.{Running, World, SideMachine, CoordinatorMachine, Machine, At, Coordinator, Step, Edits, Start, Deliver, Tick, Checkpoint, Fail, Stop, Open, Reopen, side_of, set_side, stopped, Writes, SideGoes, Opens, OpensArchive, TakesRequest, TakesAnswer, CoordinatorGoes, Delivers, OpensMachine, cut_off, set_device, answered_by, is_halted, status_of, UnlessDown, Status, Halted, Steps, written, failed, cut, opened, recovered, archive_opened, archive_recovered, refuses_with, edit_causes, start_causes, Starts, Reopens, Calls, answered, request_failed, request_cut, side_down, taken, ignored, coordinator_down, Compacts, compacted, compacting_failed, compacting_cut}
 use Rattle.syn_headline.specs.Arms.{Arms}
 use Rattle.syn_headline.specs.Headline.{StandsFor, RunsStand}
 
@@ -112,17 +113,17 @@ side_steps : (before : Stores) (old : World) (which : Which) (Goes : SideMachine
 side_steps before old which Goes new h s g = side_goes before old which g.0 g.1 [] new s (h g.0 g.1 g.2) g.3
 
 -- the coordinator goes on by what it keeps
-coordinator_goes : (before : Stores) (old : World) (machine : CoordinatorMachine) (ks : List Kept) (sent : List Message) (reports : List (Report × ℕ)) (new : World) → StandsFor before old →
+coordinator_goes : (before : Stores) (old : World) (machine : CoordinatorMachine) (ks : List Kept) (sent : List Message) (reports : List (Report × ℕ)) (log : Log) (new : World) → StandsFor before old →
     machine.archive ≡ archive_of old.coordinator.archive ks →
-    new ≡ record old { coordinator = machine; sent = sent; acknowledged = old.acknowledged ++ map Kept_by ks; reports = reports } → StandsFor before new
-coordinator_goes before old machine ks sent reports new s h e = subst (StandsFor before) (sym e) (record {
+    new ≡ record old { coordinator = machine; sent = sent; acknowledged = old.acknowledged ++ map Kept_by ks; reports = reports; log = log } → StandsFor before new
+coordinator_goes before old machine ks sent reports log new s h e = subst (StandsFor before) (sym e) (record {
   left = stays before.left Left old.acknowledged (map Kept_by ks) old.left.side.history s.left (event_kept Left ks);
   right = stays before.right Right old.acknowledged (map Kept_by ks) old.right.side.history s.right (event_kept Right ks);
   archive = archive_goes before.archive old.acknowledged (map Kept_by ks) old.coordinator.archive machine.archive ks s.archive (kept_kept ks) h;
 })
 
-coordinator_steps : (before : Stores) (old : World) (IsDue_now : Kept → Type 0) (RunsOn : Option Running → Type 0) (new : World) → StandsFor before old → CoordinatorGoes old IsDue_now RunsOn new → StandsFor before new
-coordinator_steps before old IsDue_now RunsOn new s g = coordinator_goes before old g.machine g.kept (old.sent ++ g.messages) (old.reports ++ g.reports) new s g.keeps.archive g.result
+coordinator_steps : (before : Stores) (old : World) (logged : Log) (IsDue_now : Kept → Type 0) (RunsOn : Option Running → Type 0) (new : World) → StandsFor before old → CoordinatorGoes old logged IsDue_now RunsOn new → StandsFor before new
+coordinator_steps before old logged IsDue_now RunsOn new s g = coordinator_goes before old g.machine g.kept (old.sent ++ g.messages) (old.reports ++ g.reports) (old.log ++ logged) new s g.keeps.archive g.result
 
 same_world : (before : Stores) (old new : World) → StandsFor before old → new ≡ old → StandsFor before new
 same_world before old new s e = subst (StandsFor before) (sym e) s
@@ -140,7 +141,7 @@ takes_request before old which session number request new s (request_cut event w
 takes_request before old which session number request new s (side_down d e) = same_world before old new s e
 
 takes_answer : (before : Stores) (old : World) (from : Which) (session number : ℕ) (reply : Reply) (new : World) → StandsFor before old → TakesAnswer old from session number reply new → StandsFor before new
-takes_answer before old from session number reply new s (taken plan x made g calls reports) = coordinator_steps before old _ _ new s g
+takes_answer before old from session number reply new s (taken plan logged x made g calls reports) = coordinator_steps before old logged _ _ new s g
 takes_answer before old from session number reply new s (ignored x e) = same_world before old new s e
 takes_answer before old from session number reply new s (coordinator_down d e) = same_world before old new s e
 
@@ -171,7 +172,7 @@ answered_stands before machine made new s = told (is_halted (status_of made mach
 
 opens_machine : (before : Stores) (old : World) (machine : Machine) (calls : ℕ) (new : World) → StandsFor before old → OpensMachine old machine calls new → StandsFor before new
 opens_machine before old (At which) calls new s g = side_steps before old which (Opens old.pair (side_of old which) calls) new (opens_history old.pair (side_of old which) calls) s g
-opens_machine before old Coordinator calls new s g = coordinator_goes before old g.0 g.1 old.sent old.reports new s (opens_archive old.coordinator calls g.0 g.1 g.2) g.3
+opens_machine before old Coordinator calls new s g = coordinator_goes before old g.0 g.1 old.sent old.reports old.log new s (opens_archive old.coordinator calls g.0 g.1 g.2) g.3
 
 reopens : (before : Stores) (old : World) (machine : Machine) (calls : ℕ) (new : World) → StandsFor before old → Reopens old machine calls new → StandsFor before new
 reopens before old machine calls new s (inl g) = opens_machine before old machine calls new s g
@@ -191,10 +192,10 @@ pub step_stands : (before : Stores) (old : World) (step : Step) (new : World) �
 step_stands before old (Edits side user edit) new s g =
     calls before old (At side) (edit_causes (side_of old side) (Edited user edit)) (λ made. IsLawfulEvent (Edited user edit) × SideGoes old side (Writes (side_of old side) (Edited user edit)) [] made) new s
     (λ made h. side_steps before old side (Writes (side_of old side) (Edited user edit)) made (writes_history (side_of old side) (Edited user edit)) s h.1) g
-step_stands before old Start new s g = calls before old Coordinator (start_causes old.coordinator) (Starts old) new s (λ made h. coordinator_steps before old _ _ made s h.0) g
+step_stands before old Start new s g = calls before old Coordinator (start_causes old.coordinator) (Starts old) new s (λ made h. coordinator_steps before old [] _ _ made s h.0) g
 step_stands before old (Deliver message) new s g = delivers before old (slice_get old.sent message) new s g
 step_stands before old Tick new s (inl g) = same_world before old new s g.1
-step_stands before old Tick new s (inr g) = coordinator_steps before old _ _ new s g.1.goes
+step_stands before old Tick new s (inr g) = coordinator_steps before old [] _ _ new s g.1.goes
 step_stands before old (Checkpoint (At which)) new s (full, g) = calls before old (At which) ((full, why.Full) ∷ []) (SideGoes old which (Compacts old.pair (side_of old which)) []) new s
     (λ made. side_steps before old which (Compacts old.pair (side_of old which)) made (compacts_history old.pair (side_of old which)) s) g
 step_stands before old (Checkpoint Coordinator) new s (full, g) = calls before old Coordinator ((full, why.Full) ∷ []) (Reopens old Coordinator 6) new s (λ made. reopens before old Coordinator 6 made s) g

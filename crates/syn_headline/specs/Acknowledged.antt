@@ -1,5 +1,5 @@
 -- What a run's calls answered, in order of time, and what may come of one more.
-use Rattle.std.specs.Prelude.{ℕ, ◌≡◌, ◌≤◌, ◌⊎◌, List, [], ◌∷◌, ◌++◌, length, true, filter_map, Option, Some, None}
+use Rattle.std.specs.Prelude.{ℕ, ◌≡◌, ◌≤◌, ◌⊎◌, List, [], ◌∷◌, ◌++◌, length, true, slice_get, filter_map, Option, Some, None, Contains}
 use Rattle.syn_model.specs.Path.{Path, Name, parent}
 use Rattle.syn_model.specs.Tree.{Tree, Content, subtree}
 use Rattle.syn_model.specs.Event.{Token, Event}
@@ -8,6 +8,7 @@ use Rattle.syn_model.specs.Mark.{mark}
 use Rattle.syn_model.specs.Archive.{Archive, Kept, archive_of, CanKeep, after_kept}
 use Rattle.syn_headline.specs.Side.{ListAt, Listed}
 use Rattle.syn_headline.specs.Network.{Which, Left, Right, other, Sent, WasAnswered}
+use Rattle.syn_headline.specs.Planning.{Planned, WritesTo, SessionPlan, Log}
 
 -- an event of a side, or what the archive kept: answered Ok, or recovered by an opening
 pub data Ack : Type 0 where
@@ -64,14 +65,17 @@ pub record IsFrom (sent : Sent) (source : Which) (source_history : History) (ses
   pub reached : position ≤ length source_history
   pub held : new ≡ subtree (tree_at source_history position) path
 
--- what a replacement may overwrite: what the archive recorded
-abbrev pub MayOverwrite : Stores → Which → Path → Type 0
-MayOverwrite written side path = subtree (mark (tree_of (history_of written side))) path ≡ subtree written.archive.marks path
+-- what a replacement may overwrite, whichever side its session prefers: what the archive recorded
+abbrev pub MayOverwrite : SessionPlan → Stores → Which → Path → Type 0
+MayOverwrite made written side path = subtree (mark (tree_of (history_of written side))) path ≡ subtree written.archive.marks path
 
--- a replacement that follows a listing, puts what the other side held and takes what it may overwrite
-pub record IsLegal (sent : Sent) (side : Which) (written : Stores) (token : Token) (path : Path) (since : ℕ) (new : Tree) : Type 0 where
+-- a replacement that follows a listing, is an item of its session's plan, puts what the other side held and takes what it may overwrite
+pub record IsLegal (sent : Sent) (log : Log) (side : Which) (written : Stores) (token : Token) (path : Path) (since : ℕ) (new : Tree) : Type 0 where
   pub listed : WasListed sent side token.session (parent path) since
   pub reached : since ≤ length (history_of written side)
   pub untouched : is_quiet (history_of written side) since (length (history_of written side)) path ≡ true
-  pub recorded : MayOverwrite written side path
+  pub made : SessionPlan
+  pub logged : Contains log made × (made.session ≡ token.session)
+  pub planned : (planned : Planned) × (slice_get made.plan token.item ≡ Some planned) × WritesTo planned.item side path
+  pub recorded : MayOverwrite made written side path
   pub source : IsFrom sent (other side) (history_of written (other side)) token.session path new

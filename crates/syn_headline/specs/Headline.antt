@@ -1,17 +1,16 @@
 -- What is proved of whole runs.
-use Rattle.std.specs.Prelude.{ℕ, true, ◌≡◌, ◌≤◌, ◌↔◌, ◌+◌, drop, false, List, [], ◌∷◌, ◌++◌, take, None, All, Contains, IfSome}
+use Rattle.std.specs.Prelude.{ℕ, true, ◌≡◌, ◌≢◌, ◌≤◌, ◌↔◌, ◌+◌, drop, false, List, [], ◌∷◌, ◌++◌, length, take, None, All, AllPairs, Contains, IfSome}
 use Rattle.syn_model.specs.Path.{Bytes, Path, parent}
 use Rattle.syn_model.specs.Tree.{Tree, IsTree, subtree, is_directory}
 use Rattle.syn_model.specs.Event.{Token, is_same_token, Event, Edited, Began, Replaced, touches}
 use Rattle.syn_model.specs.History.{History, IsHistory, tree_of, tree_at, last_session}
 use Rattle.syn_model.specs.Mark.{mark, AreApart}
 use Rattle.syn_model.specs.Archive.{Archive, new_archive, Session, BothHeld}
-use Rattle.syn_model.specs.Dirty.{Paths, dirty}
 use Rattle.std.specs.List.{count_by}
-use Rattle.syn_model.specs.Plan.{plan, scan_of, IsConflict}
-use Rattle.syn_model.specs.Reconcile.{IsSynchronization, IsReconciledArchive}
+use Rattle.syn_model.specs.Plan.{plan, scan_of, Trees, IsSynchronized, IsReconciled, IsConflict}
 use Rattle.syn_headline.specs.Network.{Which, Left, Right, other, AsksNothingTwice}
 use Rattle.syn_headline.specs.Acknowledged.{Ack, Happened, Kept_by, Stores, history_of, stores_after, Grown, ArchiveGrown, IsLegal}
+use Rattle.syn_headline.specs.Planning.{IsPlanOf}
 use Rattle.syn_headline.specs.Report.{Report, Complete, is_carrying, is_marking}
 use Rattle.syn_headline.specs.Arms.{unarmed}
 use Rattle.syn_headline.specs.World.{World, Step, Runs, Up, Waits, side_of}
@@ -34,7 +33,7 @@ pub record IsStart (world : World) : Type 0 where
   pub left : (world.left.status ≡ Up) × (world.left.side.staging ≡ None) × (world.left.writing ≡ None) × (world.left.compacting ≡ false) × (world.left.arms ≡ unarmed)
   pub right : (world.right.status ≡ Up) × (world.right.side.staging ≡ None) × (world.right.writing ≡ None) × (world.right.compacting ≡ false) × (world.right.arms ≡ unarmed)
   pub coordinator : (world.coordinator.status ≡ Up) × (world.coordinator.running ≡ None) × (world.coordinator.writing ≡ None) × (world.coordinator.arms ≡ unarmed)
-  pub nothing_yet : (world.sent ≡ []) × (world.acknowledged ≡ []) × (world.reports ≡ [])
+  pub nothing_yet : (world.sent ≡ []) × (world.acknowledged ≡ []) × (world.reports ≡ []) × (world.log ≡ [])
 
 -- Opening what any stop leaves: the acknowledged events in order, with at most the one being written.
 -- `stands` says what a disk's bytes stand for, and `leaves` which bytes a stop may then leave
@@ -45,12 +44,12 @@ pub record OpensToAcknowledged (stands : Bytes → History → Type 0) (stands_a
   pub archive : (bytes : Bytes) → leaves_archive bytes →
       (archive : Archive) × stands_archive bytes archive × ArchiveGrown world.coordinator.writing (stores_after before world.acknowledged).archive archive
 
--- Each replacement of the run puts what the other side held over what the archive recorded, untouched since its listing
+-- Each replacement of the run is of its session's plan, and puts what the other side held over what the archive recorded, untouched since its listing
 abbrev pub EachReplacementIsLegal : Stores → World → Type 0
 EachReplacementIsLegal before world =
     (earlier later : List Ack) (side : Which) (token : Token) (path : Path) (since : ℕ) (new : Tree) →
     world.acknowledged ≡ earlier ++ Happened side (Replaced token path since new) ∷ later →
-    IsLegal world.sent side (stores_after before earlier) token path since new
+    IsLegal world.sent world.log side (stores_after before earlier) token path since new
 
 -- Each archive entry was held by both sides, whatever an opening then gives
 abbrev pub EachEntryWasHeld : Stores → World → Type 0
@@ -81,23 +80,19 @@ pub record IsQuietSession (before : Stores) (world : World) (report : Report) (f
   pub archive : found.archive ≡ (stores_after before (take started world.acknowledged)).archive
   pub taken : take (started + 1) world.acknowledged ≡ take started world.acknowledged ++ Kept_by (Session report.session) ∷ []
 
--- what a scan of the whole tree finds dirty
-abbrev pub dirty_in : History → Archive → Paths
-dirty_in history archive = dirty (record { marks = mark (tree_of history); unstable = [] }) archive.marks
+-- the trees of both sides, and the marks of the archive
+abbrev pub trees_of : Stores → Trees
+trees_of stores = record { left = tree_of stores.left; right = tree_of stores.right; archive = stores.archive.marks }
 
--- the trees and the archive that it left are a synchronization of what it found
-pub record Synchronizes (found left : Stores) : Type 0 where
-  pub trees : IsSynchronization (tree_of found.left) (tree_of found.right) (dirty_in found.left found.archive) (dirty_in found.right found.archive) (tree_of left.left) (tree_of left.right)
-  pub archive : IsReconciledArchive (tree_of found.left) (tree_of found.right) (dirty_in found.left found.archive) (dirty_in found.right found.archive) (tree_of left.left) (tree_of left.right) found.archive.marks left.archive.marks
-
--- a tree that a side had at some moment of the run or before it
-abbrev pub IsOfRun : World → Tree → Type 0
-IsOfRun world tree = (side : Which) × (position : ℕ) × (tree ≡ tree_at (side_of world side).side.history position)
-
--- A complete session without edits leaves the synchronization of what it found
+-- A complete session without edits leaves on both sides the synchronization of what it found,
+-- if no two files that it found at one path differ with one digest
 abbrev pub CompleteSessionsSynchronize : Stores → World → Type 0
-CompleteSessionsSynchronize before world =
-    AreApart (IsOfRun world) → (report : Report) (found left : Stores) → IsQuietSession before world report found left → Synchronizes found left
+CompleteSessionsSynchronize before world = (report : Report) (found left : Stores) → IsQuietSession before world report found left →
+    AreApart (tree_of found.left) (tree_of found.right) → IsSynchronized (trees_of found) (trees_of left)
+
+-- And it leaves the archive of that, without this premise
+abbrev pub CompleteSessionsReconcile : Stores → World → Type 0
+CompleteSessionsReconcile before world = (report : Report) (found left : Stores) → IsQuietSession before world report found left → IsReconciled (trees_of found) (trees_of left)
 
 -- Its conflicts are the relevant paths that are dirty on both sides, no directory on both and unequal
 abbrev pub ReportsItsConflicts : Stores → World → Type 0
@@ -145,6 +140,7 @@ pub record Headline (stands : Bytes → History → Type 0) (stands_archive : By
   pub replaced : EachReplacementIsLegal before world
   pub archived : EachEntryWasHeld before world
   pub synchronized : CompleteSessionsSynchronize before world
+  pub reconciled : CompleteSessionsReconcile before world
 
 -- The machines stand for what was there before and then what was acknowledged, in order
 pub record StandsFor (before : Stores) (world : World) : Type 0 where
@@ -159,6 +155,15 @@ RunsStand = (before : Stores) (old new : World) (steps : List Step) → Runs old
 -- three disks that were just formatted
 abbrev pub formatted : Stores
 formatted = record { left = []; right = []; archive = new_archive }
+
+-- the archive had these marks at some moment of the run
+abbrev pub HadArchive : Stores → World → Tree → Type 0
+HadArchive before world marks = (acks : ℕ) × (acks ≤ length world.acknowledged) × (marks ≡ (stores_after before (take acks world.acknowledged)).archive.marks)
+
+-- Each session makes one plan at most, and that is of its scans and the archive at some moment
+abbrev pub LogsPlans : Stores → World → Type 0
+LogsPlans before world =
+    AllPairs (λ earlier later. earlier.session ≢ later.session) world.log × All (λ made. IsPlanOf world.sent made × HadArchive before world made.archive) world.log
 
 -- what holds of every run from a world that has just been opened, with stops of any machine and failing devices
 abbrev pub OfEachRun : (Stores → World → Type 0) → Type 0

@@ -7,4 +7,3 @@ pub mod Arms
 pub mod World
 pub mod Headline
 pub mod Laws
-pub mod Rows

@@ -1,22 +1,17 @@
 -- Where a session's plan and what it stages come from: the listings and pieces that the sides answered.
-use Rattle.std.specs.Prelude.{ℕ, ◌≡◌, ◌≤◌, true, false, List, [], map, Contains, All}
-use Rattle.syn_model.specs.Path.{Path, Name, parent, child}
-use Rattle.syn_model.specs.Tree.{Tree, IsTree, subtree, is_directory}
-use Rattle.syn_model.specs.Limits.{children}
-use Rattle.syn_model.specs.Dirty.{Scan}
+use Rattle.std.specs.Prelude.{ℕ, ◌≡◌, List, map, Option, All}
+use Rattle.syn_model.specs.Path.{Path, parent}
+use Rattle.syn_model.specs.Tree.{Tree, subtree}
+use Rattle.syn_model.specs.Dirty.{Scan, IsScanBy}
 use Rattle.syn_headline.specs.Side.{Begin, ListAt, Fetch, Begun, Listed, NotDir, Piece}
 use Rattle.syn_headline.specs.Network.{Which, Left, Right, other, Sent, WasAnswered}
-use Rattle.syn_model.specs.Decision.{Item, path_of, ToLeft, ToRight, is_unstable}
+use Rattle.syn_model.specs.Decision.{Item, path_of, ToLeft, ToRight}
 use Rattle.syn_model.specs.Plan.{plan as items_of}
 
--- each directory of the scan was listed so at its position, after the directory above it, or is unstable: it was answered as none
-pub record IsScanOf (sent : Sent) (side : Which) (session : ℕ) (scan : Scan) (since : Path → ℕ) : Type 0 where
-  pub tree : IsTree scan.marks
-  pub listed : (path : Path) → is_directory scan.marks path ≡ true → is_unstable scan path ≡ false →
-      WasAnswered sent side session (ListAt path) (Listed (since path) (children scan.marks path))
-  pub ordered : (path : Path) (name : Name) → is_directory scan.marks (child path name) ≡ true → since path ≤ since (child path name)
-  pub not_dir : (path : Path) → Contains scan.unstable path → (is_directory scan.marks path ≡ true) × WasAnswered sent side session (ListAt path) (NotDir (since path))
-  pub nothing_below : (path : Path) → Contains scan.unstable path → children scan.marks path ≡ []
+-- a scan by what the side answered in the session
+abbrev pub IsScanOf : Sent → Which → ℕ → Scan → (Path → ℕ) → Type 0
+IsScanOf sent side session =
+    IsScanBy (λ path position entries. WasAnswered sent side session (ListAt path) (Listed position entries)) (λ path position. WasAnswered sent side session (ListAt path) (NotDir position))
 
 -- what a scan has at a path, and the position of the listing of its parent
 pub record Seen : Type 0 where
@@ -46,14 +41,25 @@ pub record HasBegun (sent : Sent) (side : Which) (session : ℕ) : Type 0 where
   pub position : ℕ
   pub begun : WasAnswered sent side session (Begin pair) (Begun position)
 
--- the plan of two scans of the session and the archive then, once both sides had begun the session
-pub record IsPlanOf (sent : Sent) (session : ℕ) (archive : Tree) (plan : List Planned) : Type 0 where
+-- a session that made its plan: the side that it prefers, the two scans and the archive that it found, and the plan
+pub record SessionPlan : Type 0 where
+  pub session : ℕ
+  pub preference : Option Which
   pub scan : Which → Scan
   pub since : Which → Path → ℕ
-  pub begun : (side : Which) → HasBegun sent side session
-  pub scanned : (side : Which) → IsScanOf sent side session (scan side) (since side)
-  pub items : map (λ planned. planned.item) plan ≡ items_of (scan Left) (scan Right) archive
-  pub seen : All (SeesBoth scan since) plan
+  pub archive : Tree
+  pub plan : List Planned
+
+-- the sessions that made their plan, in order of time
+abbrev pub Log : Type 0
+Log = List SessionPlan
+
+-- the plan is that of the scans and the archive, once both sides had begun the session
+pub record IsPlanOf (sent : Sent) (made : SessionPlan) : Type 0 where
+  pub begun : (side : Which) → HasBegun sent side made.session
+  pub scanned : (side : Which) → IsScanOf sent side made.session (made.scan side) (made.since side)
+  pub items : map (λ planned. planned.item) made.plan ≡ items_of (made.scan Left) (made.scan Right) made.archive
+  pub seen : All (SeesBoth made.scan made.since) made.plan
 
 -- the item writes the path on the side
 abbrev pub WritesTo : Item → Which → Path → Type 0

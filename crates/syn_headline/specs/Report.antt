@@ -4,13 +4,13 @@ use Rattle.std.specs.Ordering.{eq_by_cmp}
 use Rattle.std.specs.Prelude.{slice_get, ℕ, ◌≡◌, ◌⊎◌, Bool, true, false, ◌&&◌, List, [], ◌∷◌, ◌++◌, filter_map, fold, Option, Some, None, Contains, IfSome, IsSomeAnd, All, Any}
 use Rattle.syn_model.specs.Path.{Name, Path, path_cmp}
 use Rattle.syn_model.specs.Refusal.{Refusal, Memory, TooLarge, BadMessage}
-use Rattle.syn_model.specs.Tree.{Tree, Content}
+use Rattle.syn_model.specs.Tree.{Content}
 use Rattle.syn_model.specs.Archive.{Archive, Kept, Session, Recorded, RecordedDir, kept_refusal}
 use Rattle.syn_model.specs.Decision.{Item, ToLeft, ToRight, MarkSame, MarkDir, Conflict, path_of}
 use Rattle.syn_headline.specs.Side.{Request, Begin, ListAt, Fetch, Stage, Replace, Reply, Begun, Listed, NotDir, Staged, Done, Refused}
 use Rattle.syn_headline.specs.Network.{Which, Sent, WasAnswered}
 use Rattle.syn_headline.specs.Acknowledged.{Ack, kept_in}
-use Rattle.syn_headline.specs.Planning.{Planned, IsPlanOf}
+use Rattle.syn_headline.specs.Planning.{Planned, Log}
 
 pub data End : Type 0 where
   Complete : End
@@ -119,11 +119,11 @@ abbrev pub WasUnstable : Sent → ℕ → Type 0
 WasUnstable sent session = (side : Which) × (path : Path) × (position : ℕ) × WasAnswered sent side session (ListAt path) (NotDir position)
 
 -- A session that ends as an answer is taken has a cause, or it has settled each item of its plan, which was made even where it has none
-pub record EndsAs (sent : Sent) (session : ℕ) (archive : Tree) (plan : List Planned) (kept : List Kept) (asked : Option Request) (reply : Reply) (Meets : Refusal → Type 0) (report : Report) : Type 0 where
+pub record EndsAs (sent : Sent) (session : ℕ) (log : Log) (plan : List Planned) (kept : List Kept) (asked : Option Request) (reply : Reply) (Meets : Refusal → Type 0) (report : Report) : Type 0 where
   pub session_is : report.session ≡ session
   pub cause : IfSome report.ended (λ why. IsSomeAnd asked (λ request. MayEnd request reply Meets why))
   pub incomplete : report.end ≡ Incomplete → report.ended ≡ None → report.refused ≡ [] → WasUnstable sent session
   pub complete : report.end ≡ Complete → (report.ended ≡ None) × (report.refused ≡ [])
-  pub made : report.ended ≡ None → plan ≡ [] → IsPlanOf sent session archive plan
+  pub made : report.ended ≡ None → Any (λ made. made.session ≡ session) log
   pub settled : report.ended ≡ None → All (λ planned. IsSettled kept report planned.item) plan
   pub conflicts : report.ended ≡ None → report.conflicts ≡ filter_map (λ planned. conflict_at planned.item) plan

@@ -14,7 +14,7 @@ use Rattle.syn_headline.specs.Network.{Which, Left, Right, other, Message, Asks,
 pub use Rattle.syn_headline.specs.Arms.{Status, Up, Halted, Down}
 use Rattle.syn_headline.specs.Arms.{Arms, unarmed, Meets}
 use Rattle.syn_headline.specs.Acknowledged.{Ack, Happened, Kept_by}
-use Rattle.syn_headline.specs.Planning.{Planned, seen_on, HasBegun, IsPlanOf, WritesTo, IsFetched, IsTotal}
+use Rattle.syn_headline.specs.Planning.{Planned, seen_on, HasBegun, SessionPlan, Log, IsPlanOf, WritesTo, IsFetched, IsTotal}
 use Rattle.syn_model.specs.Decision.{MarkSame, MarkDir}
 use Rattle.syn_headline.specs.Report.{Report, Incomplete, Counts, IsRefusedItem, EndsAs, kept_in_session}
 
@@ -64,7 +64,7 @@ pub record CoordinatorMachine : Type 0 where
   pub running : Option Running
   pub arms : Arms
 
--- `refusals` has what a user's edit, a start, a checkpoint or an opening was refused with, in order of time
+-- `refusals` has what a user's edit, a start, a checkpoint or an opening was refused with, in order of time, and `log` each session's plan
 pub record World : Type 0 where
   pub pair : ℕ
   pub left : SideMachine
@@ -74,6 +74,7 @@ pub record World : Type 0 where
   pub acknowledged : List Ack
   pub refusals : List Refusal
   pub reports : List (Report × ℕ)
+  pub log : Log
 
 abbrev pub side_of : World → Which → SideMachine
 side_of world Left = world.left
@@ -167,23 +168,23 @@ pub data TakesRequest (old : World) (which : Which) (session number : ℕ) (requ
 
 -- The coordinator
 
--- a side is listed once it has begun the session, and what else is asked of it is by an item of the plan:
+-- a session begins with the pair's number, a side is listed once it has begun it, and what else is asked of it is by an item of the plan:
 -- a piece of what it is to give, a piece that was fetched, or its replacement, once the length of the whole is known
-abbrev pub IsOfPlan : Sent → ℕ → List Planned → Which → Request → Type 0
-IsOfPlan sent session plan to (Begin pair) = Unit {0}
-IsOfPlan sent session plan to (ListAt path) = HasBegun sent to session
-IsOfPlan sent session plan to (Fetch path since offset) =
+abbrev pub IsOfPlan : ℕ → Sent → ℕ → List Planned → Which → Request → Type 0
+IsOfPlan pair sent session plan to (Begin asked) = asked ≡ pair
+IsOfPlan pair sent session plan to (ListAt path) = HasBegun sent to session
+IsOfPlan pair sent session plan to (Fetch path since offset) =
     (item : ℕ) × (planned : Planned) × (slice_get plan item ≡ Some planned) × WritesTo planned.item (other to) path × (since ≡ (seen_on planned to).since)
-IsOfPlan sent session plan to (Stage item offset bytes) =
+IsOfPlan pair sent session plan to (Stage item offset bytes) =
     (planned : Planned) × (slice_get plan item ≡ Some planned) × IsFetched sent to session planned offset bytes
-IsOfPlan sent session plan to (Replace item path since size) =
+IsOfPlan pair sent session plan to (Replace item path since size) =
     (planned : Planned) × (slice_get plan item ≡ Some planned) × WritesTo planned.item to path × (since ≡ (seen_on planned to).since)
     × IsTotal sent to session planned size
 
 -- a request of the running session
-abbrev pub IsOfSession : Sent → Running → Message → Type 0
-IsOfSession sent running (Asks to session number request) = (session ≡ running.session) × IsLawfulRequest session request × IsOfPlan sent running.session running.plan to request
-IsOfSession sent running (Answers from session number reply) = ⊥
+abbrev pub IsOfSession : ℕ → Sent → Running → Message → Type 0
+IsOfSession pair sent running (Asks to session number request) = (session ≡ running.session) × IsLawfulRequest session request × IsOfPlan pair sent running.session running.plan to request
+IsOfSession pair sent running (Answers from session number reply) = ⊥
 
 -- what may be recorded when an answer is taken: the item whose replacement is done, with the mark of its source, or where both scans agree
 pub data IsDue (running : Running) (plan : List Planned) (from : Which) (number : ℕ) (reply : Reply) : Kept → Type 0 where
@@ -195,13 +196,22 @@ pub data IsDue (running : Running) (plan : List Planned) (from : Which) (number 
   directory : (item : ℕ) (path : Path) (planned : Planned) → slice_get plan item ≡ Some planned → planned.item ≡ MarkDir path →
       IsDue running plan from number reply (RecordedDir path)
 
-abbrev pub AllOfSession : Sent → Option Running → List Message → Type 0
-AllOfSession sent None messages = messages ≡ []
-AllOfSession sent (Some running) messages = All (IsOfSession sent running) messages
+abbrev pub AllOfSession : ℕ → Sent → Option Running → List Message → Type 0
+AllOfSession pair sent None messages = messages ≡ []
+AllOfSession pair sent (Some running) messages = All (IsOfSession pair sent running) messages
 
--- the plan stays, or there was none and it is made of the scans and the archive as they are
-abbrev pub HasPlan : Sent → Archive → Option Running → List Planned → Type 0
-HasPlan sent archive running plan = IfSome running (λ running. (plan ≡ running.plan) ⊎ ((running.plan ≡ []) × IsPlanOf sent running.session archive.marks plan))
+-- a plan is made once in a session, of the scans and the archive as they are; no session prefers a side yet
+pub record MakesPlan (sent : Sent) (archive : Archive) (log : Log) (session : ℕ) (made : SessionPlan) : Type 0 where
+  pub of_session : made.session ≡ session
+  pub once : All (λ earlier. earlier.session ≢ session) log
+  pub prefers_none : made.preference ≡ None
+  pub archive_is : made.archive ≡ archive.marks
+  pub is : IsPlanOf sent made
+
+-- the plan stays, or it is made, and logged
+abbrev pub HasPlan : Sent → Archive → Log → Option Running → List Planned → Log → Type 0
+HasPlan sent archive log running plan logged = IfSome running (λ running. ((plan ≡ running.plan) × (logged ≡ []))
+    ⊎ ((made : SessionPlan) × MakesPlan sent archive log running.session made × (plan ≡ made.plan) × (logged ≡ made ∷ [])))
 
 -- a session ends, or goes on with its plan
 pub data GoesOnAs (old : Running) (plan : List Planned) : Option Running → Type 0 where
@@ -243,8 +253,8 @@ pub record Keeps (old : CoordinatorMachine) (IsDue_now : Kept → Type 0) (new :
   pub archive : new.archive ≡ archive_of old.archive kept
   pub writing : IfSome new.writing (λ more. IsDue_now more × CanKeep new.archive more)
 
--- a call of the coordinator: what it sends is of its session, and what it keeps is due
-pub record CoordinatorGoes (old : World) (IsDue_now : Kept → Type 0) (RunsOn : Option Running → Type 0) (new : World) : Type 0 where
+-- a call of the coordinator: what it sends is of its session, what it keeps is due, and this is logged
+pub record CoordinatorGoes (old : World) (logged : Log) (IsDue_now : Kept → Type 0) (RunsOn : Option Running → Type 0) (new : World) : Type 0 where
   pub machine : CoordinatorMachine
   pub kept : List Kept
   pub messages : List Message
@@ -257,7 +267,7 @@ pub record CoordinatorGoes (old : World) (IsDue_now : Kept → Type 0) (RunsOn :
   pub runs_over : RunsOver (old.sent ++ messages) machine.archive machine.running
   pub numbers : NumbersTell (old.sent ++ messages)
   pub repeats : AsksNothingTwice (old.sent ++ messages)
-  pub of_session : AllOfSession old.sent machine.running messages
+  pub of_session : AllOfSession old.pair old.sent machine.running messages
   pub silent_when_writing : IsSome machine.writing → (messages ≡ []) × (machine.running ≡ None)
   pub silent_when_down : machine.status ≡ Down → (messages ≡ []) × (machine.running ≡ None)
   pub result : new ≡ record old {
@@ -265,6 +275,7 @@ pub record CoordinatorGoes (old : World) (IsDue_now : Kept → Type 0) (RunsOn :
     sent = old.sent ++ messages;
     acknowledged = old.acknowledged ++ map Kept_by kept;
     reports = old.reports ++ reports;
+    log = old.log ++ logged;
   }
 
 -- the answer has the session and number of a request that is outstanding
@@ -313,7 +324,7 @@ pub data ArchiveMeets (old new : CoordinatorMachine) (IsDue_now : Kept → Type 
 
 abbrev pub EndsTaken : World → World → Which → ℕ → List Planned → Reply → Running → Report → Type 0
 EndsTaken old new from number plan reply running report =
-    EndsAs old.sent running.session old.coordinator.archive.marks plan (kept_in_session new.acknowledged) (asked_of running from number) reply
+    EndsAs old.sent running.session new.log plan (kept_in_session new.acknowledged) (asked_of running from number) reply
     (ArchiveMeets old.coordinator new.coordinator (IsDue running plan from number reply)) report
 
 -- a start takes the next number
@@ -350,7 +361,7 @@ pub record SendsAgain (old new : World) (running later : Running) : Type 0 where
 
 -- a tick of a session that runs sends its requests again or ends it, with no device call
 pub record Ticks (old new : World) : Type 0 where
-  pub goes : CoordinatorGoes old IsNothing (GoesOnFrom old.coordinator.running (plan_of old.coordinator.running)) new
+  pub goes : CoordinatorGoes old [] IsNothing (GoesOnFrom old.coordinator.running (plan_of old.coordinator.running)) new
   pub reports : Reports old new (plan_of old.coordinator.running) IsNoItem EndsUnanswered
   pub no_call : (new.coordinator.status ≡ old.coordinator.status) × (new.coordinator.arms ≡ old.coordinator.arms)
   pub sends : IfSome old.coordinator.running (λ running. IfSome new.coordinator.running (SendsAgain old new running))
@@ -363,8 +374,8 @@ CallsArchive old kept new =
 
 -- the coordinator takes an answer, or ignores one that it does not wait for
 pub data TakesAnswer (old : World) (from : Which) (session number : ℕ) (reply : Reply) (new : World) : Type 0 where
-  taken : (plan : List Planned) → IsExpected old.coordinator.running from session number → HasPlan old.sent old.coordinator.archive old.coordinator.running plan →
-      (goes : CoordinatorGoes old (IsDueAfter old.coordinator.running plan from number reply) (λ running. GoesOnFrom old.coordinator.running plan running × IsOver from number running) new) →
+  taken : (plan : List Planned) (logged : Log) → IsExpected old.coordinator.running from session number → HasPlan old.sent old.coordinator.archive old.log old.coordinator.running plan logged →
+      (goes : CoordinatorGoes old logged (IsDueAfter old.coordinator.running plan from number reply) (λ running. GoesOnFrom old.coordinator.running plan running × IsOver from number running) new) →
       CallsArchive old.coordinator goes.kept new.coordinator →
       Reports old new plan (RefusesTaken old new from number plan reply) (EndsTaken old new from number plan reply) → TakesAnswer old from session number reply new
   ignored : (IsExpected old.coordinator.running from session number → ⊥) → new ≡ old → TakesAnswer old from session number reply new
@@ -447,7 +458,7 @@ start_causes machine =
 -- the next number is kept and the session runs, or the number is still being written
 abbrev pub Starts : World → World → Type 0
 Starts old new =
-    (goes : CoordinatorGoes old (IsNext old.coordinator.archive) (StartsFrom old.coordinator.archive) new) × (new.reports ≡ old.reports)
+    (goes : CoordinatorGoes old [] (IsNext old.coordinator.archive) (StartsFrom old.coordinator.archive) new) × (new.reports ≡ old.reports)
     × (((new.coordinator.status ≡ Up) × IsSome new.coordinator.running) ⊎ IsSome new.coordinator.writing) × Meets old.coordinator.arms (4 * length goes.kept) 4 new.coordinator.status new.coordinator.arms
 
 -- One step. A checkpoint makes six device calls, and a reopening at least one. An opening finds nothing armed

@@ -2,18 +2,16 @@
 #![tactic(auto)]
 
 ghost use Rattle.syn_headline.specs.Laws.{ServesAllowed, RepeatsAreDone, LaterAreOld};
-ghost use Rattle.syn_headline.specs.Rows.{SideRows};
-ghost use Rattle.syn_headline.specs.Headline.{formatted, IsPair, RunsStand, OfEachRun, EachReplacementIsLegal, EachTokenOnce, EachEntryWasHeld, LeavesPair, Owes, CompleteSessionsSynchronize, ReportsItsConflicts, CountsItsItems, CarriedIsMarked};
+ghost use Rattle.syn_headline.specs.Headline.{formatted, IsPair, RunsStand, OfEachRun, EachReplacementIsLegal, EachTokenOnce, EachEntryWasHeld, LeavesPair, LogsPlans, Owes, CompleteSessionsSynchronize, CompleteSessionsReconcile, ReportsItsConflicts, CountsItsItems, CarriedIsMarked};
 
-/// A step of a side leaves its history or adds one allowed event, and answers as the worked examples say.
+/// A step of a side leaves its history or adds one allowed event, and answers a repeat as done or as old.
 pub fn side_laws()
     ensures serves { ServesAllowed }
     ensures repeats { RepeatsAreDone }
     ensures later { LaterAreOld }
-    ensures rows { SideRows }
 {}
 
-/// In every run, with stops and failing devices, the machines stand for what was acknowledged, and each replacement is legal.
+/// In every run, with stops and failing devices, the machines stand for what was acknowledged, each replacement is legal, and each plan is logged.
 pub fn run_laws()
     ensures formatted { IsPair formatted }
     ensures stands { RunsStand }
@@ -21,12 +19,14 @@ pub fn run_laws()
     ensures tokens { OfEachRun EachTokenOnce }
     ensures archive { OfEachRun EachEntryWasHeld }
     ensures pair { OfEachRun LeavesPair }
+    ensures logged { OfEachRun LogsPlans }
     ensures owe { OfEachRun Owes }
 {}
 
-/// In every run a complete session without edits leaves the synchronization of what it found, reports its conflicts, counts its items, and marks what was carried before it.
+/// In every run a complete session without edits leaves the synchronization of what it found and the archive of it, reports its conflicts, counts its items, and marks what was carried before it.
 pub fn session_laws()
     ensures synchronized { OfEachRun CompleteSessionsSynchronize }
+    ensures reconciled { OfEachRun CompleteSessionsReconcile }
     ensures conflicts { OfEachRun ReportsItsConflicts }
     ensures counts { OfEachRun CountsItsItems }
     ensures marked { OfEachRun CarriedIsMarked }

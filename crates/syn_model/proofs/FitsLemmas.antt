@@ -3,7 +3,7 @@ use Rattle.std.proofs.Common.{◌≡◌, ◌≤◌, Bool, true, false, cond, not
 use Rattle.std.specs.Ordering.{eq_by_cmp}
 use Rattle.std.specs.List.{list_all}
 use Rattle.std.specs.FinMap.{find, entries, get, get-entries, len}
-use Rattle.std.proofs.lemmas.Bool.{leb-true}
+use Rattle.std.proofs.lemmas.Bool.{leb-true, and_parts, not-false}
 use Rattle.syn_model.specs.Path.{Path, path_cmp, path_spelling, root}
 use Rattle.syn_model.specs.Tree.{Tree, Content, Contents, Pair, File, contents_of, file, replace}
 use Rattle.syn_model.specs.Limits.{children, fits_path, fits_content, fits_part, fits_paths, fits_replica, tree_spelling_length, greatest_spelling}
@@ -14,15 +14,15 @@ use Rattle.syn_model.specs.Standing.{place_causes, edit_causes, full_causes}
 use Rattle.syn_model.specs.Plan.{HasDepth, most_names}
 use Rattle.syn_model.specs.Laws.{HistoryFits, PutFits}
 use native.Mathlib.Omega.{arith}
-use Rattle.syn_model.proofs.PathLemmas.{none_some, some_same, same_path}
-use Rattle.syn_model.proofs.DirtyLemmas.{both_true}
+use Rattle.std.proofs.lemmas.Option.{none-some, same_Some}
+use Rattle.syn_model.proofs.PathLemmas.{same_path}
 use Rattle.syn_model.proofs.TreeLemmas.{get-subtree, subtree-replace}
 use Rattle.syn_model.proofs.ImageLemmas.{empty_fits}
-use Rattle.syn_model.proofs.HistoryLemmas.{get-at_root, first_cause-none, none-append, tree_of-append, not_true}
+use Rattle.syn_model.proofs.HistoryLemmas.{get-at_root, first_cause-none, none-append, tree_of-append}
 
 -- what no cause of fullness refuses fits
 full_none : (t : Tree) (more : List Cause) → first_cause (full_causes t ++ more) ≡ None → fits_replica t ≡ true
-full_none t more e = not_true (fits_replica t) (first_cause-none (not (fits_replica t), _) more e).0
+full_none t more e = not-false (fits_replica t) (first_cause-none (not (fits_replica t), _) more e).0
 
 event_fits : (history : History) (event : Event) → fits_replica (tree_of history) ≡ true → IsAllowed history event → fits_replica (after_event (tree_of history) event) ≡ true
 event_fits history (Edited user edit) f h =
@@ -50,20 +50,20 @@ history_fits history h = more_fits [] history start_fits h
 
 -- where a test holds of all pairs, it holds of what is found
 pub all_found : (f : Pair → Bool) (p : Path) (es : List Pair) (c : Content) → list_all f es ≡ true → find path_cmp p es ≡ Some c → f (p, c) ≡ true
-all_found f p [] c h e = absurd (none_some e)
+all_found f p [] c h e = absurd (none-some _ e)
 all_found f p (x ∷ es) c h e =
-    let parts = both_true (f x) (list_all f es) h in
+    let parts = and_parts (f x) (list_all f es) h in
     elim (eq_by_cmp path_cmp p x.0) as (λ b. eq_by_cmp path_cmp p x.0 ≡ b → cond b (Some x.1) (find path_cmp p es) ≡ Some c → f (p, c) ≡ true) [
-      | true ↦ λ here same. ap₂ (λ q d. f (q, d)) (same_path p x.0 here) (sym (some_same same)) ∙ parts.0
+      | true ↦ λ here same. ap₂ (λ q d. f (q, d)) (same_path p x.0 here) (sym (same_Some _ _ same)) ∙ parts.0
       | false ↦ λ _ rest. all_found f p es c parts.1 rest
     ] refl e
 
 -- a tree that fits has no file that is longer than a file may be
 files_fit : (tree : Tree) (path : Path) (contents : Contents) → fits_replica tree ≡ true → get tree path ≡ Some (File contents) → length contents.bytes ≤ 16384
 files_fit tree path contents fits has =
-    let part = (both_true (nat_le (len tree) 1024 && nat_le (tree_spelling_length tree) greatest_spelling) (fits_part tree) (both_true _ (fits_paths tree) fits).0).1 in
+    let part = (and_parts (nat_le (len tree) 1024 && nat_le (tree_spelling_length tree) greatest_spelling) (fits_part tree) (and_parts _ (fits_paths tree) fits).0).1 in
     let found = all_found (λ pair. fits_content pair.1 && nat_le (length (children tree pair.0)) 256) path (entries tree) (File contents) part (sym (get-entries tree path) ∙ has) in
-    leb-true (length contents.bytes) 16384 (both_true (nat_le (length contents.bytes) 16384) (nat_le (length (children tree path)) 256) found).0
+    leb-true (length contents.bytes) 16384 (and_parts (nat_le (length contents.bytes) 16384) (nat_le (length (children tree path)) 256) found).0
 
 -- and so no longer file was put into it
 pub put_fits : PutFits
@@ -79,9 +79,9 @@ paths_depth tree fits path deep = elim (get tree path) as (λ o. get tree path �
   | None ↦ λ _. refl
   | Some content ↦ λ has.
       let found = all_found (λ pair. fits_path pair.0) path (entries tree) content fits (sym (get-entries tree path) ∙ has) in
-      let within : length path ≤ 16 = leb-true (length path) 16 (both_true (nat_le (length path) 16) (nat_le (length (path_spelling path)) 255) found).0 in
+      let within : length path ≤ 16 = leb-true (length path) 16 (and_parts (nat_le (length path) 16) (nat_le (length (path_spelling path)) 255) found).0 in
       absurd (omega (arith, deep, within))
 ] refl
 
 pub replica_depth : (tree : Tree) → fits_replica tree ≡ true → HasDepth most_names tree
-replica_depth tree fits = paths_depth tree (both_true _ (fits_paths tree) fits).1
+replica_depth tree fits = paths_depth tree (and_parts _ (fits_paths tree) fits).1

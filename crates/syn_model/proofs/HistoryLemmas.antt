@@ -3,6 +3,8 @@ use Rattle.std.proofs.Common.{◌≡◌, ℕ, Bool, true, false, cond, not, if�
 use Rattle.std.specs.Ordering.{eq_by_cmp}
 use Rattle.std.specs.FinMap.{get, get-insert, get-empty, empty}
 use Rattle.std.proofs.lemmas.List.Elements.{All-nil}
+use Rattle.std.proofs.lemmas.Option.{none-some, same_Some}
+use Rattle.std.proofs.lemmas.Bool.{not-false}
 use Rattle.syn_model.specs.Path.{Name, Path, path_cmp, root, is_root, parent, IsName}
 use Rattle.syn_model.specs.Tree.{Tree, Content, Contents, contents_of, Directory, File, IsPart, IsTree, StandsIn, at_root, file, empty_directory, absent, replace, is_directory, is_present}
 use Rattle.syn_model.specs.Refusal.{Cause, first_cause, NoParent, Root, IsDirectory, Exists, Absent, OldSession}
@@ -10,14 +12,14 @@ use Rattle.syn_model.specs.Event.{Edit, Put, MakeDir, Remove, Event, Edited, Beg
 use Rattle.syn_model.specs.History.{History, tree_of, position_causes, is_old_token, IsAllowed, AllAllowed, IsHistory}
 use Rattle.syn_model.specs.Standing.{place_causes, edit_causes, full_causes}
 use Rattle.syn_model.specs.Laws.{AllowedGoesOn}
-use Rattle.syn_model.proofs.PathLemmas.{path_total, none_some, some_same}
+use Rattle.syn_model.proofs.PathLemmas.{path_total}
 use Rattle.syn_model.proofs.TreeLemmas.{replace-is_part, beside}
 use Rattle.syn_model.proofs.SyncLemmas.{directory_is}
 
 pub first_cause-none : (cause : Cause) (causes : List Cause) → first_cause (cause ∷ causes) ≡ None → (cause.0 ≡ false) × (first_cause causes ≡ None)
 first_cause-none cause causes e =
     elim (cause.0) as (λ b. cause.0 ≡ b → (if b then Some cause.1 else first_cause causes) ≡ None → (cause.0 ≡ false) × (first_cause causes ≡ None)) [
-      | true ↦ λ _ some. absurd (none_some (sym some))
+      | true ↦ λ _ some. absurd (none-some _ (sym some))
       | false ↦ λ y rest. (y, rest)
     ] refl e
 
@@ -35,16 +37,12 @@ append-none (x ∷ xs) ys e f =
     let first = first_cause-none x xs e in
     ap (λ b. if b then Some x.1 else first_cause (xs ++ ys)) first.0 ∙ append-none xs ys first.1 f
 
-pub not_true : (b : Bool) → not b ≡ false → b ≡ true
-not_true true e = refl
-not_true false e = absurd (true≢false e)
-
 -- a place that no cause refuses is no root, and stands in a directory
 pub place-stands : (t : Tree) (p : Path) (more : List Cause) → first_cause (place_causes t p ++ more) ≡ None → (is_root p ≡ false) × StandsIn t p
 place-stands t p more e =
     let first = first_cause-none (is_root p, Root) ((not (is_directory t (parent p)), NoParent) ∷ more) e in
     let second = first_cause-none (not (is_directory t (parent p)), NoParent) more first.1 in
-    (first.0, inr (directory_is (get t (parent p)) (not_true (is_directory t (parent p)) second.0)))
+    (first.0, inr (directory_is (get t (parent p)) (not-false (is_directory t (parent p)) second.0)))
 
 pub get-at_root : (x : Content) (p : Path) → get (at_root x) p ≡ cond (eq_by_cmp path_cmp p root) (Some x) None
 get-at_root x p = get-insert path_total empty root x p ∙ ap (cond (eq_by_cmp path_cmp p root) (Some x)) (get-empty path_cmp p)
@@ -59,8 +57,8 @@ names x [] h = All-nil IsName
 names x (n ∷ p) h = absurd (true≢false (sym h ∙ ap is_some (get-at_root x (n ∷ p))))
 
 only : (x : Content) (p : Path) (contents : Contents) → get (at_root x) p ≡ Some (File contents) → x ≡ File contents
-only x [] contents h = some_same (sym (get-at_root x root) ∙ h)
-only x (n ∷ p) contents h = absurd (none_some (sym (get-at_root x (n ∷ p)) ∙ h))
+only x [] contents h = same_Some _ _ (sym (get-at_root x root) ∙ h)
+only x (n ∷ p) contents h = absurd (none-some _ (sym (get-at_root x (n ∷ p)) ∙ h))
 
 pub at_root-is_part : (x : Content) → ((contents : Contents) → x ≡ File contents → AreBytes contents.bytes) → IsPart (at_root x)
 at_root-is_part x lawful = record {
@@ -73,7 +71,7 @@ absent-is_part : IsPart absent
 absent-is_part = record {
   parents = λ p n r h. absurd (true≢false (sym h ∙ ap is_some (get-empty path_cmp (p ++ n ∷ r))));
   names = λ p h. absurd (true≢false (sym h ∙ ap is_some (get-empty path_cmp p)));
-  bytes = λ p bytes h. absurd (none_some (sym (get-empty path_cmp p) ∙ h));
+  bytes = λ p bytes h. absurd (none-some _ (sym (get-empty path_cmp p) ∙ h));
 }
 
 -- what is put below the root leaves a whole tree

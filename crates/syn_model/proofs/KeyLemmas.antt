@@ -1,8 +1,9 @@
 -- The order of lawful paths is that of their keys.
-use Rattle.std.proofs.Common.{◌≡◌, ◌≢◌, ◌<◌, ℕ, [], ◌∷◌, ◌++◌, refl, sym, ap, ap₂, ◌∙◌, subst, append_assoc, arith, All, Ordering, Less, Equal, Greater}
+use Rattle.std.proofs.Common.{◌≡◌, ◌<◌, [], ◌∷◌, ◌++◌, refl, sym, ap, ap₂, ◌∙◌, subst, append_assoc, All, Ordering, Less, Equal, Greater}
 use Rattle.std.specs.Ordering.{nat_cmp, ordering_then}
 use Rattle.std.specs.Cmp.{nat_cmp_is}
-use Rattle.std.specs.Prelude.{Contains, slice_index_or}
+use Rattle.std.proofs.Math.Nat.{pos_of_ne-zero}
+use Rattle.std.specs.Prelude.{Contains}
 use Rattle.std.proofs.lemmas.List.Elements.{All-tail, All-head, Contains-get_or}
 use Rattle.syn_model.specs.Path.{Bytes, Name, Path, name_cmp, path_cmp, path_key, key_cmp, IsName}
 use Rattle.syn_model.specs.Laws.{PathsGoByKey}
@@ -42,12 +43,9 @@ by_names (n ∷ p) (m ∷ q) hp hq =
     ∙ (sym (ended n m (path_key p) (path_key q) (All-head NoZero n p hp) (All-head NoZero m q hq))
     ∙ sym (ap₂ key_cmp (append_assoc n (0 ∷ []) (path_key p)) (append_assoc m (0 ∷ []) (path_key q))))
 
-not_none : (b : ℕ) → b ≢ 0 → 0 < b
-not_none b h = omega arith
-
 no_zero : (name : Name) → IsName name → NoZero name
 unfolding NoZero
-no_zero name lawful k d below = not_none (slice_index_or name k d) (λ e. lawful.no_zero (subst (Contains name) e (Contains-get_or name k d below)))
+no_zero name lawful k d below = pos_of_ne-zero (λ e. lawful.no_zero (subst (Contains name) e (Contains-get_or name k d below)))
 
 pub paths_go_by_key : PathsGoByKey
 paths_go_by_key p q hp hq = by_names p q (λ k d below. no_zero _ (hp.names k d below)) (λ k d below. no_zero _ (hq.names k d below))

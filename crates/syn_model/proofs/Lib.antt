@@ -13,6 +13,9 @@ pub mod MarkLemmas
 pub mod QuietLemmas
 pub mod RowLemmas
 pub mod PlanOrder
+pub mod DirectoryLemmas
+pub mod CarryLemmas
+pub mod DecisionLemmas
 pub mod ResultLemmas
 pub mod PlanSteps
 pub mod PlanCover

@@ -14,7 +14,9 @@ use Rattle.syn_model.proofs.PathLemmas.{same_name}
 use Rattle.syn_model.proofs.DirtyLemmas.{dirty-closed}
 use Rattle.syn_model.proofs.SyncLemmas.{child_relevant}
 use Rattle.syn_model.proofs.PlanOrder.{below, prefix-append, plan_is_decided}
-use Rattle.syn_model.proofs.ResultLemmas.{left_dirty, right_dirty, by_decision, decided_by, clean_below, clean_nothing, nothing_relevant, not_there, nothing_below, mark_none, marked-directory, IsShallow, shallow_below}
+use Rattle.syn_model.proofs.QuietLemmas.{directory_of_mark}
+use Rattle.syn_model.proofs.DirectoryLemmas.{not_there, absent_below, mark_none}
+use Rattle.syn_model.proofs.DecisionLemmas.{left_dirty, right_dirty, by_decision, decided_by, clean_below, clean_nothing, nothing_relevant, IsShallow, shallow_below}
 
 is_clean : Decision → Bool
 is_clean Clean = true
@@ -34,10 +36,11 @@ later_item (DoAndGoOn other) item rest on at =
     (suc at.0, omega arith, at.2)
 later_item GoOn item rest on at = at
 
-not_decided : (d : Decision) (item : Item) → d ≡ Clean → (d ≡ Do item) ⊎ (d ≡ DoAndGoOn item) → ⊥
+-- what is clean has no item
+pub not_clean : (d : Decision) (item : Item) → d ≡ Clean → (d ≡ Do item) ⊎ (d ≡ DoAndGoOn item) → ⊥
 unfolding is_clean
-not_decided d item clean (inl e) = true≢false (ap is_clean (sym clean ∙ e))
-not_decided d item clean (inr e) = true≢false (ap is_clean (sym clean ∙ e))
+not_clean d item clean (inl e) = true≢false (ap is_clean (sym clean ∙ e))
+not_clean d item clean (inr e) = true≢false (ap is_clean (sym clean ∙ e))
 
 in_flat_map : (f : Name → List Item) (names : List Name) (n : Name) (item : Item) → list_any (eq_by_cmp name_cmp n) names ≡ true → Contains (f n) item → Contains (flat_map f names) item
 in_flat_map f [] n item h at = absurd (true≢false (sym h))
@@ -71,36 +74,39 @@ module _ (a b o : Tree) (left_parents : HasParents a) (right_parents : HasParent
   abbrev decided_at : Path → Decision
   decided_at p = decision (scan_of a) (scan_of b) o p
 
+  abbrev names_at : Path → List Name
+  names_at p = names_below (scan_of a) (scan_of b) o p
+
   decision_is_clean : (p : Path) → left_dirty a b o p ≡ false → right_dirty a b o p ≡ false → decided_at p ≡ Clean
   decision_is_clean p x y = ap₂ (λ x y. decided_by p x y (is_directory_in_both (mark a) (mark b) p) (is_directory o p) (is_alike a b p)) x y
 
   items_have : (levels : ℕ) (p q : Path) (item : Item) → IsShallow levels p a → IsShallow levels p b → IsShallow levels p o →
       ((above : Path) (n : Name) (rest : Path) → q ≡ above ++ n ∷ rest → GoesOn (decided_at (p ++ above))) →
-      (decided_at (p ++ q) ≡ Do item) ⊎ (decided_at (p ++ q) ≡ DoAndGoOn item) → Contains (items_from levels (scan_of a) (scan_of b) o p) item
+      (decided_at (p ++ q) ≡ Do item) ⊎ (decided_at (p ++ q) ≡ DoAndGoOn item) → Contains (items_from decided_at names_at levels p) item
   items_have zero p q item shallow_left shallow_right shallow_archive reached decided =
       let on_left = clean_nothing o a p (λ r. shallow_left r (omega arith)) (λ r. shallow_archive r (omega arith)) in
       let on_right = clean_nothing o b p (λ r. shallow_right r (omega arith)) (λ r. shallow_archive r (omega arith)) in
-      absurd (not_decided (decided_at (p ++ q)) item (decision_is_clean (p ++ q) (clean_below o a p q on_left) (clean_below o b p q on_right)) decided)
+      absurd (not_clean (decided_at (p ++ q)) item (decision_is_clean (p ++ q) (clean_below o a p q on_left) (clean_below o b p q on_right)) decided)
   items_have (suc levels) p [] item shallow_left shallow_right shallow_archive reached decided =
-      first_item (decided_at p) item (below (scan_of a) (scan_of b) o levels p (names_below (scan_of a) (scan_of b) o p))
+      first_item (decided_at p) item (below decided_at names_at levels p (names_at p))
       (subst (λ w. (decided_at w ≡ Do item) ⊎ (decided_at w ≡ DoAndGoOn item)) (append-nil p) decided)
   items_have (suc levels) p (n ∷ q) item shallow_left shallow_right shallow_archive reached decided =
-      let names = names_below (scan_of a) (scan_of b) o p in
+      let names = names_at p in
       let path = append_assoc p (n ∷ []) q in
       let decided' : (decided_at (child p n ++ q) ≡ Do item) ⊎ (decided_at (child p n ++ q) ≡ DoAndGoOn item) =
       subst (λ w. (decided_at w ≡ Do item) ⊎ (decided_at w ≡ DoAndGoOn item)) (sym path) decided in
-      later_item (decided_at p) item (below (scan_of a) (scan_of b) o levels p names) (subst (λ w. GoesOn (decided_at w)) (append-nil p) (reached [] n q refl))
-      (elim (list_any (eq_by_cmp name_cmp n) names) as (λ e. list_any (eq_by_cmp name_cmp n) names ≡ e → Contains (below (scan_of a) (scan_of b) o levels p names) item) [
-        | true ↦ λ among. in_flat_map (λ name. items_from levels (scan_of a) (scan_of b) o (child p name)) names n item among
+      later_item (decided_at p) item (below decided_at names_at levels p names) (subst (λ w. GoesOn (decided_at w)) (append-nil p) (reached [] n q refl))
+      (elim (list_any (eq_by_cmp name_cmp n) names) as (λ e. list_any (eq_by_cmp name_cmp n) names ≡ e → Contains (below decided_at names_at levels p names) item) [
+        | true ↦ λ among. in_flat_map (λ name. items_from decided_at names_at levels (child p name)) names n item among
             (items_have levels (child p n) q item (shallow_below levels p n a shallow_left) (shallow_below levels p n b shallow_right) (shallow_below levels p n o shallow_archive)
             (λ above m rest e. subst (λ w. GoesOn (decided_at w)) (sym (append_assoc p (n ∷ []) above)) (reached (n ∷ above) m rest (ap (λ w. n ∷ w) e)))
             decided')
         | false ↦ λ not_among.
             let nowhere = not_there (scan_of a) (scan_of b) o p n not_among in
-            let in_archive = nothing_below o (child p n) archive_parents nowhere.in_archive in
-            let on_left = clean_nothing o a (child p n) (nothing_below a (child p n) left_parents (mark_none a (child p n) nowhere.on_left)) in_archive in
-            let on_right = clean_nothing o b (child p n) (nothing_below b (child p n) right_parents (mark_none b (child p n) nowhere.on_right)) in_archive in
-            absurd (not_decided (decided_at (child p n ++ q)) item (decision_is_clean (child p n ++ q) (clean_below o a (child p n) q on_left) (clean_below o b (child p n) q on_right)) decided')
+            let in_archive = absent_below o (child p n) archive_parents nowhere.in_archive in
+            let on_left = clean_nothing o a (child p n) (absent_below a (child p n) left_parents (mark_none a (child p n) nowhere.on_left)) in_archive in
+            let on_right = clean_nothing o b (child p n) (absent_below b (child p n) right_parents (mark_none b (child p n) nowhere.on_right)) in_archive in
+            absurd (not_clean (decided_at (child p n ++ q)) item (decision_is_clean (child p n ++ q) (clean_below o a (child p n) q on_left) (clean_below o b (child p n) q on_right)) decided')
       ] refl)
 
   -- ---- conflicts
@@ -114,7 +120,7 @@ module _ (a b o : Tree) (left_parents : HasParents a) (right_parents : HasParent
       (λ e _. absurd (true≢false (sym x ∙ e))) (λ _ _. tt) (λ _ _. tt) (λ e _. absurd (true≢false (sym z ∙ e)))
       (λ e _ _ _. absurd (true≢false (sym z ∙ e))) (λ e _ _ _. absurd (true≢false (sym z ∙ e))) (λ e _ _ _. absurd (true≢false (sym z ∙ e)))
 
-  reached_relevant : (p : Path) → IsReached (scan_of a) (scan_of b) o p → is_relevant a b p ≡ true
+  reached_relevant : (p : Path) → IsReached decided_at p → is_relevant a b p ≡ true
   reached_relevant p reached = elim (last_name p) as (λ _. is_relevant a b p ≡ true) [
     | inl e ↦ ap (is_relevant a b) e
     | inr h ↦ ap (is_relevant a b) h.2 ∙ child_relevant a b h.0 h.1 (directory_of h.0 (reached h.0 h.1 [] h.2))
@@ -127,17 +133,17 @@ module _ (a b o : Tree) (left_parents : HasParents a) (right_parents : HasParent
       (λ _ _ _ _ e. absurd (true≢false (sym e))) (λ _ _ _ _ e. absurd (true≢false (sym e)))
       (λ z v x y _. record { relevant = relevant; left_dirty = x; right_dirty = y; no_directory = z; unlike = v })
 
-  planned_conflict : (p : Path) → IsDecided (scan_of a) (scan_of b) o (Conflict p) → IsConflict a b o p
+  planned_conflict : (p : Path) → IsDecided decided_at (Conflict p) → IsConflict a b o p
   unfolding is_conflict is_conflict_item
   planned_conflict p h = conflict_of p (reached_relevant p h.reached) (elim h.decided as (λ _. is_conflict (decided_at p) ≡ true) [ inl e ↦ ap is_conflict e | inr e ↦ ap is_conflict e ])
 
   conflict_decision : (p : Path) → IsConflict a b o p → decided_at p ≡ Do (Conflict p)
   conflict_decision p h =
-      let unmarked : is_directory_in_both (mark a) (mark b) p ≡ false = ap₂ (λ u v. u && v) (marked-directory a p) (marked-directory b p) ∙ h.no_directory in
+      let unmarked : is_directory_in_both (mark a) (mark b) p ≡ false = ap₂ (λ u v. u && v) (directory_of_mark a p) (directory_of_mark b p) ∙ h.no_directory in
       ap₂ (λ x y. decided_by p x y (is_directory_in_both (mark a) (mark b) p) (is_directory o p) (is_alike a b p)) h.left_dirty h.right_dirty
       ∙ ap₂ (λ z v. decided_by p true true z (is_directory o p) v) unmarked h.unlike
 
-  conflict_planned : (p : Path) → IsConflict a b o p → IsDecided (scan_of a) (scan_of b) o (Conflict p)
+  conflict_planned : (p : Path) → IsConflict a b o p → IsDecided decided_at (Conflict p)
   conflict_planned p h = record {
     reached = λ above n rest e.
         goes_on above
@@ -156,6 +162,6 @@ plan_has_decided left right archive on_left on_right in_archive item h =
 pub conflicts_are_planned : ConflictsArePlanned
 conflicts_are_planned left right archive on_left on_right in_archive path = (
   λ at. planned_conflict left right archive on_left.parents on_right.parents in_archive.parents path
-      (All-contains (IsDecided (scan_of left) (scan_of right) archive) (plan (scan_of left) (scan_of right) archive) (Conflict path) (plan_is_decided (scan_of left) (scan_of right) archive) at),
+      (All-contains (IsDecided (decision (scan_of left) (scan_of right) archive)) (plan (scan_of left) (scan_of right) archive) (Conflict path) (plan_is_decided (scan_of left) (scan_of right) archive) at),
   λ h. plan_has_decided left right archive on_left on_right in_archive (Conflict path) (conflict_planned left right archive on_left.parents on_right.parents in_archive.parents path h),
 )

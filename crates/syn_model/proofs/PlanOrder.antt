@@ -1,23 +1,22 @@
 -- The order of a plan's items.
-use Rattle.std.proofs.Common.{◌≡◌, ◌⊎◌, ℕ, zero, suc, Bool, true, false, not, if◌then◌else◌, ◌&&◌, ◌||◌, T, List, [], ◌∷◌, ◌++◌, map, AllPairs, flat_map, refl, sym, ap, ap₂, ◌∙◌, subst, inl, inr, is_some, Some, None, Ordering, Less, Equal, Greater, is_eq, is_lt, true≢false, append_assoc, append-nil, ◌≢◌}
+use Rattle.std.proofs.Common.{◌≡◌, ◌⊎◌, ℕ, zero, suc, true, false, not, if◌then◌else◌, ◌||◌, List, [], ◌∷◌, ◌++◌, AllPairs, flat_map, refl, sym, ap, ap₂, ◌∙◌, subst, inl, inr, is_some, Some, None, true≢false, append_assoc, append-nil, ◌≢◌}
 use native.Mathlib.Omega.{arith}
 use Rattle.std.specs.Ordering.{eq_by_cmp}
 use Rattle.std.specs.Cmp.{eq_by_cmp_equiv}
 use Rattle.std.specs.List.{list_any, AllByRecursion}
-use Rattle.std.specs.FinMap.{entries, entries_sorted, from_entries, is_sorted}
-use Rattle.std.specs.FinMap.Entries.{below_all}
+use Rattle.std.proofs.lemmas.Bool.{or_cases, false_from_ne_true, or_parts}
 use Rattle.std.proofs.lemmas.List.Elements.{All-from_recursion, All-weaker}
 use Rattle.std.proofs.lemmas.List.Kept.{AllPairs-cons}
 use Rattle.syn_model.specs.Path.{Path, Name, name_cmp, root, is_root, child, is_prefix, strip_prefix, comparable}
-use Rattle.syn_model.specs.Tree.{Tree, Content, is_directory}
-use Rattle.syn_model.specs.Limits.{children}
-use Rattle.syn_model.specs.Dirty.{Scan, dirty, is_same_tree}
+use Rattle.syn_model.specs.Tree.{Tree, is_directory}
+use Rattle.syn_model.specs.Dirty.{Scan, dirty, is_same_tree, is_unstable}
 use Rattle.syn_model.specs.Tree.{subtree}
 use Rattle.syn_model.specs.Reconcile.{is_directory_in_both}
-use Rattle.syn_model.specs.Decision.{Item, ToLeft, ToRight, MarkSame, MarkDir, Conflict, Decision, Clean, Do, DoAndGoOn, GoOn, decision, is_unstable, path_of, GoesOn, IsReached}
+use Rattle.syn_model.specs.Decision.{Item, ToLeft, ToRight, MarkSame, MarkDir, Conflict, Decision, Clean, Do, DoAndGoOn, GoOn, decision, path_of, GoesOn, IsReached}
 use Rattle.syn_model.specs.Plan.{names_below, with_items_below, items_from, plan, most_names, StandsBefore, IsDecided, OverwritesClean, PlanIsInOrder, PlanIsDecided, PlanOverwritesClean, is_mark_dir, PlanIsOrderly}
 use Rattle.syn_model.proofs.PathLemmas.{first_or, rest_of, name_total, name_itself, prefixes_comparable, is_prefix-is, strip_prefix-append}
-use Rattle.syn_model.proofs.DirtyLemmas.{prefix_chain, both_false}
+use Rattle.syn_model.proofs.DirtyLemmas.{prefix_chain}
+use Rattle.syn_model.proofs.PlanNames.{Apart, names_apart}
 
 -- ---- lists
 
@@ -46,39 +45,6 @@ ordered_pairs : (xs : List Item) → Ordered xs → AllPairs StandsBefore xs
 ordered_pairs [] h = λ i j d lt within. absurd (omega arith)
 ordered_pairs (x ∷ xs) h = AllPairs-cons StandsBefore x xs (All-from_recursion (StandsBefore x) xs h.0) (ordered_pairs xs h.1)
 
--- ---- names
-
--- each name differs from the later ones
-abbrev pub Apart : List Name → Type 0
-Apart [] = Unit {0}
-Apart (name ∷ names) = (list_any (eq_by_cmp name_cmp name) names ≡ false) × Apart names
-
-not_both : (a b : Bool) → T (a && b) → T a × T b
-not_both true b h = (tt, h)
-not_both false b h = absurd h
-
-less_is : (o : Ordering) → T (is_lt o) → is_eq o ≡ false
-less_is Less h = refl
-less_is Equal h = absurd h
-less_is Greater h = absurd h
-
-below-differs : (name : Name) (es : List (Name × Content)) → T (below_all name_cmp name es) → list_any (eq_by_cmp name_cmp name) (map (λ e. e.0) es) ≡ false
-below-differs name [] h = refl
-below-differs name (e ∷ es) h =
-    let parts = not_both (is_lt (name_cmp name e.0)) (below_all name_cmp name es) h in
-    ap₂ (λ x y. x || y) (less_is (name_cmp name e.0) parts.0) (below-differs name es parts.1)
-
-sorted-apart : (es : List (Name × Content)) → T (is_sorted name_cmp es) → Apart (map (λ e. e.0) es)
-sorted-apart [] h = tt
-sorted-apart (e ∷ es) h =
-    let parts = not_both (below_all name_cmp e.0 es) (is_sorted name_cmp es) h in
-    (below-differs e.0 es parts.0, sorted-apart es parts.1)
-
-pub names_apart : (left right : Scan) (archive : Tree) (path : Path) → Apart (names_below left right archive path)
-names_apart left right archive path =
-    let map = from_entries {X = Content} {R = name_cmp} (children left.marks path ++ (children right.marks path ++ children archive path)) in
-    sorted-apart (entries map) (entries_sorted map)
-
 -- ---- paths below two names of one directory
 
 pub name_alike : (n m : Name) → eq_by_cmp name_cmp n m ≡ eq_by_cmp name_cmp m n
@@ -93,23 +59,15 @@ siblings (x ∷ p) n m h =
 pub prefix-append : (p q : Path) → is_prefix p (p ++ q) ≡ true
 prefix-append p q = ap is_some (strip_prefix-append p q)
 
-or_cases : (a b : Bool) → (a || b) ≡ true → (a ≡ true) ⊎ (b ≡ true)
-or_cases true b e = inl refl
-or_cases false b e = inr e
-
 joined : (p q x : Path) → is_prefix p x ≡ true → is_prefix q x ≡ true → comparable p q ≡ true
 joined p q x h k =
     let one = is_prefix-is p x h in
     let two = is_prefix-is q x k in
     prefixes_comparable p q one.0 two.0 (sym one.1 ∙ two.1)
 
-pub bool_false : (b : Bool) → (b ≡ true → ⊥) → b ≡ false
-bool_false true deny = absurd (deny refl)
-bool_false false deny = refl
-
 -- what is below two paths that are not comparable is not either
 pub apart_below : (p q x y : Path) → comparable p q ≡ false → is_prefix p x ≡ true → is_prefix q y ≡ true → comparable x y ≡ false
-apart_below p q x y h px qy = bool_false (comparable x y) (λ both. elim (or_cases (is_prefix x y) (is_prefix y x) both) as (λ _. ⊥) [
+apart_below p q x y h px qy = false_from_ne_true (comparable x y) (λ both. elim (or_cases (is_prefix x y) (is_prefix y x) both) as (λ _. ⊥) [
   | inl xy ↦ true≢false (sym (joined p q y (prefix_chain p x y px xy) qy) ∙ h)
   | inr yx ↦ true≢false (sym (joined p q x px (prefix_chain q y x qy yx)) ∙ h)
 ])
@@ -128,7 +86,7 @@ FitsAt path (Do item) = path_of item ≡ path
 FitsAt path (DoAndGoOn item) = item ≡ MarkDir path
 FitsAt path GoOn = Unit {0}
 
-decision-fits : (left right : Scan) (archive : Tree) (path : Path) → FitsAt path (decision left right archive path)
+pub decision-fits : (left right : Scan) (archive : Tree) (path : Path) → FitsAt path (decision left right archive path)
 decision-fits left right archive path =
     let d : Decision = if is_unstable left path || is_unstable right path then Do (Conflict path) else if is_directory archive path then GoOn else DoAndGoOn (MarkDir path) in
     let e : Decision =
@@ -164,65 +122,78 @@ IsAt path item = is_prefix path (path_of item) ≡ true
 abbrev pub IsBelow : Path → Item → Type 0
 IsBelow path item = is_prefix path (path_of item) ≡ true × is_prefix (path_of item) path ≡ false
 
-module _ (left right : Scan) (archive : Tree) where
-  abbrev pub below : ℕ → Path → List Name → List Item
-  below levels path names = flat_map (λ name. items_from levels left right archive (child path name)) names
+-- the items below some names
+abbrev pub below : (Path → Decision) → (Path → List Name) → ℕ → Path → List Name → List Item
+below decide names_of levels path names = flat_map (λ name. items_from decide names_of levels (child path name)) names
 
-  fitting-at : (path : Path) (d : Decision) (items : List Item) → FitsAt path d → AllByRecursion (IsAt path) items → AllByRecursion (IsAt path) (with_items_below d items)
-  fitting-at path Clean items fit h = tt
-  fitting-at path (Do item) items fit h = (ap (is_prefix path) (fit ∙ sym (append-nil path)) ∙ prefix-append path [], tt)
-  fitting-at path (DoAndGoOn item) items fit h = (ap (λ i. is_prefix path (path_of i)) fit ∙ (ap (is_prefix path) (sym (append-nil path)) ∙ prefix-append path []), h)
-  fitting-at path GoOn items fit h = h
+fitting-at : (path : Path) (d : Decision) (items : List Item) → FitsAt path d → AllByRecursion (IsAt path) items → AllByRecursion (IsAt path) (with_items_below d items)
+fitting-at path Clean items fit h = tt
+fitting-at path (Do item) items fit h = (ap (is_prefix path) (fit ∙ sym (append-nil path)) ∙ prefix-append path [], tt)
+fitting-at path (DoAndGoOn item) items fit h = (ap (λ i. is_prefix path (path_of i)) fit ∙ (ap (is_prefix path) (sym (append-nil path)) ∙ prefix-append path []), h)
+fitting-at path GoOn items fit h = h
 
-  -- all items of a plan from a path on are at or below it
-  pub items-at : (levels : ℕ) (path : Path) → AllByRecursion (IsAt path) (items_from levels left right archive path)
+at-is_below : (path : Path) (name : Name) (item : Item) → IsAt (child path name) item → IsBelow path item
+at-is_below path name item at =
+    let rest = is_prefix-is (child path name) (path_of item) at in (
+      prefix_chain path (child path name) (path_of item) (prefix-append path (name ∷ [])) at,
+      ap (λ w. is_prefix w path) (rest.1 ∙ append_assoc path (name ∷ []) rest.0) ∙ not_longer path name rest.0,
+    )
+
+fitting-ordered : (path : Path) (d : Decision) (items : List Item) → FitsAt path d → AllByRecursion (IsBelow path) items → Ordered items → Ordered (with_items_below d items)
+fitting-ordered path Clean items fit h o = tt
+fitting-ordered path (Do item) items fit h o = (tt, tt)
+fitting-ordered path (DoAndGoOn item) items fit h o =
+    (every-weaker (λ later under. record { not_above = ap (λ i. is_prefix (path_of later) (path_of i)) fit ∙ under.1; below_directory = λ _. fit ∙ ap (λ i. MarkDir (path_of i)) (sym fit) }) items h, o)
+fitting-ordered path GoOn items fit h o = o
+
+-- any decisions, each of what stands at its path
+module _ (decide : Path → Decision) (fits : (path : Path) → FitsAt path (decide path)) (names_of : Path → List Name) where
+  abbrev from : ℕ → Path → List Item
+  from levels path = items_from decide names_of levels path
+
+  abbrev under : ℕ → Path → List Name → List Item
+  under levels path names = below decide names_of levels path names
+
+  -- all items from a path on are at or below it
+  pub items-at : (levels : ℕ) (path : Path) → AllByRecursion (IsAt path) (from levels path)
   items-at zero path = tt
-  items-at (suc levels) path = fitting-at path (decision left right archive path) (below levels path (names_below left right archive path)) (decision-fits left right archive path)
-      (every-flat_map (IsAt path) (λ name. items_from levels left right archive (child path name)) (names_below left right archive path)
-      (λ name. every-weaker (λ item at. prefix_chain path (child path name) (path_of item) (prefix-append path (name ∷ [])) at) (items_from levels left right archive (child path name)) (items-at levels (child path name))))
+  items-at (suc levels) path = fitting-at path (decide path) (under levels path (names_of path)) (fits path)
+      (every-flat_map (IsAt path) (λ name. from levels (child path name)) (names_of path)
+      (λ name. every-weaker (λ item at. prefix_chain path (child path name) (path_of item) (prefix-append path (name ∷ [])) at) (from levels (child path name)) (items-at levels (child path name))))
 
-  at-is_below : (path : Path) (name : Name) (item : Item) → IsAt (child path name) item → IsBelow path item
-  at-is_below path name item at =
-      let rest = is_prefix-is (child path name) (path_of item) at in (
-        prefix_chain path (child path name) (path_of item) (prefix-append path (name ∷ [])) at,
-        ap (λ w. is_prefix w path) (rest.1 ∙ append_assoc path (name ∷ []) rest.0) ∙ not_longer path name rest.0,
-      )
-
-  pub items-below : (levels : ℕ) (path : Path) (names : List Name) → AllByRecursion (IsBelow path) (below levels path names)
-  items-below levels path names = every-flat_map (IsBelow path) (λ name. items_from levels left right archive (child path name)) names
-      (λ name. every-weaker (at-is_below path name) (items_from levels left right archive (child path name)) (items-at levels (child path name)))
+  pub items-below : (levels : ℕ) (path : Path) (names : List Name) → AllByRecursion (IsBelow path) (under levels path names)
+  items-below levels path names = every-flat_map (IsBelow path) (λ name. from levels (child path name)) names
+      (λ name. every-weaker (at-is_below path name) (from levels (child path name)) (items-at levels (child path name)))
 
   beside_each : (path : Path) (name : Name) (item : Item) → IsAt (child path name) item → (levels : ℕ) (names : List Name) → list_any (eq_by_cmp name_cmp name) names ≡ false →
-      AllByRecursion (StandsBefore item) (below levels path names)
+      AllByRecursion (StandsBefore item) (under levels path names)
   beside_each path name item at levels [] h = tt
   beside_each path name item at levels (other ∷ names) h =
-      let parts = both_false (eq_by_cmp name_cmp name other) (list_any (eq_by_cmp name_cmp name) names) h in
-      every-append (StandsBefore item) (items_from levels left right archive (child path other)) (below levels path names)
+      let parts = or_parts (eq_by_cmp name_cmp name other) (list_any (eq_by_cmp name_cmp name) names) h in
+      every-append (StandsBefore item) (from levels (child path other)) (under levels path names)
       (every-weaker (λ later there.
-      let apart = both_false (is_prefix (path_of item) (path_of later)) (is_prefix (path_of later) (path_of item)) (apart_below (child path name) (child path other) (path_of item) (path_of later) (siblings path name other parts.0) at there) in
+      let apart = or_parts (is_prefix (path_of item) (path_of later)) (is_prefix (path_of later) (path_of item)) (apart_below (child path name) (child path other) (path_of item) (path_of later) (siblings path name other parts.0) at there) in
       record { not_above = apart.1; below_directory = λ e. absurd (true≢false (sym e ∙ apart.0)) })
-      (items_from levels left right archive (child path other)) (items-at levels (child path other)))
+      (from levels (child path other)) (items-at levels (child path other)))
       (beside_each path name item at levels names parts.1)
 
-  ordered-names : (levels : ℕ) (path : Path) (names : List Name) → Apart names → ((name : Name) → Ordered (items_from levels left right archive (child path name))) → Ordered (below levels path names)
+  ordered-names : (levels : ℕ) (path : Path) (names : List Name) → Apart names → ((name : Name) → Ordered (from levels (child path name))) → Ordered (under levels path names)
   ordered-names levels path [] h each = tt
   ordered-names levels path (name ∷ names) h each =
-      ordered-append (items_from levels left right archive (child path name)) (below levels path names) (each name) (ordered-names levels path names h.1 each)
-      (every-weaker (λ item at. beside_each path name item at levels names h.0) (items_from levels left right archive (child path name)) (items-at levels (child path name)))
+      ordered-append (from levels (child path name)) (under levels path names) (each name) (ordered-names levels path names h.1 each)
+      (every-weaker (λ item at. beside_each path name item at levels names h.0) (from levels (child path name)) (items-at levels (child path name)))
 
-  fitting-ordered : (path : Path) (d : Decision) (items : List Item) → FitsAt path d → AllByRecursion (IsBelow path) items → Ordered items → Ordered (with_items_below d items)
-  fitting-ordered path Clean items fit h o = tt
-  fitting-ordered path (Do item) items fit h o = (tt, tt)
-  fitting-ordered path (DoAndGoOn item) items fit h o =
-      (every-weaker (λ later under. record { not_above = ap (λ i. is_prefix (path_of later) (path_of i)) fit ∙ under.1; below_directory = λ _. fit ∙ ap (λ i. MarkDir (path_of i)) (sym fit) }) items h, o)
-  fitting-ordered path GoOn items fit h o = o
+  -- where the names below each path differ
+  items-ordered : ((path : Path) → Apart (names_of path)) → (levels : ℕ) (path : Path) → Ordered (from levels path)
+  items-ordered distinct zero path = tt
+  items-ordered distinct (suc levels) path =
+      fitting-ordered path (decide path) (under levels path (names_of path)) (fits path)
+      (items-below levels path (names_of path))
+      (ordered-names levels path (names_of path) (distinct path) (λ name. items-ordered distinct levels (child path name)))
 
-  items-ordered : (levels : ℕ) (path : Path) → Ordered (items_from levels left right archive path)
-  items-ordered zero path = tt
-  items-ordered (suc levels) path =
-      fitting-ordered path (decision left right archive path) (below levels path (names_below left right archive path)) (decision-fits left right archive path)
-      (items-below levels path (names_below left right archive path))
-      (ordered-names levels path (names_below left right archive path) (names_apart left right archive path) (λ name. items-ordered levels (child path name)))
+plan-ordered : (left right : Scan) (archive : Tree) → Ordered (plan left right archive)
+plan-ordered left right archive =
+    items-ordered (decision left right archive) (decision-fits left right archive) (names_below left right archive) (names_apart left right archive) (suc most_names) root
 
 -- ---- what is decided
 
@@ -237,40 +208,41 @@ above_last (y ∷ p) (x ∷ above) n m rest e =
       | inr longer ↦ inr (longer.0, longer.1, ap₂ (λ u v. u ∷ v) heads longer.2)
     ]
 
-module _ (left right : Scan) (archive : Tree) where
-  pub reached_below : (p : Path) (n : Name) → IsReached left right archive p → GoesOn (decision left right archive p) → IsReached left right archive (child p n)
-  reached_below p n reached on above m rest e = elim (above_last p above n m rest e) as (λ _. GoesOn (decision left right archive above)) [
-    | inl same ↦ subst (λ w. GoesOn (decision left right archive w)) (sym same) on
+module _ (decide : Path → Decision) where
+  pub reached_below : (p : Path) (n : Name) → IsReached decide p → GoesOn (decide p) → IsReached decide (child p n)
+  reached_below p n reached on above m rest e = elim (above_last p above n m rest e) as (λ _. GoesOn (decide above)) [
+    | inl same ↦ subst (λ w. GoesOn (decide w)) (sym same) on
     | inr longer ↦ reached above longer.0 longer.1 longer.2
   ]
 
-  decided_here : (p : Path) (item : Item) → IsReached left right archive p → path_of item ≡ p →
-      (decision left right archive p ≡ Do item) ⊎ (decision left right archive p ≡ DoAndGoOn item) → IsDecided left right archive item
+  decided_here : (p : Path) (item : Item) → IsReached decide p → path_of item ≡ p → (decide p ≡ Do item) ⊎ (decide p ≡ DoAndGoOn item) → IsDecided decide item
   decided_here p item reached at decided = record {
-    reached = subst (IsReached left right archive) (sym at) reached;
-    decided = subst (λ w. (decision left right archive w ≡ Do item) ⊎ (decision left right archive w ≡ DoAndGoOn item)) (sym at) decided;
+    reached = subst (IsReached decide) (sym at) reached;
+    decided = subst (λ w. (decide w ≡ Do item) ⊎ (decide w ≡ DoAndGoOn item)) (sym at) decided;
   }
 
-  fitting-decided : (p : Path) (d : Decision) (items : List Item) → decision left right archive p ≡ d → FitsAt p d → IsReached left right archive p →
-      (GoesOn d → AllByRecursion (IsDecided left right archive) items) → AllByRecursion (IsDecided left right archive) (with_items_below d items)
+  fitting-decided : (p : Path) (d : Decision) (items : List Item) → decide p ≡ d → FitsAt p d → IsReached decide p →
+      (GoesOn d → AllByRecursion (IsDecided decide) items) → AllByRecursion (IsDecided decide) (with_items_below d items)
   fitting-decided p Clean items e fit reached rest = tt
   fitting-decided p (Do item) items e fit reached rest = (decided_here p item reached fit (inl e), tt)
   fitting-decided p (DoAndGoOn item) items e fit reached rest = (decided_here p item reached (ap path_of fit) (inr e), rest tt)
   fitting-decided p GoOn items e fit reached rest = rest tt
 
-  items-decided : (levels : ℕ) (p : Path) → IsReached left right archive p → AllByRecursion (IsDecided left right archive) (items_from levels left right archive p)
-  items-decided zero p reached = tt
-  items-decided (suc levels) p reached =
-      fitting-decided p (decision left right archive p) (below left right archive levels p (names_below left right archive p)) refl (decision-fits left right archive p) reached
-      (λ on. every-flat_map (IsDecided left right archive) (λ name. items_from levels left right archive (child p name)) (names_below left right archive p)
-      (λ name. items-decided levels (child p name) (reached_below p name reached on)))
+  items-decided : ((path : Path) → FitsAt path (decide path)) → (names_of : Path → List Name) (levels : ℕ) (p : Path) → IsReached decide p → AllByRecursion (IsDecided decide) (items_from decide names_of levels p)
+  items-decided fits names_of zero p reached = tt
+  items-decided fits names_of (suc levels) p reached =
+      fitting-decided p (decide p) (below decide names_of levels p (names_of p)) refl (fits p) reached
+      (λ on. every-flat_map (IsDecided decide) (λ name. items_from decide names_of levels (child p name)) (names_of p)
+      (λ name. items-decided fits names_of levels (child p name) (reached_below p name reached on)))
 
 nothing_above_root : (above : Path) (n : Name) (rest : Path) → root ≡ above ++ n ∷ rest → ⊥
 nothing_above_root above n rest e = not_nil above n rest (sym e)
 
 pub plan_is_decided : PlanIsDecided
 plan_is_decided left right archive =
-    All-from_recursion (IsDecided left right archive) (plan left right archive) (items-decided left right archive (suc most_names) root (λ above n rest e. absurd (nothing_above_root above n rest e)))
+    let decide = decision left right archive in
+    All-from_recursion (IsDecided decide) (plan left right archive)
+    (items-decided decide (decision-fits left right archive) (names_below left right archive) (suc most_names) root (λ above n rest e. absurd (nothing_above_root above n rest e)))
 
 -- ---- what is overwritten
 
@@ -304,7 +276,7 @@ module _ (left right : Scan) (archive : Tree) where
         ]
       ]
 
-  clear_item : (item : Item) → IsDecided left right archive item → OverwritesClean left right archive item
+  clear_item : (item : Item) → IsDecided (decision left right archive) item → OverwritesClean left right archive item
   clear_item item h = elim h.decided as (λ _. OverwritesClean left right archive item) [
     | inl e ↦ subst ClearAt e (decision-clear (path_of item))
     | inr e ↦ subst ClearAt e (decision-clear (path_of item))
@@ -312,7 +284,7 @@ module _ (left right : Scan) (archive : Tree) where
 
 pub plan_overwrites_clean : PlanOverwritesClean
 plan_overwrites_clean left right archive =
-    All-weaker (IsDecided left right archive) (OverwritesClean left right archive) (clear_item left right archive) (plan left right archive) (plan_is_decided left right archive)
+    All-weaker (IsDecided (decision left right archive)) (OverwritesClean left right archive) (clear_item left right archive) (plan left right archive) (plan_is_decided left right archive)
 
 -- ---- the items before an item
 
@@ -331,11 +303,11 @@ ordered_before (x ∷ xs) item after h =
 
 pub plan_before : (left right : Scan) (archive : Tree) (before after : List Item) (item : Item) → plan left right archive ≡ before ++ item ∷ after →
     Ordered before × AllByRecursion (λ earlier. StandsBefore earlier item) before
-plan_before left right archive before after item e = ordered_before before item after (subst Ordered e (items-ordered left right archive (suc most_names) root))
+plan_before left right archive before after item e = ordered_before before item after (subst Ordered e (plan-ordered left right archive))
 
 -- in a plan each item stands well before each later one
 pub plan_in_order : PlanIsInOrder
-plan_in_order left right archive = ordered_pairs (plan left right archive) (items-ordered left right archive (suc most_names) root)
+plan_in_order left right archive = ordered_pairs (plan left right archive) (plan-ordered left right archive)
 
 path_itself_prefix : (p : Path) → is_prefix p p ≡ true
 path_itself_prefix p = ap (is_prefix p) (sym (append-nil p)) ∙ prefix-append p []
@@ -343,7 +315,7 @@ path_itself_prefix p = ap (is_prefix p) (sym (append-nil p)) ∙ prefix-append p
 orderly : (earlier later : Item) → StandsBefore earlier later → (path_of earlier ≢ path_of later) × (is_mark_dir earlier ≡ false → comparable (path_of earlier) (path_of later) ≡ false)
 orderly earlier later order = (
   λ same. true≢false (sym (ap (is_prefix (path_of later)) same ∙ path_itself_prefix (path_of later)) ∙ order.not_above),
-  λ other. ap₂ (λ x y. x || y) (bool_false (is_prefix (path_of earlier) (path_of later)) (λ e. true≢false (sym (ap is_mark_dir (order.below_directory e)) ∙ other))) order.not_above,
+  λ other. ap₂ (λ x y. x || y) (false_from_ne_true (is_prefix (path_of earlier) (path_of later)) (λ e. true≢false (sym (ap is_mark_dir (order.below_directory e)) ∙ other))) order.not_above,
 )
 
 pub plan_is_orderly : PlanIsOrderly

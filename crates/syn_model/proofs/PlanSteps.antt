@@ -1,17 +1,16 @@
 -- What an item of a plan finds when its turn comes, and which items there are.
-use Rattle.std.proofs.Common.{◌≡◌, ◌⊎◌, true, false, if◌then◌else◌, ◌||◌, List, [], ◌∷◌, ◌++◌, refl, sym, ap, ap₂, ◌∙◌, subst, inl, inr, true≢false, append_assoc, append-nil, is_some, Some, None}
+use Rattle.std.proofs.Common.{◌≡◌, ◌⊎◌, true, false, if◌then◌else◌, ◌||◌, List, [], ◌∷◌, ◌++◌, refl, sym, ap, ap₂, ◌∙◌, subst, inl, inr, true≢false, append-nil, is_some, Some, None}
 use Rattle.std.specs.List.{AllByRecursion}
 use Rattle.std.specs.FinMap.{get}
 use Rattle.syn_model.specs.Path.{Path, Name, is_prefix, comparable, strip_prefix}
-use Rattle.syn_model.specs.Tree.{Tree, Directory, HasParents, subtree, replace, is_directory, empty_directory}
+use Rattle.syn_model.specs.Tree.{Tree, HasParents, subtree, replace, is_directory, empty_directory}
 use Rattle.syn_model.specs.Decision.{Item, ToLeft, ToRight, MarkSame, MarkDir, Conflict, path_of}
 use Rattle.syn_model.specs.Plan.{StandsBefore, with_directory, IsRecordedFor, IsRecordedForEach, ItemFindsArchive, Trees, after_item, carried_out, SidesStay, ItemFindsSides}
 use Rattle.syn_model.proofs.PathLemmas.{is_prefix-is}
-use Rattle.syn_model.proofs.TreeLemmas.{same_tree, get-subtree, subtree-replace, subtree-replace_other, subtree-append, beside}
+use Rattle.syn_model.proofs.TreeLemmas.{subtree-replace_other, beside}
 use Rattle.syn_model.proofs.DirtyLemmas.{prefix_chain}
-use Rattle.syn_model.proofs.HistoryLemmas.{get-at_root}
 use Rattle.syn_model.proofs.PlanOrder.{Ordered, plan_before, prefix-append}
-use Rattle.syn_model.proofs.ResultLemmas.{moved-directory, nothing_in}
+use Rattle.syn_model.proofs.DirectoryLemmas.{moved-directory, below_new_directory}
 
 -- at the item's path the archive is as it was when the plan was made
 abbrev Finds : Tree → Tree → Item → Type 0
@@ -39,13 +38,7 @@ directory_above : (archive old : Tree) (p : Path) (n : Name) (q : Path) → HasP
 directory_above archive old p n q parents here there =
     elim (is_directory old p) as (λ b. is_directory old p ≡ b → subtree (if b then old else replace old p empty_directory) (p ++ n ∷ q) ≡ subtree archive (p ++ n ∷ q)) [
       | true ↦ λ _. there
-      | false ↦ λ is.
-          let new = replace old p empty_directory in
-          same_tree (subtree new (p ++ n ∷ q)) (subtree archive (p ++ n ∷ q)) (λ r.
-          ap (λ t. get t r) (sym (subtree-append new p (n ∷ q)) ∙ ap (λ t. subtree t (n ∷ q)) (subtree-replace old p empty_directory))
-          ∙ (get-subtree empty_directory (n ∷ q) r ∙ (get-at_root Directory (n ∷ (q ++ r))
-          ∙ sym (get-subtree archive (p ++ n ∷ q) r ∙ (ap (get archive) (append_assoc p (n ∷ q) r ∙ sym (append_assoc p (n ∷ []) (q ++ r)))
-          ∙ nothing_in archive p parents (sym (moved-directory old archive p here) ∙ is) n (q ++ r))))))
+      | false ↦ λ is. below_new_directory old archive p n q parents (sym (moved-directory old archive p here) ∙ is)
     ] refl
 
 finds_after : (archive old new : Tree) (earlier item : Item) → HasParents archive → StandsBefore earlier item → Finds archive old earlier → Finds archive old item → IsRecordedFor earlier old new → Finds archive new item

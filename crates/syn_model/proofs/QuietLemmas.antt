@@ -1,6 +1,7 @@
 -- What no event touched is as it was, also in what a scan listed.
 use Rattle.std.proofs.Common.{◌≡◌, ◌≤◌, ℕ, zero, suc, Bool, true, false, cond, not, List, [], ◌∷◌, ◌++◌, length, take, drop, fold, filter_map, refl, sym, ap, ◌∙◌, subst, Option, Some, None, option_map, is_some, true≢false, append_assoc, append-nil, arith}
 use Rattle.std.proofs.lemmas.List.{take-append-drop, drop-append-le, take-append-le}
+use Rattle.std.proofs.lemmas.Bool.{not-true, and_parts}
 use Rattle.std.proofs.Math.Seq.{take-length}
 use Rattle.std.proofs.lemmas.List.Folds.{list_all-append}
 use Rattle.std.specs.List.{list_all, cons_option}
@@ -13,21 +14,15 @@ use Rattle.syn_model.specs.Limits.{children, only_name}
 use Rattle.syn_model.specs.Event.{Event, Edited, Began, Replaced, Put, MakeDir, Remove, after_event, touches}
 use Rattle.syn_model.specs.History.{History, tree_of, tree_at, is_quiet}
 use Rattle.syn_model.specs.Mark.{mark, mark_of}
-use Rattle.syn_model.specs.Dirty.{Scan}
-use Rattle.syn_model.specs.Decision.{is_unstable}
+use Rattle.syn_model.specs.Dirty.{Scan, is_unstable}
 use Rattle.syn_model.proofs.PathLemmas.{eq-under, then_rest}
 use Rattle.syn_model.proofs.TreeLemmas.{subtree-replace_other, get-subtree, same_tree}
 use Rattle.syn_model.proofs.HistoryLemmas.{tree_of-append}
 use Rattle.syn_model.proofs.MarkLemmas.{get-mark}
-use Rattle.syn_model.proofs.DirtyLemmas.{both_true}
 
 -- none of the events touches the path
 abbrev pub none_touches : List Event → Path → Bool
 none_touches events path = list_all (λ event. not (touches event path)) events
-
-pub not_is : (b : Bool) → not b ≡ true → b ≡ false
-not_is true e = absurd (true≢false (sym e))
-not_is false e = refl
 
 event_leaves : (t : Tree) (event : Event) (p : Path) → touches event p ≡ false → subtree (after_event t event) p ≡ subtree t p
 event_leaves t (Edited user (Put path bytes)) p h = subtree-replace_other t path _ p h
@@ -39,8 +34,8 @@ event_leaves t (Replaced token path since new) p h = subtree-replace_other t pat
 events_leave : (t : Tree) (events : List Event) (p : Path) → none_touches events p ≡ true → subtree (fold after_event t events) p ≡ subtree t p
 events_leave t [] p h = refl
 events_leave t (event ∷ events) p h =
-    let both = both_true (not (touches event p)) (none_touches events p) h in
-    events_leave (after_event t event) events p both.1 ∙ event_leaves t event p (not_is _ both.0)
+    let both = and_parts (not (touches event p)) (none_touches events p) h in
+    events_leave (after_event t event) events p both.1 ∙ event_leaves t event p (not-true _ both.0)
 
 -- events that do not touch a path leave what is there
 pub untouched_stays : (history : History) (events : List Event) (p : Path) → none_touches events p ≡ true → subtree (tree_of (history ++ events)) p ≡ subtree (tree_of history) p
@@ -65,14 +60,14 @@ drop_more (suc n) (suc m) (x ∷ xs) h = drop_more n m xs (omega arith)
 pub quiet_later : (history : History) (since later : ℕ) (p : Path) → since ≤ later → is_quiet history since (length history) p ≡ true → is_quiet history later (length history) p ≡ true
 quiet_later history since later p h q =
     let split = drop_more since later history h in
-    quiet_rest history later p ∙ (both_true (none_touches split.0 p) (none_touches (drop later history) p)
+    quiet_rest history later p ∙ (and_parts (none_touches split.0 p) (none_touches (drop later history) p)
     (sym (list_all-append (λ event. not (touches event p)) split.0 (drop later history)) ∙ (ap (λ w. none_touches w p) (sym split.1) ∙ (sym (quiet_rest history since p) ∙ q)))).1
 
 -- a history that goes on was quiet before, and the new events do not touch the path
 pub quiet_before : (history events : List Event) (since : ℕ) (p : Path) → since ≤ length history → is_quiet (history ++ events) since (length (history ++ events)) p ≡ true →
     (is_quiet history since (length history) p ≡ true) × (none_touches events p ≡ true)
 quiet_before history events since p h q =
-    let both = both_true (none_touches (drop since history) p) (none_touches events p)
+    let both = and_parts (none_touches (drop since history) p) (none_touches events p)
     (sym (list_all-append (λ event. not (touches event p)) (drop since history) events) ∙ (ap (λ w. none_touches w p) (sym (drop-append-le since history events h)) ∙ (sym (quiet_rest (history ++ events) since p) ∙ q))) in
     (quiet_rest history since p ∙ both.0, both.1)
 

@@ -1,23 +1,26 @@
 -- The spelling of a tree, or of a part of one, tells it.
-use Rattle.std.proofs.Common.{◌≡◌, ◌<◌, ◌^◌, ℕ, zero, suc, true, false, ◌&&◌, nat_le, List, [], ◌∷◌, ◌++◌, length, take, drop, map, flat_map, refl, sym, ap, ap₂, ◌∙◌, subst, Option, Some, None, is_some, IsSome, append_assoc, true≢false, ◌≢◌, arith, cond}
+use Rattle.std.proofs.Common.{◌≡◌, ◌<◌, ◌^◌, ℕ, zero, suc, true, false, ◌&&◌, nat_le, List, [], ◌∷◌, ◌++◌, length, take, drop, map, flat_map, refl, sym, ap, ap₂, ◌∙◌, subst, Option, Some, None, is_some, append_assoc, true≢false, ◌≢◌, arith, cond}
 use Rattle.std.specs.Int.{from_be_bytes, to_be_bytes, w16, w32}
 use Rattle.std.proofs.lemmas.Nat.{from_be_bytes-to_be_bytes_2, from_be_bytes-to_be_bytes_4}
-use Rattle.std.proofs.lemmas.Bool.{leb-true}
+use Rattle.std.proofs.lemmas.Bool.{leb-true, and_parts}
 use Rattle.std.proofs.Math.Seq.{take-append_seam, drop-append_seam}
 use Rattle.std.specs.Ordering.{eq_by_cmp}
 use Rattle.std.specs.List.{list_all, AllByRecursion}
 use Rattle.std.specs.FinMap.{entries, find, get, get-entries, len}
+use Rattle.std.proofs.lemmas.Bool.{false_from_ne_true}
+use Rattle.std.proofs.lemmas.Option.{none-some, same_Some}
 use Rattle.syn_model.specs.Path.{Bytes, Name, Path, name_cmp, path_cmp, root}
-use Rattle.syn_model.specs.Tree.{Tree, Content, Contents, contents_of, Directory, File, IsPart, subtree}
+use Rattle.syn_model.specs.Tree.{Tree, Content, Contents, contents_of, Directory, File, IsPart, subtree, is_directory}
 use Rattle.syn_model.specs.Limits.{children, fits_content, fits_part}
 use Rattle.syn_model.specs.Spelling.{content_spelling, spelling, spelling_within}
 use Rattle.syn_model.specs.Laws.{NoSpellingBeginsAnother, SpellingUnfolds}
-use Rattle.syn_model.proofs.PathLemmas.{same_name, same_path, none_some, some_same}
+use Rattle.syn_model.proofs.PathLemmas.{same_name, same_path}
 use Rattle.syn_model.proofs.TreeLemmas.{same_tree, get-subtree}
 use Rattle.syn_model.proofs.SubtreeLemmas.{subtree_smaller, subtree-is_part, subtree-fits}
-use Rattle.syn_model.proofs.DirtyLemmas.{both_true}
 use Rattle.syn_model.proofs.HistoryLemmas.{no_file}
-use Rattle.syn_model.proofs.QuietLemmas.{get-children}
+use Rattle.syn_model.proofs.SyncLemmas.{directory_is}
+use Rattle.syn_model.proofs.QuietLemmas.{nothing_below}
+use Rattle.syn_model.proofs.DirectoryLemmas.{not_child, absent_below}
 
 -- ---- bytes
 
@@ -42,16 +45,16 @@ module _ (t : Tree) (h : fits_part t ≡ true) where
   -- what holds of each pair holds of what is found
   found : (es : List (Path × Content)) (p : Path) (c : Content) → list_all (λ pair. fits_content pair.1 && nat_le (length (children t pair.0)) 256) es ≡ true → find path_cmp p es ≡ Some c →
       (fits_content c && nat_le (length (children t p)) 256) ≡ true
-  found [] p c f e = absurd (none_some e)
+  found [] p c f e = absurd (none-some _ e)
   found (x ∷ es) p c f e =
-      let two = both_true (fits_content x.1 && nat_le (length (children t x.0)) 256) _ f in
+      let two = and_parts (fits_content x.1 && nat_le (length (children t x.0)) 256) _ f in
       elim (eq_by_cmp path_cmp p x.0) as (λ b. eq_by_cmp path_cmp p x.0 ≡ b → cond b (Some x.1) (find path_cmp p es) ≡ Some c → (fits_content c && nat_le (length (children t p)) 256) ≡ true) [
-        | true ↦ λ same k. ap₂ (λ q d. fits_content d && nat_le (length (children t q)) 256) (same_path p x.0 same) (sym (some_same k)) ∙ two.0
+        | true ↦ λ same k. ap₂ (λ q d. fits_content d && nat_le (length (children t q)) 256) (same_path p x.0 same) (sym (same_Some _ _ k)) ∙ two.0
         | false ↦ λ _ k. found es p c two.1 k
       ] refl e
 
   at : (p : Path) (c : Content) → get t p ≡ Some c → (fits_content c ≡ true) × (nat_le (length (children t p)) 256 ≡ true)
-  at p c e = both_true (fits_content c) (nat_le (length (children t p)) 256) (found (entries t) p c h (sym (get-entries t p) ∙ e))
+  at p c e = and_parts (fits_content c) (nat_le (length (children t p)) 256) (found (entries t) p c h (sym (get-entries t p) ∙ e))
 
   brief : (contents : Contents) → get t root ≡ Some (File contents) → length contents.bytes < 2 ^ 32
   brief contents e =
@@ -65,14 +68,6 @@ module _ (t : Tree) (h : fits_part t ≡ true) where
 
 -- ---- parts
 
--- where no directory is, nothing stands below
-nothing_below : (t : Tree) (p : Path) (n : Name) (rest : Path) → IsPart t → get t p ≢ Some Directory → get t (p ++ n ∷ rest) ≡ None
-nothing_below t p n rest h denied =
-    elim (get t (p ++ n ∷ rest)) as (λ o. get t (p ++ n ∷ rest) ≡ o → o ≡ None) [
-      | None ↦ λ _. refl
-      | Some c ↦ λ e. absurd (denied (h.parents p n rest (subst IsSome (sym e) refl)))
-    ] refl
-
 -- parts with one content at the root and one part at each name are one
 same_part : (t u : Tree) → get t root ≡ get u root → ((n : Name) (p : Path) → get t (n ∷ p) ≡ get u (n ∷ p)) → t ≡ u
 same_part t u h each = same_tree t u (λ q. at q)
@@ -83,7 +78,8 @@ same_part t u h each = same_tree t u (λ q. at q)
 
 no_directory : (t u : Tree) → IsPart t → IsPart u → get t root ≡ get u root → get t root ≢ Some Directory → t ≡ u
 no_directory t u ht hu same denied =
-    same_part t u same (λ n p. nothing_below t root n p ht denied ∙ sym (nothing_below u root n p hu (λ e. denied (same ∙ e))))
+    let none : (w : Tree) → get t root ≡ get w root → is_directory w root ≡ false = λ w e. false_from_ne_true (is_directory w root) (λ is. denied (e ∙ directory_is (get w root) is)) in
+    same_part t u same (λ n p. nothing_below t root n p ht.parents (none t refl) ∙ sym (nothing_below u root n p hu.parents (none u same)))
 
 -- ---- the entries of a directory
 
@@ -151,15 +147,8 @@ same_directory t u r s ht hu at_root same =
           not_there t ht n p gone ∙ sym (not_there u hu n p (sym (some_by_name n (children t root) (children u root) same.names) ∙ gone))
     ] refl)
   where
-    none_is : (o : Option Content) → is_some o ≡ false → o ≡ None
-    none_is None e = refl
-    none_is (Some c) e = absurd (true≢false e)
-
     not_there : (w : Tree) → IsPart w → (n : Name) (p : Path) → is_some (find name_cmp n (children w root)) ≡ false → get w (n ∷ p) ≡ None
-    not_there w hw n [] gone = none_is (get w (n ∷ [])) (ap is_some (get-children w root n) ∙ gone)
-    not_there w hw n (m ∷ p) gone =
-        let none = none_is (get w (n ∷ [])) (ap is_some (get-children w root n) ∙ gone) in
-        nothing_below w (n ∷ []) m p hw (λ e. none_some (sym none ∙ e))
+    not_there w hw n p gone = absent_below w (n ∷ []) hw.parents (not_child w root n gone) p
 
 -- ---- spellings
 
@@ -173,7 +162,7 @@ heads_differ a b x y denied e = absurd (denied (ap (λ z. first_or z 0) e))
 level : (f g : Tree → Bytes) (t u : Tree) (r s : Bytes) → IsPart t → IsPart u → fits_part t ≡ true → fits_part u ≡ true →
     (get t root ≡ Some Directory → get u root ≡ Some Directory → Tells f g t u) →
     (a b : Option Content) → get t root ≡ a → get u root ≡ b → content_spelling f t a ++ r ≡ content_spelling g u b ++ s → (t ≡ u) × (r ≡ s)
-level f g t u r s ht hu ft fu tells None None a b e = (no_directory t u ht hu (a ∙ sym b) (λ d. none_some (sym a ∙ d)), ap rest_of e)
+level f g t u r s ht hu ft fu tells None None a b e = (no_directory t u ht hu (a ∙ sym b) (λ d. none-some _ (sym a ∙ d)), ap rest_of e)
 level f g t u r s ht hu ft fu tells None (Some (File d)) a b e = heads_differ 0 1 _ _ (λ z. omega (arith, z)) e
 level f g t u r s ht hu ft fu tells None (Some Directory) a b e = heads_differ 0 2 _ _ (λ z. omega (arith, z)) e
 level f g t u r s ht hu ft fu tells (Some (File c)) None a b e = heads_differ 1 0 _ _ (λ z. omega (arith, z)) e
@@ -186,7 +175,7 @@ level f g t u r s ht hu ft fu tells (Some (File c)) (Some (File d)) a b e =
     let long = sym (from_be_bytes-to_be_bytes_4 (length c.bytes) (brief t ft c a)) ∙ (ap (from_be_bytes w32) count.0 ∙ from_be_bytes-to_be_bytes_4 (length d.bytes) (brief u fu d b)) in
     let text = split c.bytes d.bytes r s long count.1 in
     let alike : Some (File c) ≡ Some (File d) = ap (λ x. Some (File (contents_of x))) text.0 in
-    (no_directory t u ht hu (a ∙ (alike ∙ sym b)) (λ k. no_file c (some_same (sym k ∙ a))), text.1)
+    (no_directory t u ht hu (a ∙ (alike ∙ sym b)) (λ k. no_file c (same_Some _ _ (sym k ∙ a))), text.1)
 level f g t u r s ht hu ft fu tells (Some Directory) (Some Directory) a b e =
     let all = λ (h : Tree → Bytes) (w : Tree). flat_map (named_spelling h w) (children w root) in
     let whole = sym (append_assoc (2 ∷ to_be_bytes w16 (length (children t root))) (all f t) r) ∙ (e ∙ append_assoc (2 ∷ to_be_bytes w16 (length (children u root))) (all g u) s) in

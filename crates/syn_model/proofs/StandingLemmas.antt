@@ -1,5 +1,5 @@
 -- What an image keeps of a history goes on event by event.
-use Rattle.std.proofs.Common.{◌≡◌, ℕ, ◌+◌, ◌-◌, List, [], ◌∷◌, ◌++◌, length, take, drop, fold, sym, ap, ◌∙◌, subst, append_assoc, append-nil, add-zero, zero-add, suc, None, arith}
+use Rattle.std.proofs.Common.{◌≡◌, ℕ, ◌+◌, ◌-◌, List, [], ◌∷◌, ◌++◌, length, take, drop, sym, ap, ◌∙◌, subst, append_assoc, append-nil, add-zero, zero-add, suc, None, arith}
 use Rattle.std.proofs.lemmas.List.{length-append, length-drop, drop-drop, drop-append-le, take-append-le}
 use Rattle.std.proofs.lemmas.List.Sums.{fold-append}
 use Rattle.std.proofs.Math.Seq.{take-add}
@@ -58,9 +58,6 @@ module _ (limit : ℕ) (touches more : List Touch) where
       ∙ (ap (λ xs. above_last 0 xs) (sym (take-add (surplus limit touches) (surplus limit left) all))
       ∙ ap (λ n. above_last 0 (take n all)) surplus_sum)))
 
-fold_one : {A B : Type 0} (f : B → A → B) (b : B) (xs : List A) (x : A) → fold f b (xs ++ x ∷ []) ≡ f (fold f b xs) x
-fold_one f b xs x = fold-append f b xs (x ∷ [])
-
 -- one more event takes a standing one step on
 pub standing_steps : StandingSteps
 standing_steps history event =
@@ -69,8 +66,8 @@ standing_steps history event =
     let touches = touches_from-append 0 history event ∙ ap (λ n. touches_from 0 history ++ touches_at n event) (zero-add (length history)) in
     let floors = ap (λ xs. above_last 0 (take (surplus most_touches xs) xs)) touches ∙ sym (above_goes_on most_touches (touches_from 0 history) (touches_at (length history) event)) in
     let rest = ap (λ xs. drop (surplus most_touches xs) xs) touches ∙ sym (left_over most_touches (touches_from 0 history) (touches_at (length history) event)) in
-    let session = fold_one session_after 0 history event in
-    let token = fold_one token_after None history event in
+    let session = fold-append session_after 0 history (event ∷ []) in
+    let token = fold-append token_after None history (event ∷ []) in
     cc
 
 -- what is allowed in a standing is what is allowed after its history

@@ -1,6 +1,7 @@
 -- The pairs of a subtree are those of the tree at and below its path, in their order.
 use Rattle.std.proofs.Common.{◌≡◌, ◌<◌, ◌≤◌, suc, Bool, true, false, if◌then◌else◌, ◌&&◌, T, List, [], ◌∷◌, ◌++◌, ℕ, length, length-append, filter_map, flat_map, refl, sym, ap, ap₂, ◌∙◌, subst, Option, Some, None, is_some, IsSome, All, nat_le, append_assoc, is_lt, option_map, option_and_then, true≢false, arith}
 use Rattle.std.proofs.lemmas.List.Elements.{All-tail}
+use Rattle.std.proofs.lemmas.Bool.{and_from, and_parts}
 use Rattle.std.proofs.lemmas.Bool.Decides.{nat_tests}
 use Rattle.std.specs.Ordering.{ordering_then, eq_by_cmp}
 use Rattle.std.specs.Cmp.{tied_itself}
@@ -11,14 +12,13 @@ use Rattle.syn_model.specs.Path.{IsName, Name, Path, name_cmp, path_cmp, path_sp
 use Rattle.syn_model.specs.Tree.{Tree, Content, Pair, IsPart, subtree, taken_off}
 use Rattle.syn_model.specs.Limits.{children, only_name, fits_content, fits_part, fits_path, fits_paths}
 use Rattle.syn_model.proofs.TreeLemmas.{get-subtree}
-use Rattle.syn_model.proofs.DirtyLemmas.{both_true}
 use Rattle.syn_model.proofs.PathLemmas.{name_total, path_total, path_exact, strip_prefix-is}
 
-both : (a b : Bool) → T a → T b → T (a && b)
-both true b p q = q
-both false b p q = absurd p
+pub joined : (a b : Bool) → T a → T b → T (a && b)
+joined true b p q = q
+joined false b p q = absurd p
 
-parts : (a b : Bool) → T (a && b) → T a × T b
+pub parts : (a b : Bool) → T (a && b) → T a × T b
 parts true b p = (tt, p)
 parts false b p = absurd p
 
@@ -39,7 +39,7 @@ still_below p a rest (e ∷ es) h t =
       | None ↦ λ _. more
       | Some r ↦ λ k.
           let same : path_cmp a e.0 ≡ path_cmp rest r = ap₂ path_cmp (strip_prefix-is p a rest h) (strip_prefix-is p e.0 r k) ∙ under_cmp p rest r in
-          both (is_lt (path_cmp rest r)) (below_all path_cmp rest (below p es)) (subst (λ o. T (is_lt o)) same two.0) more
+          joined (is_lt (path_cmp rest r)) (below_all path_cmp rest (below p es)) (subst (λ o. T (is_lt o)) same two.0) more
     ] refl
 
 still_sorted : (p : Path) (es : List Pair) → T (is_sorted path_cmp es) → T (is_sorted path_cmp (below p es))
@@ -49,7 +49,7 @@ still_sorted p (e ∷ es) t =
     let more = still_sorted p es two.1 in
     elim (strip_prefix p e.0) as (λ o. strip_prefix p e.0 ≡ o → T (is_sorted path_cmp (cons_option (option_map (λ r. (r, e.1)) o) (below p es)))) [
       | None ↦ λ _. more
-      | Some r ↦ λ k. both (below_all path_cmp r (below p es)) (is_sorted path_cmp (below p es)) (still_below p e.0 r es k two.0) more
+      | Some r ↦ λ k. joined (below_all path_cmp r (below p es)) (is_sorted path_cmp (below p es)) (still_below p e.0 r es k two.0) more
     ] refl
 
 -- entries in order are those of their map
@@ -111,16 +111,13 @@ subtree_smaller t n p h =
     let small = len-entries (subtree t (n ∷ p)) ∙ ap length (subtree_entries t (n ∷ p)) in
     omega (arith, here, small, len-entries t)
 
-yes_both : (a b : Bool) → a ≡ true → b ≡ true → (a && b) ≡ true
-yes_both a b h k = ap₂ (λ x y. x && y) h k
-
 abbrev fits_at : Tree → Pair → Bool
 fits_at t pair = fits_content pair.1 && nat_le (length (children t pair.0)) 256
 
 still_fits : (t : Tree) (p : Path) (es : List Pair) → list_all (fits_at t) es ≡ true → list_all (fits_at (subtree t p)) (below p es) ≡ true
 still_fits t p [] h = refl
 still_fits t p (e ∷ es) h =
-    let two = both_true (fits_at t e) (list_all (fits_at t) es) h in
+    let two = and_parts (fits_at t e) (list_all (fits_at t) es) h in
     let more = still_fits t p es two.1 in
     elim (strip_prefix p e.0) as (λ o. strip_prefix p e.0 ≡ o → list_all (fits_at (subtree t p)) (cons_option (option_map (λ r. (r, e.1)) o) (below p es)) ≡ true) [
       | None ↦ λ _. more
@@ -128,7 +125,7 @@ still_fits t p (e ∷ es) h =
           let same : fits_at t e ≡ fits_at (subtree t p) (r, e.1) =
           ap (λ q. fits_content e.1 && nat_le (length (children t q)) 256) (strip_prefix-is p e.0 r k)
           ∙ ap (λ xs. fits_content e.1 && nat_le (length xs) 256) (sym (subtree_children t p r)) in
-          yes_both (fits_at (subtree t p) (r, e.1)) (list_all (fits_at (subtree t p)) (below p es)) (sym same ∙ two.0) more
+          and_from (fits_at (subtree t p) (r, e.1)) (list_all (fits_at (subtree t p)) (below p es)) (sym same ∙ two.0) more
     ] refl
 
 -- a path is no longer than one that ends with it
@@ -150,9 +147,9 @@ one_more a b l = omega (arith, l)
 
 fits_later : (p q : Path) → fits_path (p ++ q) ≡ true → fits_path q ≡ true
 fits_later p q h =
-    let two = both_true (nat_le (length (p ++ q)) 16) (nat_le (length (path_spelling (p ++ q))) 255) h in
+    let two = and_parts (nat_le (length (p ++ q)) 16) (nat_le (length (path_spelling (p ++ q))) 255) h in
     let less = ending_shorter p q in
-    yes_both (nat_le (length q) 16) (nat_le (length (path_spelling q)) 255)
+    and_from (nat_le (length q) 16) (nat_le (length (path_spelling q)) 255)
     (smaller (length q) (length (p ++ q)) 16 less.0 two.0)
     (smaller (suc (length (spelled q))) (suc (length (spelled (p ++ q)))) 255 (one_more (length (spelled q)) (length (spelled (p ++ q))) less.1) two.1)
 
@@ -162,11 +159,11 @@ path_fits pair = fits_path pair.0
 still_short : (p : Path) (es : List Pair) → list_all path_fits es ≡ true → list_all path_fits (below p es) ≡ true
 still_short p [] h = refl
 still_short p (e ∷ es) h =
-    let two = both_true (path_fits e) (list_all path_fits es) h in
+    let two = and_parts (path_fits e) (list_all path_fits es) h in
     let more = still_short p es two.1 in
     elim (strip_prefix p e.0) as (λ o. strip_prefix p e.0 ≡ o → list_all path_fits (cons_option (option_map (λ r. (r, e.1)) o) (below p es)) ≡ true) [
       | None ↦ λ _. more
-      | Some r ↦ λ k. yes_both (fits_path r) (list_all path_fits (below p es)) (fits_later p r (ap fits_path (sym (strip_prefix-is p e.0 r k)) ∙ two.0)) more
+      | Some r ↦ λ k. and_from (fits_path r) (list_all path_fits (below p es)) (fits_later p r (ap fits_path (sym (strip_prefix-is p e.0 r k)) ∙ two.0)) more
     ] refl
 
 -- so the paths of a subtree keep their limits

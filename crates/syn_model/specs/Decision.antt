@@ -1,9 +1,8 @@
 -- What a session decides at a path, by what the two scans and the archive have there.
-use Rattle.std.specs.Prelude.{◌≡◌, Bool, not, ◌&&◌, ◌||◌, if◌then◌else◌, ◌∷◌, ◌++◌}
-use Rattle.std.specs.List.{list_any}
-use Rattle.syn_model.specs.Path.{Path, Name, is_prefix}
+use Rattle.std.specs.Prelude.{◌≡◌, not, ◌||◌, if◌then◌else◌, ◌∷◌, ◌++◌}
+use Rattle.syn_model.specs.Path.{Path, Name}
 use Rattle.syn_model.specs.Tree.{Tree, subtree, is_directory}
-use Rattle.syn_model.specs.Dirty.{Scan, dirty, is_same_tree}
+use Rattle.syn_model.specs.Dirty.{Scan, is_unstable, dirty, is_same_tree}
 use Rattle.syn_model.specs.Reconcile.{is_directory_in_both}
 
 pub data Item : Type 0 where
@@ -19,10 +18,6 @@ pub data Decision : Type 0 where
   Do : (item : Item) → Decision
   DoAndGoOn : (item : Item) → Decision
   GoOn : Decision
-
--- the path is unstable itself
-abbrev pub is_unstable : Scan → Path → Bool
-is_unstable scan path = list_any (λ other. is_prefix path other && is_prefix other path) scan.unstable
 
 abbrev pub decision : Scan → Scan → Tree → Path → Decision
 decision left right archive path =
@@ -49,6 +44,6 @@ GoesOn (Do item) = ⊥
 GoesOn (DoAndGoOn item) = Unit {0}
 GoesOn GoOn = Unit {0}
 
--- it goes on at each path above
-abbrev pub IsReached : Scan → Scan → Tree → Path → Type 0
-IsReached left right archive path = (above : Path) (name : Name) (rest : Path) → path ≡ above ++ name ∷ rest → GoesOn (decision left right archive above)
+-- by what is decided at each path, it goes on at each above
+abbrev pub IsReached : (Path → Decision) → Path → Type 0
+IsReached decide path = (above : Path) (name : Name) (rest : Path) → path ≡ above ++ name ∷ rest → GoesOn (decide above)

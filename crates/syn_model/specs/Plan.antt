@@ -24,32 +24,28 @@ with_items_below (Do item) below = item ∷ []
 with_items_below (DoAndGoOn item) below = item ∷ below
 with_items_below GoOn below = below
 
--- the items at and below a path, down so many levels
-abbrev pub items_from : ℕ → Scan → Scan → Tree → Path → List Item
-items_from zero left right archive path = []
-items_from (suc levels) left right archive path =
-    with_items_below (decision left right archive path) (flat_map (λ name. items_from levels left right archive (child path name)) (names_below left right archive path))
+-- the items at and below a path, down so many levels, by what is decided at each path and which names are below each
+abbrev pub items_from : (Path → Decision) → (Path → List Name) → ℕ → Path → List Item
+items_from decide names zero path = []
+items_from decide names (suc levels) path =
+    with_items_below (decide path) (flat_map (λ name. items_from decide names levels (child path name)) (names path))
 
 -- a path has 16 names at most
 abbrev pub most_names : ℕ
 most_names = 16
 
 abbrev pub plan : Scan → Scan → Tree → List Item
-plan left right archive = items_from (suc most_names) left right archive root
+plan left right archive = items_from (decision left right archive) (names_below left right archive) (suc most_names) root
 
 -- an item that is carried out later is neither at nor above the path of an earlier one, and below it only where that marks a directory
 pub record StandsBefore (earlier later : Item) : Type 0 where
   pub not_above : is_prefix (path_of later) (path_of earlier) ≡ false
   pub below_directory : is_prefix (path_of earlier) (path_of later) ≡ true → earlier ≡ MarkDir (path_of earlier)
 
-abbrev pub IsDecidedHere : Scan → Scan → Tree → Item → Type 0
-IsDecidedHere left right archive item =
-    (decision left right archive (path_of item) ≡ Do item) ⊎ (decision left right archive (path_of item) ≡ DoAndGoOn item)
-
 -- each item is reached from the root and decided at its path
-pub record IsDecided (left right : Scan) (archive : Tree) (item : Item) : Type 0 where
-  pub reached : IsReached left right archive (path_of item)
-  pub decided : IsDecidedHere left right archive item
+pub record IsDecided (decide : Path → Decision) (item : Item) : Type 0 where
+  pub reached : IsReached decide (path_of item)
+  pub decided : (decide (path_of item) ≡ Do item) ⊎ (decide (path_of item) ≡ DoAndGoOn item)
 
 -- the two sides and the archive
 pub record Trees : Type 0 where
@@ -106,10 +102,15 @@ pub record CanBePlanned (tree : Tree) : Type 0 where
   pub parents : HasParents tree
   pub depth : HasDepth most_names tree
 
--- what is carried out of the plan leaves a synchronization, and an archive of it
-pub record IsReconciled (left right archive : Tree) (after : Trees) : Type 0 where
-  pub sides : IsSynchronization left right (dirty (scan_of left) archive) (dirty (scan_of right) archive) after.left after.right
-  pub marks : IsReconciledArchive left right (dirty (scan_of left) archive) (dirty (scan_of right) archive) after.left after.right archive after.archive
+-- the sides are a synchronization of what was found, by what was dirty
+abbrev pub IsSynchronized : Trees → Trees → Type 0
+IsSynchronized found after =
+    IsSynchronization found.left found.right (dirty (scan_of found.left) found.archive) (dirty (scan_of found.right) found.archive) after.left after.right
+
+-- and the archive is the archive of that
+abbrev pub IsReconciled : Trees → Trees → Type 0
+IsReconciled found after =
+    IsReconciledArchive found.left found.right (dirty (scan_of found.left) found.archive) (dirty (scan_of found.right) found.archive) after.left after.right found.archive after.archive
 
 abbrev pub stands_among : Name → List (Name × Content) → Bool
 stands_among name entries = list_any (eq_by_cmp name_cmp name) (map (λ entry. entry.0) entries)
@@ -141,7 +142,7 @@ abbrev pub PlanIsOrderly : Type 0
 PlanIsOrderly = (left right : Scan) (archive : Tree) → IsOrderly (plan left right archive)
 
 abbrev pub PlanIsDecided : Type 0
-PlanIsDecided = (left right : Scan) (archive : Tree) → All (IsDecided left right archive) (plan left right archive)
+PlanIsDecided = (left right : Scan) (archive : Tree) → All (IsDecided (decision left right archive)) (plan left right archive)
 
 abbrev pub PlanOverwritesClean : Type 0
 PlanOverwritesClean = (left right : Scan) (archive : Tree) → All (OverwritesClean left right archive) (plan left right archive)
@@ -166,7 +167,7 @@ ItemFindsSides = (left right : Scan) (archive : Tree) (before after : List Item)
 -- what is reached and decided is in the plan
 abbrev pub PlanHasDecided : Type 0
 PlanHasDecided = (left right archive : Tree) → CanBePlanned left → CanBePlanned right → CanBePlanned archive →
-    (item : Item) → IsDecided (scan_of left) (scan_of right) archive item → Contains (plan (scan_of left) (scan_of right) archive) item
+    (item : Item) → IsDecided (decision (scan_of left) (scan_of right) archive) item → Contains (plan (scan_of left) (scan_of right) archive) item
 
 -- a relevant path is in conflict: dirty on both sides, not a directory in both, and not equal by mark
 pub record IsConflict (left right archive : Tree) (path : Path) : Type 0 where
@@ -180,7 +181,15 @@ abbrev pub ConflictsArePlanned : Type 0
 ConflictsArePlanned = (left right archive : Tree) → CanBePlanned left → CanBePlanned right → CanBePlanned archive → (path : Path) →
     Contains (plan (scan_of left) (scan_of right) archive) (Conflict path) ↔ IsConflict left right archive path
 
+-- what the plan of the three leaves
+abbrev pub after_plan : Trees → Trees
+after_plan found = carried_out found (plan (scan_of found.left) (scan_of found.right) found.archive)
+
+-- the sides are synchronized, if no two files that they have at one path differ with one digest
+abbrev pub PlanSynchronizes : Type 0
+PlanSynchronizes = (found : Trees) → CanBePlanned found.left → CanBePlanned found.right → CanBePlanned found.archive →
+    AreApart found.left found.right → IsSynchronized found (after_plan found)
+
+-- and the archive is that of it, without this premise, since it speaks of marks alone
 abbrev pub PlanReconciles : Type 0
-PlanReconciles = (left right archive : Tree) → CanBePlanned left → CanBePlanned right → CanBePlanned archive →
-    AreApart (λ tree. (tree ≡ left) ⊎ (tree ≡ right)) →
-    IsReconciled left right archive (carried_out (record { left = left; right = right; archive = archive }) (plan (scan_of left) (scan_of right) archive))
+PlanReconciles = (found : Trees) → CanBePlanned found.left → CanBePlanned found.right → CanBePlanned found.archive → IsReconciled found (after_plan found)

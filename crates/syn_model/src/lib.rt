@@ -2,7 +2,7 @@
 #![tactic(auto)]
 
 ghost use Rattle.syn_model.specs.Laws.{SameAtEachPath, SubtreeHas, ReplacedHas, ReplacedIsThere, OthersStay, ReplacedIsPart, SubtreeIsPart, SubtreeFits, SubtreeFitsPaths, SpellingUnfolds, NoSpellingBeginsAnother, DirtyIsClosed, DirtyIsSafe, OneSynchronization, NothingToDo, HistoryIsTree, HistoryFits, PutFits, AllowedGoesOn, StandingSteps, StandingAllows, FormattedStands, PayloadGoesOn, PathsGoByKey, MarkHas, MarkOfSubtree};
-ghost use Rattle.syn_model.specs.Plan.{NamesAreOnly, PlanIsInOrder, PlanIsOrderly, PlanIsDecided, PlanReconciles, PlanHasDecided, PlanOverwritesClean, ConflictsArePlanned, ItemFindsArchive, ItemFindsSides};
+ghost use Rattle.syn_model.specs.Plan.{NamesAreOnly, PlanIsInOrder, PlanIsOrderly, PlanIsDecided, PlanSynchronizes, PlanReconciles, PlanHasDecided, PlanOverwritesClean, ConflictsArePlanned, ItemFindsArchive, ItemFindsSides};
 ghost use Rattle.syn_model.specs.Rows.{ItemsOfOneNameHold, Floors, RefusedEditsHold, Spellings};
 
 /// Paths compare as bytes: by their names, each followed by one zero byte.
@@ -47,7 +47,7 @@ pub fn synchronization_laws()
     ensures nothing { NothingToDo }
 {}
 
-/// The items of a plan stand in order, and carrying them out gives a synchronization and the archive of it.
+/// The items of a plan stand in order, and carrying them out gives a synchronization, and the archive of it.
 pub fn plan_laws()
     ensures names { NamesAreOnly }
     ensures order { PlanIsInOrder }
@@ -58,6 +58,7 @@ pub fn plan_laws()
     ensures conflicts { ConflictsArePlanned }
     ensures archive { ItemFindsArchive }
     ensures sides { ItemFindsSides }
+    ensures synchronizes { PlanSynchronizes }
     ensures reconciles { PlanReconciles }
 {}
 

@@ -1,7 +1,8 @@
 -- What it says that an event has no cause to be refused.
-use Rattle.std.proofs.Common.{◌≡◌, ◌<◌, ◌≤◌, ◌^◌, ◌-◌, ℕ, Bool, true, false, not, nat_le, ◌&&◌, if◌then◌else◌, List, [], ◌∷◌, ◌++◌, length, refl, sym, ap, subst, Option, Some, None, true≢false, arith}
+use Rattle.std.proofs.Common.{◌≡◌, ◌<◌, ◌≤◌, ◌^◌, ◌-◌, ℕ, Bool, true, false, not, nat_le, ◌&&◌, if◌then◌else◌, List, [], ◌∷◌, ◌++◌, length, refl, sym, ap, subst, Some, None, arith}
 use Rattle.std.specs.FinMap.{len}
 use Rattle.std.proofs.lemmas.Bool.{and_parts}
+use Rattle.std.proofs.lemmas.Option.{none-some}
 use Rattle.std.proofs.lemmas.Bool.Decides.{nat_tests}
 use Rattle.syn_model.specs.Laws.{PutFits, ReplacedIsThere, SubtreeFits, SubtreeFitsPaths}
 use Rattle.syn_model.specs.Tree.{Tree, replace}
@@ -13,35 +14,20 @@ use Rattle.syn_model.specs.History.{History, IsAllowed, AllAllowed, standing_of}
 use Rattle.std.specs.List.{AllByRecursion}
 use Rattle.syn_wire.specs.Events.{IsShort, IsSpelledEvent}
 
-is_there : Option Refusal → Bool
-is_there None = false
-is_there (Some why) = true
-
-pub none_some : {why : Refusal} → ◌≡◌ {A = Option Refusal} None (Some why) → ⊥
-unfolding is_there
-none_some e = true≢false (sym (ap is_there e))
-
-pub some_same : {a b : Refusal} → Some a ≡ Some b → a ≡ b
-some_same {a} {b} e = ap (λ o. or_else o a) e
-  where
-    or_else : Option Refusal → Refusal → Refusal
-    or_else None d = d
-    or_else (Some why) d = why
-
 -- of causes in a row none holds just where none of each part does
 pub no_cause : (a b : List Cause) → first_cause (a ++ b) ≡ None → (first_cause a ≡ None) × (first_cause b ≡ None)
 no_cause [] b e = (refl, e)
-no_cause ((true, why) ∷ a) b e = absurd (none_some (sym e))
+no_cause ((true, why) ∷ a) b e = absurd (none-some _ (sym e))
 no_cause ((false, why) ∷ a) b e = no_cause a b e
 
 pub no_causes : (a b : List Cause) → first_cause a ≡ None → first_cause b ≡ None → first_cause (a ++ b) ≡ None
 no_causes [] b e f = f
-no_causes ((true, why) ∷ a) b e f = absurd (none_some (sym e))
+no_causes ((true, why) ∷ a) b e f = absurd (none-some _ (sym e))
 no_causes ((false, why) ∷ a) b e f = no_causes a b e f
 
 -- and the first of some causes is the first of them with others behind
 pub first_stays : (a b : List Cause) (why : Refusal) → first_cause a ≡ Some why → first_cause (a ++ b) ≡ Some why
-first_stays [] b why e = absurd (none_some e)
+first_stays [] b why e = absurd (none-some _ e)
 first_stays ((true, other) ∷ a) b why e = e
 first_stays ((false, other) ∷ a) b why e = first_stays a b why e
 
@@ -50,7 +36,7 @@ fits_where tree e = by_test (fits_replica tree) e
   where
     by_test : (b : Bool) → first_cause ((not b, Full) ∷ []) ≡ None → b ≡ true
     by_test true e = refl
-    by_test false e = absurd (none_some (sym e))
+    by_test false e = absurd (none-some _ (sym e))
 
 pub below_greatest : (n : ℕ) → n < 2 ^ 64 - 1 → first_cause (full_position n) ≡ None
 below_greatest n h = ap (λ b. if b then Some Full else None) (below n h)

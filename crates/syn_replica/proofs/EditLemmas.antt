@@ -17,7 +17,7 @@ use Rattle.syn_replica.specs.Replica.{Remembers, tree_shown, position_shown}
 use Rattle.syn_replica.specs.declared.replica.Replica.{Replica}
 use Rattle.syn_replica.specs.declared.error.ReplicaError.{ReplicaError}
 use Rattle.syn_replica.specs.declared.error.ReplicaError.TheVariants.{NoParent, IsDirectory, Exists, Absent, Root, Full, JournalFull, Device, Halted, Memory, NoImage, Damaged, WrongPair}
-use Rattle.syn_replica.proofs.CauseLemmas.{none_some, some_same}
+use Rattle.std.proofs.lemmas.Option.{none-some, same_Some}
 
 is_ok : {X : Type 0} → Result X ReplicaError → Bool
 is_ok (Ok x) = true
@@ -53,35 +53,35 @@ admission_tree r Damaged h t = h.0
 admission_tree r WrongPair h t = h.0
 
 pub admission_refused : (r : Option Refusal) (e : ReplicaError) (why : Refusal) → IsAdmission r (Err e) → r ≡ Some why → refusal_of e ≡ why
-admission_refused r NoParent why h t = some_same (sym h.0 ∙ t)
-admission_refused r IsDirectory why h t = some_same (sym h.0 ∙ t)
-admission_refused r Exists why h t = some_same (sym h.0 ∙ t)
-admission_refused r Absent why h t = some_same (sym h.0 ∙ t)
-admission_refused r Root why h t = some_same (sym h.0 ∙ t)
-admission_refused r Full why h t = some_same (sym h.0 ∙ t)
-admission_refused r JournalFull why h t = absurd (none_some (sym h ∙ t))
-admission_refused r Device why h t = some_same (sym h.0 ∙ t)
-admission_refused r Halted why h t = some_same (sym h.0 ∙ t)
-admission_refused r Memory why h t = some_same (sym h.0 ∙ t)
-admission_refused r NoImage why h t = some_same (sym h.0 ∙ t)
-admission_refused r Damaged why h t = some_same (sym h.0 ∙ t)
-admission_refused r WrongPair why h t = some_same (sym h.0 ∙ t)
+admission_refused r NoParent why h t = same_Some _ _ (sym h.0 ∙ t)
+admission_refused r IsDirectory why h t = same_Some _ _ (sym h.0 ∙ t)
+admission_refused r Exists why h t = same_Some _ _ (sym h.0 ∙ t)
+admission_refused r Absent why h t = same_Some _ _ (sym h.0 ∙ t)
+admission_refused r Root why h t = same_Some _ _ (sym h.0 ∙ t)
+admission_refused r Full why h t = same_Some _ _ (sym h.0 ∙ t)
+admission_refused r JournalFull why h t = absurd (none-some _ (sym h ∙ t))
+admission_refused r Device why h t = same_Some _ _ (sym h.0 ∙ t)
+admission_refused r Halted why h t = same_Some _ _ (sym h.0 ∙ t)
+admission_refused r Memory why h t = same_Some _ _ (sym h.0 ∙ t)
+admission_refused r NoImage why h t = same_Some _ _ (sym h.0 ∙ t)
+admission_refused r Damaged why h t = same_Some _ _ (sym h.0 ∙ t)
+admission_refused r WrongPair why h t = same_Some _ _ (sym h.0 ∙ t)
 
 -- JournalFull alone is answered where the tree and the position allow the edit
 pub admission_full : (r : Option Refusal) (e : ReplicaError) → IsAdmission r (Err e) → r ≡ None → e ≡ JournalFull
-admission_full r NoParent h none = absurd (none_some (sym none ∙ h.0))
-admission_full r IsDirectory h none = absurd (none_some (sym none ∙ h.0))
-admission_full r Exists h none = absurd (none_some (sym none ∙ h.0))
-admission_full r Absent h none = absurd (none_some (sym none ∙ h.0))
-admission_full r Root h none = absurd (none_some (sym none ∙ h.0))
-admission_full r Full h none = absurd (none_some (sym none ∙ h.0))
+admission_full r NoParent h none = absurd (none-some _ (sym none ∙ h.0))
+admission_full r IsDirectory h none = absurd (none-some _ (sym none ∙ h.0))
+admission_full r Exists h none = absurd (none-some _ (sym none ∙ h.0))
+admission_full r Absent h none = absurd (none-some _ (sym none ∙ h.0))
+admission_full r Root h none = absurd (none-some _ (sym none ∙ h.0))
+admission_full r Full h none = absurd (none-some _ (sym none ∙ h.0))
 admission_full r JournalFull h none = refl
-admission_full r Device h none = absurd (none_some (sym none ∙ h.0))
-admission_full r Halted h none = absurd (none_some (sym none ∙ h.0))
-admission_full r Memory h none = absurd (none_some (sym none ∙ h.0))
-admission_full r NoImage h none = absurd (none_some (sym none ∙ h.0))
-admission_full r Damaged h none = absurd (none_some (sym none ∙ h.0))
-admission_full r WrongPair h none = absurd (none_some (sym none ∙ h.0))
+admission_full r Device h none = absurd (none-some _ (sym none ∙ h.0))
+admission_full r Halted h none = absurd (none-some _ (sym none ∙ h.0))
+admission_full r Memory h none = absurd (none-some _ (sym none ∙ h.0))
+admission_full r NoImage h none = absurd (none-some _ (sym none ∙ h.0))
+admission_full r Damaged h none = absurd (none-some _ (sym none ∙ h.0))
+admission_full r WrongPair h none = absurd (none-some _ (sym none ∙ h.0))
 
 pub admission_none : (r : Option Refusal) (e : ReplicaError) → IsAdmission r (Err e) → e ≡ JournalFull → r ≡ None
 admission_none r e h same = subst (λ x. IsAdmission r (Err x)) same h

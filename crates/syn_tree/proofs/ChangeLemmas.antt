@@ -2,11 +2,11 @@
 use Rattle.std.proofs.Common.{◌≡◌, ◌+◌, ℕ, Bool, true, false, true≢false, [], ◌∷◌, ◌++◌, refl, sym, ap, ◌∙◌, subst, Option, Some, None, is_some, append-nil, arith}
 use Rattle.std.specs.FinMap.{entries, get, get-empty}
 use Rattle.std.proofs.lemmas.List.Sums.{sum_by-cons}
+use Rattle.std.proofs.lemmas.Option.{none-some}
 use Rattle.syn_model.specs.Path.{Bytes, Path, path_cmp, IsPath}
 use Rattle.syn_model.specs.Tree.{Tree, Content, Contents, Directory, File, IsPart, at_root, absent}
 use Rattle.syn_model.specs.Event.{AreBytes}
 use Rattle.syn_model.proofs.HistoryLemmas.{at_root-is_part}
-use Rattle.syn_model.proofs.PathLemmas.{none_some}
 use Rattle.syn_tree.specs.Contents.{IsLawful}
 use Rattle.syn_tree.specs.Pairs.{Pairs, under, spelling_length, pair_spelling_length}
 use Rattle.syn_tree.specs.Change.{taken_from, ArePlaced}
@@ -42,9 +42,9 @@ is_some_some (Some c) h = refl
 
 pub nothing_part : IsPart absent
 nothing_part = record {
-  parents = λ p n r h. absurd (none_some (sym (get-empty path_cmp (p ++ n ∷ r)) ∙ is_some_some (get absent (p ++ n ∷ r)) h));
-  names = λ p h. absurd (none_some (sym (get-empty path_cmp p) ∙ is_some_some (get absent p) h));
-  bytes = λ p contents h. absurd (none_some (sym (get-empty path_cmp p) ∙ h));
+  parents = λ p n r h. absurd (none-some _ (sym (get-empty path_cmp (p ++ n ∷ r)) ∙ is_some_some (get absent (p ++ n ∷ r)) h));
+  names = λ p h. absurd (none-some _ (sym (get-empty path_cmp p) ∙ is_some_some (get absent p) h));
+  bytes = λ p contents h. absurd (none-some _ (sym (get-empty path_cmp p) ∙ h));
 }
 
 abbrev is_dir : Content → Bool

@@ -7,10 +7,11 @@ use Rattle.std.specs.FinMap.{find, entries, get, get-entries, len, len-entries}
 use Rattle.std.proofs.lemmas.Bool.{and_parts}
 use Rattle.std.proofs.lemmas.Bool.Decides.{nat_tests}
 use Rattle.std.proofs.lemmas.List.Folds.{list_all-append}
+use Rattle.std.proofs.lemmas.Option.{same_Some}
 use Rattle.syn_model.specs.Path.{Path, path_cmp, strip_prefix, is_prefix, is_root, root, parent}
 use Rattle.syn_model.specs.Tree.{Tree, Content, Pair, Directory, File, replace, is_directory, is_directory_content, is_present}
 use Rattle.syn_model.specs.Limits.{children, fits_content, fits_path, fits_part, fits_paths, fits_replica, greatest_spelling, tree_spelling_length}
-use Rattle.syn_model.proofs.PathLemmas.{same_path, some_same}
+use Rattle.syn_model.proofs.PathLemmas.{same_path}
 use Rattle.syn_model.proofs.TreeLemmas.{beside}
 use Rattle.syn_tree.specs.Pairs.{Pairs, is_within, before, within, behind, under, is_child, spelling_length}
 use Rattle.syn_tree.proofs.OrderLemmas.{prefix_step}
@@ -47,7 +48,7 @@ all-find f q c [] h e = absurd (true≢false (sym (ap is_some e)))
 all-find f q c (x ∷ es) h e = by_path (eq_by_cmp path_cmp q x.0) refl (all-find f q c es (and_parts (f x) (list_all f es) h).1) e
   where
     by_path : (b : Bool) → eq_by_cmp path_cmp q x.0 ≡ b → (find path_cmp q es ≡ Some c → f (q, c) ≡ true) → cond b (Some x.1) (find path_cmp q es) ≡ Some c → f (q, c) ≡ true
-    by_path true same rest is = ap₂ (λ p d. f (p, d)) (same_path q x.0 same) (sym (some_same is)) ∙ (and_parts (f x) (list_all f es) h).0
+    by_path true same rest is = ap₂ (λ p d. f (p, d)) (same_path q x.0 same) (sym (same_Some _ _ is)) ∙ (and_parts (f x) (list_all f es) h).0
     by_path false same rest is = rest is
 
 -- the parts of a whole pass where it does

@@ -6,10 +6,11 @@ use Rattle.std.specs.FinMap.{find, get}
 use Rattle.std.proofs.lemmas.Bool.{and_parts}
 use Rattle.std.proofs.lemmas.List.{take_more, take-append-drop}
 use Rattle.std.proofs.lemmas.List.Elements.{All-nil}
+use Rattle.std.proofs.lemmas.Option.{none-some, same_Some}
 use Rattle.syn_model.specs.Path.{Name, Path, IsName, path_cmp, root, is_root, parent}
 use Rattle.syn_model.specs.Tree.{Content, Pair, Directory, File, IsTree, is_directory_content}
 use Rattle.syn_model.specs.Limits.{fits_content, fits_path, fits_part}
-use Rattle.syn_model.proofs.PathLemmas.{path_total, same_path, some_same, none_some, path_itself, parent-append}
+use Rattle.syn_model.proofs.PathLemmas.{path_total, same_path, path_itself, parent-append}
 use Rattle.syn_tree.specs.Contents.{IsLawful}
 use Rattle.syn_tree.specs.Pairs.{Pairs, rooted, tree_with, AreRising, is_child}
 use Rattle.syn_tree.specs.Entries.{AreEntries, has_few, stands_in, IsLawfulPair, AreLawful}
@@ -22,11 +23,11 @@ use Rattle.syn_tree.proofs.CheckLemmas.{path_fits}
 
 -- what holds of each pair holds of what is found
 each-find : (P : Path → Content → Type 0) (q : Path) (c : Content) (es : Pairs) → AllByRecursion (λ e. P e.0 e.1) es → find path_cmp q es ≡ Some c → P q c
-each-find P q c [] h e = absurd (none_some e)
+each-find P q c [] h e = absurd (none-some _ e)
 each-find P q c (x ∷ es) h e = by_path (eq_by_cmp path_cmp q x.0) refl (each-find P q c es h.1) e
   where
     by_path : (b : Bool) → eq_by_cmp path_cmp q x.0 ≡ b → (find path_cmp q es ≡ Some c → P q c) → cond b (Some x.1) (find path_cmp q es) ≡ Some c → P q c
-    by_path true same rest is = subst (λ p. P p c) (sym (same_path q x.0 same)) (subst (P x.0) (some_same is) h.0)
+    by_path true same rest is = subst (λ p. P p c) (sym (same_path q x.0 same)) (subst (P x.0) (same_Some _ _ is) h.0)
     by_path false same rest is = rest is
 
 content_or : Option Content → Content

@@ -3,12 +3,13 @@ use Rattle.std.proofs.Common.{◌≡◌, ◌≤◌, ◌<◌, ◌+◌, ℕ, zero,
 use Rattle.std.specs.Prelude.{option_and_then}
 use Rattle.std.specs.Ordering.{eq_by_cmp}
 use Rattle.std.specs.Cmp.{eq_by_cmp_equiv}
+use Rattle.std.proofs.lemmas.Option.{none-some}
 use Rattle.syn_model.specs.Path.{Path, name_cmp, path_cmp, strip_prefix, is_root, parent}
 use Rattle.syn_model.specs.Tree.{Tree, is_directory}
 use Rattle.syn_model.specs.Limits.{only_name}
 use Rattle.syn_model.specs.Refusal.{Root, NoParent, first_cause}
 use Rattle.syn_model.specs.Standing.{place_causes}
-use Rattle.syn_model.proofs.PathLemmas.{name_total, then_rest, none_some}
+use Rattle.syn_model.proofs.PathLemmas.{name_total, then_rest}
 use Rattle.syn_tree.specs.Pairs.{is_child}
 
 pub parent-take : (q : Path) (k : ℕ) → k + 1 ≡ length q → take k q ≡ parent q
@@ -58,9 +59,9 @@ pub place_free : (t : Tree) (q : Path) → first_cause (place_causes t q) ≡ No
 place_free t q h = by_root (is_root q) refl (is_directory t (parent q)) refl
   where
     by_root : (a : Bool) → is_root q ≡ a → (b : Bool) → is_directory t (parent q) ≡ b → (is_root q ≡ false) × (is_directory t (parent q) ≡ true)
-    by_root true is b is' = absurd (none_some (sym h ∙ place_root t q is))
+    by_root true is b is' = absurd (none-some _ (sym h ∙ place_root t q is))
     by_root false is true is' = (is, is')
-    by_root false is false is' = absurd (none_some (sym h ∙ (place_answer t q is ∙ ap (λ b. if b then None else Some NoParent) is')))
+    by_root false is false is' = absurd (none-some _ (sym h ∙ (place_answer t q is ∙ ap (λ b. if b then None else Some NoParent) is')))
 
 pub place_allowed : (t : Tree) (q : Path) → is_root q ≡ false → is_directory t (parent q) ≡ true → first_cause (place_causes t q) ≡ None
 place_allowed t q h k = place_answer t q h ∙ ap (λ b. if b then None else Some NoParent) k

@@ -14,8 +14,9 @@ use Rattle.syn_model.specs.Path.{Name, Path, IsName, IsPath, path_cmp, root, is_
 use Rattle.syn_model.specs.Tree.{Tree, Content, Contents, Pair, Directory, File, HasParents, IsTree, absent, at_root, subtree, is_directory_content}
 use Rattle.syn_model.proofs.HistoryLemmas.{get-at_root}
 use Rattle.std.specs.Ordering.{eq_by_cmp}
+use Rattle.std.proofs.lemmas.Option.{none-some, same_Some}
 use Rattle.syn_model.specs.Limits.{fits_path, fits_content, fits_part, fits_paths}
-use Rattle.syn_model.proofs.PathLemmas.{strip_prefix-append, is_prefix-is, some_same, none_some}
+use Rattle.syn_model.proofs.PathLemmas.{strip_prefix-append, is_prefix-is}
 use Rattle.syn_model.proofs.TreeLemmas.{same_tree, get-subtree}
 use Rattle.syn_tree.specs.Pairs.{Pairs, rooted, before, within, behind, under}
 use Rattle.syn_tree.specs.Lists.{below_off, stripped}
@@ -166,9 +167,9 @@ all_below (([], c) ∷ es) h = absurd (true≢false (sym (ap is_lt h.0)))
 all_below ((n ∷ r, c) ∷ es) h = ap (λ xs. (n ∷ r, c) ∷ xs) (all_below es h.1)
 
 root_first : (es : Pairs) → Rising es → find path_cmp root es ≡ Some Directory → rooted (filter (λ e. not (is_root e.0)) es) ≡ es
-root_first [] h e = absurd (none_some e)
-root_first (([], c) ∷ es) h e = ap₂ (λ (d : Content) xs. (root, d) ∷ xs) (sym (some_same e)) (all_below es h.0)
-root_first ((n ∷ r, c) ∷ es) h e = absurd (none_some (sym (no_root n r es h.0) ∙ e))
+root_first [] h e = absurd (none-some _ e)
+root_first (([], c) ∷ es) h e = ap₂ (λ (d : Content) xs. (root, d) ∷ xs) (sym (same_Some _ _ e)) (all_below es h.0)
+root_first ((n ∷ r, c) ∷ es) h e = absurd (none-some _ (sym (no_root n r es h.0) ∙ e))
 
 -- the entries below a directory are those of its subtree
 pub stripped_entries : (t : Tree) (at : Path) (ds copies : Pairs) → entries t ≡ rooted ds → get t at ≡ Some Directory → copies ≡ stripped at ds → rooted copies ≡ entries (subtree t at)

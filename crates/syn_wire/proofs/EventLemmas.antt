@@ -1,6 +1,6 @@
 -- The spelling of an event tells it.
-use Rattle.std.proofs.Common.{◌≡◌, ◌≢◌, ◌<◌, ◌^◌, ℕ, true, ◌∷◌, ◌++◌, length, sym, ap, ◌∙◌, None, append_assoc, arith}
-use Rattle.std.specs.Int.{to_be_bytes, w32, w64}
+use Rattle.std.proofs.Common.{◌≡◌, ◌≢◌, ℕ, ◌∷◌, ◌++◌, length, sym, ap, ◌∙◌, None, append_assoc, arith}
+use Rattle.std.specs.Int.{to_be_bytes, w32}
 use Rattle.syn_model.specs.Path.{Bytes, Path, IsPath, path_spelling}
 use Rattle.syn_model.specs.Tree.{Tree}
 use Rattle.syn_model.specs.Event.{Token, Edited, Began, Replaced, Put, MakeDir, Remove, IsLawfulToken}

@@ -3,10 +3,11 @@ use Rattle.std.proofs.Common.{◌≡◌, ◌⊎◌, inl, inr, Bool, true, false,
 use Rattle.std.specs.Prelude.{option_map, option_and_then}
 use Rattle.std.specs.Ordering.{eq_by_cmp, ordering_then, ordering_reverse}
 use Rattle.std.specs.FinMap.{find, entries, get, get-entries}
+use Rattle.std.proofs.lemmas.Option.{none-some, same_Some}
 use Rattle.syn_model.specs.Path.{Name, Path, name_cmp, path_cmp, root, strip_prefix, is_prefix}
 use Rattle.syn_model.specs.Tree.{Tree, Content, Pair, Directory, HasParents, subtree}
 use Rattle.syn_model.specs.Limits.{only_name, children}
-use Rattle.syn_model.proofs.PathLemmas.{path_total, same_name, same_path, name_itself, path_itself, none_some, some_same}
+use Rattle.syn_model.proofs.PathLemmas.{path_total, same_name, same_path, name_itself, path_itself}
 use Rattle.syn_tree.specs.Pairs.{Pairs, is_within, within, under}
 use Rattle.syn_tree.proofs.OrderLemmas.{not_before, between}
 use Rattle.syn_tree.proofs.RisingLemmas.{Rising, After, NoneOf, each-map, filter-drops}
@@ -200,14 +201,14 @@ pub is_rooted : (t : Tree) (c : Content) → get t root ≡ Some c → IsRooted 
 is_rooted t c is = by_list (entries t) refl (rising-entries t)
   where
     by_list : (es : Pairs) → entries t ≡ es → Rising (entries t) → IsRooted t c
-    by_list [] e r = absurd (none_some (ap (find path_cmp root) (sym e) ∙ (sym (get-entries t root) ∙ is)))
+    by_list [] e r = absurd (none-some _ (ap (find path_cmp root) (sym e) ∙ (sym (get-entries t root) ∙ is)))
     by_list (([], d) ∷ es) e r =
-        let same : d ≡ c = some_same (sym (get-entries t root ∙ ap (find path_cmp root) e) ∙ is) in
+        let same : d ≡ c = same_Some _ _ (sym (get-entries t root ∙ ap (find path_cmp root) e) ∙ is) in
         record { below = es; whole = e ∙ ap (λ x. (root, x) ∷ es) same }
     by_list ((n ∷ q, d) ∷ es) e r =
         let later = subst Rising e r in
         let gone = find_after root es (after_more root (n ∷ q) es refl later.0) in
-        absurd (none_some (sym gone ∙ (ap (find path_cmp root) (sym e) ∙ (sym (get-entries t root) ∙ is))))
+        absurd (none-some _ (sym gone ∙ (ap (find path_cmp root) (sym e) ∙ (sym (get-entries t root) ∙ is))))
 
 -- a file has nothing below it
 pub file_alone : (t : Tree) (c : Content) → HasParents t → get t root ≡ Some c → (get t root ≡ Some Directory → ⊥) → entries t ≡ (root, c) ∷ []

@@ -6,11 +6,12 @@ use Rattle.std.specs.Ordering.{eq_by_cmp}
 use Rattle.std.specs.FinMap.{entries, entries_sorted, find, from_sorted, get, get-entries, len}
 use Rattle.std.proofs.lemmas.Bool.{and_parts}
 use Rattle.std.proofs.lemmas.Bool.Decides.{nat_tests}
+use Rattle.std.proofs.lemmas.Option.{none-some}
 use Rattle.syn_model.specs.Path.{Bytes, Path, path_cmp, root}
 use Rattle.syn_model.specs.Tree.{Tree, Content, Directory, File, IsTree, absent, contents_of, file}
 use Rattle.syn_model.specs.Limits.{fits_part, fits_path, fits_paths, fits_replica, greatest_spelling, tree_spelling_length}
 use Rattle.syn_model.specs.Spelling.{spelling, content_spelling}
-use Rattle.syn_model.proofs.PathLemmas.{same_path, none_some}
+use Rattle.syn_model.proofs.PathLemmas.{same_path}
 use Rattle.syn_model.proofs.SpellingLemmas.{spelling_unfolds}
 use Rattle.syn_tree.specs.Entries.{AreEntries}
 use Rattle.syn_tree.specs.Pairs.{Pairs, rooted, tree_with, AreRising, under}
@@ -72,7 +73,7 @@ module _ (fields below : Bytes) (above : Path) (count : ℕ) (found : BeginsWith
       subst (λ p. ReadsParts p count below old new left) is_root read (parts_in t) rest (sym same.0) (parts_stand root t (stands_at_root t h)) same.1
 
   pub no_parts_read : (old new : Pairs) → ReadsParts above count below old new None → (t : Tree) (rest : Bytes) → IsDirectoryTree t → 2 ∷ fields ≡ spelling t ++ rest → ⊥
-  no_parts_read old new none t rest h e = none_some (what_is_read old new None none t rest h e).0
+  no_parts_read old new none t rest h e = none-some _ (what_is_read old new None none t rest h e).0
 
   -- what was read is below the root of the tree
   pub all_entries : (old new : Pairs) (left : Bytes) → old ≡ [] → ReadsParts above count below old new (Some left) → (t : Tree) (rest : Bytes) → IsDirectoryTree t → 2 ∷ fields ≡ spelling t ++ rest → rooted new ≡ entries t

@@ -9,11 +9,11 @@ use Rattle.std.proofs.lemmas.Grind.{flat_map-append}
 use Rattle.std.proofs.lemmas.List.{length-map, map-append}
 use Rattle.std.proofs.lemmas.List.Elements.{All-head, All-tail}
 use Rattle.std.proofs.lemmas.List.Folds.{flat_map-map}
+use Rattle.std.proofs.lemmas.Option.{none-some, same_Some}
 use Rattle.syn_model.specs.Path.{Bytes, Name, Path, IsName, IsPath, root}
 use Rattle.syn_model.specs.Tree.{Tree, Content, Contents, Pair, Directory, File, IsPart, is_present, subtree}
 use Rattle.syn_model.specs.Limits.{children, fits_content, fits_part}
 use Rattle.syn_model.specs.Spelling.{spelling, content_spelling}
-use Rattle.syn_model.proofs.PathLemmas.{some_same, none_some}
 use Rattle.syn_model.proofs.TreeLemmas.{get-subtree}
 use Rattle.syn_model.proofs.HistoryLemmas.{no_file}
 use Rattle.syn_model.proofs.SubtreeLemmas.{subtree-fits, subtree-is_part}
@@ -108,7 +108,7 @@ file_at t fields rest part fits e = by_content (get t root) refl (e ∙ ap (λ b
         record {
           contents = c;
           here = is;
-          alone = file_alone t (File c) part.parents is (λ d. no_file c (some_same (sym d ∙ is)));
+          alone = file_alone t (File c) part.parents is (λ d. no_file c (same_Some _ _ (sym d ∙ is)));
           lawful = record { bytes = part.bytes root c is; brief = omega (arith, short) };
           short = short;
           spelled = ap rest_of (k ∙ ap (λ o. content_spelling spelling t o ++ rest) is);
@@ -295,10 +295,10 @@ module _ (at : Path) (wanted count : ℕ) (bytes left : Bytes) (old new : Pairs)
 
     -- there is a part at the next name
     pub no_part_left : (new' new'' : Pairs) → ReadsPart path after new new' None → ReadsParts at wanted bytes old new'' None
-    no_part_left new' new'' none parts rest long stand e = absurd (none_some (the_part new' None none parts rest (the_next parts rest long stand e)).0)
+    no_part_left new' new'' none parts rest long stand e = absurd (none-some _ (the_part new' None none parts rest (the_next parts rest long stand e)).0)
 
     pub part_more : (new' : Pairs) (left' : Bytes) → ReadsPart path after new new' (Some left') → ReadSoFar at wanted (count + 1) bytes left' old new'
     part_more new' left' read parts rest long stand e =
         let n = the_next parts rest long stand e in
         let one = the_part new' (Some left') read parts rest n in
-        part_read at parts rest count left left' old new new' n (some_same one.0) one.1
+        part_read at parts rest count left left' old new new' n (same_Some _ _ one.0) one.1

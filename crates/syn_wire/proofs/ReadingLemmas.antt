@@ -1,8 +1,8 @@
 -- What is read of a part, kind by kind.
-use Rattle.std.proofs.Common.{◌≡◌, ◌≢◌, ◌<◌, ◌^◌, ℕ, [], ◌∷◌, ◌++◌, length, sym, ap, ◌∙◌, subst, Option, Some, None, append_assoc, append-nil, arith}
+use Rattle.std.proofs.Common.{◌≡◌, ◌≢◌, ◌<◌, ◌^◌, ℕ, [], ◌∷◌, ◌++◌, length, sym, ap, ◌∙◌, subst, Option, Some, None, append_assoc, arith}
 use Rattle.std.specs.Int.{to_be_bytes, w16}
 use Rattle.syn_model.specs.Path.{Bytes, Path, root}
-use Rattle.syn_model.specs.Tree.{Content, Pair, Directory, File, contents_of}
+use Rattle.syn_model.specs.Tree.{Pair, Directory, File, contents_of}
 use Rattle.syn_tree.specs.Pairs.{Pairs, under}
 use Rattle.syn_wire.specs.Events.{IsFile, file_spelling}
 use Rattle.syn_wire.specs.Reads.{BeginsWith, IsReading}

@@ -7,11 +7,12 @@ use Rattle.std.specs.List.{AllByRecursion}
 use Rattle.std.specs.FinMap.{find, entries, get, len}
 use Rattle.std.proofs.lemmas.Grind.{flat_map-append}
 use Rattle.std.proofs.lemmas.List.Concat.{length-flat_map}
+use Rattle.std.proofs.lemmas.Option.{same_Some}
 use Rattle.syn_model.specs.Path.{Name, Path, name_cmp, root}
 use Rattle.syn_model.specs.Tree.{Tree, Content, Pair, Directory, File, HasParents, is_present, subtree}
 use Rattle.syn_model.specs.Limits.{children, last_name_spelling_length, content_spelling_length}
 use Rattle.syn_model.specs.Spelling.{spelling, content_spelling}
-use Rattle.syn_model.proofs.PathLemmas.{name_itself, some_same}
+use Rattle.syn_model.proofs.PathLemmas.{name_itself}
 use Rattle.syn_model.proofs.TreeLemmas.{get-subtree}
 use Rattle.syn_model.proofs.HistoryLemmas.{no_file}
 use Rattle.syn_model.proofs.QuietLemmas.{get-children}
@@ -95,7 +96,7 @@ one_level t h is below = by_content (get t root) refl
     by_content None e = absurd (true≢false (sym is ∙ ap is_some e))
     by_content (Some (File c)) e =
         spelling_unfolds t ∙ (ap (content_spelling spelling t) e
-        ∙ sym (ap (flat_map (pair_spelling t)) (file_alone t (File c) h e (λ k. no_file c (some_same (sym k ∙ e)))) ∙ append-nil (standing_spelling (length (children t root)) (File c))))
+        ∙ sym (ap (flat_map (pair_spelling t)) (file_alone t (File c) h e (λ k. no_file c (same_Some _ _ (sym k ∙ e)))) ∙ append-nil (standing_spelling (length (children t root)) (File c))))
     by_content (Some Directory) e =
         spelling_unfolds t ∙ (ap (content_spelling spelling t) e
         ∙ (ap (λ b. 2 ∷ to_be_bytes w16 (length (children t root)) ++ b)

@@ -11,8 +11,8 @@ use Rattle.syn_model.specs.Path.{Bytes, Name, Path, root}
 use Rattle.syn_model.specs.Tree.{Tree, Pair, Directory, IsTree}
 use Rattle.syn_model.specs.Limits.{children, fits_content, fits_part, fits_replica, fits_paths, tree_spelling_length, greatest_spelling}
 use Rattle.std.specs.FinMap.{len}
+use Rattle.std.proofs.lemmas.Option.{none-some, same_Some}
 use Rattle.syn_model.specs.Spelling.{spelling}
-use Rattle.syn_model.proofs.PathLemmas.{none_some, some_same}
 use Rattle.syn_tree.specs.Pairs.{Pairs, rooted}
 use Rattle.syn_wire.specs.Trees.{last_name_spelling, standing_spelling, pair_spelling}
 use Rattle.syn_wire.proofs.WalkLemmas.{spelling_walks}
@@ -70,12 +70,12 @@ whole_written t ds i count base first out h all ended counted begun written =
 
 last_at : (path : Path) (name : Name) (k : ℕ) → k + 1 ≡ length path → slice_get path k ≡ Some name → last_name_spelling path ≡ length name ∷ name
 last_at [] name k e is = absurd (omega (arith, e))
-last_at (n ∷ []) name zero e is = ap (λ x. length x ∷ x) (some_same is)
+last_at (n ∷ []) name zero e is = ap (λ x. length x ∷ x) (same_Some _ _ is)
 last_at (n ∷ []) name (suc k) e is = absurd (omega (arith, e))
 last_at (n ∷ m ∷ path) name zero e is = absurd (omega (arith, e))
 last_at (n ∷ m ∷ path) name (suc k) e is = last_at (m ∷ path) name k (omega (arith, e)) is
 
 -- a path that has a last name
 pub last_name : (path : Path) (name : Name) → slice_get path (length path - 1) ≡ Some name → last_name_spelling path ≡ length name ∷ name
-last_name [] name is = absurd (none_some is)
+last_name [] name is = absurd (none-some _ is)
 last_name (n ∷ path) name is = last_at (n ∷ path) name (length (n ∷ path) - 1) (omega arith) is

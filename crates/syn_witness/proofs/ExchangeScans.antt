@@ -1,14 +1,14 @@
 -- What the scans find where each side has a file that the other lacks, and the plan of their session.
-use Rattle.std.proofs.Common.{◌≡◌, ℕ, suc, [], ◌∷◌, ◌++◌, map, flat_map, refl, sym, ap, ap₂, ◌∙◌}
+use Rattle.std.proofs.Common.{◌≡◌, ℕ, suc, List, [], ◌∷◌, ◌++◌, map, flat_map, refl, sym, ap, ap₂, ◌∙◌}
 use Rattle.std.specs.Prelude.{true, false}
 use Rattle.std.specs.FinMap.{entries, empty, put, entries-insert, same_entries_map, insert}
-use Rattle.syn_model.specs.Path.{Name, root, child, name_cmp}
+use Rattle.syn_model.specs.Path.{Path, Name, root, child, name_cmp}
 use Rattle.syn_model.specs.Tree.{Content, empty_directory, subtree, is_directory}
 use Rattle.syn_model.specs.Event.{Edited, Began}
 use Rattle.syn_model.specs.History.{History, tree_of}
 use Rattle.syn_model.specs.Mark.{mark}
 use Rattle.syn_model.specs.Dirty.{Scan, is_same_tree}
-use Rattle.syn_model.specs.Decision.{Do, GoOn, ToLeft, ToRight, decision}
+use Rattle.syn_model.specs.Decision.{Item, Do, GoOn, ToLeft, ToRight, decision}
 use Rattle.syn_model.specs.Plan.{items_from, names_below, with_items_below}
 use Rattle.syn_model.specs.Plan.{plan as items_of}
 use Rattle.syn_model.specs.Rows.{a_name}
@@ -95,12 +95,18 @@ two_names =
     (ap₂ (λ xs ys. xs ++ ys) (children_by right_scan.marks (with_file 98 two_digest) right_marks-entries) (children_by empty_directory alone alone-entries)))
     ∙ two_names_of one_digest two_digest
 
-from_root : (levels : ℕ) → items_from (suc (suc levels)) left_scan right_scan empty_directory root ≡ ToRight a_path ∷ ToLeft b_path ∷ []
+abbrev names_at : Path → List Name
+names_at path = names_below left_scan right_scan empty_directory path
+
+abbrev items_at : ℕ → Path → List Item
+items_at levels path = items_from (decision left_scan right_scan empty_directory) names_at levels path
+
+from_root : (levels : ℕ) → items_at (suc (suc levels)) root ≡ ToRight a_path ∷ ToLeft b_path ∷ []
 from_root levels =
-    ap (λ o. with_items_below o (flat_map (λ name. items_from (suc levels) left_scan right_scan empty_directory (child root name)) (names_below left_scan right_scan empty_directory root))) goes_on_at_root
-    ∙ (ap (flat_map (λ name. items_from (suc levels) left_scan right_scan empty_directory (child root name))) two_names
-    ∙ ap₂ (λ o p. with_items_below o (flat_map (λ name. items_from levels left_scan right_scan empty_directory (child a_path name)) (names_below left_scan right_scan empty_directory a_path))
-    ++ (with_items_below p (flat_map (λ name. items_from levels left_scan right_scan empty_directory (child b_path name)) (names_below left_scan right_scan empty_directory b_path)) ++ []))
+    ap (λ o. with_items_below o (flat_map (λ name. items_at (suc levels) (child root name)) (names_at root))) goes_on_at_root
+    ∙ (ap (flat_map (λ name. items_at (suc levels) (child root name))) two_names
+    ∙ ap₂ (λ o p. with_items_below o (flat_map (λ name. items_at levels (child a_path name)) (names_at a_path))
+    ++ (with_items_below p (flat_map (λ name. items_at levels (child b_path name)) (names_at b_path)) ++ []))
     carries_first carries_second)
 
 pub plan_is : items_of left_scan right_scan empty_directory ≡ ToRight a_path ∷ ToLeft b_path ∷ []

@@ -13,11 +13,12 @@ use Rattle.syn_model.specs.History.{tree_of, IsAllowed}
 use Rattle.syn_model.specs.Archive.{Archive, Session, Recorded, new_archive}
 use Rattle.syn_model.specs.Decision.{ToLeft, ToRight}
 use Rattle.syn_model.proofs.TreeLemmas.{subtree-replace, subtree-replace_other}
-use Rattle.syn_headline.specs.Rows.{file_bytes}
-use Rattle.syn_headline.specs.Side.{fits_in, Side, Request, Begin, ListAt, Fetch, Stage, Replace, Begun, Listed, Piece, Staged, Done, answer, serve, token_of}
+use Rattle.syn_model.specs.Dirty.{Scan}
+use Rattle.syn_witness.specs.Rows.{file_bytes}
+use Rattle.syn_headline.specs.Side.{Side, Request, Begin, ListAt, Fetch, Stage, Replace, Begun, Listed, Piece, Staged, Done, answer, serve, token_of, fits_in}
 use Rattle.syn_headline.specs.Network.{Which, Left, Right, Asks, Answers, Sent, NumbersTell, AsksNothingTwice}
 use Rattle.syn_headline.specs.Acknowledged.{Ack, Happened, Kept_by}
-use Rattle.syn_headline.specs.Planning.{Planned}
+use Rattle.syn_headline.specs.Planning.{Planned, SessionPlan}
 use Rattle.syn_headline.specs.Arms.{unarmed}
 use Rattle.syn_headline.specs.World.{World, Running, Edits, Deliver, Steps, written}
 use Rattle.syn_witness.specs.Witness.{opened_world, a_path, b_path, put_one, put_two, one, two, complete}
@@ -98,9 +99,21 @@ second_planned = record { item = ToLeft b_path; left = record { marks = subtree 
 abbrev pub plan : List Planned
 plan = first_planned ∷ second_planned ∷ []
 
+-- what the sides listed
+abbrev pub scans : Which → Scan
+scans Left = left_scan
+scans Right = right_scan
+
+abbrev pub listed_at : Which → Path → ℕ
+listed_at side path = 2
+
+-- the session, as it is logged
+abbrev pub made : SessionPlan
+made = record { session = 1; preference = None; scan = scans; since = listed_at; archive = empty_directory; plan = plan }
+
 -- The worlds, one after each step
 abbrev pub world : Side → Side → Archive → Option Running → ℕ → ℕ → World
-world = world_of messages acks
+world = world_of messages acks (made ∷ []) 8
 
 abbrev pub both_begin : Running
 both_begin = runs_with 1 (waits 0 (Begin 7)) (waits 0 (Begin 7)) []

@@ -1,3 +1,4 @@
+pub mod RowLemmas
 pub mod WitnessTrees
 pub mod WitnessFiles
 pub mod WitnessMessages

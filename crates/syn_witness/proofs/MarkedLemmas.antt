@@ -1,6 +1,6 @@
 -- A coordinator that stops before it takes what was done, and the session that marks it.
 use Rattle.syn_headline.specs.Report.{IsSettled}
-use Rattle.std.proofs.Common.{◌≡◌, ℕ, false, List, [], ◌∷◌, ◌++◌, map, take, drop, refl, sym, subst, Option, Some, None, arith, inl, inr}
+use Rattle.std.proofs.Common.{◌≡◌, ◌≢◌, ℕ, false, List, [], ◌∷◌, ◌++◌, map, take, drop, refl, sym, subst, Option, Some, None, arith, inl, inr}
 use Rattle.std.specs.Prelude.{All}
 use Rattle.std.proofs.lemmas.List.{take-append-drop}
 use Rattle.std.proofs.lemmas.List.Elements.{All-nil, All-cons, All-append, All-from_recursion}
@@ -15,14 +15,14 @@ use Rattle.syn_model.specs.Archive.{Archive, Session, Recorded, CanKeep}
 use Rattle.syn_model.specs.Decision.{MarkSame}
 use Rattle.syn_model.specs.Dirty.{Scan}
 use Rattle.syn_model.proofs.TreeLemmas.{subtree-replace}
-use Rattle.syn_headline.specs.Rows.{file_bytes}
+use Rattle.syn_witness.specs.Rows.{file_bytes}
 use Rattle.syn_headline.specs.Side.{Side, Begin, ListAt, Begun, Listed, Reads, token_of}
 use Rattle.syn_headline.proofs.PlanLemmas.{begun-more}
 use Rattle.syn_headline.specs.Network.{Which, Left, Right, Asks, Answers, Sent, NumbersTell, AsksNothingTwice, WasAnswered}
 use Rattle.syn_headline.specs.Acknowledged.{Ack, Happened, Kept_by}
-use Rattle.syn_headline.specs.Planning.{Planned, IsPlanOf, IsScanOf, HasBegun, SeesBoth}
+use Rattle.syn_headline.specs.Planning.{Planned, IsPlanOf, IsScanOf, HasBegun, SeesBoth, SessionPlan}
+use Rattle.syn_headline.specs.World.{MakesPlan, World, Coordinator, Running, Down, Edits, Start, Deliver, Stop, Open, Steps, Runs, IsOfSession, IsDue, same, IsNext, StartsFrom, goes_on, ended, archive_opened, EndsTaken}
 use Rattle.syn_headline.specs.Arms.{unarmed}
-use Rattle.syn_headline.specs.World.{World, Coordinator, Running, Down, Edits, Start, Deliver, Stop, Open, Steps, Runs, IsOfSession, IsDue, same, IsNext, StartsFrom, goes_on, ended, archive_opened, EndsTaken}
 use Rattle.syn_headline.specs.Headline.{IsQuietSession, IsNoEdit, formatted, stores_of}
 use Rattle.syn_witness.specs.Witness.{keeps_all, opened_world, a_path, put_one, one, marked_later, found_later, IsMarkedLater, CarriedIsMarkedLater}
 use Rattle.syn_witness.proofs.WitnessTrees.{get_by, fits_archive_by}
@@ -31,7 +31,7 @@ use Rattle.syn_witness.proofs.WitnessMessages.{IsNumbered, number_of, numbers_te
 use Rattle.syn_witness.proofs.WitnessSteps.{meets_unarmed, none_refused, waits, runs_with, world_of, reads_nothing, serves, lists, goes, takes, both_sent, runs_on_from, up_not_down}
 use Rattle.syn_witness.proofs.WitnessLemmas.{letter_a}
 use Rattle.syn_witness.proofs.WitnessSession.{replaced, begun_archive, left_side, right_done, asked, numbered, root_lawful, none_there, run_to_done}
-use Rattle.syn_witness.proofs.WitnessSession.{messages as first_messages}
+use Rattle.syn_witness.proofs.WitnessSession.{messages as first_messages, made as first_made}
 use Rattle.syn_witness.proofs.MarkedScans.{left_history, right_history, left_scan, right_scan, left-entries, right-entries, left_marks-entries, right_marks-entries, left_root, right_root, left_part, right_part, plan_is}
 
 abbrev left_begun_side : Side
@@ -67,8 +67,20 @@ planned = record { item = MarkSame a_path; left = record { marks = mark one; sin
 abbrev plan : List Planned
 plan = planned ∷ []
 
+-- what the sides listed
+abbrev scans : Which → Scan
+scans Left = left_scan
+scans Right = right_scan
+
+abbrev listed_at : Which → Path → ℕ
+listed_at side path = 3
+
+-- the session, as it is logged
+abbrev made : SessionPlan
+made = record { session = 2; preference = None; scan = scans; since = listed_at; archive = empty_directory; plan = plan }
+
 abbrev world : Side → Side → Archive → Option Running → ℕ → ℕ → World
-world = world_of messages acks
+world = world_of messages acks (first_made ∷ []) 0
 
 abbrev stopped_world : World
 stopped_world = record replaced { coordinator = record { status = Down; archive = begun_archive; has_room = keeps_all; writing = None; running = None; arms = unarmed } }
@@ -113,7 +125,7 @@ abbrev right_list_awaited : World
 right_list_awaited = world left_begun_side right_begun_side next_archive (Some right_lists) 22 8
 
 abbrev marked : World
-marked = record (world left_begun_side right_begun_side marked_archive None 22 9) { reports = (marked_later, 9) ∷ [] }
+marked = record (world left_begun_side right_begun_side marked_archive None 22 9) { reports = (marked_later, 9) ∷ []; log = first_made ∷ made ∷ [] }
 
 -- both sessions number their requests alike
 all_numbered : All (IsNumbered number_of asked) messages
@@ -140,10 +152,10 @@ starts = inr (
     refl,
     started,
     (
-      goes opened_again (IsNext begun_archive) (StartsFrom begun_archive) next_archive (Some both_begin) (drop 14 (take 16 messages)) (Session 2 ∷ []) []
+      goes opened_again [] (IsNext begun_archive) (StartsFrom begun_archive) next_archive (Some both_begin) (drop 14 (take 16 messages)) (Session 2 ∷ []) []
           refl (All-cons (IsNext begun_archive) (Session 2) [] refl (All-nil (IsNext begun_archive))) (record { lawful = tt; not_refused = refl }, tt) refl
           (refl, refl, refl) (refl, both_sent (take 16 messages) both_begin ((14, omega arith, refl), tt) ((15, omega arith, refl), tt), (omega arith, omega arith, omega arith)) (tells 16) (once 16)
-          (All-from_recursion (IsOfSession (take 14 messages) both_begin) (drop 14 (take 16 messages)) ((refl, (omega arith, omega arith), tt), ((refl, (omega arith, omega arith), tt), tt))),
+          (All-from_recursion (IsOfSession 7 (take 14 messages) both_begin) (drop 14 (take 16 messages)) ((refl, (omega arith, omega arith), refl), ((refl, (omega arith, omega arith), refl), tt))),
       refl,
       inl (refl, refl),
       meets_unarmed _ _ _ refl,
@@ -169,13 +181,6 @@ lists_right : Steps left_listed (Deliver 19) both_listed
 lists_right = serves left_listed Right 2 1 (ListAt root) (Some one) right_begun_side (Listed 3 (children right_scan.marks root)) [] refl reads_one (lists right_begun_side root right_root) tt refl
 
 -- The plan is of what the sides listed
-abbrev scans : Which → Scan
-scans Left = left_scan
-scans Right = right_scan
-
-abbrev listed_at : Which → Path → ℕ
-listed_at side path = 3
-
 have_begun : (side : Which) → HasBegun (take 18 messages) side 2
 have_begun Left = record { pair = 7; position = 3; begun = record { number = 0; asked = (14, omega arith, refl); answered = (16, omega arith, refl) } }
 have_begun Right = record { pair = 7; position = 3; begun = record { number = 0; asked = (15, omega arith, refl); answered = (17, omega arith, refl) } }
@@ -183,6 +188,7 @@ have_begun Right = record { pair = 7; position = 3; begun = record { number = 0;
 both_scanned : (side : Which) → IsScanOf (take 22 messages) side 2 (scans side) (listed_at side)
 both_scanned Left = record {
   tree = marked_whole (tree_of left_history) 97 (49 ∷ []) letter_a left-entries;
+  fits = fits_archive_by left_scan.marks (with_file 97 (digest (49 ∷ []))) left_marks-entries;
   listed = λ path there stable. subst (λ at. WasAnswered (take 22 messages) Left 2 (ListAt at) (Listed 3 (children left_scan.marks at)))
       (sym (root_only left_scan.marks 97 (sha256 (49 ∷ [])) left_marks-entries path there)) (record { number = 1; asked = (18, omega arith, refl); answered = (20, omega arith, refl) });
   ordered = λ path name there. omega arith;
@@ -191,6 +197,7 @@ both_scanned Left = record {
 }
 both_scanned Right = record {
   tree = marked_whole (tree_of right_history) 97 (49 ∷ []) letter_a right-entries;
+  fits = fits_archive_by right_scan.marks (with_file 97 (digest (49 ∷ []))) right_marks-entries;
   listed = λ path there stable. subst (λ at. WasAnswered (take 22 messages) Right 2 (ListAt at) (Listed 3 (children right_scan.marks at)))
       (sym (root_only right_scan.marks 97 (sha256 (49 ∷ [])) right_marks-entries path there)) (record { number = 1; asked = (19, omega arith, refl); answered = (21, omega arith, refl) });
   ordered = λ path name there. omega arith;
@@ -202,32 +209,33 @@ sees : SeesBoth scans listed_at planned
 sees Left = (sym left_part, refl)
 sees Right = (sym right_part, refl)
 
-plans : IsPlanOf (take 22 messages) 2 empty_directory plan
+plans : IsPlanOf (take 22 messages) made
 plans = record {
-  scan = scans;
-  since = listed_at;
   begun = λ side. begun-more (take 18 messages) (drop 18 (take 22 messages)) side 2 (have_begun side);
   scanned = both_scanned;
   items = sym plan_is;
   seen = All-cons (SeesBoth scans listed_at) planned [] sees (All-nil (SeesBoth scans listed_at));
 }
 
+makes : MakesPlan (take 22 messages) next_archive (first_made ∷ []) 2 made
+makes = record { of_session = refl; once = All-cons (λ earlier. earlier.session ≢ 2) first_made [] (λ same. absurd (omega (arith, same))) (All-nil (λ earlier. earlier.session ≢ 2)); prefers_none = refl; archive_is = refl; is = plans }
+
 -- The steps of the coordinator
 takes_left_begun : Steps both_begun (Deliver 16) right_awaited
-takes_left_begun = takes 2 both_begun Left 0 (Begun 3) [] next_archive (Some right_begins) [] [] [] refl (refl, refl) (inl refl) (λ P. inl (refl, (inl refl, none_refused P))) (All-nil (IsDue both_begin [] Left 0 (Begun 3))) tt refl
+takes_left_begun = takes 2 both_begun Left 0 (Begun 3) [] [] next_archive (Some right_begins) [] [] [] refl (refl, refl) (inl (refl, refl)) (λ P. inl (refl, (inl refl, none_refused P))) (All-nil (IsDue both_begin [] Left 0 (Begun 3))) tt refl
     (goes_on right_begins refl refl) refl (refl, both_sent (take 18 messages) right_begins tt ((15, omega arith, refl), tt), (omega arith, omega arith, omega arith)) (tells 18) (once 18)
-    (All-nil (IsOfSession (take 18 messages) right_begins))
+    (All-nil (IsOfSession 7 (take 18 messages) right_begins))
 
 takes_right_begun : Steps right_awaited (Deliver 17) listing
-takes_right_begun = takes 2 right_awaited Right 0 (Begun 3) [] next_archive (Some both_list) (drop 18 (take 20 messages)) [] [] refl (refl, refl) (inl refl) (λ P. inl (refl, (inl refl, none_refused P))) (All-nil (IsDue right_begins [] Right 0 (Begun 3))) tt refl
+takes_right_begun = takes 2 right_awaited Right 0 (Begun 3) [] [] next_archive (Some both_list) (drop 18 (take 20 messages)) [] [] refl (refl, refl) (inl (refl, refl)) (λ P. inl (refl, (inl refl, none_refused P))) (All-nil (IsDue right_begins [] Right 0 (Begun 3))) tt refl
     (goes_on both_list refl refl) refl (refl, both_sent (take 20 messages) both_list ((18, omega arith, refl), tt) ((19, omega arith, refl), tt), (omega arith, omega arith, omega arith)) (tells 20) (once 20)
-    (All-from_recursion (IsOfSession (take 18 messages) both_list) (drop 18 (take 20 messages)) ((refl, (omega arith, root_lawful), have_begun Left), ((refl, (omega arith, root_lawful), have_begun Right), tt)))
+    (All-from_recursion (IsOfSession 7 (take 18 messages) both_list) (drop 18 (take 20 messages)) ((refl, (omega arith, root_lawful), have_begun Left), ((refl, (omega arith, root_lawful), have_begun Right), tt)))
 
 takes_left_listing : Steps both_listed (Deliver 20) right_list_awaited
-takes_left_listing = takes 2 both_listed Left 1 (Listed 3 (children left_scan.marks root)) [] next_archive (Some right_lists) [] [] [] refl (refl, refl) (inl refl) (λ P. inl (refl, (inl refl, none_refused P)))
+takes_left_listing = takes 2 both_listed Left 1 (Listed 3 (children left_scan.marks root)) [] [] next_archive (Some right_lists) [] [] [] refl (refl, refl) (inl (refl, refl)) (λ P. inl (refl, (inl refl, none_refused P)))
     (All-nil (IsDue both_list [] Left 1 (Listed 3 (children left_scan.marks root)))) tt refl
     (goes_on right_lists refl refl) refl (refl, both_sent (take 22 messages) right_lists tt ((19, omega arith, refl), tt), (omega arith, omega arith, omega arith)) (tells 22) (once 22)
-    (All-nil (IsOfSession (take 22 messages) right_lists))
+    (All-nil (IsOfSession 7 (take 22 messages) right_lists))
 
 can_record : CanKeep next_archive (Recorded a_path (mark one))
 can_record =
@@ -246,13 +254,13 @@ takes_right_listing_ends = record {
   cause = tt;
   incomplete = λ not_whole. cc;
   complete = λ _. (refl, refl);
-  made = λ _ nothing. cc;
+  made = λ _. (1, made, omega arith, refl, refl);
   settled = λ _. All-from_recursion (λ planned. IsSettled (Recorded a_path (mark one) ∷ []) (marked_later) planned.item) plan (inl refl, tt);
   conflicts = λ _. refl;
 }
 
 takes_right_listing : Steps right_list_awaited (Deliver 21) marked
-takes_right_listing = takes 2 right_list_awaited Right 1 (Listed 3 (children right_scan.marks root)) plan marked_archive None [] (Recorded a_path (mark one) ∷ []) ((marked_later, 9) ∷ []) refl (refl, refl) (inr (refl, plans)) (λ P. inr (right_lists, marked_later, refl, refl, up_not_down, refl, takes_right_listing_ends, record { done = refl; marked = refl }, none_refused P))
+takes_right_listing = takes 2 right_list_awaited Right 1 (Listed 3 (children right_scan.marks root)) plan (made ∷ []) marked_archive None [] (Recorded a_path (mark one) ∷ []) ((marked_later, 9) ∷ []) refl (refl, refl) (inr (made, makes, refl, refl)) (λ P. inr (right_lists, marked_later, refl, refl, up_not_down, refl, takes_right_listing_ends, record { done = refl; marked = refl }, none_refused P))
     (All-cons (IsDue right_lists plan Right 1 (Listed 3 (children right_scan.marks root))) (Recorded a_path (mark one)) [] right_listing_due (All-nil (IsDue right_lists plan Right 1 (Listed 3 (children right_scan.marks root)))))
     (can_record, tt) refl ended tt tt (tells 22) (once 22) refl
 

@@ -1,13 +1,13 @@
 -- What the scans find where both sides have the file and the archive lacks it, and the plan of that session.
-use Rattle.std.proofs.Common.{◌≡◌, ℕ, suc, true, false, [], ◌∷◌, ◌++◌, map, flat_map, refl, sym, ap, ap₂, ◌∙◌}
+use Rattle.std.proofs.Common.{◌≡◌, ℕ, suc, true, false, List, [], ◌∷◌, ◌++◌, map, flat_map, refl, sym, ap, ap₂, ◌∙◌}
 use Rattle.std.specs.FinMap.{entries, empty, put, insert, entries-insert, same_entries_map}
-use Rattle.syn_model.specs.Path.{root, child, name_cmp}
+use Rattle.syn_model.specs.Path.{Path, Name, root, child, name_cmp}
 use Rattle.syn_model.specs.Tree.{Tree, Content, empty_directory, subtree, is_directory}
 use Rattle.syn_model.specs.Event.{Edited, Began, Replaced}
 use Rattle.syn_model.specs.History.{History, tree_of}
 use Rattle.syn_model.specs.Mark.{mark}
 use Rattle.syn_model.specs.Dirty.{Scan, is_same_tree}
-use Rattle.syn_model.specs.Decision.{Do, GoOn, MarkSame, decision}
+use Rattle.syn_model.specs.Decision.{Item, Do, GoOn, MarkSame, decision}
 use Rattle.syn_model.specs.Plan.{items_from, names_below, with_items_below}
 use Rattle.syn_model.specs.Plan.{plan as items_of}
 use Rattle.syn_model.specs.Rows.{a_name}
@@ -94,11 +94,17 @@ one_name =
     (ap₂ (λ xs ys. xs ++ ys) (children_by right_scan.marks (with_file 97 one_digest) right_marks-entries) (children_by empty_directory alone alone-entries)))
     ∙ name_once one_digest one_digest
 
-from_root : (levels : ℕ) → items_from (suc (suc levels)) left_scan right_scan empty_directory root ≡ MarkSame a_path ∷ []
+abbrev names_at : Path → List Name
+names_at path = names_below left_scan right_scan empty_directory path
+
+abbrev items_at : ℕ → Path → List Item
+items_at levels path = items_from (decision left_scan right_scan empty_directory) names_at levels path
+
+from_root : (levels : ℕ) → items_at (suc (suc levels)) root ≡ MarkSame a_path ∷ []
 from_root levels =
-    ap (λ o. with_items_below o (flat_map (λ name. items_from (suc levels) left_scan right_scan empty_directory (child root name)) (names_below left_scan right_scan empty_directory root))) goes_on_at_root
-    ∙ (ap (flat_map (λ name. items_from (suc levels) left_scan right_scan empty_directory (child root name))) one_name
-    ∙ ap (λ o. with_items_below o (flat_map (λ name. items_from levels left_scan right_scan empty_directory (child a_path name)) (names_below left_scan right_scan empty_directory a_path)) ++ []) marks_same)
+    ap (λ o. with_items_below o (flat_map (λ name. items_at (suc levels) (child root name)) (names_at root))) goes_on_at_root
+    ∙ (ap (flat_map (λ name. items_at (suc levels) (child root name))) one_name
+    ∙ ap (λ o. with_items_below o (flat_map (λ name. items_at levels (child a_path name)) (names_at a_path)) ++ []) marks_same)
 
 pub plan_is : items_of left_scan right_scan empty_directory ≡ MarkSame a_path ∷ []
 plan_is = from_root 15

@@ -9,7 +9,8 @@ use Rattle.syn_model.specs.Archive.{Kept}
 use Rattle.syn_headline.specs.Side.{Request, Reply}
 use Rattle.syn_headline.specs.Network.{Which, Left, Right, Message, Asks, Answers}
 use Rattle.syn_headline.specs.Arms.{Arms, IsBefore, Meets, all_made, one_fails, one_stops}
-use Rattle.syn_headline.specs.World.{Status, Up, Halted, Down, Machine, At, Coordinator, World, SideMachine, CoordinatorMachine, Running, side_of, set_side, Step, Edits, Start, Deliver, Tick, Checkpoint, Fail, Stop, Open, Reopen, Writes, written, failed, cut, SideGoes, Compacts, compacted, compacting_failed, compacting_cut, Opens, opened, recovered, OpensArchive, archive_opened, archive_recovered, TakesRequest, answered, request_failed, request_cut, side_down, CoordinatorGoes, TakesAnswer, taken, ignored, coordinator_down, Delivers, OpensMachine, refuses_with, is_halted, status_of, arms_of, set_device, answered_by, UnlessDown, edit_causes, start_causes, Starts, Reopens, Calls, Steps, Runs}
+use Rattle.syn_headline.specs.Planning.{Log}
+use Rattle.syn_headline.specs.World.{Status, Up, Halted, Down, Machine, At, Coordinator, World, SideMachine, CoordinatorMachine, Running, side_of, set_side, Step, Edits, Start, Deliver, Tick, Checkpoint, Fail, Stop, Open, Reopen, Writes, written, failed, cut, SideGoes, Opens, opened, recovered, OpensArchive, archive_opened, archive_recovered, TakesRequest, answered, request_failed, request_cut, side_down, CoordinatorGoes, TakesAnswer, taken, ignored, coordinator_down, Delivers, OpensMachine, refuses_with, is_halted, status_of, arms_of, set_device, answered_by, UnlessDown, edit_causes, start_causes, Starts, Reopens, Calls, Steps, Runs, Compacts, compacted, compacting_failed, compacting_cut}
 use Rattle.syn_headline.specs.Acknowledged.{Happened}
 use Rattle.syn_headline.specs.Headline.{IsStart}
 use Rattle.syn_witness.specs.Forbidden.{StaysWithoutStop, ArmedCallsCome}
@@ -27,9 +28,6 @@ none_left stop calls e = omega (arith, e)
 
 up_not_down : Up ≢ Down
 up_not_down e = cc
-
-down_not_up : Down ≢ Up
-down_not_up e = cc
 
 halted_not_down : Halted ≢ Down
 halted_not_down e = cc
@@ -66,11 +64,11 @@ module _ (old : World) (h : AllSafe old) (new : World) where
   request_safe which session number request (request_cut event would meets e) = absurd ((meets_safe _ _ _ _ _ (h (At which)).1 meets).0 refl)
   request_safe which session number request (side_down d e) = same_safe e
 
-  goes_safe : (D : Kept → Type 0) (R : Option Running → Type 0) → CoordinatorGoes old D R new → IsSafe new.coordinator.status new.coordinator.arms → AllSafe new
-  goes_safe D R g s = subst AllSafe (sym g.result) (coordinator_safe old h g.machine (subst (λ w. IsSafe w.coordinator.status w.coordinator.arms) g.result s))
+  goes_safe : (logged : Log) (D : Kept → Type 0) (R : Option Running → Type 0) → CoordinatorGoes old logged D R new → IsSafe new.coordinator.status new.coordinator.arms → AllSafe new
+  goes_safe logged D R g s = subst AllSafe (sym g.result) (coordinator_safe old h g.machine (subst (λ w. IsSafe w.coordinator.status w.coordinator.arms) g.result s))
 
   answer_safe : (from : Which) (session number : ℕ) (reply : Reply) → TakesAnswer old from session number reply new → AllSafe new
-  answer_safe from session number reply (taken plan expected made g calls reports) = goes_safe _ _ g (by_status old.coordinator.status refl)
+  answer_safe from session number reply (taken plan logged expected made g calls reports) = goes_safe logged _ _ g (by_status old.coordinator.status refl)
     where
       by_status : (status : Status) → old.coordinator.status ≡ status → IsSafe new.coordinator.status new.coordinator.arms
       by_status Up e = let c = calls e in meets_safe _ _ _ _ _ (h Coordinator).1 c.1
@@ -144,10 +142,10 @@ module _ (old : World) (h : AllSafe old) (new : World) where
   step_safe (Edits side user edit) none g =
       calls_safe (At side) (edit_causes (side_of old side) (Edited user edit)) (λ made. IsLawfulEvent (Edited user edit) × SideGoes old side (Writes (side_of old side) (Edited user edit)) [] made)
       (λ made m. side_goes_safe old h made side (Writes (side_of old side) (Edited user edit)) (writes_safe old h made side (Edited user edit)) m.1) g
-  step_safe Start none g = calls_safe Coordinator (start_causes old.coordinator) (Starts old) (λ made s. goes_safe old h made _ _ s.0 (meets_safe _ _ _ _ _ (h Coordinator).1 s.3)) g
+  step_safe Start none g = calls_safe Coordinator (start_causes old.coordinator) (Starts old) (λ made s. goes_safe old h made [] _ _ s.0 (meets_safe _ _ _ _ _ (h Coordinator).1 s.3)) g
   step_safe (Deliver message) none g = delivers_safe old h new (slice_get old.sent message) g
   step_safe Tick none (inl g) = same_safe old h new g.1
-  step_safe Tick none (inr g) = goes_safe old h new _ _ g.1.goes (λ down. (h Coordinator).0 (sym g.1.no_call.0 ∙ down), ap (λ a. a.stop) g.1.no_call.1 ∙ (h Coordinator).1)
+  step_safe Tick none (inr g) = goes_safe old h new [] _ _ g.1.goes (λ down. (h Coordinator).0 (sym g.1.no_call.0 ∙ down), ap (λ a. a.stop) g.1.no_call.1 ∙ (h Coordinator).1)
   step_safe (Checkpoint (At which)) none (full, g) = calls_safe (At which) ((full, why.Full) ∷ []) (SideGoes old which (Compacts old.pair (side_of old which)) [])
       (λ made r. side_goes_safe old h made which (Compacts old.pair (side_of old which)) (compacts_safe old h made which) r) g
   step_safe (Checkpoint Coordinator) none (full, g) = calls_safe Coordinator ((full, why.Full) ∷ []) (Reopens old Coordinator 6) (λ made r. reopens_safe old h made Coordinator 6 r) g
@@ -183,7 +181,7 @@ stay_without_stop old new steps s g none machine = (run_safe steps old new (star
 passed : (arms : Arms) (status : Status) (after : Arms) → Meets arms 4 0 status after → status ≡ Up → IsBefore 4 arms.fail × IsBefore 4 arms.stop
 passed arms _ _ (all_made fail stop) e = (fail, stop)
 passed arms _ _ (one_fails made from up_to fail stop) e = absurd (omega (arith, from, up_to))
-passed arms _ _ (one_stops made from up_to fail stop) e = absurd (down_not_up e)
+passed arms _ _ (one_stops made from up_to fail stop) e = absurd (cc)
 
 answered_acknowledged : (machine : Machine) (made : World) → (answered_by machine made).acknowledged ≡ made.acknowledged
 answered_acknowledged machine made = told (is_halted (status_of made machine))

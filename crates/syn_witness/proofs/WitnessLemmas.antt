@@ -26,7 +26,7 @@ opened_is_start = record {
   left = (refl, refl, refl, refl, refl);
   right = (refl, refl, refl, refl, refl);
   coordinator = (refl, refl, refl, refl);
-  nothing_yet = (refl, refl, refl);
+  nothing_yet = (refl, refl, refl, refl);
 }
 
 pub new_room_is : NewRoomIs
@@ -110,10 +110,10 @@ waiting resent = record opened_world {
   acknowledged = Kept_by (Session 1) ∷ [];
 }
 
-begins_lawful : (running : Running) (sent : Sent) → running.session ≡ 1 → All (IsOfSession sent running) (Asks Left 1 0 (Begin 7) ∷ Asks Right 1 0 (Begin 7) ∷ [])
+begins_lawful : (running : Running) (sent : Sent) → running.session ≡ 1 → All (IsOfSession 7 sent running) (Asks Left 1 0 (Begin 7) ∷ Asks Right 1 0 (Begin 7) ∷ [])
 begins_lawful running sent e =
-    let one : IsOfSession sent running (Asks Left 1 0 (Begin 7)) = (sym e, (omega arith, omega arith), tt) in
-    All-cons (IsOfSession sent running) (Asks Left 1 0 (Begin 7)) (Asks Right 1 0 (Begin 7) ∷ []) one (All-cons (IsOfSession sent running) (Asks Right 1 0 (Begin 7)) [] one (All-nil (IsOfSession sent running)))
+    let one : IsOfSession 7 sent running (Asks Left 1 0 (Begin 7)) = (sym e, (omega arith, omega arith), refl) in
+    All-cons (IsOfSession 7 sent running) (Asks Left 1 0 (Begin 7)) (Asks Right 1 0 (Begin 7) ∷ []) one (All-cons (IsOfSession 7 sent running) (Asks Right 1 0 (Begin 7)) [] one (All-nil (IsOfSession 7 sent running)))
 
 starts : Steps opened_world Start (waiting 0)
 unfolding begins
@@ -123,7 +123,7 @@ starts = inr (
     refl,
     waiting 0,
     (
-      goes opened_world (IsNext new_archive) (StartsFrom new_archive) (record { marks = empty_directory; last_session = 1 }) (Some (waiting_for 0)) (begins 1) (Session 1 ∷ []) []
+      goes opened_world [] (IsNext new_archive) (StartsFrom new_archive) (record { marks = empty_directory; last_session = 1 }) (Some (waiting_for 0)) (begins 1) (Session 1 ∷ []) []
           refl (All-cons (IsNext new_archive) (Session 1) [] refl (All-nil (IsNext new_archive))) (record { lawful = tt; not_refused = refl }, tt) refl
           (refl, refl, refl) (refl, begin_waits 0, (omega arith, omega arith, omega arith)) (begins_tell 1) (begins_once 1) (begins_lawful (waiting_for 0) [] refl),
       refl,
@@ -142,7 +142,7 @@ unfolding begins
 resends resent early = inr (
   some_runs (waiting_for resent),
   record {
-    goes = goes (waiting resent) IsNothing (GoesOnAs (waiting_for resent) []) (record { marks = empty_directory; last_session = 1 }) (Some (waiting_for (suc resent)))
+    goes = goes (waiting resent) [] IsNothing (GoesOnAs (waiting_for resent) []) (record { marks = empty_directory; last_session = 1 }) (Some (waiting_for (suc resent)))
         (Asks Left 1 0 (Begin 7) ∷ Asks Right 1 0 (Begin 7) ∷ []) [] []
         refl (All-nil IsNothing) tt refl
         (goes_on (waiting_for (suc resent)) refl refl) (refl, begin_waits (suc resent), (omega arith, omega arith, omega arith)) (begins_tell (suc (suc resent))) (begins_once (suc (suc resent)))
@@ -166,7 +166,7 @@ gives_up resent late =
     (inr (
       some_runs (waiting_for resent),
       record {
-        goes = goes (waiting resent) IsNothing (GoesOnAs (waiting_for resent) []) (record { marks = empty_directory; last_session = 1 }) None [] [] ((unanswered, 1) ∷ [])
+        goes = goes (waiting resent) [] IsNothing (GoesOnAs (waiting_for resent) []) (record { marks = empty_directory; last_session = 1 }) None [] [] ((unanswered, 1) ∷ [])
             refl (All-nil IsNothing) tt refl ended tt (subst NumbersTell (sym same) (begins_tell (suc resent))) (subst AsksNothingTwice (sym same) (begins_once (suc resent))) refl;
         reports = inr (waiting_for resent, unanswered, refl, refl, up_not_down, refl, (refl, refl, inl (ap (λ b. b || (b || false)) late, refl)), record { done = refl; marked = refl }, none_refused IsNoItem);
         no_call = (refl, refl);

@@ -1,13 +1,13 @@
 -- What the scans of the witness session find, and its plan.
 use Rattle.std.proofs.Common.{◌≡◌, ℕ, suc, true, false, List, [], ◌∷◌, ◌++◌, map, flat_map, length, refl, sym, ap, ap₂, ◌∙◌, arith}
 use Rattle.std.specs.FinMap.{entries, empty, from_entries, keys, put, entries-insert, len-entries, len-empty, same_entries_map}
-use Rattle.syn_model.specs.Path.{Bytes, Name, root, child, name_cmp}
+use Rattle.syn_model.specs.Path.{Bytes, Path, Name, root, child, name_cmp}
 use Rattle.syn_model.specs.Tree.{Content, empty_directory, subtree, is_directory}
 use Rattle.syn_model.specs.Event.{Edited, Began}
 use Rattle.syn_model.specs.History.{History, tree_of}
 use Rattle.syn_model.specs.Mark.{mark}
 use Rattle.syn_model.specs.Dirty.{Scan, is_same_tree}
-use Rattle.syn_model.specs.Decision.{Do, GoOn, ToRight, decision}
+use Rattle.syn_model.specs.Decision.{Item, Do, GoOn, ToRight, decision}
 use Rattle.syn_model.specs.Plan.{items_from, names_below, with_items_below}
 use Rattle.syn_model.specs.Plan.{plan as items_of}
 use Rattle.syn_model.specs.Rows.{a_name}
@@ -102,11 +102,17 @@ one_name =
     (ap₂ (λ xs ys. xs ++ ys) (children_by right_scan.marks alone right_marks-entries) (children_by empty_directory alone alone-entries)))
     ∙ one_name_of one_digest
 
-from_root : (levels : ℕ) → items_from (suc (suc levels)) left_scan right_scan empty_directory root ≡ ToRight a_path ∷ []
+abbrev names_at : Path → List Name
+names_at path = names_below left_scan right_scan empty_directory path
+
+abbrev items_at : ℕ → Path → List Item
+items_at levels path = items_from (decision left_scan right_scan empty_directory) names_at levels path
+
+from_root : (levels : ℕ) → items_at (suc (suc levels)) root ≡ ToRight a_path ∷ []
 from_root levels =
-    ap (λ o. with_items_below o (flat_map (λ name. items_from (suc levels) left_scan right_scan empty_directory (child root name)) (names_below left_scan right_scan empty_directory root))) goes_on_at_root
-    ∙ (ap (flat_map (λ name. items_from (suc levels) left_scan right_scan empty_directory (child root name))) one_name
-    ∙ ap (λ o. with_items_below o (flat_map (λ name. items_from levels left_scan right_scan empty_directory (child a_path name)) (names_below left_scan right_scan empty_directory a_path)) ++ []) carries_to_right)
+    ap (λ o. with_items_below o (flat_map (λ name. items_at (suc levels) (child root name)) (names_at root))) goes_on_at_root
+    ∙ (ap (flat_map (λ name. items_at (suc levels) (child root name))) one_name
+    ∙ ap (λ o. with_items_below o (flat_map (λ name. items_at levels (child a_path name)) (names_at a_path)) ++ []) carries_to_right)
 
 pub plan_is : items_of left_scan right_scan empty_directory ≡ ToRight a_path ∷ []
 plan_is = from_root 15

@@ -1,7 +1,7 @@
 -- A whole session over one file, step by step.
 use Rattle.syn_headline.proofs.PlanLemmas.{begun-more}
 use Rattle.syn_headline.specs.Report.{IsSettled}
-use Rattle.std.proofs.Common.{◌≡◌, map, ℕ, ◌<◌, zero, suc, List, [], ◌∷◌, ◌++◌, take, drop, length, refl, sym, ap, ◌∙◌, subst, Option, Some, None, arith, inl, inr}
+use Rattle.std.proofs.Common.{◌≡◌, ◌≢◌, map, ℕ, ◌<◌, zero, suc, List, [], ◌∷◌, ◌++◌, take, drop, length, refl, sym, ap, ◌∙◌, subst, Option, Some, None, arith, inl, inr}
 use Rattle.std.specs.Prelude.{All, Contains}
 use Rattle.std.proofs.lemmas.List.{take-append-drop}
 use Rattle.std.proofs.lemmas.List.Elements.{All-nil, All-cons, All-from_recursion}
@@ -17,13 +17,13 @@ use Rattle.syn_model.specs.Archive.{Archive, Session, Recorded, CanKeep, new_arc
 use Rattle.syn_model.specs.Decision.{ToRight}
 use Rattle.syn_model.specs.Dirty.{Scan}
 use Rattle.syn_model.proofs.TreeLemmas.{subtree-replace}
-use Rattle.syn_headline.specs.Rows.{file_bytes}
+use Rattle.syn_witness.specs.Rows.{file_bytes}
 use Rattle.syn_headline.specs.Side.{fits_in, Side, Request, Begin, ListAt, Fetch, Stage, Replace, Begun, Listed, Piece, Staged, Done, answer, serve, token_of}
 use Rattle.syn_headline.specs.Network.{Which, Left, Right, Asks, Answers, Sent, NumbersTell, AsksNothingTwice, WasAnswered}
 use Rattle.syn_headline.specs.Acknowledged.{Ack, Happened, Kept_by}
-use Rattle.syn_headline.specs.Planning.{Planned, IsPlanOf, IsScanOf, HasBegun, SeesBoth}
+use Rattle.syn_headline.specs.Planning.{Planned, IsPlanOf, IsScanOf, HasBegun, SeesBoth, SessionPlan}
+use Rattle.syn_headline.specs.World.{MakesPlan, World, Running, Edits, Start, Deliver, Steps, written, IsOfSession, IsDue, done, IsNext, StartsFrom, goes_on, ended, Runs, EndsTaken}
 use Rattle.syn_headline.specs.Arms.{unarmed}
-use Rattle.syn_headline.specs.World.{World, Running, Edits, Start, Deliver, Steps, written, IsOfSession, IsDue, done, IsNext, StartsFrom, goes_on, ended, Runs, EndsTaken}
 use Rattle.syn_witness.specs.Witness.{opened_world, a_path, put_one, one, complete, FileIsCarried}
 use Rattle.syn_headline.specs.Headline.{IsQuietSession, IsNoEdit, formatted, stores_of}
 use Rattle.syn_witness.proofs.WitnessTrees.{get_by, fits_by, fits_archive_by}
@@ -74,8 +74,21 @@ begun_archive = record { marks = empty_directory; last_session = 1 }
 abbrev recorded_archive : Archive
 recorded_archive = record { marks = replace empty_directory a_path (mark one); last_session = 1 }
 
+-- what the sides listed
+abbrev pub scans : Which → Scan
+scans Left = left_scan
+scans Right = right_scan
+
+abbrev pub listed_at : Which → Path → ℕ
+listed_at Left path = 2
+listed_at Right path = 1
+
+-- the session, as it is logged
+abbrev pub made : SessionPlan
+made = record { session = 1; preference = None; scan = scans; since = listed_at; archive = empty_directory; plan = plan }
+
 abbrev world : Side → Side → Archive → Option Running → ℕ → ℕ → World
-world = world_of messages acks
+world = world_of messages acks (made ∷ []) 8
 
 abbrev edited_side : Side
 edited_side = record { history = Edited 1 put_one ∷ []; staging = None }
@@ -209,14 +222,6 @@ replaces : Steps replacing (Deliver 12) replaced
 replaces = serves replacing Right 1 3 (Replace 0 a_path 1 6) (Some one) right_done Done (Replaced (token_of 1 0) a_path 1 one ∷ []) refl (file_is_part (49 ∷ []) (one_byte 49 (omega arith)), file_fits_part 49, file_fits_paths 49, file_spelling (49 ∷ [])) done_is tt refl
 
 -- The plan is of what the sides listed
-abbrev scans : Which → Scan
-scans Left = left_scan
-scans Right = right_scan
-
-abbrev listed_at : Which → Path → ℕ
-listed_at Left path = 2
-listed_at Right path = 1
-
 have_begun : (side : Which) → HasBegun (take 4 messages) side 1
 have_begun Left = record { pair = 7; position = 2; begun = record { number = 0; asked = (0, omega arith, refl); answered = (2, omega arith, refl) } }
 have_begun Right = record { pair = 7; position = 1; begun = record { number = 0; asked = (1, omega arith, refl); answered = (3, omega arith, refl) } }
@@ -227,6 +232,7 @@ none_there path (k, less, e) = omega (arith, less)
 left_scanned : IsScanOf (take 8 messages) Left 1 left_scan (listed_at Left)
 left_scanned = record {
   tree = marked_whole (tree_of left_history) 97 (49 ∷ []) letter_a left-entries;
+  fits = fits_archive_by left_scan.marks (with_file 97 (digest (49 ∷ []))) left_marks-entries;
   listed = λ path there stable. subst (λ at. WasAnswered (take 8 messages) Left 1 (ListAt at) (Listed 2 (children left_scan.marks at))) (sym (root_only left_scan.marks 97 (sha256 (49 ∷ [])) left_marks-entries path there))
       (record { number = 1; asked = (4, omega arith, refl); answered = (6, omega arith, refl) });
   ordered = λ path name there. omega arith;
@@ -237,6 +243,7 @@ left_scanned = record {
 right_scanned : IsScanOf (take 8 messages) Right 1 right_scan (listed_at Right)
 right_scanned = record {
   tree = alone_whole right_scan.marks right_marks-entries;
+  fits = fits_archive_by right_scan.marks alone right_marks-entries;
   listed = λ path there stable. subst (λ at. WasAnswered (take 8 messages) Right 1 (ListAt at) (Listed 1 (children right_scan.marks at))) (sym (root_alone right_scan.marks right_marks-entries path there))
       (record { number = 1; asked = (5, omega arith, refl); answered = (7, omega arith, refl) });
   ordered = λ path name there. omega arith;
@@ -252,15 +259,16 @@ sees : SeesBoth scans listed_at planned
 sees Left = (sym left_part, refl)
 sees Right = (refl, refl)
 
-plans : IsPlanOf (take 8 messages) 1 empty_directory plan
+plans : IsPlanOf (take 8 messages) made
 plans = record {
-  scan = scans;
-  since = listed_at;
   begun = λ side. begun-more (take 4 messages) (drop 4 (take 8 messages)) side 1 (have_begun side);
   scanned = both_scanned;
   items = sym plan_is;
   seen = All-cons (SeesBoth scans listed_at) planned [] sees (All-nil (SeesBoth scans listed_at));
 }
+
+makes : MakesPlan (take 8 messages) begun_archive [] 1 made
+makes = record { of_session = refl; once = All-nil (λ earlier. earlier.session ≢ 1); prefers_none = refl; archive_is = refl; is = plans }
 
 -- The steps of the coordinator
 starts : Steps edited_world Start started
@@ -270,10 +278,10 @@ starts = inr (
     refl,
     started,
     (
-      goes edited_world (IsNext new_archive) (StartsFrom new_archive) begun_archive (Some both_begin) (take 2 messages) (Session 1 ∷ []) []
+      goes edited_world [] (IsNext new_archive) (StartsFrom new_archive) begun_archive (Some both_begin) (take 2 messages) (Session 1 ∷ []) []
           refl (All-cons (IsNext new_archive) (Session 1) [] refl (All-nil (IsNext new_archive))) (record { lawful = tt; not_refused = refl }, tt) refl
           (refl, refl, refl) (refl, both_sent (take 2 messages) both_begin ((0, omega arith, refl), tt) ((1, omega arith, refl), tt), (omega arith, omega arith, omega arith)) (tells 2) (once 2)
-          (All-from_recursion (IsOfSession [] both_begin) (take 2 messages) ((refl, (omega arith, omega arith), tt), ((refl, (omega arith, omega arith), tt), tt))),
+          (All-from_recursion (IsOfSession 7 [] both_begin) (take 2 messages) ((refl, (omega arith, omega arith), refl), ((refl, (omega arith, omega arith), refl), tt))),
       refl,
       inl (refl, refl),
       meets_unarmed _ _ _ refl,
@@ -283,39 +291,39 @@ starts = inr (
 )
 
 takes_left_begun : Steps both_begun (Deliver 2) right_awaited
-takes_left_begun = takes 1 both_begun Left 0 (Begun 2) [] begun_archive (Some right_begins) [] [] [] refl (refl, refl) (inl refl) (λ P. inl (refl, (inl refl, none_refused P))) (All-nil (IsDue both_begin [] Left 0 (Begun 2))) tt refl
+takes_left_begun = takes 1 both_begun Left 0 (Begun 2) [] [] begun_archive (Some right_begins) [] [] [] refl (refl, refl) (inl (refl, refl)) (λ P. inl (refl, (inl refl, none_refused P))) (All-nil (IsDue both_begin [] Left 0 (Begun 2))) tt refl
     (goes_on right_begins refl refl) refl (refl, both_sent (take 4 messages) right_begins tt ((1, omega arith, refl), tt), (omega arith, omega arith, omega arith)) (tells 4) (once 4)
-    (All-nil (IsOfSession (take 4 messages) right_begins))
+    (All-nil (IsOfSession 7 (take 4 messages) right_begins))
 
 pub root_lawful : IsPath root
 root_lawful = record { names = All-nil IsName; not_deep = omega arith; not_long = omega arith }
 
 takes_right_begun : Steps right_awaited (Deliver 3) listing
-takes_right_begun = takes 1 right_awaited Right 0 (Begun 1) [] begun_archive (Some both_list) (drop 4 (take 6 messages)) [] [] refl (refl, refl) (inl refl) (λ P. inl (refl, (inl refl, none_refused P))) (All-nil (IsDue right_begins [] Right 0 (Begun 1))) tt refl
+takes_right_begun = takes 1 right_awaited Right 0 (Begun 1) [] [] begun_archive (Some both_list) (drop 4 (take 6 messages)) [] [] refl (refl, refl) (inl (refl, refl)) (λ P. inl (refl, (inl refl, none_refused P))) (All-nil (IsDue right_begins [] Right 0 (Begun 1))) tt refl
     (goes_on both_list refl refl) refl (refl, both_sent (take 6 messages) both_list ((4, omega arith, refl), tt) ((5, omega arith, refl), tt), (omega arith, omega arith, omega arith)) (tells 6) (once 6)
-    (All-from_recursion (IsOfSession (take 4 messages) both_list) (drop 4 (take 6 messages)) ((refl, (omega arith, root_lawful), have_begun Left), ((refl, (omega arith, root_lawful), have_begun Right), tt)))
+    (All-from_recursion (IsOfSession 7 (take 4 messages) both_list) (drop 4 (take 6 messages)) ((refl, (omega arith, root_lawful), have_begun Left), ((refl, (omega arith, root_lawful), have_begun Right), tt)))
 
 takes_left_listing : Steps both_listed (Deliver 6) right_list_awaited
-takes_left_listing = takes 1 both_listed Left 1 (Listed 2 (children left_scan.marks root)) [] begun_archive (Some right_lists) [] [] [] refl (refl, refl) (inl refl) (λ P. inl (refl, (inl refl, none_refused P)))
+takes_left_listing = takes 1 both_listed Left 1 (Listed 2 (children left_scan.marks root)) [] [] begun_archive (Some right_lists) [] [] [] refl (refl, refl) (inl (refl, refl)) (λ P. inl (refl, (inl refl, none_refused P)))
     (All-nil (IsDue both_list [] Left 1 (Listed 2 (children left_scan.marks root)))) tt refl
     (goes_on right_lists refl refl) refl (refl, both_sent (take 8 messages) right_lists tt ((5, omega arith, refl), tt), (omega arith, omega arith, omega arith)) (tells 8) (once 8)
-    (All-nil (IsOfSession (take 8 messages) right_lists))
+    (All-nil (IsOfSession 7 (take 8 messages) right_lists))
 
 takes_right_listing : Steps right_list_awaited (Deliver 7) fetching
-takes_right_listing = takes 1 right_list_awaited Right 1 (Listed 1 (children right_scan.marks root)) plan begun_archive (Some left_fetches) (drop 8 (take 9 messages)) [] [] refl (refl, refl) (inr (refl, plans)) (λ P. inl (refl, (inl refl, none_refused P)))
+takes_right_listing = takes 1 right_list_awaited Right 1 (Listed 1 (children right_scan.marks root)) plan (made ∷ []) begun_archive (Some left_fetches) (drop 8 (take 9 messages)) [] [] refl (refl, refl) (inr (made, makes, refl, refl)) (λ P. inl (refl, (inl refl, none_refused P)))
     (All-nil (IsDue right_lists plan Right 1 (Listed 1 (children right_scan.marks root)))) tt refl
     (goes_on left_fetches refl refl) refl (refl, both_sent (take 9 messages) left_fetches ((8, omega arith, refl), tt) tt, (omega arith, omega arith, omega arith)) (tells 9) (once 9)
-    (All-from_recursion (IsOfSession (take 8 messages) left_fetches) (drop 8 (take 9 messages))
+    (All-from_recursion (IsOfSession 7 (take 8 messages) left_fetches) (drop 8 (take 9 messages))
     ((refl, (omega arith, (path_of_letter 97 letter_a, omega arith, omega arith)), (0, planned, refl, refl, refl)), tt))
 
 bytes_lawful : AreBytes file_bytes
 bytes_lawful = All-from_recursion (λ byte. byte < 256) file_bytes (omega arith, (omega arith, (omega arith, (omega arith, (omega arith, (omega arith, tt))))))
 
 takes_piece : Steps fetched (Deliver 9) staging
-takes_piece = takes 1 fetched Left 2 (Piece 6 file_bytes) plan begun_archive (Some right_stages) (drop 10 (take 11 messages)) [] [] refl (refl, refl) (inl refl) (λ P. inl (refl, (inl refl, none_refused P)))
+takes_piece = takes 1 fetched Left 2 (Piece 6 file_bytes) plan [] begun_archive (Some right_stages) (drop 10 (take 11 messages)) [] [] refl (refl, refl) (inl (refl, refl)) (λ P. inl (refl, (inl refl, none_refused P)))
     (All-nil (IsDue left_fetches plan Left 2 (Piece 6 file_bytes))) tt refl
     (goes_on right_stages refl refl) refl (refl, both_sent (take 11 messages) right_stages tt ((10, omega arith, refl), tt), (omega arith, omega arith, omega arith)) (tells 11) (once 11)
-    (All-from_recursion (IsOfSession (take 10 messages) right_stages) (drop 10 (take 11 messages)) (
+    (All-from_recursion (IsOfSession 7 (take 10 messages) right_stages) (drop 10 (take 11 messages)) (
       (
         refl,
         (omega arith, (omega arith, omega arith, (omega arith, omega arith, bytes_lawful))),
@@ -325,10 +333,10 @@ takes_piece = takes 1 fetched Left 2 (Piece 6 file_bytes) plan begun_archive (So
     ))
 
 takes_staged : Steps staged (Deliver 11) replacing
-takes_staged = takes 1 staged Right 2 Staged plan begun_archive (Some right_replaces) (drop 12 (take 13 messages)) [] [] refl (refl, refl) (inl refl) (λ P. inl (refl, (inl refl, none_refused P)))
+takes_staged = takes 1 staged Right 2 Staged plan [] begun_archive (Some right_replaces) (drop 12 (take 13 messages)) [] [] refl (refl, refl) (inl (refl, refl)) (λ P. inl (refl, (inl refl, none_refused P)))
     (All-nil (IsDue right_stages plan Right 2 Staged)) tt refl
     (goes_on right_replaces refl refl) refl (refl, both_sent (take 13 messages) right_replaces tt ((12, omega arith, refl), tt), (omega arith, omega arith, omega arith)) (tells 13) (once 13)
-    (All-from_recursion (IsOfSession (take 12 messages) right_replaces) (drop 12 (take 13 messages)) (
+    (All-from_recursion (IsOfSession 7 (take 12 messages) right_replaces) (drop 12 (take 13 messages)) (
       (
         refl,
         (omega arith, (omega arith, path_of_letter 97 letter_a, omega arith, omega arith)),
@@ -351,13 +359,13 @@ takes_done_ends = record {
   cause = tt;
   incomplete = λ not_whole. cc;
   complete = λ _. (refl, refl);
-  made = λ _ nothing. cc;
+  made = λ _. (0, made, omega arith, refl, refl);
   settled = λ _. All-from_recursion (λ planned. IsSettled (Recorded a_path (mark one) ∷ []) (complete 1) planned.item) plan (inl refl, tt);
   conflicts = λ _. refl;
 }
 
 takes_done : Steps replaced (Deliver 13) carried
-takes_done = takes 1 replaced Right 3 Done plan recorded_archive None [] (Recorded a_path (mark one) ∷ []) ((complete 1, 6) ∷ []) refl (refl, refl) (inl refl) (λ P. inr (right_replaces, complete 1, refl, refl, up_not_down, refl, takes_done_ends, record { done = refl; marked = refl }, none_refused P))
+takes_done = takes 1 replaced Right 3 Done plan [] recorded_archive None [] (Recorded a_path (mark one) ∷ []) ((complete 1, 6) ∷ []) refl (refl, refl) (inl (refl, refl)) (λ P. inr (right_replaces, complete 1, refl, refl, up_not_down, refl, takes_done_ends, record { done = refl; marked = refl }, none_refused P))
     (All-cons (IsDue right_replaces plan Right 3 Done) (Recorded a_path (mark one)) [] (done 0 a_path 1 6 planned refl refl refl refl) (All-nil (IsDue right_replaces plan Right 3 Done)))
     (can_record, tt) refl ended tt tt (tells 14) (once 14) refl
 

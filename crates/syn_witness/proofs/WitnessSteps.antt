@@ -1,5 +1,5 @@
 -- A step of a witness run where no device fails and no machine stops.
-use Rattle.std.proofs.Common.{not, inr, ◌≡◌, ◌≢◌, ℕ, ◌+◌, ◌-◌, ◌*◌, true, false, true≢false, List, [], ◌∷◌, ◌++◌, map, take, length, if◌then◌else◌, refl, sym, ap, ◌∙◌, subst, Option, Some, None, arith, inl}
+use Rattle.std.proofs.Common.{not, inr, ◌-◌, ◌≡◌, ◌≢◌, ℕ, true, true≢false, List, [], ◌∷◌, ◌++◌, map, take, length, if◌then◌else◌, refl, sym, ap, ◌∙◌, subst, Option, Some, None, arith, inl, ◌+◌, ◌*◌, false}
 use Rattle.std.specs.Prelude.{All, Contains}
 use Rattle.std.specs.List.{AllByRecursion}
 use Rattle.std.specs.FinMap.{get, len}
@@ -18,7 +18,7 @@ use Rattle.syn_model.proofs.HistoryLemmas.{append-none}
 use Rattle.syn_headline.specs.Side.{fits_in, room_causes, Side, Request, Reply, Begun, Listed, NotDir, Piece, Staged, Done, Refused, Reads, answer, serve, list_at, staged_bytes}
 use Rattle.syn_headline.specs.Network.{Which, Left, Right, Message, Asks, Answers, Sent, NumbersTell, AsksNothingTwice}
 use Rattle.syn_headline.specs.Acknowledged.{Ack, Happened, Kept_by}
-use Rattle.syn_headline.specs.Planning.{Planned}
+use Rattle.syn_headline.specs.Planning.{Planned, Log}
 use Rattle.syn_headline.specs.Report.{Report}
 use Rattle.syn_headline.specs.Arms.{Arms, unarmed, Meets, all_made}
 use Rattle.syn_headline.specs.World.{answered_by, At, SideMachine, Writes, Edits, Steps, is_halted, edit_causes, World, Outstanding, Status, Up, Halted, Down, Running, TakesRequest, answered, ServesAs, CoordinatorGoes, AllCanKeep, RunsOver, WasSent, AllOfSession, side_of, set_side, TakesAnswer, taken, IsExpected, HasPlan, IsDueAfter, GoesOnFrom, IsOver, Reports, AddsRefused, RefusesTaken, EndsTaken, Step, Runs}
@@ -105,12 +105,13 @@ pub lists : (side : Side) (path : Path) → is_directory (tree_of side.history) 
     answer side (Listed (length side.history) (children (mark (tree_of side.history)) path)) ≡ list_at side path
 lists side path h = sym (ap (λ b. answer side (if b then Listed (length side.history) (children (mark (tree_of side.history)) path) else NotDir (length side.history))) h)
 
-abbrev pub after_call : World → Archive → Option Running → List Message → List Kept → List (Report × ℕ) → World
-after_call old archive running messages kept reports = record old {
+abbrev pub after_call : World → Log → Archive → Option Running → List Message → List Kept → List (Report × ℕ) → World
+after_call old logged archive running messages kept reports = record old {
   coordinator = record { status = Up; archive = archive; has_room = keeps_all; writing = None; running = running; arms = unarmed };
   sent = old.sent ++ messages;
   acknowledged = old.acknowledged ++ map Kept_by kept;
   reports = old.reports ++ reports;
+  log = old.log ++ logged;
 }
 
 -- an edit that is allowed on a side that is up and has room for it
@@ -125,11 +126,11 @@ edits old which user edit machine events made new up room allowed writes is says
     inr (λ e. up_not_down (sym up ∙ e), inr (ap (λ status. first_cause ((is_halted status, Halted_before) ∷ edit_causes here event)) up ∙ none, made, (allowed.lawful, (machine, events, writes, is)), says))
 
 -- a call of the coordinator, up before and after
-abbrev pub goes : (old : World) (IsDue_now : Kept → Type 0) (RunsOn : Option Running → Type 0) (archive : Archive) (running : Option Running) (messages : List Message) (kept : List Kept) (reports : List (Report × ℕ)) →
+abbrev pub goes : (old : World) (logged : Log) (IsDue_now : Kept → Type 0) (RunsOn : Option Running → Type 0) (archive : Archive) (running : Option Running) (messages : List Message) (kept : List Kept) (reports : List (Report × ℕ)) →
     IsReady old.coordinator.status old.coordinator.arms → All IsDue_now kept → AllCanKeep old.coordinator.archive kept → archive ≡ archive_of old.coordinator.archive kept →
-    RunsOn running → RunsOver (old.sent ++ messages) archive running → NumbersTell (old.sent ++ messages) → AsksNothingTwice (old.sent ++ messages) → AllOfSession old.sent running messages →
-    CoordinatorGoes old IsDue_now RunsOn (after_call old archive running messages kept reports)
-goes old IsDue_now RunsOn archive running messages kept reports ready due can is on over tell once of = record {
+    RunsOn running → RunsOver (old.sent ++ messages) archive running → NumbersTell (old.sent ++ messages) → AsksNothingTwice (old.sent ++ messages) → AllOfSession old.pair old.sent running messages →
+    CoordinatorGoes old logged IsDue_now RunsOn (after_call old logged archive running messages kept reports)
+goes old logged IsDue_now RunsOn archive running messages kept reports ready due can is on over tell once of = record {
   machine = record { status = Up; archive = archive; has_room = keeps_all; writing = None; running = running; arms = unarmed };
   kept = kept;
   messages = messages;
@@ -165,9 +166,9 @@ runs_with session left right plan = record { session = session; refused = []; le
 abbrev pub room_of : History → ℕ
 room_of history = room_after new_room history
 
--- a world without failures, where so many of the messages have been sent and so much of the rest acknowledged
-abbrev pub world_of : Sent → List Ack → Side → Side → Archive → Option Running → ℕ → ℕ → World
-world_of messages acks left right archive running said acknowledged = record {
+-- a world without failures, where so many of the messages have been sent, so much of the rest acknowledged, and a plan logged after so many messages
+abbrev pub world_of : Sent → List Ack → Log → ℕ → Side → Side → Archive → Option Running → ℕ → ℕ → World
+world_of messages acks log made_at left right archive running said acknowledged = record {
   pair = 7;
   left = record { status = Up; side = left; room = room_of left.history; compacting = false; writing = None; arms = unarmed };
   right = record { status = Up; side = right; room = room_of right.history; compacting = false; writing = None; arms = unarmed };
@@ -176,21 +177,22 @@ world_of messages acks left right archive running said acknowledged = record {
   acknowledged = take acknowledged acks;
   refusals = [];
   reports = [];
+  log = take (said - made_at) log;
 }
 
 -- the coordinator takes an answer that it waits for
-pub takes : (session : ℕ) (old : World) (from : Which) (number : ℕ) (reply : Reply) (plan : List Planned) (archive : Archive) (next : Option Running) (messages : List Message) (kept : List Kept) (reports : List (Report × ℕ)) →
-    IsReady old.coordinator.status old.coordinator.arms → IsExpected old.coordinator.running from session number → HasPlan old.sent old.coordinator.archive old.coordinator.running plan →
-    ((IsRefused_now : Refusal × Path → Type 0) → Reports old (after_call old archive next messages kept reports) plan IsRefused_now (EndsTaken old (after_call old archive next messages kept reports) from number plan reply)) →
+pub takes : (session : ℕ) (old : World) (from : Which) (number : ℕ) (reply : Reply) (plan : List Planned) (logged : Log) (archive : Archive) (next : Option Running) (messages : List Message) (kept : List Kept) (reports : List (Report × ℕ)) →
+    IsReady old.coordinator.status old.coordinator.arms → IsExpected old.coordinator.running from session number → HasPlan old.sent old.coordinator.archive old.log old.coordinator.running plan logged →
+    ((IsRefused_now : Refusal × Path → Type 0) → Reports old (after_call old logged archive next messages kept reports) plan IsRefused_now (EndsTaken old (after_call old logged archive next messages kept reports) from number plan reply)) →
     All (IsDueAfter old.coordinator.running plan from number reply) kept → AllCanKeep old.coordinator.archive kept → archive ≡ archive_of old.coordinator.archive kept →
     GoesOnFrom old.coordinator.running plan next → IsOver from number next → RunsOver (old.sent ++ messages) archive next →
-    NumbersTell (old.sent ++ messages) → AsksNothingTwice (old.sent ++ messages) → AllOfSession old.sent next messages →
-    TakesAnswer old from session number reply (after_call old archive next messages kept reports)
-takes session old from number reply plan archive next messages kept reports ready expected has ends due can is on over runs tell twice of =
-    taken plan expected has (goes old (IsDueAfter old.coordinator.running plan from number reply) (λ running. GoesOnFrom old.coordinator.running plan running × IsOver from number running)
+    NumbersTell (old.sent ++ messages) → AsksNothingTwice (old.sent ++ messages) → AllOfSession old.pair old.sent next messages →
+    TakesAnswer old from session number reply (after_call old logged archive next messages kept reports)
+takes session old from number reply plan logged archive next messages kept reports ready expected has ends due can is on over runs tell twice of =
+    taken plan logged expected has (goes old logged (IsDueAfter old.coordinator.running plan from number reply) (λ running. GoesOnFrom old.coordinator.running plan running × IsOver from number running)
     archive next messages kept reports ready due can is (on, over) runs tell twice of)
     (λ _. (false, subst (Meets old.coordinator.arms (4 * length kept + 0) 6 Up) (is_unarmed _ _ ready) (meets_unarmed _ _ _ (is_unarmed _ _ ready))))
-    (ends (RefusesTaken old (after_call old archive next messages kept reports) from number plan reply))
+    (ends (RefusesTaken old (after_call old logged archive next messages kept reports) from number plan reply))
 
 -- nothing is refused
 pub none_refused : (IsRefused_now : Refusal × Path → Type 0) → AddsRefused IsRefused_now [] []

@@ -15,7 +15,7 @@ use Rattle.syn_headline.specs.Arms.{unarmed}
 use Rattle.syn_headline.specs.World.{World, At, Step, Edits, Start, Deliver, Stop, Coordinator, Tick, Open, Fail, Checkpoint, Reopen, Up, SideMachine, Runs}
 use Rattle.syn_headline.specs.Headline.{IsStart, formatted, stores_of, IsQuietSession, UntouchedSince}
 use Rattle.syn_headline.specs.Side.{token_of, record_size, room_behind}
-use Rattle.syn_headline.specs.Rows.{new_side}
+use Rattle.syn_witness.specs.Rows.{new_side}
 
 -- what the image of no events leaves of a half of the disk
 abbrev pub new_room : ℕ
@@ -42,6 +42,7 @@ opened_world = record {
   acknowledged = [];
   refusals = [];
   reports = [];
+  log = [];
 }
 
 abbrev pub OpenedIsStart : Type 0

@@ -1,8 +1,14 @@
 //! Runs of the world that the definitions allow, step by step: what no run meets proves nothing. And what they do not allow.
 #![tactic(auto)]
 
+ghost use Rattle.syn_witness.specs.Rows.{SideRows};
 ghost use Rattle.syn_witness.specs.Forbidden.{StaysWithoutStop, ArmedCallsCome};
 ghost use Rattle.syn_witness.specs.Witness.{OpenedIsStart, NewRoomIs, StopIsRecovered, FailIsRefused, CheckpointIsCut, SilenceEnds, FileIsCarried, FilesAreExchanged, CarriedIsMarkedLater};
+
+/// What a side answers in worked examples, which its definition gives.
+pub fn examples()
+    ensures sides { SideRows }
+{}
 
 /// Runs from three formatted disks, step by step, that the definitions of a run allow: a stop while an edit is written and its
 /// recovery, an edit whose device call fails and what a reopening gives, a checkpoint that is cut

@@ -1,13 +1,9 @@
 use Rattle.syn_headline.proofs.SideLemmas.{serves_allowed}
 use Rattle.syn_headline.proofs.RepeatLemmas.{repeats_are_done, later_are_old}
 use Rattle.syn_headline.proofs.side_laws.Goals as goal
-use Rattle.syn_headline.proofs.RowLemmas.{side_rows}
 
 pub returns-clause-serves : goal.returns-clause-serves
 returns-clause-serves c = serves_allowed
-
-pub returns-clause-rows : goal.returns-clause-rows
-returns-clause-rows c = side_rows
 
 pub returns-clause-repeats : goal.returns-clause-repeats
 returns-clause-repeats c = repeats_are_done

@@ -1,8 +1,8 @@
 use Rattle.std.proofs.Common.{map}
 use Rattle.syn.proofs.WrongLemmas.{wrong_found}
-use Rattle.std.proofs.lemmas.Result.{IfOk-weaker}
+use Rattle.std.proofs.lemmas.Result.{IfOk-weaker, IfErr-weaker}
 use Rattle.clap.specs.Words.{found_of, rows_of}
-use Rattle.syn.proofs.LineLemmas.{fault_among, no_fault, nothing_read, reads_found, subcommand_is, value_is, IfUsage-weaker}
+use Rattle.syn.proofs.LineLemmas.{fault_among, no_fault, nothing_read, reads_found, subcommand_is, value_is, IfUsage-weaker, IfValue-weaker}
 use Rattle.syn.proofs.words.read_words.Goals as goal
 
 pub returns-in-Err-clause-usage : goal.returns-in-Err-clause-usage
@@ -28,4 +28,5 @@ returns-in-Some-clause-value c =
 pub returns-in-Some-clause-wrong : goal.returns-in-Some-clause-wrong
 returns-in-Some-clause-wrong c =
     let asked = subcommand_is c.in-Ok.matches _ (map (λ word. word.now) c.args.words.now) c.in-Some.name.now (rows_of (found_of c.in-Some.found.now)) c.in_ok-command.ensures c.in-Ok.ensures.matches c.in-Some.ensures.name c.in-Some.ensures.rows in
-    value_is c.line_of.result _ _ c.line_of.ensures.nothing (λ nothing. wrong_found (map (λ word. word.now) c.args.words.now) _ _ (no_fault _ _ c.in_ok-command.ensures c.in-Ok.ensures.kinds) asked nothing)
+    let taken = no_fault _ _ c.in_ok-command.ensures c.in-Ok.ensures.kinds in
+    IfErr-weaker c.line_of.result _ _ (λ error lacks. IfValue-weaker error _ _ (λ value lacks. wrong_found (map (λ word. word.now) c.args.words.now) _ _ value taken asked lacks) lacks) c.line_of.ensures.lacks

@@ -1,8 +1,9 @@
+use Rattle.std.proofs.lemmas.Option.{none-some}
 use Rattle.std.proofs.Common.{sym, ap, ◌∙◌, subst, option_map}
 use Rattle.syn_model.specs.Event.{Edited, after_edit}
 use Rattle.syn_tree.specs.Edits.{edit_of}
 use Rattle.syn_replica.specs.Opening.{IsEditOf}
-use Rattle.syn_replica.proofs.CauseLemmas.{none_some, short_in}
+use Rattle.syn_replica.proofs.CauseLemmas.{short_in}
 use Rattle.syn_replica.proofs.OpeningLemmas.{edit_allowed, edit_is_read, read_not_refused}
 use Rattle.syn_replica.proofs.opening.add_edit.Goals as goal
 
@@ -31,4 +32,4 @@ returns-in-Err-clause-damaged c payloads history event holds edit e damaged allo
     let read = subst (λ o. IsEditOf c.args.payload.now (option_map edit_of o)) c.in-Some.is c.in_ok-edit.ensures in
     let spelled = short_in laws.put trees.there trees.fits trees.fits_paths history event allowed in
     let none = read_not_refused c.spelling_laws.ensures.event c.args.payload.now c.args.tree.now history payloads holds event edit spelled e allowed read.0 (edit_of c.in-Some.edit) read.1 read.2 in
-    none_some (sym none ∙ c.in-Err.ensures.refused (c.damage.ensures.damaged damaged))
+    none-some _ (sym none ∙ c.in-Err.ensures.refused (c.damage.ensures.damaged damaged))

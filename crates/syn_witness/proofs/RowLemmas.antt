@@ -1,6 +1,6 @@
 -- The worked examples of a side hold.
 use Rattle.std.proofs.Common.{refl}
-use Rattle.syn_headline.specs.Rows.{SideRows}
+use Rattle.syn_witness.specs.Rows.{SideRows}
 
 pub side_rows : SideRows
 side_rows = record {
