@@ -14,7 +14,6 @@ pub mod StepLemmas
 pub mod TokenLemmas
 pub mod RunLemmas
 pub mod AdvanceLemmas
-pub mod StopLemmas
 pub mod WholeRuns
 pub mod ArchiveLemmas
 pub mod RepeatLemmas

@@ -15,7 +15,7 @@ use Rattle.syn_headline.specs.Network.{Which, Left, Right, other, Sent, Message,
 use Rattle.syn_headline.specs.Planning.{Planned, Log}
 use Rattle.syn_headline.specs.Acknowledged.{Ack, Happened, Kept_by, history_of, IsLegal}
 use Rattle.syn_headline.specs.Arms.{Arms, unarmed}
-use Rattle.syn_headline.specs.World.{Status, Up, Halted, Down, Machine, At, Coordinator, World, SideMachine, CoordinatorMachine, Running, asked_of, outstanding, side_of, set_side, stopped, Writes, written, failed, cut, Opens, opened, recovered, OpensArchive, archive_opened, archive_recovered, refuses_with, is_halted, WouldAdd, TakesRequest, answered, request_failed, request_cut, side_down, IsDueAfter, IsOver, IsExpected, HasPlan, GoesOnAs, ended, goes_on, GoesOnFrom, plan_of, StartsFrom, RunsOver, IsNext, IsNothing, CoordinatorGoes, TakesAnswer, taken, ignored, coordinator_down, Delivers, OpensMachine, cut_off, Compacts, compacted, compacting_failed, compacting_cut, room_after}
+use Rattle.syn_headline.specs.World.{Status, Up, Halted, Down, Machine, At, Coordinator, World, SideMachine, CoordinatorMachine, Running, asked_of, outstanding, side_of, set_side, stopped, Writes, written, failed, cut, Opens, opened, recovered, OpensArchive, archive_opened, archive_recovered, refuses_with, is_halted, WouldAdd, TakesRequest, answered, request_failed, request_cut, side_down, IsDueAfter, IsOver, IsExpected, HasPlan, GoesOnAs, ended, goes_on, GoesOnFrom, plan_of, StartsFrom, RunsOver, IsNext, IsNothing, CoordinatorGoes, TakesAnswer, taken, ignored, coordinator_down, Delivers, OpensMachine, cut_off, Compacts, compacted, compacting_failed, compacting_cut}
 use Rattle.syn_headline.specs.Headline.{stores_of}
 use Rattle.syn_headline.proofs.Invariant.{Plans, plan_in, Histories, histories_of, IsSound, IsFresh, IsHarmless, IsSoundStaging, IsSoundEvent, IsSoundSide, IsSoundCoordinator, IsKept}
 use Rattle.syn_headline.proofs.LogLemmas.{no_plan}
@@ -24,6 +24,7 @@ use Rattle.syn_headline.proofs.OutcomeLemmas.{any_outcome, outcome, unless_up_sa
 use Rattle.syn_headline.proofs.MoveLemmas.{on_both, Moves, refused_borne, outcome_moves, outcome_true, outcome_borne, outcome_staging, legal, refused_true}
 use Rattle.syn_headline.proofs.HarmlessLemmas.{due_harmless}
 use Rattle.syn_headline.proofs.StepLemmas.{if_some, asked_was_sent, Says, nothing, reply, SideStep, step_moves, side_keeps, coordinator_keeps, next_fresh, sides-later, sides-plan}
+use Rattle.syn_headline.proofs.WorldLemmas.{room_after}
 
 -- each acknowledged replacement of a step is the first of its events, and legal
 abbrev pub IsLegalStep : World → List Ack → Type 0

@@ -1,5 +1,5 @@
 -- What is acknowledged is what the machines stand for.
-use Rattle.std.proofs.Common.{◌≡◌, ℕ, zero, suc, Bool, true, false, if◌then◌else◌, List, [], ◌∷◌, ◌++◌, map, filter_map, refl, sym, ap, ap₂, ◌∙◌, subst, Option, Some, None, inl, inr, append-nil, append_assoc, slice_get}
+use Rattle.std.proofs.Common.{fold, ◌-◌, ◌≡◌, ℕ, zero, suc, Bool, true, false, if◌then◌else◌, List, [], ◌∷◌, ◌++◌, map, filter_map, refl, sym, ap, ap₂, ◌∙◌, subst, Option, Some, None, inl, inr, append-nil, append_assoc, slice_get}
 use Rattle.std.proofs.lemmas.List.Elements.{filter_map-append}
 use Rattle.syn_model.specs.Event.{Event, Edited, IsLawfulEvent}
 use Rattle.syn_model.specs.History.{History}
@@ -7,13 +7,17 @@ use Rattle.syn_model.specs.Archive.{Archive, Kept, after_kept, archive_of}
 use Rattle.syn_headline.specs.Network.{Which, Left, Right, Message, Asks, Answers}
 use Rattle.syn_headline.specs.Acknowledged.{Ack, Happened, Kept_by, event_at, kept_in, Stores}
 use Rattle.syn_headline.specs.Report.{Report}
-use Rattle.syn_headline.specs.Side.{Request, Reply, Refused}
+use Rattle.syn_headline.specs.Side.{Request, Reply, Refused, record_size}
 use Rattle.syn_model.specs.Refusal.{Refusal, Device, Cause}
 use Rattle.syn_model.specs.Refusal as why
 use Rattle.syn_headline.specs.Planning.{Log}
-use Rattle.syn_headline.specs.World.{Running, World, SideMachine, CoordinatorMachine, Machine, At, Coordinator, Step, Edits, Start, Deliver, Tick, Checkpoint, Fail, Stop, Open, Reopen, side_of, set_side, stopped, Writes, SideGoes, Opens, OpensArchive, TakesRequest, TakesAnswer, CoordinatorGoes, Delivers, OpensMachine, cut_off, set_device, answered_by, is_halted, status_of, UnlessDown, Status, Halted, Steps, written, failed, cut, opened, recovered, archive_opened, archive_recovered, refuses_with, edit_causes, start_causes, Starts, Reopens, Calls, answered, request_failed, request_cut, side_down, taken, ignored, coordinator_down, Compacts, compacted, compacting_failed, compacting_cut, room_after}
+use Rattle.syn_headline.specs.World.{Running, World, SideMachine, CoordinatorMachine, Machine, At, Coordinator, Step, Edits, Start, Deliver, Tick, Checkpoint, Fail, Stop, Open, Reopen, side_of, set_side, stopped, Writes, SideGoes, Opens, OpensArchive, TakesRequest, TakesAnswer, CoordinatorGoes, Delivers, OpensMachine, cut_off, set_device, answered_by, is_halted, status_of, UnlessDown, Status, Halted, Steps, written, failed, cut, opened, recovered, archive_opened, archive_recovered, refuses_with, edit_causes, start_causes, Starts, Reopens, Calls, answered, request_failed, request_cut, side_down, taken, ignored, coordinator_down, Compacts, compacted, compacting_failed, compacting_cut}
 use Rattle.syn_headline.specs.Arms.{Arms}
 use Rattle.syn_headline.specs.Headline.{StandsFor, RunsStand}
+
+-- what the records of these events leave of the room
+abbrev pub room_after : ℕ → List Event → ℕ
+room_after room events = fold (λ room event. room - record_size event) room events
 
 left_left : (es : List Event) → filter_map (event_at Left) (map (λ e. Happened Left e) es) ≡ es
 left_left [] = refl

@@ -2,7 +2,7 @@
 use Rattle.std.specs.Prelude.{ℕ, true, ◌≡◌, ◌≢◌, ◌≤◌, ◌↔◌, ◌+◌, drop, false, List, [], ◌∷◌, ◌++◌, length, take, None, All, AllPairs, Contains, IfSome}
 use Rattle.syn_model.specs.Path.{Bytes, Path, parent}
 use Rattle.syn_model.specs.Tree.{Tree, IsTree, subtree, is_directory}
-use Rattle.syn_model.specs.Event.{Token, is_same_token, Edit, Event, Edited, Began, Replaced, touches}
+use Rattle.syn_model.specs.Event.{Token, is_same_token, Event, Edited, Began, Replaced, touches}
 use Rattle.syn_model.specs.History.{History, IsHistory, tree_of, tree_at, last_session}
 use Rattle.syn_model.specs.Mark.{mark, AreApart}
 use Rattle.syn_model.specs.Archive.{Archive, new_archive, Session, BothHeld}
@@ -12,8 +12,8 @@ use Rattle.syn_headline.specs.Network.{Which, Left, Right, other, AsksNothingTwi
 use Rattle.syn_headline.specs.Acknowledged.{Ack, Happened, Kept_by, Stores, history_of, stores_after, Grown, ArchiveGrown, IsLegal}
 use Rattle.syn_headline.specs.Planning.{IsPlanOf}
 use Rattle.syn_headline.specs.Report.{Report, Complete, is_carrying, is_marking}
-use Rattle.syn_headline.specs.Arms.{unarmed, IsBefore}
-use Rattle.syn_headline.specs.World.{World, Machine, Step, Edits, Stop, Steps, Runs, Up, Down, Waits, side_of, status_of}
+use Rattle.syn_headline.specs.Arms.{unarmed}
+use Rattle.syn_headline.specs.World.{World, Step, Runs, Up, Waits, side_of}
 
 abbrev pub stores_of : World → Stores
 stores_of world = record { left = world.left.side.history; right = world.right.side.history; archive = world.coordinator.archive }
@@ -179,13 +179,3 @@ LeavesPair before new =
 -- a session that runs waits for an answer, and nothing was asked twice in one
 abbrev pub Owes : Stores → World → Type 0
 Owes before new = IfSome new.coordinator.running Waits × AsksNothingTwice new.sent
-
--- without a stop among the steps no machine goes down
-abbrev pub StaysWithoutStop : Type 0
-StaysWithoutStop = (old new : World) (steps : List Step) → IsStart old → Runs old steps new →
-    ((machine : Machine) (call : ℕ) → Contains steps (Stop machine call) → ⊥) → (machine : Machine) → status_of new machine ≢ Down
-
--- an edit is not acknowledged where one of its four device calls is armed
-abbrev pub ArmedCallsCome : Type 0
-ArmedCallsCome = (old new : World) (side : Which) (user : ℕ) (edit : Edit) → let arms = (side_of old side).arms in
-    (IsBefore 4 arms.fail × IsBefore 4 arms.stop → ⊥) → Steps old (Edits side user edit) new → new.acknowledged ≡ old.acknowledged

@@ -139,10 +139,6 @@ ServesAs Up pair has_room side session request served = Serves pair has_room sid
 ServesAs Halted pair has_room side session request served = served ≡ serve_halted side session request
 ServesAs Down pair has_room side session request served = ⊥
 
--- what the records of these events leave of the room
-abbrev pub room_after : ℕ → List Event → ℕ
-room_after room events = fold (λ left event. left - record_size event) room events
-
 pub record AnswersRequest (pair : ℕ) (old : World) (which : Which) (session number : ℕ) (request : Request) (new : World) : Type 0 where
   pub served : Served
   pub events : List Event
@@ -152,7 +148,7 @@ pub record AnswersRequest (pair : ℕ) (old : World) (which : Which) (session nu
   pub no_halt : (side_of old which).status ≡ Up → served.reply ≢ Refused why.Halted
   pub added : served.side.history ≡ (side_of old which).side.history ++ events
   pub meets : Meets (side_of old which).arms (4 * length events) 0 Up arms
-  pub result : new ≡ record (set_side old which (record (side_of old which) { side = served.side; room = room_after (side_of old which).room events; arms = arms })) { sent = old.sent ++ Answers which session number served.reply ∷ []; acknowledged = old.acknowledged ++ map (λ event. Happened which event) events }
+  pub result : new ≡ record (set_side old which (record (side_of old which) { side = served.side; room = fold (λ room event. room - record_size event) (side_of old which).room events; arms = arms })) { sent = old.sent ++ Answers which session number served.reply ∷ []; acknowledged = old.acknowledged ++ map (λ event. Happened which event) events }
 
 -- the event that a request adds to a side that is up, where no device fails and the side does not stop
 pub record WouldAdd (pair : ℕ) (machine : SideMachine) (session : ℕ) (request : Request) (event : Event) : Type 0 where
@@ -348,9 +344,6 @@ most_resends = 8
 abbrev pub is_resent : Running → Bool
 is_resent running = list_any (λ waiting. nat_le most_resends waiting.resent) (running.left ++ running.right)
 
-abbrev pub once_more : Outstanding → Outstanding
-once_more waiting = record waiting { resent = suc waiting.resent }
-
 abbrev pub resent_to : Which → Running → List Message
 resent_to side running = map (λ waiting. Asks side running.session waiting.number waiting.request) (outstanding running side)
 
@@ -363,7 +356,7 @@ EndsUnanswered running report =
 -- each request that waits is sent once more, unless one was sent so often already
 pub record SendsAgain (old new : World) (running later : Running) : Type 0 where
   pub not_yet : is_resent running ≡ false
-  pub counted : later ≡ record running { left = map once_more running.left; right = map once_more running.right }
+  pub counted : let once_more = λ (waiting : Outstanding). record waiting { resent = suc waiting.resent } in later ≡ record running { left = map once_more running.left; right = map once_more running.right }
   pub again : new.sent ≡ old.sent ++ (resent_to Left running ++ resent_to Right running)
 
 -- a tick of a session that runs sends its requests again or ends it, with no device call

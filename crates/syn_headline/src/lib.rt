@@ -2,7 +2,7 @@
 #![tactic(auto)]
 
 ghost use Rattle.syn_headline.specs.Laws.{ServesAllowed, RepeatsAreDone, LaterAreOld};
-ghost use Rattle.syn_headline.specs.Headline.{formatted, IsPair, RunsStand, OfEachRun, EachReplacementIsLegal, EachTokenOnce, EachEntryWasHeld, LeavesPair, LogsPlans, Owes, StaysWithoutStop, ArmedCallsCome, CompleteSessionsSynchronize, CompleteSessionsReconcile, ReportsItsConflicts, CountsItsItems, CarriedIsMarked};
+ghost use Rattle.syn_headline.specs.Headline.{formatted, IsPair, RunsStand, OfEachRun, EachReplacementIsLegal, EachTokenOnce, EachEntryWasHeld, LeavesPair, LogsPlans, Owes, CompleteSessionsSynchronize, CompleteSessionsReconcile, ReportsItsConflicts, CountsItsItems, CarriedIsMarked};
 
 /// A step of a side leaves its history or adds one allowed event, and answers a repeat as done or as old.
 pub fn side_laws()
@@ -11,8 +11,7 @@ pub fn side_laws()
     ensures later { LaterAreOld }
 {}
 
-/// In every run, with stops and failing devices, the machines stand for what was acknowledged, each replacement is legal, and each plan is
-/// logged. A machine goes down only by a stop, and a device call that is armed comes.
+/// In every run, with stops and failing devices, the machines stand for what was acknowledged, each replacement is legal, and each plan is logged.
 pub fn run_laws()
     ensures formatted { IsPair formatted }
     ensures stands { RunsStand }
@@ -22,8 +21,6 @@ pub fn run_laws()
     ensures pair { OfEachRun LeavesPair }
     ensures logged { OfEachRun LogsPlans }
     ensures owe { OfEachRun Owes }
-    ensures up { StaysWithoutStop }
-    ensures armed { ArmedCallsCome }
 {}
 
 /// In every run a complete session without edits leaves the synchronization of what it found and the archive of it, reports its conflicts, counts its items, and marks what was carried before it.

@@ -4,6 +4,7 @@ pub mod WitnessFiles
 pub mod WitnessMessages
 pub mod WitnessLemmas
 pub mod FailLemmas
+pub mod StopLemmas
 pub mod WitnessScans
 pub mod WitnessSteps
 pub mod WitnessSession

@@ -21,7 +21,8 @@ use Rattle.syn_headline.specs.Acknowledged.{Ack, Happened, Kept_by}
 use Rattle.syn_headline.specs.Planning.{Planned, Log}
 use Rattle.syn_headline.specs.Report.{Report}
 use Rattle.syn_headline.specs.Arms.{Arms, unarmed, Meets, all_made}
-use Rattle.syn_headline.specs.World.{room_after, answered_by, At, SideMachine, Writes, Edits, Steps, is_halted, edit_causes, World, Outstanding, Status, Up, Halted, Down, Running, TakesRequest, answered, ServesAs, CoordinatorGoes, AllCanKeep, RunsOver, WasSent, AllOfSession, side_of, set_side, TakesAnswer, taken, IsExpected, HasPlan, IsDueAfter, GoesOnFrom, IsOver, Reports, AddsRefused, RefusesTaken, EndsTaken, Step, Runs}
+use Rattle.syn_headline.specs.World.{answered_by, At, SideMachine, Writes, Edits, Steps, is_halted, edit_causes, World, Outstanding, Status, Up, Halted, Down, Running, TakesRequest, answered, ServesAs, CoordinatorGoes, AllCanKeep, RunsOver, WasSent, AllOfSession, side_of, set_side, TakesAnswer, taken, IsExpected, HasPlan, IsDueAfter, GoesOnFrom, IsOver, Reports, AddsRefused, RefusesTaken, EndsTaken, Step, Runs}
+use Rattle.syn_headline.proofs.WorldLemmas.{room_after}
 
 abbrev is_up : Status → Type 0
 is_up Up = Unit {0}

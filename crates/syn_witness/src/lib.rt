@@ -1,7 +1,8 @@
-//! Runs of the world that the definitions allow, step by step: what no run meets proves nothing.
+//! Runs of the world that the definitions allow, step by step: what no run meets proves nothing. And what they do not allow.
 #![tactic(auto)]
 
 ghost use Rattle.syn_witness.specs.Rows.{SideRows};
+ghost use Rattle.syn_witness.specs.Forbidden.{StaysWithoutStop, ArmedCallsCome};
 ghost use Rattle.syn_witness.specs.Witness.{OpenedIsStart, NewRoomIs, StopIsRecovered, FailIsRefused, CheckpointIsCut, SilenceEnds, FileIsCarried, FilesAreExchanged, CarriedIsMarkedLater};
 
 /// What a side answers in worked examples, which its definition gives.
@@ -23,4 +24,10 @@ pub fn witnesses()
     ensures carried { FileIsCarried }
     ensures exchanged { FilesAreExchanged }
     ensures marked { CarriedIsMarkedLater }
+{}
+
+/// What no run does: without a stop among the steps no machine goes down, and an edit is not acknowledged where one of its device calls is armed.
+pub fn forbidden()
+    ensures up { StaysWithoutStop }
+    ensures armed { ArmedCallsCome }
 {}

@@ -3,7 +3,6 @@ use Rattle.syn_headline.proofs.FormattedLemmas.{formatted_is_pair}
 use Rattle.syn_headline.proofs.WholeRuns.{runs_replace_legally, runs_use_tokens_once, runs_owe}
 use Rattle.syn_headline.proofs.LoggedRuns.{runs_log}
 use Rattle.syn_headline.proofs.ArchiveLemmas.{runs_hold_archive, runs_leave_pair}
-use Rattle.syn_headline.proofs.StopLemmas.{stay_without_stop, armed_calls_come}
 use Rattle.syn_headline.proofs.run_laws.Goals as goal
 
 pub returns-clause-stands : goal.returns-clause-stands
@@ -29,9 +28,3 @@ returns-clause-logged c = runs_log
 
 pub returns-clause-owe : goal.returns-clause-owe
 returns-clause-owe c = runs_owe
-
-pub returns-clause-up : goal.returns-clause-up
-returns-clause-up c = stay_without_stop
-
-pub returns-clause-armed : goal.returns-clause-armed
-returns-clause-armed c = armed_calls_come
