@@ -1,5 +1,6 @@
 -- Parts that keep their own limits below a path, and those that fit nowhere there.
 use Rattle.std.proofs.Common.{◌≡◌, ◌≤◌, ◌<◌, ℕ, Bool, true, false, ◌&&◌, nat_le, [], ◌∷◌, ◌++◌, length, refl, sym, ap, ap₂, ◌∙◌, subst, All, append-nil, arith}
+use Rattle.std.proofs.Math.Bool.{and-false}
 use Rattle.std.specs.List.{list_all}
 use Rattle.std.specs.FinMap.{entries, len, len-entries}
 use Rattle.std.proofs.lemmas.Bool.{and_parts}
@@ -23,25 +24,21 @@ use Rattle.syn_tree.proofs.ChangeLemmas.{under_one, under_none, lawful_part, not
 abbrev pub paths_fit : Pairs → Bool
 paths_fit es = list_all (λ pair. fits_path pair.0) es
 
-and_false : (a : Bool) → (a && false) ≡ false
-and_false true = refl
-and_false false = refl
-
 pub nowhere_paths : (at : Path) (u : Tree) → paths_fit (under at (entries u)) ≡ false → FitsNowhere at u
 nowhere_paths at u h t =
     let es = entries t in
     let fit : Pair → Bool = λ pair. fits_path pair.0 in
     let none : fits_paths (replace t at u) ≡ false =
     ap paths_fit (entries-replace t at u) ∙ (list_all-append fit (before at es) (under at (entries u) ++ behind at es)
-    ∙ (ap (λ b. paths_fit (before at es) && b) (list_all-append fit (under at (entries u)) (behind at es) ∙ ap (λ b. b && paths_fit (behind at es)) h) ∙ and_false (paths_fit (before at es)))) in
+    ∙ (ap (λ b. paths_fit (before at es) && b) (list_all-append fit (under at (entries u)) (behind at es) ∙ ap (λ b. b && paths_fit (behind at es)) h) ∙ and-false (paths_fit (before at es)))) in
     ap (λ b. (nat_le (len (replace t at u)) 1024 && nat_le (tree_spelling_length (replace t at u)) greatest_spelling && fits_part (replace t at u)) && b) none
-    ∙ and_false (nat_le (len (replace t at u)) 1024 && nat_le (tree_spelling_length (replace t at u)) greatest_spelling && fits_part (replace t at u))
+    ∙ and-false (nat_le (len (replace t at u)) 1024 && nat_le (tree_spelling_length (replace t at u)) greatest_spelling && fits_part (replace t at u))
 
 more_than : (n : ℕ) → 524288 < n → nat_le n 524288 ≡ false
 more_than n h = grind (arith, nat_tests)
 
 last_false : (a b c d : Bool) → b ≡ false → (((a && b) && c) && d) ≡ false
-last_false a b c d h = ap (λ x. ((a && x) && c) && d) h ∙ ap (λ x. (x && c) && d) (and_false a)
+last_false a b c d h = ap (λ x. ((a && x) && c) && d) h ∙ ap (λ x. (x && c) && d) (and-false a)
 
 pub nowhere_size : (at : Path) (u : Tree) (pairs : Pairs) → pairs ≡ under at (entries u) → 524288 < spelling_length pairs → FitsNowhere at u
 nowhere_size at u pairs e h t =
@@ -83,7 +80,7 @@ placeable_directory at u below pairs path tree part all e fits = record {
 }
 
 pub nowhere_directory : (at : Path) (u : Tree) (below : Pairs) → rooted below ≡ entries u → paths_fit (under at below) ≡ false → FitsNowhere at u
-nowhere_directory at u below all h = nowhere_paths at u (ap (λ es. paths_fit (under at es)) (sym all) ∙ (ap (λ b. fits_path (at ++ []) && b) h ∙ and_false (fits_path (at ++ []))))
+nowhere_directory at u below all h = nowhere_paths at u (ap (λ es. paths_fit (under at es)) (sym all) ∙ (ap (λ b. fits_path (at ++ []) && b) h ∙ and-false (fits_path (at ++ []))))
 
 pub under-append : (at : Path) (xs ys : Pairs) → under at (xs ++ ys) ≡ under at xs ++ under at ys
 under-append at [] ys = refl
@@ -96,7 +93,7 @@ paths-more at xs x h k =
 pub paths-fail : (at : Path) (xs : Pairs) (x : Pair) (ys : Pairs) → fits_path (at ++ x.0) ≡ false → paths_fit (under at (xs ++ x ∷ ys)) ≡ false
 paths-fail at xs x ys k =
     ap paths_fit (under-append at xs (x ∷ ys)) ∙ (list_all-append (λ (pair : Pair). fits_path pair.0) (under at xs) (under at (x ∷ ys))
-    ∙ (ap (λ b. paths_fit (under at xs) && (b && paths_fit (under at ys))) k ∙ and_false (paths_fit (under at xs))))
+    ∙ (ap (λ b. paths_fit (under at xs) && (b && paths_fit (under at ys))) k ∙ and-false (paths_fit (under at xs))))
 
 at_most_names : (n : ℕ) → nat_le n 16 ≡ true → n ≤ 16
 at_most_names n h = grind (arith, nat_tests)

@@ -1,5 +1,6 @@
 -- The limits of a whole tree that is made of entries.
-use Rattle.std.proofs.Common.{◌≡◌, ◌≤◌, ◌<◌, ◌+◌, ℕ, suc, Bool, true, false, ◌&&◌, nat_le, length, refl, sym, ap, ap₂, ◌∙◌, subst, arith}
+use Rattle.std.proofs.Common.{◌≡◌, ◌≤◌, ◌<◌, ◌+◌, ℕ, suc, true, false, ◌&&◌, nat_le, length, sym, ap, ap₂, ◌∙◌, subst, arith}
+use Rattle.std.proofs.Math.Bool.{and-false}
 use Rattle.std.specs.FinMap.{entries, len, len-entries, from_sorted}
 use Rattle.std.proofs.lemmas.Bool.Decides.{nat_tests}
 use Rattle.std.proofs.lemmas.List.Sums.{sum_by-cons}
@@ -23,10 +24,6 @@ small n h = grind (arith, nat_tests)
 large : (n : ℕ) → 524288 < n → nat_le n 524288 ≡ false
 large n h = grind (arith, nat_tests)
 
-and_false : (a : Bool) → (a && false) ≡ false
-and_false true = refl
-and_false false = refl
-
 module _ (u : Tree) (ds : Pairs) (all : rooted ds ≡ entries u) where
   count_of : len u ≡ suc (length ds)
   count_of = len-entries u ∙ ap length (sym all)
@@ -44,7 +41,7 @@ module _ (u : Tree) (ds : Pairs) (all : rooted ds ≡ entries u) where
   pub too_large : 524288 < spelling_length ds + 3 → fits_replica u ≡ false
   too_large h =
       ap (λ b. nat_le (len u) 1024 && b && fits_part u && fits_paths u) (ap (λ n. nat_le n 524288) size_of ∙ large (3 + spelling_length ds) (omega (arith, h)))
-      ∙ ap (λ a. a && fits_part u && fits_paths u) (and_false (nat_le (len u) 1024))
+      ∙ ap (λ a. a && fits_part u && fits_paths u) (and-false (nat_le (len u) 1024))
 
   pub whole_rising : AreRising (rooted ds)
   whole_rising = are_rising (rooted ds) (subst Rising (sym all) (rising-entries u))

@@ -4,8 +4,7 @@ use Rattle.std.specs.Int.{to_be_bytes, w16}
 use Rattle.std.specs.List.{list_all}
 use Rattle.std.specs.Ordering.{eq_by_cmp}
 use Rattle.std.specs.FinMap.{entries, entries_sorted, find, from_sorted, get, get-entries, len}
-use Rattle.std.proofs.lemmas.Bool.{and_parts}
-use Rattle.std.proofs.lemmas.Bool.Decides.{nat_tests}
+use Rattle.std.proofs.lemmas.Bool.{and_parts, le-leb}
 use Rattle.std.proofs.lemmas.Option.{none-some}
 use Rattle.syn_model.specs.Path.{Bytes, Path, path_cmp, root}
 use Rattle.syn_model.specs.Tree.{Tree, Content, Directory, File, IsTree, absent, contents_of, file}
@@ -126,14 +125,11 @@ long_file_read fields bytes after found long t rest begins =
     let short = f.short in
     absurd (omega (arith, same, short, long))
 
-brief : (n : ℕ) → n ≤ 16384 → nat_le n 16384 ≡ true
-brief n h = grind (arith, nat_tests)
-
 pub file_read : (fields bytes after : Bytes) → BeginsWith IsFile file_spelling fields bytes after → length bytes ≤ 16384 → BeginsWith IsOptionalTree spelling (1 ∷ fields) (file bytes) after
 file_read fields bytes after found short = record {
   lawful = record {
     part = lawful_part (File (contents_of bytes)) found.lawful.bytes;
-    fits = one_fits (File (contents_of bytes)) (brief (length bytes) short);
+    fits = one_fits (File (contents_of bytes)) (le-leb (length bytes) 16384 short);
     paths = ap (list_all (λ pair. fits_path pair.0)) (entries-one (File (contents_of bytes)));
   };
   spelled = ap (λ b. 1 ∷ b) found.spelled ∙ ap (λ b. b ++ after) (sym (file_spelled bytes));
