@@ -17,6 +17,9 @@ use std::alloc::{AllocError, Global};
 use syn_disk::{Arm, DeviceFailed, Disk, Limit};
 
 mod checkpoint;
+mod reopen;
+
+pub use reopen::Reopened;
 
 /// The length of the longest image, in bytes. With it the first gate is the last byte of its half, and no
 /// record fits.
@@ -24,8 +27,8 @@ pub const MAX_IMAGE: usize = HALF_SIZE - 14;
 
 /// An image and the payloads that were appended since, on a disk.
 ///
-/// The value is kept on the disk alone. A journal that was refused `Device` is halted: each later append is
-/// refused `Halted`, and the disk has to be opened again.
+/// The value is kept on the disk alone. A journal that was refused `Device` is halted: each later change is
+/// refused `Halted`, until it is reopened.
 #[derive(Drop)]
 pub struct Journal<D: Disk> {
     disk: D,
@@ -46,9 +49,9 @@ pub struct Journal<D: Disk> {
 #[derive(Drop)]
 pub struct Opened<D: Disk> {
     pub journal: Journal<D>,
-    /// The image that the disk was formatted with.
+    /// The image of the last checkpoint, or of the format where none was made.
     pub image: Vec<u8>,
-    /// The payloads, the oldest first.
+    /// The payloads since, the oldest first.
     pub records: Vec<Vec<u8>>,
 }
 
@@ -149,7 +152,7 @@ impl<D: Disk> Journal<D> {
         self.generation
     }
 
-    /// Whether a call was refused `Device` since the disk was opened.
+    /// Whether a call was refused `Device` since the disk was opened or reopened.
     pub fn is_halted(&self) -> bool
         ensures halted { (result ≡ true) ↔ IsHalted self.now }
         // A journal that is not halted has the value of its disk.

@@ -5,6 +5,7 @@ use std::test::Fail;
 use syn_disk::{Arm, Cut, Disk, Leaves, MemDisk, Restart};
 
 mod checkpoint;
+mod reopen;
 
 const IMAGE: [u8; 3] = [7, 8, 9];
 // The first half up to the first gate, and a record with the next gate.
