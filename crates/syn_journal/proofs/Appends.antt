@@ -3,14 +3,14 @@ use Rattle.std.proofs.Common.{◌≡◌, inl, inr, ℕ, ◌+◌, ◌≤◌, List
 use Rattle.std.proofs.lemmas.Bool.{cases_eq}
 use Rattle.syn_journal.specs.Commit.{IsStagedOrOpened, body_of_record}
 use Rattle.syn_journal.specs.declared.half.Half.{Half}
-use Rattle.syn_journal.specs.Layout.{half_size, open_gate, start_of, Value, IsBeforeOrAfter}
+use Rattle.syn_journal.specs.Layout.{half_size, open_gate, start_of, Value, with_payload, IsBeforeOrAfter}
 use Rattle.syn_journal.specs.Whole.{IsWhole}
 use Rattle.syn_journal.proofs.Whole.{behind_gate, still_closed, now_open, long}
 use Rattle.syn_journal.proofs.Meanings.{means}
 
 module _ (disk : List ℕ) (half : Half) (generation gate : ℕ) (value : Value) (whole : IsWhole disk half generation gate value)
     (payload body : List ℕ) (spells : body ≡ body_of_record payload) (fits : gate + 6 + length payload ≤ half_size) where
-  pub before_or_after : (after : List ℕ) → IsStagedOrOpened disk (start_of half + gate) body after → IsBeforeOrAfter value payload after
+  pub before_or_after : (after : List ℕ) → IsStagedOrOpened disk (start_of half + gate) body after → IsBeforeOrAfter value (with_payload value payload) after
   before_or_after after (inl torn) =
       inl (means after half generation gate value (behind_gate disk half generation gate value whole (length body) after (omega (arith, long disk half generation gate value whole payload body spells fits)) torn))
   before_or_after after (inr torn) =

@@ -1,4 +1,5 @@
 mod Appends
+mod Checkpoints
 mod Commits
 mod Formats
 mod Meanings

@@ -1,5 +1,5 @@
 -- What a disk whose current half is whole stands for.
-use Rattle.std.proofs.Common.{◌≡◌, ℕ, ◌+◌, ◌-◌, ◌≤◌, true, leb, List, ◌∷◌, ◌++◌, length, get_or, take, drop, Some, Ok, refl, sym, ◌∙◌, ap, subst, arith, length-append, length-take, length-drop, take-append-drop}
+use Rattle.std.proofs.Common.{◌≡◌, ℕ, ◌+◌, ◌-◌, ◌≤◌, Bool, true, leb, List, ◌∷◌, ◌++◌, length, get_or, take, drop, Some, Ok, refl, sym, ◌∙◌, ap, subst, arith, length-append, length-take, length-drop, take-append-drop}
 use Rattle.std.proofs.lemmas.List.{append_assoc, drop-drop, drop_more}
 use Rattle.std.proofs.lemmas.Bool.Decides.{nat_tests}
 use Rattle.std.proofs.lemmas.Nat.{from_be_bytes-to_be_bytes_4}
@@ -9,7 +9,7 @@ use Rattle.syn_disk.specs.Disk.{Only}
 use Rattle.syn_disk.specs.declared.disk.TheConstants.{DISK_SIZE}
 use Rattle.syn_journal.specs.declared.half.Half.{Half}
 use Rattle.syn_journal.specs.declared.half.Half.TheVariants.{First, Second}
-use Rattle.syn_journal.specs.Layout.{half_size, longest_image, start_of, Value, damaged, records, image_length_at, with_image, bytes_from, value_at, value_in, meaning, records_of, spelled}
+use Rattle.syn_journal.specs.Layout.{half_size, longest_image, start_of, other_half, is_open, Value, damaged, records, image_length_at, with_image, bytes_from, value_at, value_in, meaning, records_of, spelled}
 use Rattle.syn_journal.specs.Whole.{IsWhole, IsInStep, value_or_empty}
 use Rattle.syn_journal.proofs.Parts.{next_part, take_over}
 use Rattle.syn_journal.proofs.Records.{records_read}
@@ -91,5 +91,5 @@ module _ (disk : List ℕ) (half : Half) (generation gate : ℕ) (value : Value)
   pub whole_by_meaning : IsWhole disk half generation gate (value_or_empty (meaning disk))
   whole_by_meaning = subst (λ v. IsWhole disk half generation gate v) (sym (ap value_or_empty means)) whole
 
-  pub in_step : (may_leave : List ℕ → Type 0) → Only disk may_leave → IsInStep disk may_leave half generation gate
-  in_step may_leave durable = record { whole = whole_by_meaning; durable = durable }
+  pub in_step : (may_leave : List ℕ → Type 0) (other_is_open : Bool) → is_open disk (other_half half) ≡ other_is_open → Only disk may_leave → IsInStep disk may_leave half generation gate other_is_open
+  in_step may_leave other_is_open other durable = record { whole = whole_by_meaning; other = other; durable = durable }

@@ -17,6 +17,14 @@ module _ {D : Type 0} (moment : D → ℕ) (left_since : D → ℕ → List ℕ 
     before = λ t c le left. ⊎_elim (so_far.before t c le) (λ now. inr (here c now)) (time.nothing_else t c (omega (arith, le, so_far.later)) left);
   }
 
+  -- one run, and then another
+  pub in_turn : (old mid new : D) (P : List ℕ → Type 0) → LeavesOnly moment left_since old mid P → LeavesOnly moment left_since mid new P → LeavesOnly moment left_since old new P
+  in_turn old mid new P first second = record {
+    later = omega (arith, first.later, second.later);
+    each = λ c left. ⊎_elim (first.each c) (λ now. now) (second.before (moment old) c first.later left);
+    before = λ t c le left. ⊎_elim (first.before t c le) (λ now. inr now) (second.before t c (omega (arith, le, first.later)) left);
+  }
+
   -- what has P has Q
   pub weakened : (old new : D) (P Q : List ℕ → Type 0) → ((c : List ℕ) → P c → Q c) → LeavesOnly moment left_since old new P → LeavesOnly moment left_since old new Q
   weakened old new P Q leads run = record {
@@ -43,9 +51,5 @@ module _ {D : Type 0} {seen : D → List ℕ} {may_leave : D → List ℕ → Ty
   and_then old mid new first second = record {
     same = second.same ∙ first.same;
     nothing_new = λ c left. first.nothing_new c (second.nothing_new c left);
-    any_moment = record {
-      later = omega (arith, first.any_moment.later, second.any_moment.later);
-      each = λ c left. ⊎_elim (first.any_moment.each c) (first.nothing_new c) (second.any_moment.before (moment old) c first.any_moment.later left);
-      before = λ t c le left. ⊎_elim (first.any_moment.before t c le) (λ now. inr (first.nothing_new c now)) (second.any_moment.before t c (omega (arith, le, first.any_moment.later)) left);
-    };
+    any_moment = in_turn moment left_since old mid new (may_leave old) first.any_moment (weakened moment left_since mid new (may_leave mid) (may_leave old) first.nothing_new second.any_moment);
   }

@@ -1,5 +1,5 @@
 -- How the two steps of an append change a disk whose current half is whole.
-use Rattle.std.proofs.Common.{◌≡◌, ◌≢◌, ◌⊎◌, inl, inr, ⊎_elim, ℕ, zero, suc, ◌+◌, ◌-◌, ◌==◌, ◌<◌, ◌≤◌, List, [], ◌∷◌, ◌++◌, length, get_or, take, drop, sym, ◌∙◌, ap, subst, arith, length-append}
+use Rattle.std.proofs.Common.{◌≡◌, ◌≢◌, ◌⊎◌, inl, inr, ⊎_elim, ℕ, zero, suc, ◌+◌, ◌-◌, ◌==◌, ◌<◌, ◌≤◌, Ok, List, [], ◌∷◌, ◌++◌, length, get_or, take, drop, sym, ◌∙◌, ap, subst, arith, length-append}
 use Rattle.std.proofs.lemmas.List.{get_or_append_left, get_or-append_right, append_assoc}
 use Rattle.std.specs.Int.{w32, w64, to_be_bytes, from_be_bytes}
 use Rattle.syn_disk.specs.Disk.{Torn, overwritten}
@@ -19,8 +19,8 @@ spelled-push image payloads payload =
     ∙ ap (λ (l : List ℕ). to_be_bytes w32 (length image) ++ l) (sym (append_assoc image (records_of payloads) (record_of payload)))
     ∙ sym (append_assoc (to_be_bytes w32 (length image)) (image ++ records_of payloads) (record_of payload))
 
--- a change inside one half leaves the first bytes of the other
-apart : (half : Half) (at n i : ℕ) → start_of half ≤ at → at + n ≤ start_of half + half_size → start_of (other_half half) ≤ i → i < start_of (other_half half) + 9 → (i < at) ⊎ (at + n ≤ i)
+-- a change inside one half leaves the other
+pub apart : (half : Half) (at n i : ℕ) → start_of half ≤ at → at + n ≤ start_of half + half_size → start_of (other_half half) ≤ i → i < start_of (other_half half) + half_size → (i < at) ⊎ (at + n ≤ i)
 apart Second at n i low high from to = inl (omega arith)
 apart First at n i low high from to = inr (omega arith)
 
@@ -52,24 +52,30 @@ module _ (disk : List ℕ) (half : Half) (generation gate : ℕ) (value : Value)
   nine : 13 ≤ gate
   nine = omega (arith, sizes disk half generation gate value whole)
 
-  -- a disk that has the front and the other half's header, and a closed gate, is whole in the same way
-  kept : (after : List ℕ) → length after ≡ length disk → ((i : ℕ) → base ≤ i → i < base + gate → get_or after i 0 ≡ get_or disk i 0)
-      → SameHeader disk after (other_half half) → get_or after (base + gate) 0 ≢ open_gate → IsWhole after half generation gate value
-  kept after size inside outside closed =
+  -- a disk that has the front and a closed gate in the current half is whole in the same way
+  pub still_whole : (after : List ℕ) → length after ≡ length disk → ((i : ℕ) → base ≤ i → i < base + gate → get_or after i 0 ≡ get_or disk i 0)
+      → current after ≡ Ok half → get_or after (base + gate) 0 ≢ open_gate → IsWhole after half generation gate value
+  still_whole after size inside is_current closed =
       let here : SameHeader disk after half = λ i from to. inside i from (omega (arith, nine, to)) in
       record {
         size = size ∙ whole.size;
-        is_current = same_current disk after size half here outside ∙ whole.is_current;
+        is_current = is_current;
         numbered = same_generation disk after size half here ∙ whole.numbered;
         front = same_part disk after (base + 9) (gate - 9) size (λ i from to. inside i (omega arith) (omega (arith, nine, to))) ∙ whole.front;
         closed = closed;
         within = whole.within;
       }
 
+  -- the half is current where the other half's header stays, too
+  kept : (after : List ℕ) → length after ≡ length disk → ((i : ℕ) → base ≤ i → i < base + gate → get_or after i 0 ≡ get_or disk i 0)
+      → SameHeader disk after (other_half half) → get_or after (base + gate) 0 ≢ open_gate → IsWhole after half generation gate value
+  kept after size inside outside closed =
+      still_whole after size inside (same_current disk after size half (λ i from to. inside i from (omega (arith, nine, to))) outside ∙ whole.is_current) closed
+
   -- any bytes behind the closed gate
   pub behind_gate : (n : ℕ) (after : List ℕ) → gate + 1 + n ≤ half_size → Torn (base + gate + 1) n disk after → IsWhole after half generation gate value
   behind_gate n after fits torn = kept after torn.size (λ i from to. torn.before i (omega arith))
-      (λ i from to. ⊎_elim (λ less. torn.before i less) (λ past. torn.behind i past) (apart half (base + gate + 1) n i (omega arith) (omega arith) from to))
+      (λ i from to. ⊎_elim (λ less. torn.before i less) (λ past. torn.behind i past) (apart half (base + gate + 1) n i (omega arith) (omega arith) from (omega (arith, to))))
       (λ opened. whole.closed (sym (torn.before (base + gate) (omega arith)) ∙ opened))
 
   -- a whole record behind the gate, and any byte in the gate
@@ -94,7 +100,7 @@ module _ (disk : List ℕ) (half : Half) (generation gate : ℕ) (value : Value)
       past_body i past = torn.behind i (omega arith) ∙ overwritten-behind disk (base + gate + 1) body in_disk i past
 
       outside : SameHeader disk after (other_half half)
-      outside i from to = ⊎_elim (λ less. below i less) (λ past. past_body i (omega (arith, past))) (apart half (base + gate) (1 + length body) i (omega arith) (omega (arith, long)) from to)
+      outside i from to = ⊎_elim (λ less. below i less) (λ past. past_body i (omega (arith, past))) (apart half (base + gate) (1 + length body) i (omega arith) (omega (arith, long)) from (omega (arith, to)))
 
       pub still_closed : get_or after (base + gate) 0 ≢ open_gate → IsWhole after half generation gate value
       still_closed closed = kept after size (λ i from to. below i to) outside closed
@@ -140,6 +146,14 @@ module _ (disk : List ℕ) (half : Half) (generation gate : ℕ) (value : Value)
             closed = λ still. absurd (omega (arith, next_closed, still));
             within = omega arith;
           }
+
+    -- the other half's gate stays
+    pub other_kept : is_open (overwritten (overwritten disk (base + gate + 1) body) (base + gate) (open_gate ∷ [])) (other_half half) ≡ is_open disk (other_half half)
+    other_kept =
+        let mid = overwritten disk (base + gate + 1) body in
+        let after = overwritten mid (base + gate) (open_gate ∷ []) in
+        let torn : Torn (base + gate) 1 mid after = torn_by mid (base + gate) (open_gate ∷ []) (omega (arith, length-overwritten disk (base + gate + 1) body in_disk, in_disk)) in
+        same_gate disk after (size after torn) (other_half half) (outside after torn)
 
     -- the whole record behind the open gate
     pub appended : IsWhole (overwritten (overwritten disk (base + gate + 1) body) (base + gate) (open_gate ∷ [])) half generation (gate + (5 + length payload)) (with_payload value payload)

@@ -36,8 +36,14 @@ pub record Stands {D : Type 0} {disk : Ghosts D} (journal : Journal D disk) (val
   pub durable : Only (disk.seen journal.disk) (disk.may_leave journal.disk)
   pub gate : journal.gate ≡ size_of value
 
+-- The readings are the same.
 pub record SameReadings {D : Type 0} {disk : Ghosts D} (old new : Journal D disk) : Type 0 where
   pub half : new.half ≡ old.half
   pub generation : new.generation ≡ old.generation
   pub gate : new.gate ≡ old.gate
   pub halted : new.halted ≡ old.halted
+
+-- A journal that is as it was, though its disk was read.
+pub record IsAsBefore {D : Type 0} {disk : Ghosts D} (old new : Journal D disk) : Type 0 where
+  pub readings : SameReadings old new
+  pub stands : (value : Value) → Stands old value → Stands new value

@@ -107,6 +107,10 @@ size_of value = 13 + length value.image + length (records_of value.payloads)
 abbrev pub with_payload : Value → List ℕ → Value
 with_payload value payload = record value { payloads = value.payloads ++ payload ∷ [] }
 
--- the disk has this value, or this one with one payload more
-abbrev pub IsBeforeOrAfter : Value → List ℕ → List ℕ → Type 0
-IsBeforeOrAfter value payload disk = (meaning disk ≡ Ok value) ⊎ (meaning disk ≡ Ok (with_payload value payload))
+-- an image, and no payload yet
+abbrev pub image_alone : List ℕ → Value
+image_alone image = record { image = image; payloads = [] }
+
+-- the disk has the value before a change, or the one after it
+abbrev pub IsBeforeOrAfter : Value → Value → List ℕ → Type 0
+IsBeforeOrAfter before after disk = (meaning disk ≡ Ok before) ⊎ (meaning disk ≡ Ok after)

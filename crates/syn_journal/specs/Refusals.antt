@@ -40,6 +40,13 @@ IsAppendRefusal Memory = Unit {0}
 IsAppendRefusal Device = Unit {0}
 IsAppendRefusal _ = ⊥
 
+abbrev pub IsCheckpointRefusal : JournalError → Type 0
+IsCheckpointRefusal Halted = Unit {0}
+IsCheckpointRefusal Full = Unit {0}
+IsCheckpointRefusal Memory = Unit {0}
+IsCheckpointRefusal Device = Unit {0}
+IsCheckpointRefusal _ = ⊥
+
 -- of reading a part of the disk, which is damaged where this holds
 abbrev pub IsReadRefusal : JournalError → Type 0 → Type 0
 IsReadRefusal Damaged cause = cause

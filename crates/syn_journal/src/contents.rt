@@ -2,7 +2,7 @@
 ghost use Rattle.std.specs.Prelude.{◌≡◌, ◌+◌, ◌-◌, ◌<◌, ◌≤◌, ◌≢◌, ◌⊎◌, ◌++◌, length, take, drop, slice_index, Ok, Err, None, IfOk, IfErr, OnOk, MatchResult};
 ghost use Rattle.std.specs.Int.{w32, from_be_bytes, to_be_bytes};
 ghost use Rattle.syn_disk.specs.Disk.{Only, CountsFailure};
-ghost use Rattle.syn_journal.specs.Layout.{half_size, damaged, longest_image, open_gate, start_of, is_open, generation_at, image_length_at, current, current_of, bytes_from, records, value_at, meaning, record_of, records_of};
+ghost use Rattle.syn_journal.specs.Layout.{half_size, damaged, longest_image, open_gate, start_of, other_half, is_open, generation_at, image_length_at, current, current_of, bytes_from, records, value_at, meaning, record_of, records_of};
 ghost use Rattle.syn_journal.specs.Opened.{payloads_of, value_read};
 ghost use Rattle.syn_journal.specs.Refusals.{CountsFailures, IsOpenRefusal, IsReadRefusal};
 ghost use Rattle.syn_journal.specs.Stops.{Untouched};
@@ -22,6 +22,7 @@ pub struct Contents {
     pub half: Half,
     pub generation: u64,
     pub gate: usize,
+    pub other_is_open: bool,
     pub image: Vec<u8>,
     pub records: Vec<Vec<u8>>,
 }
@@ -29,19 +30,21 @@ pub struct Contents {
 /// Finds out what a disk stands for. It syncs first, so that a stop leaves what is read.
 pub fn read_contents<D: Disk>(alloc: Global, disk: &mut D) -> Result<Contents, JournalError>
     ensures whole { IfOk result (λ found. IsWhole (D.seen disk.old) found.half found.generation found.gate (value_read found.image found.records)) }
+    ensures other { IfOk result (λ found. found.other_is_open ≡ is_open (D.seen disk.old) (other_half found.half)) }
     ensures durable { OnOk result (Only (D.seen disk.new) (D.may_leave disk.new)) }
     ensures refusals { IfErr result (λ refusal. IsOpenRefusal refusal (meaning (D.seen disk.old))) }
     ensures untouched { Untouched D.seen D.may_leave D.moment D.left_since disk.old disk.new }
     ensures count { MatchResult result (λ _. D.failures disk.new ≡ D.failures disk.old) (λ refusal. CountsFailures refusal (D.failures disk.old) (D.failures disk.new)) }
 {
     disk.sync()?;
-    let (half, generation) = read_current(disk)?;
+    let (half, generation, other_is_open) = read_current(disk)?;
     let image = read_image(alloc, disk, half)?;
     let (records, gate) = read_records(alloc, disk, half, 13 + image.len())?;
     Ok(Contents {
         half,
         generation,
         gate,
+        other_is_open,
         image,
         records,
     })
@@ -69,11 +72,12 @@ fn read_header<D: Disk>(disk: &mut D, half: Half) -> Result<Header, DeviceFailed
     })
 }
 
-// The current half and its generation.
+// The current half, its generation, and whether the other half is open too.
 #[tactic(auto, unfolding(crate::specs::Layout::current))]
-fn read_current<D: Disk>(disk: &mut D) -> Result<(Half, u64), JournalError>
+fn read_current<D: Disk>(disk: &mut D) -> Result<(Half, u64, bool), JournalError>
     ensures half { IfOk result (λ found. current (D.seen disk.old) ≡ Ok found.0) }
     ensures generation { IfOk result (λ found. found.1 ≡ generation_at (D.seen disk.old) found.0) }
+    ensures other { IfOk result (λ found. found.2 ≡ is_open (D.seen disk.old) (other_half found.0)) }
     ensures refusals { IfErr result (λ refusal. IsOpenRefusal refusal (current (D.seen disk.old))) }
     ensures untouched { Untouched D.seen D.may_leave D.moment D.left_since disk.old disk.new }
     ensures count { MatchResult result (λ _. D.failures disk.new ≡ D.failures disk.old) (λ refusal. CountsFailures refusal (D.failures disk.old) (D.failures disk.new)) }
@@ -81,8 +85,8 @@ fn read_current<D: Disk>(disk: &mut D) -> Result<(Half, u64), JournalError>
     let first = read_header(disk, Half::First)?;
     let second = read_header(disk, Half::Second)?;
     match choose(first, second) {
-        Ok(Half::First) => Ok((Half::First, first.generation)),
-        Ok(Half::Second) => Ok((Half::Second, second.generation)),
+        Ok(Half::First) => Ok((Half::First, first.generation, second.is_open)),
+        Ok(Half::Second) => Ok((Half::Second, second.generation, first.is_open)),
         Err(refusal) => Err(refusal),
     }
 }

@@ -1,6 +1,6 @@
 //! The two halves of a disk.
 ghost use Rattle.std.specs.Prelude.{◌≡◌};
-ghost use Rattle.syn_journal.specs.Layout.{start_of};
+ghost use Rattle.syn_journal.specs.Layout.{other_half, start_of};
 
 use syn_disk::DISK_SIZE;
 
@@ -22,6 +22,15 @@ impl Half {
         match self {
             Half::First => 0,
             Half::Second => HALF_SIZE,
+        }
+    }
+
+    pub fn other(self) -> Half
+        ensures { result ≡ other_half self }
+    {
+        match self {
+            Half::First => Half::Second,
+            Half::Second => Half::First,
         }
     }
 }

@@ -1,13 +1,13 @@
-//! The journal and its appends.
+//! The journal, its appends and its checkpoints.
 ghost use Rattle.std.specs.Prelude.{◌≡◌, ◌↔◌, ◌⊎◌, ◌≤◌, ◌<◌, ◌+◌, ◌-◌, ◌++◌, ◌∷◌, [], ℕ, true, false, List, length, Ok, IfOk, IfErr, OnOk, OnErr, MatchResult, IsErrAnd};
 ghost use Rattle.syn_disk.specs.Arms.{armed, is_stopped};
 ghost use Rattle.syn_disk.specs.Disk.{CountsFailure, Only, SameOutcomes};
-ghost use Rattle.syn_journal.specs.Layout.{Value, half_size, is_open, longest_image, current, generation_at, meaning, with_payload, IsBeforeOrAfter};
+ghost use Rattle.syn_journal.specs.Layout.{Value, half_size, is_open, longest_image, current, generation_at, meaning, image_alone, with_payload, IsBeforeOrAfter};
 ghost use Rattle.syn_journal.specs.Stops.{LeavesOnly, Untouched};
 ghost use Rattle.syn_journal.specs.Opened.{value_read};
 ghost use Rattle.syn_journal.specs.Whole.{IsInStep, IsWhole};
 ghost use Rattle.syn_journal.specs.Commit.{body_of_image, body_of_record};
-ghost use Rattle.syn_journal.specs.declared.half.Half.TheVariants.{First};
+ghost use Rattle.syn_journal.specs.declared.half.Half.TheVariants.{First, Second};
 
 use crate::JournalError;
 use crate::commit::commit;
@@ -16,14 +16,19 @@ use crate::half::{HALF_SIZE, Half};
 use std::alloc::{AllocError, Global};
 use syn_disk::{Arm, DeviceFailed, Disk, Limit};
 
+mod checkpoint;
+mod reopen;
+
+pub use reopen::Reopened;
+
 /// The length of the longest image, in bytes. With it the first gate is the last byte of its half, and no
 /// record fits.
 pub const MAX_IMAGE: usize = HALF_SIZE - 14;
 
 /// An image and the payloads that were appended since, on a disk.
 ///
-/// The value is kept on the disk alone. A journal that was refused `Device` is halted: each later append is
-/// refused `Halted`, and the disk has to be opened again.
+/// The value is kept on the disk alone. A journal that was refused `Device` is halted: each later change is
+/// refused `Halted`, until it is reopened.
 #[derive(Drop)]
 pub struct Journal<D: Disk> {
     disk: D,
@@ -33,18 +38,20 @@ pub struct Journal<D: Disk> {
     generation: u64,
     /// Where the next gate stands in the current half.
     gate: usize,
+    /// Whether the other half is open, too.
+    other_is_open: bool,
     halted: bool,
     ghost within: { gate < half_size },
-    ghost in_step: { halted ≡ false → IsInStep (D.seen disk) (D.may_leave disk) half generation gate },
+    ghost in_step: { halted ≡ false → IsInStep (D.seen disk) (D.may_leave disk) half generation gate other_is_open },
 }
 
 /// A journal that was opened, and what its disk stands for.
 #[derive(Drop)]
 pub struct Opened<D: Disk> {
     pub journal: Journal<D>,
-    /// The image that the disk was formatted with.
+    /// The image of the last checkpoint, or of the format where none was made.
     pub image: Vec<u8>,
-    /// The payloads, the oldest first.
+    /// The payloads since, the oldest first.
     pub records: Vec<Vec<u8>>,
 }
 
@@ -57,7 +64,7 @@ impl<D: Disk> Journal<D> {
     /// A stop inside the call may leave what the disk stood for before, the image, or nothing: format it again.
     /// It is refused `Full` where the image is longer than `MAX_IMAGE`, `Memory`, or `Device`.
     pub fn format(alloc: Global, mut disk: D, image: &[u8]) -> Result<Journal<D>, (JournalError, D)>
-        ensures formatted { IfOk result (λ journal. Stands journal (record { image = image.now; payloads = [] })) }
+        ensures formatted { IfOk result (λ journal. Stands journal (image_alone image.now)) }
         ensures half { IfOk result (λ journal. half_of journal ≡ First) }
         ensures generation { IfOk result (λ journal. generation_of journal ≡ 1) }
 
@@ -81,6 +88,7 @@ impl<D: Disk> Journal<D> {
                 half: Half::First,
                 generation: 1,
                 gate: 13 + image.len(),
+                other_is_open: false,
                 halted: false,
             }),
             Err(_) => Err((JournalError::Device, disk)),
@@ -113,6 +121,7 @@ impl<D: Disk> Journal<D> {
                     half: found.half,
                     generation: found.generation,
                     gate: found.gate,
+                    other_is_open: found.other_is_open,
                     halted: false,
                 },
                 image: found.image,
@@ -143,7 +152,7 @@ impl<D: Disk> Journal<D> {
         self.generation
     }
 
-    /// Whether a call was refused `Device` since the disk was opened.
+    /// Whether a call was refused `Device` since the disk was opened or reopened.
     pub fn is_halted(&self) -> bool
         ensures halted { (result ≡ true) ↔ IsHalted self.now }
         // A journal that is not halted has the value of its disk.
@@ -162,7 +171,7 @@ impl<D: Disk> Journal<D> {
 
         // A stop at any moment of the call leaves the value before it, or that with the payload.
         ensures any_moment { (value : Value) → Stands self.old value
-            → LeavesOnly D.moment D.left_since (disk_of self.old) (disk_of self.new) (IsBeforeOrAfter value payload.now) }
+            → LeavesOnly D.moment D.left_since (disk_of self.old) (disk_of self.new) (IsBeforeOrAfter value (with_payload value payload.now)) }
 
         // When each refusal comes, and what it leaves.
         ensures halted { (result ≡ Err JournalError.Halted) ↔ IsHalted self.old }
@@ -258,7 +267,8 @@ fn close<D: Disk>(disk: &mut D, half: Half) -> Result<(), DeviceFailed>
 fn write_image<D: Disk>(disk: &mut D, body: &[u8]) -> Result<(), DeviceFailed>
     requires { length body.now < half_size }
     ensures written { (image : List ℕ) → length image ≤ longest_image → body.now ≡ body_of_image 1 image
-        → OnOk result (IsWhole (D.seen disk.new) First 1 (13 + length image) (record { image = image; payloads = [] })) }
+        → OnOk result (IsWhole (D.seen disk.new) First 1 (13 + length image) (image_alone image)) }
+    ensures other { OnOk result (is_open (D.seen disk.new) Second ≡ false) }
     ensures durable { OnOk result (Only (D.seen disk.new) (D.may_leave disk.new)) }
     ensures count { CountsFailure result (D.failures disk.old) (D.failures disk.new) }
 {

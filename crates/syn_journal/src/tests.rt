@@ -4,6 +4,9 @@ use std::alloc::Global;
 use std::test::Fail;
 use syn_disk::{Arm, Cut, Disk, Leaves, MemDisk, Restart};
 
+mod checkpoint;
+mod reopen;
+
 const IMAGE: [u8; 3] = [7, 8, 9];
 // The first half up to the first gate, and a record with the next gate.
 const FORMATTED: [u8; 17] = [0xa5, 0, 0, 0, 0, 0, 0, 0, 1, 0, 0, 0, 3, 7, 8, 9, 0];

@@ -1,11 +1,15 @@
 -- Why an edit is refused or allowed, by what the replica remembers.
 use Rattle.std.proofs.Common.{◌≡◌, ◌<◌, ◌≤◌, ◌⊎◌, ◌+◌, ◌-◌, ◌^◌, ℕ, Bool, true, false, List, ◌∷◌, length, refl, sym, ap, ap₂, ◌∙◌, subst, true≢false, Option, Some, None, Result, Ok, Err, inl, inr, arith}
-use Rattle.std.specs.Prelude.{IfErr, ◌++◌}
+use Rattle.std.specs.Prelude.{IfErr, IsErrAnd, [], ◌++◌}
+use Rattle.std.proofs.lemmas.List.{append_assoc}
 use Rattle.std.specs.Int.{to_be_bytes, w32}
 use Rattle.syn_disk.specs.declared.disk.Disk.{Ghosts}
 use Rattle.syn_model.specs.Path.{path_spelling}
-use Rattle.syn_model.specs.Event.{Edit, Put, MakeDir, Remove, Edited, IsLawfulEdit}
-use Rattle.syn_model.specs.Refusal.{Refusal, number}
+use Rattle.syn_model.specs.Event.{Edit, Put, MakeDir, Remove, Edited, IsLawfulEdit, after_edit}
+use Rattle.syn_model.specs.Refusal.{Refusal, number, Cause, first_cause}
+use Rattle.syn_model.specs.Refusal as why
+use Rattle.syn_model.specs.Standing.{edit_causes, full_causes, full_position, edit_refusal}
+use Rattle.syn_model.specs.Tree.{Tree}
 use Rattle.syn_model.specs.Spelling.{event_spelling}
 use Rattle.syn_model.specs.History.{History, IsAllowed, event_refusal}
 use Rattle.syn_tree.specs.Refusals.{refusal_of as tree_refusal}
@@ -18,6 +22,7 @@ use Rattle.syn_replica.specs.declared.replica.Replica.{Replica}
 use Rattle.syn_replica.specs.declared.error.ReplicaError.{ReplicaError}
 use Rattle.syn_replica.specs.declared.error.ReplicaError.TheVariants.{NoParent, IsDirectory, Exists, Absent, Root, Full, JournalFull, Device, Halted, Memory, NoImage, Damaged, WrongPair}
 use Rattle.std.proofs.lemmas.Option.{none-some, same_Some}
+use Rattle.syn_replica.proofs.CauseLemmas.{first_stays}
 
 is_ok : {X : Type 0} → Result X ReplicaError → Bool
 is_ok (Ok x) = true
@@ -36,6 +41,45 @@ unfolding error_or
 same_error {X} a b same = ap {A = Result X ReplicaError} (λ r. error_or r a) same
 
 -- ---- what an admission answers
+
+-- where a tree refuses an edit
+
+-- want of memory is none of the causes
+SpareMemory : List Cause → Type 0
+SpareMemory [] = Unit {0}
+SpareMemory (cause ∷ causes) = (cause.1 ≡ why.Memory → ⊥) × SpareMemory causes
+
+first_spares : (causes : List Cause) → SpareMemory causes → first_cause causes ≡ Some why.Memory → ⊥
+unfolding SpareMemory
+first_spares [] spare is = none-some _ is
+first_spares ((true, cause) ∷ causes) spare is = spare.0 (same_Some _ _ is)
+first_spares ((false, cause) ∷ causes) spare is = first_spares causes spare.1 is
+
+tree_spares : (tree : Tree) (edit : Edit) → edit_refusal tree edit ≡ Some why.Memory → ⊥
+unfolding SpareMemory
+tree_spares tree (Put path bytes) is = first_spares (edit_causes tree (Put path bytes) ++ full_causes (after_edit tree (Put path bytes))) (λ e. cc e, (λ e. cc e, (λ e. cc e, (λ e. cc e, tt)))) is
+tree_spares tree (MakeDir path) is = first_spares (edit_causes tree (MakeDir path) ++ full_causes (after_edit tree (MakeDir path))) (λ e. cc e, (λ e. cc e, (λ e. cc e, (λ e. cc e, tt)))) is
+tree_spares tree (Remove path) is = first_spares (edit_causes tree (Remove path) ++ full_causes (after_edit tree (Remove path))) (λ e. cc e, (λ e. cc e, (λ e. cc e, (λ e. cc e, tt)))) is
+
+by_tree : (refusal : Option Refusal) (e : TreeError) → (tree_refusal e ≡ why.Memory → ⊥) → refusal ≡ Some (tree_refusal e) → IsAdmission refusal (Err (of_tree e))
+by_tree refusal tree.NoParent spare is = (is, tt)
+by_tree refusal tree.IsDirectory spare is = (is, tt)
+by_tree refusal tree.Exists spare is = (is, tt)
+by_tree refusal tree.Absent spare is = (is, tt)
+by_tree refusal tree.Root spare is = (is, tt)
+by_tree refusal tree.Full spare is = (is, tt)
+by_tree refusal tree.Memory spare is = absurd (spare refl)
+
+returned : (refusal : Option Refusal) (r : Result (Unit {0}) ReplicaError) (e : ReplicaError) → IsErrAnd r (λ returned. returned ≡ e) → IsAdmission refusal (Err e) → IsAdmission refusal r
+returned refusal (Ok done) e is admission = absurd is
+returned refusal (Err other) e is admission = subst (λ x. IsAdmission refusal (Err x)) (sym is) admission
+
+pub tree_refuses : (tree : Tree) (position : ℕ) (edit : Edit) (r : Result (Unit {0}) ReplicaError) (e : TreeError) → Some (tree_refusal e) ≡ edit_refusal tree edit → IsErrAnd r (λ returned. returned ≡ of_tree e) → IsAdmission (refusal_by tree position edit) r
+tree_refuses tree position edit r e is gives =
+    let first : refusal_by tree position edit ≡ Some (tree_refusal e) =
+    ap first_cause (sym (append_assoc (edit_causes tree edit) (full_causes (after_edit tree edit)) (full_position position)))
+    ∙ first_stays (edit_causes tree edit ++ full_causes (after_edit tree edit)) (full_position position) (tree_refusal e) (sym is) in
+    returned (refusal_by tree position edit) r (of_tree e) gives (by_tree (refusal_by tree position edit) e (λ memory. tree_spares tree edit (sym is ∙ ap (λ w. Some w) memory)) first)
 
 pub admission_tree : (r : Option Refusal) (e : ReplicaError) → IsAdmission r (Err e) → IsOfTree e → r ≡ Some (refusal_of e)
 admission_tree r NoParent h t = h.0

@@ -23,7 +23,7 @@ payload_stands goes_on pair value payload history event stands allowed e =
     subst (λ p. StandsFor pair value.image (value.payloads ++ p ∷ []) (history ++ event ∷ [])) (sym e) (goes_on pair value.image value.payloads history event stands allowed)
 
 pub stop_stands : PayloadGoesOn → (pair : ℕ) (value : Value) (payload : Bytes) (history : History) (event : Event) → StandsFor pair value.image value.payloads history → IsAllowed history event → payload ≡ event_spelling event →
-    (bytes : Bytes) → IsBeforeOrAfter value payload bytes → StandsBeforeOrAfter pair history event bytes
+    (bytes : Bytes) → IsBeforeOrAfter value (with_payload value payload) bytes → StandsBeforeOrAfter pair history event bytes
 stop_stands goes_on pair value payload history event stands allowed e bytes (inl m) = inl (record { value = value; means = m; stands = stands })
 stop_stands goes_on pair value payload history event stands allowed e bytes (inr m) = inr (record { value = with_payload value payload; means = m; stands = payload_stands goes_on pair value payload history event stands allowed e })
 

@@ -1,11 +1,11 @@
 use Rattle.std.proofs.Common.{◌≡◌, ◌∙◌, ◌+◌, ◌≤◌, [], ◌∷◌, length, refl, subst, ap, arith}
 use Rattle.syn_disk.specs.Disk.{overwritten}
 use Rattle.syn_journal.specs.Commit.{IsStagedOrOpened, body_of_record}
-use Rattle.syn_journal.specs.Layout.{half_size, open_gate, start_of, IsBeforeOrAfter, with_payload, meaning}
+use Rattle.syn_journal.specs.Layout.{half_size, open_gate, start_of, other_half, is_open, IsBeforeOrAfter, with_payload, meaning}
 use Rattle.syn_journal.specs.Whole.{IsWhole, value_or_empty}
 use Rattle.syn_journal.proofs.Moments.{weakened}
 use Rattle.syn_journal.proofs.Appends.{before_or_after}
-use Rattle.syn_journal.proofs.Whole.{appended}
+use Rattle.syn_journal.proofs.Whole.{appended, other_kept}
 use Rattle.syn_journal.proofs.Meanings.{in_step, means, sizes}
 use Rattle.syn_journal.proofs.journal.Journal.append.Goals as goal
 
@@ -20,7 +20,7 @@ returns-in_err-commit-clause-any_moment g c value stands =
     let fits : journal.gate + 6 + length payload ≤ half_size = omega arith in
     let spells : body ≡ body_of_record payload = c.deref.ensures.value ∙ c.in_ok-body.ensures in
     let run = rw c.start.ensures at (c.commit.ensures.any_moment stands.durable) in
-    weakened g.D.Disk.moment g.D.Disk.left_since _ _ (IsStagedOrOpened seen (start_of journal.half + journal.gate) body) (IsBeforeOrAfter value payload)
+    weakened g.D.Disk.moment g.D.Disk.left_since _ _ (IsStagedOrOpened seen (start_of journal.half + journal.gate) body) (IsBeforeOrAfter value (with_payload value payload))
     (before_or_after seen journal.half journal.generation journal.gate value whole payload body spells fits) run
 
 pub returns-clause-any_moment : goal.returns-clause-any_moment
@@ -34,7 +34,7 @@ returns-clause-any_moment g c value stands =
     let fits : journal.gate + 6 + length payload ≤ half_size = omega arith in
     let spells : body ≡ body_of_record payload = c.deref.ensures.value ∙ c.in_ok-body.ensures in
     let run = rw c.start.ensures at (c.commit.ensures.any_moment stands.durable) in
-    weakened g.D.Disk.moment g.D.Disk.left_since _ _ (IsStagedOrOpened seen (start_of journal.half + journal.gate) body) (IsBeforeOrAfter value payload)
+    weakened g.D.Disk.moment g.D.Disk.left_since _ _ (IsStagedOrOpened seen (start_of journal.half + journal.gate) body) (IsBeforeOrAfter value (with_payload value payload))
     (before_or_after seen journal.half journal.generation journal.gate value whole payload body spells fits) run
 
 -- and then the payload is on the disk
@@ -76,4 +76,6 @@ invariant_of-self-2 g c =
     let next = journal.gate + (5 + length payload) in
     let whole : IsWhole after journal.half journal.generation next (with_payload (value_or_empty (meaning seen)) payload) =
     rw written (appended seen journal.half journal.generation journal.gate _ step.whole payload body spells fits) in
-    record { within = omega arith; in_step = λ _. in_step after journal.half journal.generation next _ whole _ c.in_ok-commit.ensures.durable }
+    let other : is_open after (other_half journal.half) ≡ journal.other_is_open =
+    ap (λ bytes. is_open bytes (other_half journal.half)) written ∙ other_kept seen journal.half journal.generation journal.gate _ step.whole payload body spells fits ∙ step.other in
+    record { within = omega arith; in_step = λ _. in_step after journal.half journal.generation next _ whole _ journal.other_is_open other c.in_ok-commit.ensures.durable }

@@ -6,7 +6,7 @@ use Rattle.syn_replica.proofs.replica.Replica.commit.Goals as goal
 
 pub returns-in_err-append-clause-any_moment : goal.returns-in_err-append-clause-any_moment
 returns-in_err-append-clause-any_moment g c history event stands allowed e =
-    leaves_weaker g.D.Disk.moment g.D.Disk.left_since _ _ (IsBeforeOrAfter stands.value c.args.payload.now) (StandsBeforeOrAfter c.args.self.now.pair history event)
+    leaves_weaker g.D.Disk.moment g.D.Disk.left_since _ _ (IsBeforeOrAfter stands.value (with_payload stands.value c.args.payload.now)) (StandsBeforeOrAfter c.args.self.now.pair history event)
     (stop_stands c.history_laws.ensures.payload c.args.self.now.pair stands.value c.args.payload.now history event stands.means allowed e)
     (c.in_err-append.ensures.any_moment stands.value stands.runs)
 
@@ -23,6 +23,6 @@ returns-clause-acknowledged g c history event stands allowed e tree = (
 
 pub returns-clause-any_moment : goal.returns-clause-any_moment
 returns-clause-any_moment g c history event stands allowed e =
-    leaves_weaker g.D.Disk.moment g.D.Disk.left_since _ _ (IsBeforeOrAfter stands.value c.args.payload.now) (StandsBeforeOrAfter c.args.self.now.pair history event)
+    leaves_weaker g.D.Disk.moment g.D.Disk.left_since _ _ (IsBeforeOrAfter stands.value (with_payload stands.value c.args.payload.now)) (StandsBeforeOrAfter c.args.self.now.pair history event)
     (stop_stands c.history_laws.ensures.payload c.args.self.now.pair stands.value c.args.payload.now history event stands.means allowed e)
     (c.in_ok-append.ensures.any_moment stands.value stands.runs)
