@@ -7,6 +7,8 @@ use Rattle.syn_headline.specs.Acknowledged.{Happened}
 use Rattle.syn_headline.specs.Arms.{unarmed, all_made, one_fails, one_stops}
 use Rattle.syn_headline.specs.World.{SideMachine, written, compacting_cut, World, Step, Halted, Down, At, Edits, Fail, Reopen, Steps, Runs, failed, opened, recovered}
 use Rattle.syn_headline.specs.Side.{room_behind}
+use Rattle.syn_model.specs.Image.{image_spelling}
+use Rattle.syn_model.specs.History.{standing_of}
 use Rattle.syn_witness.specs.Witness.{CutCheckpoint, CheckpointIsCut, new_room, new_machine, opened_world, FailIsRefused, put_one}
 use Rattle.syn_witness.proofs.WitnessSteps.{room_of, edits, meets_unarmed, up_not_down}
 use Rattle.syn_witness.proofs.WitnessLemmas.{edit_allowed}
@@ -98,7 +100,7 @@ found : ℕ → World
 found room = record five_ahead { left = record edited_machine { room = room } }
 
 -- up to the opening
-cuts : (room : ℕ) → (room ≡ room_of (Edited 1 put_one ∷ [])) ⊎ (room ≡ room_behind 7 (Edited 1 put_one ∷ [])) → CutCheckpoint room
+cuts : (room : ℕ) → (room ≡ room_of (Edited 1 put_one ∷ [])) ⊎ (room ≡ room_behind (image_spelling 7 (standing_of (Edited 1 put_one ∷ [])))) → CutCheckpoint room
 unfolding nine_ahead edited_machine five_ahead cut_off_world found
 cuts room finds = record {
   new = found room;
@@ -121,8 +123,8 @@ cuts room finds = record {
   ends_well = (refl, refl, refl);
 }
   where
-    finds_it : (room ≡ room_of (Edited 1 put_one ∷ [])) ⊎ ((true ≡ true) × (room ≡ room_behind 7 (Edited 1 put_one ∷ [])))
-    finds_it = elim finds as (λ _. (room ≡ room_of (Edited 1 put_one ∷ [])) ⊎ ((true ≡ true) × (room ≡ room_behind 7 (Edited 1 put_one ∷ [])))) [
+    finds_it : (room ≡ room_of (Edited 1 put_one ∷ [])) ⊎ ((true ≡ true) × (room ≡ room_behind (image_spelling 7 (standing_of (Edited 1 put_one ∷ [])))))
+    finds_it = elim finds as (λ _. (room ≡ room_of (Edited 1 put_one ∷ [])) ⊎ ((true ≡ true) × (room ≡ room_behind (image_spelling 7 (standing_of (Edited 1 put_one ∷ [])))))) [
       | inl same ↦ inl same
       | inr alone ↦ inr (refl, alone)
     ]
