@@ -1,5 +1,5 @@
 -- What a step does to the coordinator's session, its archive and its reports.
-use Rattle.std.proofs.Common.{◌≡◌, ◌≢◌, ℕ, zero, suc, Bool, true, false, true≢false, if◌then◌else◌, List, [], ◌∷◌, ◌++◌, map, filter_map, refl, sym, ap, ◌∙◌, subst, Option, Some, None, append-nil, inl, inr, ◌⊎◌, slice_get}
+use Rattle.std.proofs.Common.{nat_le, ◌≡◌, ◌≢◌, ℕ, zero, suc, Bool, true, false, true≢false, if◌then◌else◌, List, [], ◌∷◌, ◌++◌, map, filter_map, refl, sym, ap, ◌∙◌, subst, Option, Some, None, append-nil, inl, inr, ◌⊎◌, slice_get}
 use Rattle.std.specs.Prelude.{Contains, IfSome, IsSome}
 use Rattle.syn_model.specs.Event.{Event, Edited, IsLawfulEvent}
 use Rattle.syn_model.specs.Refusal.{Refusal, Device, Cause}
@@ -9,6 +9,7 @@ use Rattle.syn_headline.specs.Side.{Request, Reply}
 use Rattle.syn_headline.specs.Network.{Which, Left, Right, Sent, Message, Asks, Answers}
 use Rattle.syn_headline.specs.Planning.{Planned, Log}
 use Rattle.syn_headline.specs.Acknowledged.{Ack, Happened, Kept_by, kept_in}
+use Rattle.syn_model.specs.Limits.{greatest}
 use Rattle.syn_headline.specs.World.{IsNoItem, RefusesTaken, Up, Halted, Machine, At, Coordinator, World, SideMachine, CoordinatorMachine, set_side, Step, Edits, Start, Deliver, Tick, Checkpoint, Fail, Stop, Open, Reopen, OpensArchive, archive_opened, archive_recovered, refuses_with, edit_causes, start_causes, Starts, Writes, SideGoes, Compacts, CompactsArchive, Reopens, Calls, side_of, TakesRequest, answered, request_failed, request_cut, side_down, IsDueAfter, IsOver, IsExpected, HasPlan, GoesOnFrom, plan_of, StartsFrom, IsNext, IsNothing, AllCanKeep, CoordinatorGoes, Reports, EndsTaken, EndsUnanswered, TakesAnswer, taken, ignored, coordinator_down, Delivers, OpensMachine, cut_off, Status, set_device, answered_by, is_halted, status_of, UnlessDown, Steps}
 use Rattle.syn_headline.specs.Arms.{Arms}
 use Rattle.syn_headline.proofs.Invariant.{Plans, histories_of, IsHarmless, IsKept}
@@ -144,7 +145,7 @@ module _ (plans : Plans) (old : World) (k : IsKept plans old) (new : World) wher
   none_runs kept w = (subst (λ o. IfSome o (λ kept. (old.coordinator.status ≢ Up) × (old.coordinator.running ≡ None) × CanKeep old.coordinator.archive kept × IsHarmless plans (histories_of old) kept)) w k.coordinator.writing).1
 
   opens_archive : (calls : ℕ) (machine : CoordinatorMachine) (kept : List Kept) → OpensArchive old.pair old.coordinator calls machine kept → new ≡ record old { coordinator = machine; acknowledged = old.acknowledged ++ map Kept_by kept } → IsAside old new
-  opens_archive calls _ _ (archive_opened room arms meets left) e = alone old new _ [] tt (inr (refl, refl)) e
+  opens_archive calls _ _ (archive_opened room generation arms meets left) e = alone old new _ [] tt (inr (refl, refl)) e
   opens_archive calls _ _ (archive_recovered arms kept meets w can) e = alone old new _ (kept ∷ []) (can, tt) (inl (none_runs kept w)) e
 
   cuts : (machine : Machine) → new ≡ cut_off old machine → IsAside old new
@@ -196,8 +197,8 @@ module _ (plans : Plans) (old : World) (k : IsKept plans old) (new : World) wher
   course (Deliver message) g = delivers old new (slice_get old.sent message) (was_sent plans old k new message) g
   course Tick (inl g) = stays old new g.1
   course Tick (inr g) = ticks g.1.goes g.1.reports
-  course (Checkpoint (At which)) (full, g) = calls (At which) ((full, why.Full) ∷ []) (SideGoes old which (Compacts old.pair (side_of old which)) []) (λ made h. answers_aside (At which) made (side_goes old made which h.0 _ h.1 h.3)) g
-  course (Checkpoint Coordinator) (full, g) = calls Coordinator ((full, why.Full) ∷ []) (CompactsArchive old) (λ made h. answers_aside Coordinator made (compacts_archive plans old k made h)) g
+  course (Checkpoint (At which)) g = calls (At which) ((nat_le greatest (side_of old which).generation, why.Full) ∷ []) (SideGoes old which (Compacts old.pair (side_of old which)) []) (λ made h. answers_aside (At which) made (side_goes old made which h.0 _ h.1 h.3)) g
+  course (Checkpoint Coordinator) g = calls Coordinator ((nat_le greatest old.coordinator.generation, why.Full) ∷ []) (CompactsArchive old) (λ made h. answers_aside Coordinator made (compacts_archive plans old k made h)) g
   course (Fail machine call) g = unless_down machine _ (λ e. aside old new (sets_device plans old k new machine _ _ e)) g
   course (Stop machine zero) g = unless_down machine _ (λ e. aside old new (cuts plans old k new machine e)) g
   course (Stop machine (suc more)) g = unless_down machine _ (λ e. aside old new (sets_device plans old k new machine _ _ e)) g

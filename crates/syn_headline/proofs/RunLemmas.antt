@@ -1,5 +1,5 @@
 -- What a step does at one machine keeps the invariant, and its replacements are legal.
-use Rattle.std.proofs.Common.{true, ◌-◌, ◌≡◌, ◌≤◌, ◌+◌, ℕ, false, true≢false, List, [], ◌∷◌, ◌++◌, refl, sym, ap, ap₂, ◌∙◌, subst, Option, Some, None, append-nil, arith, inl, inr, ◌⊎◌, slice_get, ◌≢◌, map}
+use Rattle.std.proofs.Common.{suc, true, ◌-◌, ◌≡◌, ◌≤◌, ◌+◌, ℕ, false, true≢false, List, [], ◌∷◌, ◌++◌, refl, sym, ap, ap₂, ◌∙◌, subst, Option, Some, None, append-nil, arith, inl, inr, ◌⊎◌, slice_get, ◌≢◌, map}
 use Rattle.std.specs.Prelude.{Contains, IfSome, All}
 use Rattle.std.proofs.lemmas.List.{append_cancel_left}
 use Rattle.std.proofs.lemmas.List.Elements.{Contains-get_or}
@@ -220,7 +220,7 @@ writes_advances plans old k which event a s _ _ new up (cut meets) e = side_adva
 
 opens_advances : (plans : Plans) (old : World) → IsKept plans old → (which : Which) (calls : ℕ) (machine : SideMachine) (events : List Event) (new : World) → Opens old.pair (side_of old which) calls machine events →
     new ≡ next old which machine (old.sent ++ []) (old.acknowledged ++ map (λ event. Happened which event) events) → Advances plans old new
-opens_advances plans old k which calls _ _ new (opened room arms meets left) e = side_advances plans old k which _ [] [] new (no_event refl) (k.sides which).staged tt nothing e
+opens_advances plans old k which calls _ _ new (opened room generation arms meets left) e = side_advances plans old k which _ [] [] new (no_event refl) (k.sides which).staged tt nothing e
 opens_advances plans old k which calls _ _ new (recovered arms event meets w a) e =
     let s : ((side_of old which).status ≢ Up) × IsSoundEvent plans (histories_of old) old.coordinator.archive which event =
     subst (λ o. IfSome o (λ event. ((side_of old which).status ≢ Up) × IsSoundEvent plans (histories_of old) old.coordinator.archive which event)) w (k.sides which).writing in
@@ -407,7 +407,7 @@ module _ (plans : Plans) (old : World) (k : IsKept plans old) (new : World) wher
   }
 
   opens_archive : (calls : ℕ) (machine : CoordinatorMachine) (ks : List Kept) → OpensArchive old.pair old.coordinator calls machine ks → new ≡ record old { coordinator = machine; acknowledged = old.acknowledged ++ map (λ k. Kept_by k) ks } → Advances plans old new
-  opens_archive calls _ _ (archive_opened room arms meets left) e = coordinator_settles (record old.coordinator { status = Up; room = room; compacting = false; writing = None; arms = arms }) [] k.sound (omega arith) (record { running = k.coordinator.running; runs_over = k.coordinator.runs_over; writing = tt }) e
+  opens_archive calls _ _ (archive_opened room generation arms meets left) e = coordinator_settles (record old.coordinator { status = Up; room = room; generation = generation; compacting = false; writing = None; arms = arms }) [] k.sound (omega arith) (record { running = k.coordinator.running; runs_over = k.coordinator.runs_over; writing = tt }) e
   opens_archive calls _ _ (archive_recovered arms kept meets w can) e =
       let pending : IsPending old.coordinator.status old.coordinator.running kept = subst (λ o. IfSome o (IsPending old.coordinator.status old.coordinator.running)) w k.coordinator.writing in
       coordinator_settles (record old.coordinator { status = Up; archive = after_kept old.coordinator.archive kept; room = old.coordinator.room - record_size (kept_spelling kept); compacting = false; writing = None; arms = arms }) (kept ∷ [])
@@ -426,8 +426,8 @@ module _ (plans : Plans) (old : World) (k : IsKept plans old) (new : World) wher
 
   -- a checkpoint that is done, or has failed, and one that is cut off
   pub compacts_archive : CompactsArchive old new → Advances plans old new
-  compacts_archive (inl (arms, meets, e)) = coordinator_settles (record old.coordinator { room = room_behind (archive_spelling old.pair old.coordinator.archive); arms = arms }) [] k.sound (omega arith)
-      (record { running = k.coordinator.running; runs_over = k.coordinator.runs_over; writing = k.coordinator.writing }) (no_acks (record old.coordinator { room = room_behind (archive_spelling old.pair old.coordinator.archive); arms = arms }) e)
+  compacts_archive (inl (arms, meets, e)) = coordinator_settles (record old.coordinator { room = room_behind (archive_spelling old.pair old.coordinator.archive); generation = suc old.coordinator.generation; arms = arms }) [] k.sound (omega arith)
+      (record { running = k.coordinator.running; runs_over = k.coordinator.runs_over; writing = k.coordinator.writing }) (no_acks (record old.coordinator { room = room_behind (archive_spelling old.pair old.coordinator.archive); generation = suc old.coordinator.generation; arms = arms }) e)
   compacts_archive (inr (inl (arms, meets, e))) =
       let keeps = with_status Halted arms (λ _. halted_not_up) in
       coordinator_settles (record old.coordinator { status = Halted; compacting = true; arms = arms }) [] k.sound (omega arith)

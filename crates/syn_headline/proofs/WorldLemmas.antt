@@ -1,5 +1,5 @@
 -- What is acknowledged is what the machines stand for.
-use Rattle.std.proofs.Common.{fold, ◌-◌, ◌≡◌, ℕ, zero, suc, Bool, true, false, if◌then◌else◌, List, [], ◌∷◌, ◌++◌, map, filter_map, refl, sym, ap, ap₂, ◌∙◌, subst, Option, Some, None, inl, inr, append-nil, append_assoc, slice_get}
+use Rattle.std.proofs.Common.{nat_le, fold, ◌-◌, ◌≡◌, ℕ, zero, suc, Bool, true, false, if◌then◌else◌, List, [], ◌∷◌, ◌++◌, map, filter_map, refl, sym, ap, ap₂, ◌∙◌, subst, Option, Some, None, inl, inr, append-nil, append_assoc, slice_get}
 use Rattle.std.proofs.lemmas.List.Elements.{filter_map-append}
 use Rattle.syn_model.specs.Spelling.{event_spelling}
 use Rattle.syn_model.specs.Event.{Event, Edited, IsLawfulEvent}
@@ -12,6 +12,7 @@ use Rattle.syn_headline.specs.Side.{Request, Reply, Refused, record_size}
 use Rattle.syn_model.specs.Refusal.{Refusal, Device, Cause}
 use Rattle.syn_model.specs.Refusal as why
 use Rattle.syn_headline.specs.Planning.{Log}
+use Rattle.syn_model.specs.Limits.{greatest}
 use Rattle.syn_headline.specs.World.{Running, World, SideMachine, CoordinatorMachine, Machine, At, Coordinator, Step, Edits, Start, Deliver, Tick, Checkpoint, Fail, Stop, Open, Reopen, side_of, set_side, stopped, Writes, SideGoes, Opens, OpensArchive, TakesRequest, TakesAnswer, CoordinatorGoes, Delivers, OpensMachine, cut_off, set_device, answered_by, is_halted, status_of, UnlessDown, Status, Halted, Steps, written, failed, cut, opened, recovered, archive_opened, archive_recovered, refuses_with, edit_causes, start_causes, Starts, Reopens, Calls, answered, request_failed, request_cut, side_down, taken, ignored, coordinator_down, CompactsArchive, Compacts, compacted, compacting_failed, compacting_cut}
 use Rattle.syn_headline.specs.Arms.{Arms}
 use Rattle.syn_headline.specs.Headline.{StandsFor, RunsStand}
@@ -97,7 +98,7 @@ writes_history m event new es (failed arms meets) = sym (append-nil m.side.histo
 writes_history m event new es (cut meets) = sym (append-nil m.side.history)
 
 opens_history : (pair : ℕ) (m : SideMachine) (calls : ℕ) (new : SideMachine) (es : List Event) → Opens pair m calls new es → new.side.history ≡ m.side.history ++ es
-opens_history pair m calls new es (opened room arms meets left) = sym (append-nil m.side.history)
+opens_history pair m calls new es (opened room generation arms meets left) = sym (append-nil m.side.history)
 opens_history pair m calls new es (recovered arms event meets is allowed) = refl
 
 compacts_history : (pair : ℕ) (m : SideMachine) (new : SideMachine) (es : List Event) → Compacts pair m new es → new.side.history ≡ m.side.history ++ es
@@ -106,7 +107,7 @@ compacts_history pair m new es (compacting_failed arms meets) = sym (append-nil 
 compacts_history pair m new es (compacting_cut meets) = sym (append-nil m.side.history)
 
 opens_archive : (pair : ℕ) (m : CoordinatorMachine) (calls : ℕ) (new : CoordinatorMachine) (ks : List Kept) → OpensArchive pair m calls new ks → new.archive ≡ archive_of m.archive ks
-opens_archive pair m calls new ks (archive_opened room arms meets left) = refl
+opens_archive pair m calls new ks (archive_opened room generation arms meets left) = refl
 opens_archive pair m calls new ks (archive_recovered arms kept meets is can) = refl
 
 side_steps : (before : Stores) (old : World) (which : Which) (Goes : SideMachine → List Event → Type 0) (new : World) → ((m : SideMachine) (es : List Event) → Goes m es → m.side.history ≡ (side_of old which).side.history ++ es) →
@@ -206,9 +207,9 @@ step_stands before old Start new s g = calls before old Coordinator (start_cause
 step_stands before old (Deliver message) new s g = delivers before old (slice_get old.sent message) new s g
 step_stands before old Tick new s (inl g) = same_world before old new s g.1
 step_stands before old Tick new s (inr g) = coordinator_steps before old [] _ _ new s g.1.goes
-step_stands before old (Checkpoint (At which)) new s (full, g) = calls before old (At which) ((full, why.Full) ∷ []) (SideGoes old which (Compacts old.pair (side_of old which)) []) new s
+step_stands before old (Checkpoint (At which)) new s g = calls before old (At which) ((nat_le greatest (side_of old which).generation, why.Full) ∷ []) (SideGoes old which (Compacts old.pair (side_of old which)) []) new s
     (λ made. side_steps before old which (Compacts old.pair (side_of old which)) made (compacts_history old.pair (side_of old which)) s) g
-step_stands before old (Checkpoint Coordinator) new s (full, g) = calls before old Coordinator ((full, why.Full) ∷ []) (CompactsArchive old) new s (λ made. compacts_archive before old made s) g
+step_stands before old (Checkpoint Coordinator) new s g = calls before old Coordinator ((nat_le greatest old.coordinator.generation, why.Full) ∷ []) (CompactsArchive old) new s (λ made. compacts_archive before old made s) g
 step_stands before old (Fail machine call) new s g = unless_down before old machine _ new s (device_stands before old machine _ _ new s) g
 step_stands before old (Stop machine zero) new s g = unless_down before old machine _ new s (cut_stands before old machine new s) g
 step_stands before old (Stop machine (suc more)) new s g = unless_down before old machine _ new s (device_stands before old machine _ _ new s) g

@@ -35,11 +35,12 @@ pub data Step : Type 0 where
   Open : (machine : Machine) → Step
   Reopen : (machine : Machine) → Step
 
--- a side: what it stands for, how many bytes its journal has left, and whether a checkpoint and what event was being written when it stopped or a device failed
+-- a side: what it stands for, how many bytes its journal has left and its generation, and whether a checkpoint and what event was being written when it stopped or a device failed
 pub record SideMachine : Type 0 where
   pub status : Status
   pub side : Side
   pub room : ℕ
+  pub generation : ℕ
   pub compacting : Bool
   pub writing : Option Event
   pub arms : Arms
@@ -62,6 +63,7 @@ pub record CoordinatorMachine : Type 0 where
   pub status : Status
   pub archive : Archive
   pub room : ℕ
+  pub generation : ℕ
   pub compacting : Bool
   pub writing : Option Kept
   pub running : Option Running
@@ -117,16 +119,16 @@ SideGoes old which Goes messages new =
 
 -- a checkpoint of a side leaves the image alone in its journal; one that fails or is cut off is under way until the next opening
 pub data Compacts (pair : ℕ) (machine : SideMachine) : SideMachine → List Event → Type 0 where
-  compacted : (arms : Arms) → Meets machine.arms 6 0 Up arms → Compacts pair machine (record machine { room = room_behind (image_spelling pair (standing_of machine.side.history)); arms = arms }) []
+  compacted : (arms : Arms) → Meets machine.arms 6 0 Up arms → Compacts pair machine (record machine { room = room_behind (image_spelling pair (standing_of machine.side.history)); generation = suc machine.generation; arms = arms }) []
   compacting_failed : (arms : Arms) → Meets machine.arms 0 6 Halted arms → Compacts pair machine (record machine { status = Halted; compacting = true; arms = arms }) []
   compacting_cut : Meets machine.arms 0 6 Down unarmed → Compacts pair machine (record (stopped machine machine.writing) { compacting = true }) []
 
 -- an opening by so many device calls gives the history, and the journal as it was or as the checkpoint that was being written leaves it; or the event too that was being written
 pub data Opens (pair : ℕ) (machine : SideMachine) (calls : ℕ) : SideMachine → List Event → Type 0 where
-  opened : (room : ℕ) (arms : Arms) → Meets machine.arms calls 0 Up arms → (room ≡ machine.room) ⊎ ((machine.compacting ≡ true) × (room ≡ room_behind (image_spelling pair (standing_of machine.side.history)))) →
-      Opens pair machine calls (record machine { status = Up; room = room; compacting = false; writing = None; arms = arms }) []
+  opened : (room generation : ℕ) (arms : Arms) → Meets machine.arms calls 0 Up arms → ((room ≡ machine.room) × (generation ≡ machine.generation)) ⊎ ((machine.compacting ≡ true) × (generation ≡ suc machine.generation) × (room ≡ room_behind (image_spelling pair (standing_of machine.side.history)))) →
+      Opens pair machine calls (record machine { status = Up; room = room; generation = generation; compacting = false; writing = None; arms = arms }) []
   recovered : (arms : Arms) (event : Event) → Meets machine.arms calls 0 Up arms → machine.writing ≡ Some event → IsAllowed machine.side.history event →
-      Opens pair machine calls (record { status = Up; side = add_event machine.side event; room = machine.room - record_size (event_spelling event); compacting = false; writing = None; arms = arms }) (event ∷ [])
+      Opens pair machine calls (record { status = Up; side = add_event machine.side event; room = machine.room - record_size (event_spelling event); generation = machine.generation; compacting = false; writing = None; arms = arms }) (event ∷ [])
 
 -- a halted side still stages, and refuses all else
 abbrev pub serve_halted : Side → ℕ → Request → Served
@@ -175,8 +177,7 @@ IsOfPlan pair sent session plan to (ListAt path) = HasBegun sent to session
 IsOfPlan pair sent session plan to (Fetch path since offset) = (item : ℕ) × (planned : Planned) × (slice_get plan item ≡ Some planned) × WritesTo planned.item (other to) path × (since ≡ (seen_on planned to).since)
 IsOfPlan pair sent session plan to (Stage item offset bytes) = (planned : Planned) × (slice_get plan item ≡ Some planned) × IsFetched sent to session planned offset bytes
 IsOfPlan pair sent session plan to (Replace item path since size) =
-    (planned : Planned) × (slice_get plan item ≡ Some planned) × WritesTo planned.item to path × (since ≡ (seen_on planned to).since)
-    × IsTotal sent to session planned size
+    (planned : Planned) × (slice_get plan item ≡ Some planned) × WritesTo planned.item to path × (since ≡ (seen_on planned to).since) × IsTotal sent to session planned size
 
 -- a request of the running session
 abbrev pub IsOfSession : ℕ → Sent → Running → Message → Type 0
@@ -304,11 +305,11 @@ RefusesTaken old new from number plan reply refused = IsSomeAnd old.coordinator.
 abbrev pub DoesNotFit : (Kept → Type 0) → Archive → ℕ → Type 0
 DoesNotFit IsDue_now archive room = (kept : Kept) × IsDue_now kept × CanKeep archive kept × (room < record_size (kept_spelling kept))
 
--- what an archive may answer to a record that is due: its device fails or has failed before, or also what a checkpoint leaves has no room for it
+-- what an archive may answer to a record that is due: its device fails or has failed before, or also what a checkpoint leaves has no room for it, or no checkpoint can be made
 pub data ArchiveMeets (pair : ℕ) (old new : CoordinatorMachine) (IsDue_now : Kept → Type 0) : Refusal → Type 0 where
   fails : old.status ≡ Up → new.status ≡ Halted → ArchiveMeets pair old new IsDue_now Device
   failed_before : (kept : Kept) → IsDue_now kept → old.status ≡ Halted → ArchiveMeets pair old new IsDue_now why.Halted
-  no_room : new.status ≡ Up → new.room ≡ room_behind (archive_spelling pair new.archive) → DoesNotFit IsDue_now new.archive new.room → ArchiveMeets pair old new IsDue_now why.JournalFull
+  no_room : new.status ≡ Up → (new.room ≡ room_behind (archive_spelling pair new.archive)) ⊎ (nat_le greatest new.generation ≡ true) → DoesNotFit IsDue_now new.archive new.room → ArchiveMeets pair old new IsDue_now why.JournalFull
 
 abbrev pub EndsTaken : World → World → Which → ℕ → List Planned → Reply → Running → Report → Type 0
 EndsTaken old new from number plan reply running report =
@@ -338,8 +339,7 @@ resent_to side running = map (λ waiting. Asks side running.session waiting.numb
 -- nobody answers a request that was sent so often, or memory is refused
 abbrev pub EndsUnanswered : Running → Report → Type 0
 EndsUnanswered running report =
-    (report.session ≡ running.session) × (report.end ≡ Incomplete)
-    × (((is_resent running ≡ true) × (report.ended ≡ Some why.NoAnswer)) ⊎ (report.ended ≡ Some why.Memory))
+    (report.session ≡ running.session) × (report.end ≡ Incomplete) × (((is_resent running ≡ true) × (report.ended ≡ Some why.NoAnswer)) ⊎ (report.ended ≡ Some why.Memory))
 
 -- each request that waits is sent once more, unless one was sent so often already
 pub record SendsAgain (old new : World) (running later : Running) : Type 0 where
@@ -356,14 +356,14 @@ pub record Ticks (old new : World) : Type 0 where
 
 -- each record takes its bytes, and the one that is being written fits too
 abbrev pub TakesRoom : CoordinatorMachine → List Kept → CoordinatorMachine → Type 0
-TakesRoom old kept new = (old.room ≡ sum_by (λ kept. record_size (kept_spelling kept)) kept + new.room) × IfSome new.writing (λ more. record_size (kept_spelling more) ≤ new.room) × (new.compacting ≡ old.compacting)
+TakesRoom old kept new = (old.room ≡ sum_by (λ kept. record_size (kept_spelling kept)) kept + new.room) × IfSome new.writing (λ more. record_size (kept_spelling more) ≤ new.room) × (new.generation ≡ old.generation) × (new.compacting ≡ old.compacting)
 
 -- an answer that is taken writes records, with four device calls each; before one that does not fit it may make one checkpoint, with six, which may fail or be cut off
 pub data CallsArchive (pair : ℕ) (IsDue_now : Kept → Type 0) (old : CoordinatorMachine) (kept : List Kept) (new : CoordinatorMachine) : Type 0 where
   records : TakesRoom old kept new → Meets old.arms (4 * length kept) (if is_some new.writing then 4 else 0) new.status new.arms → CallsArchive pair IsDue_now old kept new
   checkpointed : (earlier later : List Kept) (room : ℕ) → kept ≡ earlier ++ later → old.room ≡ sum_by (λ kept. record_size (kept_spelling kept)) earlier + room → DoesNotFit IsDue_now (archive_of old.archive earlier) room →
-      TakesRoom (record old { room = room_behind (archive_spelling pair (archive_of old.archive earlier)) }) later new → Meets old.arms (4 * length kept + 6) (if is_some new.writing then 4 else 0) new.status new.arms → CallsArchive pair IsDue_now old kept new
-  checkpointing : new.status ≢ Up → new.writing ≡ None → TakesRoom (record old { compacting = true }) kept new → DoesNotFit IsDue_now new.archive new.room → Meets old.arms (4 * length kept) 6 new.status new.arms → CallsArchive pair IsDue_now old kept new
+      nat_le greatest old.generation ≡ false → TakesRoom (record old { room = room_behind (archive_spelling pair (archive_of old.archive earlier)); generation = suc old.generation }) later new → Meets old.arms (4 * length kept + 6) (if is_some new.writing then 4 else 0) new.status new.arms → CallsArchive pair IsDue_now old kept new
+  checkpointing : new.status ≢ Up → nat_le greatest old.generation ≡ false → new.writing ≡ None → TakesRoom (record old { compacting = true }) kept new → DoesNotFit IsDue_now new.archive new.room → Meets old.arms (4 * length kept) 6 new.status new.arms → CallsArchive pair IsDue_now old kept new
 
 -- the coordinator takes an answer, or ignores one that it does not wait for
 pub data TakesAnswer (old : World) (from : Which) (session number : ℕ) (reply : Reply) (new : World) : Type 0 where
@@ -381,8 +381,8 @@ Delivers old (Some (Answers from session number reply)) new = TakesAnswer old fr
 
 -- what an opening of the archive gives
 pub data OpensArchive (pair : ℕ) (machine : CoordinatorMachine) (calls : ℕ) : CoordinatorMachine → List Kept → Type 0 where
-  archive_opened : (room : ℕ) (arms : Arms) → Meets machine.arms calls 0 Up arms → (room ≡ machine.room) ⊎ ((machine.compacting ≡ true) × (room ≡ room_behind (archive_spelling pair machine.archive))) →
-      OpensArchive pair machine calls (record machine { status = Up; room = room; compacting = false; writing = None; arms = arms }) []
+  archive_opened : (room generation : ℕ) (arms : Arms) → Meets machine.arms calls 0 Up arms → ((room ≡ machine.room) × (generation ≡ machine.generation)) ⊎ ((machine.compacting ≡ true) × (generation ≡ suc machine.generation) × (room ≡ room_behind (archive_spelling pair machine.archive))) →
+      OpensArchive pair machine calls (record machine { status = Up; room = room; generation = generation; compacting = false; writing = None; arms = arms }) []
   archive_recovered : (arms : Arms) (kept : Kept) → Meets machine.arms calls 0 Up arms → machine.writing ≡ Some kept → CanKeep machine.archive kept →
       OpensArchive pair machine calls (record machine { status = Up; archive = after_kept machine.archive kept; room = machine.room - record_size (kept_spelling kept); compacting = false; writing = None; arms = arms }) (kept ∷ [])
 
@@ -445,7 +445,7 @@ Reopens old machine calls new =
 abbrev pub CompactsArchive : World → World → Type 0
 CompactsArchive old new =
     let begun = record old { coordinator = record old.coordinator { compacting = true } } in
-    ((arms : Arms) × Meets old.coordinator.arms 6 0 Up arms × (new ≡ record old { coordinator = record old.coordinator { room = room_behind (archive_spelling old.pair old.coordinator.archive); arms = arms } }))
+    ((arms : Arms) × Meets old.coordinator.arms 6 0 Up arms × (new ≡ record old { coordinator = record old.coordinator { room = room_behind (archive_spelling old.pair old.coordinator.archive); generation = suc old.coordinator.generation; arms = arms } }))
     ⊎ (((arms : Arms) × Meets old.coordinator.arms 0 6 Halted arms × (new ≡ set_device begun Coordinator Halted arms)) ⊎ (Meets old.coordinator.arms 0 6 Down unarmed × (new ≡ cut_off begun Coordinator)))
 
 abbrev pub edit_causes : SideMachine → Event → List Cause
@@ -470,8 +470,8 @@ Steps old (Edits side user edit) new =
 Steps old Start new = Calls old Coordinator (start_causes old.coordinator) (Starts old) new
 Steps old (Deliver message) new = Delivers old (slice_get old.sent message) new
 Steps old Tick new = ((old.coordinator.running ≡ None) × (new ≡ old)) ⊎ ((old.coordinator.running ≢ None) × Ticks old new)
-Steps old (Checkpoint (At which)) new = (full : Bool) × Calls old (At which) ((full, why.Full) ∷ []) (SideGoes old which (Compacts old.pair (side_of old which)) []) new
-Steps old (Checkpoint Coordinator) new = (full : Bool) × Calls old Coordinator ((full, why.Full) ∷ []) (CompactsArchive old) new
+Steps old (Checkpoint (At which)) new = Calls old (At which) ((nat_le greatest (side_of old which).generation, why.Full) ∷ []) (SideGoes old which (Compacts old.pair (side_of old which)) []) new
+Steps old (Checkpoint Coordinator) new = Calls old Coordinator ((nat_le greatest old.coordinator.generation, why.Full) ∷ []) (CompactsArchive old) new
 Steps old (Fail machine call) new = UnlessDown old machine (new ≡ set_device old machine (status_of old machine) (record (arms_of old machine) { fail = call })) new
 Steps old (Stop machine zero) new = UnlessDown old machine (new ≡ cut_off old machine) new
 Steps old (Stop machine (suc calls)) new = UnlessDown old machine (new ≡ set_device old machine (status_of old machine) (record (arms_of old machine) { stop = suc calls })) new

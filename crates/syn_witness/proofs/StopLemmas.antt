@@ -1,5 +1,5 @@
 -- Without a stop among the steps no machine goes down, and a device call that is armed comes.
-use Rattle.std.proofs.Common.{◌≡◌, ◌≢◌, ◌-◌, ℕ, suc, Bool, true, false, if◌then◌else◌, List, [], ◌∷◌, ◌++◌, append-nil, map, refl, sym, ap, ◌∙◌, subst, Option, Some, None, arith, inl, inr, slice_get}
+use Rattle.std.proofs.Common.{nat_le, ◌≡◌, ◌≢◌, ◌-◌, ℕ, suc, Bool, true, false, if◌then◌else◌, List, [], ◌∷◌, ◌++◌, append-nil, map, refl, sym, ap, ◌∙◌, subst, Option, Some, None, arith, inl, inr, slice_get}
 use Rattle.std.specs.Prelude.{Contains}
 use Rattle.std.proofs.lemmas.List.Elements.{Contains-append_right}
 use Rattle.syn_model.specs.Refusal.{Refusal, Device, Cause}
@@ -12,6 +12,7 @@ use Rattle.syn_headline.specs.Arms.{Arms, IsBefore, Meets, all_made, one_fails, 
 use Rattle.syn_headline.specs.Planning.{Log}
 use Rattle.syn_headline.specs.Side.{room_behind}
 use Rattle.syn_model.specs.MarkSpelling.{archive_spelling}
+use Rattle.syn_model.specs.Limits.{greatest}
 use Rattle.syn_headline.specs.World.{Status, Up, Halted, Down, Machine, At, Coordinator, World, SideMachine, CoordinatorMachine, Running, side_of, set_side, Step, Edits, Start, Deliver, Tick, Checkpoint, Fail, Stop, Open, Reopen, Writes, written, failed, cut, SideGoes, Opens, opened, recovered, OpensArchive, archive_opened, archive_recovered, TakesRequest, answered, request_failed, request_cut, side_down, CoordinatorGoes, TakesAnswer, taken, ignored, coordinator_down, Delivers, OpensMachine, refuses_with, is_halted, status_of, arms_of, set_device, answered_by, UnlessDown, edit_causes, start_causes, Starts, Reopens, Calls, Steps, Runs, CallsArchive, records, checkpointed, checkpointing, CompactsArchive, Compacts, compacted, compacting_failed, compacting_cut}
 use Rattle.syn_headline.specs.Acknowledged.{Happened}
 use Rattle.syn_headline.specs.Headline.{IsStart}
@@ -71,8 +72,8 @@ module _ (old : World) (h : AllSafe old) (new : World) where
 
   archive_safe : {D : Kept → Type 0} {kept : List Kept} → CallsArchive old.pair D old.coordinator kept new.coordinator → IsSafe new.coordinator.status new.coordinator.arms
   archive_safe (records room meets) = meets_safe _ _ _ _ _ (h Coordinator).1 meets
-  archive_safe (checkpointed earlier later room is takes full left meets) = meets_safe _ _ _ _ _ (h Coordinator).1 meets
-  archive_safe (checkpointing not_up none left full meets) = meets_safe _ _ _ _ _ (h Coordinator).1 meets
+  archive_safe (checkpointed earlier later room is takes full can left meets) = meets_safe _ _ _ _ _ (h Coordinator).1 meets
+  archive_safe (checkpointing not_up can none left full meets) = meets_safe _ _ _ _ _ (h Coordinator).1 meets
 
   answer_safe : (from : Which) (session number : ℕ) (reply : Reply) → TakesAnswer old from session number reply new → AllSafe new
   answer_safe from session number reply (taken plan logged expected made g calls reports) = goes_safe logged _ _ g (by_status old.coordinator.status refl)
@@ -101,7 +102,7 @@ module _ (old : World) (h : AllSafe old) (new : World) where
   writes_safe which event _ _ (cut meets) = absurd ((meets_safe _ _ _ _ _ (h (At which)).1 meets).0 refl)
 
   opens_safe : (which : Which) (calls : ℕ) (machine : SideMachine) (events : List Event) → Opens old.pair (side_of old which) calls machine events → IsSafe machine.status machine.arms
-  opens_safe which calls _ _ (opened room arms meets left) = meets_safe _ _ _ _ _ (h (At which)).1 meets
+  opens_safe which calls _ _ (opened room generation arms meets left) = meets_safe _ _ _ _ _ (h (At which)).1 meets
   opens_safe which calls _ _ (recovered arms event meets w a) = meets_safe _ _ _ _ _ (h (At which)).1 meets
 
   compacts_safe : (which : Which) (machine : SideMachine) (events : List Event) → Compacts old.pair (side_of old which) machine events → IsSafe machine.status machine.arms
@@ -110,11 +111,11 @@ module _ (old : World) (h : AllSafe old) (new : World) where
   compacts_safe which _ _ (compacting_cut meets) = absurd ((meets_safe _ _ _ _ _ (h (At which)).1 meets).0 refl)
 
   opens_archive_safe : (calls : ℕ) (machine : CoordinatorMachine) (kept : List Kept) → OpensArchive old.pair old.coordinator calls machine kept → IsSafe machine.status machine.arms
-  opens_archive_safe calls _ _ (archive_opened room arms meets left) = meets_safe _ _ _ _ _ (h Coordinator).1 meets
+  opens_archive_safe calls _ _ (archive_opened room generation arms meets left) = meets_safe _ _ _ _ _ (h Coordinator).1 meets
   opens_archive_safe calls _ _ (archive_recovered arms kept meets w can) = meets_safe _ _ _ _ _ (h Coordinator).1 meets
 
   compacts_archive_safe : CompactsArchive old new → AllSafe new
-  compacts_archive_safe (inl (arms, meets, e)) = subst AllSafe (sym e) (coordinator_safe old h (record old.coordinator { room = room_behind (archive_spelling old.pair old.coordinator.archive); arms = arms }) ((h Coordinator).0, (meets_safe _ _ _ _ _ (h Coordinator).1 meets).1))
+  compacts_archive_safe (inl (arms, meets, e)) = subst AllSafe (sym e) (coordinator_safe old h (record old.coordinator { room = room_behind (archive_spelling old.pair old.coordinator.archive); generation = suc old.coordinator.generation; arms = arms }) ((h Coordinator).0, (meets_safe _ _ _ _ _ (h Coordinator).1 meets).1))
   compacts_archive_safe (inr (inl (arms, meets, e))) = subst AllSafe (sym e) (coordinator_safe old h (record old.coordinator { status = Halted; compacting = true; arms = arms }) (meets_safe _ _ _ _ _ (h Coordinator).1 meets))
   compacts_archive_safe (inr (inr (meets, e))) = absurd ((meets_safe _ _ _ _ _ (h Coordinator).1 meets).0 refl)
 
@@ -158,9 +159,9 @@ module _ (old : World) (h : AllSafe old) (new : World) where
   step_safe (Deliver message) none g = delivers_safe old h new (slice_get old.sent message) g
   step_safe Tick none (inl g) = same_safe old h new g.1
   step_safe Tick none (inr g) = goes_safe old h new [] _ _ g.1.goes (subst (λ m. IsSafe m.status m.arms) (sym g.1.no_call) (h Coordinator))
-  step_safe (Checkpoint (At which)) none (full, g) = calls_safe (At which) ((full, why.Full) ∷ []) (SideGoes old which (Compacts old.pair (side_of old which)) [])
+  step_safe (Checkpoint (At which)) none g = calls_safe (At which) ((nat_le greatest (side_of old which).generation, why.Full) ∷ []) (SideGoes old which (Compacts old.pair (side_of old which)) [])
       (λ made r. side_goes_safe old h made which (Compacts old.pair (side_of old which)) (compacts_safe old h made which) r) g
-  step_safe (Checkpoint Coordinator) none (full, g) = calls_safe Coordinator ((full, why.Full) ∷ []) (CompactsArchive old) (λ made r. compacts_archive_safe old h made r) g
+  step_safe (Checkpoint Coordinator) none g = calls_safe Coordinator ((nat_le greatest old.coordinator.generation, why.Full) ∷ []) (CompactsArchive old) (λ made r. compacts_archive_safe old h made r) g
   step_safe (Fail machine call) none g = unless_down_safe machine _ (device_safe old h new machine _ _ (h machine)) g
   step_safe (Stop machine calls) none g = absurd (none machine calls refl)
   step_safe (Open machine) none (inl g) = same_safe old h new g.1

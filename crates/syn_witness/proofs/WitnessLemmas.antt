@@ -49,7 +49,7 @@ cut_world = record opened_world { left = stopped new_machine (Some (Edited 1 put
 
 recovered_world : World
 recovered_world = record opened_world {
-  left = record { status = Up; side = record { history = Edited 1 put_one ∷ []; staging = None }; room = room_of (Edited 1 put_one ∷ []); compacting = false; writing = None; arms = unarmed };
+  left = record { status = Up; side = record { history = Edited 1 put_one ∷ []; staging = None }; room = room_of (Edited 1 put_one ∷ []); generation = 1; compacting = false; writing = None; arms = unarmed };
   acknowledged = Happened Left (Edited 1 put_one) ∷ [];
 }
 
@@ -105,7 +105,7 @@ begin_waits resent = both_sent (begins (suc resent)) (waiting_for resent) (begin
 
 abbrev waiting : ℕ → World
 waiting resent = record opened_world {
-  coordinator = record { status = Up; archive = record { marks = empty_directory; last_session = 1 }; room = archive_left new_archive_room (Session 1 ∷ []); compacting = false; writing = None; running = Some (waiting_for resent); arms = unarmed };
+  coordinator = record { status = Up; archive = record { marks = empty_directory; last_session = 1 }; room = archive_left new_archive_room (Session 1 ∷ []); generation = 1; compacting = false; writing = None; running = Some (waiting_for resent); arms = unarmed };
   sent = begins (suc resent);
   acknowledged = Kept_by (Session 1) ∷ [];
 }
@@ -128,7 +128,7 @@ starts = inr (
           (refl, refl, refl) (refl, begin_waits 0, (omega arith, omega arith, omega arith)) (begins_tell 1) (begins_once 1) (begins_lawful (waiting_for 0) [] refl),
       refl,
       inl (refl, refl),
-      (refl, tt, refl),
+      (refl, tt, refl, refl),
       meets_unarmed _ _ _ refl,
     ),
     refl,
@@ -156,7 +156,7 @@ resends resent early = inr (
 
 abbrev ended_world : ℕ → World
 ended_world resent = record (waiting resent) {
-  coordinator = record { status = Up; archive = record { marks = empty_directory; last_session = 1 }; room = archive_left new_archive_room (Session 1 ∷ []); compacting = false; writing = None; running = None; arms = unarmed };
+  coordinator = record { status = Up; archive = record { marks = empty_directory; last_session = 1 }; room = archive_left new_archive_room (Session 1 ∷ []); generation = 1; compacting = false; writing = None; running = None; arms = unarmed };
   reports = (unanswered, 1) ∷ [];
 }
 

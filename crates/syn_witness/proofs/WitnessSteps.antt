@@ -112,7 +112,7 @@ archive_left room kept = fold (λ room kept. room - record_size (kept_spelling k
 
 abbrev pub after_call : World → Log → Archive → Option Running → List Message → List Kept → List (Report × ℕ) → World
 after_call old logged archive running messages kept reports = record old {
-  coordinator = record { status = Up; archive = archive; room = archive_left old.coordinator.room kept; compacting = old.coordinator.compacting; writing = None; running = running; arms = unarmed };
+  coordinator = record { status = Up; archive = archive; room = archive_left old.coordinator.room kept; generation = old.coordinator.generation; compacting = old.coordinator.compacting; writing = None; running = running; arms = unarmed };
   sent = old.sent ++ messages;
   acknowledged = old.acknowledged ++ map Kept_by kept;
   reports = old.reports ++ reports;
@@ -136,7 +136,7 @@ abbrev pub goes : (old : World) (logged : Log) (IsDue_now : Kept → Type 0) (Ru
     RunsOn running → RunsOver (old.sent ++ messages) archive running → NumbersTell (old.sent ++ messages) → AsksNothingTwice (old.sent ++ messages) → AllOfSession old.pair old.sent running messages →
     CoordinatorGoes old logged IsDue_now RunsOn (after_call old logged archive running messages kept reports)
 goes old logged IsDue_now RunsOn archive running messages kept reports ready due can is on over tell once of = record {
-  machine = record { status = Up; archive = archive; room = archive_left old.coordinator.room kept; compacting = old.coordinator.compacting; writing = None; running = running; arms = unarmed };
+  machine = record { status = Up; archive = archive; room = archive_left old.coordinator.room kept; generation = old.coordinator.generation; compacting = old.coordinator.compacting; writing = None; running = running; arms = unarmed };
   kept = kept;
   messages = messages;
   reports = reports;
@@ -175,9 +175,9 @@ room_of history = room_after new_room history
 abbrev pub world_of : Sent → List Ack → Log → ℕ → Side → Side → Archive → Option Running → ℕ → ℕ → World
 world_of messages acks log made_at left right archive running said acknowledged = record {
   pair = 7;
-  left = record { status = Up; side = left; room = room_of left.history; compacting = false; writing = None; arms = unarmed };
-  right = record { status = Up; side = right; room = room_of right.history; compacting = false; writing = None; arms = unarmed };
-  coordinator = record { status = Up; archive = archive; room = archive_left new_archive_room (filter_map kept_in (take acknowledged acks)); compacting = false; writing = None; running = running; arms = unarmed };
+  left = record { status = Up; side = left; room = room_of left.history; generation = 1; compacting = false; writing = None; arms = unarmed };
+  right = record { status = Up; side = right; room = room_of right.history; generation = 1; compacting = false; writing = None; arms = unarmed };
+  coordinator = record { status = Up; archive = archive; room = archive_left new_archive_room (filter_map kept_in (take acknowledged acks)); generation = 1; compacting = false; writing = None; running = running; arms = unarmed };
   sent = take said messages;
   acknowledged = take acknowledged acks;
   refusals = [];

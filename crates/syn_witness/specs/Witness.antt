@@ -32,7 +32,7 @@ abbrev pub NewRoomIs : Type 0
 NewRoomIs = (room_behind (image_spelling 7 (standing_of [])) ≡ new_room) × (room_behind (archive_spelling 7 new_archive) ≡ new_archive_room)
 
 abbrev pub new_machine : SideMachine
-new_machine = record { status = Up; side = new_side; room = new_room; compacting = false; writing = None; arms = unarmed }
+new_machine = record { status = Up; side = new_side; room = new_room; generation = 1; compacting = false; writing = None; arms = unarmed }
 
 -- three formatted disks of pair 7, opened
 abbrev pub opened_world : World
@@ -40,7 +40,7 @@ opened_world = record {
   pair = 7;
   left = new_machine;
   right = new_machine;
-  coordinator = record { status = Up; archive = formatted.archive; room = new_archive_room; compacting = false; writing = None; running = None; arms = unarmed };
+  coordinator = record { status = Up; archive = formatted.archive; room = new_archive_room; generation = 1; compacting = false; writing = None; running = None; arms = unarmed };
   sent = [];
   acknowledged = [];
   refusals = [];
@@ -83,13 +83,13 @@ abbrev pub FailIsRefused : Type 0
 FailIsRefused = FailedEdit (Happened Left (Edited 1 put_one) ∷ []) (Edited 1 put_one ∷ []) × FailedEdit [] []
 
 -- a stop after nine device calls comes in a checkpoint, after the four of an edit: the opening finds the journal as the edit left it, or the image alone
-abbrev pub CutCheckpoint : ℕ → Type 0
-CutCheckpoint room =
+abbrev pub CutCheckpoint : ℕ → ℕ → Type 0
+CutCheckpoint room generation =
     IsWitness (Stop (At Left) 9 ∷ Edits Left 1 put_one ∷ Checkpoint (At Left) ∷ Open (At Left) ∷ []) 0 (Happened Left (Edited 1 put_one) ∷ []) []
-    (λ world. (world.left.status ≡ Up) × (world.left.side.history ≡ Edited 1 put_one ∷ []) × (world.left.room ≡ room))
+    (λ world. (world.left.status ≡ Up) × (world.left.side.history ≡ Edited 1 put_one ∷ []) × (world.left.room ≡ room) × (world.left.generation ≡ generation))
 
 abbrev pub CheckpointIsCut : Type 0
-CheckpointIsCut = CutCheckpoint (new_room - record_size (event_spelling (Edited 1 put_one))) × CutCheckpoint (room_behind (image_spelling 7 (standing_of (Edited 1 put_one ∷ []))))
+CheckpointIsCut = CutCheckpoint (new_room - record_size (event_spelling (Edited 1 put_one))) 1 × CutCheckpoint (room_behind (image_spelling 7 (standing_of (Edited 1 put_one ∷ [])))) 2
 
 -- a session that is never answered: its requests are sent again eight times, and the ninth tick ends it
 abbrev pub unanswered : Report
