@@ -1,5 +1,5 @@
 -- Each step of a run keeps the invariant, and its replacements are legal.
-use Rattle.std.proofs.Common.{◌≡◌, ◌≢◌, ℕ, zero, suc, Bool, true, false, if◌then◌else◌, List, [], ◌∷◌, ◌∙◌, sym, subst, refl, None, arith, inl, inr, slice_get}
+use Rattle.std.proofs.Common.{nat_le, ◌≡◌, ◌≢◌, ℕ, zero, suc, Bool, true, false, if◌then◌else◌, List, [], ◌∷◌, ◌∙◌, sym, subst, refl, None, arith, inl, inr, slice_get}
 use Rattle.syn_model.specs.Refusal.{Refusal, Device, Cause, first_cause}
 use Rattle.syn_model.specs.Refusal as why
 use Rattle.syn_model.proofs.HistoryLemmas.{first_cause-none, none-append}
@@ -8,9 +8,10 @@ use Rattle.syn_model.specs.History.{IsAllowed, event_causes}
 use Rattle.syn_headline.specs.Side.{room_causes, fits_in}
 use Rattle.syn_headline.specs.Network.{Which}
 use Rattle.syn_headline.specs.Arms.{Arms}
-use Rattle.syn_headline.specs.World.{Status, Up, Halted, Down, Machine, At, Coordinator, World, side_of, Step, Edits, Start, Deliver, Tick, Checkpoint, Fail, Stop, Open, Reopen, Writes, SideGoes, Compacts, refuses_with, is_halted, status_of, set_device, answered_by, UnlessDown, edit_causes, start_causes, Starts, Reopens, Calls, Steps}
+use Rattle.syn_model.specs.Limits.{greatest}
+use Rattle.syn_headline.specs.World.{Status, Up, Halted, Down, Machine, At, Coordinator, World, side_of, Step, Edits, Start, Deliver, Tick, Checkpoint, Fail, Stop, Open, Reopen, Writes, SideGoes, Compacts, refuses_with, is_halted, status_of, set_device, answered_by, UnlessDown, edit_causes, start_causes, Starts, CompactsArchive, Reopens, Calls, Steps}
 use Rattle.syn_headline.proofs.Invariant.{Plans, IsKept}
-use Rattle.syn_headline.proofs.RunLemmas.{Advances, next_same, stays, refuses_advances, side_settles, was_written, halted_not_up, writes_advances, compacts_advances, neither, coordinator_settles, with_status, no_acks, cut_advances, opens_machine, delivers_advances, refused_advances, tick_with, start_advances, was_sent}
+use Rattle.syn_headline.proofs.RunLemmas.{Advances, next_same, stays, refuses_advances, side_settles, was_written, halted_not_up, writes_advances, compacts_advances, neither, coordinator_settles, with_status, no_acks, cut_advances, compacts_archive, opens_machine, delivers_advances, refused_advances, tick_with, start_advances, was_sent}
 
 -- the machine has another status, unless that is up, and other arms
 device_advances : (plans : Plans) (old : World) (k : IsKept plans old) (machine : Machine) (status : Status) (arms : Arms) → (status_of old machine ≢ Up → status ≢ Up) → (new : World) → new ≡ set_device old machine status arms → Advances plans old new
@@ -59,8 +60,8 @@ module _ (plans : Plans) (old : World) (k : IsKept plans old) (new : World) wher
   step_advances (Deliver message) g = delivers_advances plans old k new (slice_get old.sent message) (was_sent plans old k new message) g
   step_advances Tick (inl g) = stays plans old new k g.1
   step_advances Tick (inr g) = tick_with plans old k new old.coordinator.running refl g.1.goes
-  step_advances (Checkpoint (At which)) (full, g) = calls_advances (At which) ((full, why.Full) ∷ []) (SideGoes old which (Compacts old.pair (side_of old which)) []) (λ made none up h. compacts_advances plans old k which h.0 h.1 made h.2 h.3) g
-  step_advances (Checkpoint Coordinator) (full, g) = calls_advances Coordinator ((full, why.Full) ∷ []) (Reopens old Coordinator 6) (λ made none up h. reopens_advances plans old k made Coordinator 6 h) g
+  step_advances (Checkpoint (At which)) g = calls_advances (At which) ((nat_le greatest (side_of old which).generation, why.Full) ∷ []) (SideGoes old which (Compacts old.pair (side_of old which)) []) (λ made none up h. compacts_advances plans old k which h.0 h.1 made h.2 h.3) g
+  step_advances (Checkpoint Coordinator) g = calls_advances Coordinator ((nat_le greatest old.coordinator.generation, why.Full) ∷ []) (CompactsArchive old) (λ made none up h. compacts_archive plans old k made h) g
   step_advances (Fail machine call) g = unless_down machine _ (device_advances plans old k machine (status_of old machine) _ (λ h. h) new) g
   step_advances (Stop machine zero) g = unless_down machine _ (cut_advances plans old k new machine) g
   step_advances (Stop machine (suc more)) g = unless_down machine _ (device_advances plans old k machine (status_of old machine) _ (λ h. h) new) g

@@ -1,5 +1,5 @@
 -- What a step does to the coordinator's session, its archive and its reports.
-use Rattle.std.proofs.Common.{◌≡◌, ◌≢◌, ℕ, zero, suc, Bool, true, false, true≢false, if◌then◌else◌, List, [], ◌∷◌, ◌++◌, map, filter_map, refl, sym, ap, ◌∙◌, subst, Option, Some, None, append-nil, inl, inr, ◌⊎◌, slice_get}
+use Rattle.std.proofs.Common.{nat_le, ◌≡◌, ◌≢◌, ℕ, zero, suc, Bool, true, false, true≢false, if◌then◌else◌, List, [], ◌∷◌, ◌++◌, map, filter_map, refl, sym, ap, ◌∙◌, subst, Option, Some, None, append-nil, inl, inr, ◌⊎◌, slice_get}
 use Rattle.std.specs.Prelude.{Contains, IfSome, IsSome}
 use Rattle.syn_model.specs.Event.{Event, Edited, IsLawfulEvent}
 use Rattle.syn_model.specs.Refusal.{Refusal, Device, Cause}
@@ -9,7 +9,8 @@ use Rattle.syn_headline.specs.Side.{Request, Reply}
 use Rattle.syn_headline.specs.Network.{Which, Left, Right, Sent, Message, Asks, Answers}
 use Rattle.syn_headline.specs.Planning.{Planned, Log}
 use Rattle.syn_headline.specs.Acknowledged.{Ack, Happened, Kept_by, kept_in}
-use Rattle.syn_headline.specs.World.{IsNoItem, RefusesTaken, Up, Halted, Machine, At, Coordinator, World, SideMachine, CoordinatorMachine, set_side, Step, Edits, Start, Deliver, Tick, Checkpoint, Fail, Stop, Open, Reopen, OpensArchive, archive_opened, archive_recovered, refuses_with, edit_causes, start_causes, Starts, Writes, SideGoes, Compacts, Reopens, Calls, side_of, TakesRequest, answered, request_failed, request_cut, side_down, IsDueAfter, IsOver, IsExpected, HasPlan, GoesOnFrom, plan_of, StartsFrom, IsNext, IsNothing, AllCanKeep, CoordinatorGoes, Reports, EndsTaken, EndsUnanswered, TakesAnswer, taken, ignored, coordinator_down, Delivers, OpensMachine, cut_off, Status, set_device, answered_by, is_halted, status_of, UnlessDown, Steps}
+use Rattle.syn_model.specs.Limits.{greatest}
+use Rattle.syn_headline.specs.World.{IsNoItem, RefusesTaken, Up, Halted, Machine, At, Coordinator, World, SideMachine, CoordinatorMachine, set_side, Step, Edits, Start, Deliver, Tick, Checkpoint, Fail, Stop, Open, Reopen, OpensArchive, archive_opened, archive_recovered, refuses_with, edit_causes, start_causes, Starts, Writes, SideGoes, Compacts, CompactsArchive, Reopens, Calls, side_of, TakesRequest, answered, request_failed, request_cut, side_down, IsDueAfter, IsOver, IsExpected, HasPlan, GoesOnFrom, plan_of, StartsFrom, IsNext, IsNothing, AllCanKeep, CoordinatorGoes, Reports, EndsTaken, EndsUnanswered, TakesAnswer, taken, ignored, coordinator_down, Delivers, OpensMachine, cut_off, Status, set_device, answered_by, is_halted, status_of, UnlessDown, Steps}
 use Rattle.syn_headline.specs.Arms.{Arms}
 use Rattle.syn_headline.proofs.Invariant.{Plans, histories_of, IsHarmless, IsKept}
 use Rattle.syn_headline.proofs.WorldLemmas.{kept_events, kept_kept}
@@ -143,9 +144,9 @@ module _ (plans : Plans) (old : World) (k : IsKept plans old) (new : World) wher
   none_runs : (kept : Kept) → old.coordinator.writing ≡ Some kept → old.coordinator.running ≡ None
   none_runs kept w = (subst (λ o. IfSome o (λ kept. (old.coordinator.status ≢ Up) × (old.coordinator.running ≡ None) × CanKeep old.coordinator.archive kept × IsHarmless plans (histories_of old) kept)) w k.coordinator.writing).1
 
-  opens_archive : (calls : ℕ) (machine : CoordinatorMachine) (kept : List Kept) → OpensArchive old.coordinator calls machine kept → new ≡ record old { coordinator = machine; acknowledged = old.acknowledged ++ map Kept_by kept } → IsAside old new
-  opens_archive calls _ _ (archive_opened room arms meets) e = alone old new _ [] tt (inr (refl, refl)) e
-  opens_archive calls _ _ (archive_recovered room arms kept meets w can) e = alone old new _ (kept ∷ []) (can, tt) (inl (none_runs kept w)) e
+  opens_archive : (calls : ℕ) (machine : CoordinatorMachine) (kept : List Kept) → OpensArchive old.pair old.coordinator calls machine kept → new ≡ record old { coordinator = machine; acknowledged = old.acknowledged ++ map Kept_by kept } → IsAside old new
+  opens_archive calls _ _ (archive_opened room generation arms meets left) e = alone old new _ [] tt (inr (refl, refl)) e
+  opens_archive calls _ _ (archive_recovered arms kept meets w can) e = alone old new _ (kept ∷ []) (can, tt) (inl (none_runs kept w)) e
 
   cuts : (machine : Machine) → new ≡ cut_off old machine → IsAside old new
   cuts (At which) e = side_set old new which _ e
@@ -158,6 +159,11 @@ module _ (plans : Plans) (old : World) (k : IsKept plans old) (new : World) wher
   opens_machine : (machine : Machine) (calls : ℕ) → OpensMachine old machine calls new → IsAside old new
   opens_machine (At which) calls g = side_goes old new which g.0 _ g.1 g.3
   opens_machine Coordinator calls g = opens_archive calls g.0 g.1 g.2 g.3
+
+  compacts_archive : CompactsArchive old new → IsAside old new
+  compacts_archive (inl (arms, meets, e)) = alone old new _ [] tt (inr (refl, refl)) (no_acks plans old k new _ e)
+  compacts_archive (inr (inl (arms, meets, e))) = alone old new _ [] tt (inr (refl, refl)) (no_acks plans old k new _ e)
+  compacts_archive (inr (inr (meets, e))) = alone old new _ [] tt (inl refl) (no_acks plans old k new _ e)
 
   reopens : (machine : Machine) (calls : ℕ) → Reopens old machine calls new → IsAside old new
   reopens machine calls (inl g) = opens_machine machine calls g
@@ -191,8 +197,8 @@ module _ (plans : Plans) (old : World) (k : IsKept plans old) (new : World) wher
   course (Deliver message) g = delivers old new (slice_get old.sent message) (was_sent plans old k new message) g
   course Tick (inl g) = stays old new g.1
   course Tick (inr g) = ticks g.1.goes g.1.reports
-  course (Checkpoint (At which)) (full, g) = calls (At which) ((full, why.Full) ∷ []) (SideGoes old which (Compacts old.pair (side_of old which)) []) (λ made h. answers_aside (At which) made (side_goes old made which h.0 _ h.1 h.3)) g
-  course (Checkpoint Coordinator) (full, g) = calls Coordinator ((full, why.Full) ∷ []) (Reopens old Coordinator 6) (λ made h. answers_aside Coordinator made (reopens plans old k made Coordinator 6 h)) g
+  course (Checkpoint (At which)) g = calls (At which) ((nat_le greatest (side_of old which).generation, why.Full) ∷ []) (SideGoes old which (Compacts old.pair (side_of old which)) []) (λ made h. answers_aside (At which) made (side_goes old made which h.0 _ h.1 h.3)) g
+  course (Checkpoint Coordinator) g = calls Coordinator ((nat_le greatest old.coordinator.generation, why.Full) ∷ []) (CompactsArchive old) (λ made h. answers_aside Coordinator made (compacts_archive plans old k made h)) g
   course (Fail machine call) g = unless_down machine _ (λ e. aside old new (sets_device plans old k new machine _ _ e)) g
   course (Stop machine zero) g = unless_down machine _ (λ e. aside old new (cuts plans old k new machine e)) g
   course (Stop machine (suc more)) g = unless_down machine _ (λ e. aside old new (sets_device plans old k new machine _ _ e)) g

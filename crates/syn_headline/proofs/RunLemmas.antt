@@ -1,5 +1,5 @@
 -- What a step does at one machine keeps the invariant, and its replacements are legal.
-use Rattle.std.proofs.Common.{◌≡◌, ◌≤◌, ◌+◌, ℕ, false, true≢false, List, [], ◌∷◌, ◌++◌, refl, sym, ap, ap₂, ◌∙◌, subst, Option, Some, None, append-nil, arith, inl, inr, ◌⊎◌, slice_get, ◌≢◌, map}
+use Rattle.std.proofs.Common.{suc, true, ◌-◌, ◌≡◌, ◌≤◌, ◌+◌, ℕ, false, true≢false, List, [], ◌∷◌, ◌++◌, refl, sym, ap, ap₂, ◌∙◌, subst, Option, Some, None, append-nil, arith, inl, inr, ◌⊎◌, slice_get, ◌≢◌, map}
 use Rattle.std.specs.Prelude.{Contains, IfSome, All}
 use Rattle.std.proofs.lemmas.List.{append_cancel_left}
 use Rattle.std.proofs.lemmas.List.Elements.{Contains-get_or}
@@ -10,12 +10,13 @@ use Rattle.syn_model.specs.Refusal.{Refusal, Device}
 use Rattle.syn_model.specs.Event.{Token, Event, Edited, Began, Replaced}
 use Rattle.syn_model.specs.History.{History, IsAllowed}
 use Rattle.syn_model.specs.Archive.{Kept, Session, CanKeep, after_kept}
-use Rattle.syn_headline.specs.Side.{Side, Served, Request, Reply, Refused, IsLawfulRequest, fits_in}
+use Rattle.syn_headline.specs.Side.{Side, Served, Request, Reply, Refused, IsLawfulRequest, record_size, room_behind, fits_in}
+use Rattle.syn_model.specs.MarkSpelling.{kept_spelling, archive_spelling}
 use Rattle.syn_headline.specs.Network.{Which, Left, Right, other, Sent, Message, Asks, Answers}
 use Rattle.syn_headline.specs.Planning.{Planned, Log}
 use Rattle.syn_headline.specs.Acknowledged.{Ack, Happened, Kept_by, history_of, IsLegal}
 use Rattle.syn_headline.specs.Arms.{Arms, unarmed}
-use Rattle.syn_headline.specs.World.{Status, Up, Halted, Down, Machine, At, Coordinator, World, SideMachine, CoordinatorMachine, Running, asked_of, outstanding, side_of, set_side, stopped, Writes, written, failed, cut, Opens, opened, recovered, OpensArchive, archive_opened, archive_recovered, refuses_with, is_halted, WouldAdd, TakesRequest, answered, request_failed, request_cut, side_down, IsDueAfter, IsOver, IsExpected, HasPlan, GoesOnAs, ended, goes_on, GoesOnFrom, plan_of, StartsFrom, RunsOver, IsNext, IsNothing, CoordinatorGoes, TakesAnswer, taken, ignored, coordinator_down, Delivers, OpensMachine, cut_off, Compacts, compacted, compacting_failed, compacting_cut}
+use Rattle.syn_headline.specs.World.{Status, Up, Halted, Down, Machine, At, Coordinator, World, SideMachine, CoordinatorMachine, Running, asked_of, outstanding, side_of, set_side, stopped, Writes, written, failed, cut, Opens, opened, recovered, CompactsArchive, OpensArchive, archive_opened, archive_recovered, refuses_with, is_halted, WouldAdd, TakesRequest, answered, request_failed, request_cut, side_down, IsDueAfter, IsOver, IsExpected, HasPlan, GoesOnAs, ended, goes_on, GoesOnFrom, plan_of, StartsFrom, RunsOver, IsNext, IsNothing, CoordinatorGoes, TakesAnswer, taken, ignored, coordinator_down, Delivers, OpensMachine, cut_off, Compacts, compacted, compacting_failed, compacting_cut}
 use Rattle.syn_headline.specs.Headline.{stores_of}
 use Rattle.syn_headline.proofs.Invariant.{Plans, plan_in, Histories, histories_of, IsSound, IsFresh, IsHarmless, IsSoundStaging, IsSoundEvent, IsSoundSide, IsSoundCoordinator, IsKept}
 use Rattle.syn_headline.proofs.LogLemmas.{no_plan}
@@ -219,7 +220,7 @@ writes_advances plans old k which event a s _ _ new up (cut meets) e = side_adva
 
 opens_advances : (plans : Plans) (old : World) → IsKept plans old → (which : Which) (calls : ℕ) (machine : SideMachine) (events : List Event) (new : World) → Opens old.pair (side_of old which) calls machine events →
     new ≡ next old which machine (old.sent ++ []) (old.acknowledged ++ map (λ event. Happened which event) events) → Advances plans old new
-opens_advances plans old k which calls _ _ new (opened room arms meets left) e = side_advances plans old k which _ [] [] new (no_event refl) (k.sides which).staged tt nothing e
+opens_advances plans old k which calls _ _ new (opened room generation arms meets left) e = side_advances plans old k which _ [] [] new (no_event refl) (k.sides which).staged tt nothing e
 opens_advances plans old k which calls _ _ new (recovered arms event meets w a) e =
     let s : ((side_of old which).status ≢ Up) × IsSoundEvent plans (histories_of old) old.coordinator.archive which event =
     subst (λ o. IfSome o (λ event. ((side_of old which).status ≢ Up) × IsSoundEvent plans (histories_of old) old.coordinator.archive which event)) w (k.sides which).writing in
@@ -405,11 +406,11 @@ module _ (plans : Plans) (old : World) (k : IsKept plans old) (new : World) wher
     writing = if_some old.coordinator.writing (IsPending old.coordinator.status old.coordinator.running) (IsPending status old.coordinator.running) k.coordinator.writing (λ kept _ x. (keeps x.0, x.1, x.2, x.3));
   }
 
-  opens_archive : (calls : ℕ) (machine : CoordinatorMachine) (ks : List Kept) → OpensArchive old.coordinator calls machine ks → new ≡ record old { coordinator = machine; acknowledged = old.acknowledged ++ map (λ k. Kept_by k) ks } → Advances plans old new
-  opens_archive calls _ _ (archive_opened room arms meets) e = coordinator_settles (record old.coordinator { status = Up; has_room = room; writing = None; arms = arms }) [] k.sound (omega arith) (record { running = k.coordinator.running; runs_over = k.coordinator.runs_over; writing = tt }) e
-  opens_archive calls _ _ (archive_recovered room arms kept meets w can) e =
+  opens_archive : (calls : ℕ) (machine : CoordinatorMachine) (ks : List Kept) → OpensArchive old.pair old.coordinator calls machine ks → new ≡ record old { coordinator = machine; acknowledged = old.acknowledged ++ map (λ k. Kept_by k) ks } → Advances plans old new
+  opens_archive calls _ _ (archive_opened room generation arms meets left) e = coordinator_settles (record old.coordinator { status = Up; room = room; generation = generation; compacting = false; writing = None; arms = arms }) [] k.sound (omega arith) (record { running = k.coordinator.running; runs_over = k.coordinator.runs_over; writing = tt }) e
+  opens_archive calls _ _ (archive_recovered arms kept meets w can) e =
       let pending : IsPending old.coordinator.status old.coordinator.running kept = subst (λ o. IfSome o (IsPending old.coordinator.status old.coordinator.running)) w k.coordinator.writing in
-      coordinator_settles (record old.coordinator { status = Up; archive = after_kept old.coordinator.archive kept; has_room = room; writing = None; arms = arms }) (kept ∷ [])
+      coordinator_settles (record old.coordinator { status = Up; archive = after_kept old.coordinator.archive kept; room = old.coordinator.room - record_size (kept_spelling kept); compacting = false; writing = None; arms = arms }) (kept ∷ [])
       (sound-keep plans (histories_of old) old.coordinator.archive old.sent k.sound kept can pending.3) (kept_session old.coordinator.archive kept can)
       (record { running = k.coordinator.running; runs_over = subst (RunsOver old.sent (after_kept old.coordinator.archive kept)) (sym pending.1) tt; writing = tt }) e
 
@@ -422,6 +423,18 @@ module _ (plans : Plans) (old : World) (k : IsKept plans old) (new : World) wher
   cut_advances Coordinator e = coordinator_settles (record old.coordinator { status = Down; running = None; arms = unarmed }) [] k.sound (omega arith)
       (record { running = tt; runs_over = tt; writing = if_some old.coordinator.writing (IsPending old.coordinator.status old.coordinator.running) (IsPending Down None) k.coordinator.writing (λ kept _ x. (down_not_up, refl, x.2, x.3)) })
       (no_acks (record old.coordinator { status = Down; running = None; arms = unarmed }) e)
+
+  -- a checkpoint that is done, or has failed, and one that is cut off
+  pub compacts_archive : CompactsArchive old new → Advances plans old new
+  compacts_archive (inl (arms, meets, e)) = coordinator_settles (record old.coordinator { room = room_behind (archive_spelling old.pair old.coordinator.archive); generation = suc old.coordinator.generation; arms = arms }) [] k.sound (omega arith)
+      (record { running = k.coordinator.running; runs_over = k.coordinator.runs_over; writing = k.coordinator.writing }) (no_acks (record old.coordinator { room = room_behind (archive_spelling old.pair old.coordinator.archive); generation = suc old.coordinator.generation; arms = arms }) e)
+  compacts_archive (inr (inl (arms, meets, e))) =
+      let keeps = with_status Halted arms (λ _. halted_not_up) in
+      coordinator_settles (record old.coordinator { status = Halted; compacting = true; arms = arms }) [] k.sound (omega arith)
+      (record { running = keeps.running; runs_over = keeps.runs_over; writing = keeps.writing }) (no_acks (record old.coordinator { status = Halted; compacting = true; arms = arms }) e)
+  compacts_archive (inr (inr (meets, e))) = coordinator_settles (record old.coordinator { status = Down; compacting = true; running = None; arms = unarmed }) [] k.sound (omega arith)
+      (record { running = tt; runs_over = tt; writing = if_some old.coordinator.writing (IsPending old.coordinator.status old.coordinator.running) (IsPending Down None) k.coordinator.writing (λ kept _ x. (down_not_up, refl, x.2, x.3)) })
+      (no_acks (record old.coordinator { status = Down; compacting = true; running = None; arms = unarmed }) e)
 
   pub opens_machine : (machine : Machine) (calls : ℕ) → OpensMachine old machine calls new → Advances plans old new
   opens_machine (At which) calls g = opens_advances plans old k which calls g.0 g.1 new g.2 g.3

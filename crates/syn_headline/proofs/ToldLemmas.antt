@@ -194,12 +194,12 @@ module _ (before : Stores) (whole : IsTree before.archive.marks) (shallow : HasD
   told_still e report acks c complete = told_before report acks (subst (λ w. Contains w (report, acks)) e c) complete
 
   told_ticks : Reports old new (plan_of old.coordinator.running) IsNoItem EndsUnanswered → AllTold before new
-  told_ticks (inl (e, on)) = told_still e
+  told_ticks (inl (e, on, more)) = told_still e
   told_ticks (inr (running, report, runs, none, up, e, ends, counts, refused)) = told_now report e (λ complete. absurd (not_complete (sym complete ∙ ends.1)))
 
   told_takes : (from : Which) (session number : ℕ) (reply : Reply) (plan : List Planned) (logged : Log) → Contains old.sent (Answers from session number reply) → IsExpected old.coordinator.running from session number → HasPlan old.sent old.coordinator.archive old.log old.coordinator.running plan logged →
       CoordinatorGoes old logged (IsDueAfter old.coordinator.running plan from number reply) (λ running. GoesOnFrom old.coordinator.running plan running × IsOver from number running) new → Reports old new plan (RefusesTaken old new from number plan reply) (EndsTaken old new from number plan reply) → AllTold before new
-  told_takes from session number reply plan logged heard expected made g (inl (e, on)) = told_still e
+  told_takes from session number reply plan logged heard expected made g (inl (e, on, more)) = told_still e
   told_takes from session number reply plan logged heard expected made g (inr (running, report, is, none, up, e, ends, counts, refused)) = told_now report e (λ complete.
       tells before whole shallow plans old new k stands stands_then runs can running is from session number reply plan logged heard
       (subst (λ o. IsExpected o from session number) is expected) (subst (λ o. HasPlan old.sent old.coordinator.archive old.log o plan logged) is made)

@@ -1,6 +1,7 @@
 -- What is acknowledged is what the machines stand for.
-use Rattle.std.proofs.Common.{fold, ◌-◌, ◌≡◌, ℕ, zero, suc, Bool, true, false, if◌then◌else◌, List, [], ◌∷◌, ◌++◌, map, filter_map, refl, sym, ap, ap₂, ◌∙◌, subst, Option, Some, None, inl, inr, append-nil, append_assoc, slice_get}
+use Rattle.std.proofs.Common.{nat_le, fold, ◌-◌, ◌≡◌, ℕ, zero, suc, Bool, true, false, if◌then◌else◌, List, [], ◌∷◌, ◌++◌, map, filter_map, refl, sym, ap, ap₂, ◌∙◌, subst, Option, Some, None, inl, inr, append-nil, append_assoc, slice_get}
 use Rattle.std.proofs.lemmas.List.Elements.{filter_map-append}
+use Rattle.syn_model.specs.Spelling.{event_spelling}
 use Rattle.syn_model.specs.Event.{Event, Edited, IsLawfulEvent}
 use Rattle.syn_model.specs.History.{History}
 use Rattle.syn_model.specs.Archive.{Archive, Kept, after_kept, archive_of}
@@ -11,13 +12,14 @@ use Rattle.syn_headline.specs.Side.{Request, Reply, Refused, record_size}
 use Rattle.syn_model.specs.Refusal.{Refusal, Device, Cause}
 use Rattle.syn_model.specs.Refusal as why
 use Rattle.syn_headline.specs.Planning.{Log}
-use Rattle.syn_headline.specs.World.{Running, World, SideMachine, CoordinatorMachine, Machine, At, Coordinator, Step, Edits, Start, Deliver, Tick, Checkpoint, Fail, Stop, Open, Reopen, side_of, set_side, stopped, Writes, SideGoes, Opens, OpensArchive, TakesRequest, TakesAnswer, CoordinatorGoes, Delivers, OpensMachine, cut_off, set_device, answered_by, is_halted, status_of, UnlessDown, Status, Halted, Steps, written, failed, cut, opened, recovered, archive_opened, archive_recovered, refuses_with, edit_causes, start_causes, Starts, Reopens, Calls, answered, request_failed, request_cut, side_down, taken, ignored, coordinator_down, Compacts, compacted, compacting_failed, compacting_cut}
+use Rattle.syn_model.specs.Limits.{greatest}
+use Rattle.syn_headline.specs.World.{Running, World, SideMachine, CoordinatorMachine, Machine, At, Coordinator, Step, Edits, Start, Deliver, Tick, Checkpoint, Fail, Stop, Open, Reopen, side_of, set_side, stopped, Writes, SideGoes, Opens, OpensArchive, TakesRequest, TakesAnswer, CoordinatorGoes, Delivers, OpensMachine, cut_off, set_device, answered_by, is_halted, status_of, UnlessDown, Status, Halted, Steps, written, failed, cut, opened, recovered, archive_opened, archive_recovered, refuses_with, edit_causes, start_causes, Starts, Reopens, Calls, answered, request_failed, request_cut, side_down, taken, ignored, coordinator_down, CompactsArchive, Compacts, compacted, compacting_failed, compacting_cut}
 use Rattle.syn_headline.specs.Arms.{Arms}
 use Rattle.syn_headline.specs.Headline.{StandsFor, RunsStand}
 
 -- what the records of these events leave of the room
 abbrev pub room_after : ℕ → List Event → ℕ
-room_after room events = fold (λ room event. room - record_size event) room events
+room_after room events = fold (λ room event. room - record_size (event_spelling event)) room events
 
 left_left : (es : List Event) → filter_map (event_at Left) (map (λ e. Happened Left e) es) ≡ es
 left_left [] = refl
@@ -96,7 +98,7 @@ writes_history m event new es (failed arms meets) = sym (append-nil m.side.histo
 writes_history m event new es (cut meets) = sym (append-nil m.side.history)
 
 opens_history : (pair : ℕ) (m : SideMachine) (calls : ℕ) (new : SideMachine) (es : List Event) → Opens pair m calls new es → new.side.history ≡ m.side.history ++ es
-opens_history pair m calls new es (opened room arms meets left) = sym (append-nil m.side.history)
+opens_history pair m calls new es (opened room generation arms meets left) = sym (append-nil m.side.history)
 opens_history pair m calls new es (recovered arms event meets is allowed) = refl
 
 compacts_history : (pair : ℕ) (m : SideMachine) (new : SideMachine) (es : List Event) → Compacts pair m new es → new.side.history ≡ m.side.history ++ es
@@ -104,9 +106,9 @@ compacts_history pair m new es (compacted arms meets) = sym (append-nil m.side.h
 compacts_history pair m new es (compacting_failed arms meets) = sym (append-nil m.side.history)
 compacts_history pair m new es (compacting_cut meets) = sym (append-nil m.side.history)
 
-opens_archive : (m : CoordinatorMachine) (calls : ℕ) (new : CoordinatorMachine) (ks : List Kept) → OpensArchive m calls new ks → new.archive ≡ archive_of m.archive ks
-opens_archive m calls new ks (archive_opened room arms meets) = refl
-opens_archive m calls new ks (archive_recovered room arms kept meets is can) = refl
+opens_archive : (pair : ℕ) (m : CoordinatorMachine) (calls : ℕ) (new : CoordinatorMachine) (ks : List Kept) → OpensArchive pair m calls new ks → new.archive ≡ archive_of m.archive ks
+opens_archive pair m calls new ks (archive_opened room generation arms meets left) = refl
+opens_archive pair m calls new ks (archive_recovered arms kept meets is can) = refl
 
 side_steps : (before : Stores) (old : World) (which : Which) (Goes : SideMachine → List Event → Type 0) (new : World) → ((m : SideMachine) (es : List Event) → Goes m es → m.side.history ≡ (side_of old which).side.history ++ es) →
     StandsFor before old → SideGoes old which Goes [] new → StandsFor before new
@@ -172,7 +174,16 @@ answered_stands before machine made new s = told (is_halted (status_of made mach
 
 opens_machine : (before : Stores) (old : World) (machine : Machine) (calls : ℕ) (new : World) → StandsFor before old → OpensMachine old machine calls new → StandsFor before new
 opens_machine before old (At which) calls new s g = side_steps before old which (Opens old.pair (side_of old which) calls) new (opens_history old.pair (side_of old which) calls) s g
-opens_machine before old Coordinator calls new s g = coordinator_goes before old g.0 g.1 old.sent old.reports old.log new s (opens_archive old.coordinator calls g.0 g.1 g.2) g.3
+opens_machine before old Coordinator calls new s g = coordinator_goes before old g.0 g.1 old.sent old.reports old.log new s (opens_archive old.pair old.coordinator calls g.0 g.1 g.2) g.3
+
+archive_alone : (before : Stores) (old : World) (machine : CoordinatorMachine) (new : World) → StandsFor before old → machine.archive ≡ old.coordinator.archive → new ≡ record old { coordinator = machine } → StandsFor before new
+archive_alone before old machine new s same e =
+    coordinator_goes before old machine [] old.sent old.reports old.log new s same (e ∙ ap (λ a. record old { coordinator = machine; acknowledged = a }) (sym (append-nil old.acknowledged)))
+
+compacts_archive : (before : Stores) (old new : World) → StandsFor before old → CompactsArchive old new → StandsFor before new
+compacts_archive before old new s (inl (arms, meets, e)) = archive_alone before old _ new s refl e
+compacts_archive before old new s (inr (inl (arms, meets, e))) = archive_alone before old _ new s refl e
+compacts_archive before old new s (inr (inr (meets, e))) = archive_alone before old _ new s refl e
 
 reopens : (before : Stores) (old : World) (machine : Machine) (calls : ℕ) (new : World) → StandsFor before old → Reopens old machine calls new → StandsFor before new
 reopens before old machine calls new s (inl g) = opens_machine before old machine calls new s g
@@ -196,9 +207,9 @@ step_stands before old Start new s g = calls before old Coordinator (start_cause
 step_stands before old (Deliver message) new s g = delivers before old (slice_get old.sent message) new s g
 step_stands before old Tick new s (inl g) = same_world before old new s g.1
 step_stands before old Tick new s (inr g) = coordinator_steps before old [] _ _ new s g.1.goes
-step_stands before old (Checkpoint (At which)) new s (full, g) = calls before old (At which) ((full, why.Full) ∷ []) (SideGoes old which (Compacts old.pair (side_of old which)) []) new s
+step_stands before old (Checkpoint (At which)) new s g = calls before old (At which) ((nat_le greatest (side_of old which).generation, why.Full) ∷ []) (SideGoes old which (Compacts old.pair (side_of old which)) []) new s
     (λ made. side_steps before old which (Compacts old.pair (side_of old which)) made (compacts_history old.pair (side_of old which)) s) g
-step_stands before old (Checkpoint Coordinator) new s (full, g) = calls before old Coordinator ((full, why.Full) ∷ []) (Reopens old Coordinator 6) new s (λ made. reopens before old Coordinator 6 made s) g
+step_stands before old (Checkpoint Coordinator) new s g = calls before old Coordinator ((nat_le greatest old.coordinator.generation, why.Full) ∷ []) (CompactsArchive old) new s (λ made. compacts_archive before old made s) g
 step_stands before old (Fail machine call) new s g = unless_down before old machine _ new s (device_stands before old machine _ _ new s) g
 step_stands before old (Stop machine zero) new s g = unless_down before old machine _ new s (cut_stands before old machine new s) g
 step_stands before old (Stop machine (suc more)) new s g = unless_down before old machine _ new s (device_stands before old machine _ _ new s) g

@@ -32,7 +32,7 @@ pub record IsStart (world : World) : Type 0 where
   pub pair : IsPair (stores_of world)
   pub left : (world.left.status ≡ Up) × (world.left.side.staging ≡ None) × (world.left.writing ≡ None) × (world.left.compacting ≡ false) × (world.left.arms ≡ unarmed)
   pub right : (world.right.status ≡ Up) × (world.right.side.staging ≡ None) × (world.right.writing ≡ None) × (world.right.compacting ≡ false) × (world.right.arms ≡ unarmed)
-  pub coordinator : (world.coordinator.status ≡ Up) × (world.coordinator.running ≡ None) × (world.coordinator.writing ≡ None) × (world.coordinator.arms ≡ unarmed)
+  pub coordinator : (world.coordinator.status ≡ Up) × (world.coordinator.running ≡ None) × (world.coordinator.writing ≡ None) × (world.coordinator.compacting ≡ false) × (world.coordinator.arms ≡ unarmed)
   pub nothing_yet : (world.sent ≡ []) × (world.acknowledged ≡ []) × (world.reports ≡ []) × (world.log ≡ [])
 
 -- Opening what any stop leaves: the acknowledged events in order, with at most the one being written.
@@ -162,8 +162,7 @@ HadArchive before world marks = (acks : ℕ) × (acks ≤ length world.acknowled
 
 -- Each session makes one plan at most, and that is of its scans and the archive at some moment
 abbrev pub LogsPlans : Stores → World → Type 0
-LogsPlans before world =
-    AllPairs (λ earlier later. earlier.session ≢ later.session) world.log × All (λ made. IsPlanOf world.sent made × HadArchive before world made.archive) world.log
+LogsPlans before world = AllPairs (λ earlier later. earlier.session ≢ later.session) world.log × All (λ made. IsPlanOf world.sent made × HadArchive before world made.archive) world.log
 
 -- what holds of every run from a world that has just been opened, with stops of any machine and failing devices
 abbrev pub OfEachRun : (Stores → World → Type 0) → Type 0

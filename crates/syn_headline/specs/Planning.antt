@@ -10,8 +10,7 @@ use Rattle.syn_model.specs.Plan.{plan as items_of}
 
 -- a scan by what the side answered in the session
 abbrev pub IsScanOf : Sent → Which → ℕ → Scan → (Path → ℕ) → Type 0
-IsScanOf sent side session =
-    IsScanBy (λ path position entries. WasAnswered sent side session (ListAt path) (Listed position entries)) (λ path position. WasAnswered sent side session (ListAt path) (NotDir position))
+IsScanOf sent side session = IsScanBy (λ path position entries. WasAnswered sent side session (ListAt path) (Listed position entries)) (λ path position. WasAnswered sent side session (ListAt path) (NotDir position))
 
 -- what a scan has at a path, and the position of the listing of its parent
 pub record Seen : Type 0 where
@@ -69,8 +68,7 @@ WritesTo _ _ _ = ⊥
 
 -- a piece of the item's source was answered so, for what is to be written to a side
 abbrev pub IsPiece : Sent → Which → ℕ → Planned → ℕ → ℕ → List ℕ → Type 0
-IsPiece sent to session planned offset total bytes =
-    WasAnswered sent (other to) session (Fetch (path_of planned.item) (seen_on planned (other to)).since offset) (Piece total bytes)
+IsPiece sent to session planned offset total bytes = WasAnswered sent (other to) session (Fetch (path_of planned.item) (seen_on planned (other to)).since offset) (Piece total bytes)
 
 -- what is staged for an item was a piece of the source, at the same place
 abbrev pub IsFetched : Sent → Which → ℕ → Planned → ℕ → List ℕ → Type 0

@@ -12,6 +12,7 @@ pub mod Reconcile
 pub mod Decision
 pub mod Plan
 pub mod Spelling
+pub mod MarkSpelling
 pub mod Image
 pub mod Laws
 pub mod Rows

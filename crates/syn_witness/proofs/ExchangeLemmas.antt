@@ -1,7 +1,7 @@
 -- A session that carries one file each way: the steps of the coordinator, and the whole run.
 use Rattle.syn_headline.proofs.PlanLemmas.{begun-more}
 use Rattle.syn_headline.specs.Report.{IsSettled}
-use Rattle.std.proofs.Common.{◌≡◌, ◌≢◌, ◌<◌, List, [], ◌∷◌, map, take, drop, refl, sym, subst, Some, None, arith, inl, inr}
+use Rattle.std.proofs.Common.{◌≤◌, ◌-◌, ◌≡◌, ◌≢◌, ◌<◌, List, [], ◌∷◌, map, take, drop, refl, sym, subst, Some, None, arith, inl, inr}
 use Rattle.std.specs.Prelude.{Contains}
 use Rattle.std.specs.FinMap.{entries}
 use Rattle.std.proofs.lemmas.List.Elements.{All-nil, All-cons, All-from_recursion}
@@ -22,10 +22,12 @@ use Rattle.syn_headline.specs.World.{MakesPlan, Edits, Runs, Start, Deliver, Ste
 use Rattle.syn_headline.specs.Headline.{IsQuietSession, IsNoEdit, formatted, stores_of}
 use Rattle.syn_witness.specs.Witness.{opened_world, a_path, b_path, put_one, put_two, one, two, complete, HasBoth, FilesAreExchanged}
 use Rattle.syn_witness.proofs.WitnessTrees.{get_by, replace-entries, fits_archive_by}
-use Rattle.syn_witness.proofs.WitnessFiles.{alone, with_file, digest, alone-entries, file_mark-entries, put-entries, marked_whole, root_only, path_of_letter, mark_is_part}
+use Rattle.syn_headline.specs.Side.{record_size}
+use Rattle.syn_model.specs.MarkSpelling.{kept_spelling}
+use Rattle.syn_witness.proofs.WitnessFiles.{letter_fits, letter_size, alone, with_file, digest, alone-entries, file_mark-entries, put-entries, marked_whole, root_only, path_of_letter, mark_is_part}
 use Rattle.syn_witness.proofs.WitnessScans.{left_history, left_scan, left-entries, left_marks-entries, left_part}
 use Rattle.syn_witness.proofs.ExchangeScans.{right_history, right_scan, right-entries, right_marks-entries, right_part, plan_is}
-use Rattle.syn_witness.proofs.WitnessSteps.{meets_unarmed, none_refused, runs_on_from, goes, takes, both_sent, up_not_down}
+use Rattle.syn_witness.proofs.WitnessSteps.{takes_none, takes_one, meets_unarmed, none_refused, runs_on_from, goes, takes, both_sent, up_not_down}
 use Rattle.syn_witness.proofs.WitnessLemmas.{letter_a}
 use Rattle.syn_witness.proofs.ExchangeSides.{scans, listed_at, made, two_bytes, right_done, left_done, begun_archive, first_archive, both_archive, messages, first_planned, second_planned, plan, both_begin, right_begins, both_list, right_lists, left_fetches, right_stages, right_replaces, right_fetches, left_stages, left_replaces, first_edited, both_edited, started, left_begun, both_begun, right_awaited, listing, left_listed, both_listed, right_list_awaited, fetching, fetched, staging, staged, replacing, replaced, second_fetching, second_fetched, second_staging, second_staged, second_replacing, second_replaced, exchanged, tells, once, edits_left, letter_b, edits_right, begins_left, begins_right, lists_left, lists_right, stays, fetches_first, stages_first, replaces_first, fetches_second, stages_second, replaces_second}
 
@@ -90,6 +92,7 @@ starts = inr (
           (All-from_recursion (IsOfSession 7 [] both_begin) (take 2 messages) ((refl, (omega arith, omega arith), refl), ((refl, (omega arith, omega arith), refl), tt))),
       refl,
       inl (refl, refl),
+      (refl, tt, refl, refl),
       meets_unarmed _ _ _ refl,
     ),
     refl,
@@ -97,7 +100,7 @@ starts = inr (
 )
 
 takes_left_begun : Steps both_begun (Deliver 2) right_awaited
-takes_left_begun = takes 1 both_begun Left 0 (Begun 2) [] [] begun_archive (Some right_begins) [] [] [] refl (refl, refl) (inl (refl, refl)) (λ P. inl (refl, (inl refl, none_refused P))) (All-nil (IsDue both_begin [] Left 0 (Begun 2))) tt refl
+takes_left_begun = takes 1 both_begun Left 0 (Begun 2) [] [] begun_archive (Some right_begins) [] [] [] refl (refl, tt, refl, refl) (refl, refl) (inl (refl, refl)) (λ P. inl (refl, inl refl, none_refused P)) (All-nil (IsDue both_begin [] Left 0 (Begun 2))) tt refl
     (goes_on right_begins refl refl) refl (refl, both_sent (take 4 messages) right_begins tt ((1, omega arith, refl), tt), (omega arith, omega arith, omega arith)) (tells 4) (once 4)
     (All-nil (IsOfSession 7 (take 4 messages) right_begins))
 
@@ -105,18 +108,18 @@ root_lawful : IsPath root
 root_lawful = record { names = All-nil IsName; not_deep = omega arith; not_long = omega arith }
 
 takes_right_begun : Steps right_awaited (Deliver 3) listing
-takes_right_begun = takes 1 right_awaited Right 0 (Begun 2) [] [] begun_archive (Some both_list) (drop 4 (take 6 messages)) [] [] refl (refl, refl) (inl (refl, refl)) (λ P. inl (refl, (inl refl, none_refused P))) (All-nil (IsDue right_begins [] Right 0 (Begun 2))) tt refl
+takes_right_begun = takes 1 right_awaited Right 0 (Begun 2) [] [] begun_archive (Some both_list) (drop 4 (take 6 messages)) [] [] refl (refl, tt, refl, refl) (refl, refl) (inl (refl, refl)) (λ P. inl (refl, inl refl, none_refused P)) (All-nil (IsDue right_begins [] Right 0 (Begun 2))) tt refl
     (goes_on both_list refl refl) refl (refl, both_sent (take 6 messages) both_list ((4, omega arith, refl), tt) ((5, omega arith, refl), tt), (omega arith, omega arith, omega arith)) (tells 6) (once 6)
     (All-from_recursion (IsOfSession 7 (take 4 messages) both_list) (drop 4 (take 6 messages)) ((refl, (omega arith, root_lawful), have_begun Left), ((refl, (omega arith, root_lawful), have_begun Right), tt)))
 
 takes_left_listing : Steps both_listed (Deliver 6) right_list_awaited
-takes_left_listing = takes 1 both_listed Left 1 (Listed 2 (children left_scan.marks root)) [] [] begun_archive (Some right_lists) [] [] [] refl (refl, refl) (inl (refl, refl)) (λ P. inl (refl, (inl refl, none_refused P)))
+takes_left_listing = takes 1 both_listed Left 1 (Listed 2 (children left_scan.marks root)) [] [] begun_archive (Some right_lists) [] [] [] refl (refl, tt, refl, refl) (refl, refl) (inl (refl, refl)) (λ P. inl (refl, inl refl, none_refused P))
     (All-nil (IsDue both_list [] Left 1 (Listed 2 (children left_scan.marks root)))) tt refl
     (goes_on right_lists refl refl) refl (refl, both_sent (take 8 messages) right_lists tt ((5, omega arith, refl), tt), (omega arith, omega arith, omega arith)) (tells 8) (once 8)
     (All-nil (IsOfSession 7 (take 8 messages) right_lists))
 
 takes_right_listing : Steps right_list_awaited (Deliver 7) fetching
-takes_right_listing = takes 1 right_list_awaited Right 1 (Listed 2 (children right_scan.marks root)) plan (made ∷ []) begun_archive (Some left_fetches) (drop 8 (take 9 messages)) [] [] refl (refl, refl) (inr (made, makes, refl, refl)) (λ P. inl (refl, (inl refl, none_refused P)))
+takes_right_listing = takes 1 right_list_awaited Right 1 (Listed 2 (children right_scan.marks root)) plan (made ∷ []) begun_archive (Some left_fetches) (drop 8 (take 9 messages)) [] [] refl (refl, tt, refl, refl) (refl, refl) (inr (made, makes, refl, refl)) (λ P. inl (refl, inl refl, none_refused P))
     (All-nil (IsDue right_lists plan Right 1 (Listed 2 (children right_scan.marks root)))) tt refl
     (goes_on left_fetches refl refl) refl (refl, both_sent (take 9 messages) left_fetches ((8, omega arith, refl), tt) tt, (omega arith, omega arith, omega arith)) (tells 9) (once 9)
     (All-from_recursion (IsOfSession 7 (take 8 messages) left_fetches) (drop 8 (take 9 messages))
@@ -126,7 +129,7 @@ first_bytes_lawful : AreBytes file_bytes
 first_bytes_lawful = All-from_recursion (λ byte. byte < 256) file_bytes (omega arith, (omega arith, (omega arith, (omega arith, (omega arith, (omega arith, tt))))))
 
 takes_first_piece : Steps fetched (Deliver 9) staging
-takes_first_piece = takes 1 fetched Left 2 (Piece 6 file_bytes) plan [] begun_archive (Some right_stages) (drop 10 (take 11 messages)) [] [] refl (refl, refl) (inl (refl, refl)) (λ P. inl (refl, (inl refl, none_refused P)))
+takes_first_piece = takes 1 fetched Left 2 (Piece 6 file_bytes) plan [] begun_archive (Some right_stages) (drop 10 (take 11 messages)) [] [] refl (refl, tt, refl, refl) (refl, refl) (inl (refl, refl)) (λ P. inl (refl, inl refl, none_refused P))
     (All-nil (IsDue left_fetches plan Left 2 (Piece 6 file_bytes))) tt refl
     (goes_on right_stages refl refl) refl (refl, both_sent (take 11 messages) right_stages tt ((10, omega arith, refl), tt), (omega arith, omega arith, omega arith)) (tells 11) (once 11)
     (All-from_recursion (IsOfSession 7 (take 10 messages) right_stages) (drop 10 (take 11 messages)) (
@@ -139,7 +142,7 @@ takes_first_piece = takes 1 fetched Left 2 (Piece 6 file_bytes) plan [] begun_ar
     ))
 
 takes_first_staged : Steps staged (Deliver 11) replacing
-takes_first_staged = takes 1 staged Right 2 Staged plan [] begun_archive (Some right_replaces) (drop 12 (take 13 messages)) [] [] refl (refl, refl) (inl (refl, refl)) (λ P. inl (refl, (inl refl, none_refused P)))
+takes_first_staged = takes 1 staged Right 2 Staged plan [] begun_archive (Some right_replaces) (drop 12 (take 13 messages)) [] [] refl (refl, tt, refl, refl) (refl, refl) (inl (refl, refl)) (λ P. inl (refl, inl refl, none_refused P))
     (All-nil (IsDue right_stages plan Right 2 Staged)) tt refl
     (goes_on right_replaces refl refl) refl (refl, both_sent (take 13 messages) right_replaces tt ((12, omega arith, refl), tt), (omega arith, omega arith, omega arith)) (tells 13) (once 13)
     (All-from_recursion (IsOfSession 7 (take 12 messages) right_replaces) (drop 12 (take 13 messages)) (
@@ -161,7 +164,7 @@ can_record_first = record {
 }
 
 takes_first_done : Steps replaced (Deliver 13) second_fetching
-takes_first_done = takes 1 replaced Right 3 Done plan [] first_archive (Some right_fetches) (drop 14 (take 15 messages)) (Recorded a_path (mark one) ∷ []) [] refl (refl, refl) (inl (refl, refl)) (λ P. inl (refl, (inl refl, none_refused P)))
+takes_first_done = takes 1 replaced Right 3 Done plan [] first_archive (Some right_fetches) (drop 14 (take 15 messages)) (Recorded a_path (mark one) ∷ []) [] refl (takes_one _ _ (letter_fits 97 (49 ∷ []) 4194252 (omega arith)), tt, refl, refl) (refl, refl) (inl (refl, refl)) (λ P. inl (refl, inl refl, none_refused P))
     (All-cons (IsDue right_replaces plan Right 3 Done) (Recorded a_path (mark one)) [] (done 0 a_path 2 6 first_planned refl refl refl refl) (All-nil (IsDue right_replaces plan Right 3 Done)))
     (can_record_first, tt) refl
     (goes_on right_fetches refl refl) refl (refl, both_sent (take 15 messages) right_fetches tt ((14, omega arith, refl), tt), (omega arith, omega arith, omega arith)) (tells 15) (once 15)
@@ -172,7 +175,7 @@ second_bytes_lawful : AreBytes two_bytes
 second_bytes_lawful = All-from_recursion (λ byte. byte < 256) two_bytes (omega arith, (omega arith, (omega arith, (omega arith, (omega arith, (omega arith, tt))))))
 
 takes_second_piece : Steps second_fetched (Deliver 15) second_staging
-takes_second_piece = takes 1 second_fetched Right 4 (Piece 6 two_bytes) plan [] first_archive (Some left_stages) (drop 16 (take 17 messages)) [] [] refl (refl, refl) (inl (refl, refl)) (λ P. inl (refl, (inl refl, none_refused P)))
+takes_second_piece = takes 1 second_fetched Right 4 (Piece 6 two_bytes) plan [] first_archive (Some left_stages) (drop 16 (take 17 messages)) [] [] refl (takes_none _, tt, refl, refl) (refl, refl) (inl (refl, refl)) (λ P. inl (refl, inl refl, none_refused P))
     (All-nil (IsDue right_fetches plan Right 4 (Piece 6 two_bytes))) tt refl
     (goes_on left_stages refl refl) refl (refl, both_sent (take 17 messages) left_stages ((16, omega arith, refl), tt) tt, (omega arith, omega arith, omega arith)) (tells 17) (once 17)
     (All-from_recursion (IsOfSession 7 (take 16 messages) left_stages) (drop 16 (take 17 messages)) (
@@ -185,7 +188,7 @@ takes_second_piece = takes 1 second_fetched Right 4 (Piece 6 two_bytes) plan [] 
     ))
 
 takes_second_staged : Steps second_staged (Deliver 17) second_replacing
-takes_second_staged = takes 1 second_staged Left 3 Staged plan [] first_archive (Some left_replaces) (drop 18 (take 19 messages)) [] [] refl (refl, refl) (inl (refl, refl)) (λ P. inl (refl, (inl refl, none_refused P)))
+takes_second_staged = takes 1 second_staged Left 3 Staged plan [] first_archive (Some left_replaces) (drop 18 (take 19 messages)) [] [] refl (takes_none _, tt, refl, refl) (refl, refl) (inl (refl, refl)) (λ P. inl (refl, inl refl, none_refused P))
     (All-nil (IsDue left_stages plan Left 3 Staged)) tt refl
     (goes_on left_replaces refl refl) refl (refl, both_sent (take 19 messages) left_replaces ((18, omega arith, refl), tt) tt, (omega arith, omega arith, omega arith)) (tells 19) (once 19)
     (All-from_recursion (IsOfSession 7 (take 18 messages) left_replaces) (drop 18 (take 19 messages)) (
@@ -219,8 +222,11 @@ takes_second_done_ends = record {
   conflicts = λ _. refl;
 }
 
+second_fits : record_size (kept_spelling (Recorded b_path (mark two))) ≤ 4194252 - record_size (kept_spelling (Recorded a_path (mark one)))
+second_fits = letter_fits 98 (50 ∷ []) _ (subst (λ size. 42 ≤ 4194252 - size) (sym (letter_size 97 (49 ∷ []))) (omega arith))
+
 takes_second_done : Steps second_replaced (Deliver 19) exchanged
-takes_second_done = takes 1 second_replaced Left 4 Done plan [] both_archive None [] (Recorded b_path (mark two) ∷ []) ((complete 2, 9) ∷ []) refl (refl, refl) (inl (refl, refl)) (λ P. inr (left_replaces, complete 2, refl, refl, up_not_down, refl, takes_second_done_ends, record { done = refl; marked = refl }, none_refused P))
+takes_second_done = takes 1 second_replaced Left 4 Done plan [] both_archive None [] (Recorded b_path (mark two) ∷ []) ((complete 2, 9) ∷ []) refl (takes_one _ _ second_fits, tt, refl, refl) (refl, refl) (inl (refl, refl)) (λ P. inr (left_replaces, complete 2, refl, refl, up_not_down, refl, takes_second_done_ends, record { done = refl; marked = refl }, none_refused P))
     (All-cons (IsDue left_replaces plan Left 4 Done) (Recorded b_path (mark two)) [] (done 1 b_path 2 6 second_planned refl refl refl refl) (All-nil (IsDue left_replaces plan Left 4 Done)))
     (can_record_second, tt) refl ended tt tt (tells 20) (once 20) refl
 

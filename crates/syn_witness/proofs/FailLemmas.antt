@@ -1,5 +1,5 @@
 -- An edit whose third device call fails, and the reopening after it; and a checkpoint that is cut off.
-use Rattle.std.proofs.Common.{◌≡◌, true, false, ◌⊎◌, ℕ, ◌≢◌, List, [], ◌∷◌, refl, Some, None, arith, inl, inr}
+use Rattle.std.proofs.Common.{◌≡◌, true, ◌⊎◌, ℕ, ◌≢◌, List, [], ◌∷◌, refl, Some, None, arith, inl, inr}
 use Rattle.syn_model.specs.Refusal.{Device, Halted as Halted_before}
 use Rattle.syn_model.specs.Event.{Edited}
 use Rattle.syn_headline.specs.Network.{Left}
@@ -7,6 +7,8 @@ use Rattle.syn_headline.specs.Acknowledged.{Happened}
 use Rattle.syn_headline.specs.Arms.{unarmed, all_made, one_fails, one_stops}
 use Rattle.syn_headline.specs.World.{SideMachine, written, compacting_cut, World, Step, Halted, Down, At, Edits, Fail, Reopen, Steps, Runs, failed, opened, recovered}
 use Rattle.syn_headline.specs.Side.{room_behind}
+use Rattle.syn_model.specs.Image.{image_spelling}
+use Rattle.syn_model.specs.History.{standing_of}
 use Rattle.syn_witness.specs.Witness.{CutCheckpoint, CheckpointIsCut, new_room, new_machine, opened_world, FailIsRefused, put_one}
 use Rattle.syn_witness.proofs.WitnessSteps.{room_of, edits, meets_unarmed, up_not_down}
 use Rattle.syn_witness.proofs.WitnessLemmas.{edit_allowed}
@@ -57,7 +59,7 @@ gives_back = inr (
 
 loses : Steps twice_refused (Reopen (At Left)) lost_world
 unfolding halted_world twice_refused lost_world
-loses = inr (halted_not_down, (1, inr (omega arith, lost_world, inl (lost_world.left, [], opened (new_room) unarmed (meets_unarmed _ _ _ refl) (inl refl), refl), refl)))
+loses = inr (halted_not_down, (1, inr (omega arith, lost_world, inl (lost_world.left, [], opened (new_room) 1 unarmed (meets_unarmed _ _ _ refl) (inl (refl, refl)), refl), refl)))
 
 pub fail_is_refused : FailIsRefused
 unfolding halted_world twice_refused recovered_world lost_world
@@ -94,14 +96,14 @@ five_ahead = record opened_world { left = record edited_machine { arms = record 
 cut_off_world : World
 cut_off_world = record five_ahead { left = record edited_machine { status = Down; compacting = true } }
 
-found : ℕ → World
-found room = record five_ahead { left = record edited_machine { room = room } }
+found : ℕ → ℕ → World
+found room generation = record five_ahead { left = record edited_machine { room = room; generation = generation } }
 
 -- up to the opening
-cuts : (room : ℕ) → (room ≡ room_of (Edited 1 put_one ∷ [])) ⊎ (room ≡ room_behind 7 (Edited 1 put_one ∷ [])) → CutCheckpoint room
+cuts : (room generation : ℕ) → ((room ≡ room_of (Edited 1 put_one ∷ [])) × (generation ≡ 1)) ⊎ ((room ≡ room_behind (image_spelling 7 (standing_of (Edited 1 put_one ∷ [])))) × (generation ≡ 2)) → CutCheckpoint room generation
 unfolding nine_ahead edited_machine five_ahead cut_off_world found
-cuts room finds = record {
-  new = found room;
+cuts room generation finds = record {
+  new = found room generation;
   runs = (
     nine_ahead,
     inr (up_not_down, refl),
@@ -110,22 +112,22 @@ cuts room finds = record {
       edits nine_ahead Left 1 put_one five_ahead.left (Edited 1 put_one ∷ []) five_ahead five_ahead refl refl edit_allowed (written five_ahead.left.arms (all_made (inl refl) (inr (omega arith)))) refl refl,
       (
         cut_off_world,
-        (false, inr (up_not_down, inr (refl, cut_off_world, (cut_off_world.left, [], compacting_cut (one_stops 4 (omega arith) (omega arith) (inl refl) refl), refl), refl))),
-        (found room, inr (refl, inl ((found room).left, [], opened room unarmed (meets_unarmed _ _ _ refl) finds_it, refl)), refl),
+        inr (up_not_down, inr (refl, cut_off_world, (cut_off_world.left, [], compacting_cut (one_stops 4 (omega arith) (omega arith) (inl refl) refl), refl), refl)),
+        (found room generation, inr (refl, inl ((found room generation).left, [], opened room generation unarmed (meets_unarmed _ _ _ refl) finds_it, refl)), refl),
       ),
     ),
   );
   sent = refl;
   acknowledged_then = refl;
   reported = refl;
-  ends_well = (refl, refl, refl);
+  ends_well = (refl, refl, refl, refl);
 }
   where
-    finds_it : (room ≡ room_of (Edited 1 put_one ∷ [])) ⊎ ((true ≡ true) × (room ≡ room_behind 7 (Edited 1 put_one ∷ [])))
-    finds_it = elim finds as (λ _. (room ≡ room_of (Edited 1 put_one ∷ [])) ⊎ ((true ≡ true) × (room ≡ room_behind 7 (Edited 1 put_one ∷ [])))) [
+    finds_it : ((room ≡ room_of (Edited 1 put_one ∷ [])) × (generation ≡ 1)) ⊎ ((true ≡ true) × (generation ≡ 2) × (room ≡ room_behind (image_spelling 7 (standing_of (Edited 1 put_one ∷ [])))))
+    finds_it = elim finds as (λ _. ((room ≡ room_of (Edited 1 put_one ∷ [])) × (generation ≡ 1)) ⊎ ((true ≡ true) × (generation ≡ 2) × (room ≡ room_behind (image_spelling 7 (standing_of (Edited 1 put_one ∷ [])))))) [
       | inl same ↦ inl same
-      | inr alone ↦ inr (refl, alone)
+      | inr alone ↦ inr (refl, alone.1, alone.0)
     ]
 
 pub checkpoint_is_cut : CheckpointIsCut
-checkpoint_is_cut = (cuts _ (inl refl), cuts _ (inr refl))
+checkpoint_is_cut = (cuts _ 1 (inl (refl, refl)), cuts _ 2 (inr (refl, refl)))

@@ -24,11 +24,11 @@ use Rattle.syn_headline.specs.Planning.{Planned, IsPlanOf, IsScanOf, HasBegun, S
 use Rattle.syn_headline.specs.World.{MakesPlan, World, Coordinator, Running, Down, Edits, Start, Deliver, Stop, Open, Steps, Runs, IsOfSession, IsDue, same, IsNext, StartsFrom, goes_on, ended, archive_opened, EndsTaken}
 use Rattle.syn_headline.specs.Arms.{unarmed}
 use Rattle.syn_headline.specs.Headline.{IsQuietSession, IsNoEdit, formatted, stores_of}
-use Rattle.syn_witness.specs.Witness.{keeps_all, opened_world, a_path, put_one, one, marked_later, found_later, IsMarkedLater, CarriedIsMarkedLater}
+use Rattle.syn_witness.specs.Witness.{opened_world, a_path, put_one, one, marked_later, found_later, IsMarkedLater, CarriedIsMarkedLater}
 use Rattle.syn_witness.proofs.WitnessTrees.{get_by, fits_archive_by}
-use Rattle.syn_witness.proofs.WitnessFiles.{alone, with_file, digest, alone-entries, file_mark-entries, put-entries, marked_whole, root_only, path_of_letter, one_byte, file_is_part, file_spelling, file_fits_part, file_fits_paths, mark_is_part}
+use Rattle.syn_witness.proofs.WitnessFiles.{letter_fits, alone, with_file, digest, alone-entries, file_mark-entries, put-entries, marked_whole, root_only, path_of_letter, one_byte, file_is_part, file_spelling, file_fits_part, file_fits_paths, mark_is_part}
 use Rattle.syn_witness.proofs.WitnessMessages.{IsNumbered, number_of, numbers_tell, asks_once, tell_before, once_before}
-use Rattle.syn_witness.proofs.WitnessSteps.{meets_unarmed, none_refused, waits, runs_with, world_of, reads_nothing, serves, lists, goes, takes, both_sent, runs_on_from, up_not_down}
+use Rattle.syn_witness.proofs.WitnessSteps.{takes_one, meets_unarmed, none_refused, waits, runs_with, world_of, reads_nothing, serves, lists, goes, takes, both_sent, runs_on_from, up_not_down}
 use Rattle.syn_witness.proofs.WitnessLemmas.{letter_a}
 use Rattle.syn_witness.proofs.WitnessSession.{replaced, begun_archive, left_side, right_done, asked, numbered, root_lawful, none_there, run_to_done}
 use Rattle.syn_witness.proofs.WitnessSession.{messages as first_messages, made as first_made}
@@ -83,7 +83,7 @@ abbrev world : Side → Side → Archive → Option Running → ℕ → ℕ → 
 world = world_of messages acks (first_made ∷ []) 0
 
 abbrev stopped_world : World
-stopped_world = record replaced { coordinator = record { status = Down; archive = begun_archive; has_room = keeps_all; writing = None; running = None; arms = unarmed } }
+stopped_world = record replaced { coordinator = record replaced.coordinator { status = Down; running = None } }
 
 abbrev opened_again : World
 opened_again = world left_side right_done begun_archive None 14 5
@@ -143,7 +143,7 @@ stops : Steps replaced (Stop Coordinator 0) stopped_world
 stops = inr (up_not_down, refl)
 
 opens : Steps stopped_world (Open Coordinator) opened_again
-opens = inr (refl, inl (opened_again.coordinator, [], archive_opened keeps_all unarmed (meets_unarmed _ _ _ refl), refl))
+opens = inr (refl, inl (opened_again.coordinator, [], archive_opened opened_again.coordinator.room 1 unarmed (meets_unarmed _ _ _ refl) (inl (refl, refl)), refl))
 
 starts : Steps opened_again Start started
 starts = inr (
@@ -158,6 +158,7 @@ starts = inr (
           (All-from_recursion (IsOfSession 7 (take 14 messages) both_begin) (drop 14 (take 16 messages)) ((refl, (omega arith, omega arith), refl), ((refl, (omega arith, omega arith), refl), tt))),
       refl,
       inl (refl, refl),
+      (refl, tt, refl, refl),
       meets_unarmed _ _ _ refl,
     ),
     refl,
@@ -222,17 +223,17 @@ makes = record { of_session = refl; once = All-cons (λ earlier. earlier.session
 
 -- The steps of the coordinator
 takes_left_begun : Steps both_begun (Deliver 16) right_awaited
-takes_left_begun = takes 2 both_begun Left 0 (Begun 3) [] [] next_archive (Some right_begins) [] [] [] refl (refl, refl) (inl (refl, refl)) (λ P. inl (refl, (inl refl, none_refused P))) (All-nil (IsDue both_begin [] Left 0 (Begun 3))) tt refl
+takes_left_begun = takes 2 both_begun Left 0 (Begun 3) [] [] next_archive (Some right_begins) [] [] [] refl (refl, tt, refl, refl) (refl, refl) (inl (refl, refl)) (λ P. inl (refl, inl refl, none_refused P)) (All-nil (IsDue both_begin [] Left 0 (Begun 3))) tt refl
     (goes_on right_begins refl refl) refl (refl, both_sent (take 18 messages) right_begins tt ((15, omega arith, refl), tt), (omega arith, omega arith, omega arith)) (tells 18) (once 18)
     (All-nil (IsOfSession 7 (take 18 messages) right_begins))
 
 takes_right_begun : Steps right_awaited (Deliver 17) listing
-takes_right_begun = takes 2 right_awaited Right 0 (Begun 3) [] [] next_archive (Some both_list) (drop 18 (take 20 messages)) [] [] refl (refl, refl) (inl (refl, refl)) (λ P. inl (refl, (inl refl, none_refused P))) (All-nil (IsDue right_begins [] Right 0 (Begun 3))) tt refl
+takes_right_begun = takes 2 right_awaited Right 0 (Begun 3) [] [] next_archive (Some both_list) (drop 18 (take 20 messages)) [] [] refl (refl, tt, refl, refl) (refl, refl) (inl (refl, refl)) (λ P. inl (refl, inl refl, none_refused P)) (All-nil (IsDue right_begins [] Right 0 (Begun 3))) tt refl
     (goes_on both_list refl refl) refl (refl, both_sent (take 20 messages) both_list ((18, omega arith, refl), tt) ((19, omega arith, refl), tt), (omega arith, omega arith, omega arith)) (tells 20) (once 20)
     (All-from_recursion (IsOfSession 7 (take 18 messages) both_list) (drop 18 (take 20 messages)) ((refl, (omega arith, root_lawful), have_begun Left), ((refl, (omega arith, root_lawful), have_begun Right), tt)))
 
 takes_left_listing : Steps both_listed (Deliver 20) right_list_awaited
-takes_left_listing = takes 2 both_listed Left 1 (Listed 3 (children left_scan.marks root)) [] [] next_archive (Some right_lists) [] [] [] refl (refl, refl) (inl (refl, refl)) (λ P. inl (refl, (inl refl, none_refused P)))
+takes_left_listing = takes 2 both_listed Left 1 (Listed 3 (children left_scan.marks root)) [] [] next_archive (Some right_lists) [] [] [] refl (refl, tt, refl, refl) (refl, refl) (inl (refl, refl)) (λ P. inl (refl, inl refl, none_refused P))
     (All-nil (IsDue both_list [] Left 1 (Listed 3 (children left_scan.marks root)))) tt refl
     (goes_on right_lists refl refl) refl (refl, both_sent (take 22 messages) right_lists tt ((19, omega arith, refl), tt), (omega arith, omega arith, omega arith)) (tells 22) (once 22)
     (All-nil (IsOfSession 7 (take 22 messages) right_lists))
@@ -260,7 +261,7 @@ takes_right_listing_ends = record {
 }
 
 takes_right_listing : Steps right_list_awaited (Deliver 21) marked
-takes_right_listing = takes 2 right_list_awaited Right 1 (Listed 3 (children right_scan.marks root)) plan (made ∷ []) marked_archive None [] (Recorded a_path (mark one) ∷ []) ((marked_later, 9) ∷ []) refl (refl, refl) (inr (made, makes, refl, refl)) (λ P. inr (right_lists, marked_later, refl, refl, up_not_down, refl, takes_right_listing_ends, record { done = refl; marked = refl }, none_refused P))
+takes_right_listing = takes 2 right_list_awaited Right 1 (Listed 3 (children right_scan.marks root)) plan (made ∷ []) marked_archive None [] (Recorded a_path (mark one) ∷ []) ((marked_later, 9) ∷ []) refl (takes_one _ _ (letter_fits 97 (49 ∷ []) 4194238 (omega arith)), tt, refl, refl) (refl, refl) (inr (made, makes, refl, refl)) (λ P. inr (right_lists, marked_later, refl, refl, up_not_down, refl, takes_right_listing_ends, record { done = refl; marked = refl }, none_refused P))
     (All-cons (IsDue right_lists plan Right 1 (Listed 3 (children right_scan.marks root))) (Recorded a_path (mark one)) [] right_listing_due (All-nil (IsDue right_lists plan Right 1 (Listed 3 (children right_scan.marks root)))))
     (can_record, tt) refl ended tt tt (tells 22) (once 22) refl
 

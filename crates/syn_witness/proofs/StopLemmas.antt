@@ -1,5 +1,5 @@
 -- Without a stop among the steps no machine goes down, and a device call that is armed comes.
-use Rattle.std.proofs.Common.{◌≡◌, ◌≢◌, ◌-◌, ℕ, suc, Bool, true, false, if◌then◌else◌, List, [], ◌∷◌, ◌++◌, append-nil, map, refl, sym, ap, ◌∙◌, subst, Option, Some, None, arith, inl, inr, slice_get}
+use Rattle.std.proofs.Common.{nat_le, ◌≡◌, ◌≢◌, ◌-◌, ℕ, suc, Bool, true, false, if◌then◌else◌, List, [], ◌∷◌, ◌++◌, append-nil, map, refl, sym, ap, ◌∙◌, subst, Option, Some, None, arith, inl, inr, slice_get}
 use Rattle.std.specs.Prelude.{Contains}
 use Rattle.std.proofs.lemmas.List.Elements.{Contains-append_right}
 use Rattle.syn_model.specs.Refusal.{Refusal, Device, Cause}
@@ -10,7 +10,10 @@ use Rattle.syn_headline.specs.Side.{Request, Reply}
 use Rattle.syn_headline.specs.Network.{Which, Left, Right, Message, Asks, Answers}
 use Rattle.syn_headline.specs.Arms.{Arms, IsBefore, Meets, all_made, one_fails, one_stops}
 use Rattle.syn_headline.specs.Planning.{Log}
-use Rattle.syn_headline.specs.World.{Status, Up, Halted, Down, Machine, At, Coordinator, World, SideMachine, CoordinatorMachine, Running, side_of, set_side, Step, Edits, Start, Deliver, Tick, Checkpoint, Fail, Stop, Open, Reopen, Writes, written, failed, cut, SideGoes, Opens, opened, recovered, OpensArchive, archive_opened, archive_recovered, TakesRequest, answered, request_failed, request_cut, side_down, CoordinatorGoes, TakesAnswer, taken, ignored, coordinator_down, Delivers, OpensMachine, refuses_with, is_halted, status_of, arms_of, set_device, answered_by, UnlessDown, edit_causes, start_causes, Starts, Reopens, Calls, Steps, Runs, Compacts, compacted, compacting_failed, compacting_cut}
+use Rattle.syn_headline.specs.Side.{room_behind}
+use Rattle.syn_model.specs.MarkSpelling.{archive_spelling}
+use Rattle.syn_model.specs.Limits.{greatest}
+use Rattle.syn_headline.specs.World.{Status, Up, Halted, Down, Machine, At, Coordinator, World, SideMachine, CoordinatorMachine, Running, side_of, set_side, Step, Edits, Start, Deliver, Tick, Checkpoint, Fail, Stop, Open, Reopen, Writes, written, failed, cut, SideGoes, Opens, opened, recovered, OpensArchive, archive_opened, archive_recovered, TakesRequest, answered, request_failed, request_cut, side_down, CoordinatorGoes, TakesAnswer, taken, ignored, coordinator_down, Delivers, OpensMachine, refuses_with, is_halted, status_of, arms_of, set_device, answered_by, UnlessDown, edit_causes, start_causes, Starts, Reopens, Calls, Steps, Runs, CallsArchive, records, checkpointed, checkpointing, CompactsArchive, Compacts, compacted, compacting_failed, compacting_cut}
 use Rattle.syn_headline.specs.Acknowledged.{Happened}
 use Rattle.syn_headline.specs.Headline.{IsStart}
 use Rattle.syn_witness.specs.Forbidden.{StaysWithoutStop, ArmedCallsCome}
@@ -67,14 +70,19 @@ module _ (old : World) (h : AllSafe old) (new : World) where
   goes_safe : (logged : Log) (D : Kept → Type 0) (R : Option Running → Type 0) → CoordinatorGoes old logged D R new → IsSafe new.coordinator.status new.coordinator.arms → AllSafe new
   goes_safe logged D R g s = subst AllSafe (sym g.result) (coordinator_safe old h g.machine (subst (λ w. IsSafe w.coordinator.status w.coordinator.arms) g.result s))
 
+  archive_safe : {D : Kept → Type 0} {kept : List Kept} → CallsArchive old.pair D old.coordinator kept new.coordinator → IsSafe new.coordinator.status new.coordinator.arms
+  archive_safe (records room meets) = meets_safe _ _ _ _ _ (h Coordinator).1 meets
+  archive_safe (checkpointed earlier later room is takes full can left meets) = meets_safe _ _ _ _ _ (h Coordinator).1 meets
+  archive_safe (checkpointing not_up can none left full meets) = meets_safe _ _ _ _ _ (h Coordinator).1 meets
+
   answer_safe : (from : Which) (session number : ℕ) (reply : Reply) → TakesAnswer old from session number reply new → AllSafe new
   answer_safe from session number reply (taken plan logged expected made g calls reports) = goes_safe logged _ _ g (by_status old.coordinator.status refl)
     where
       by_status : (status : Status) → old.coordinator.status ≡ status → IsSafe new.coordinator.status new.coordinator.arms
-      by_status Up e = let c = calls e in meets_safe _ _ _ _ _ (h Coordinator).1 c.1
+      by_status Up e = archive_safe (calls e)
       by_status Halted e =
           let still = g.while_halted e in
-          subst (λ w. IsSafe w.coordinator.status w.coordinator.arms) (sym g.result) (λ down. halted_not_down (sym still.2 ∙ down), ap (λ a. a.stop) still.3 ∙ (h Coordinator).1)
+          subst (λ w. IsSafe w.coordinator.status w.coordinator.arms) (sym g.result) (subst (λ m. IsSafe m.status m.arms) (sym still.1) (h Coordinator))
       by_status Down e = absurd (g.not_down e)
   answer_safe from session number reply (ignored x e) = same_safe e
   answer_safe from session number reply (coordinator_down d e) = same_safe e
@@ -94,7 +102,7 @@ module _ (old : World) (h : AllSafe old) (new : World) where
   writes_safe which event _ _ (cut meets) = absurd ((meets_safe _ _ _ _ _ (h (At which)).1 meets).0 refl)
 
   opens_safe : (which : Which) (calls : ℕ) (machine : SideMachine) (events : List Event) → Opens old.pair (side_of old which) calls machine events → IsSafe machine.status machine.arms
-  opens_safe which calls _ _ (opened room arms meets left) = meets_safe _ _ _ _ _ (h (At which)).1 meets
+  opens_safe which calls _ _ (opened room generation arms meets left) = meets_safe _ _ _ _ _ (h (At which)).1 meets
   opens_safe which calls _ _ (recovered arms event meets w a) = meets_safe _ _ _ _ _ (h (At which)).1 meets
 
   compacts_safe : (which : Which) (machine : SideMachine) (events : List Event) → Compacts old.pair (side_of old which) machine events → IsSafe machine.status machine.arms
@@ -102,9 +110,14 @@ module _ (old : World) (h : AllSafe old) (new : World) where
   compacts_safe which _ _ (compacting_failed arms meets) = meets_safe _ _ _ _ _ (h (At which)).1 meets
   compacts_safe which _ _ (compacting_cut meets) = absurd ((meets_safe _ _ _ _ _ (h (At which)).1 meets).0 refl)
 
-  opens_archive_safe : (calls : ℕ) (machine : CoordinatorMachine) (kept : List Kept) → OpensArchive old.coordinator calls machine kept → IsSafe machine.status machine.arms
-  opens_archive_safe calls _ _ (archive_opened room arms meets) = meets_safe _ _ _ _ _ (h Coordinator).1 meets
-  opens_archive_safe calls _ _ (archive_recovered room arms kept meets w can) = meets_safe _ _ _ _ _ (h Coordinator).1 meets
+  opens_archive_safe : (calls : ℕ) (machine : CoordinatorMachine) (kept : List Kept) → OpensArchive old.pair old.coordinator calls machine kept → IsSafe machine.status machine.arms
+  opens_archive_safe calls _ _ (archive_opened room generation arms meets left) = meets_safe _ _ _ _ _ (h Coordinator).1 meets
+  opens_archive_safe calls _ _ (archive_recovered arms kept meets w can) = meets_safe _ _ _ _ _ (h Coordinator).1 meets
+
+  compacts_archive_safe : CompactsArchive old new → AllSafe new
+  compacts_archive_safe (inl (arms, meets, e)) = subst AllSafe (sym e) (coordinator_safe old h (record old.coordinator { room = room_behind (archive_spelling old.pair old.coordinator.archive); generation = suc old.coordinator.generation; arms = arms }) ((h Coordinator).0, (meets_safe _ _ _ _ _ (h Coordinator).1 meets).1))
+  compacts_archive_safe (inr (inl (arms, meets, e))) = subst AllSafe (sym e) (coordinator_safe old h (record old.coordinator { status = Halted; compacting = true; arms = arms }) (meets_safe _ _ _ _ _ (h Coordinator).1 meets))
+  compacts_archive_safe (inr (inr (meets, e))) = absurd ((meets_safe _ _ _ _ _ (h Coordinator).1 meets).0 refl)
 
   side_goes_safe : (which : Which) (Goes : SideMachine → List Event → Type 0) → ((machine : SideMachine) (events : List Event) → Goes machine events → IsSafe machine.status machine.arms) → SideGoes old which Goes [] new → AllSafe new
   side_goes_safe which Goes safe (machine, events, goes, e) = subst AllSafe (sym e) (side_safe old h which machine (safe machine events goes))
@@ -142,13 +155,13 @@ module _ (old : World) (h : AllSafe old) (new : World) where
   step_safe (Edits side user edit) none g =
       calls_safe (At side) (edit_causes (side_of old side) (Edited user edit)) (λ made. IsLawfulEvent (Edited user edit) × SideGoes old side (Writes (side_of old side) (Edited user edit)) [] made)
       (λ made m. side_goes_safe old h made side (Writes (side_of old side) (Edited user edit)) (writes_safe old h made side (Edited user edit)) m.1) g
-  step_safe Start none g = calls_safe Coordinator (start_causes old.coordinator) (Starts old) (λ made s. goes_safe old h made [] _ _ s.0 (meets_safe _ _ _ _ _ (h Coordinator).1 s.3)) g
+  step_safe Start none g = calls_safe Coordinator (start_causes old.coordinator) (Starts old) (λ made s. goes_safe old h made [] _ _ s.0 (meets_safe _ _ _ _ _ (h Coordinator).1 s.4)) g
   step_safe (Deliver message) none g = delivers_safe old h new (slice_get old.sent message) g
   step_safe Tick none (inl g) = same_safe old h new g.1
-  step_safe Tick none (inr g) = goes_safe old h new [] _ _ g.1.goes (λ down. (h Coordinator).0 (sym g.1.no_call.0 ∙ down), ap (λ a. a.stop) g.1.no_call.1 ∙ (h Coordinator).1)
-  step_safe (Checkpoint (At which)) none (full, g) = calls_safe (At which) ((full, why.Full) ∷ []) (SideGoes old which (Compacts old.pair (side_of old which)) [])
+  step_safe Tick none (inr g) = goes_safe old h new [] _ _ g.1.goes (subst (λ m. IsSafe m.status m.arms) (sym g.1.no_call) (h Coordinator))
+  step_safe (Checkpoint (At which)) none g = calls_safe (At which) ((nat_le greatest (side_of old which).generation, why.Full) ∷ []) (SideGoes old which (Compacts old.pair (side_of old which)) [])
       (λ made r. side_goes_safe old h made which (Compacts old.pair (side_of old which)) (compacts_safe old h made which) r) g
-  step_safe (Checkpoint Coordinator) none (full, g) = calls_safe Coordinator ((full, why.Full) ∷ []) (Reopens old Coordinator 6) (λ made r. reopens_safe old h made Coordinator 6 r) g
+  step_safe (Checkpoint Coordinator) none g = calls_safe Coordinator ((nat_le greatest old.coordinator.generation, why.Full) ∷ []) (CompactsArchive old) (λ made r. compacts_archive_safe old h made r) g
   step_safe (Fail machine call) none g = unless_down_safe machine _ (device_safe old h new machine _ _ (h machine)) g
   step_safe (Stop machine calls) none g = absurd (none machine calls refl)
   step_safe (Open machine) none (inl g) = same_safe old h new g.1
@@ -171,7 +184,7 @@ run_safe (step ∷ steps) old new h none (between, g, more) =
 start_safe : (world : World) → IsStart world → AllSafe world
 start_safe world s (At Left) = (λ down. up_not_down (sym s.left.0 ∙ down), ap (λ a. a.stop) (s.left.4))
 start_safe world s (At Right) = (λ down. up_not_down (sym s.right.0 ∙ down), ap (λ a. a.stop) (s.right.4))
-start_safe world s Coordinator = (λ down. up_not_down (sym s.coordinator.0 ∙ down), ap (λ a. a.stop) (s.coordinator.3))
+start_safe world s Coordinator = (λ down. up_not_down (sym s.coordinator.0 ∙ down), ap (λ a. a.stop) (s.coordinator.4))
 
 pub stay_without_stop : StaysWithoutStop
 stay_without_stop old new steps s g none machine = (run_safe steps old new (start_safe old s) none g machine).0

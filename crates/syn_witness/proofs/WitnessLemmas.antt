@@ -13,11 +13,11 @@ use Rattle.syn_headline.specs.Network.{Which, Left, Right, Asks, Sent, NumbersTe
 use Rattle.syn_headline.specs.Acknowledged.{Happened, Kept_by}
 use Rattle.syn_headline.specs.Arms.{unarmed, one_stops}
 use Rattle.syn_headline.specs.World.{IsNoItem, most_resends, World, Running, Outstanding, Step, Start, Tick, Up, Steps, Runs, cut, recovered, stopped, goes_on, ended, WasSent, IsOfSession, IsNothing, IsNext, StartsFrom, GoesOnAs}
-use Rattle.syn_witness.specs.Witness.{NewRoomIs, keeps_all, new_machine, opened_world, OpenedIsStart, StopIsRecovered, SilenceEnds, a_path, put_one, one, unanswered}
+use Rattle.syn_witness.specs.Witness.{NewRoomIs, new_archive_room, new_machine, opened_world, OpenedIsStart, StopIsRecovered, SilenceEnds, a_path, put_one, one, unanswered}
 use Rattle.syn_headline.proofs.FormattedLemmas.{formatted_is_pair}
 use Rattle.syn_witness.proofs.WitnessTrees.{fits_by}
-use Rattle.syn_witness.proofs.WitnessFiles.{IsLetter, content, with_file, alone-entries, file-entries, put-entries, put_allowed}
-use Rattle.syn_witness.proofs.WitnessSteps.{room_of, meets_unarmed, both_sent, none_refused, edits, goes, up_not_down}
+use Rattle.syn_witness.proofs.WitnessFiles.{no_marks, IsLetter, content, with_file, alone-entries, file-entries, put-entries, put_allowed}
+use Rattle.syn_witness.proofs.WitnessSteps.{archive_left, room_of, meets_unarmed, both_sent, none_refused, edits, goes, up_not_down}
 use Rattle.syn_witness.proofs.WitnessMessages.{IsNumbered, numbers_tell, asks_once}
 
 pub opened_is_start : OpenedIsStart
@@ -25,13 +25,13 @@ opened_is_start = record {
   pair = formatted_is_pair;
   left = (refl, refl, refl, refl, refl);
   right = (refl, refl, refl, refl, refl);
-  coordinator = (refl, refl, refl, refl);
+  coordinator = (refl, refl, refl, refl, refl);
   nothing_yet = (refl, refl, refl, refl);
 }
 
 pub new_room_is : NewRoomIs
 unfolding tree_of
-new_room_is = rw (spellings.no_names) refl
+new_room_is = (rw (spellings.no_names) refl, rw no_marks refl)
 
 pub letter_a : IsLetter 97
 letter_a = record { ascii = omega arith; no_zero = λ e. omega (arith, e); no_dot = λ e. omega (arith, e); no_slash = λ e. omega (arith, e) }
@@ -49,7 +49,7 @@ cut_world = record opened_world { left = stopped new_machine (Some (Edited 1 put
 
 recovered_world : World
 recovered_world = record opened_world {
-  left = record { status = Up; side = record { history = Edited 1 put_one ∷ []; staging = None }; room = room_of (Edited 1 put_one ∷ []); compacting = false; writing = None; arms = unarmed };
+  left = record { status = Up; side = record { history = Edited 1 put_one ∷ []; staging = None }; room = room_of (Edited 1 put_one ∷ []); generation = 1; compacting = false; writing = None; arms = unarmed };
   acknowledged = Happened Left (Edited 1 put_one) ∷ [];
 }
 
@@ -105,7 +105,7 @@ begin_waits resent = both_sent (begins (suc resent)) (waiting_for resent) (begin
 
 abbrev waiting : ℕ → World
 waiting resent = record opened_world {
-  coordinator = record { status = Up; archive = record { marks = empty_directory; last_session = 1 }; has_room = keeps_all; writing = None; running = Some (waiting_for resent); arms = unarmed };
+  coordinator = record { status = Up; archive = record { marks = empty_directory; last_session = 1 }; room = archive_left new_archive_room (Session 1 ∷ []); generation = 1; compacting = false; writing = None; running = Some (waiting_for resent); arms = unarmed };
   sent = begins (suc resent);
   acknowledged = Kept_by (Session 1) ∷ [];
 }
@@ -128,6 +128,7 @@ starts = inr (
           (refl, refl, refl) (refl, begin_waits 0, (omega arith, omega arith, omega arith)) (begins_tell 1) (begins_once 1) (begins_lawful (waiting_for 0) [] refl),
       refl,
       inl (refl, refl),
+      (refl, tt, refl, refl),
       meets_unarmed _ _ _ refl,
     ),
     refl,
@@ -147,15 +148,15 @@ resends resent early = inr (
         refl (All-nil IsNothing) tt refl
         (goes_on (waiting_for (suc resent)) refl refl) (refl, begin_waits (suc resent), (omega arith, omega arith, omega arith)) (begins_tell (suc (suc resent))) (begins_once (suc (suc resent)))
         (begins_lawful (waiting_for (suc resent)) (begins (suc resent)) refl);
-    reports = inl (refl, (inl refl, none_refused IsNoItem));
-    no_call = (refl, refl);
+    reports = inl (refl, inl refl, none_refused IsNoItem);
+    no_call = refl;
     sends = record { not_yet = ap (λ b. b || (b || false)) early; counted = refl; again = refl };
   },
 )
 
 abbrev ended_world : ℕ → World
 ended_world resent = record (waiting resent) {
-  coordinator = record { status = Up; archive = record { marks = empty_directory; last_session = 1 }; has_room = keeps_all; writing = None; running = None; arms = unarmed };
+  coordinator = record { status = Up; archive = record { marks = empty_directory; last_session = 1 }; room = archive_left new_archive_room (Session 1 ∷ []); generation = 1; compacting = false; writing = None; running = None; arms = unarmed };
   reports = (unanswered, 1) ∷ [];
 }
 
@@ -169,7 +170,7 @@ gives_up resent late =
         goes = goes (waiting resent) [] IsNothing (GoesOnAs (waiting_for resent) []) (record { marks = empty_directory; last_session = 1 }) None [] [] ((unanswered, 1) ∷ [])
             refl (All-nil IsNothing) tt refl ended tt (subst NumbersTell (sym same) (begins_tell (suc resent))) (subst AsksNothingTwice (sym same) (begins_once (suc resent))) refl;
         reports = inr (waiting_for resent, unanswered, refl, refl, up_not_down, refl, (refl, refl, inl (ap (λ b. b || (b || false)) late, refl)), record { done = refl; marked = refl }, none_refused IsNoItem);
-        no_call = (refl, refl);
+        no_call = refl;
         sends = tt;
       },
     ))

@@ -27,10 +27,10 @@ use Rattle.syn_headline.specs.Arms.{unarmed}
 use Rattle.syn_witness.specs.Witness.{opened_world, a_path, put_one, one, complete, FileIsCarried}
 use Rattle.syn_headline.specs.Headline.{IsQuietSession, IsNoEdit, formatted, stores_of}
 use Rattle.syn_witness.proofs.WitnessTrees.{get_by, fits_by, fits_archive_by}
-use Rattle.syn_witness.proofs.WitnessFiles.{alone, with_file, content, digest, alone-entries, file-entries, file_mark-entries, put-entries, marked_whole, alone_whole, root_only, root_alone, path_of_letter, one_byte, file_is_part, file_spelling, file_fits_part, file_fits_paths, mark_is_part}
+use Rattle.syn_witness.proofs.WitnessFiles.{letter_fits, alone, with_file, content, digest, alone-entries, file-entries, file_mark-entries, put-entries, marked_whole, alone_whole, root_only, root_alone, path_of_letter, one_byte, file_is_part, file_spelling, file_fits_part, file_fits_paths, mark_is_part}
 use Rattle.syn_witness.proofs.WitnessScans.{left_history, right_history, left_scan, right_scan, left-entries, right_marks-entries, left_marks-entries, left_root, right_root, left_part, plan_is}
 use Rattle.syn_witness.proofs.WitnessMessages.{number_of, IsNumbered, numbers_tell, asks_once, tell_before, once_before}
-use Rattle.syn_witness.proofs.WitnessSteps.{room_of, meets_unarmed, none_refused, runs_on_from, edits as edits_allowed, waits, runs_with, world_of, takes, reads_nothing, serves, lists, goes, both_sent, up_not_down}
+use Rattle.syn_witness.proofs.WitnessSteps.{takes_one, room_of, meets_unarmed, none_refused, runs_on_from, edits as edits_allowed, waits, runs_with, world_of, takes, reads_nothing, serves, lists, goes, both_sent, up_not_down}
 use Rattle.syn_witness.proofs.WitnessLemmas.{letter_a, edit_allowed}
 
 -- The sides, before and after
@@ -284,6 +284,7 @@ starts = inr (
           (All-from_recursion (IsOfSession 7 [] both_begin) (take 2 messages) ((refl, (omega arith, omega arith), refl), ((refl, (omega arith, omega arith), refl), tt))),
       refl,
       inl (refl, refl),
+      (refl, tt, refl, refl),
       meets_unarmed _ _ _ refl,
     ),
     refl,
@@ -291,7 +292,7 @@ starts = inr (
 )
 
 takes_left_begun : Steps both_begun (Deliver 2) right_awaited
-takes_left_begun = takes 1 both_begun Left 0 (Begun 2) [] [] begun_archive (Some right_begins) [] [] [] refl (refl, refl) (inl (refl, refl)) (λ P. inl (refl, (inl refl, none_refused P))) (All-nil (IsDue both_begin [] Left 0 (Begun 2))) tt refl
+takes_left_begun = takes 1 both_begun Left 0 (Begun 2) [] [] begun_archive (Some right_begins) [] [] [] refl (refl, tt, refl, refl) (refl, refl) (inl (refl, refl)) (λ P. inl (refl, inl refl, none_refused P)) (All-nil (IsDue both_begin [] Left 0 (Begun 2))) tt refl
     (goes_on right_begins refl refl) refl (refl, both_sent (take 4 messages) right_begins tt ((1, omega arith, refl), tt), (omega arith, omega arith, omega arith)) (tells 4) (once 4)
     (All-nil (IsOfSession 7 (take 4 messages) right_begins))
 
@@ -299,18 +300,18 @@ pub root_lawful : IsPath root
 root_lawful = record { names = All-nil IsName; not_deep = omega arith; not_long = omega arith }
 
 takes_right_begun : Steps right_awaited (Deliver 3) listing
-takes_right_begun = takes 1 right_awaited Right 0 (Begun 1) [] [] begun_archive (Some both_list) (drop 4 (take 6 messages)) [] [] refl (refl, refl) (inl (refl, refl)) (λ P. inl (refl, (inl refl, none_refused P))) (All-nil (IsDue right_begins [] Right 0 (Begun 1))) tt refl
+takes_right_begun = takes 1 right_awaited Right 0 (Begun 1) [] [] begun_archive (Some both_list) (drop 4 (take 6 messages)) [] [] refl (refl, tt, refl, refl) (refl, refl) (inl (refl, refl)) (λ P. inl (refl, inl refl, none_refused P)) (All-nil (IsDue right_begins [] Right 0 (Begun 1))) tt refl
     (goes_on both_list refl refl) refl (refl, both_sent (take 6 messages) both_list ((4, omega arith, refl), tt) ((5, omega arith, refl), tt), (omega arith, omega arith, omega arith)) (tells 6) (once 6)
     (All-from_recursion (IsOfSession 7 (take 4 messages) both_list) (drop 4 (take 6 messages)) ((refl, (omega arith, root_lawful), have_begun Left), ((refl, (omega arith, root_lawful), have_begun Right), tt)))
 
 takes_left_listing : Steps both_listed (Deliver 6) right_list_awaited
-takes_left_listing = takes 1 both_listed Left 1 (Listed 2 (children left_scan.marks root)) [] [] begun_archive (Some right_lists) [] [] [] refl (refl, refl) (inl (refl, refl)) (λ P. inl (refl, (inl refl, none_refused P)))
+takes_left_listing = takes 1 both_listed Left 1 (Listed 2 (children left_scan.marks root)) [] [] begun_archive (Some right_lists) [] [] [] refl (refl, tt, refl, refl) (refl, refl) (inl (refl, refl)) (λ P. inl (refl, inl refl, none_refused P))
     (All-nil (IsDue both_list [] Left 1 (Listed 2 (children left_scan.marks root)))) tt refl
     (goes_on right_lists refl refl) refl (refl, both_sent (take 8 messages) right_lists tt ((5, omega arith, refl), tt), (omega arith, omega arith, omega arith)) (tells 8) (once 8)
     (All-nil (IsOfSession 7 (take 8 messages) right_lists))
 
 takes_right_listing : Steps right_list_awaited (Deliver 7) fetching
-takes_right_listing = takes 1 right_list_awaited Right 1 (Listed 1 (children right_scan.marks root)) plan (made ∷ []) begun_archive (Some left_fetches) (drop 8 (take 9 messages)) [] [] refl (refl, refl) (inr (made, makes, refl, refl)) (λ P. inl (refl, (inl refl, none_refused P)))
+takes_right_listing = takes 1 right_list_awaited Right 1 (Listed 1 (children right_scan.marks root)) plan (made ∷ []) begun_archive (Some left_fetches) (drop 8 (take 9 messages)) [] [] refl (refl, tt, refl, refl) (refl, refl) (inr (made, makes, refl, refl)) (λ P. inl (refl, inl refl, none_refused P))
     (All-nil (IsDue right_lists plan Right 1 (Listed 1 (children right_scan.marks root)))) tt refl
     (goes_on left_fetches refl refl) refl (refl, both_sent (take 9 messages) left_fetches ((8, omega arith, refl), tt) tt, (omega arith, omega arith, omega arith)) (tells 9) (once 9)
     (All-from_recursion (IsOfSession 7 (take 8 messages) left_fetches) (drop 8 (take 9 messages))
@@ -320,7 +321,7 @@ bytes_lawful : AreBytes file_bytes
 bytes_lawful = All-from_recursion (λ byte. byte < 256) file_bytes (omega arith, (omega arith, (omega arith, (omega arith, (omega arith, (omega arith, tt))))))
 
 takes_piece : Steps fetched (Deliver 9) staging
-takes_piece = takes 1 fetched Left 2 (Piece 6 file_bytes) plan [] begun_archive (Some right_stages) (drop 10 (take 11 messages)) [] [] refl (refl, refl) (inl (refl, refl)) (λ P. inl (refl, (inl refl, none_refused P)))
+takes_piece = takes 1 fetched Left 2 (Piece 6 file_bytes) plan [] begun_archive (Some right_stages) (drop 10 (take 11 messages)) [] [] refl (refl, tt, refl, refl) (refl, refl) (inl (refl, refl)) (λ P. inl (refl, inl refl, none_refused P))
     (All-nil (IsDue left_fetches plan Left 2 (Piece 6 file_bytes))) tt refl
     (goes_on right_stages refl refl) refl (refl, both_sent (take 11 messages) right_stages tt ((10, omega arith, refl), tt), (omega arith, omega arith, omega arith)) (tells 11) (once 11)
     (All-from_recursion (IsOfSession 7 (take 10 messages) right_stages) (drop 10 (take 11 messages)) (
@@ -333,7 +334,7 @@ takes_piece = takes 1 fetched Left 2 (Piece 6 file_bytes) plan [] begun_archive 
     ))
 
 takes_staged : Steps staged (Deliver 11) replacing
-takes_staged = takes 1 staged Right 2 Staged plan [] begun_archive (Some right_replaces) (drop 12 (take 13 messages)) [] [] refl (refl, refl) (inl (refl, refl)) (λ P. inl (refl, (inl refl, none_refused P)))
+takes_staged = takes 1 staged Right 2 Staged plan [] begun_archive (Some right_replaces) (drop 12 (take 13 messages)) [] [] refl (refl, tt, refl, refl) (refl, refl) (inl (refl, refl)) (λ P. inl (refl, inl refl, none_refused P))
     (All-nil (IsDue right_stages plan Right 2 Staged)) tt refl
     (goes_on right_replaces refl refl) refl (refl, both_sent (take 13 messages) right_replaces tt ((12, omega arith, refl), tt), (omega arith, omega arith, omega arith)) (tells 13) (once 13)
     (All-from_recursion (IsOfSession 7 (take 12 messages) right_replaces) (drop 12 (take 13 messages)) (
@@ -365,7 +366,7 @@ takes_done_ends = record {
 }
 
 takes_done : Steps replaced (Deliver 13) carried
-takes_done = takes 1 replaced Right 3 Done plan [] recorded_archive None [] (Recorded a_path (mark one) ∷ []) ((complete 1, 6) ∷ []) refl (refl, refl) (inl (refl, refl)) (λ P. inr (right_replaces, complete 1, refl, refl, up_not_down, refl, takes_done_ends, record { done = refl; marked = refl }, none_refused P))
+takes_done = takes 1 replaced Right 3 Done plan [] recorded_archive None [] (Recorded a_path (mark one) ∷ []) ((complete 1, 6) ∷ []) refl (takes_one _ _ (letter_fits 97 (49 ∷ []) 4194252 (omega arith)), tt, refl, refl) (refl, refl) (inl (refl, refl)) (λ P. inr (right_replaces, complete 1, refl, refl, up_not_down, refl, takes_done_ends, record { done = refl; marked = refl }, none_refused P))
     (All-cons (IsDue right_replaces plan Right 3 Done) (Recorded a_path (mark one)) [] (done 0 a_path 1 6 planned refl refl refl refl) (All-nil (IsDue right_replaces plan Right 3 Done)))
     (can_record, tt) refl ended tt tt (tells 14) (once 14) refl
 

@@ -1,5 +1,5 @@
 -- A step of a witness run where no device fails and no machine stops.
-use Rattle.std.proofs.Common.{not, inr, ◌-◌, ◌≡◌, ◌≢◌, ℕ, true, true≢false, List, [], ◌∷◌, ◌++◌, map, take, length, if◌then◌else◌, refl, sym, ap, ◌∙◌, subst, Option, Some, None, arith, inl, ◌+◌, ◌*◌, false}
+use Rattle.std.proofs.Common.{fold, filter_map, ◌≤◌, not, inr, ◌-◌, ◌≡◌, ◌≢◌, ℕ, true, true≢false, List, [], ◌∷◌, ◌++◌, map, take, length, if◌then◌else◌, refl, sym, ap, ◌∙◌, subst, Option, Some, None, arith, inl, ◌+◌, ◌*◌, false}
 use Rattle.std.specs.Prelude.{All, Contains}
 use Rattle.std.specs.List.{AllByRecursion}
 use Rattle.std.specs.FinMap.{get, len}
@@ -12,16 +12,17 @@ use Rattle.syn_model.specs.Event.{Edit, Event, Edited}
 use Rattle.syn_model.specs.History.{History, tree_of, IsAllowed, event_causes}
 use Rattle.syn_model.specs.Archive.{Archive, Kept, archive_of}
 use Rattle.syn_model.specs.Spelling.{content_spelling, spelling_within}
-use Rattle.syn_witness.specs.Witness.{keeps_all, new_room}
+use Rattle.syn_witness.specs.Witness.{new_room, new_archive_room}
+use Rattle.syn_model.specs.MarkSpelling.{kept_spelling}
 use Rattle.syn_model.specs.Refusal.{Refusal, first_cause, JournalFull, Halted as Halted_before}
 use Rattle.syn_model.proofs.HistoryLemmas.{append-none}
-use Rattle.syn_headline.specs.Side.{fits_in, room_causes, Side, Request, Reply, Begun, Listed, NotDir, Piece, Staged, Done, Refused, Reads, answer, serve, list_at, staged_bytes}
+use Rattle.syn_headline.specs.Side.{record_size, fits_in, room_causes, Side, Request, Reply, Begun, Listed, NotDir, Piece, Staged, Done, Refused, Reads, answer, serve, list_at, staged_bytes}
 use Rattle.syn_headline.specs.Network.{Which, Left, Right, Message, Asks, Answers, Sent, NumbersTell, AsksNothingTwice}
-use Rattle.syn_headline.specs.Acknowledged.{Ack, Happened, Kept_by}
+use Rattle.syn_headline.specs.Acknowledged.{Ack, Happened, Kept_by, kept_in}
 use Rattle.syn_headline.specs.Planning.{Planned, Log}
 use Rattle.syn_headline.specs.Report.{Report}
 use Rattle.syn_headline.specs.Arms.{Arms, unarmed, Meets, all_made}
-use Rattle.syn_headline.specs.World.{answered_by, At, SideMachine, Writes, Edits, Steps, is_halted, edit_causes, World, Outstanding, Status, Up, Halted, Down, Running, TakesRequest, answered, ServesAs, CoordinatorGoes, AllCanKeep, RunsOver, WasSent, AllOfSession, side_of, set_side, TakesAnswer, taken, IsExpected, HasPlan, IsDueAfter, GoesOnFrom, IsOver, Reports, AddsRefused, RefusesTaken, EndsTaken, Step, Runs}
+use Rattle.syn_headline.specs.World.{answered_by, At, SideMachine, Writes, Edits, Steps, is_halted, edit_causes, World, Outstanding, Status, Up, Halted, Down, Running, TakesRequest, answered, ServesAs, CoordinatorGoes, AllCanKeep, RunsOver, WasSent, AllOfSession, side_of, set_side, TakesAnswer, TakesRoom, records, taken, IsExpected, HasPlan, IsDueAfter, GoesOnFrom, IsOver, Reports, AddsRefused, RefusesTaken, EndsTaken, Step, Runs}
 use Rattle.syn_headline.proofs.WorldLemmas.{room_after}
 
 abbrev is_up : Status → Type 0
@@ -105,9 +106,13 @@ pub lists : (side : Side) (path : Path) → is_directory (tree_of side.history) 
     answer side (Listed (length side.history) (children (mark (tree_of side.history)) path)) ≡ list_at side path
 lists side path h = sym (ap (λ b. answer side (if b then Listed (length side.history) (children (mark (tree_of side.history)) path) else NotDir (length side.history))) h)
 
+-- what is left of an archive's room behind these records
+abbrev pub archive_left : ℕ → List Kept → ℕ
+archive_left room kept = fold (λ room kept. room - record_size (kept_spelling kept)) room kept
+
 abbrev pub after_call : World → Log → Archive → Option Running → List Message → List Kept → List (Report × ℕ) → World
 after_call old logged archive running messages kept reports = record old {
-  coordinator = record { status = Up; archive = archive; has_room = keeps_all; writing = None; running = running; arms = unarmed };
+  coordinator = record { status = Up; archive = archive; room = archive_left old.coordinator.room kept; generation = old.coordinator.generation; compacting = old.coordinator.compacting; writing = None; running = running; arms = unarmed };
   sent = old.sent ++ messages;
   acknowledged = old.acknowledged ++ map Kept_by kept;
   reports = old.reports ++ reports;
@@ -131,7 +136,7 @@ abbrev pub goes : (old : World) (logged : Log) (IsDue_now : Kept → Type 0) (Ru
     RunsOn running → RunsOver (old.sent ++ messages) archive running → NumbersTell (old.sent ++ messages) → AsksNothingTwice (old.sent ++ messages) → AllOfSession old.pair old.sent running messages →
     CoordinatorGoes old logged IsDue_now RunsOn (after_call old logged archive running messages kept reports)
 goes old logged IsDue_now RunsOn archive running messages kept reports ready due can is on over tell once of = record {
-  machine = record { status = Up; archive = archive; has_room = keeps_all; writing = None; running = running; arms = unarmed };
+  machine = record { status = Up; archive = archive; room = archive_left old.coordinator.room kept; generation = old.coordinator.generation; compacting = old.coordinator.compacting; writing = None; running = running; arms = unarmed };
   kept = kept;
   messages = messages;
   reports = reports;
@@ -170,9 +175,9 @@ room_of history = room_after new_room history
 abbrev pub world_of : Sent → List Ack → Log → ℕ → Side → Side → Archive → Option Running → ℕ → ℕ → World
 world_of messages acks log made_at left right archive running said acknowledged = record {
   pair = 7;
-  left = record { status = Up; side = left; room = room_of left.history; compacting = false; writing = None; arms = unarmed };
-  right = record { status = Up; side = right; room = room_of right.history; compacting = false; writing = None; arms = unarmed };
-  coordinator = record { status = Up; archive = archive; has_room = keeps_all; writing = None; running = running; arms = unarmed };
+  left = record { status = Up; side = left; room = room_of left.history; generation = 1; compacting = false; writing = None; arms = unarmed };
+  right = record { status = Up; side = right; room = room_of right.history; generation = 1; compacting = false; writing = None; arms = unarmed };
+  coordinator = record { status = Up; archive = archive; room = archive_left new_archive_room (filter_map kept_in (take acknowledged acks)); generation = 1; compacting = false; writing = None; running = running; arms = unarmed };
   sent = take said messages;
   acknowledged = take acknowledged acks;
   refusals = [];
@@ -182,17 +187,24 @@ world_of messages acks log made_at left right archive running said acknowledged 
 
 -- the coordinator takes an answer that it waits for
 pub takes : (session : ℕ) (old : World) (from : Which) (number : ℕ) (reply : Reply) (plan : List Planned) (logged : Log) (archive : Archive) (next : Option Running) (messages : List Message) (kept : List Kept) (reports : List (Report × ℕ)) →
-    IsReady old.coordinator.status old.coordinator.arms → IsExpected old.coordinator.running from session number → HasPlan old.sent old.coordinator.archive old.log old.coordinator.running plan logged →
+    IsReady old.coordinator.status old.coordinator.arms → TakesRoom old.coordinator kept (after_call old logged archive next messages kept reports).coordinator → IsExpected old.coordinator.running from session number → HasPlan old.sent old.coordinator.archive old.log old.coordinator.running plan logged →
     ((IsRefused_now : Refusal × Path → Type 0) → Reports old (after_call old logged archive next messages kept reports) plan IsRefused_now (EndsTaken old (after_call old logged archive next messages kept reports) from number plan reply)) →
     All (IsDueAfter old.coordinator.running plan from number reply) kept → AllCanKeep old.coordinator.archive kept → archive ≡ archive_of old.coordinator.archive kept →
     GoesOnFrom old.coordinator.running plan next → IsOver from number next → RunsOver (old.sent ++ messages) archive next →
     NumbersTell (old.sent ++ messages) → AsksNothingTwice (old.sent ++ messages) → AllOfSession old.pair old.sent next messages →
     TakesAnswer old from session number reply (after_call old logged archive next messages kept reports)
-takes session old from number reply plan logged archive next messages kept reports ready expected has ends due can is on over runs tell twice of =
+takes session old from number reply plan logged archive next messages kept reports ready room expected has ends due can is on over runs tell twice of =
     taken plan logged expected has (goes old logged (IsDueAfter old.coordinator.running plan from number reply) (λ running. GoesOnFrom old.coordinator.running plan running × IsOver from number running)
     archive next messages kept reports ready due can is (on, over) runs tell twice of)
-    (λ _. (false, subst (Meets old.coordinator.arms (4 * length kept + 0) 6 Up) (is_unarmed _ _ ready) (meets_unarmed _ _ _ (is_unarmed _ _ ready))))
+    (λ _. records room (subst (Meets old.coordinator.arms (4 * length kept) 0 Up) (is_unarmed _ _ ready) (meets_unarmed _ _ _ (is_unarmed _ _ ready))))
     (ends (RefusesTaken old (after_call old logged archive next messages kept reports) from number plan reply))
+
+-- no record takes none, and one that fits takes its bytes
+pub takes_none : (room : ℕ) → room ≡ 0 + room
+takes_none room = omega arith
+
+pub takes_one : (room size : ℕ) → size ≤ room → room ≡ (0 + size) + (room - size)
+takes_one room size h = omega (arith, h)
 
 -- nothing is refused
 pub none_refused : (IsRefused_now : Refusal × Path → Type 0) → AddsRefused IsRefused_now [] []

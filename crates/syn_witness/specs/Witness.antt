@@ -1,13 +1,16 @@
 -- Runs that the definitions are to allow: from three formatted disks that have just been opened, each step of the world.
-use Rattle.std.specs.Prelude.{ℕ, ◌-◌, ◌≡◌, Bool, true, false, List, [], ◌∷◌, ◌++◌, None, Some, map, length, replicate}
+use Rattle.std.specs.Prelude.{ℕ, ◌-◌, ◌≡◌, false, List, [], ◌∷◌, ◌++◌, None, Some, map, length, replicate}
 use Rattle.syn_model.specs.Rows.{a_name}
 use Rattle.syn_model.specs.Path.{Path}
 use Rattle.syn_model.specs.Refusal.{NoAnswer, Device, Halted}
 use Rattle.syn_model.specs.Event.{Put, Edit, Edited, Began, Replaced}
 use Rattle.syn_model.specs.Tree.{Tree, file, subtree, empty_directory}
-use Rattle.syn_model.specs.History.{History, tree_of, tree_at}
+use Rattle.syn_model.specs.Image.{image_spelling}
+use Rattle.syn_model.specs.Spelling.{event_spelling}
+use Rattle.syn_model.specs.MarkSpelling.{archive_spelling}
+use Rattle.syn_model.specs.History.{History, standing_of, tree_of, tree_at}
 use Rattle.syn_model.specs.Mark.{mark}
-use Rattle.syn_model.specs.Archive.{Kept, Session, Recorded, new_archive}
+use Rattle.syn_model.specs.Archive.{Session, Recorded, new_archive}
 use Rattle.syn_headline.specs.Network.{Left, Right}
 use Rattle.syn_headline.specs.Acknowledged.{Ack, Happened, Kept_by, Stores}
 use Rattle.syn_headline.specs.Report.{Report, Complete, Incomplete}
@@ -21,15 +24,15 @@ use Rattle.syn_witness.specs.Rows.{new_side}
 abbrev pub new_room : ℕ
 new_room = 4194247
 
+-- and that of an archive of no marks
+abbrev pub new_archive_room : ℕ
+new_archive_room = 4194266
+
 abbrev pub NewRoomIs : Type 0
-NewRoomIs = room_behind 7 [] ≡ new_room
+NewRoomIs = (room_behind (image_spelling 7 (standing_of [])) ≡ new_room) × (room_behind (archive_spelling 7 new_archive) ≡ new_archive_room)
 
 abbrev pub new_machine : SideMachine
-new_machine = record { status = Up; side = new_side; room = new_room; compacting = false; writing = None; arms = unarmed }
-
--- its archive has room for all
-abbrev pub keeps_all : Kept → Bool
-keeps_all kept = true
+new_machine = record { status = Up; side = new_side; room = new_room; generation = 1; compacting = false; writing = None; arms = unarmed }
 
 -- three formatted disks of pair 7, opened
 abbrev pub opened_world : World
@@ -37,7 +40,7 @@ opened_world = record {
   pair = 7;
   left = new_machine;
   right = new_machine;
-  coordinator = record { status = Up; archive = formatted.archive; has_room = keeps_all; writing = None; running = None; arms = unarmed };
+  coordinator = record { status = Up; archive = formatted.archive; room = new_archive_room; generation = 1; compacting = false; writing = None; running = None; arms = unarmed };
   sent = [];
   acknowledged = [];
   refusals = [];
@@ -80,13 +83,13 @@ abbrev pub FailIsRefused : Type 0
 FailIsRefused = FailedEdit (Happened Left (Edited 1 put_one) ∷ []) (Edited 1 put_one ∷ []) × FailedEdit [] []
 
 -- a stop after nine device calls comes in a checkpoint, after the four of an edit: the opening finds the journal as the edit left it, or the image alone
-abbrev pub CutCheckpoint : ℕ → Type 0
-CutCheckpoint room =
+abbrev pub CutCheckpoint : ℕ → ℕ → Type 0
+CutCheckpoint room generation =
     IsWitness (Stop (At Left) 9 ∷ Edits Left 1 put_one ∷ Checkpoint (At Left) ∷ Open (At Left) ∷ []) 0 (Happened Left (Edited 1 put_one) ∷ []) []
-    (λ world. (world.left.status ≡ Up) × (world.left.side.history ≡ Edited 1 put_one ∷ []) × (world.left.room ≡ room))
+    (λ world. (world.left.status ≡ Up) × (world.left.side.history ≡ Edited 1 put_one ∷ []) × (world.left.room ≡ room) × (world.left.generation ≡ generation))
 
 abbrev pub CheckpointIsCut : Type 0
-CheckpointIsCut = CutCheckpoint (new_room - record_size (Edited 1 put_one)) × CutCheckpoint (room_behind 7 (Edited 1 put_one ∷ []))
+CheckpointIsCut = CutCheckpoint (new_room - record_size (event_spelling (Edited 1 put_one))) 1 × CutCheckpoint (room_behind (image_spelling 7 (standing_of (Edited 1 put_one ∷ [])))) 2
 
 -- a session that is never answered: its requests are sent again eight times, and the ninth tick ends it
 abbrev pub unanswered : Report

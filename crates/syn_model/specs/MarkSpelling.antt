@@ -1,0 +1,27 @@
+-- The one spelling in bytes of a tree of marks, of what an archive keeps, and of an archive.
+use Rattle.std.specs.Prelude.{ℕ, zero, suc, [], ◌∷◌, ◌++◌, Option, Some}
+use Rattle.std.specs.Int.{to_be_bytes, w64}
+use Rattle.std.specs.FinMap.{get, len}
+use Rattle.syn_model.specs.Path.{Bytes, root, path_spelling}
+use Rattle.syn_model.specs.Tree.{Tree, Content, File}
+use Rattle.syn_model.specs.Spelling.{content_spelling}
+use Rattle.syn_model.specs.Archive.{Archive, Kept, Session, Recorded, RecordedDir}
+
+-- of marks whose paths have fewer names than the depth: a file is its digest, with no length, and all else is as in trees
+unfoldable pub mark_spelling_within : ℕ → Tree → Option Content → Bytes
+mark_spelling_within zero marks content = []
+mark_spelling_within (suc depth) marks (Some (File digest)) = 1 ∷ digest.bytes
+mark_spelling_within (suc depth) marks content = content_spelling (λ part. mark_spelling_within depth part (get part root)) marks content
+
+abbrev pub mark_spelling : Tree → Bytes
+mark_spelling marks = mark_spelling_within (suc (len marks)) marks (get marks root)
+
+-- a kind, and what is kept
+abbrev pub kept_spelling : Kept → Bytes
+kept_spelling (Session session) = 1 ∷ to_be_bytes w64 session
+kept_spelling (Recorded path marks) = 2 ∷ path_spelling path ++ mark_spelling marks
+kept_spelling (RecordedDir path) = 3 ∷ path_spelling path
+
+-- "SYNA" and the version, the pair, the last session and the marks
+abbrev pub archive_spelling : ℕ → Archive → Bytes
+archive_spelling pair archive = 83 ∷ 89 ∷ 78 ∷ 65 ∷ 1 ∷ to_be_bytes w64 pair ++ (to_be_bytes w64 archive.last_session ++ mark_spelling archive.marks)
