@@ -1,1 +1,4 @@
 pub mod Events
+pub mod Past
+pub mod Trails
+pub mod Refusals

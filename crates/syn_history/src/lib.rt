@@ -1,11 +1,21 @@
-//! What happens to a replica: the events of its history.
+//! What happens to a replica: the events of its history, and the trail that is kept of them.
 #![tactic(auto)]
 
+mod error;
 mod event;
+mod laws;
+mod step;
 mod token;
+mod touch;
+mod trail;
 
+pub use error::HistoryError;
 pub use event::Event;
+pub use laws::trail_laws;
+pub use step::Step;
 pub use token::Token;
+pub use touch::Touch;
+pub use trail::{Parts, Trail};
 
 #[cfg(test)]
 mod tests;

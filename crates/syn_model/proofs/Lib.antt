@@ -4,6 +4,7 @@ pub mod DirtyLemmas
 pub mod SyncLemmas
 pub mod HistoryLemmas
 pub mod StandingLemmas
+pub mod TouchLemmas
 pub mod ImageLemmas
 pub mod FitsLemmas
 pub mod SubtreeLemmas

@@ -1,5 +1,6 @@
 -- What follows from the definitions, for the other crates to use.
-use Rattle.std.specs.Prelude.{ℕ, ◌≤◌, List, ◌↔◌, ◌≡◌, true, false, [], ◌∷◌, ◌++◌, length, All}
+use Rattle.std.specs.Prelude.{ℕ, ◌≤◌, List, ◌↔◌, ◌≡◌, true, false, not, ◌&&◌, nat_le, [], ◌∷◌, ◌++◌, length, All}
+use Rattle.std.specs.List.{list_any}
 use Rattle.std.specs.Option.{option_map_or, option_map}
 use Rattle.syn_model.specs.Mark.{mark, mark_of}
 use Rattle.std.specs.FinMap.{get}
@@ -7,7 +8,7 @@ use Rattle.syn_model.specs.Path.{Bytes, Path, path_cmp, path_key, key_cmp, root,
 use Rattle.syn_model.specs.Tree.{Tree, IsPart, IsTree, StandsIn, subtree, replace}
 use Rattle.syn_model.specs.Limits.{fits_part, fits_paths, fits_replica}
 use Rattle.syn_model.specs.Standing.{new_standing, standing_after, AllAllowedAt}
-use Rattle.syn_model.specs.History.{History, IsHistory, IsAllowed, AllAllowed, tree_of, standing_of}
+use Rattle.syn_model.specs.History.{History, IsHistory, IsAllowed, AllAllowed, tree_of, standing_of, floor, last_touches, is_quiet}
 use Rattle.syn_model.specs.Event.{Event, Put, after_edit}
 use Rattle.syn_model.specs.Spelling.{content_spelling, spelling, event_spelling}
 use Rattle.syn_model.specs.Image.{image_spelling, StandsFor}
@@ -105,6 +106,11 @@ StandingSteps = (history : History) (event : Event) → standing_of (history ++ 
 -- and what is allowed there is what is allowed after the history
 abbrev pub StandingAllows : Type 0
 StandingAllows = (history : History) (events : List Event) → AllAllowedAt (standing_of history) events ↔ AllAllowed history events
+
+-- and its touches tell what was touched since a position, from the floor on
+abbrev pub TouchesTell : Type 0
+TouchesTell = (history : History) (since : ℕ) (path : Path) → floor history ≤ since →
+    not (is_quiet history since (length history) path) ≡ list_any (λ touch. nat_le since touch.position && comparable touch.path path) (last_touches history)
 
 -- what is formatted stands for the empty history
 abbrev pub FormattedStands : Type 0

@@ -1,6 +1,7 @@
 use Rattle.syn_model.proofs.HistoryLemmas.{history-is_tree, allowed_goes_on}
 use Rattle.syn_model.proofs.FitsLemmas.{history_fits, put_fits}
 use Rattle.syn_model.proofs.StandingLemmas.{standing_steps, standing_allows}
+use Rattle.syn_model.proofs.TouchLemmas.{touches_tell}
 use Rattle.syn_model.proofs.ImageLemmas.{formatted_stands, payload_goes_on}
 use Rattle.syn_model.proofs.history_laws.Goals as goal
 
@@ -21,6 +22,9 @@ returns-clause-steps c = standing_steps
 
 pub returns-clause-allows : goal.returns-clause-allows
 returns-clause-allows c = standing_allows
+
+pub returns-clause-touches : goal.returns-clause-touches
+returns-clause-touches c = touches_tell
 
 pub returns-clause-formatted : goal.returns-clause-formatted
 returns-clause-formatted c = formatted_stands

@@ -1,0 +1,312 @@
+ghost use Rattle.std.specs.Prelude.{◌≡◌, ◌≢◌, ◌↔◌, ◌⊎◌, ◌<◌, ◌≤◌, ◌++◌, ◌∷◌, [], Err, not, length, take, drop, option_map, All, IfOk, IfErr, IfSome, IfNone, IsTrue, OnOk, OnErr};
+ghost use Rattle.std.specs.List.{list_any};
+ghost use Rattle.circular_buffer.specs.Buffer.{buffer};
+ghost use Rattle.syn_model.specs.Event as model;
+ghost use Rattle.syn_model.specs.Tree as model_tree;
+ghost use Rattle.syn_model.specs.Path.{IsPath};
+ghost use Rattle.syn_model.specs.Event.{IsLawfulToken};
+ghost use Rattle.syn_model.specs.Limits.{greatest};
+ghost use Rattle.syn_model.specs.Standing.{most_touches, surplus, above_last};
+ghost use Rattle.syn_model.specs.History.{History, is_quiet};
+ghost use Rattle.syn_model.specs.Image.{IsStanding};
+ghost use Rattle.syn_history.specs.Events.{event_of, token_of};
+ghost use Rattle.syn_history.specs.Past.{past_of, past_after, past_touched, standing_with, IsLawful, tells, are_between, is_lawful, past_with, is_of_session as is_session_of};
+ghost use Rattle.syn_history.specs.Trails.{step_of, past_from};
+
+use crate::error::HistoryError;
+use crate::event::Event;
+use crate::step::Step;
+use crate::token::Token;
+use crate::touch::Touch;
+use circular_buffer::HeapCircularBuffer;
+use std::alloc::Global;
+use std::marker::Model;
+use syn_model::history_laws;
+use syn_path::Path;
+
+/// So many touches are kept.
+const MOST_TOUCHES: usize = 4096;
+
+/// What an image has of a trail.
+#[derive(Debug, Drop)]
+pub struct Parts {
+    /// The number of events.
+    pub position: u64,
+    /// The position from which on the touches are whole.
+    pub floor: u64,
+    /// The last touches, the oldest first.
+    pub touches: Vec<Touch>,
+    /// The session begun last, and 0 while there is none.
+    pub session: u64,
+    /// The token of the last replacement.
+    pub token: Option<Token>,
+}
+
+/// What a replica keeps of its history beside the tree: the number of its events, the last 4,096 touches with the position from which
+/// on they are whole (the floor), the session begun last, and the token of the last replacement.
+/// Contracts see it as the standing of a history without the tree.
+#[derive(Debug, Drop)]
+pub struct Trail {
+    position: u64,
+    floor: u64,
+    /// The touches, the oldest first, with room for the most: no event takes memory for the list, and none moves another.
+    touches: HeapCircularBuffer<Touch>,
+    session: u64,
+    token: Option<Token>,
+}
+
+impl Model for Trail {
+    ghost use Rattle.std.specs.Prelude.{option_map};
+    ghost use Rattle.syn_history.specs.Past.{Past, coded_past};
+
+    ghost Value = { Past };
+
+    ghost coded = { coded_past };
+
+    ghost use Rattle.syn_history.specs.Events.{token_of};
+    ghost use Rattle.syn_history.specs.Past.{IsKept};
+
+    ghost view = { λ t. record { position = t.position; floor = t.floor; touches = t.touches.items; session = t.session; token = option_map token_of t.token } };
+
+    ghost invariant = { λ t. IsKept t.position t.touches.items t.touches.capacity };
+}
+
+impl Trail {
+    /// The trail of no events. Refused 11 where memory is refused.
+    pub fn new(alloc: Global) -> Result<Trail, HistoryError>
+        ensures ok { IfOk result (λ trail. trail ≡ past_of []) }
+        ensures memory { IfErr result (λ e. e ≡ HistoryError.Memory) }
+    {
+        let touches = HeapCircularBuffer::with_capacity(alloc, MOST_TOUCHES)?;
+        Ok(Trail {
+            position: 0,
+            floor: 0,
+            touches,
+            session: 0,
+            token: None,
+        })
+    }
+
+    /// The trail of these parts, where they are lawful; else none. They are where the floor is not above the position, at most 4,096
+    /// touches rise from the floor on and before the position, and the token is of a session from 1 to the one begun last.
+    ///
+    /// Refused 11 where memory is refused.
+    pub fn from_parts(alloc: Global, parts: Parts) -> Result<Option<Trail>, HistoryError>
+        ensures parts { IfOk result (λ read. IfSome read (λ trail. trail ≡ past_from parts)) }
+        ensures lawful { IfOk result (λ read. IfSome read IsLawful) }
+        ensures none { IfOk result (λ read. IfNone read ((tree : model_tree.Tree) → ¬ IsStanding (standing_with tree (past_from parts)))) }
+        ensures memory { IfErr result (λ e. e ≡ HistoryError.Memory) }
+    {
+        let Parts {
+            position,
+            floor,
+            touches: listed,
+            session,
+            token,
+        } = parts;
+        if !are_lawful(position, floor, &listed, session, &token) {
+            return Ok(None);
+        }
+        let mut touches = HeapCircularBuffer::with_capacity(alloc, MOST_TOUCHES)?;
+        for touch in listed {
+            touches.push_back(touch);
+        }
+        Ok(Some(Trail {
+            position,
+            floor,
+            touches,
+            session,
+            token,
+        }))
+    }
+
+    /// The number of events.
+    pub fn position(&self) -> u64
+        ensures { result ≡ self.now.position }
+    {
+        self.position
+    }
+
+    /// The position from which on the touches are whole: 0 while none was dropped, and else one above the last that was.
+    pub fn floor(&self) -> u64
+        ensures { result ≡ self.now.floor }
+    {
+        self.floor
+    }
+
+    /// The session begun last, and 0 while there is none.
+    pub fn last_session(&self) -> u64
+        ensures { result ≡ self.now.session }
+    {
+        self.session
+    }
+
+    /// The token of the last replacement; none while there is none.
+    pub fn last_token(&self) -> Option<Token>
+        ensures { option_map token_of result ≡ self.now.token }
+    {
+        self.token
+    }
+
+    /// The last touches, the oldest first: those of the first slice, and then those of the second. At most 4,096.
+    pub fn touches(&self) -> (&[Touch], &[Touch])
+        ensures all { result.0.now ++ result.1.now ≡ self.now.touches }
+        ensures count { length self.now.touches ≤ most_touches }
+    {
+        let _count = self.touches.len();
+        self.touches.as_slices()
+    }
+
+    /// Whether an event from the position `since` on changed the path, or what is above or below it. It takes no memory.
+    ///
+    /// Refused 15 where `since` is below the floor or above the position.
+    pub fn touched(&self, path: &Path, since: u64) -> Result<bool, HistoryError>
+        ensures quiet { (history : History) → self.now ≡ past_of history → IfOk result (λ touched. touched ≡ not (is_quiet history since (length history) path.now)) }
+        ensures kept { IfOk result (λ touched. touched ≡ list_any (tells since path.now) self.now.touches) }
+        ensures below { (result ≡ Err HistoryError.BelowFloor) ↔ ((since < self.now.floor) ⊎ (self.now.position < since)) }
+        ensures refusals { IfErr result (λ e. e ≡ HistoryError.BelowFloor) }
+    {
+        history_laws();
+        if since < self.floor || self.position < since {
+            return Err(HistoryError::BelowFloor);
+        }
+        let (older, newer) = self.touches.as_slices();
+        Ok(is_touched(older, path, since) || is_touched(newer, path, since))
+    }
+
+    /// The step of the event, ready to be recorded, with all memory for it. The trail stays as it is.
+    ///
+    /// Refused 7 where the position is the greatest, and 11 where memory is refused.
+    pub fn prepare(&self, alloc: Global, event: &Event) -> Result<Step, HistoryError>
+        ensures step { IfOk result (λ step. step ≡ step_of (event_of event.now)) }
+        ensures room { OnOk result (self.now.position < greatest) }
+        ensures full { (result ≡ Err HistoryError.Full) ↔ (self.now.position ≡ greatest) }
+        ensures refusals { IfErr result (λ e. (e ≡ HistoryError.Full) ⊎ (e ≡ HistoryError.Memory)) }
+    {
+        if self.position == u64::MAX {
+            return Err(HistoryError::Full);
+        }
+        Step::of(alloc, event)
+    }
+
+    /// Records the step of an event. It takes no memory.
+    pub fn record(&mut self, step: Step)
+        requires { self.old.position < greatest }
+        ensures { (event : model.Event) → step ≡ step_of event → self.new ≡ past_after self.old event }
+    {
+        match step {
+            Step::Edited(path) => self.touch(path),
+            Step::Began(session) => {
+                self.session = session;
+                self.position += 1;
+            }
+            Step::Replaced(token, path) => {
+                self.touch(path);
+                self.token = Some(token);
+            }
+        }
+    }
+
+    /// Goes on by an event that changed the path.
+    fn touch(&mut self, path: Path)
+        requires { self.old.position < greatest }
+        ensures { self.new ≡ past_touched self.old path }
+    {
+        let touch = Touch::new(self.position, path);
+        self.floor = add_touch(&mut self.touches, self.floor, touch);
+        self.position += 1;
+    }
+
+    /// Goes on by the event: a touch is added unless a session begins, and where there are 4,096 the oldest goes, and the floor is
+    /// one above it.
+    ///
+    /// Refused 7 where the position is the greatest, and 11 where memory is refused; then nothing changes.
+    pub fn push(&mut self, alloc: Global, event: &Event) -> Result<(), HistoryError>
+        ensures done { OnOk result (self.new ≡ past_after self.old (event_of event.now)) }
+        ensures same { OnErr result (self.new ≡ self.old) }
+        ensures full { (result ≡ Err HistoryError.Full) ↔ (self.old.position ≡ greatest) }
+        ensures refusals { IfErr result (λ e. (e ≡ HistoryError.Full) ⊎ (e ≡ HistoryError.Memory)) }
+    {
+        let step = self.prepare(alloc, event)?;
+        self.record(step);
+        Ok(())
+    }
+}
+
+/// Adds the touch, where the oldest goes if there are 4,096. The result is the floor then.
+fn add_touch(touches: &mut HeapCircularBuffer<Touch>, floor: u64, touch: Touch) -> u64
+    requires room { touches.old.capacity ≡ most_touches }
+    requires brief { All (λ older. older.position < greatest) touches.old.items }
+    requires after { touch.position < greatest }
+    ensures touches { let all = touches.old.items ++ touch ∷ [] in touches.new ≡ buffer (drop (surplus most_touches all) all) most_touches }
+    ensures floor { let all = touches.old.items ++ touch ∷ [] in result ≡ above_last floor (take (surplus most_touches all) all) }
+{
+    let _count = touches.len();
+    match touches.push_back(touch) {
+        None => floor,
+        Some(oldest) => oldest.position() + 1,
+    }
+}
+
+/// One of the touches, from the position on, has a path that is the one, above it or below it.
+fn is_touched(touches: &[Touch], path: &Path, since: u64) -> bool
+    ensures { result ≡ list_any (tells since path.now) touches.now }
+{
+    touches.iter().any(|touch| since <= touch.position() && touch.path().comparable(path))
+}
+
+/// Parts like these are lawful.
+fn are_lawful(
+    position: u64,
+    floor: u64,
+    touches: &[Touch],
+    session: u64,
+    token: &Option<Token>,
+) -> bool
+    ensures value { result ≡ is_lawful (past_with position floor touches.now session (option_map token_of token.now)) }
+    ensures lawful { IsTrue result → IsLawful (past_with position floor touches.now session (option_map token_of token.now)) }
+{
+    if position < floor {
+        return false;
+    }
+    if touches.len() > MOST_TOUCHES {
+        return false;
+    }
+    if !are_rising(touches, floor, position) {
+        return false;
+    }
+    is_of_session(token, session)
+}
+
+/// The touches rise, from the floor on and before the position.
+fn are_rising(touches: &[Touch], floor: u64, position: u64) -> bool
+    ensures value { result ≡ are_between floor position touches.now }
+    ensures paths { IsTrue result → All (λ touch. IsPath touch.path) touches.now }
+{
+    let mut from = floor;
+    for touch in touches {
+        let at = touch.position();
+        if at < from || position <= at {
+            return false;
+        }
+        from = at + 1;
+    }
+    true
+}
+
+/// There is no token, or its session is one from 1 to the last.
+fn is_of_session(token: &Option<Token>, last: u64) -> bool
+    ensures value { result ≡ is_session_of (option_map token_of token.now) last }
+    ensures lawful { IfSome (option_map token_of token.now) IsLawfulToken }
+{
+    match token {
+        None => true,
+        Some(token) => {
+            let Token {
+                session,
+                item: _item,
+            } = *token;
+            1 <= session && session <= last
+        }
+    }
+}
