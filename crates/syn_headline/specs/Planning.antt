@@ -27,12 +27,10 @@ abbrev pub seen_on : Planned → Which → Seen
 seen_on planned Left = planned.left
 seen_on planned Right = planned.right
 
-abbrev pub IsSeen : Scan → (Path → ℕ) → Path → Seen → Type 0
-IsSeen scan since path seen = (seen.marks ≡ subtree scan.marks path) × (seen.since ≡ since (parent path))
-
 -- what the two scans have at its path
 abbrev pub SeesBoth : (Which → Scan) → (Which → Path → ℕ) → Planned → Type 0
-SeesBoth scan since planned = (side : Which) → IsSeen (scan side) (since side) (path_of planned.item) (seen_on planned side)
+SeesBoth scan since planned =
+    (side : Which) → ((seen_on planned side).marks ≡ subtree (scan side).marks (path_of planned.item)) × ((seen_on planned side).since ≡ since side (parent (path_of planned.item)))
 
 -- the side answered that the session has begun there
 pub record HasBegun (sent : Sent) (side : Which) (session : ℕ) : Type 0 where
