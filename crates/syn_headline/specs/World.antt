@@ -231,9 +231,13 @@ StartsFrom archive running = IfSome running (λ new. (new.session ≡ archive.la
 abbrev pub WasSent : Sent → Running → Type 0
 WasSent sent running = (side : Which) → All (λ waiting. Contains sent (Asks side running.session waiting.number waiting.request)) (outstanding running side)
 
--- it waits for an answer, and on each side for one at most
+-- so many requests wait on a side at most
+abbrev pub most_outstanding : ℕ
+most_outstanding = 1
+
+-- it waits for an answer, and on each side for no more than it may at a time
 abbrev pub Waits : Running → Type 0
-Waits running = (1 ≤ length running.left + length running.right) × (length running.left ≤ 1) × (length running.right ≤ 1)
+Waits running = (1 ≤ length running.left + length running.right) × (length running.left ≤ most_outstanding) × (length running.right ≤ most_outstanding)
 
 -- a running session has the number that the archive kept last, waits for an answer, and what waits was sent
 abbrev pub RunsOver : Sent → Archive → Option Running → Type 0
