@@ -176,6 +176,6 @@ fn a_history_can_be_full(rt: HostRuntime) -> Result<(), Fail> {
     };
     assert_eq!(rt; trail.push(alloc, &put(rt, "a")?), Err(HistoryError::Full));
     assert_eq!(rt; HistoryError::Full.number(), 7);
-    assert_eq!(rt; HistoryError::BelowFloor.name(), "BelowFloor");
+    assert_eq!(rt; HistoryError::BelowFloor.number(), 15);
     Ok(())
 }

@@ -5,4 +5,4 @@ pub mod Rule
 pub mod Passes
 pub mod Guards
 pub mod Locks
-pub mod Errors
+pub mod Refusals

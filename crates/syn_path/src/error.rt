@@ -1,43 +1,50 @@
-ghost use Rattle.std.specs.Prelude.{◌≡◌};
+//! Why no path is given.
+ghost use Rattle.std.specs.Prelude.{◌≡◌, Some};
 ghost use Rattle.syn_model.specs.Refusal.{number, name_of};
+ghost use Rattle.syn_refusal.specs.Refusals.{cause_of};
 ghost use Rattle.syn_path.specs.Refusals.{refusal_of};
 
 use std::alloc::{AllocError, AllocFailed};
+use std::fmt;
+use syn_refusal::Refusal;
 use thiserror::Error;
 
 /// Why no path is given.
 #[derive(Clone, Copy, Debug, PartialEq, Eq, Error)]
 pub enum PathError {
-    #[error("BadPath")]
     BadPath,
-    #[error("Memory")]
     Memory,
 }
 
 impl PathError {
+    /// Which refusal it is.
+    pub fn refusal(&self) -> Refusal
+        ensures { cause_of result ≡ refusal_of self.now }
+    {
+        match self {
+            PathError::BadPath => Refusal::BadPath,
+            PathError::Memory => Refusal::Memory,
+        }
+    }
+
     /// The number of the refusal.
     pub fn number(&self) -> u8
         ensures { result ≡ number (refusal_of self.now) }
     {
-        match self {
-            PathError::BadPath => 1,
-            PathError::Memory => 11,
-        }
+        self.refusal().number()
     }
+}
 
-    /// The name of the refusal, as it is printed.
-    pub fn name(&self) -> &'static str
-        ensures { result.now ≡ name_of (refusal_of self.now) }
-    {
-        match self {
-            PathError::BadPath => "BadPath",
-            PathError::Memory => "Memory",
-        }
+/// The name of the refusal.
+impl fmt::Display for PathError {
+    ghost output = { λ error. Some (name_of (refusal_of error)) };
+
+    fn fmt<W: fmt::Write>(&self, f: &mut fmt::Formatter<W>) -> fmt::Result {
+        write!(f, "{}", self.refusal())
     }
 }
 
 impl From<AllocError> for PathError {
-    ghost use Rattle.std.specs.Prelude.{◌≡◌};
     ghost use Rattle.syn_path.specs.declared.error.PathError.TheVariants.{Memory};
 
     ghost from_gives = { λ _ e. e ≡ Memory };
@@ -48,7 +55,6 @@ impl From<AllocError> for PathError {
 }
 
 impl<T: Drop> From<AllocFailed<T>> for PathError {
-    ghost use Rattle.std.specs.Prelude.{◌≡◌};
     ghost use Rattle.syn_path.specs.declared.error.PathError.TheVariants.{Memory};
 
     ghost from_gives = { λ _ e. e ≡ Memory };

@@ -93,9 +93,10 @@ fn control_characters_are_printed_by_number(rt: HostRuntime) -> Result<(), Fail>
 }
 
 #[test]
-fn refusals_have_their_names(rt: HostRuntime) -> Result<(), Fail> {
-    assert_eq!(rt; PathError::BadPath.name(), "BadPath");
-    assert_eq!(rt; PathError::Memory.name(), "Memory");
+fn refusals_are_printed_by_name(rt: HostRuntime) -> Result<(), Fail> {
+    let alloc = rt.alloc();
+    let printed = format!(in alloc; "{} {}", PathError::BadPath, PathError::Memory)?;
+    assert_eq!(rt; printed.as_str(), "BadPath Memory");
     assert_eq!(rt; PathError::Memory.number(), 11);
     Ok(())
 }

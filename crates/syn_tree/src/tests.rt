@@ -182,7 +182,7 @@ fn listed(rt: HostRuntime, tree: &Tree, path: &str) -> Result<String, Fail> {
                 text.push_str(if *is_directory { "/ " } else { " " })?;
             }
         }
-        Err(error) => text.push_str(error.name())?,
+        Err(error) => text.push_str(format!(in rt.alloc(); "{error}")?.as_str())?,
     }
     Ok(text)
 }
