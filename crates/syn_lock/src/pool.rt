@@ -1,5 +1,5 @@
 //! Passes that are kept, with the name of their lock in their type.
-ghost use Rattle.std.specs.Prelude.{◌≡◌};
+ghost use Rattle.std.specs.Prelude.{◌≡◌, IfErr};
 ghost use Rattle.syn_lock.specs.declared.own.Pass.{Pass};
 ghost use Rattle.syn_lock.specs.Passes.{IsPassIn};
 
@@ -80,7 +80,9 @@ impl<S, L: Naming<S>> PassPool<S, L> {
     }
 
     /// Puts a pass in, for the next who draws. Where memory is wanting it comes back.
-    pub fn put<R: Wait>(&self, rt: &R, pass: NamedPass<S, L>) -> Result<(), NamedPass<S, L>> {
+    pub fn put<R: Wait>(&self, rt: &R, pass: NamedPass<S, L>) -> Result<(), NamedPass<S, L>>
+        ensures { IfErr result (λ back. back ≡ pass) }
+    {
         self.passes
             .lock(rt)
             .push(pass)

@@ -14,3 +14,7 @@ IsReading {V} IsLawful spelling bytes None = (value : V) (rest : List ℕ) → �
 -- no spelling of a value begins another, so that no value has two and no bytes are read in two ways
 abbrev pub NoneBeginsAnother : {V : Type 0} → (V → Type 0) → (V → List ℕ) → Type 0
 NoneBeginsAnother {V} IsLawful spelling = (v w : V) (r s : List ℕ) → IsLawful v → IsLawful w → spelling v ++ r ≡ spelling w ++ s → (v ≡ w) × (r ≡ s)
+
+-- the old bytes begin the new ones: something may have been added behind them, and nothing else changed
+abbrev pub IsBeginning : List ℕ → List ℕ → Type 0
+IsBeginning old new = (added : List ℕ) × (new ≡ old ++ added)

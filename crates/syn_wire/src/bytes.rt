@@ -1,25 +1,37 @@
 //! Bytes with their length.
-ghost use Rattle.std.specs.Prelude.{◌≡◌, ◌<◌, ◌^◌, ◌++◌, length, IfOk, OnOk, option_map};
+ghost use Rattle.std.specs.Prelude.{◌≡◌, ◌<◌, ◌^◌, ◌++◌, length, IfOk, IfErr, OnOk, option_map};
 ghost use Rattle.syn_model.specs.Event.{AreBytes};
 ghost use Rattle.syn_wire.specs.Events.{IsFile, file_spelling};
-ghost use Rattle.syn_wire.specs.Reads.{IsReading};
+ghost use Rattle.syn_wire.specs.Reads.{BeginsWith, IsBeginning, IsReading};
 
 use crate::error::WireError;
-use crate::number::read_u32;
+use crate::number::{read_u32, write_u32};
 use std::alloc::Global;
 
-// The bytes behind their length, and the rest.
-pub(crate) fn read_file(alloc: Global, bytes: &[u8]) -> Result<Option<(Vec<u8>, &[u8])>, WireError>
-    ensures { IfOk result (λ read. IsReading IsFile file_spelling bytes.now (option_map (λ found. (found.0.items, found.1.now)) read)) }
+// The bytes behind their length, and the rest. Takes no memory, so that a length is believed only once its bytes are seen.
+pub(crate) fn split_file(bytes: &[u8]) -> Option<(&[u8], &[u8])>
+    ensures { IsReading IsFile file_spelling bytes.now
+        (option_map (λ found. (found.0.now, found.1.now)) result) }
 {
     let Some((length, after)) = read_u32(bytes) else {
-        return Ok(None);
+        return None;
     };
     let length = length as usize;
     if after.len() < length {
-        return Ok(None);
+        return None;
     }
-    let (file, rest) = after.split_at(length);
+    Some(after.split_at(length))
+}
+
+// The same, copied. Refused 11 only where the bytes are there.
+pub(crate) fn read_file(alloc: Global, bytes: &[u8]) -> Result<Option<(Vec<u8>, &[u8])>, WireError>
+    ensures read { IfOk result (λ read. IsReading IsFile file_spelling bytes.now
+        (option_map (λ found. (found.0.items, found.1.now)) read)) }
+    ensures memory { IfErr result (λ _. (file : _) × (rest : _) × BeginsWith IsFile file_spelling bytes.now file rest) }
+{
+    let Some((file, rest)) = split_file(bytes) else {
+        return Ok(None);
+    };
     Ok(Some((file.to_vec(alloc)?, rest)))
 }
 
@@ -27,9 +39,10 @@ pub(crate) fn read_file(alloc: Global, bytes: &[u8]) -> Result<Option<(Vec<u8>, 
 pub(crate) fn write_file(out: &mut Vec<u8>, file: &[u8]) -> Result<(), WireError>
     requires { length file.now < 2 ^ 32 }
     ensures added { OnOk result (out.new.items ≡ out.old.items ++ file_spelling file.now) }
+    ensures kept { IsBeginning out.old.items out.new.items }
     ensures lawful { AreBytes file.now }
 {
-    out.extend_from_slice(&(file.len() as u32).to_be_bytes())?;
+    write_u32(out, file.len() as u32)?;
     out.extend_from_slice(file)?;
     Ok(())
 }

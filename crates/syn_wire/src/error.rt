@@ -1,31 +1,49 @@
-ghost use Rattle.std.specs.Prelude.{◌≡◌};
-ghost use Rattle.syn_model.specs.Refusal.{number};
+//! Why nothing is written or read.
+ghost use Rattle.std.specs.Prelude.{◌≡◌, Some};
+ghost use Rattle.syn_model.specs.Refusal.{number, name_of};
+ghost use Rattle.syn_refusal.specs.Refusals.{cause_of};
 ghost use Rattle.syn_wire.specs.Refusals.{refusal_of};
 
 use std::alloc::{AllocError, AllocFailed};
+use std::fmt;
+use syn_refusal::Refusal;
 use thiserror::Error;
 
 /// Why nothing is written or read.
 #[derive(Clone, Copy, Debug, PartialEq, Eq, Error)]
 pub enum WireError {
     /// Memory was refused.
-    #[error("Memory")]
     Memory,
 }
 
 impl WireError {
+    /// Which refusal it is.
+    pub fn refusal(&self) -> Refusal
+        ensures { cause_of result ≡ refusal_of self.now }
+    {
+        match self {
+            WireError::Memory => Refusal::Memory,
+        }
+    }
+
     /// The number of the refusal.
     pub fn number(&self) -> u8
         ensures { result ≡ number (refusal_of self.now) }
     {
-        match self {
-            WireError::Memory => 11,
-        }
+        self.refusal().number()
+    }
+}
+
+/// The name of the refusal.
+impl fmt::Display for WireError {
+    ghost output = { λ error. Some (name_of (refusal_of error)) };
+
+    fn fmt<W: fmt::Write>(&self, f: &mut fmt::Formatter<W>) -> fmt::Result {
+        write!(f, "{}", self.refusal())
     }
 }
 
 impl From<AllocError> for WireError {
-    ghost use Rattle.std.specs.Prelude.{◌≡◌};
     ghost use Rattle.syn_wire.specs.declared.error.WireError.TheVariants.{Memory};
 
     ghost from_gives = { λ _ e. e ≡ Memory };
@@ -36,7 +54,6 @@ impl From<AllocError> for WireError {
 }
 
 impl<T: Drop> From<AllocFailed<T>> for WireError {
-    ghost use Rattle.std.specs.Prelude.{◌≡◌};
     ghost use Rattle.syn_wire.specs.declared.error.WireError.TheVariants.{Memory};
 
     ghost from_gives = { λ _ e. e ≡ Memory };

@@ -10,7 +10,7 @@ ghost use Rattle.syn_wire.specs.Reads.{IsReading};
 
 use crate::bytes::{read_file, write_file};
 use crate::error::WireError;
-use crate::number::{read_u32, read_u64};
+use crate::number::{read_u32, read_u64, write_u32, write_u64};
 use crate::path::{decode_path, path_length, write_path};
 use crate::spelling_laws;
 use crate::tree::write_node;
@@ -42,7 +42,7 @@ pub fn encode_event(alloc: Global, event: &Event) -> Result<Vec<u8>, WireError>
         Event::Began { session } => {
             let mut out = Vec::new(alloc);
             out.push(BEGAN)?;
-            out.extend_from_slice(&session.to_be_bytes())?;
+            write_u64(&mut out, *session)?;
             Ok(out)
         }
         Event::Replaced {
@@ -55,7 +55,7 @@ pub fn encode_event(alloc: Global, event: &Event) -> Result<Vec<u8>, WireError>
             out.push(REPLACED)?;
             write_token(&mut out, token)?;
             write_path(&mut out, path)?;
-            out.extend_from_slice(&since.to_be_bytes())?;
+            write_u64(&mut out, *since)?;
             write_node(&mut out, new.as_ref())?;
             Ok(out)
         }
@@ -233,8 +233,8 @@ fn read_token(bytes: &[u8]) -> Option<(Token, &[u8])>
 fn write_token(out: &mut Vec<u8>, token: &Token) -> Result<(), WireError>
     ensures { OnOk result (out.new.items ≡ out.old.items ++ token_spelling (token_of token.now)) }
 {
-    out.extend_from_slice(&token.session.to_be_bytes())?;
-    out.extend_from_slice(&token.item.to_be_bytes())?;
+    write_u64(out, token.session)?;
+    write_u32(out, token.item)?;
     Ok(())
 }
 
@@ -276,6 +276,6 @@ fn write_place(out: &mut Vec<u8>, user: u32, path: &Path) -> Result<(), WireErro
     ensures added { OnOk result (out.new.items ≡ out.old.items ++ both_spelling number_spelling path_spelling (user, path.now)) }
     ensures lawful { OnOk result (IsPath path.now) }
 {
-    out.extend_from_slice(&user.to_be_bytes())?;
+    write_u32(out, user)?;
     write_path(out, path)
 }

@@ -1,7 +1,7 @@
 //! Names and paths.
 ghost use Rattle.std.specs.Prelude.{◌≡◌, ◌≤◌, ◌++◌, length, IfOk, OnOk, option_map};
 ghost use Rattle.syn_model.specs.Path.{IsName, IsPath, path_spelling};
-ghost use Rattle.syn_wire.specs.Reads.{IsReading};
+ghost use Rattle.syn_wire.specs.Reads.{IsBeginning, IsReading};
 ghost use Rattle.syn_wire.specs.Names.{AreNames, name_spelling, names_spelling};
 
 use crate::error::WireError;
@@ -41,6 +41,7 @@ pub fn encode_path(alloc: Global, path: &Path) -> Result<Vec<u8>, WireError>
 /// Adds the spelling of the path. Refused 11 where memory is refused; a beginning of it may then have been added.
 pub fn write_path(out: &mut Vec<u8>, path: &Path) -> Result<(), WireError>
     ensures added { OnOk result (out.new.items ≡ out.old.items ++ path_spelling path.now) }
+    ensures kept { IsBeginning out.old.items out.new.items }
     ensures lawful { IsPath path.now }
 {
     let names = path.names();

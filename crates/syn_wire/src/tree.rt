@@ -4,10 +4,12 @@ ghost use Rattle.syn_model.specs.Limits.{children, fits_content, fits_part};
 ghost use Rattle.syn_model.specs.Spelling.{spelling};
 ghost use Rattle.syn_model.specs.Tree.{Directory};
 ghost use Rattle.syn_tree.specs.Nodes.{part_of, node_tree};
+ghost use Rattle.syn_wire.specs.Reads.{IsBeginning};
 ghost use Rattle.syn_wire.specs.Trees.{last_name_spelling, standing_spelling};
 
 use crate::bytes::write_file;
 use crate::error::WireError;
+use crate::number::write_u16;
 use std::alloc::Global;
 use syn_path::Path;
 use syn_tree::{Entries, Entry, Found, Node, Tree};
@@ -43,7 +45,8 @@ pub fn encode_node(alloc: Global, node: Option<&Node>) -> Result<Vec<u8>, WireEr
 
 /// Adds the spelling of the tree. Refused 11 where memory is refused; a beginning of it may then have been added.
 pub fn write_tree(out: &mut Vec<u8>, tree: &Tree) -> Result<(), WireError>
-    ensures { OnOk result (out.new.items ≡ out.old.items ++ spelling tree.now) }
+    ensures added { OnOk result (out.new.items ≡ out.old.items ++ spelling tree.now) }
+    ensures kept { IsBeginning out.old.items out.new.items }
 {
     let root = Path::root(*out.allocator());
     let list = tree.entries();
@@ -58,7 +61,8 @@ pub fn write_tree(out: &mut Vec<u8>, tree: &Tree) -> Result<(), WireError>
 /// have been added.
 pub fn write_node(out: &mut Vec<u8>, node: Option<&Node>) -> Result<(), WireError>
     requires { fits_part (part_of (option_map (λ there. there.now) node)) ≡ true }
-    ensures { OnOk result (out.new.items ≡ out.old.items ++ spelling (part_of (option_map (λ there. there.now) node.entry))) }
+    ensures added { OnOk result (out.new.items ≡ out.old.items ++ spelling (part_of (option_map (λ there. there.now) node.entry))) }
+    ensures kept { IsBeginning out.old.items out.new.items }
 {
     match node {
         None => {
@@ -72,7 +76,8 @@ pub fn write_node(out: &mut Vec<u8>, node: Option<&Node>) -> Result<(), WireErro
 // Adds the spelling of a file, or of a directory with what is below it.
 fn write_present(out: &mut Vec<u8>, node: &Node) -> Result<(), WireError>
     requires { fits_part (node_tree node.now) ≡ true }
-    ensures { OnOk result (out.new.items ≡ out.old.items ++ spelling (node_tree node.now)) }
+    ensures added { OnOk result (out.new.items ≡ out.old.items ++ spelling (node_tree node.now)) }
+    ensures kept { IsBeginning out.old.items out.new.items }
 {
     match node {
         Node::File(bytes) => {
@@ -85,7 +90,8 @@ fn write_present(out: &mut Vec<u8>, node: &Node) -> Result<(), WireError>
 
 // Adds the spelling of a directory with what is below it.
 fn write_directory(out: &mut Vec<u8>, entries: &Entries) -> Result<(), WireError>
-    ensures { OnOk result (out.new.items ≡ out.old.items ++ spelling entries.now) }
+    ensures added { OnOk result (out.new.items ≡ out.old.items ++ spelling entries.now) }
+    ensures kept { IsBeginning out.old.items out.new.items }
 {
     let root = Path::root(*out.allocator());
     let list = entries.as_slice();
@@ -122,7 +128,8 @@ fn count_in_entries(entries: &Entries, entry: &Entry) -> usize
 fn write_entry(out: &mut Vec<u8>, entry: &Entry, count: usize) -> Result<(), WireError>
     requires count { count < 2 ^ 16 }
     requires brief { fits_content entry.now.1 ≡ true }
-    ensures { OnOk result (out.new.items ≡ out.old.items ++ (last_name_spelling entry.now.0 ++ standing_spelling count entry.now.1)) }
+    ensures added { OnOk result (out.new.items ≡ out.old.items ++ (last_name_spelling entry.now.0 ++ standing_spelling count entry.now.1)) }
+    ensures kept { IsBeginning out.old.items out.new.items }
 {
     write_last_name(out, entry.path())?;
     match entry.content() {
@@ -136,7 +143,8 @@ fn write_entry(out: &mut Vec<u8>, entry: &Entry, count: usize) -> Result<(), Wir
 
 // Adds the last name with its length; of the root nothing.
 fn write_last_name(out: &mut Vec<u8>, path: &Path) -> Result<(), WireError>
-    ensures { OnOk result (out.new.items ≡ out.old.items ++ last_name_spelling path.now) }
+    ensures added { OnOk result (out.new.items ≡ out.old.items ++ last_name_spelling path.now) }
+    ensures kept { IsBeginning out.old.items out.new.items }
 {
     if let Some(name) = path.names().last() {
         let text = name.as_str();
@@ -149,9 +157,9 @@ fn write_last_name(out: &mut Vec<u8>, path: &Path) -> Result<(), WireError>
 // Adds the kind of a directory, and how many names are in it.
 fn write_count(out: &mut Vec<u8>, count: usize) -> Result<(), WireError>
     requires { count < 2 ^ 16 }
-    ensures { OnOk result (out.new.items ≡ out.old.items ++ standing_spelling count Directory) }
+    ensures added { OnOk result (out.new.items ≡ out.old.items ++ standing_spelling count Directory) }
+    ensures kept { IsBeginning out.old.items out.new.items }
 {
     out.push(DIRECTORY)?;
-    out.extend_from_slice(&(count as u16).to_be_bytes())?;
-    Ok(())
+    write_u16(out, count as u16)
 }

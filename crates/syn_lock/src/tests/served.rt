@@ -74,3 +74,44 @@ pub fn serve_two<L: Naming<Counter> + Send + Sync, R: Threads + Wait + Sync>(
     let mut pass = service.pool.draw(rt)?.into_pass();
     Some(service.own.position(&mut pass))
 }
+
+/// Draws all passes of a pool of so many, finds it empty, puts all of them back, and does so again.
+pub fn drains_and_fills<L: Naming<Counter>, R: Wait>(
+    rt: &R,
+    alloc: Global,
+    own: Own<Counter>,
+    size: usize,
+) -> bool
+    requires { IsLock L.lock L.origin own }
+{
+    let Some(service) = open::<L>(alloc, own, size) else {
+        return false;
+    };
+    drains(rt, alloc, &service, size) && drains(rt, alloc, &service, size)
+}
+
+fn drains<L: Naming<Counter>, R: Wait>(
+    rt: &R,
+    alloc: Global,
+    service: &Service<L>,
+    size: usize,
+) -> bool {
+    let mut drawn = Vec::new(alloc);
+    for _ in 0..size {
+        let Some(pass) = service.pool.draw(rt) else {
+            return false;
+        };
+        if drawn.push(pass).is_err() {
+            return false;
+        }
+    }
+    if service.pool.draw(rt).is_some() {
+        return false;
+    }
+    for pass in drawn {
+        if service.pool.put(rt, pass).is_err() {
+            return false;
+        }
+    }
+    true
+}

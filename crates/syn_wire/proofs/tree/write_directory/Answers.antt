@@ -10,12 +10,12 @@ pub loop-entry-preserved : goal.loop-entry-preserved
 loop-entry-preserved c =
     let t = c.args.entries.now in
     pairs_more t c.as_slice-list.result.now c.loop-entry.entry-index c.entry-item.result c.count_in_entries.result c.write_count.new.out.items c.loop-entry.out.items c.write_entry.new.out.items
-    c.loop-entry-test.true c.entry-item.is c.count_in_entries.ensures.spelled c.loop-entry.invariant c.in_ok-write_entry.ensures
+    c.loop-entry-test.true c.entry-item.is c.count_in_entries.ensures.spelled c.loop-entry.invariant c.in_ok-write_entry.ensures.added
 
-pub returns : goal.returns
-returns c =
+pub returns-clause-added : goal.returns-clause-added
+returns-clause-added c =
     let t = c.args.entries.now in
     let list = c.as_slice-list.result.now in
     let ended : c.loop-entry.entry-index ≡ length list = omega (arith, c.loop-entry-test.false, c.loop-entry.auto.entry-index-end) in
     whole_written t list c.loop-entry.entry-index c.child_count.result c.args.out.now.items c.write_count.new.out.items c.loop-entry.out.items
-    c.as_slice-list.ensures.tree c.as_slice-list.ensures.all ended (c.child_count.ensures ∙ ap (λ p. length (children t p)) c.root-root.ensures) c.in_ok-write_count.ensures c.loop-entry.invariant
+    c.as_slice-list.ensures.tree c.as_slice-list.ensures.all ended (c.child_count.ensures ∙ ap (λ p. length (children t p)) c.root-root.ensures) c.in_ok-write_count.ensures.added c.loop-entry.invariant

@@ -2,8 +2,8 @@ use Rattle.std.proofs.Common.{◌++◌, ◌∷◌, [], length, slice_get, ◌-�
 use Rattle.syn_wire.proofs.WritingLemmas.{last_name}
 use Rattle.syn_wire.proofs.tree.write_last_name.Goals as goal
 
-pub returns-in_ok-extend_from_slice : goal.returns-in_ok-extend_from_slice
-returns-in_ok-extend_from_slice c =
+pub returns-in_ok-extend_from_slice-clause-added : goal.returns-in_ok-extend_from_slice-clause-added
+returns-in_ok-extend_from_slice-clause-added c =
     let out = c.args.out.now.items in
     let text = c.as_str-text.result.now in
     let last = last_name c.args.path.now c.in-Some.name.now (ap (λ p. slice_get p (length p - 1)) (sym c.names.ensures.names) ∙ sym c.in-Some.ensures.value) in

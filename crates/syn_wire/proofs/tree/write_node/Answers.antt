@@ -4,7 +4,7 @@ use Rattle.syn_tree.specs.Nodes.{part_of}
 use Rattle.syn_wire.proofs.NodeLemmas.{absent_spelled}
 use Rattle.syn_wire.proofs.tree.write_node.Goals as goal
 
-pub returns-in_ok-push-in-None : goal.returns-in_ok-push-in-None
-returns-in_ok-push-in-None c =
+pub returns-in_ok-push-in-None-clause-added : goal.returns-in_ok-push-in-None-clause-added
+returns-in_ok-push-in-None-clause-added c =
     let none = ap (λ o. spelling (part_of (option_map (λ there. there.now) o))) c.in-None.is ∙ absent_spelled in
     c.in_ok-push-in-None.ensures.items ∙ ap (λ b. c.args.out.now.items ++ b) (sym none)

@@ -13,8 +13,8 @@ write_file-requires c =
     let long = ap length c.deref.ensures.value in
     omega (arith, brief, long)
 
-pub returns-in_ok-push-in-File : goal.returns-in_ok-push-in-File
-returns-in_ok-push-in-File c =
+pub returns-in_ok-push-in-File-clause-added : goal.returns-in_ok-push-in-File-clause-added
+returns-in_ok-push-in-File-clause-added c =
     let out = c.args.out.now.items in
     let bytes = c.in-File.bytes.items in
     let spelled = ap (λ n. spelling (node_tree n)) c.in-File.is ∙ file_spelled bytes in
