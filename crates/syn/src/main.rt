@@ -12,8 +12,6 @@ mod put;
 mod refusal;
 mod show;
 mod status;
-#[cfg(test)]
-mod tests;
 mod words;
 
 use command::command;

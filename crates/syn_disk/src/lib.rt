@@ -27,6 +27,3 @@ pub use file::FileDisk;
 pub use leaves::Leaves;
 pub use limit::{Arm, Limit};
 pub use memory::MemDisk;
-
-#[cfg(test)]
-mod tests;

@@ -16,6 +16,3 @@ pub use step::Step;
 pub use token::Token;
 pub use touch::Touch;
 pub use trail::{Parts, Trail};
-
-#[cfg(test)]
-mod tests;

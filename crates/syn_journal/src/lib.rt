@@ -11,6 +11,3 @@ mod read;
 pub use error::JournalError;
 pub use half::HALF_SIZE;
 pub use journal::{Journal, MAX_IMAGE, Opened, Reopened};
-
-#[cfg(test)]
-mod tests;

@@ -10,6 +10,3 @@ mod printed;
 pub use error::PathError;
 pub use name::Name;
 pub use path::Path;
-
-#[cfg(test)]
-mod tests;

@@ -9,6 +9,3 @@ mod replica;
 
 pub use error::ReplicaError;
 pub use replica::Replica;
-
-#[cfg(test)]
-mod tests;

@@ -21,6 +21,3 @@ pub use entry::Entry;
 pub use error::TreeError;
 pub use node::Node;
 pub use tree::Tree;
-
-#[cfg(test)]
-mod tests;

@@ -36,10 +36,3 @@ pub fn spelling_laws()
 {
     syn_model::spelling_laws();
 }
-
-#[cfg(test)]
-mod plain_tests;
-#[cfg(test)]
-mod tests;
-#[cfg(test)]
-mod tree_tests;
