@@ -7,6 +7,8 @@ pub mod StandingLemmas
 pub mod TouchLemmas
 pub mod ImageLemmas
 pub mod FitsLemmas
+pub mod SoundStandings
+pub mod ArchiveImageLemmas
 pub mod SubtreeLemmas
 pub mod SpellingLemmas
 pub mod KeyLemmas

@@ -121,6 +121,10 @@ abbrev pub PayloadGoesOn : Type 0
 PayloadGoesOn = (pair : ℕ) (image : Bytes) (payloads : List Bytes) (history : History) (event : Event) →
     StandsFor pair image payloads history → IsAllowed history event → StandsFor pair image (payloads ++ event_spelling event ∷ []) (history ++ event ∷ [])
 
+-- and the image of what is kept of a history, with no payload, stands for it
+abbrev pub ImageStands : Type 0
+ImageStands = (pair : ℕ) (history : History) → IsHistory history → StandsFor pair (image_spelling pair (standing_of history)) [] history
+
 -- the order of lawful paths is a byte order
 abbrev pub PathsGoByKey : Type 0
 PathsGoByKey = (p q : Path) → IsPath p → IsPath q → path_cmp p q ≡ key_cmp (path_key p) (path_key q)

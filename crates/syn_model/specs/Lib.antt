@@ -13,6 +13,7 @@ pub mod Decision
 pub mod Plan
 pub mod Spelling
 pub mod MarkSpelling
+pub mod ArchiveImage
 pub mod Image
 pub mod Laws
 pub mod Rows

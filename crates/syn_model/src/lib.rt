@@ -1,8 +1,9 @@
 //! The definitions from path to plan that the other crates cite, and the laws that hold of them.
 #![tactic(auto)]
 
-ghost use Rattle.syn_model.specs.Laws.{SameAtEachPath, SubtreeHas, ReplacedHas, ReplacedIsThere, OthersStay, ReplacedIsPart, SubtreeIsPart, SubtreeFits, SubtreeFitsPaths, SpellingUnfolds, NoSpellingBeginsAnother, DirtyIsClosed, DirtyIsSafe, OneSynchronization, NothingToDo, HistoryIsTree, HistoryFits, PutFits, AllowedGoesOn, StandingSteps, StandingAllows, TouchesTell, FormattedStands, PayloadGoesOn, PathsGoByKey, MarkHas, MarkOfSubtree};
+ghost use Rattle.syn_model.specs.Laws.{SameAtEachPath, SubtreeHas, ReplacedHas, ReplacedIsThere, OthersStay, ReplacedIsPart, SubtreeIsPart, SubtreeFits, SubtreeFitsPaths, SpellingUnfolds, NoSpellingBeginsAnother, DirtyIsClosed, DirtyIsSafe, OneSynchronization, NothingToDo, HistoryIsTree, HistoryFits, PutFits, AllowedGoesOn, StandingSteps, StandingAllows, TouchesTell, FormattedStands, PayloadGoesOn, ImageStands, PathsGoByKey, MarkHas, MarkOfSubtree};
 ghost use Rattle.syn_model.specs.Plan.{NamesAreOnly, PlanIsInOrder, PlanIsOrderly, PlanIsDecided, PlanSynchronizes, PlanReconciles, PlanHasDecided, PlanOverwritesClean, ConflictsArePlanned, ItemFindsArchive, ItemFindsSides};
+ghost use Rattle.syn_model.specs.ArchiveImage.{KeepingStaysSound, StandsForSound, ArchiveImageStands, NewArchiveStands, RecordGoesOn};
 ghost use Rattle.syn_model.specs.Rows.{ItemsOfOneNameHold, Floors, RefusedEditsHold, Spellings};
 
 /// Paths compare as bytes: by their names, each followed by one zero byte.
@@ -77,6 +78,16 @@ pub fn history_laws()
     // And an image with the payloads of allowed events stands for their history.
     ensures formatted { FormattedStands }
     ensures payload { PayloadGoesOn }
+    ensures image { ImageStands }
+{}
+
+/// An archive's image with the payloads of records stands for the archive that they leave.
+pub fn archive_laws()
+    ensures keeping { KeepingStaysSound }
+    ensures sound { StandsForSound }
+    ensures image { ArchiveImageStands }
+    ensures formatted { NewArchiveStands }
+    ensures record { RecordGoesOn }
 {}
 
 /// The definitions give what the worked examples say.

@@ -3,6 +3,7 @@ use Rattle.syn_model.proofs.FitsLemmas.{history_fits, put_fits}
 use Rattle.syn_model.proofs.StandingLemmas.{standing_steps, standing_allows}
 use Rattle.syn_model.proofs.TouchLemmas.{touches_tell}
 use Rattle.syn_model.proofs.ImageLemmas.{formatted_stands, payload_goes_on}
+use Rattle.syn_model.proofs.SoundStandings.{image_stands}
 use Rattle.syn_model.proofs.history_laws.Goals as goal
 
 pub returns-clause-tree : goal.returns-clause-tree
@@ -31,3 +32,6 @@ returns-clause-formatted c = formatted_stands
 
 pub returns-clause-payload : goal.returns-clause-payload
 returns-clause-payload c = payload_goes_on
+
+pub returns-clause-image : goal.returns-clause-image
+returns-clause-image c = image_stands

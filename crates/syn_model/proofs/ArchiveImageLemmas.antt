@@ -1,0 +1,93 @@
+-- Images and records stand for archives.
+use Rattle.std.proofs.Common.{◌≡◌, ◌≤◌, ℕ, ◌+◌, Bool, true, false, not, ◌==◌, nat_le, if◌then◌else◌, fold, map}
+use Rattle.std.proofs.Common.{List, [], ◌∷◌, ◌++◌, None, refl, sym, ap, ◌∙◌, subst, arith}
+use Rattle.std.specs.FinMap.{len-entries}
+use Rattle.std.proofs.lemmas.Bool.{leb-false, eqb-true, not-false}
+use Rattle.std.proofs.lemmas.List.{map-append}
+use Rattle.std.proofs.lemmas.List.Sums.{fold-append}
+use Rattle.syn_model.specs.Path.{Path, is_root, IsPath}
+use Rattle.syn_model.specs.Tree.{Tree, IsTree, IsPart, Directory, empty_directory, is_directory, replace}
+use Rattle.syn_model.specs.Limits.{greatest, fits_archive}
+use Rattle.syn_model.specs.Refusal.{Cause, first_cause, Root, Full, BadMessage}
+use Rattle.syn_model.specs.Standing.{place_causes}
+use Rattle.syn_model.specs.History.{tree_of}
+use Rattle.syn_model.specs.Archive.{Archive, Kept, Session, Recorded, RecordedDir, CanKeep, after_kept, archive_of}
+use Rattle.syn_model.specs.Archive.{new_archive, record_causes}
+use Rattle.syn_model.specs.MarkSpelling.{kept_spelling}
+use Rattle.syn_model.specs.ArchiveImage.{IsArchive, AllKept, ArchiveStandsFor, KeepingStaysSound, StandsForSound}
+use Rattle.syn_model.specs.ArchiveImage.{ArchiveImageStands, NewArchiveStands, RecordGoesOn}
+use Rattle.syn_model.proofs.HistoryLemmas.{first_cause-none, none-append, place-stands, replace-is_tree, at_root-is_part}
+use Rattle.syn_model.proofs.HistoryLemmas.{no_file, empty-is_tree}
+use Rattle.syn_model.proofs.RowLemmas.{entries-at_root}
+
+-- what no cause refuses is put where it may stand, and fits
+recorded : (archive : Archive) (path : Path) (new : Tree) → IsArchive archive → IsPath path → IsPart new →
+    first_cause (record_causes archive.marks path new) ≡ None → IsArchive (record archive { marks = replace archive.marks path new })
+recorded archive path new sound lawful part e =
+    let full : List Cause = (not (fits_archive (replace archive.marks path new)), Full) ∷ [] in
+    let place = place-stands archive.marks path full e in
+    let room = first_cause-none (not (fits_archive (replace archive.marks path new)), Full) []
+    (none-append (place_causes archive.marks path) full e).1 in
+    record {
+      tree = replace-is_tree archive.marks path new sound.tree part place.0 place.1 lawful.names;
+      fits = not-false (fits_archive (replace archive.marks path new)) room.0;
+      session = sound.session;
+    }
+
+pub keeping_stays_sound : KeepingStaysSound
+keeping_stays_sound archive (Session session) sound can =
+    let parts = first_cause-none (nat_le greatest archive.last_session, Full) ((not (session == archive.last_session + 1), BadMessage) ∷ []) can.not_refused in
+    let next = first_cause-none (not (session == archive.last_session + 1), BadMessage) [] parts.1 in
+    let below = leb-false greatest archive.last_session parts.0 in
+    let is = eqb-true session (archive.last_session + 1) (not-false (session == archive.last_session + 1) next.0) in
+    record { tree = sound.tree; fits = sound.fits; session = omega (arith, below, is) }
+keeping_stays_sound archive (Recorded path marks) sound can = recorded archive path marks sound can.lawful.0 can.lawful.1 can.not_refused
+keeping_stays_sound archive (RecordedDir path) sound can =
+    let made = record archive { marks = replace archive.marks path empty_directory } in
+    let causes = record_causes archive.marks path empty_directory in
+    let rest = first_cause-none (is_root path, Root) (if is_directory archive.marks path then [] else causes) can.not_refused in
+    elim (is_directory archive.marks path) as (λ b. first_cause (if b then [] else causes) ≡ None → IsArchive (if b then archive else made)) [
+      | true ↦ λ none. sound
+      | false ↦ λ none. recorded archive path empty_directory sound can.lawful (at_root-is_part Directory (λ b x. absurd (no_file b x))) none
+    ] rest.1
+
+all_sound : (archive : Archive) (kept : List Kept) → IsArchive archive → AllKept archive kept → IsArchive (archive_of archive kept)
+all_sound archive [] sound all = sound
+all_sound archive (one ∷ more) sound all = all_sound (after_kept archive one) more (keeping_stays_sound archive one sound all.0) all.1
+
+pub stands_for_sound : StandsForSound
+stands_for_sound pair image payloads archive stands =
+    subst IsArchive (sym stands.last) (all_sound stands.first stands.kept stands.sound stands.allowed)
+
+pub archive_image_stands : ArchiveImageStands
+archive_image_stands pair archive sound = record {
+  first = archive;
+  kept = [];
+  sound = sound;
+  image_is = refl;
+  payloads_are = refl;
+  allowed = tt;
+  last = refl;
+}
+
+new_fits : fits_archive empty_directory ≡ true
+new_fits = rw (len-entries, entries-at_root)
+
+pub new_archive_stands : NewArchiveStands
+unfolding tree_of
+new_archive_stands pair = archive_image_stands pair new_archive (record { tree = empty-is_tree; fits = new_fits; session = omega arith })
+
+kept-append : (archive : Archive) (kept : List Kept) (one : Kept) → AllKept archive kept → CanKeep (archive_of archive kept) one → AllKept archive (kept ++ one ∷ [])
+kept-append archive [] one all can = (can, tt)
+kept-append archive (first ∷ kept) one all can = (all.0, kept-append (after_kept archive first) kept one all.1 can)
+
+pub record_goes_on : RecordGoesOn
+record_goes_on pair image payloads archive kept stands can = record {
+  first = stands.first;
+  kept = stands.kept ++ kept ∷ [];
+  sound = stands.sound;
+  image_is = stands.image_is;
+  payloads_are = ap (λ xs. xs ++ kept_spelling kept ∷ []) stands.payloads_are ∙ sym (map-append kept_spelling stands.kept (kept ∷ []));
+  allowed = kept-append stands.first stands.kept kept stands.allowed (subst (λ a. CanKeep a kept) stands.last can);
+  last = ap (λ a. after_kept a kept) stands.last ∙ sym (fold-append after_kept stands.first stands.kept (kept ∷ []));
+}

@@ -1,0 +1,17 @@
+use Rattle.syn_model.proofs.ArchiveImageLemmas.{keeping_stays_sound, stands_for_sound, archive_image_stands, new_archive_stands, record_goes_on}
+use Rattle.syn_model.proofs.archive_laws.Goals as goal
+
+pub returns-clause-keeping : goal.returns-clause-keeping
+returns-clause-keeping c = keeping_stays_sound
+
+pub returns-clause-sound : goal.returns-clause-sound
+returns-clause-sound c = stands_for_sound
+
+pub returns-clause-image : goal.returns-clause-image
+returns-clause-image c = archive_image_stands
+
+pub returns-clause-formatted : goal.returns-clause-formatted
+returns-clause-formatted c = new_archive_stands
+
+pub returns-clause-record : goal.returns-clause-record
+returns-clause-record c = record_goes_on

@@ -1,0 +1,57 @@
+-- What an archive's disk means: the image of an archive, and payloads that are records kept in turn.
+use Rattle.std.specs.Prelude.{ℕ, ◌≡◌, ◌≤◌, true, List, [], ◌∷◌, ◌++◌, map}
+use Rattle.syn_model.specs.Path.{Bytes}
+use Rattle.syn_model.specs.Tree.{IsTree}
+use Rattle.syn_model.specs.Limits.{greatest, fits_archive}
+use Rattle.syn_model.specs.Archive.{Archive, Kept, CanKeep, after_kept, archive_of, new_archive}
+use Rattle.syn_model.specs.MarkSpelling.{kept_spelling, archive_spelling}
+
+-- what an image may hold
+pub record IsArchive (archive : Archive) : Type 0 where
+  pub tree : IsTree archive.marks
+  pub fits : fits_archive archive.marks ≡ true
+  pub session : archive.last_session ≤ greatest
+
+-- each of the records can be kept in turn
+abbrev pub AllKept : Archive → List Kept → Type 0
+AllKept archive [] = Unit {0}
+AllKept archive (kept ∷ more) = CanKeep archive kept × AllKept (after_kept archive kept) more
+
+-- The image is that of an archive, the payloads are records that are kept in turn after it,
+-- and this is the archive after them.
+pub record ArchiveStandsFor (pair : ℕ) (image : Bytes) (payloads : List Bytes) (archive : Archive) :
+    Type 0 where
+  pub first : Archive
+  pub kept : List Kept
+  pub sound : IsArchive first
+  pub image_is : image ≡ archive_spelling pair first
+  pub payloads_are : payloads ≡ map kept_spelling kept
+  pub allowed : AllKept first kept
+  pub last : archive ≡ archive_of first kept
+
+-- What follows
+
+-- a record that can be kept leaves what an image may hold
+abbrev pub KeepingStaysSound : Type 0
+KeepingStaysSound = (archive : Archive) (kept : Kept) →
+    IsArchive archive → CanKeep archive kept → IsArchive (after_kept archive kept)
+
+-- so each archive that a disk stands for is one
+abbrev pub StandsForSound : Type 0
+StandsForSound = (pair : ℕ) (image : Bytes) (payloads : List Bytes) (archive : Archive) →
+    ArchiveStandsFor pair image payloads archive → IsArchive archive
+
+-- the image of an archive, with no payload, stands for it; so a formatted disk does for a new one
+abbrev pub ArchiveImageStands : Type 0
+ArchiveImageStands = (pair : ℕ) (archive : Archive) → IsArchive archive →
+    ArchiveStandsFor pair (archive_spelling pair archive) [] archive
+
+abbrev pub NewArchiveStands : Type 0
+NewArchiveStands = (pair : ℕ) →
+    ArchiveStandsFor pair (archive_spelling pair new_archive) [] new_archive
+
+-- and with the payload of a record that can be kept it stands for the archive with that record
+abbrev pub RecordGoesOn : Type 0
+RecordGoesOn = (pair : ℕ) (image : Bytes) (payloads : List Bytes) (archive : Archive) (kept : Kept) →
+    ArchiveStandsFor pair image payloads archive → CanKeep archive kept →
+    ArchiveStandsFor pair image (payloads ++ kept_spelling kept ∷ []) (after_kept archive kept)
