@@ -1,4 +1,6 @@
+pub mod Machine
 pub mod Side
+pub mod SideMachine
 pub mod Network
 pub mod Acknowledged
 pub mod Report
