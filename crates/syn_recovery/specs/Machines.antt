@@ -1,0 +1,49 @@
+-- How a side and a coordinator keep their values, and what follows for each of their disks.
+use Rattle.std.specs.Prelude.{ℕ, ◌≡◌}
+use Rattle.syn_model.specs.Event.{Event}
+use Rattle.syn_model.specs.History.{History, IsHistory, IsAllowed}
+use Rattle.syn_model.specs.Image.{StandsFor}
+use Rattle.syn_model.specs.Archive.{Archive, Kept, CanKeep}
+use Rattle.syn_model.specs.ArchiveImage.{IsArchive, ArchiveStandsFor}
+use Rattle.syn_journal.specs.Layout.{Value}
+use Rattle.syn_headline.specs.Machine.{Journaled, unarmed}
+use Rattle.syn_headline.specs.SideMachine.{side_layout}
+use Rattle.syn_headline.specs.Machine.{Layout}
+use Rattle.syn_model.specs.Archive.{after_kept}
+use Rattle.syn_model.specs.Tree.{is_directory}
+use Rattle.syn_model.specs.Archive.{Session, Recorded, RecordedDir}
+use Rattle.std.specs.Prelude.{Bool, false}
+use Rattle.syn_model.specs.MarkSpelling.{kept_spelling, archive_spelling}
+use Rattle.syn_recovery.specs.Meaning.{Keeping, MayMean, OpensTo}
+
+abbrev pub is_recorded : Archive → Kept → Bool
+is_recorded archive (RecordedDir path) = is_directory archive.marks path
+is_recorded archive (Recorded path marks) = false
+is_recorded archive (Session session) = false
+
+abbrev pub archive_layout : ℕ → Layout Archive Kept
+archive_layout pair = record {
+  after = after_kept;
+  is_idle = is_recorded;
+  payload = kept_spelling;
+  image = archive_spelling pair;
+}
+
+abbrev pub of_side : ℕ → Keeping History Event
+of_side pair = record { layout = side_layout pair; CanAdd = IsAllowed; Stands = StandsFor pair }
+
+abbrev pub of_archive : ℕ → Keeping Archive Kept
+of_archive pair =
+    record { layout = archive_layout pair; CanAdd = CanKeep; Stands = ArchiveStandsFor pair }
+
+-- Whatever the disk of a side may mean, an opening that finds nothing armed gives it
+abbrev pub SidesOpen : Type 0
+SidesOpen = (pair : ℕ) (machine : Journaled History Event) (value : Value) (generation : ℕ) →
+    IsHistory machine.value → machine.arms ≡ unarmed →
+    MayMean (of_side pair) machine value generation → OpensTo (of_side pair) machine value generation
+
+-- and so of an archive
+abbrev pub ArchivesOpen : Type 0
+ArchivesOpen = (pair : ℕ) (machine : Journaled Archive Kept) (value : Value) (generation : ℕ) →
+    IsArchive machine.value → machine.arms ≡ unarmed →
+    MayMean (of_archive pair) machine value generation → OpensTo (of_archive pair) machine value generation
