@@ -14,7 +14,7 @@ alone_room image = sub_zero (room_behind image)
     sub_zero n = omega arith
 
 module _ {V W : Type 0} (keeping : Keeping V W) (machine : Journaled V W) (value : Value) (generation : ℕ)
-    (alone : keeping.Stands (keeping.layout.image machine.value) [] machine.value) (disarmed : machine.arms ≡ unarmed) where
+    (disarmed : machine.arms ≡ unarmed) where
   -- no call, where nothing is armed
   no_calls : Meets machine.arms 0 Up unarmed 0
   no_calls = subst (λ arms. Meets arms 0 Up unarmed 0) (sym disarmed) (all_made (inl refl) (inl refl))
@@ -42,7 +42,7 @@ module _ {V W : Type 0} (keeping : Keeping V W) (machine : Journaled V W) (value
         opens = opened (room_behind image) (suc machine.generation) unarmed no_calls (inr (means.compacting, refl, refl));
         opened = record { up = refl; idle = refl; settled = refl; disarmed = refl };
         means = record {
-          stands = subst (λ v. keeping.Stands v.image v.payloads machine.value) (sym means.alone) alone;
+          stands = means.stands;
           room = alone_room image ∙ ap (λ v. room_left v) (sym means.alone);
           numbered = means.numbered;
         };

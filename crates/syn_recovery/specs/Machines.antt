@@ -1,10 +1,10 @@
 -- How a side and a coordinator keep their values, and what follows for each of their disks.
 use Rattle.std.specs.Prelude.{ℕ, ◌≡◌}
 use Rattle.syn_model.specs.Event.{Event}
-use Rattle.syn_model.specs.History.{History, IsHistory, IsAllowed}
+use Rattle.syn_model.specs.History.{History, IsAllowed}
 use Rattle.syn_model.specs.Image.{StandsFor}
 use Rattle.syn_model.specs.Archive.{Archive, Kept, CanKeep}
-use Rattle.syn_model.specs.ArchiveImage.{IsArchive, ArchiveStandsFor}
+use Rattle.syn_model.specs.ArchiveImage.{ArchiveStandsFor}
 use Rattle.syn_journal.specs.Layout.{Value}
 use Rattle.syn_headline.specs.Machine.{Journaled, unarmed}
 use Rattle.syn_headline.specs.SideMachine.{side_layout}
@@ -39,11 +39,11 @@ of_archive pair =
 -- Whatever the disk of a side may mean, an opening that finds nothing armed gives it
 abbrev pub SidesOpen : Type 0
 SidesOpen = (pair : ℕ) (machine : Journaled History Event) (value : Value) (generation : ℕ) →
-    IsHistory machine.value → machine.arms ≡ unarmed →
+    machine.arms ≡ unarmed →
     MayMean (of_side pair) machine value generation → OpensTo (of_side pair) machine value generation
 
 -- and so of an archive
 abbrev pub ArchivesOpen : Type 0
 ArchivesOpen = (pair : ℕ) (machine : Journaled Archive Kept) (value : Value) (generation : ℕ) →
-    IsArchive machine.value → machine.arms ≡ unarmed →
+    machine.arms ≡ unarmed →
     MayMean (of_archive pair) machine value generation → OpensTo (of_archive pair) machine value generation

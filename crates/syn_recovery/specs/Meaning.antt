@@ -45,6 +45,7 @@ pub record MeansWithRecord {V W : Type 0} (keeping : Keeping V W) (machine : Jou
 pub record MeansCompacted {V W : Type 0} (keeping : Keeping V W) (machine : Journaled V W) (value : Value)
     (generation : ℕ) : Type 0 where
   pub compacting : machine.compacting ≡ true
+  pub stands : keeping.Stands value.image value.payloads machine.value
   pub alone : value ≡ image_alone (keeping.layout.image machine.value)
   pub numbered : suc machine.generation ≡ generation
 

@@ -7,7 +7,4 @@ ghost use Rattle.syn_recovery.specs.Machines.{SidesOpen, ArchivesOpen};
 pub fn opening_laws()
     ensures sides { SidesOpen }
     ensures archives { ArchivesOpen }
-{
-    syn_model::history_laws();
-    syn_model::archive_laws();
-}
+{}
