@@ -1,0 +1,3 @@
+mod FrameLemmas
+mod StreamLemmas
+mod WriteLemmas

@@ -1,0 +1,3 @@
+pub mod Frames
+pub mod Refusals
+pub use Rattle.syn_wire.specs.Reads

@@ -1,0 +1,82 @@
+//! Frames over a reader and a writer.
+ghost use Rattle.std.specs.Prelude.{◌≡◌, ◌≢◌, ◌↔◌, ◌⊎◌, ◌<◌, ◌≤◌, ◌++◌, ℕ, List, Ok, Err, length, take, IfOk, IfErr, OnOk, OnErr};
+ghost use Rattle.std.specs.Io.KnownBytes.{Appends, Consumes, IsAtEnd, Keeps};
+ghost use Rattle.syn_link.specs.declared.frames.TheConstants.{MAX_BODY};
+ghost use Rattle.syn_link.specs.Frames.{IsBody, frame_of, AppendsSome};
+
+use crate::error::LinkError;
+use crate::framer::Framer;
+use crate::frames::{check_length, spelled_length};
+use std::io::{ErrorKind, Read, Write};
+
+/// The most bytes that one call reads.
+const MOST_READ: usize = 16_384;
+
+/// Writes the body as a frame, and flushes. Refused 21 and 22 as `frame`, with nothing written, and 9 where a write
+/// fails: a beginning of the frame is then written. It takes no memory.
+pub fn write_frame<W: Write>(writer: &mut W, body: &[u8]) -> Result<(), LinkError>
+    ensures written { OnOk result (Appends (W.contents writer.old) (W.contents writer.new) (frame_of body.now)) }
+    ensures beginning { OnErr result (AppendsSome (W.contents writer.old) (W.contents writer.new) (frame_of body.now)) }
+    ensures bad_frame { (result ≡ Err LinkError.BadFrame) ↔ (length body.now ≡ 0) }
+    ensures too_large { (result ≡ Err LinkError.TooLarge) ↔ (MAX_BODY < length body.now) }
+    ensures memory { IfErr result (λ e. e ≢ LinkError.Memory) }
+{
+    check_length(body.len())?;
+    write_whole(writer, &spelled_length(body.len()))?;
+    write_whole(writer, body)?;
+    match writer.flush() {
+        Ok(()) => Ok(()),
+        Err(_) => Err(LinkError::Device),
+    }
+}
+
+/// Writes all of the bytes, as often as the writer takes some of them.
+fn write_whole<W: Write>(writer: &mut W, bytes: &[u8]) -> Result<(), LinkError>
+    ensures written { OnOk result (Appends (W.contents writer.old) (W.contents writer.new) bytes.now) }
+    ensures beginning { OnErr result (AppendsSome (W.contents writer.old) (W.contents writer.new) bytes.now) }
+    ensures refusals { IfErr result (λ e. e ≡ LinkError.Device) }
+{
+    let mut rest = bytes;
+    for _ in 0..u64::MAX {
+        if rest.is_empty() {
+            return Ok(());
+        }
+        let count = write_once(writer, rest)?;
+        rest = &rest[count..];
+    }
+    Err(LinkError::Device)
+}
+
+/// Writes as many of the bytes as the writer takes at once, and answers how many; none where it was interrupted.
+fn write_once<W: Write>(writer: &mut W, bytes: &[u8]) -> Result<usize, LinkError>
+    ensures count { IfOk result (λ n. n ≤ length bytes.now) }
+    ensures written { IfOk result (λ n. Appends (W.contents writer.old) (W.contents writer.new) (take n bytes.now)) }
+    ensures kept { OnErr result (Keeps (W.contents writer.old) (W.contents writer.new)) }
+    ensures refusals { IfErr result (λ e. e ≡ LinkError.Device) }
+{
+    match writer.write(bytes) {
+        Ok(0) => Err(LinkError::Device),
+        Ok(count) => Ok(count),
+        Err(error) if error.kind() == ErrorKind::Interrupted => Ok(0),
+        Err(_) => Err(LinkError::Device),
+    }
+}
+
+/// Feeds what one read gives, and answers how many bytes these are: none only at the end of the stream.
+/// Refused 9 where the read fails, and 11 where memory is refused; nothing is fed then.
+pub fn read_some<R: Read>(reader: &mut R, framer: &mut Framer) -> Result<usize, LinkError>
+    ensures fed { IfOk result (λ count. (bytes : List ℕ) × (length bytes ≡ count) × (framer.new ≡ framer.old ++ bytes)
+        × Consumes (R.remaining reader.old) (R.remaining reader.new) bytes) }
+    ensures end { result ≡ Ok 0 → IsAtEnd (R.remaining reader.new) }
+    ensures unchanged { OnErr result (framer.new ≡ framer.old) }
+    ensures refusals { IfErr result (λ e. (e ≡ LinkError.Device) ⊎ (e ≡ LinkError.Memory)) }
+{
+    let mut bytes = [0; MOST_READ];
+    match reader.read(&mut bytes) {
+        Ok(count) => {
+            framer.feed(&bytes[..count])?;
+            Ok(count)
+        }
+        Err(_) => Err(LinkError::Device),
+    }
+}
