@@ -7,6 +7,3 @@
 mod refusal;
 
 pub use refusal::Refusal;
-
-#[cfg(test)]
-mod tests;
