@@ -13,8 +13,7 @@ use clap::error::ErrorKind;
 use std::alloc::Global;
 use std::fs::{Files, OpenFile, OpenOptions};
 use std::io::{self, Read, Write};
-use std::os::unix::fs::FileExt;
-use syn_disk::{DISK_SIZE, FileDisk};
+use syn_disk::{DISK_SIZE, FileDisk, HostFile, MirroredFile};
 use syn_path::Path;
 use syn_replica::Replica;
 use syn_tree::Edit;
@@ -32,7 +31,7 @@ pub fn command<F: Files, I: Read, O: Write, E: Write>(
     errors: &mut E,
 ) -> Status
 where
-    F::File: FileExt,
+    F::File: HostFile,
     ensures done { result ≡ Status.Done → ((line : Line) × Asks (map (λ word. word.now) words.entry.now) line) ⊎ AsksHelp (map (λ word. word.now) words.entry.now) }
     ensures usage { result ≡ Status.Usage → (line : Line) → ¬ Asks (map (λ word. word.now) words.entry.now) line }
 {
@@ -92,7 +91,7 @@ fn carry_out<F: Files, I: Read, O: Write>(
     output: &mut O,
 ) -> Result<(), Refusal>
 where
-    F::File: FileExt,
+    F::File: HostFile,
 {
     match line {
         Line::Format { pair, file } => {
@@ -121,7 +120,7 @@ where
 /// Makes the file a replica of the pair. Where that is refused, the file is as long as it was, or missing.
 fn format<F: Files>(alloc: Global, files: &F, file: &str, pair: u64) -> Result<(), Refusal>
 where
-    F::File: FileExt,
+    F::File: HostFile,
 {
     let before = make_room(files, file)?;
     if let Err(refusal) = format_disk(alloc, files, file, pair) {
@@ -175,7 +174,7 @@ fn put_back<F: Files>(files: &F, name: &str, before: Option<u64>) {
 
 fn format_disk<F: Files>(alloc: Global, files: &F, name: &str, pair: u64) -> Result<(), Refusal>
 where
-    F::File: FileExt,
+    F::File: HostFile,
 {
     let disk = FileDisk::open(alloc, files, name)?;
     match Replica::format(alloc, disk, pair) {
@@ -194,7 +193,7 @@ fn put<F: Files, I: Read>(
     input: &mut I,
 ) -> Result<u64, Refusal>
 where
-    F::File: FileExt,
+    F::File: HostFile,
 {
     let path = Path::parse(alloc, path)?;
     let mut replica = open(alloc, files, file)?;
@@ -210,7 +209,7 @@ fn edit<F: Files>(
     edit: Edit,
 ) -> Result<u64, Refusal>
 where
-    F::File: FileExt,
+    F::File: HostFile,
 {
     let mut replica = open(alloc, files, file)?;
     Ok(replica.edit(alloc, user, edit)?)
@@ -225,27 +224,40 @@ fn show<F: Files, O: Write>(
     output: &mut O,
 ) -> Result<(), Refusal>
 where
-    F::File: FileExt,
+    F::File: HostFile,
 {
     match path {
-        None => show_image(alloc, &open(alloc, files, file)?, output)?,
+        None => show_image(alloc, &open_to_read(alloc, files, file)?, output)?,
         Some(path) => {
             let path = Path::parse(alloc, path)?;
-            show_path(alloc, &open(alloc, files, file)?, &path, output)?;
+            show_path(alloc, &open_to_read(alloc, files, file)?, &path, output)?;
         }
     }
     Ok(())
 }
 
-/// The replica in the file.
+/// The replica in the file, which no other process may open meanwhile.
 fn open<F: Files>(
     alloc: Global,
     files: &F,
     name: &str,
-) -> Result<Replica<FileDisk<F::File>>, Refusal>
+) -> Result<Replica<FileDisk<MirroredFile<F::File>>>, Refusal>
 where
-    F::File: FileExt,
+    F::File: HostFile,
 {
     let disk = FileDisk::open(alloc, files, name)?;
+    Replica::open(alloc, disk, None).map_err(|(error, _)| Refusal::from(error))
+}
+
+/// The replica in the file, to be read. The file need not be one that can be written.
+fn open_to_read<F: Files>(
+    alloc: Global,
+    files: &F,
+    name: &str,
+) -> Result<Replica<FileDisk<MirroredFile<F::File>>>, Refusal>
+where
+    F::File: HostFile,
+{
+    let disk = FileDisk::open_to_read(alloc, files, name)?;
     Replica::open(alloc, disk, None).map_err(|(error, _)| Refusal::from(error))
 }

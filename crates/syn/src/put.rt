@@ -1,6 +1,6 @@
 //! Puts the input into a replica.
 ghost use Rattle.std.specs.Prelude.{◌≡◌, ◌⊎◌, ◌+◌, ◌++◌, ◌∷◌, [], length, take, IfOk, IfErr, IfSome, IsErrAnd, Some};
-ghost use Rattle.syn_journal.specs.Stops.{LeavesOnly};
+ghost use Rattle.syn_disk.specs.Stops.{LeavesOnly};
 ghost use Rattle.syn_model.specs.Event.{Edited, Put};
 ghost use Rattle.syn_model.specs.History.{History, event_refusal};
 ghost use Rattle.syn_model.specs.Path.{Bytes};

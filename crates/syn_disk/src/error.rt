@@ -7,12 +7,15 @@ use thiserror::Error;
 /// Why a disk in a file cannot be opened.
 #[derive(Clone, Copy, Debug, PartialEq, Eq, Error)]
 pub enum OpenError {
-    /// The file is missing or of another length, or it cannot be read or synced.
+    /// The file is missing or of another length, or it cannot be locked, read or synced.
     #[error("Device")]
     Device,
     /// There is no memory for the bytes of the disk.
     #[error("Memory")]
     Memory,
+    /// Another process has the file open.
+    #[error("Busy")]
+    Busy,
 }
 
 impl OpenError {
@@ -23,6 +26,7 @@ impl OpenError {
         match self {
             OpenError::Device => 9,
             OpenError::Memory => 11,
+            OpenError::Busy => 12,
         }
     }
 }

@@ -1,7 +1,7 @@
 //! The device calls that put something behind a closed gate and then open the gate.
 ghost use Rattle.std.specs.Prelude.{◌≡◌, ◌≤◌, ◌+◌, ◌∷◌, [], length, OnOk};
 ghost use Rattle.syn_disk.specs.Disk.{Only, overwritten, CountsFailure};
-ghost use Rattle.syn_journal.specs.Stops.{LeavesOnly};
+ghost use Rattle.syn_disk.specs.Stops.{LeavesOnly};
 ghost use Rattle.syn_journal.specs.Commit.{IsStagedOrOpened};
 
 use syn_disk::{DISK_SIZE, DeviceFailed, Disk};

@@ -5,7 +5,7 @@ ghost use Rattle.syn_disk.specs.Disk.{Only, CountsFailure};
 ghost use Rattle.syn_journal.specs.Layout.{half_size, damaged, longest_image, open_gate, start_of, other_half, is_open, generation_at, image_length_at, current, current_of, bytes_from, records, value_at, meaning, record_of, records_of};
 ghost use Rattle.syn_journal.specs.Opened.{payloads_of, value_read};
 ghost use Rattle.syn_journal.specs.Refusals.{CountsFailures, IsOpenRefusal, IsReadRefusal};
-ghost use Rattle.syn_journal.specs.Stops.{Untouched};
+ghost use Rattle.syn_disk.specs.Stops.{Untouched};
 ghost use Rattle.syn_journal.specs.Whole.{IsWhole};
 
 use crate::JournalError;

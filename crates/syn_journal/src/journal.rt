@@ -1,9 +1,10 @@
 //! The journal, its appends and its checkpoints.
 ghost use Rattle.std.specs.Prelude.{◌≡◌, ◌↔◌, ◌⊎◌, ◌≤◌, ◌<◌, ◌+◌, ◌-◌, ◌++◌, ◌∷◌, [], ℕ, true, false, List, length, Ok, IfOk, IfErr, OnOk, OnErr, MatchResult, IsErrAnd};
-ghost use Rattle.syn_disk.specs.Arms.{armed, is_stopped};
+ghost use Rattle.syn_disk.specs.Armed.{armed};
+ghost use Rattle.syn_disk.specs.Arms.{is_stopped};
 ghost use Rattle.syn_disk.specs.Disk.{CountsFailure, Only, SameOutcomes};
 ghost use Rattle.syn_journal.specs.Layout.{Value, half_size, is_open, longest_image, current, generation_at, meaning, image_alone, with_payload, IsBeforeOrAfter};
-ghost use Rattle.syn_journal.specs.Stops.{LeavesOnly, Untouched};
+ghost use Rattle.syn_disk.specs.Stops.{LeavesOnly, Untouched};
 ghost use Rattle.syn_journal.specs.Opened.{value_read};
 ghost use Rattle.syn_journal.specs.Whole.{IsInStep, IsWhole};
 ghost use Rattle.syn_journal.specs.Commit.{body_of_image, body_of_record};
@@ -208,7 +209,7 @@ impl<D: Limit> Journal<D> {
 
     /// Arms the journal's disk. It takes the place of an arm of its kind that is still to come.
     pub fn arm(&mut self, arm: Arm)
-        ensures arms { D.Limit.arms (disk_of self.new) ≡ armed (D.Limit.arms (disk_of self.old)) arm }
+        ensures arms { D.Disk.arms (disk_of self.new) ≡ armed (D.Disk.arms (disk_of self.old)) arm }
 
         // It changes nothing that a read gives or a stop leaves.
         ensures seen { D.Disk.seen (disk_of self.new) ≡ D.Disk.seen (disk_of self.old) }
@@ -224,7 +225,7 @@ impl<D: Limit> Journal<D> {
 
     /// Whether all the device calls before a stop are made.
     pub fn is_cut(&self) -> bool
-        ensures { result ≡ is_stopped (D.Limit.arms (disk_of self.now)) }
+        ensures { result ≡ is_stopped (D.Disk.arms (disk_of self.now)) }
     {
         self.disk.is_cut()
     }

@@ -2,7 +2,7 @@
 ghost use Rattle.std.specs.Prelude.{◌≡◌, ◌+◌, ◌≤◌, length, take, drop, slice_index, IfOk, IfErr, MatchResult};
 ghost use Rattle.std.specs.Int.{w32, w64, from_be_bytes, to_be_bytes};
 ghost use Rattle.syn_disk.specs.Disk.{CountsFailure};
-ghost use Rattle.syn_journal.specs.Stops.{Untouched};
+ghost use Rattle.syn_disk.specs.Stops.{Untouched};
 ghost use Rattle.syn_journal.specs.Refusals.{CountsFailures, IsReadRefusal};
 
 use crate::JournalError;

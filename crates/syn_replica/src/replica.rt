@@ -13,7 +13,7 @@ ghost use Rattle.syn_tree.specs.Edits.{edit_of};
 ghost use Rattle.syn_tree.specs.Lists.{listing};
 ghost use Rattle.syn_journal.specs.Journal.{gate_of};
 ghost use Rattle.syn_journal.specs.Layout.{half_size};
-ghost use Rattle.syn_journal.specs.Stops.{LeavesOnly, Untouched};
+ghost use Rattle.syn_disk.specs.Stops.{LeavesOnly, Untouched};
 ghost use Rattle.syn_replica.specs.Refusals.{refusal_of, CountsFailures, IsOfFormat, IsOfEdit, IsOfReading, MayHideOtherPair};
 ghost use Rattle.syn_replica.specs.Admission.{refusal_by, IsAdmission, IsOfTree, IsOfCommit, IsTooLong};
 ghost use Rattle.syn_replica.specs.Disks.{DiskStands, StandsBeforeOrAfter, IsOfOtherPair, IsOpenRefusal};

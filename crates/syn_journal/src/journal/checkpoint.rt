@@ -3,7 +3,7 @@ ghost use Rattle.std.specs.Prelude.{◌≡◌, ◌↔◌, ◌⊎◌, ◌≤◌, 
 ghost use Rattle.syn_disk.specs.Disk.{CountsFailure, Only};
 ghost use Rattle.syn_journal.specs.Layout.{Value, half_size, longest_image, other_half, is_open, image_alone, IsBeforeOrAfter};
 ghost use Rattle.syn_journal.specs.Commit.{IsClosing, IsNextImage};
-ghost use Rattle.syn_journal.specs.Stops.{LeavesOnly};
+ghost use Rattle.syn_disk.specs.Stops.{LeavesOnly};
 ghost use Rattle.syn_journal.specs.Whole.{IsWhole};
 
 use super::{Journal, MAX_IMAGE, image_body};

@@ -2,7 +2,7 @@
 ghost use Rattle.std.specs.Prelude.{◌≡◌, ◌⊎◌, Ok, Err, IfOk, IfErr, OnErr, MatchResult};
 ghost use Rattle.syn_journal.specs.Layout.{current, generation_at, meaning};
 ghost use Rattle.syn_journal.specs.Opened.{value_read};
-ghost use Rattle.syn_journal.specs.Stops.{Untouched};
+ghost use Rattle.syn_disk.specs.Stops.{Untouched};
 
 use super::Journal;
 use crate::JournalError;

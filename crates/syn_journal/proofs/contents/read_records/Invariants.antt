@@ -1,7 +1,7 @@
 use Rattle.std.proofs.Common.{◌≡◌, ◌+◌, ◌-◌, ◌<◌, ◌≤◌, take, drop}
 use Rattle.syn_journal.specs.Layout.{half_size, start_of, records_of}
 use Rattle.syn_journal.specs.Opened.{payloads_of}
-use Rattle.syn_journal.specs.Stops.{Untouched}
+use Rattle.syn_disk.specs.Stops.{Untouched}
 use Rattle.syn_journal.proofs.contents.read_records.Given as goal
 
 abbrev pub invariant-loop-records : goal.invariant-loop-records
