@@ -7,11 +7,12 @@ use Rattle.syn_model.specs.History.{History, IsHistory, last_session}
 use Rattle.syn_model.specs.Archive.{Archive, Kept, CanKeep, Held}
 use Rattle.syn_headline.specs.Network.{Which, Left, Right}
 use Rattle.syn_headline.specs.Acknowledged.{Grown, ArchiveGrown, stores_after}
-use Rattle.syn_headline.specs.Headline.{stores_of, EachEntryWasHeld, OfEachRun, LeavesPair}
+use Rattle.syn_headline.proofs.CoarseRuns.{stores_of, EachEntryWasHeld, OfEachRun, LeavesPair}
 use Rattle.syn_headline.proofs.Invariant.{Plans, Histories, IsSoundEvent, histories_of, IsHeld, IsHeldRecord, IsHarmless}
 use Rattle.syn_headline.proofs.SoundLemmas.{Extends, fold_one, held-grow, kept_held, kept_is_tree, kept_session}
 use Rattle.syn_headline.proofs.WholeRuns.{no_plans, start_kept, start_stands, run_kept}
-use Rattle.syn_headline.specs.World.{Up, side_of}
+use Rattle.syn_headline.proofs.Coarse.{side_of}
+use Rattle.syn_headline.specs.Machine.{Up}
 use Rattle.syn_headline.proofs.StepLemmas.{if_some}
 use Rattle.syn_model.proofs.HistoryLemmas.{allowed_goes_on}
 use Rattle.syn_headline.proofs.WorldLemmas.{run_stands}
@@ -27,11 +28,11 @@ archive_held histories (Some kept) old new w h (inl e) = subst (λ a. IsHeld his
 archive_held histories (Some kept) old new w h (inr more) = subst (λ a. IsHeld histories a.marks) (sym more.1) (kept_held histories old kept h w)
 
 pub runs_hold_archive : OfEachRun EachEntryWasHeld
-runs_hold_archive old new steps start runs left right archive grown_left grown_right grown_archive path content e =
+runs_hold_archive old new start runs left right archive grown_left grown_right grown_archive path content e =
     let now = stores_after (stores_of old) new.acknowledged in
-    let after = run_kept steps no_plans old new (start_kept old start) runs in
+    let after = run_kept no_plans old new (start_kept old start) runs in
     let kept = after.1 in
-    let stands = run_stands (stores_of old) old new steps runs (start_stands old start.nothing_yet.1) in
+    let stands = run_stands (stores_of old) old new runs (start_stands old start.nothing_yet.1) in
     let pending = if_some new.coordinator.writing (λ record_of. (new.coordinator.status ≢ Up) × (new.coordinator.running ≡ None) × CanKeep new.coordinator.archive record_of × IsHarmless after.0 (histories_of new) record_of)
     (IsHeldRecord (histories_of new)) kept.coordinator.writing (λ record_of _ h. h.3.held) in
     let held = archive_held (histories_of new) new.coordinator.writing new.coordinator.archive archive pending kept.sound.held (subst (λ a. ArchiveGrown new.coordinator.writing a archive) (sym stands.archive) grown_archive) path content e in (
@@ -68,11 +69,11 @@ grown_begun plans histories archive side (Some event) old new s h (inr more) = s
 
 -- what a run leaves is again a pair
 pub runs_leave_pair : OfEachRun LeavesPair
-runs_leave_pair old new steps start runs left right archive grown_left grown_right grown_archive =
+runs_leave_pair old new start runs left right archive grown_left grown_right grown_archive =
     let now = stores_after (stores_of old) new.acknowledged in
-    let after = run_kept steps no_plans old new (start_kept old start) runs in
+    let after = run_kept no_plans old new (start_kept old start) runs in
     let sound = after.1.sound in
-    let stands = run_stands (stores_of old) old new steps runs (start_stands old start.nothing_yet.1) in
+    let stands = run_stands (stores_of old) old new runs (start_stands old start.nothing_yet.1) in
     let of_archive : new.coordinator.archive ≡ now.archive = stands.archive in
     let later : now.archive.last_session ≤ archive.last_session = archive_later new.coordinator.writing now.archive archive grown_archive in
     let written = λ (side : Which) (h : IfSome (side_of new side).writing (λ event. ((side_of new side).status ≢ Up) × IsSoundEvent after.0 (histories_of new) new.coordinator.archive side event)).
@@ -84,7 +85,7 @@ runs_leave_pair old new steps start runs left right archive grown_left grown_rig
       left = grown_lawful new.left.writing now.left left (subst IsHistory stands.left (sound.lawful Left)) grown_left;
       right = grown_lawful new.right.writing now.right right (subst IsHistory stands.right (sound.lawful Right)) grown_right;
       marks = archive_is_tree new.coordinator.writing now.archive archive (subst (λ a. IsTree a.marks) of_archive sound.marks) grown_archive;
-      held = runs_hold_archive old new steps start runs left right archive grown_left grown_right grown_archive;
+      held = runs_hold_archive old new start runs left right archive grown_left grown_right grown_archive;
       left_begun = omega (arith, left_begun, later);
       right_begun = omega (arith, right_begun, later);
     }

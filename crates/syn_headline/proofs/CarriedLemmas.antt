@@ -14,7 +14,8 @@ use Rattle.syn_model.specs.History.{History, IsHistory, tree_of, tree_at, is_old
 use Rattle.syn_model.specs.Standing.{place_causes, full_causes}
 use Rattle.syn_headline.specs.Network.{Left, Right, other}
 use Rattle.syn_headline.specs.Acknowledged.{history_of}
-use Rattle.syn_headline.specs.Headline.{UntouchedSince, CarriedIsMarked, OfEachRun}
+use Rattle.syn_headline.specs.Headline.{UntouchedSince}
+use Rattle.syn_headline.proofs.CoarseRuns.{CarriedIsMarked, OfEachRun}
 use Rattle.syn_model.proofs.PathLemmas.{strip_prefix-is}
 use Rattle.syn_model.proofs.TreeLemmas.{subtree-replace, beside}
 use Rattle.syn_model.proofs.HistoryLemmas.{first_cause-none, place-stands, tree_of-append}
@@ -98,11 +99,11 @@ source_is source fetched path untouched root directory =
 
 -- so the next complete session without edits marks it
 pub runs_mark_carried : OfEachRun CarriedIsMarked
-runs_mark_carried old new steps s g side first rest token path since fetched u report found left is untouched directory held source_untouched q =
-    let lawful = found_lawful old new steps s g report found left q in
+runs_mark_carried old new s g side first rest token path since fetched u report found left is untouched directory held source_untouched q =
+    let lawful = found_lawful old new s g report found left q in
     let target = replaced_is first rest token path since u (subst IsHistory is (lawful side)) untouched in
     let source = source_is (history_of found (other side)) fetched path source_untouched target.0 directory in
     let both = on_both (λ which. (subtree (tree_of (history_of found which)) path ≡ u) × (is_directory (tree_of (history_of found which)) (parent path) ≡ true)) side
     (ap (λ h. subtree (tree_of h) path) is ∙ target.1, ap (λ h. is_directory (tree_of h) (parent path)) is ∙ target.2) (source.0 ∙ sym held, source.1) in
     let relevant = or_right (is_root path) (is_directory (tree_of found.left) (parent path) && is_directory (tree_of found.right) (parent path)) (ap₂ (λ x y. x && y) (both Left).1 (both Right).1) in
-    marks_alike old new steps s g report found left q path relevant ((both Left).0 ∙ sym (both Right).0) ∙ ap mark (both Left).0
+    marks_alike old new s g report found left q path relevant ((both Left).0 ∙ sym (both Right).0) ∙ ap mark (both Left).0

@@ -14,7 +14,7 @@ use Rattle.syn_model.specs.Archive.{Archive, Kept, Recorded, RecordedDir, after_
 use Rattle.syn_headline.specs.Side.{Request, Replace, Reply, Done}
 use Rattle.syn_headline.specs.Network.{Which, Left, Right, other, Sent, Asks, Answers}
 use Rattle.syn_headline.specs.Planning.{Planned, seen_on, WritesTo}
-use Rattle.syn_headline.specs.World.{Running, asked_of, IsDue, done, same, directory}
+use Rattle.syn_headline.proofs.Coarse.{Running, asked_of, IsDue, done, same, directory}
 use Rattle.syn_headline.proofs.Invariant.{Plans, plan_in, Scans, IsPlanFrom, Histories, IsSound, HadMarks, IsHeldRecord, IsHarmless}
 use Rattle.syn_model.proofs.DirectoryLemmas.{below_new_directory}
 use Rattle.syn_model.proofs.PathLemmas.{is_prefix-is}

@@ -14,7 +14,8 @@ use Rattle.syn_headline.specs.Network.{Which, other, Asks, Answers, Sent, Number
 use Rattle.syn_model.specs.Decision.{path_of}
 use Rattle.syn_model.specs.Dirty.{Scan}
 use Rattle.syn_headline.specs.Planning.{Planned, seen_on, Log, IsPlanOf, WritesTo}
-use Rattle.syn_headline.specs.World.{World, Up, SideMachine, CoordinatorMachine, side_of, IsOfPlan, RunsOver}
+use Rattle.syn_headline.proofs.Coarse.{World, SideMachine, CoordinatorMachine, side_of, IsOfPlan, RunsOver}
+use Rattle.syn_headline.specs.Machine.{Up}
 
 -- the history of each side
 abbrev pub Histories : Type 0

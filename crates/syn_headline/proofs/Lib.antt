@@ -1,3 +1,5 @@
+pub mod Coarse
+pub mod CoarseRuns
 pub mod Invariant
 mod LogLemmas
 pub mod WorldLemmas
@@ -31,5 +33,15 @@ pub mod WatchLemmas
 pub mod ToldLemmas
 pub mod SessionRuns
 pub mod LoggedRuns
+pub mod View
+pub mod Walks
+pub mod Heard
+pub mod Remembers
+pub mod Sessions
+pub mod CallLemmas
+pub mod StartLemmas
+pub mod Simulation
+pub mod StandLemmas
+pub mod FineRuns
 pub mod AlikeLemmas
 pub mod CarriedLemmas

@@ -1,5 +1,5 @@
 -- What whole runs log.
-use Rattle.std.proofs.Common.{◌≡◌, ◌≢◌, ◌+◌, ℕ, List, [], ◌∷◌, ◌++◌, map, length, take, sym, ap, ◌∙◌, subst, Option, Some, None, append-nil, arith, inl, inr}
+use Rattle.std.proofs.Common.{◌≡◌, ◌≢◌, ◌+◌, ℕ, List, [], ◌++◌, map, length, take, sym, ap, ◌∙◌, subst, Option, Some, None, append-nil, arith, inl, inr}
 use Rattle.std.specs.Prelude.{All, AllPairs}
 use Rattle.std.proofs.lemmas.List.{length-append, take-append-le}
 use Rattle.std.proofs.lemmas.List.Elements.{All-nil, All-cons, All-append, All-weaker}
@@ -9,8 +9,8 @@ use Rattle.syn_model.specs.Archive.{Kept}
 use Rattle.syn_headline.specs.Network.{Which}
 use Rattle.syn_headline.specs.Planning.{Planned, Log, IsPlanOf}
 use Rattle.syn_headline.specs.Acknowledged.{Ack, Kept_by, Stores, stores_after}
-use Rattle.syn_headline.specs.World.{World, Running, Step, Runs, IsExpected, HasPlan, CoordinatorGoes}
-use Rattle.syn_headline.specs.Headline.{stores_of, StandsFor, HadArchive, LogsPlans, OfEachRun}
+use Rattle.syn_headline.proofs.Coarse.{World, Running, IsExpected, HasPlan, CoordinatorGoes, FollowsAll, nothing_more, one_more}
+use Rattle.syn_headline.proofs.CoarseRuns.{stores_of, StandsFor, HadArchive, LogsPlans, OfEachRun}
 use Rattle.syn_headline.proofs.Invariant.{Plans, IsKept}
 use Rattle.syn_headline.proofs.WorldLemmas.{step_stands}
 use Rattle.syn_headline.proofs.AdvanceLemmas.{step_advances}
@@ -54,15 +54,15 @@ module _ (before : Stores) (old new : World) (stands : StandsFor before old) whe
   course_found (takes from session number reply plan logged heard expected made g reports) found =
       goes_found logged _ _ g (plan_found old.coordinator.running from session number plan logged expected made) found
 
-run_found : (before : Stores) (steps : List Step) (plans : Plans) (old new : World) → IsKept plans old → StandsFor before old → AllFound before old old.log → Runs old steps new → AllFound before new new.log
-run_found before [] plans old new k stands found e = subst (λ w. AllFound before w w.log) (sym e) found
-run_found before (step ∷ steps) plans old new k stands found g =
-    let a = step_advances plans old k g.0 step g.1 in
-    run_found before steps a.later g.0 new a.kept (step_stands before old step g.0 stands g.1) (course_found before old g.0 stands (course plans old k g.0 step g.1) found) g.2
+run_found : (before : Stores) (plans : Plans) (old new : World) → IsKept plans old → StandsFor before old → AllFound before old old.log → FollowsAll old new → AllFound before new new.log
+run_found before plans old _ k stands found (nothing_more _) = found
+run_found before plans old _ k stands found (one_more _ between new g more) =
+    let a = step_advances plans old k between g in
+    run_found before a.later between new a.kept (step_stands before old between stands g) (course_found before old between stands (course plans old k between g) found) more
 
 -- each session is logged once, with a plan that is of its scans and an archive of the run
 pub runs_log : OfEachRun LogsPlans
-runs_log old new steps s g =
-    let k = (run_kept steps no_plans old new (start_kept old s) g).1 in
-    let found = run_found (stores_of old) steps no_plans old new (start_kept old s) (start_stands old s.nothing_yet.1) (subst (AllFound (stores_of old) old) (sym s.nothing_yet.3) (All-nil (λ made. HadArchive (stores_of old) old made.archive))) g in
+runs_log old new s g =
+    let k = (run_kept no_plans old new (start_kept old s) g).1 in
+    let found = run_found (stores_of old) no_plans old new (start_kept old s) (start_stands old s.nothing_yet.1) (subst (AllFound (stores_of old) old) (sym s.nothing_yet.3) (All-nil (λ made. HadArchive (stores_of old) old made.archive))) g in
     (subst (λ log. AllPairs (λ earlier later. earlier.session ≢ later.session) log) (sym k.logged) k.sound.once, λ i made within. (subst (All (IsPlanOf new.sent)) (sym k.logged) k.sound.planned i made within, found i made within))

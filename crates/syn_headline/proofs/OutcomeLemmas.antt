@@ -14,7 +14,8 @@ use Rattle.syn_model.specs.Event.{IsLawfulToken, is_below, is_same_token, Event,
 use Rattle.syn_model.specs.History.{History, tree_of, IsAllowed, last_session, last_token, position_causes, is_quiet, floor}
 use Rattle.syn_model.specs.Standing.{place_causes, full_causes}
 use Rattle.syn_headline.specs.Side.{Side, Served, Staging, Request, Begin, ListAt, Fetch, Stage, Replace, Begun, Listed, NotDir, Piece, Staged, Done, Refused, IsLawfulRequest, answer, add_event, set_staging, unless_refused, stage, stage_first, replace_with, replace_causes, since_causes, room_causes, is_dead_token, serve, Serves, token_of, Reads, is_staged, staged_bytes}
-use Rattle.syn_headline.specs.World.{Status, Up, Halted, Down, serve_halted, ServesAs}
+use Rattle.syn_headline.specs.Machine.{Status, Up, Halted, Down}
+use Rattle.syn_headline.specs.SideMachine.{serve_halted, CannotStage, ServesAs}
 use Rattle.syn_model.proofs.HistoryLemmas.{first_cause-none, none-append}
 use Rattle.syn_headline.proofs.SideLemmas.{began_allowed, replaced_allowed}
 
@@ -108,7 +109,7 @@ serve_outcome pair has_room side session (Replace item path since size) read rea
 -- what a side answers while no device fails
 pub outcome : (pair : ℕ) (has_room : Event → Bool) (side : Side) (session : ℕ) (request : Request) (served : Served) → IsLawfulRequest session request → Serves pair has_room side session request served → Outcome side session request served
 outcome pair has_room side session request served lawful (inl s) = subst (Outcome side session request) (sym s.2) (serve_outcome pair has_room side session request s.0 s.1 lawful)
-outcome pair has_room side session request served lawful (inr i) = subst (Outcome side session request) (sym i.2) (refuses request i.0)
+outcome pair has_room side session request served lawful (inr none) = subst (Outcome side session request) (sym none) (refuses request why.Memory)
 
 pub halted_outcome : (side : Side) (session : ℕ) (request : Request) → Outcome side session request (serve_halted side session request)
 halted_outcome side session (Stage item offset bytes) = stage_outcome side side.staging session item offset bytes refl
@@ -117,10 +118,19 @@ halted_outcome side session (ListAt path) = refuses _ why.Halted
 halted_outcome side session (Fetch path since offset) = refuses _ why.Halted
 halted_outcome side session (Replace item path since size) = refuses _ why.Halted
 
+-- want of memory to stage changes nothing
+cannot_stage : (side : Side) (request : Request) (served : Served) → CannotStage side request served → served ≡ answer side (Refused why.Memory)
+cannot_stage side (Stage item offset bytes) served none = none
+cannot_stage side (Begin pair) served none = absurd none
+cannot_stage side (ListAt path) served none = absurd none
+cannot_stage side (Fetch path since offset) served none = absurd none
+cannot_stage side (Replace item path since size) served none = absurd none
+
 -- what it answers, halted or not; an event is added only where it is up
 pub any_outcome : (status : Status) (pair : ℕ) (has_room : Event → Bool) (side : Side) (session : ℕ) (request : Request) (served : Served) → IsLawfulRequest session request → ServesAs status pair has_room side session request served → Outcome side session request served
 any_outcome Up pair has_room side session request served lawful s = outcome pair has_room side session request served lawful s
-any_outcome Halted pair has_room side session request served lawful s = subst (Outcome side session request) (sym s) (halted_outcome side session request)
+any_outcome Halted pair has_room side session request served lawful (inl s) = subst (Outcome side session request) (sym s) (halted_outcome side session request)
+any_outcome Halted pair has_room side session request served lawful (inr none) = subst (Outcome side session request) (sym (cannot_stage side request served none)) (refuses request why.Memory)
 any_outcome Down pair has_room side session request served lawful s = absurd s
 
 -- a side that is not up adds no event
@@ -139,5 +149,6 @@ halted_same side session (Replace item path since size) = refl
 
 pub unless_up_same : (status : Status) → status ≢ Up → (pair : ℕ) (has_room : Event → Bool) (side : Side) (session : ℕ) (request : Request) (served : Served) → ServesAs status pair has_room side session request served → served.side.history ≡ side.history
 unless_up_same Up h pair has_room side session request served s = absurd (h refl)
-unless_up_same Halted h pair has_room side session request served s = ap (λ x. x.side.history) s ∙ halted_same side session request
+unless_up_same Halted h pair has_room side session request served (inl s) = ap (λ x. x.side.history) s ∙ halted_same side session request
+unless_up_same Halted h pair has_room side session request served (inr none) = ap (λ x. x.side.history) (cannot_stage side request served none)
 unless_up_same Down h pair has_room side session request served s = absurd s

@@ -20,7 +20,7 @@ use Rattle.syn_headline.specs.Side.{Request, Reply, Begin, ListAt, Fetch, Stage,
 use Rattle.syn_headline.specs.Network.{Which, Left, Right, Sent, Asks, Answers, WasAnswered}
 use Rattle.syn_model.specs.Archive.{Archive}
 use Rattle.syn_headline.specs.Planning.{Planned, seen_on, HasBegun, IsScanOf, SeesBoth, SessionPlan, IsPlanOf, WritesTo}
-use Rattle.syn_headline.specs.World.{IsOfPlan}
+use Rattle.syn_headline.proofs.Coarse.{IsOfPlan}
 use Rattle.syn_headline.proofs.Invariant.{Plans, Scans, IsPlanFrom, Histories, IsSound, IsTrueListing, IsTrueNotDir}
 use Rattle.syn_model.proofs.PathLemmas.{parent-append, same_name, name_itself}
 use Rattle.syn_model.proofs.HistoryLemmas.{history-is_tree}

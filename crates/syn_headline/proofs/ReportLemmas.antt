@@ -15,8 +15,9 @@ use Rattle.syn_model.specs.Decision.{Item, ToLeft, ToRight, MarkSame, MarkDir, C
 use Rattle.syn_model.specs.Plan.{is_mark_dir, HasDepth, most_names, CanBePlanned, Trees, carried_out, after_plan, IsSynchronized, IsReconciled, IsConflict}
 use Rattle.syn_headline.specs.Network.{Which, Left, Right, Sent}
 use Rattle.syn_headline.specs.Planning.{Planned, Log}
-use Rattle.syn_headline.specs.Report.{Report, Counts, is_kept, IsSettled, is_carrying, is_marking, conflict_at}
-use Rattle.syn_headline.specs.World.{AllCanKeep}
+use Rattle.syn_headline.specs.Report.{Report, is_kept, is_carrying, is_marking, conflict_at}
+use Rattle.syn_headline.proofs.Coarse.{Counts, IsSettled}
+use Rattle.syn_headline.proofs.Coarse.{AllCanKeep}
 use Rattle.syn_headline.specs.Headline.{IsNoEdit, HasCounts}
 use Rattle.syn_headline.proofs.Invariant.{Plans, Histories, IsSound}
 use Rattle.syn_model.proofs.FitsLemmas.{history_fits, replica_depth}
@@ -60,14 +61,14 @@ conflicts_from (item ∷ items) path c = elim (conflict_at item) as (λ o. confl
   | Some p ↦ λ is c. first_conflict item items p path is (conflicts_from items path) c
 ] refl c
 
-conflicts_to : (items : List Item) (path : Path) → Contains items (Conflict path) → Contains (filter_map conflict_at items) path
+pub conflicts_to : (items : List Item) (path : Path) → Contains items (Conflict path) → Contains (filter_map conflict_at items) path
 conflicts_to [] path c = absurd (omega (arith, c.1))
 conflicts_to (item ∷ items) path (zero, h, e) = subst (λ x. Contains (filter_map conflict_at (x ∷ items)) path) (sym e) (0, omega arith, refl)
 conflicts_to (item ∷ items) path (suc k, h, e) =
     let rest = conflicts_to items path (k, omega (arith, h), e) in
     elim (conflict_at item) as (λ o. Contains (cons_option o (filter_map conflict_at items)) path) [ None ↦ rest | Some p ↦ (suc rest.0, omega (arith, rest.1), rest.2) ]
 
-filter_map-map : (plan : List Planned) → filter_map (λ planned. conflict_at planned.item) plan ≡ filter_map conflict_at (map (λ planned. planned.item) plan)
+pub filter_map-map : (plan : List Planned) → filter_map (λ planned. conflict_at planned.item) plan ≡ filter_map conflict_at (map (λ planned. planned.item) plan)
 filter_map-map [] = refl
 filter_map-map (planned ∷ plan) = ap (cons_option (conflict_at planned.item)) (filter_map-map plan)
 

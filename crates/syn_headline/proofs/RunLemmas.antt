@@ -1,23 +1,20 @@
 -- What a step does at one machine keeps the invariant, and its replacements are legal.
-use Rattle.std.proofs.Common.{suc, true, ◌-◌, ◌≡◌, ◌≤◌, ◌+◌, ℕ, false, true≢false, List, [], ◌∷◌, ◌++◌, refl, sym, ap, ap₂, ◌∙◌, subst, Option, Some, None, append-nil, arith, inl, inr, ◌⊎◌, slice_get, ◌≢◌, map}
+use Rattle.std.proofs.Common.{◌≡◌, ◌≤◌, ◌+◌, ℕ, List, [], ◌∷◌, ◌++◌, refl, sym, ap, ap₂, ◌∙◌, subst, Option, Some, None, append-nil, arith, inl, inr, ◌⊎◌, ◌≢◌, map}
 use Rattle.std.specs.Prelude.{Contains, IfSome, All}
 use Rattle.std.proofs.lemmas.List.{append_cancel_left}
-use Rattle.std.proofs.lemmas.List.Elements.{Contains-get_or}
-use Rattle.std.proofs.lemmas.Option.{slice_get_within, get_or_from_slice_get}
 use Rattle.syn_model.specs.Path.{Path}
 use Rattle.syn_model.specs.Tree.{Tree}
-use Rattle.syn_model.specs.Refusal.{Refusal, Device}
+use Rattle.syn_model.specs.Refusal.{Device}
 use Rattle.syn_model.specs.Event.{Token, Event, Edited, Began, Replaced}
 use Rattle.syn_model.specs.History.{History, IsAllowed}
 use Rattle.syn_model.specs.Archive.{Kept, Session, CanKeep, after_kept}
-use Rattle.syn_headline.specs.Side.{Side, Served, Request, Reply, Refused, IsLawfulRequest, record_size, room_behind, fits_in}
-use Rattle.syn_model.specs.MarkSpelling.{kept_spelling, archive_spelling}
-use Rattle.syn_headline.specs.Network.{Which, Left, Right, other, Sent, Message, Asks, Answers}
+use Rattle.syn_headline.specs.Side.{Side, Served, Request, Reply, Refused, IsLawfulRequest}
+use Rattle.syn_headline.specs.Network.{Which, Left, Right, other, Sent, Asks, Answers}
 use Rattle.syn_headline.specs.Planning.{Planned, Log}
 use Rattle.syn_headline.specs.Acknowledged.{Ack, Happened, Kept_by, history_of, IsLegal}
-use Rattle.syn_headline.specs.Arms.{Arms, unarmed}
-use Rattle.syn_headline.specs.World.{Status, Up, Halted, Down, Machine, At, Coordinator, World, SideMachine, CoordinatorMachine, Running, asked_of, outstanding, side_of, set_side, stopped, Writes, written, failed, cut, Opens, opened, recovered, CompactsArchive, OpensArchive, archive_opened, archive_recovered, refuses_with, is_halted, WouldAdd, TakesRequest, answered, request_failed, request_cut, side_down, IsDueAfter, IsOver, IsExpected, HasPlan, GoesOnAs, ended, goes_on, GoesOnFrom, plan_of, StartsFrom, RunsOver, IsNext, IsNothing, CoordinatorGoes, TakesAnswer, taken, ignored, coordinator_down, Delivers, OpensMachine, cut_off, Compacts, compacted, compacting_failed, compacting_cut}
-use Rattle.syn_headline.specs.Headline.{stores_of}
+use Rattle.syn_headline.proofs.Coarse.{World, SideMachine, CoordinatorMachine, Running, asked_of, outstanding, side_of, set_side, stopped, Writes, written, failed, cut, Opens, opened, recovered, WouldAdd, TakesRequest, answered, request_failed, request_cut, IsDueAfter, IsExpected, HasPlan, GoesOnAs, ended, goes_on, GoesOnFrom, plan_of, StartsFrom, RunsOver, IsNext, IsNothing, CoordinatorGoes}
+use Rattle.syn_headline.specs.Machine.{Status, Up, Halted, Down}
+use Rattle.syn_headline.proofs.CoarseRuns.{stores_of}
 use Rattle.syn_headline.proofs.Invariant.{Plans, plan_in, Histories, histories_of, IsSound, IsFresh, IsHarmless, IsSoundStaging, IsSoundEvent, IsSoundSide, IsSoundCoordinator, IsKept}
 use Rattle.syn_headline.proofs.LogLemmas.{no_plan}
 use Rattle.syn_headline.proofs.SoundLemmas.{IsNew, push-grows, push-here, sound-plan, sound-keep, kept_session}
@@ -25,7 +22,6 @@ use Rattle.syn_headline.proofs.OutcomeLemmas.{any_outcome, outcome, unless_up_sa
 use Rattle.syn_headline.proofs.MoveLemmas.{on_both, Moves, refused_borne, outcome_moves, outcome_true, outcome_borne, outcome_staging, legal, refused_true}
 use Rattle.syn_headline.proofs.HarmlessLemmas.{due_harmless}
 use Rattle.syn_headline.proofs.StepLemmas.{if_some, asked_was_sent, Says, nothing, reply, SideStep, step_moves, side_keeps, coordinator_keeps, next_fresh, sides-later, sides-plan}
-use Rattle.syn_headline.proofs.WorldLemmas.{room_after}
 
 -- each acknowledged replacement of a step is the first of its events, and legal
 abbrev pub IsLegalStep : World → List Ack → Type 0
@@ -77,22 +73,6 @@ stays plans old new k e = record {
   acks = [];
   acknowledges = ap (λ w. w.acknowledged) e ∙ sym (append-nil old.acknowledged);
   legal_step = none_legal old;
-}
-
--- what a call was refused with is no part of it
-pub refuses_advances : (plans : Plans) (old world new : World) (reason : Refusal) → Advances plans old world → new ≡ refuses_with world reason → Advances plans old new
-refuses_advances plans old world new reason a e = record {
-  later = a.later;
-  kept = subst (IsKept a.later) (sym e) (record { logged = a.kept.logged; sound = a.kept.sound; sides = λ side. on_both (λ s. IsSoundSide a.later (histories_of world) world.coordinator.archive s (side_of world s)) side (a.kept.sides side) (a.kept.sides (other side)) side; coordinator = a.kept.coordinator });
-  which = a.which;
-  moves = subst (λ w. Moves plans old.coordinator.archive (histories_of old) (histories_of w) a.which) (sym e) a.moves;
-  messages = a.messages;
-  sends = ap (λ w. w.sent) e ∙ a.sends;
-  logged = a.logged;
-  logs = ap (λ w. w.log) e ∙ a.logs;
-  acks = a.acks;
-  acknowledges = ap (λ w. w.acknowledged) e ∙ a.acknowledges;
-  legal_step = a.legal_step;
 }
 
 -- A side
@@ -212,32 +192,19 @@ halted_not_up e = cc
 pub writes_advances : (plans : Plans) (old : World) → IsKept plans old → (which : Which) (event : Event) → IsAllowed (histories_of old which) event → IsSoundEvent plans (histories_of old) old.coordinator.archive which event →
     (machine : SideMachine) (events : List Event) (new : World) → (side_of old which).status ≡ Up → Writes (side_of old which) event machine events →
     new ≡ next old which machine (old.sent ++ []) (old.acknowledged ++ map (λ event. Happened which event) events) → Advances plans old new
-writes_advances plans old k which event a s _ _ new up (written arms meets) e =
+writes_advances plans old k which event a s _ _ new up written e =
     side_advances plans old k which _ [] (event ∷ []) new (one_event event a s refl) (k.sides which).staged
     (if_some (side_of old which).writing (λ event. ((side_of old which).status ≢ Up) × IsSoundEvent plans (histories_of old) old.coordinator.archive which event) _ (k.sides which).writing (λ other_event _ x. absurd (x.0 up))) nothing e
-writes_advances plans old k which event a s _ _ new up (failed arms meets) e = side_advances plans old k which _ [] [] new (no_event refl) (k.sides which).staged (halted_not_up, s, refl) nothing e
-writes_advances plans old k which event a s _ _ new up (cut meets) e = side_advances plans old k which _ [] [] new (no_event refl) tt (down_not_up, s, refl) nothing e
+writes_advances plans old k which event a s _ _ new up failed e = side_advances plans old k which _ [] [] new (no_event refl) (k.sides which).staged (halted_not_up, s, refl) nothing e
+writes_advances plans old k which event a s _ _ new up cut e = side_advances plans old k which _ [] [] new (no_event refl) tt (down_not_up, s, refl) nothing e
 
-opens_advances : (plans : Plans) (old : World) → IsKept plans old → (which : Which) (calls : ℕ) (machine : SideMachine) (events : List Event) (new : World) → Opens old.pair (side_of old which) calls machine events →
+pub opens_advances : (plans : Plans) (old : World) → IsKept plans old → (which : Which) (machine : SideMachine) (events : List Event) (new : World) → Opens (side_of old which) machine events →
     new ≡ next old which machine (old.sent ++ []) (old.acknowledged ++ map (λ event. Happened which event) events) → Advances plans old new
-opens_advances plans old k which calls _ _ new (opened room generation arms meets left) e = side_advances plans old k which _ [] [] new (no_event refl) (k.sides which).staged tt nothing e
-opens_advances plans old k which calls _ _ new (recovered arms event meets w a) e =
+opens_advances plans old k which _ _ new opened e = side_advances plans old k which _ [] [] new (no_event refl) (k.sides which).staged tt nothing e
+opens_advances plans old k which _ _ new (recovered event w a) e =
     let s : ((side_of old which).status ≢ Up) × IsSoundEvent plans (histories_of old) old.coordinator.archive which event =
     subst (λ o. IfSome o (λ event. ((side_of old which).status ≢ Up) × IsSoundEvent plans (histories_of old) old.coordinator.archive which event)) w (k.sides which).writing in
     side_advances plans old k which _ [] (event ∷ []) new (one_event event a s.1 refl) (k.sides which).staged tt nothing e
-
-pub compacts_advances : (plans : Plans) (old : World) → IsKept plans old → (which : Which) (machine : SideMachine) (events : List Event) (new : World) → Compacts old.pair (side_of old which) machine events →
-    new ≡ next old which machine (old.sent ++ []) (old.acknowledged ++ map (λ event. Happened which event) events) → Advances plans old new
-compacts_advances plans old k which _ _ new (compacted arms meets) e = side_advances plans old k which _ [] [] new (no_event refl) (k.sides which).staged (was_written plans old k which (side_of old which).status (λ h. h) (side_of old which).side refl) nothing e
-compacts_advances plans old k which _ _ new (compacting_failed arms meets) e = side_advances plans old k which _ [] [] new (no_event refl) (k.sides which).staged (was_written plans old k which Halted (λ _. halted_not_up) (side_of old which).side refl) nothing e
-compacts_advances plans old k which _ _ new (compacting_cut meets) e =
-    side_advances plans old k which _ [] [] new (no_event refl) tt (was_written plans old k which Down (λ _. down_not_up) (record { history = (side_of old which).side.history; staging = None }) refl) nothing e
-
--- a machine that is neither halted nor down is up
-pub neither : (status : Status) → is_halted status ≡ false → status ≢ Down → status ≡ Up
-neither Up h k = refl
-neither Halted h k = absurd (true≢false h)
-neither Down h k = absurd (k refl)
 
 longer : (h : History) (event : Event) → h ≡ h ++ event ∷ [] → ⊥
 longer h event e = let x : [] ≡ event ∷ [] = append_cancel_left h [] (event ∷ []) (append-nil h ∙ e) in cc
@@ -258,7 +225,7 @@ module _ (plans : Plans) (old : World) (k : IsKept plans old) (which : Which) (s
 
   would_sound : (event : Event) → WouldAdd old.pair (side_of old which) session request event → IsSoundEvent plans (histories_of old) old.coordinator.archive which event
   would_sound event w =
-      let o = outcome old.pair (fits_in (side_of old which).room) (side_of old which).side session request w.served lawful w.serves in
+      let o = outcome old.pair w.has_room (side_of old which).side session request w.served lawful w.serves in
       elim (outcome_moves plans old.coordinator.archive old.sent (histories_of old) k.sound which (side_of old which).side refl (k.sides which).staged session number request w.served asked o) as (λ _. IsSoundEvent plans (histories_of old) old.coordinator.archive which event) [
         | inl e ↦ absurd (longer (histories_of old which) event (sym e ∙ w.adds))
         | inr a ↦
@@ -269,24 +236,23 @@ module _ (plans : Plans) (old : World) (k : IsKept plans old) (which : Which) (s
 
   pub request_advances : (new : World) → TakesRequest old which session number request new → Advances plans old new
   request_advances new (answered a) =
-      let o = any_outcome (side_of old which).status old.pair (fits_in (side_of old which).room) (side_of old which).side session request a.served lawful a.serves in
+      let o = any_outcome (side_of old which).status old.pair a.has_room (side_of old which).side session request a.served lawful a.serves in
       let moves = outcome_moves plans old.coordinator.archive old.sent (histories_of old) k.sound which (side_of old which).side refl (k.sides which).staged session number request a.served asked o in
-      side_advances plans old k which (record (side_of old which) { side = a.served.side; room = room_after (side_of old which).room a.events; arms = a.arms }) (Answers which session number a.served.reply ∷ []) a.events new (events_are a.served a.events a.added moves)
+      side_advances plans old k which (record (side_of old which) { side = a.served.side }) (Answers which session number a.served.reply ∷ []) a.events new (events_are a.served a.events a.added moves)
       (outcome_staging plans old.coordinator.archive old.sent (histories_of old) k.sound which (side_of old which).side refl (k.sides which).staged session number request a.served asked o)
       (if_some (side_of old which).writing (λ event. ((side_of old which).status ≢ Up) × IsSoundEvent plans (histories_of old) old.coordinator.archive which event)
       (λ event. ((side_of old which).status ≢ Up) × IsSoundEvent plans (histories_of old) old.coordinator.archive which event × (a.served.side.history ≡ histories_of old which)) (k.sides which).writing
-      (λ event _ x. (x.0, x.1, unless_up_same (side_of old which).status x.0 old.pair (fits_in (side_of old which).room) (side_of old which).side session request a.served a.serves)))
+      (λ event _ x. (x.0, x.1, unless_up_same (side_of old which).status x.0 old.pair a.has_room (side_of old which).side session request a.served a.serves)))
       (reply session number request a.served.reply asked (outcome_true plans old.coordinator.archive old.sent (histories_of old) k.sound which (side_of old which).side refl (k.sides which).staged session number request a.served asked o)
       (outcome_borne plans old.coordinator.archive old.sent (histories_of old) k.sound which (side_of old which).side refl (k.sides which).staged session number request a.served asked o))
       a.result
-  request_advances new (request_failed event arms would meets e) =
-      side_advances plans old k which (record (side_of old which) { status = Halted; writing = Some event; arms = arms }) (Answers which session number (Refused Device) ∷ []) [] new (no_event refl) (k.sides which).staged
+  request_advances new (request_failed event would e) =
+      side_advances plans old k which (record (side_of old which) { status = Halted; writing = Some event }) (Answers which session number (Refused Device) ∷ []) [] new (no_event refl) (k.sides which).staged
       (halted_not_up, would_sound event would, refl)
       (reply session number request (Refused Device) asked (refused_true (histories_of old which) session request Device) (refused_borne (plan_in plans session) (histories_of old which) which request Device))
-      (e ∙ (next_sent old which _ _ ∙ ap (λ a. next old which (record (side_of old which) { status = Halted; writing = Some event; arms = arms }) (old.sent ++ Answers which session number (Refused Device) ∷ []) a) (sym (append-nil old.acknowledged))))
-  request_advances new (request_cut event would meets e) =
+      (e ∙ (next_sent old which _ _ ∙ ap (λ a. next old which (record (side_of old which) { status = Halted; writing = Some event }) (old.sent ++ Answers which session number (Refused Device) ∷ []) a) (sym (append-nil old.acknowledged))))
+  request_advances new (request_cut event would e) =
       side_settles plans old k which (stopped (side_of old which) (Some event)) new refl tt (down_not_up, would_sound event would, refl) (e ∙ next_same old which _)
-  request_advances new (side_down d e) = stays plans old new k e
 
 -- The coordinator
 
@@ -323,17 +289,17 @@ module _ (plans : Plans) (old : World) (k : IsKept plans old) (new : World) wher
   pub waits_for : (r : Running) → old.coordinator.running ≡ Some r → (from : Which) (number : ℕ) (request : Request) → asked_of r from number ≡ Some request → Contains old.sent (Asks from r.session number request)
   waits_for r e from number request asked = asked_was_sent old.sent from r.session number (outstanding r from) ((running_over r e).1 from) request asked
 
-  take_with : (from : Which) (session number : ℕ) (said : Reply) (plan : List Planned) (logged : Log) → Contains old.sent (Answers from session number said) → (running : Option Running) → old.coordinator.running ≡ running → IsExpected running from session number →
-      HasPlan old.sent old.coordinator.archive old.log running plan logged → CoordinatorGoes old logged (IsDueAfter running plan from number said) (λ running'. GoesOnFrom running plan running' × IsOver from number running') new → Advances plans old new
+  pub take_with : (from : Which) (session number : ℕ) (said : Reply) (plan : List Planned) (logged : Log) → Contains old.sent (Answers from session number said) → (running : Option Running) → old.coordinator.running ≡ running → IsExpected running from session number →
+      HasPlan old.sent old.coordinator.archive old.log running plan logged → CoordinatorGoes old logged (IsDueAfter running plan from number said) (GoesOnFrom running plan) new → Advances plans old new
   take_with from session number said plan logged c None e expected made g = absurd expected
   take_with from session number said plan logged c (Some r) e expected (inl (same, none)) g =
       let has = running_has r e in
       let planned : plan_in plans r.session ≡ plan = has.0 ∙ sym same in
       let c' = subst (λ n. Contains old.sent (Answers from n number said)) expected.0 c in
-      coordinator_advances plans plans old logged (IsDueAfter (Some r) plan from number said) (λ running'. GoesOnFrom (Some r) plan running' × IsOver from number running') new g
-      (coordinator_keeps plans old logged (IsDueAfter (Some r) plan from number said) (λ running'. GoesOnFrom (Some r) plan running' × IsOver from number running') new (ap (λ more. old.log ++ more) none ∙ (append-nil old.log ∙ k.logged)) k.sound k.sides
+      coordinator_advances plans plans old logged (IsDueAfter (Some r) plan from number said) (GoesOnFrom (Some r) plan) new g
+      (coordinator_keeps plans old logged (IsDueAfter (Some r) plan from number said) (GoesOnFrom (Some r) plan) new (ap (λ more. old.log ++ more) none ∙ (append-nil old.log ∙ k.logged)) k.sound k.sides
       (λ kept due. due_harmless plans (histories_of old) old.coordinator.archive old.sent k.sound r (running_over r e).0 plan planned from number said kept c' (waits_for r e from number) due) g
-      (runs_has plans (histories_of old) r plan planned (λ x. has.1 (sym same ∙ x)) g.machine.running g.runs_on.0))
+      (runs_has plans (histories_of old) r plan planned (λ x. has.1 (sym same ∙ x)) g.machine.running g.runs_on))
   take_with from session number said plan logged c (Some r) e expected (inr (entry, makes, plan_is, logs)) g =
       let has = running_has r e in
       let new_one : IsNew plans entry = subst (λ n. All (λ earlier. earlier.session ≢ n) plans) (sym makes.of_session) (subst (All (λ earlier. earlier.session ≢ r.session)) k.logged makes.once) in
@@ -343,11 +309,11 @@ module _ (plans : Plans) (old : World) (k : IsKept plans old) (new : World) wher
       let planned : plan_in plans' r.session ≡ plan = ap (plan_in plans') (sym makes.of_session) ∙ (push-here plans entry new_one ∙ sym plan_is) in
       let sound = sound-plan plans (histories_of old) old.coordinator.archive old.sent k.sound entry new_one makes.archive_is makes.is (subst (IsFresh (histories_of old)) (sym makes.of_session) fresh) in
       let c' = subst (λ n. Contains old.sent (Answers from n number said)) expected.0 c in
-      coordinator_advances plans plans' old logged (IsDueAfter (Some r) plan from number said) (λ running'. GoesOnFrom (Some r) plan running' × IsOver from number running') new g
-      (coordinator_keeps plans' old logged (IsDueAfter (Some r) plan from number said) (λ running'. GoesOnFrom (Some r) plan running' × IsOver from number running') new (ap₂ (λ had more. had ++ more) k.logged logs) sound
+      coordinator_advances plans plans' old logged (IsDueAfter (Some r) plan from number said) (GoesOnFrom (Some r) plan) new g
+      (coordinator_keeps plans' old logged (IsDueAfter (Some r) plan from number said) (GoesOnFrom (Some r) plan) new (ap₂ (λ had more. had ++ more) k.logged logs) sound
       (λ side. sides-plan plans plans' (push-grows plans entry new_one) (histories_of old) old.coordinator.archive side (side_of old side) (k.sides side))
       (λ kept due. due_harmless plans' (histories_of old) old.coordinator.archive old.sent sound r (running_over r e).0 plan planned from number said kept c' (waits_for r e from number) due) g
-      (runs_has plans' (histories_of old) r plan planned (λ _. fresh) g.machine.running g.runs_on.0))
+      (runs_has plans' (histories_of old) r plan planned (λ _. fresh) g.machine.running g.runs_on))
 
   pub tick_with : (running : Option Running) → old.coordinator.running ≡ running → CoordinatorGoes old [] IsNothing (GoesOnFrom running (plan_of running)) new → Advances plans old new
   tick_with None e g = coordinator_advances plans plans old [] IsNothing (GoesOnFrom None []) new g
@@ -398,60 +364,38 @@ module _ (plans : Plans) (old : World) (k : IsKept plans old) (new : World) wher
   abbrev IsPending : Status → Option Running → Kept → Type 0
   IsPending status running kept = (status ≢ Up) × (running ≡ None) × CanKeep old.coordinator.archive kept × IsHarmless plans (histories_of old) kept
 
-  -- with another status, unless that is up
-  pub with_status : (status : Status) (arms : Arms) → (old.coordinator.status ≢ Up → status ≢ Up) → IsSoundCoordinator plans (histories_of old) old.sent (record old.coordinator { status = status; arms = arms })
-  with_status status arms keeps = record {
-    running = k.coordinator.running;
-    runs_over = k.coordinator.runs_over;
-    writing = if_some old.coordinator.writing (IsPending old.coordinator.status old.coordinator.running) (IsPending status old.coordinator.running) k.coordinator.writing (λ kept _ x. (keeps x.0, x.1, x.2, x.3));
-  }
-
-  opens_archive : (calls : ℕ) (machine : CoordinatorMachine) (ks : List Kept) → OpensArchive old.pair old.coordinator calls machine ks → new ≡ record old { coordinator = machine; acknowledged = old.acknowledged ++ map (λ k. Kept_by k) ks } → Advances plans old new
-  opens_archive calls _ _ (archive_opened room generation arms meets left) e = coordinator_settles (record old.coordinator { status = Up; room = room; generation = generation; compacting = false; writing = None; arms = arms }) [] k.sound (omega arith) (record { running = k.coordinator.running; runs_over = k.coordinator.runs_over; writing = tt }) e
-  opens_archive calls _ _ (archive_recovered arms kept meets w can) e =
-      let pending : IsPending old.coordinator.status old.coordinator.running kept = subst (λ o. IfSome o (IsPending old.coordinator.status old.coordinator.running)) w k.coordinator.writing in
-      coordinator_settles (record old.coordinator { status = Up; archive = after_kept old.coordinator.archive kept; room = old.coordinator.room - record_size (kept_spelling kept); compacting = false; writing = None; arms = arms }) (kept ∷ [])
-      (sound-keep plans (histories_of old) old.coordinator.archive old.sent k.sound kept can pending.3) (kept_session old.coordinator.archive kept can)
-      (record { running = k.coordinator.running; runs_over = subst (RunsOver old.sent (after_kept old.coordinator.archive kept)) (sym pending.1) tt; writing = tt }) e
-
   pub no_acks : (machine : CoordinatorMachine) → new ≡ record old { coordinator = machine } → new ≡ record old { coordinator = machine; acknowledged = old.acknowledged ++ map (λ k. Kept_by k) [] }
   no_acks machine e = e ∙ ap (λ a. record old { coordinator = machine; acknowledged = a }) (sym (append-nil old.acknowledged))
 
-  pub cut_advances : (machine : Machine) → new ≡ cut_off old machine → Advances plans old new
-  cut_advances (At which) e = side_settles plans old k which (stopped (side_of old which) (side_of old which).writing) new refl tt
-      (was_written plans old k which Down (λ _. down_not_up) (record { history = (side_of old which).side.history; staging = None }) refl) (e ∙ next_same old which _)
-  cut_advances Coordinator e = coordinator_settles (record old.coordinator { status = Down; running = None; arms = unarmed }) [] k.sound (omega arith)
-      (record { running = tt; runs_over = tt; writing = if_some old.coordinator.writing (IsPending old.coordinator.status old.coordinator.running) (IsPending Down None) k.coordinator.writing (λ kept _ x. (down_not_up, refl, x.2, x.3)) })
-      (no_acks (record old.coordinator { status = Down; running = None; arms = unarmed }) e)
+  -- with another status, unless that is up, and with the session or without it
+  pub archive_changes_so : (status : Status) (running : Option Running) → (old.coordinator.status ≢ Up → status ≢ Up) → (running ≡ old.coordinator.running) ⊎ (running ≡ None) →
+      new ≡ record old { coordinator = record old.coordinator { status = status; running = running } } → Advances plans old new
+  archive_changes_so status running keeps stays e = coordinator_settles (record old.coordinator { status = status; running = running }) [] k.sound (omega arith) (record {
+    running = has running stays;
+    runs_over = over running stays;
+    writing = if_some old.coordinator.writing (IsPending old.coordinator.status old.coordinator.running) (IsPending status running) k.coordinator.writing (λ kept _ x. (keeps x.0, none running stays x.1, x.2, x.3));
+  }) (no_acks (record old.coordinator { status = status; running = running }) e)
+    where
+      has : (running : Option Running) → (running ≡ old.coordinator.running) ⊎ (running ≡ None) → HasItsPlan plans (histories_of old) running
+      has running (inl still) = subst (HasItsPlan plans (histories_of old)) (sym still) k.coordinator.running
+      has running (inr gone) = subst (HasItsPlan plans (histories_of old)) (sym gone) tt
 
-  -- a checkpoint that is done, or has failed, and one that is cut off
-  pub compacts_archive : CompactsArchive old new → Advances plans old new
-  compacts_archive (inl (arms, meets, e)) = coordinator_settles (record old.coordinator { room = room_behind (archive_spelling old.pair old.coordinator.archive); generation = suc old.coordinator.generation; arms = arms }) [] k.sound (omega arith)
-      (record { running = k.coordinator.running; runs_over = k.coordinator.runs_over; writing = k.coordinator.writing }) (no_acks (record old.coordinator { room = room_behind (archive_spelling old.pair old.coordinator.archive); generation = suc old.coordinator.generation; arms = arms }) e)
-  compacts_archive (inr (inl (arms, meets, e))) =
-      let keeps = with_status Halted arms (λ _. halted_not_up) in
-      coordinator_settles (record old.coordinator { status = Halted; compacting = true; arms = arms }) [] k.sound (omega arith)
-      (record { running = keeps.running; runs_over = keeps.runs_over; writing = keeps.writing }) (no_acks (record old.coordinator { status = Halted; compacting = true; arms = arms }) e)
-  compacts_archive (inr (inr (meets, e))) = coordinator_settles (record old.coordinator { status = Down; compacting = true; running = None; arms = unarmed }) [] k.sound (omega arith)
-      (record { running = tt; runs_over = tt; writing = if_some old.coordinator.writing (IsPending old.coordinator.status old.coordinator.running) (IsPending Down None) k.coordinator.writing (λ kept _ x. (down_not_up, refl, x.2, x.3)) })
-      (no_acks (record old.coordinator { status = Down; compacting = true; running = None; arms = unarmed }) e)
+      over : (running : Option Running) → (running ≡ old.coordinator.running) ⊎ (running ≡ None) → RunsOver old.sent old.coordinator.archive running
+      over running (inl still) = subst (RunsOver old.sent old.coordinator.archive) (sym still) k.coordinator.runs_over
+      over running (inr gone) = subst (RunsOver old.sent old.coordinator.archive) (sym gone) tt
 
-  pub opens_machine : (machine : Machine) (calls : ℕ) → OpensMachine old machine calls new → Advances plans old new
-  opens_machine (At which) calls g = opens_advances plans old k which calls g.0 g.1 new g.2 g.3
-  opens_machine Coordinator calls g = opens_archive calls g.0 g.1 g.2 g.3
+      none : (running : Option Running) → (running ≡ old.coordinator.running) ⊎ (running ≡ None) → old.coordinator.running ≡ None → running ≡ None
+      none running (inl still) was = still ∙ was
+      none running (inr gone) was = gone
 
-  answer_advances : (from : Which) (session number : ℕ) (said : Reply) → Contains old.sent (Answers from session number said) → TakesAnswer old from session number said new → Advances plans old new
-  answer_advances from session number said c (taken plan logged expected made g calls reports) = take_with from session number said plan logged c old.coordinator.running refl expected made g
-  answer_advances from session number said c (ignored x e) = stays plans old new k e
-  answer_advances from session number said c (coordinator_down d e) = stays plans old new k e
+  pub archive_opens_so : new ≡ record old { coordinator = record old.coordinator { status = Up; writing = None } } → Advances plans old new
+  archive_opens_so e = coordinator_settles (record old.coordinator { status = Up; writing = None }) [] k.sound (omega arith)
+      (record { running = k.coordinator.running; runs_over = k.coordinator.runs_over; writing = tt }) (no_acks (record old.coordinator { status = Up; writing = None }) e)
 
-  pub delivers_advances : (o : Option Message) → ((m : Message) → o ≡ Some m → Contains old.sent m) → Delivers old o new → Advances plans old new
-  delivers_advances None c e = stays plans old new k e
-  delivers_advances (Some (Asks to session number request)) c t = request_advances plans old k to session number request (c _ refl) new t
-  delivers_advances (Some (Answers from session number said)) c t = answer_advances from session number said (c _ refl) t
-
-  pub was_sent : (n : ℕ) (m : Message) → slice_get old.sent n ≡ Some m → Contains old.sent m
-  was_sent n m e = subst (Contains old.sent) (get_or_from_slice_get old.sent n m m e) (Contains-get_or old.sent n m (slice_get_within old.sent n m e))
-
-  pub refused_advances : (reason : Refusal) → new ≡ refuses_with old reason → Advances plans old new
-  refused_advances reason e = refuses_advances plans old old new reason (stays plans old old k refl) e
+  pub archive_recovers_so : (kept : Kept) → old.coordinator.writing ≡ Some kept → CanKeep old.coordinator.archive kept →
+      new ≡ record old { coordinator = record old.coordinator { status = Up; archive = after_kept old.coordinator.archive kept; writing = None }; acknowledged = old.acknowledged ++ map (λ k. Kept_by k) (kept ∷ []) } → Advances plans old new
+  archive_recovers_so kept w can e =
+      let pending : IsPending old.coordinator.status old.coordinator.running kept = subst (λ o. IfSome o (IsPending old.coordinator.status old.coordinator.running)) w k.coordinator.writing in
+      coordinator_settles (record old.coordinator { status = Up; archive = after_kept old.coordinator.archive kept; writing = None }) (kept ∷ [])
+      (sound-keep plans (histories_of old) old.coordinator.archive old.sent k.sound kept can pending.3) (kept_session old.coordinator.archive kept can)
+      (record { running = k.coordinator.running; runs_over = subst (RunsOver old.sent (after_kept old.coordinator.archive kept)) (sym pending.1) tt; writing = tt }) e

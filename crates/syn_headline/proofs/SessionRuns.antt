@@ -16,8 +16,9 @@ use Rattle.syn_model.specs.Plan.{IsSynchronized, IsReconciled, IsConflict, HasDe
 use Rattle.syn_headline.specs.Network.{Which, Left, Right}
 use Rattle.syn_headline.specs.Acknowledged.{Ack, Kept_by, event_at, kept_in, Stores, history_of, stores_after}
 use Rattle.syn_headline.specs.Report.{Report}
-use Rattle.syn_headline.specs.World.{World, Step, Runs, AllCanKeep}
-use Rattle.syn_headline.specs.Headline.{stores_of, IsPair, IsStart, BeganAfter, IsQuietSession, trees_of, StandsFor, CompleteSessionsSynchronize, CompleteSessionsReconcile, ReportsItsConflicts, HasCounts, CountsItsItems, OfEachRun}
+use Rattle.syn_headline.proofs.Coarse.{World, AllCanKeep, FollowsAll, nothing_more, one_more}
+use Rattle.syn_headline.specs.Headline.{IsPair, BeganAfter, IsQuietSession, trees_of, HasCounts}
+use Rattle.syn_headline.proofs.CoarseRuns.{stores_of, IsStart, StandsFor, CompleteSessionsSynchronize, CompleteSessionsReconcile, ReportsItsConflicts, CountsItsItems, OfEachRun}
 use Rattle.syn_headline.proofs.Invariant.{Plans, histories_of, IsKept}
 use Rattle.syn_model.proofs.MarkLemmas.{get-mark}
 use Rattle.syn_model.proofs.FitsLemmas.{replica_depth}
@@ -35,16 +36,16 @@ pub record IsWatched (before : Stores) (world : World) : Type 0 where
   pub can : AllCanKeep before.archive (all_kept world)
   pub told : AllTold before world
 
-run_watched : (before : Stores) → IsTree before.archive.marks → HasDepth most_names before.archive.marks → (steps : List Step) (plans : Plans) (old new : World) → IsKept plans old → StandsFor before old → RunsWell before.archive old old.coordinator.running → IsWatched before old →
-    Runs old steps new → IsWatched before new
-run_watched before whole shallow [] plans old new k stands runs w e = subst (IsWatched before) (sym e) w
-run_watched before whole shallow (step ∷ steps) plans old new k stands runs w g =
-    let a = step_advances plans old k g.0 step g.1 in
-    let c = course plans old k g.0 step g.1 in
-    let stands_then = step_stands before old step g.0 stands g.1 in
-    let can = all_can before plans old g.0 k stands runs w.can c in
-    run_watched before whole shallow steps a.later g.0 new a.kept stands_then (runs_well before plans old g.0 k stands runs a c)
-    (record { can = can; told = all_told before whole shallow plans old g.0 k stands stands_then runs can a w.told c }) g.2
+run_watched : (before : Stores) → IsTree before.archive.marks → HasDepth most_names before.archive.marks → (plans : Plans) (old new : World) → IsKept plans old → StandsFor before old → RunsWell before.archive old old.coordinator.running → IsWatched before old →
+    FollowsAll old new → IsWatched before new
+run_watched before whole shallow plans old _ k stands runs w (nothing_more _) = w
+run_watched before whole shallow plans old _ k stands runs w (one_more _ between new g more) =
+    let a = step_advances plans old k between g in
+    let c = course plans old k between g in
+    let stands_then = step_stands before old between stands g in
+    let can = all_can before plans old between k stands runs w.can c in
+    run_watched before whole shallow a.later between new a.kept stands_then (runs_well before plans old between k stands runs a c)
+    (record { can = can; told = all_told before whole shallow plans old between k stands stands_then runs can a w.told c }) more
 
 -- what both sides held has no path that is longer than a path may be
 pair_depth : (stores : Stores) → IsPair stores → HasDepth most_names stores.archive.marks
@@ -62,18 +63,18 @@ start_watched old s = record {
   told = λ report acks c complete. let d : Contains [] (report, acks) = subst (λ w. Contains w (report, acks)) s.nothing_yet.2 c in absurd (omega (arith, d.1));
 }
 
-module _ (old new : World) (steps : List Step) (s : IsStart old) (g : Runs old steps new) where
+module _ (old new : World) (s : IsStart old) (g : FollowsAll old new) where
   abbrev before : Stores
   before = stores_of old
 
   watched : IsWatched before new
-  watched = run_watched before s.pair.marks (pair_depth before s.pair) steps no_plans old new (start_kept old s) (start_stands old s.nothing_yet.1)
-      (subst (RunsWell before.archive old) (sym s.coordinator.1) tt) (start_watched old s) g
+  watched = run_watched before s.pair.marks (pair_depth before s.pair) no_plans old new (start_kept old s) (start_stands old s.nothing_yet.1)
+      (subst (RunsWell before.archive old) (sym s.coordinator.0) tt) (start_watched old s) g
 
   stands : StandsFor before new
-  stands = run_stands before old new steps g (start_stands old s.nothing_yet.1)
+  stands = run_stands before old new g (start_stands old s.nothing_yet.1)
 
-  module _ (report : Report) (found left : Stores) (q : IsQuietSession before new report found left) where
+  module _ (report : Report) (found left : Stores) (q : IsQuietSession before new.acknowledged new.reports report found left) where
     abbrev acks : List Ack
     acks = take q.acks new.acknowledged
 
@@ -116,7 +117,7 @@ module _ (old new : World) (steps : List Step) (s : IsStart old) (g : Runs old s
     pub found_lawful : (which : Which) → IsHistory (history_of found which)
     found_lawful which =
         let then = found_then which in
-        all_front [] (history_of found which) then.0 (subst IsHistory then.1 ((run_kept steps no_plans old new (start_kept old s) g).1.sound.lawful which))
+        all_front [] (history_of found which) then.0 (subst IsHistory then.1 ((run_kept no_plans old new (start_kept old s) g).1.sound.lawful which))
 
     synchronizes : AreApart (tree_of found.left) (tree_of found.right) → IsSynchronized (trees_of found) (trees_of left)
     synchronizes apart = subst (λ s. IsSynchronized (trees_of found) (trees_of s)) (sym q.at_end) ((told.worth found archive_is left_began right_began).0 apart)
@@ -136,16 +137,16 @@ module _ (old new : World) (steps : List Step) (s : IsStart old) (g : Runs old s
 
 -- a complete session without edits leaves the synchronization of what it found
 pub runs_synchronize : OfEachRun CompleteSessionsSynchronize
-runs_synchronize old new steps s g report found left q apart = synchronizes old new steps s g report found left q apart
+runs_synchronize old new s g report found left q apart = synchronizes old new s g report found left q apart
 
 -- and the archive of it
 pub runs_reconcile : OfEachRun CompleteSessionsReconcile
-runs_reconcile old new steps s g report found left q = reconciles old new steps s g report found left q
+runs_reconcile old new s g report found left q = reconciles old new s g report found left q
 
 -- and reports its conflicts
 pub runs_report_conflicts : OfEachRun ReportsItsConflicts
-runs_report_conflicts old new steps s g report found left q = has_conflicts old new steps s g report found left q
+runs_report_conflicts old new s g report found left q = has_conflicts old new s g report found left q
 
 -- and counts its items
 pub runs_count_items : OfEachRun CountsItsItems
-runs_count_items old new steps s g report found left q = has_counts old new steps s g report found left q
+runs_count_items old new s g report found left q = has_counts old new s g report found left q

@@ -97,6 +97,6 @@ by_request pair has_room side session (Replace item path since size) read reads 
 
 -- a step of a side adds one allowed event at most
 pub serves_allowed : ServesAllowed
-serves_allowed pair has_room side session request served lawful (inr i) = inl (ap (λ s. s.side.history) i.2)
+serves_allowed pair has_room side session request served lawful (inr none) = inl (ap (λ s. s.side.history) none)
 serves_allowed pair has_room side session request served lawful (inl s) =
     subst (λ x. AddsAllowed side.history x.side.history) (sym s.2) (by_request pair has_room side session request s.0 s.1 lawful)

@@ -24,7 +24,7 @@ use Rattle.syn_headline.specs.Laws.{AddsAllowed}
 use Rattle.syn_headline.specs.Side.{Request, Begin, ListAt, Fetch, Stage, Replace, Reply, Begun, Listed, NotDir, Piece, Done}
 use Rattle.syn_headline.specs.Network.{Which, other, Sent, Asks, Answers, NumbersTell, AsksNothingTwice}
 use Rattle.syn_headline.specs.Planning.{Planned, seen_on, SessionPlan, IsPlanOf}
-use Rattle.syn_headline.specs.World.{IsOfPlan}
+use Rattle.syn_headline.proofs.Coarse.{IsOfPlan}
 use Rattle.syn_headline.proofs.Invariant.{Plans, plan_in, Scans, IsPlanFrom, Histories, IsSound, IsSound_request, IsStillRecorded, IsTrue, IsBorne, HadMarks, IsSpent, IsHeld, IsHeldRecord, IsHarmless, IsUsed, IsFresh, part_at}
 use Rattle.syn_model.proofs.PathLemmas.{strip_prefix-is}
 use Rattle.syn_model.proofs.TreeLemmas.{get-replace}

@@ -13,7 +13,9 @@ use Rattle.syn_headline.specs.Laws.{AddsAllowed}
 use Rattle.syn_headline.specs.Side.{Request, Reply}
 use Rattle.syn_headline.specs.Network.{Which, Left, other, Sent, Message, Asks, Answers}
 use Rattle.syn_headline.specs.Planning.{seen_on, Log, IsPlanOf}
-use Rattle.syn_headline.specs.World.{Up, World, SideMachine, Running, Outstanding, outstanding, asked_in, side_of, IsOfPlan, IsOfSession, AllOfSession, RunsOver, WasSent, AllCanKeep, CoordinatorGoes}
+use Rattle.syn_headline.proofs.Coarse.{World, SideMachine, Running, outstanding, side_of, IsOfPlan, IsOfSession, AllOfSession, RunsOver, WasSent, AllCanKeep, CoordinatorGoes}
+use Rattle.syn_headline.specs.Machine.{Up}
+use Rattle.syn_headline.specs.Coordinator.{Outstanding, asked_in}
 use Rattle.syn_headline.proofs.Invariant.{Plans, plan_in, Histories, histories_of, IsSound, IsSound_request, IsTrue, IsBorne, IsHeldRecord, IsFresh, IsSoundStaging, IsSoundEvent, IsSoundSide, IsSoundCoordinator, IsHarmless, IsKept}
 use Rattle.syn_headline.proofs.LogLemmas.{scans_of, plan_from}
 use Rattle.syn_headline.proofs.PlanLemmas.{fenced, since_reached}

@@ -16,9 +16,11 @@ use Rattle.syn_headline.specs.Side.{Reply}
 use Rattle.syn_headline.specs.Network.{Which, Left, Right, Answers}
 use Rattle.syn_headline.specs.Planning.{Planned, Log}
 use Rattle.syn_headline.specs.Acknowledged.{Ack, kept_in, Stores, history_of, stores_after}
-use Rattle.syn_headline.specs.Report.{Report, Complete, Incomplete, Counts, IsSettled, kept_in_session, since_start}
-use Rattle.syn_headline.specs.World.{IsNoItem, RefusesTaken, World, Running, IsExpected, IsOver, IsDueAfter, HasPlan, GoesOnFrom, plan_of, AllCanKeep, CoordinatorGoes, Reports, EndsTaken, EndsUnanswered}
-use Rattle.syn_headline.specs.Headline.{IsNoEdit, BeganAfter, trees_of, HasCounts, StandsFor}
+use Rattle.syn_headline.specs.Report.{Report, Complete, Incomplete}
+use Rattle.syn_headline.proofs.Coarse.{Counts, IsSettled, kept_in_session, since_start}
+use Rattle.syn_headline.proofs.Coarse.{World, Running, IsExpected, IsDueAfter, HasPlan, GoesOnFrom, plan_of, AllCanKeep, CoordinatorGoes, Reports, Ends, EndsUnanswered}
+use Rattle.syn_headline.specs.Headline.{IsNoEdit, BeganAfter, trees_of, HasCounts}
+use Rattle.syn_headline.proofs.CoarseRuns.{StandsFor}
 use Rattle.syn_headline.proofs.Invariant.{Plans, histories_of, IsKept}
 use Rattle.syn_headline.proofs.RunLemmas.{Advances}
 use Rattle.syn_headline.proofs.CourseLemmas.{Course, beside, starts, ticks, takes}
@@ -57,7 +59,7 @@ module _ (before : Stores) (whole : IsTree before.archive.marks) (shallow : HasD
     (runs : RunsWell before.archive old old.coordinator.running) (can : AllCanKeep before.archive (all_kept new)) where
   module _ (r : Running) (e : old.coordinator.running ≡ Some r) (from : Which) (session number : ℕ) (reply : Reply) (plan : List Planned) (logged : Log) (heard : Contains old.sent (Answers from session number reply)) (expected : IsExpected (Some r) from session number)
       (made : HasPlan old.sent old.coordinator.archive old.log (Some r) plan logged)
-      (g : CoordinatorGoes old logged (IsDueAfter (Some r) plan from number reply) (λ running. GoesOnFrom (Some r) plan running × IsOver from number running) new) (report : Report) (ends : EndsTaken old new from number plan reply r report)
+      (g : CoordinatorGoes old logged (IsDueAfter (Some r) plan from number reply) (GoesOnFrom (Some r) plan) new) (report : Report) (ends : Ends new plan r report)
       (counts : Counts plan (kept_in_session new.acknowledged) report) (complete : report.end ≡ Complete) where
     planned : IsUnderway (old.log ++ logged) before.archive (histories_of old) old.sent (all_kept old) r.session plan
     planned = plan_then before plans old new k stands runs r e from session number reply plan logged heard expected made
@@ -77,7 +79,7 @@ module _ (before : Stores) (whole : IsTree before.archive.marks) (shallow : HasD
         record {
           earlier = more.earlier;
           records = more.records;
-          kept_is = goes_kept before plans old new k stands runs logged (IsDueAfter (Some r) plan from number reply) (λ running. GoesOnFrom (Some r) plan running × IsOver from number running) g ∙ more.kept_is;
+          kept_is = goes_kept before plans old new k stands runs logged (IsDueAfter (Some r) plan from number reply) (GoesOnFrom (Some r) plan) g ∙ more.kept_is;
           due = more.due;
           events = more.events;
           planned = more.planned;
@@ -193,17 +195,17 @@ module _ (before : Stores) (whole : IsTree before.archive.marks) (shallow : HasD
   told_still : new.reports ≡ old.reports → AllTold before new
   told_still e report acks c complete = told_before report acks (subst (λ w. Contains w (report, acks)) e c) complete
 
-  told_ticks : Reports old new (plan_of old.coordinator.running) IsNoItem EndsUnanswered → AllTold before new
-  told_ticks (inl (e, on, more)) = told_still e
-  told_ticks (inr (running, report, runs, none, up, e, ends, counts, refused)) = told_now report e (λ complete. absurd (not_complete (sym complete ∙ ends.1)))
+  told_ticks : Reports old new (plan_of old.coordinator.running) EndsUnanswered → AllTold before new
+  told_ticks (inl e) = told_still e
+  told_ticks (inr (running, report, runs, e, ends, counts)) = told_now report e (λ complete. absurd (not_complete (sym complete ∙ ends)))
 
   told_takes : (from : Which) (session number : ℕ) (reply : Reply) (plan : List Planned) (logged : Log) → Contains old.sent (Answers from session number reply) → IsExpected old.coordinator.running from session number → HasPlan old.sent old.coordinator.archive old.log old.coordinator.running plan logged →
-      CoordinatorGoes old logged (IsDueAfter old.coordinator.running plan from number reply) (λ running. GoesOnFrom old.coordinator.running plan running × IsOver from number running) new → Reports old new plan (RefusesTaken old new from number plan reply) (EndsTaken old new from number plan reply) → AllTold before new
-  told_takes from session number reply plan logged heard expected made g (inl (e, on, more)) = told_still e
-  told_takes from session number reply plan logged heard expected made g (inr (running, report, is, none, up, e, ends, counts, refused)) = told_now report e (λ complete.
+      CoordinatorGoes old logged (IsDueAfter old.coordinator.running plan from number reply) (GoesOnFrom old.coordinator.running plan) new → Reports old new plan (Ends new plan) → AllTold before new
+  told_takes from session number reply plan logged heard expected made g (inl e) = told_still e
+  told_takes from session number reply plan logged heard expected made g (inr (running, report, is, e, ends, counts)) = told_now report e (λ complete.
       tells before whole shallow plans old new k stands stands_then runs can running is from session number reply plan logged heard
       (subst (λ o. IsExpected o from session number) is expected) (subst (λ o. HasPlan old.sent old.coordinator.archive old.log o plan logged) is made)
-      (subst (λ o. CoordinatorGoes old logged (IsDueAfter o plan from number reply) (λ running. GoesOnFrom o plan running × IsOver from number running) new) is g) report ends counts complete)
+      (subst (λ o. CoordinatorGoes old logged (IsDueAfter o plan from number reply) (GoesOnFrom o plan) new) is g) report ends counts complete)
 
   pub all_told : Course old new → AllTold before new
   all_told (beside acks added more runs_on reports logs) = told_still reports

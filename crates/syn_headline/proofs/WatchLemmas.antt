@@ -10,8 +10,8 @@ use Rattle.syn_headline.specs.Side.{Request, Reply, Done, Replace}
 use Rattle.syn_headline.specs.Network.{Which, other, Sent, Asks, Answers}
 use Rattle.syn_headline.specs.Planning.{Planned, Log, seen_on, WritesTo}
 use Rattle.syn_headline.specs.Acknowledged.{Ack, Kept_by, kept_in, Stores}
-use Rattle.syn_headline.specs.World.{World, Running, asked_of, IsExpected, IsOver, IsDue, done, same, directory, IsDueAfter, HasPlan, GoesOnAs, goes_on, ended, GoesOnFrom, plan_of, StartsFrom, RunsOver, IsNext, IsNothing, AllCanKeep, CoordinatorGoes}
-use Rattle.syn_headline.specs.Headline.{StandsFor}
+use Rattle.syn_headline.proofs.Coarse.{World, Running, asked_of, IsExpected, IsDue, done, same, directory, IsDueAfter, HasPlan, GoesOnAs, goes_on, ended, GoesOnFrom, plan_of, StartsFrom, RunsOver, IsNext, IsNothing, AllCanKeep, CoordinatorGoes}
+use Rattle.syn_headline.proofs.CoarseRuns.{StandsFor}
 use Rattle.syn_headline.proofs.Invariant.{Plans, plan_in, IsPlanFrom, Histories, histories_of, IsSound, IsKept}
 use Rattle.syn_headline.proofs.LogLemmas.{no_plan, scans_of, plan_from}
 use Rattle.syn_headline.proofs.WorldLemmas.{kept_kept}
@@ -163,13 +163,13 @@ module _ (before : Stores) (plans : Plans) (old new : World) (k : IsKept plans o
     due_then kept due = all_due before.archive plans (histories_of old) old.coordinator.archive old.sent k.sound (all_kept old) stands.archive r (running_has plans old k new r e).0 well_of plan logged made_of from number reply
         (subst (λ n. Contains old.sent (Answers from n number reply)) expected.0 heard) (waits_for plans old k new r e from number) kept due
 
-    takes_one : (g : CoordinatorGoes old logged (IsDueAfter (Some r) plan from number reply) (λ running. GoesOnFrom (Some r) plan running × IsOver from number running) new) → RunsWell before.archive new new.coordinator.running
-    takes_one g = goes_well logged (IsDueAfter (Some r) plan from number reply) (λ running. GoesOnFrom (Some r) plan running × IsOver from number running) g
+    takes_one : (g : CoordinatorGoes old logged (IsDueAfter (Some r) plan from number reply) (GoesOnFrom (Some r) plan) new) → RunsWell before.archive new new.coordinator.running
+    takes_one g = goes_well logged (IsDueAfter (Some r) plan from number reply) (GoesOnFrom (Some r) plan) g
         (goes_on_well (old.log ++ logged) before.archive (histories_of old) old.sent g.messages (all_kept old ++ g.kept) r plan
-        (underway_records (old.log ++ logged) before.archive (histories_of old) old.sent (all_kept old) g.kept r.session plan (due_then g.kept g.keeps.due) plan_then) g.machine.running g.runs_on.0)
+        (underway_records (old.log ++ logged) before.archive (histories_of old) old.sent (all_kept old) g.kept r.session plan (due_then g.kept g.keeps.due) plan_then) g.machine.running g.runs_on)
 
   takes_well : (o : Option Running) → old.coordinator.running ≡ o → (from : Which) (session number : ℕ) (reply : Reply) (plan : List Planned) (logged : Log) → Contains old.sent (Answers from session number reply) → IsExpected o from session number →
-      HasPlan old.sent old.coordinator.archive old.log o plan logged → CoordinatorGoes old logged (IsDueAfter o plan from number reply) (λ running. GoesOnFrom o plan running × IsOver from number running) new → RunsWell before.archive new new.coordinator.running
+      HasPlan old.sent old.coordinator.archive old.log o plan logged → CoordinatorGoes old logged (IsDueAfter o plan from number reply) (GoesOnFrom o plan) new → RunsWell before.archive new new.coordinator.running
   takes_well None e from session number reply plan logged heard expected made g = absurd expected
   takes_well (Some r) e from session number reply plan logged heard expected made g = takes_one r e from session number reply plan logged heard expected made g
 

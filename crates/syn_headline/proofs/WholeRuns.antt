@@ -11,8 +11,9 @@ use Rattle.syn_model.specs.Archive.{CanKeep, Held}
 use Rattle.syn_headline.specs.Network.{Which, Left, Right, Sent, Message}
 use Rattle.syn_headline.specs.Acknowledged.{Ack, Happened, Stores, stores_after, IsLegal}
 use Rattle.syn_headline.specs.Planning.{Log, IsPlanOf}
-use Rattle.syn_headline.specs.World.{Up, World, Running, side_of, Step, Waits, RunsOver, Runs}
-use Rattle.syn_headline.specs.Headline.{stores_of, IsStart, EachReplacementIsLegal, EachTokenOnce, StandsFor, OfEachRun, Owes}
+use Rattle.syn_headline.proofs.Coarse.{World, Running, side_of, Waits, RunsOver, FollowsAll, nothing_more, one_more}
+use Rattle.syn_headline.specs.Machine.{Up}
+use Rattle.syn_headline.proofs.CoarseRuns.{stores_of, IsStart, EachReplacementIsLegal, EachTokenOnce, StandsFor, OfEachRun, Owes}
 use Rattle.syn_headline.proofs.Invariant.{Plans, histories_of, IsHarmless, IsSoundStaging, IsSoundEvent, IsSoundSide, IsKept}
 use Rattle.syn_headline.proofs.PlanLemmas.{answered-more}
 use Rattle.syn_headline.proofs.TokenLemmas.{token_once}
@@ -68,11 +69,11 @@ legal_extends before plans old new stands a all earlier later side token path si
           subst (λ s. IsLegal old.sent old.log side s token path since u) at first.1
     ])))
 
-runs_legally : (before : Stores) (steps : List Step) (plans : Plans) (old new : World) → IsKept plans old → StandsFor before old → EachReplacementIsLegal before old → Runs old steps new → EachReplacementIsLegal before new
-runs_legally before [] plans old new k stands all e = subst (EachReplacementIsLegal before) (sym e) all
-runs_legally before (step ∷ steps) plans old new k stands all g =
-    let a = step_advances plans old k g.0 step g.1 in
-    runs_legally before steps a.later g.0 new a.kept (step_stands before old step g.0 stands g.1) (legal_extends before plans old g.0 stands a all) g.2
+runs_legally : (before : Stores) (plans : Plans) (old new : World) → IsKept plans old → StandsFor before old → EachReplacementIsLegal before old → FollowsAll old new → EachReplacementIsLegal before new
+runs_legally before plans old _ k stands all (nothing_more _) = all
+runs_legally before plans old _ k stands all (one_more _ between new g more) =
+    let a = step_advances plans old k between g in
+    runs_legally before a.later between new a.kept (step_stands before old between stands g) (legal_extends before plans old between stands a all) more
 
 nothing_sent : (sent : Sent) (m : Message) → sent ≡ [] → Contains sent m → ⊥
 nothing_sent sent m e c = let d : Contains [] m = subst (λ s. Contains s m) e c in omega (arith, d.1)
@@ -103,13 +104,13 @@ start_kept old s =
         used = λ side token planned path last e w. absurd (none-some _ e);
       };
       sides = λ side. elim side as (λ side. IsSoundSide no_plans (histories_of old) old.coordinator.archive side (side_of old side)) [
-        | Left ↦ record { staged = subst (λ o. IfSome o (IsSoundStaging no_plans (histories_of old) Left)) (sym s.left.1) tt; writing = subst (λ o. IfSome o (λ event. (old.left.status ≢ Up) × IsSoundEvent no_plans (histories_of old) old.coordinator.archive Left event)) (sym s.left.2) tt }
-        | Right ↦ record { staged = subst (λ o. IfSome o (IsSoundStaging no_plans (histories_of old) Right)) (sym s.right.1) tt; writing = subst (λ o. IfSome o (λ event. (old.right.status ≢ Up) × IsSoundEvent no_plans (histories_of old) old.coordinator.archive Right event)) (sym s.right.2) tt }
+        | Left ↦ record { staged = subst (λ o. IfSome o (IsSoundStaging no_plans (histories_of old) Left)) (sym s.left.0) tt; writing = subst (λ o. IfSome o (λ event. (old.left.status ≢ Up) × IsSoundEvent no_plans (histories_of old) old.coordinator.archive Left event)) (sym s.left.1) tt }
+        | Right ↦ record { staged = subst (λ o. IfSome o (IsSoundStaging no_plans (histories_of old) Right)) (sym s.right.0) tt; writing = subst (λ o. IfSome o (λ event. (old.right.status ≢ Up) × IsSoundEvent no_plans (histories_of old) old.coordinator.archive Right event)) (sym s.right.1) tt }
       ];
       coordinator = record {
-        running = subst (HasItsPlan no_plans (histories_of old)) (sym s.coordinator.1) tt;
-        runs_over = subst (RunsOver old.sent old.coordinator.archive) (sym s.coordinator.1) tt;
-        writing = subst (λ o. IfSome o (λ kept. (old.coordinator.status ≢ Up) × (old.coordinator.running ≡ None) × CanKeep old.coordinator.archive kept × IsHarmless no_plans (histories_of old) kept)) (sym s.coordinator.2) tt;
+        running = subst (HasItsPlan no_plans (histories_of old)) (sym s.coordinator.0) tt;
+        runs_over = subst (RunsOver old.sent old.coordinator.archive) (sym s.coordinator.0) tt;
+        writing = subst (λ o. IfSome o (λ kept. (old.coordinator.status ≢ Up) × (old.coordinator.running ≡ None) × CanKeep old.coordinator.archive kept × IsHarmless no_plans (histories_of old) kept)) (sym s.coordinator.1) tt;
       };
     }
 
@@ -122,23 +123,23 @@ start_stands old e = subst (λ acks. StandsFor (stores_of old) (record old { ack
 
 -- in every run each replacement is legal
 pub runs_replace_legally : OfEachRun EachReplacementIsLegal
-runs_replace_legally old new steps s g = runs_legally (stores_of old) steps no_plans old new (start_kept old s) (start_stands old s.nothing_yet.1)
+runs_replace_legally old new s g = runs_legally (stores_of old) no_plans old new (start_kept old s) (start_stands old s.nothing_yet.1)
     (λ earlier later side token path since u e. absurd (not_nothing earlier later _ (sym s.nothing_yet.1 ∙ e))) g
 
 -- the invariant after a whole run
-pub run_kept : (steps : List Step) (plans : Plans) (old new : World) → IsKept plans old → Runs old steps new → (later : Plans) × IsKept later new
-run_kept [] plans old new k e = (plans, subst (IsKept plans) (sym e) k)
-run_kept (step ∷ steps) plans old new k g = let a = step_advances plans old k g.0 step g.1 in run_kept steps a.later g.0 new a.kept g.2
+pub run_kept : (plans : Plans) (old new : World) → IsKept plans old → FollowsAll old new → (later : Plans) × IsKept later new
+run_kept plans old _ k (nothing_more _) = (plans, k)
+run_kept plans old _ k (one_more _ between new g more) = let a = step_advances plans old k between g in run_kept a.later between new a.kept more
 
 pub runs_use_tokens_once : OfEachRun EachTokenOnce
-runs_use_tokens_once old new steps s g side earlier later token path since u e =
-    token_once (histories_of new side) earlier later token path since u ((run_kept steps no_plans old new (start_kept old s) g).1.sound.lawful side) e
+runs_use_tokens_once old new s g side earlier later token path since u e =
+    token_once (histories_of new side) earlier later token path since u ((run_kept no_plans old new (start_kept old s) g).1.sound.lawful side) e
 
 -- and what a session owes
 pub runs_owe : OfEachRun Owes
-runs_owe old new steps s g =
-    let k = (run_kept steps no_plans old new (start_kept old s) g).1 in
-    (waits new.coordinator.running k.coordinator.runs_over, k.sound.repeats)
+runs_owe old new s g =
+    let k = (run_kept no_plans old new (start_kept old s) g).1 in
+    (waits new.coordinator.running k.coordinator.runs_over, k.sound.numbers, k.sound.repeats)
   where
     waits : (o : Option Running) → RunsOver new.sent new.coordinator.archive o → IfSome o Waits
     waits None r = tt

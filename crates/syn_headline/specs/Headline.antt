@@ -8,15 +8,20 @@ use Rattle.syn_model.specs.Mark.{mark, AreApart}
 use Rattle.syn_model.specs.Archive.{Archive, new_archive, Session, BothHeld}
 use Rattle.std.specs.List.{count_by}
 use Rattle.syn_model.specs.Plan.{plan, scan_of, Trees, IsSynchronized, IsReconciled, IsConflict}
-use Rattle.syn_headline.specs.Network.{Which, Left, Right, other, AsksNothingTwice}
+use Rattle.syn_headline.specs.Network.{Which, Left, Right, other, NumbersTell, AsksNothingTwice}
 use Rattle.syn_headline.specs.Acknowledged.{Ack, Happened, Kept_by, Stores, history_of, stores_after, Grown, ArchiveGrown, IsLegal}
 use Rattle.syn_headline.specs.Planning.{IsPlanOf}
 use Rattle.syn_headline.specs.Report.{Report, Complete, is_carrying, is_marking}
-use Rattle.syn_headline.specs.Arms.{unarmed}
-use Rattle.syn_headline.specs.World.{World, Step, Runs, Up, Waits, side_of}
+use Rattle.syn_headline.specs.Machine.{Up, Journaled, unarmed}
+use Rattle.syn_headline.specs.Coordinator.{Waits}
+use Rattle.syn_headline.specs.World.{World, Step, Runs, side_of}
 
 abbrev pub stores_of : World → Stores
-stores_of world = record { left = world.left.side.history; right = world.right.side.history; archive = world.coordinator.archive }
+stores_of world = record {
+  left = world.left.journal.value;
+  right = world.right.journal.value;
+  archive = world.coordinator.journal.value;
+}
 
 -- a pair of sides and their archive, as three formatted disks are, and as every run leaves them
 pub record IsPair (stores : Stores) : Type 0 where
@@ -27,12 +32,17 @@ pub record IsPair (stores : Stores) : Type 0 where
   pub left_begun : last_session stores.left ≤ stores.archive.last_session
   pub right_begun : last_session stores.right ≤ stores.archive.last_session
 
+-- a journal that has just been opened, with nothing armed at its device
+abbrev pub IsJustOpened : {V W : Type 0} → Journaled V W → Type 0
+IsJustOpened machine =
+    (machine.status ≡ Up) × (machine.writing ≡ None) × (machine.compacting ≡ false) × (machine.arms ≡ unarmed)
+
 -- a world that has just been opened
 pub record IsStart (world : World) : Type 0 where
   pub pair : IsPair (stores_of world)
-  pub left : (world.left.status ≡ Up) × (world.left.side.staging ≡ None) × (world.left.writing ≡ None) × (world.left.compacting ≡ false) × (world.left.arms ≡ unarmed)
-  pub right : (world.right.status ≡ Up) × (world.right.side.staging ≡ None) × (world.right.writing ≡ None) × (world.right.compacting ≡ false) × (world.right.arms ≡ unarmed)
-  pub coordinator : (world.coordinator.status ≡ Up) × (world.coordinator.running ≡ None) × (world.coordinator.writing ≡ None) × (world.coordinator.compacting ≡ false) × (world.coordinator.arms ≡ unarmed)
+  pub left : IsJustOpened world.left.journal × (world.left.staging ≡ None)
+  pub right : IsJustOpened world.right.journal × (world.right.staging ≡ None)
+  pub coordinator : IsJustOpened world.coordinator.journal × (world.coordinator.running ≡ None)
   pub nothing_yet : (world.sent ≡ []) × (world.acknowledged ≡ []) × (world.reports ≡ []) × (world.log ≡ [])
 
 -- Opening what any stop leaves: the acknowledged events in order, with at most the one being written.
@@ -40,9 +50,9 @@ pub record IsStart (world : World) : Type 0 where
 pub record OpensToAcknowledged (stands : Bytes → History → Type 0) (stands_archive : Bytes → Archive → Type 0)
     (leaves : Which → Bytes → Type 0) (leaves_archive : Bytes → Type 0) (before : Stores) (world : World) : Type 0 where
   pub side : (which : Which) (bytes : Bytes) → leaves which bytes →
-      (history : History) × stands bytes history × Grown (side_of world which).writing (history_of (stores_after before world.acknowledged) which) history
+      (history : History) × stands bytes history × Grown (side_of world which).journal.writing (history_of (stores_after before world.acknowledged) which) history
   pub archive : (bytes : Bytes) → leaves_archive bytes →
-      (archive : Archive) × stands_archive bytes archive × ArchiveGrown world.coordinator.writing (stores_after before world.acknowledged).archive archive
+      (archive : Archive) × stands_archive bytes archive × ArchiveGrown world.coordinator.journal.writing (stores_after before world.acknowledged).archive archive
 
 -- Each replacement of the run is of its session's plan, and puts what the other side held over what the archive recorded, untouched since its listing
 abbrev pub EachReplacementIsLegal : Stores → World → Type 0
@@ -55,8 +65,8 @@ EachReplacementIsLegal before world =
 abbrev pub EachEntryWasHeld : Stores → World → Type 0
 EachEntryWasHeld before world =
     let now = stores_after before world.acknowledged in
-    (left right : History) (archive : Archive) → Grown world.left.writing now.left left → Grown world.right.writing now.right right →
-    ArchiveGrown world.coordinator.writing now.archive archive → BothHeld left right archive.marks
+    (left right : History) (archive : Archive) → Grown world.left.journal.writing now.left left → Grown world.right.journal.writing now.right right →
+    ArchiveGrown world.coordinator.journal.writing now.archive archive → BothHeld left right archive.marks
 
 abbrev pub IsNoEdit : Event → Type 0
 IsNoEdit (Edited user edit) = ⊥
@@ -69,16 +79,16 @@ pub record BeganAfter (session : ℕ) (found : History) (ended : History) : Type
   pub no_edit : All IsNoEdit later
 
 -- a complete session without edits: what it found, and what it left
-pub record IsQuietSession (before : Stores) (world : World) (report : Report) (found left : Stores) : Type 0 where
+pub record IsQuietSession (before : Stores) (acknowledged : List Ack) (reports : List (Report × ℕ)) (report : Report) (found left : Stores) : Type 0 where
   pub acks : ℕ
-  pub reported : Contains world.reports (report, acks)
+  pub reported : Contains reports (report, acks)
   pub complete : report.end ≡ Complete
-  pub at_end : left ≡ stores_after before (take acks world.acknowledged)
+  pub at_end : left ≡ stores_after before (take acks acknowledged)
   pub left_side : BeganAfter report.session found.left left.left
   pub right_side : BeganAfter report.session found.right left.right
   pub started : ℕ
-  pub archive : found.archive ≡ (stores_after before (take started world.acknowledged)).archive
-  pub taken : take (started + 1) world.acknowledged ≡ take started world.acknowledged ++ Kept_by (Session report.session) ∷ []
+  pub archive : found.archive ≡ (stores_after before (take started acknowledged)).archive
+  pub taken : take (started + 1) acknowledged ≡ take started acknowledged ++ Kept_by (Session report.session) ∷ []
 
 -- the trees of both sides, and the marks of the archive
 abbrev pub trees_of : Stores → Trees
@@ -87,16 +97,16 @@ trees_of stores = record { left = tree_of stores.left; right = tree_of stores.ri
 -- A complete session without edits leaves on both sides the synchronization of what it found,
 -- if no two files that it found at one path differ with one digest
 abbrev pub CompleteSessionsSynchronize : Stores → World → Type 0
-CompleteSessionsSynchronize before world = (report : Report) (found left : Stores) → IsQuietSession before world report found left →
+CompleteSessionsSynchronize before world = (report : Report) (found left : Stores) → IsQuietSession before world.acknowledged world.reports report found left →
     AreApart (tree_of found.left) (tree_of found.right) → IsSynchronized (trees_of found) (trees_of left)
 
 -- And it leaves the archive of that, without this premise
 abbrev pub CompleteSessionsReconcile : Stores → World → Type 0
-CompleteSessionsReconcile before world = (report : Report) (found left : Stores) → IsQuietSession before world report found left → IsReconciled (trees_of found) (trees_of left)
+CompleteSessionsReconcile before world = (report : Report) (found left : Stores) → IsQuietSession before world.acknowledged world.reports report found left → IsReconciled (trees_of found) (trees_of left)
 
 -- Its conflicts are the relevant paths that are dirty on both sides, no directory on both and unequal
 abbrev pub ReportsItsConflicts : Stores → World → Type 0
-ReportsItsConflicts before world = (report : Report) (found left : Stores) → IsQuietSession before world report found left → (path : Path) →
+ReportsItsConflicts before world = (report : Report) (found left : Stores) → IsQuietSession before world.acknowledged world.reports report found left → (path : Path) →
     Contains report.conflicts path ↔ IsConflict (tree_of found.left) (tree_of found.right) found.archive.marks path
 
 -- as many as the plan of what it found has to carry, and to mark
@@ -107,7 +117,7 @@ HasCounts found report =
 
 -- Its counts are those
 abbrev pub CountsItsItems : Stores → World → Type 0
-CountsItsItems before world = (report : Report) (found left : Stores) → IsQuietSession before world report found left → HasCounts found report
+CountsItsItems before world = (report : Report) (found left : Stores) → IsQuietSession before world.acknowledged world.reports report found left → HasCounts found report
 
 abbrev pub IsOtherToken : Token → Event → Type 0
 IsOtherToken token (Replaced used path since new) = is_same_token used token ≡ false
@@ -117,7 +127,7 @@ IsOtherToken token _ = Unit {0}
 abbrev pub EachTokenOnce : Stores → World → Type 0
 EachTokenOnce before world =
     (side : Which) (earlier later : History) (token : Token) (path : Path) (since : ℕ) (new : Tree) →
-    (side_of world side).side.history ≡ earlier ++ Replaced token path since new ∷ later → All (IsOtherToken token) later
+    (side_of world side).journal.value ≡ earlier ++ Replaced token path since new ∷ later → All (IsOtherToken token) later
 
 -- no event of a history after a position touches the path
 abbrev pub UntouchedSince : ℕ → History → Path → Type 0
@@ -131,7 +141,7 @@ CarriedIsMarked before world =
     let source = history_of found (other side) in
     history_of found side ≡ first ++ Replaced token path since new ∷ rest → All (λ event. touches event path ≡ false) rest →
     is_directory (tree_at source fetched) (parent path) ≡ true → new ≡ subtree (tree_at source fetched) path → UntouchedSince fetched source path →
-    IsQuietSession before world report found left → subtree left.archive.marks path ≡ mark new
+    IsQuietSession before world.acknowledged world.reports report found left → subtree left.archive.marks path ≡ mark new
 
 -- The headline
 pub record Headline (stands : Bytes → History → Type 0) (stands_archive : Bytes → Archive → Type 0)
@@ -144,9 +154,9 @@ pub record Headline (stands : Bytes → History → Type 0) (stands_archive : By
 
 -- The machines stand for what was there before and then what was acknowledged, in order
 pub record StandsFor (before : Stores) (world : World) : Type 0 where
-  pub left : world.left.side.history ≡ history_of (stores_after before world.acknowledged) Left
-  pub right : world.right.side.history ≡ history_of (stores_after before world.acknowledged) Right
-  pub archive : world.coordinator.archive ≡ (stores_after before world.acknowledged).archive
+  pub left : world.left.journal.value ≡ history_of (stores_after before world.acknowledged) Left
+  pub right : world.right.journal.value ≡ history_of (stores_after before world.acknowledged) Right
+  pub archive : world.coordinator.journal.value ≡ (stores_after before world.acknowledged).archive
 
 -- as every run leaves them
 abbrev pub RunsStand : Type 0
@@ -172,9 +182,9 @@ OfEachRun Holds = (old new : World) (steps : List Step) → IsStart old → Runs
 abbrev pub LeavesPair : Stores → World → Type 0
 LeavesPair before new =
     let now = stores_after before new.acknowledged in
-    (left right : History) (archive : Archive) → Grown new.left.writing now.left left → Grown new.right.writing now.right right →
-    ArchiveGrown new.coordinator.writing now.archive archive → IsPair (record { left = left; right = right; archive = archive })
+    (left right : History) (archive : Archive) → Grown new.left.journal.writing now.left left → Grown new.right.journal.writing now.right right →
+    ArchiveGrown new.coordinator.journal.writing now.archive archive → IsPair (record { left = left; right = right; archive = archive })
 
--- a session that runs waits for an answer, and nothing was asked twice in one
+-- a session that runs waits for an answer; a number tells its request, and nothing was asked twice in one session
 abbrev pub Owes : Stores → World → Type 0
-Owes before new = IfSome new.coordinator.running Waits × AsksNothingTwice new.sent
+Owes before new = IfSome new.coordinator.running Waits × NumbersTell new.sent × AsksNothingTwice new.sent

@@ -4,7 +4,7 @@ use Rattle.syn_model.specs.History.{History, IsAllowed, last_token}
 use Rattle.syn_model.specs.Path.{Path}
 use Rattle.syn_model.specs.Refusal.{OldSession}
 use Rattle.syn_model.specs.Event.{Token, is_same_token, Event}
-use Rattle.syn_headline.specs.Side.{Side, Served, Request, Replace, Done, Refused, Serves, IsInterrupted, IsLawfulRequest, answer, token_of, is_dead_token}
+use Rattle.syn_headline.specs.Side.{Side, Served, Request, Replace, Done, Refused, Serves, IsOutOfMemory, IsLawfulRequest, answer, token_of, is_dead_token}
 
 -- a step of a side leaves its history, or adds one event that is allowed after it
 abbrev pub AddsAllowed : History → History → Type 0
@@ -18,10 +18,10 @@ ServesAllowed = (pair : ℕ) (has_room : Event → Bool) (side : Side) (session 
 abbrev pub RepeatsAreDone : Type 0
 RepeatsAreDone = (pair : ℕ) (has_room : Event → Bool) (side : Side) (session item : ℕ) (path : Path) (since size : ℕ) (served : Served) →
     last_token side.history ≡ Some (token_of session item) → Serves pair has_room side session (Replace item path since size) served →
-    (served ≡ answer side Done) ⊎ IsInterrupted side served
+    (served ≡ answer side Done) ⊎ IsOutOfMemory side served
 
 -- and once there is a later token, or another session has begun, it is refused as old
 abbrev pub LaterAreOld : Type 0
 LaterAreOld = (pair : ℕ) (has_room : Event → Bool) (side : Side) (session item : ℕ) (path : Path) (since size : ℕ) (last : Token) (served : Served) →
     last_token side.history ≡ Some last → is_same_token last (token_of session item) ≡ false → is_dead_token side (token_of session item) ≡ true →
-    Serves pair has_room side session (Replace item path since size) served → (served ≡ answer side (Refused OldSession)) ⊎ IsInterrupted side served
+    Serves pair has_room side session (Replace item path since size) served → (served ≡ answer side (Refused OldSession)) ⊎ IsOutOfMemory side served

@@ -2,10 +2,10 @@ pub mod Machine
 pub mod Side
 pub mod SideMachine
 pub mod Network
-pub mod Acknowledged
-pub mod Report
 pub mod Planning
-pub mod Arms
+pub mod Report
+pub mod Coordinator
+pub mod Acknowledged
 pub mod World
 pub mod Headline
 pub mod Laws

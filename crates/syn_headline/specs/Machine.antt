@@ -121,7 +121,12 @@ IsAsLeft layout machine room generation =
 -- what an opening leaves of a machine, beside its value
 abbrev pub reopened : {V W : Type 0} → Journaled V W → ℕ → ℕ → Arms → Journaled V W
 reopened machine room generation arms = record machine {
-  status = Up; room = room; generation = generation; compacting = false; writing = None; arms = arms;
+  status = Up;
+  room = room;
+  generation = generation;
+  compacting = false;
+  writing = None;
+  arms = arms;
 }
 
 -- An opening by so many device calls gives the value; or, with it, the record that was being written
@@ -132,8 +137,3 @@ pub data Opens {V W : Type 0} (layout : Layout V W) (CanKeep : V → W → Type 
   recovered : (arms : Arms) (kept : W) → Meets machine.arms calls Up arms 0 → machine.writing ≡ Some kept →
       CanKeep machine.value kept →
       Opens layout CanKeep machine calls (with_record layout (reopened machine machine.room machine.generation arms) kept arms) (kept ∷ [])
-
--- one of the device calls of an opening fails, or a stop comes after it
-abbrev pub FailsToOpen : {V W : Type 0} → Journaled V W → ℕ → Status → Journaled V W → Type 0
-FailsToOpen machine calls status new =
-    (arms : Arms) × (failed : ℕ) × Meets machine.arms calls status arms failed × (new ≡ after_device machine status arms failed)

@@ -1,6 +1,6 @@
 -- Messages, each in the order in which it was sent. A delivery takes any of them, as often as the steps say.
-use Rattle.std.specs.Prelude.{ℕ, ◌≡◌, List, Contains}
-use Rattle.syn_headline.specs.Side.{Request, ListAt, Fetch, Stage, Replace, Reply}
+use Rattle.std.specs.Prelude.{ℕ, Bool, true, false, ◌≡◌, List, Contains}
+use Rattle.syn_headline.specs.Side.{Request, Begin, ListAt, Fetch, Stage, Replace, Reply}
 
 pub data Which : Type 0 where
   Left : Which
@@ -9,6 +9,11 @@ pub data Which : Type 0 where
 abbrev pub other : Which → Which
 other Left = Right
 other Right = Left
+
+abbrev pub is_side : Which → Which → Bool
+is_side Left Left = true
+is_side Right Right = true
+is_side _ _ = false
 
 -- a request to a side, or the side's reply to it, with the session and number of the request
 pub data Message : Type 0 where
@@ -31,6 +36,7 @@ NumbersTell sent = (side : Which) (session n : ℕ) (a b : Request) →
 
 -- the two ask for the same thing
 abbrev pub IsRepeat : Request → Request → Type 0
+IsRepeat (Begin a) (Begin b) = Unit {0}
 IsRepeat (ListAt p) (ListAt q) = p ≡ q
 IsRepeat (Fetch p k m) (Fetch q l n) = (p ≡ q) × (m ≡ n)
 IsRepeat (Stage i m a) (Stage j n b) = (i ≡ j) × (m ≡ n)

@@ -3,8 +3,8 @@ use Rattle.std.specs.Prelude.{ℕ, ◌≡◌, List, map, Option, All}
 use Rattle.syn_model.specs.Path.{Path, parent}
 use Rattle.syn_model.specs.Tree.{Tree, subtree}
 use Rattle.syn_model.specs.Dirty.{Scan, IsScanBy}
-use Rattle.syn_headline.specs.Side.{Begin, ListAt, Fetch, Begun, Listed, NotDir, Piece}
-use Rattle.syn_headline.specs.Network.{Which, Left, Right, other, Sent, WasAnswered}
+use Rattle.syn_headline.specs.Side.{Begin, ListAt, Begun, Listed, NotDir}
+use Rattle.syn_headline.specs.Network.{Which, Left, Right, Sent, WasAnswered}
 use Rattle.syn_model.specs.Decision.{Item, path_of, ToLeft, ToRight}
 use Rattle.syn_model.specs.Plan.{plan as items_of}
 
@@ -63,15 +63,3 @@ abbrev pub WritesTo : Item → Which → Path → Type 0
 WritesTo (ToLeft at) Left path = at ≡ path
 WritesTo (ToRight at) Right path = at ≡ path
 WritesTo _ _ _ = ⊥
-
--- a piece of the item's source was answered so, for what is to be written to a side
-abbrev pub IsPiece : Sent → Which → ℕ → Planned → ℕ → ℕ → List ℕ → Type 0
-IsPiece sent to session planned offset total bytes = WasAnswered sent (other to) session (Fetch (path_of planned.item) (seen_on planned (other to)).since offset) (Piece total bytes)
-
--- what is staged for an item was a piece of the source, at the same place
-abbrev pub IsFetched : Sent → Which → ℕ → Planned → ℕ → List ℕ → Type 0
-IsFetched sent to session planned offset bytes = (total : ℕ) × IsPiece sent to session planned offset total bytes
-
--- the source's pieces said that this is the length of the whole
-abbrev pub IsTotal : Sent → Which → ℕ → Planned → ℕ → Type 0
-IsTotal sent to session planned total = (offset : ℕ) × (bytes : List ℕ) × IsPiece sent to session planned offset total bytes

@@ -1,50 +1,52 @@
 -- A session that carries one file each way: the steps of the coordinator, and the whole run.
-use Rattle.syn_headline.proofs.PlanLemmas.{begun-more}
-use Rattle.syn_headline.specs.Report.{IsSettled}
-use Rattle.std.proofs.Common.{◌≤◌, ◌-◌, ◌≡◌, ◌≢◌, ◌<◌, List, [], ◌∷◌, map, take, drop, refl, sym, subst, Some, None, arith, inl, inr}
-use Rattle.std.specs.Prelude.{Contains}
+use Rattle.std.proofs.Common.{◌-◌, ◌≡◌, ◌<◌, List, [], ◌∷◌, map, take, refl, sym, ap, ◌∙◌, subst, Some, None, arith, inl, nat_le, true}
 use Rattle.std.specs.FinMap.{entries}
 use Rattle.std.proofs.lemmas.List.Elements.{All-nil, All-cons, All-from_recursion}
 use Rattle.sha2.specs.Sha256.{sha256}
-use Rattle.syn_model.specs.Path.{Path, IsName, IsPath, root}
+use Rattle.syn_model.specs.Path.{root}
 use Rattle.syn_model.specs.Tree.{Pair, Directory, empty_directory, replace}
 use Rattle.syn_model.specs.Limits.{children}
 use Rattle.syn_model.specs.Mark.{mark}
 use Rattle.syn_model.specs.Event.{Edited, Replaced, AreBytes}
 use Rattle.syn_model.specs.History.{tree_of}
-use Rattle.syn_model.specs.Archive.{Session, Recorded, CanKeep, new_archive}
+use Rattle.syn_model.specs.Archive.{Recorded, CanKeep, new_archive}
+use Rattle.syn_model.specs.Dirty.{IsScanBy}
 use Rattle.syn_model.proofs.TreeLemmas.{subtree-replace}
 use Rattle.syn_witness.specs.Rows.{file_bytes}
-use Rattle.syn_headline.specs.Side.{ListAt, Begun, Listed, Piece, Staged, Done, token_of}
-use Rattle.syn_headline.specs.Network.{Which, Left, Right, WasAnswered}
-use Rattle.syn_headline.specs.Planning.{IsPlanOf, IsScanOf, HasBegun, SeesBoth}
-use Rattle.syn_headline.specs.World.{MakesPlan, Edits, Runs, Start, Deliver, Steps, IsOfSession, IsDue, done, IsNext, StartsFrom, goes_on, ended, EndsTaken}
+use Rattle.syn_headline.specs.Machine.{record_size}
+use Rattle.syn_headline.specs.Side.{Begin, ListAt, Fetch, Stage, Replace, Begun, Listed, NotDir, Piece, Staged, Done, token_of}
+use Rattle.syn_headline.specs.Network.{Which, Left, Right}
+use Rattle.syn_headline.specs.Planning.{SeesBoth}
+use Rattle.syn_headline.specs.Coordinator.{MakesPlan, WasTaken, BothBegun, fault_of, hearing, start_of, makes, stands, done}
+use Rattle.syn_headline.specs.Coordinator as coordinator
+use Rattle.syn_headline.specs.World.{Edits, Runs, Start, Deliver, Steps}
 use Rattle.syn_headline.specs.Headline.{IsQuietSession, IsNoEdit, formatted, stores_of}
-use Rattle.syn_witness.specs.Witness.{opened_world, a_path, b_path, put_one, put_two, one, two, complete, HasBoth, FilesAreExchanged}
-use Rattle.syn_witness.proofs.WitnessTrees.{get_by, replace-entries, fits_archive_by}
-use Rattle.syn_headline.specs.Side.{record_size}
 use Rattle.syn_model.specs.MarkSpelling.{kept_spelling}
-use Rattle.syn_witness.proofs.WitnessFiles.{letter_fits, letter_size, alone, with_file, digest, alone-entries, file_mark-entries, put-entries, marked_whole, root_only, path_of_letter, mark_is_part}
+use Rattle.syn_witness.specs.Witness.{opened_world, a_path, b_path, put_one, put_two, one, two, complete, HasBoth, FilesAreExchanged}
+use Rattle.syn_witness.proofs.WitnessTrees.{get_by, replace-entries, fits_archive_by, children_by}
+use Rattle.syn_witness.proofs.WitnessFiles.{letter_size, alone, with_file, digest, alone-entries, file_mark-entries, put-entries, marked_whole, root_only, path_of_letter, mark_is_part}
 use Rattle.syn_witness.proofs.WitnessScans.{left_history, left_scan, left-entries, left_marks-entries, left_part}
 use Rattle.syn_witness.proofs.ExchangeScans.{right_history, right_scan, right-entries, right_marks-entries, right_part, plan_is}
-use Rattle.syn_witness.proofs.WitnessSteps.{takes_none, takes_one, meets_unarmed, none_refused, runs_on_from, goes, takes, both_sent, up_not_down}
+use Rattle.syn_witness.proofs.WitnessMessages.{number_of}
+use Rattle.syn_witness.proofs.WitnessSteps.{took, runs_with, starts_so, asks_so, goes_on_so, ends_so, keeps_so, recorded, runs_on_from}
 use Rattle.syn_witness.proofs.WitnessLemmas.{letter_a}
-use Rattle.syn_witness.proofs.ExchangeSides.{scans, listed_at, made, two_bytes, right_done, left_done, begun_archive, first_archive, both_archive, messages, first_planned, second_planned, plan, both_begin, right_begins, both_list, right_lists, left_fetches, right_stages, right_replaces, right_fetches, left_stages, left_replaces, first_edited, both_edited, started, left_begun, both_begun, right_awaited, listing, left_listed, both_listed, right_list_awaited, fetching, fetched, staging, staged, replacing, replaced, second_fetching, second_fetched, second_staging, second_staged, second_replacing, second_replaced, exchanged, tells, once, edits_left, letter_b, edits_right, begins_left, begins_right, lists_left, lists_right, stays, fetches_first, stages_first, replaces_first, fetches_second, stages_second, replaces_second}
+use Rattle.syn_witness.proofs.WitnessSession.{root_lawful, none_there}
+use Rattle.syn_witness.proofs.ExchangeSides.{scans, listed_at, made, two_bytes, right_done, left_done, begun_archive, first_archive, both_archive, first_planned, second_planned, plan, both_begin, right_begins, both_list, right_lists, left_fetches, right_stages, right_replaces, right_fetches, left_stages, left_replaces, first_edited, both_edited, started, left_begun, both_begun, right_awaited, listing, left_listed, both_listed, right_list_awaited, fetching, fetched, staging, staged, replacing, replaced, second_fetching, second_fetched, second_staging, second_staged, second_replacing, second_replaced, exchanged, edits_left, letter_b, edits_right, begins_left, begins_right, lists_left, lists_right, stays, fetches_first, stages_first, replaces_first, fetches_second, stages_second, replaces_second, transcript}
 
 -- The plan is of what the sides listed
-have_begun : (side : Which) → HasBegun (take 4 messages) side 1
-have_begun Left = record { pair = 7; position = 2; begun = record { number = 0; asked = (0, omega arith, refl); answered = (2, omega arith, refl) } }
-have_begun Right = record { pair = 7; position = 2; begun = record { number = 0; asked = (1, omega arith, refl); answered = (3, omega arith, refl) } }
+have_begun : BothBegun (take 4 transcript)
+have_begun Left = (7, 2, (0, (0, omega arith, refl)))
+have_begun Right = (7, 2, (0, (1, omega arith, refl)))
 
-none_there : (path : Path) → ¬ Contains [] path
-none_there path (k, less, e) = omega (arith, less)
+two_begun : BothBegun (take 2 transcript)
+two_begun Left = (7, 2, (0, (0, omega arith, refl)))
+two_begun Right = (7, 2, (0, (1, omega arith, refl)))
 
-both_scanned : (side : Which) → IsScanOf (take 8 messages) side 1 (scans side) (listed_at side)
+both_scanned : (side : Which) → IsScanBy (λ path position entries. WasTaken (take 4 transcript) side (ListAt path) (Listed position entries)) (λ path position. WasTaken (take 4 transcript) side (ListAt path) (NotDir position)) (scans side) (listed_at side)
 both_scanned Left = record {
   tree = marked_whole (tree_of left_history) 97 (49 ∷ []) letter_a left-entries;
   fits = fits_archive_by left_scan.marks (with_file 97 (digest (49 ∷ []))) left_marks-entries;
-  listed = λ path there stable. subst (λ at. WasAnswered (take 8 messages) Left 1 (ListAt at) (Listed 2 (children left_scan.marks at)))
-      (sym (root_only left_scan.marks 97 (sha256 (49 ∷ [])) left_marks-entries path there)) (record { number = 1; asked = (4, omega arith, refl); answered = (6, omega arith, refl) });
+  listed = λ path there stable. subst (λ at. WasTaken (take 4 transcript) Left (ListAt at) (Listed 2 (children left_scan.marks at))) (sym (root_only left_scan.marks 97 (sha256 (49 ∷ [])) left_marks-entries path there)) (1, (2, omega arith, refl));
   ordered = λ path name there. omega arith;
   not_dir = λ path c. absurd (none_there path c);
   nothing_below = λ path c. absurd (none_there path c);
@@ -52,8 +54,7 @@ both_scanned Left = record {
 both_scanned Right = record {
   tree = marked_whole (tree_of right_history) 98 (50 ∷ []) letter_b right-entries;
   fits = fits_archive_by right_scan.marks (with_file 98 (digest (50 ∷ []))) right_marks-entries;
-  listed = λ path there stable. subst (λ at. WasAnswered (take 8 messages) Right 1 (ListAt at) (Listed 2 (children right_scan.marks at)))
-      (sym (root_only right_scan.marks 98 (sha256 (50 ∷ [])) right_marks-entries path there)) (record { number = 1; asked = (5, omega arith, refl); answered = (7, omega arith, refl) });
+  listed = λ path there stable. subst (λ at. WasTaken (take 4 transcript) Right (ListAt at) (Listed 2 (children right_scan.marks at))) (sym (root_only right_scan.marks 98 (sha256 (50 ∷ [])) right_marks-entries path there)) (1, (3, omega arith, refl));
   ordered = λ path name there. omega arith;
   not_dir = λ path c. absurd (none_there path c);
   nothing_below = λ path c. absurd (none_there path c);
@@ -67,92 +68,39 @@ sees_second : SeesBoth scans listed_at second_planned
 sees_second Left = (refl, refl)
 sees_second Right = (sym right_part, refl)
 
-plans : IsPlanOf (take 8 messages) made
-plans = record {
-  begun = λ side. begun-more (take 4 messages) (drop 4 (take 8 messages)) side 1 (have_begun side);
+makes_plan : MakesPlan (hearing right_lists (took Right 1 (ListAt root) (Listed 2 (children right_scan.marks root)))) begun_archive made
+makes_plan = record {
+  of_session = refl;
+  prefers_none = refl;
+  archive_is = refl;
+  begun = have_begun;
   scanned = both_scanned;
   items = sym plan_is;
   seen = All-cons (SeesBoth scans listed_at) first_planned (second_planned ∷ []) sees_first (All-cons (SeesBoth scans listed_at) second_planned [] sees_second (All-nil (SeesBoth scans listed_at)));
 }
 
-makes : MakesPlan (take 8 messages) begun_archive [] 1 made
-makes = record { of_session = refl; once = All-nil (λ earlier. earlier.session ≢ 1); prefers_none = refl; archive_is = refl; is = plans }
-
 -- The steps of the coordinator
-starts : Steps both_edited Start started
-starts = inr (
-  up_not_down,
-  inr (
-    refl,
-    started,
-    (
-      goes both_edited [] (IsNext new_archive) (StartsFrom new_archive) begun_archive (Some both_begin) (take 2 messages) (Session 1 ∷ []) []
-          refl (All-cons (IsNext new_archive) (Session 1) [] refl (All-nil (IsNext new_archive))) (record { lawful = tt; not_refused = refl }, tt) refl
-          (refl, refl, refl) (refl, both_sent (take 2 messages) both_begin ((0, omega arith, refl), tt) ((1, omega arith, refl), tt), (omega arith, omega arith, omega arith)) (tells 2) (once 2)
-          (All-from_recursion (IsOfSession 7 [] both_begin) (take 2 messages) ((refl, (omega arith, omega arith), refl), ((refl, (omega arith, omega arith), refl), tt))),
-      refl,
-      inl (refl, refl),
-      (refl, tt, refl, refl),
-      meets_unarmed _ _ _ refl,
-    ),
-    refl,
-  ),
-)
+begins_session : Steps both_edited Start started
+begins_session = starts_so both_edited 1 refl refl refl refl (omega arith, omega arith) started refl
 
 takes_left_begun : Steps both_begun (Deliver 2) right_awaited
-takes_left_begun = takes 1 both_begun Left 0 (Begun 2) [] [] begun_archive (Some right_begins) [] [] [] refl (refl, tt, refl, refl) (refl, refl) (inl (refl, refl)) (λ P. inl (refl, inl refl, none_refused P)) (All-nil (IsDue both_begin [] Left 0 (Begun 2))) tt refl
-    (goes_on right_begins refl refl) refl (refl, both_sent (take 4 messages) right_begins tt ((1, omega arith, refl), tt), (omega arith, omega arith, omega arith)) (tells 4) (once 4)
-    (All-nil (IsOfSession 7 (take 4 messages) right_begins))
-
-root_lawful : IsPath root
-root_lawful = record { names = All-nil IsName; not_deep = omega arith; not_long = omega arith }
+takes_left_begun = goes_on_so both_begun both_begin Left 0 (Begin 7) (Begun 2) None [] (start_of both_begun.coordinator both_begin) [] [] [] refl refl refl coordinator.stays (stands (start_of both_begun.coordinator both_begin)) refl
+    (asks_so number_of begun_archive right_begins [] [] tt tt tt (omega arith) (omega arith) ((refl, tt), tt, (refl, tt)) (omega arith, omega arith, omega arith))
 
 takes_right_begun : Steps right_awaited (Deliver 3) listing
-takes_right_begun = takes 1 right_awaited Right 0 (Begun 2) [] [] begun_archive (Some both_list) (drop 4 (take 6 messages)) [] [] refl (refl, tt, refl, refl) (refl, refl) (inl (refl, refl)) (λ P. inl (refl, inl refl, none_refused P)) (All-nil (IsDue right_begins [] Right 0 (Begun 2))) tt refl
-    (goes_on both_list refl refl) refl (refl, both_sent (take 6 messages) both_list ((4, omega arith, refl), tt) ((5, omega arith, refl), tt), (omega arith, omega arith, omega arith)) (tells 6) (once 6)
-    (All-from_recursion (IsOfSession 7 (take 4 messages) both_list) (drop 4 (take 6 messages)) ((refl, (omega arith, root_lawful), have_begun Left), ((refl, (omega arith, root_lawful), have_begun Right), tt)))
+takes_right_begun = goes_on_so right_awaited right_begins Right 0 (Begin 7) (Begun 2) None [] (start_of right_awaited.coordinator right_begins) [] (ListAt root ∷ []) (ListAt root ∷ []) refl refl refl coordinator.stays (stands (start_of right_awaited.coordinator right_begins)) refl
+    (asks_so number_of begun_archive (runs_with 1 (take 2 transcript) [] [] None 0 []) (ListAt root ∷ []) (ListAt root ∷ []) ((refl, two_begun, inl refl), tt) ((refl, two_begun, inl refl), tt) ((omega arith, root_lawful), ((omega arith, root_lawful), tt))
+    (omega arith) (omega arith) ((refl, (refl, tt)), (refl, tt), (refl, tt)) (omega arith, omega arith, omega arith))
+
+left_listing : fault_of (take 2 transcript) Left (ListAt root) (Listed 2 (children left_scan.marks root)) ≡ None
+left_listing = ap (λ entries. fault_of (take 2 transcript) Left (ListAt root) (Listed 2 entries)) (children_by left_scan.marks (with_file 97 (digest (49 ∷ []))) left_marks-entries)
+
+right_listing : fault_of (take 3 transcript) Right (ListAt root) (Listed 2 (children right_scan.marks root)) ≡ None
+right_listing = ap (λ entries. fault_of (take 3 transcript) Right (ListAt root) (Listed 2 entries)) (children_by right_scan.marks (with_file 98 (digest (50 ∷ []))) right_marks-entries)
 
 takes_left_listing : Steps both_listed (Deliver 6) right_list_awaited
-takes_left_listing = takes 1 both_listed Left 1 (Listed 2 (children left_scan.marks root)) [] [] begun_archive (Some right_lists) [] [] [] refl (refl, tt, refl, refl) (refl, refl) (inl (refl, refl)) (λ P. inl (refl, inl refl, none_refused P))
-    (All-nil (IsDue both_list [] Left 1 (Listed 2 (children left_scan.marks root)))) tt refl
-    (goes_on right_lists refl refl) refl (refl, both_sent (take 8 messages) right_lists tt ((5, omega arith, refl), tt), (omega arith, omega arith, omega arith)) (tells 8) (once 8)
-    (All-nil (IsOfSession 7 (take 8 messages) right_lists))
-
-takes_right_listing : Steps right_list_awaited (Deliver 7) fetching
-takes_right_listing = takes 1 right_list_awaited Right 1 (Listed 2 (children right_scan.marks root)) plan (made ∷ []) begun_archive (Some left_fetches) (drop 8 (take 9 messages)) [] [] refl (refl, tt, refl, refl) (refl, refl) (inr (made, makes, refl, refl)) (λ P. inl (refl, inl refl, none_refused P))
-    (All-nil (IsDue right_lists plan Right 1 (Listed 2 (children right_scan.marks root)))) tt refl
-    (goes_on left_fetches refl refl) refl (refl, both_sent (take 9 messages) left_fetches ((8, omega arith, refl), tt) tt, (omega arith, omega arith, omega arith)) (tells 9) (once 9)
-    (All-from_recursion (IsOfSession 7 (take 8 messages) left_fetches) (drop 8 (take 9 messages))
-    ((refl, (omega arith, (path_of_letter 97 letter_a, omega arith, omega arith)), (0, first_planned, refl, refl, refl)), tt))
-
-first_bytes_lawful : AreBytes file_bytes
-first_bytes_lawful = All-from_recursion (λ byte. byte < 256) file_bytes (omega arith, (omega arith, (omega arith, (omega arith, (omega arith, (omega arith, tt))))))
-
-takes_first_piece : Steps fetched (Deliver 9) staging
-takes_first_piece = takes 1 fetched Left 2 (Piece 6 file_bytes) plan [] begun_archive (Some right_stages) (drop 10 (take 11 messages)) [] [] refl (refl, tt, refl, refl) (refl, refl) (inl (refl, refl)) (λ P. inl (refl, inl refl, none_refused P))
-    (All-nil (IsDue left_fetches plan Left 2 (Piece 6 file_bytes))) tt refl
-    (goes_on right_stages refl refl) refl (refl, both_sent (take 11 messages) right_stages tt ((10, omega arith, refl), tt), (omega arith, omega arith, omega arith)) (tells 11) (once 11)
-    (All-from_recursion (IsOfSession 7 (take 10 messages) right_stages) (drop 10 (take 11 messages)) (
-      (
-        refl,
-        (omega arith, (omega arith, omega arith, (omega arith, omega arith, first_bytes_lawful))),
-        (first_planned, refl, (6, record { number = 2; asked = (8, omega arith, refl); answered = (9, omega arith, refl) })),
-      ),
-      tt,
-    ))
-
-takes_first_staged : Steps staged (Deliver 11) replacing
-takes_first_staged = takes 1 staged Right 2 Staged plan [] begun_archive (Some right_replaces) (drop 12 (take 13 messages)) [] [] refl (refl, tt, refl, refl) (refl, refl) (inl (refl, refl)) (λ P. inl (refl, inl refl, none_refused P))
-    (All-nil (IsDue right_stages plan Right 2 Staged)) tt refl
-    (goes_on right_replaces refl refl) refl (refl, both_sent (take 13 messages) right_replaces tt ((12, omega arith, refl), tt), (omega arith, omega arith, omega arith)) (tells 13) (once 13)
-    (All-from_recursion (IsOfSession 7 (take 12 messages) right_replaces) (drop 12 (take 13 messages)) (
-      (
-        refl,
-        (omega arith, (omega arith, path_of_letter 97 letter_a, omega arith, omega arith)),
-        (first_planned, refl, refl, refl, (0, file_bytes, record { number = 2; asked = (8, omega arith, refl); answered = (9, omega arith, refl) })),
-      ),
-      tt,
-    ))
+takes_left_listing = goes_on_so both_listed both_list Left 1 (ListAt root) (Listed 2 (children left_scan.marks root)) None [] (start_of both_listed.coordinator both_list) [] [] [] refl refl left_listing coordinator.stays (stands (start_of both_listed.coordinator both_list)) refl
+    (asks_so number_of begun_archive right_lists [] [] tt tt tt (omega arith) (omega arith) ((refl, (refl, (refl, tt))), tt, (refl, tt)) (omega arith, omega arith, omega arith))
 
 first-entries : entries first_archive.marks ≡ with_file 97 (digest (49 ∷ []))
 first-entries = put-entries empty_directory (mark one) 97 (digest (49 ∷ [])) alone-entries (file_mark-entries (49 ∷ []))
@@ -162,43 +110,6 @@ can_record_first = record {
   lawful = (path_of_letter 97 letter_a, mark_is_part (49 ∷ []));
   not_refused = rw (get_by empty_directory alone root alone-entries, fits_archive_by first_archive.marks (with_file 97 (digest (49 ∷ []))) first-entries) refl;
 }
-
-takes_first_done : Steps replaced (Deliver 13) second_fetching
-takes_first_done = takes 1 replaced Right 3 Done plan [] first_archive (Some right_fetches) (drop 14 (take 15 messages)) (Recorded a_path (mark one) ∷ []) [] refl (takes_one _ _ (letter_fits 97 (49 ∷ []) 4194252 (omega arith)), tt, refl, refl) (refl, refl) (inl (refl, refl)) (λ P. inl (refl, inl refl, none_refused P))
-    (All-cons (IsDue right_replaces plan Right 3 Done) (Recorded a_path (mark one)) [] (done 0 a_path 2 6 first_planned refl refl refl refl) (All-nil (IsDue right_replaces plan Right 3 Done)))
-    (can_record_first, tt) refl
-    (goes_on right_fetches refl refl) refl (refl, both_sent (take 15 messages) right_fetches tt ((14, omega arith, refl), tt), (omega arith, omega arith, omega arith)) (tells 15) (once 15)
-    (All-from_recursion (IsOfSession 7 (take 14 messages) right_fetches) (drop 14 (take 15 messages))
-    ((refl, (omega arith, (path_of_letter 98 letter_b, omega arith, omega arith)), (1, second_planned, refl, refl, refl)), tt))
-
-second_bytes_lawful : AreBytes two_bytes
-second_bytes_lawful = All-from_recursion (λ byte. byte < 256) two_bytes (omega arith, (omega arith, (omega arith, (omega arith, (omega arith, (omega arith, tt))))))
-
-takes_second_piece : Steps second_fetched (Deliver 15) second_staging
-takes_second_piece = takes 1 second_fetched Right 4 (Piece 6 two_bytes) plan [] first_archive (Some left_stages) (drop 16 (take 17 messages)) [] [] refl (takes_none _, tt, refl, refl) (refl, refl) (inl (refl, refl)) (λ P. inl (refl, inl refl, none_refused P))
-    (All-nil (IsDue right_fetches plan Right 4 (Piece 6 two_bytes))) tt refl
-    (goes_on left_stages refl refl) refl (refl, both_sent (take 17 messages) left_stages ((16, omega arith, refl), tt) tt, (omega arith, omega arith, omega arith)) (tells 17) (once 17)
-    (All-from_recursion (IsOfSession 7 (take 16 messages) left_stages) (drop 16 (take 17 messages)) (
-      (
-        refl,
-        (omega arith, (omega arith, omega arith, (omega arith, omega arith, second_bytes_lawful))),
-        (second_planned, refl, (6, record { number = 4; asked = (14, omega arith, refl); answered = (15, omega arith, refl) })),
-      ),
-      tt,
-    ))
-
-takes_second_staged : Steps second_staged (Deliver 17) second_replacing
-takes_second_staged = takes 1 second_staged Left 3 Staged plan [] first_archive (Some left_replaces) (drop 18 (take 19 messages)) [] [] refl (takes_none _, tt, refl, refl) (refl, refl) (inl (refl, refl)) (λ P. inl (refl, inl refl, none_refused P))
-    (All-nil (IsDue left_stages plan Left 3 Staged)) tt refl
-    (goes_on left_replaces refl refl) refl (refl, both_sent (take 19 messages) left_replaces ((18, omega arith, refl), tt) tt, (omega arith, omega arith, omega arith)) (tells 19) (once 19)
-    (All-from_recursion (IsOfSession 7 (take 18 messages) left_replaces) (drop 18 (take 19 messages)) (
-      (
-        refl,
-        (omega arith, (omega arith, path_of_letter 98 letter_b, omega arith, omega arith)),
-        (second_planned, refl, refl, refl, (0, two_bytes, record { number = 4; asked = (14, omega arith, refl); answered = (15, omega arith, refl) })),
-      ),
-      tt,
-    ))
 
 abbrev both_marks : List Pair
 both_marks = (root, Directory) ∷ (a_path, digest (49 ∷ [])) ∷ (b_path, digest (50 ∷ [])) ∷ []
@@ -211,24 +122,54 @@ can_record_second =
       not_refused = rw (get_by first_archive.marks (with_file 97 (digest (49 ∷ []))) root first-entries, fits_archive_by both_archive.marks both_marks both) refl;
     }
 
-takes_second_done_ends : EndsTaken second_replaced exchanged Left 4 plan Done left_replaces (complete 2)
-takes_second_done_ends = record {
-  session_is = refl;
-  cause = tt;
-  incomplete = λ not_whole. cc;
-  complete = λ _. (refl, refl);
-  made = λ _. (0, made, omega arith, refl, refl);
-  settled = λ _. All-from_recursion (λ planned. IsSettled (Recorded a_path (mark one) ∷ Recorded b_path (mark two) ∷ []) (complete 2) planned.item) plan (inl refl, (inl refl, tt));
-  conflicts = λ _. refl;
-}
+takes_right_listing : Steps right_list_awaited (Deliver 7) fetching
+takes_right_listing = goes_on_so right_list_awaited right_lists Right 1 (ListAt root) (Listed 2 (children right_scan.marks root)) (Some plan) (made ∷ []) (start_of right_list_awaited.coordinator right_lists) [] (Fetch a_path 2 0 ∷ []) [] refl refl right_listing (makes made refl makes_plan)
+    (stands (start_of right_list_awaited.coordinator right_lists)) refl
+    (asks_so number_of begun_archive (runs_with 1 (take 4 transcript) [] [] (Some plan) 0 []) (Fetch a_path 2 0 ∷ []) [] ((first_planned, refl, (refl, refl, can_record_first.not_refused)), tt) tt ((omega arith, (path_of_letter 97 letter_a, omega arith, omega arith)), tt)
+    (omega arith) (omega arith) ((refl, (refl, (refl, (refl, tt)))), (refl, tt), tt) (omega arith, omega arith, omega arith))
 
-second_fits : record_size (kept_spelling (Recorded b_path (mark two))) ≤ 4194252 - record_size (kept_spelling (Recorded a_path (mark one)))
-second_fits = letter_fits 98 (50 ∷ []) _ (subst (λ size. 42 ≤ 4194252 - size) (sym (letter_size 97 (49 ∷ []))) (omega arith))
+first_bytes_lawful : AreBytes file_bytes
+first_bytes_lawful = All-from_recursion (λ byte. byte < 256) file_bytes (omega arith, (omega arith, (omega arith, (omega arith, (omega arith, (omega arith, tt))))))
+
+takes_first_piece : Steps fetched (Deliver 9) staging
+takes_first_piece = goes_on_so fetched left_fetches Left 2 (Fetch a_path 2 0) (Piece 6 file_bytes) (Some plan) [] (start_of fetched.coordinator left_fetches) [] [] (Stage 0 0 file_bytes ∷ []) refl refl refl coordinator.stays (stands (start_of fetched.coordinator left_fetches)) refl
+    (asks_so number_of begun_archive (runs_with 1 (take 5 transcript) [] [] (Some plan) 0 []) [] (Stage 0 0 file_bytes ∷ []) tt ((refl, (first_planned, refl, (refl, 6, (2, (4, omega arith, refl))))), tt) ((omega arith, (omega arith, omega arith, (omega arith, omega arith, first_bytes_lawful))), tt)
+    (omega arith) (omega arith) ((refl, (refl, (refl, (refl, (refl, tt))))), tt, (refl, tt)) (omega arith, omega arith, omega arith))
+
+takes_first_staged : Steps staged (Deliver 11) replacing
+takes_first_staged = goes_on_so staged right_stages Right 2 (Stage 0 0 file_bytes) Staged (Some plan) [] (start_of staged.coordinator right_stages) [] [] (Replace 0 a_path 2 6 ∷ []) refl refl refl coordinator.stays (stands (start_of staged.coordinator right_stages)) refl
+    (asks_so number_of begun_archive (runs_with 1 (take 6 transcript) [] [] (Some plan) 0 []) [] (Replace 0 a_path 2 6 ∷ []) tt ((refl, (first_planned, refl, (refl, refl, 0, file_bytes, (2, (4, omega arith, refl))))), tt) ((omega arith, (omega arith, path_of_letter 97 letter_a, omega arith, omega arith)), tt)
+    (omega arith) (omega arith) ((refl, (refl, (refl, (refl, (refl, (refl, tt)))))), tt, (refl, tt)) (omega arith, omega arith, omega arith))
+
+takes_first_done : Steps replaced (Deliver 13) second_fetching
+takes_first_done =
+    let walk = start_of replaced.coordinator right_replaces in
+    goes_on_so replaced right_replaces Right 3 (Replace 0 a_path 2 6) Done (Some plan) [] (recorded 7 walk (Recorded a_path (mark one))) (Recorded a_path (mark one) ∷ []) [] (Fetch b_path 2 0 ∷ []) refl refl refl coordinator.stays
+    (keeps_so 7 plan (took Right 3 (Replace 0 a_path 2 6) Done) walk (Recorded a_path (mark one)) first_planned refl (done a_path 2 6 refl refl refl) can_record_first refl refl refl (ap (λ size. nat_le size 4194252) (letter_size 97 (49 ∷ [])))) refl
+    (asks_so number_of first_archive (runs_with 1 (take 7 transcript) [] [] (Some plan) 1 (Recorded a_path (mark one) ∷ [])) [] (Fetch b_path 2 0 ∷ []) tt ((second_planned, refl, (refl, refl, can_record_second.not_refused)), tt) ((omega arith, (path_of_letter 98 letter_b, omega arith, omega arith)), tt)
+    (omega arith) (omega arith) ((refl, (refl, (refl, (refl, (refl, (refl, (refl, tt))))))), tt, (refl, tt)) (omega arith, omega arith, omega arith))
+
+second_bytes_lawful : AreBytes two_bytes
+second_bytes_lawful = All-from_recursion (λ byte. byte < 256) two_bytes (omega arith, (omega arith, (omega arith, (omega arith, (omega arith, (omega arith, tt))))))
+
+takes_second_piece : Steps second_fetched (Deliver 15) second_staging
+takes_second_piece = goes_on_so second_fetched right_fetches Right 4 (Fetch b_path 2 0) (Piece 6 two_bytes) (Some plan) [] (start_of second_fetched.coordinator right_fetches) [] (Stage 1 0 two_bytes ∷ []) [] refl refl refl coordinator.stays (stands (start_of second_fetched.coordinator right_fetches)) refl
+    (asks_so number_of first_archive (runs_with 1 (take 8 transcript) [] [] (Some plan) 1 (Recorded a_path (mark one) ∷ [])) (Stage 1 0 two_bytes ∷ []) [] ((refl, (second_planned, refl, (refl, 6, (4, (7, omega arith, refl))))), tt) tt ((omega arith, (omega arith, omega arith, (omega arith, omega arith, second_bytes_lawful))), tt)
+    (omega arith) (omega arith) ((refl, (refl, (refl, (refl, (refl, (refl, (refl, (refl, tt)))))))), (refl, tt), tt) (omega arith, omega arith, omega arith))
+
+takes_second_staged : Steps second_staged (Deliver 17) second_replacing
+takes_second_staged = goes_on_so second_staged left_stages Left 3 (Stage 1 0 two_bytes) Staged (Some plan) [] (start_of second_staged.coordinator left_stages) [] (Replace 1 b_path 2 6 ∷ []) [] refl refl refl coordinator.stays (stands (start_of second_staged.coordinator left_stages)) refl
+    (asks_so number_of first_archive (runs_with 1 (take 9 transcript) [] [] (Some plan) 1 (Recorded a_path (mark one) ∷ [])) (Replace 1 b_path 2 6 ∷ []) [] ((refl, (second_planned, refl, (refl, refl, 0, two_bytes, (4, (7, omega arith, refl))))), tt) tt ((omega arith, (omega arith, path_of_letter 98 letter_b, omega arith, omega arith)), tt)
+    (omega arith) (omega arith) ((refl, (refl, (refl, (refl, (refl, (refl, (refl, (refl, (refl, tt))))))))), (refl, tt), tt) (omega arith, omega arith, omega arith))
+
+second_fits : nat_le (record_size (kept_spelling (Recorded b_path (mark two)))) (4194252 - record_size (kept_spelling (Recorded a_path (mark one)))) ≡ true
+second_fits = ap (λ size. nat_le size (4194252 - record_size (kept_spelling (Recorded a_path (mark one))))) (letter_size 98 (50 ∷ [])) ∙ ap (λ size. nat_le 42 (4194252 - size)) (letter_size 97 (49 ∷ []))
 
 takes_second_done : Steps second_replaced (Deliver 19) exchanged
-takes_second_done = takes 1 second_replaced Left 4 Done plan [] both_archive None [] (Recorded b_path (mark two) ∷ []) ((complete 2, 9) ∷ []) refl (takes_one _ _ second_fits, tt, refl, refl) (refl, refl) (inl (refl, refl)) (λ P. inr (left_replaces, complete 2, refl, refl, up_not_down, refl, takes_second_done_ends, record { done = refl; marked = refl }, none_refused P))
-    (All-cons (IsDue left_replaces plan Left 4 Done) (Recorded b_path (mark two)) [] (done 1 b_path 2 6 second_planned refl refl refl refl) (All-nil (IsDue left_replaces plan Left 4 Done)))
-    (can_record_second, tt) refl ended tt tt (tells 20) (once 20) refl
+takes_second_done =
+    let walk = start_of second_replaced.coordinator left_replaces in
+    ends_so second_replaced left_replaces Left 4 (Replace 1 b_path 2 6) Done plan [] (recorded 7 walk (Recorded b_path (mark two))) (Recorded b_path (mark two) ∷ []) refl refl refl coordinator.stays
+    (keeps_so 7 plan (took Left 4 (Replace 1 b_path 2 6) Done) walk (Recorded b_path (mark two)) second_planned refl (done b_path 2 6 refl refl refl) can_record_second refl refl refl second_fits) refl refl
 
 -- The whole run
 left_has : HasBoth (tree_of left_done.history) one two
@@ -242,7 +183,7 @@ right_has = record { first_there = subtree-replace (replace empty_directory b_pa
 archive_has : HasBoth both_archive.marks (mark one) (mark two)
 archive_has = record { first_there = stays empty_directory (mark one) (mark two) a_path b_path refl; second_there = subtree-replace first_archive.marks b_path (mark two) }
 
-quiet : IsQuietSession formatted exchanged (complete 2) (record { left = Edited 1 put_one ∷ []; right = Edited 2 put_two ∷ []; archive = new_archive }) (stores_of exchanged)
+quiet : IsQuietSession formatted exchanged.acknowledged exchanged.reports (complete 2) (record { left = Edited 1 put_one ∷ []; right = Edited 2 put_two ∷ []; archive = new_archive }) (stores_of exchanged)
 quiet = record {
   acks = 9;
   reported = (0, omega arith, refl);
@@ -264,7 +205,7 @@ quiet = record {
 }
 
 begins : Runs opened_world (Edits Left 1 put_one ∷ Edits Right 2 put_two ∷ Start ∷ map Deliver (0 ∷ 1 ∷ 2 ∷ 3 ∷ [])) listing
-begins = (first_edited, edits_left, (both_edited, edits_right, (started, starts, (left_begun, begins_left, (both_begun, begins_right, (right_awaited, takes_left_begun, (listing, takes_right_begun, refl)))))))
+begins = (first_edited, edits_left, (both_edited, edits_right, (started, begins_session, (left_begun, begins_left, (both_begun, begins_right, (right_awaited, takes_left_begun, (listing, takes_right_begun, refl)))))))
 
 lists_both : Runs listing (map Deliver (4 ∷ 5 ∷ 6 ∷ 7 ∷ [])) fetching
 lists_both = (left_listed, lists_left, (both_listed, lists_right, (right_list_awaited, takes_left_listing, (fetching, takes_right_listing, refl))))

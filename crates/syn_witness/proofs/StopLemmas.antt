@@ -1,23 +1,23 @@
 -- Without a stop among the steps no machine goes down, and a device call that is armed comes.
-use Rattle.std.proofs.Common.{nat_le, ◌≡◌, ◌≢◌, ◌-◌, ℕ, suc, Bool, true, false, if◌then◌else◌, List, [], ◌∷◌, ◌++◌, append-nil, map, refl, sym, ap, ◌∙◌, subst, Option, Some, None, arith, inl, inr, slice_get}
+use Rattle.std.proofs.Common.{◌≡◌, ◌≢◌, ◌-◌, ℕ, suc, Bool, true, false, true≢false, if◌then◌else◌, List, [], ◌∷◌, ◌++◌, append-nil, map, refl, sym, ap, ◌∙◌, subst, Option, arith, inl, inr, slice_get}
 use Rattle.std.specs.Prelude.{Contains}
 use Rattle.std.proofs.lemmas.List.Elements.{Contains-append_right}
-use Rattle.syn_model.specs.Refusal.{Refusal, Device, Cause}
-use Rattle.syn_model.specs.Refusal as why
-use Rattle.syn_model.specs.Event.{Event, Edited, IsLawfulEvent}
-use Rattle.syn_model.specs.Archive.{Kept}
+use Rattle.syn_model.specs.Refusal.{Refusal, Device, Memory, Full, Cause}
+use Rattle.syn_model.specs.Event.{Event, Edited}
+use Rattle.syn_model.specs.History.{History}
+use Rattle.syn_model.specs.Archive.{Archive, Kept, Session}
+use Rattle.syn_headline.specs.Machine.{Status, Up, Halted, Down, Arms, IsBefore, Journaled, Layout, Meets, all_made, one_fails, one_stops, Writes, idle, written, unwritten, Compacts, compacted, not_compacted, Opens, opened, recovered}
 use Rattle.syn_headline.specs.Side.{Request, Reply}
-use Rattle.syn_headline.specs.Network.{Which, Left, Right, Message, Asks, Answers}
-use Rattle.syn_headline.specs.Arms.{Arms, IsBefore, Meets, all_made, one_fails, one_stops}
-use Rattle.syn_headline.specs.Planning.{Log}
-use Rattle.syn_headline.specs.Side.{room_behind}
-use Rattle.syn_model.specs.MarkSpelling.{archive_spelling}
-use Rattle.syn_model.specs.Limits.{greatest}
-use Rattle.syn_headline.specs.World.{Status, Up, Halted, Down, Machine, At, Coordinator, World, SideMachine, CoordinatorMachine, Running, side_of, set_side, Step, Edits, Start, Deliver, Tick, Checkpoint, Fail, Stop, Open, Reopen, Writes, written, failed, cut, SideGoes, Opens, opened, recovered, OpensArchive, archive_opened, archive_recovered, TakesRequest, answered, request_failed, request_cut, side_down, CoordinatorGoes, TakesAnswer, taken, ignored, coordinator_down, Delivers, OpensMachine, refuses_with, is_halted, status_of, arms_of, set_device, answered_by, UnlessDown, edit_causes, start_causes, Starts, Reopens, Calls, Steps, Runs, CallsArchive, records, checkpointed, checkpointing, CompactsArchive, Compacts, compacted, compacting_failed, compacting_cut}
+use Rattle.syn_headline.specs.SideMachine.{SideMachine, side_layout, SideTakes, answers, adds, causes_of}
+use Rattle.syn_headline.specs.Network.{Which, Left, Right, Message}
 use Rattle.syn_headline.specs.Acknowledged.{Happened}
+use Rattle.syn_headline.specs.Planning.{Planned}
+use Rattle.syn_headline.specs.Coordinator.{CoordinatorMachine, Call, Walk, Exchange, Running, archive_layout, past, refusing, start_of, Keeps, writes, cut_behind, Takes, CoordinatorTakes, CoordinatorStarts, CoordinatorTicks, Advances, start_causes}
+use Rattle.syn_headline.specs.Coordinator as coordinator
+use Rattle.syn_headline.specs.World.{World, Machine, At, Coordinator, says, Step, Edits, Start, Deliver, Tick, Checkpoint, Fail, Stop, Open, Reopen, side_of, side_goes, side_writes, coordinator_goes, status_of, arms_of, refuses_with, is_halted, answered_by, UnlessDown, Calls, EditsSide, edits, Starts, CompactsMachine, compacts_side, compacts_archive, Delivers, no_message, to_no_side, to_side, to_coordinator, Ticks, ticks, OpensMachine, opens_side, opens_archive, set_device, FailsDevice, fails_device, Reopens, reopens, reopen_fails, reopen_is_cut, no_memory_to_reopen, full_generation, generation_of, Steps, Runs}
+use Rattle.syn_headline.specs.World as world
 use Rattle.syn_headline.specs.Headline.{IsStart}
 use Rattle.syn_witness.specs.Forbidden.{StaysWithoutStop, ArmedCallsCome}
-use Rattle.syn_headline.proofs.WorldLemmas.{room_after}
 
 -- a machine that is not down and has no stop to come
 abbrev IsSafe : Status → Arms → Type 0
@@ -25,6 +25,9 @@ IsSafe status arms = (status ≢ Down) × (arms.stop ≡ 0)
 
 abbrev AllSafe : World → Type 0
 AllSafe world = (machine : Machine) → IsSafe (status_of world machine) (arms_of world machine)
+
+abbrev IsSafeJournal : {V W : Type 0} → Journaled V W → Type 0
+IsSafeJournal journal = IsSafe journal.status journal.arms
 
 none_left : (stop calls : ℕ) → stop ≡ 0 → stop - calls ≡ 0
 none_left stop calls e = omega (arith, e)
@@ -36,141 +39,164 @@ halted_not_down : Halted ≢ Down
 halted_not_down e = cc
 
 -- calls that meet no stop
-meets_safe : (arms : Arms) (whole next : ℕ) (status : Status) (after : Arms) → arms.stop ≡ 0 → Meets arms whole next status after → IsSafe status after
-meets_safe arms whole next _ _ none (all_made fail stop) = (up_not_down, none_left arms.stop whole none)
-meets_safe arms whole next _ _ none (one_fails made from up_to fail stop) = (halted_not_down, none_left arms.stop (suc made) none)
-meets_safe arms whole next _ _ none (one_stops made from up_to fail stop) = absurd (omega (arith, none, stop))
+meets_safe : (arms : Arms) (calls : ℕ) (status : Status) (after : Arms) (failed : ℕ) → arms.stop ≡ 0 → Meets arms calls status after failed → IsSafe status after
+meets_safe arms calls _ _ _ none (all_made fail stop) = (up_not_down, none_left arms.stop calls none)
+meets_safe arms calls _ _ _ none (one_fails made few fail stop) = (halted_not_down, none_left arms.stop (suc made) none)
+meets_safe arms calls _ _ _ none (one_stops made failed few fail stop once at) = absurd (omega (arith, none, stop))
 
--- a world with one other machine
-side_safe : (old : World) → AllSafe old → (which : Which) (machine : SideMachine) → IsSafe machine.status machine.arms → AllSafe (set_side old which machine)
-side_safe old h Left machine s (At Left) = s
-side_safe old h Left machine s (At Right) = h (At Right)
-side_safe old h Left machine s Coordinator = h Coordinator
-side_safe old h Right machine s (At Left) = h (At Left)
-side_safe old h Right machine s (At Right) = s
-side_safe old h Right machine s Coordinator = h Coordinator
+-- What a journal's calls leave
 
-coordinator_safe : (old : World) → AllSafe old → (machine : CoordinatorMachine) → IsSafe machine.status machine.arms → AllSafe (record old { coordinator = machine })
-coordinator_safe old h machine s (At Left) = h (At Left)
-coordinator_safe old h machine s (At Right) = h (At Right)
-coordinator_safe old h machine s Coordinator = s
+writes_safe : {V W : Type 0} (layout : Layout V W) (old new : Journaled V W) (what : W) (kept : List W) → IsSafeJournal old → Writes layout old what new kept → IsSafeJournal new
+writes_safe layout old _ what _ h (idle is) = h
+writes_safe layout old _ what _ h (written arms is meets) = (h.0, (meets_safe _ _ _ _ _ h.1 meets).1)
+writes_safe layout old _ what _ h (unwritten status arms failed is broken meets) = meets_safe _ _ _ _ _ h.1 meets
 
-module _ (old : World) (h : AllSafe old) (new : World) where
-  same_safe : new ≡ old → AllSafe new
-  same_safe e = subst AllSafe (sym e) h
+compacts_safe : {V W : Type 0} (layout : Layout V W) (old new : Journaled V W) → IsSafeJournal old → Compacts layout old new → IsSafeJournal new
+compacts_safe layout old _ h (compacted arms meets) = (h.0, (meets_safe _ _ _ _ _ h.1 meets).1)
+compacts_safe layout old _ h (not_compacted status arms failed broken meets) = meets_safe _ _ _ _ _ h.1 meets
 
-  request_safe : (which : Which) (session number : ℕ) (request : Request) → TakesRequest old which session number request new → AllSafe new
-  request_safe which session number request (answered a) = subst AllSafe (sym a.result)
-      (side_safe old h which (record (side_of old which) { side = a.served.side; room = room_after (side_of old which).room a.events; arms = a.arms }) ((h (At which)).0, (meets_safe _ _ _ _ _ (h (At which)).1 a.meets).1))
-  request_safe which session number request (request_failed event arms would meets e) = subst AllSafe (sym e)
-      (side_safe old h which (record (side_of old which) { status = Halted; writing = Some event; arms = arms }) (meets_safe _ _ _ _ _ (h (At which)).1 meets))
-  request_safe which session number request (request_cut event would meets e) = absurd ((meets_safe _ _ _ _ _ (h (At which)).1 meets).0 refl)
-  request_safe which session number request (side_down d e) = same_safe e
+opens_safe : {V W : Type 0} (layout : Layout V W) (CanKeep : V → W → Type 0) (old : Journaled V W) (calls : ℕ) (new : Journaled V W) (kept : List W) → IsSafeJournal old → Opens layout CanKeep old calls new kept → IsSafeJournal new
+opens_safe layout CanKeep old calls _ _ h (opened room generation arms meets left) = meets_safe _ _ _ _ _ h.1 meets
+opens_safe layout CanKeep old calls _ _ h (recovered arms kept meets is can) = meets_safe _ _ _ _ _ h.1 meets
 
-  goes_safe : (logged : Log) (D : Kept → Type 0) (R : Option Running → Type 0) → CoordinatorGoes old logged D R new → IsSafe new.coordinator.status new.coordinator.arms → AllSafe new
-  goes_safe logged D R g s = subst AllSafe (sym g.result) (coordinator_safe old h g.machine (subst (λ w. IsSafe w.coordinator.status w.coordinator.arms) g.result s))
+keeps_safe : (pair : ℕ) (old new : Journaled Archive Kept) (what : Kept) (kept : List Kept) → IsSafeJournal old → Keeps pair old what new kept → IsSafeJournal new
+keeps_safe pair old _ what _ h (writes new kept w) = writes_safe (archive_layout pair) old new what kept h w
+keeps_safe pair old _ what _ h (cut_behind is fail stop) = let none = h.1 in absurd (omega (arith, none, stop))
 
-  archive_safe : {D : Kept → Type 0} {kept : List Kept} → CallsArchive old.pair D old.coordinator kept new.coordinator → IsSafe new.coordinator.status new.coordinator.arms
-  archive_safe (records room meets) = meets_safe _ _ _ _ _ (h Coordinator).1 meets
-  archive_safe (checkpointed earlier later room is takes full can left meets) = meets_safe _ _ _ _ _ (h Coordinator).1 meets
-  archive_safe (checkpointing not_up can none left full meets) = meets_safe _ _ _ _ _ (h Coordinator).1 meets
+module _ (pair : ℕ) (plan : List Planned) (taken : Exchange) where
+  advances_safe : (walk later : Walk) (kept : List Kept) → IsSafeJournal walk.journal → Advances pair plan taken walk kept later → IsSafeJournal later.journal
+  advances_safe walk _ _ h (coordinator.stands _) = h
+  advances_safe walk later kept h (coordinator.conflicts _ _ _ planned path at is more) = advances_safe (past walk walk.journal) later kept h more
+  advances_safe walk later kept h (coordinator.side_refuses _ _ _ planned why at is for more) = advances_safe (refusing walk why planned) later kept h more
+  advances_safe walk later kept h (coordinator.archive_refuses _ _ _ planned what why at is may refused more) = advances_safe (refusing walk why planned) later kept h more
+  advances_safe walk later kept h (coordinator.no_checkpoint _ _ _ what full greatest more) = advances_safe (refusing walk Full full.to_keep.planned) later kept h more
+  advances_safe walk later kept h (coordinator.checkpoints _ _ _ what journal full smaller compacts up more) =
+      advances_safe (record walk { journal = journal }) later kept (compacts_safe (archive_layout pair) walk.journal journal h compacts) more
+  advances_safe walk _ _ h (coordinator.checkpoint_breaks _ what journal full smaller compacts broken) = compacts_safe (archive_layout pair) walk.journal journal h compacts
+  advances_safe walk later _ h (coordinator.keeps _ _ what kept journal to_keep room kept_so up more) =
+      advances_safe (past walk journal) later kept (keeps_safe pair walk.journal journal what (what ∷ []) h kept_so) more
+  advances_safe walk _ kept h (coordinator.record_breaks _ what _ journal to_keep room kept_so broken) = keeps_safe pair walk.journal journal what kept h kept_so
 
-  answer_safe : (from : Which) (session number : ℕ) (reply : Reply) → TakesAnswer old from session number reply new → AllSafe new
-  answer_safe from session number reply (taken plan logged expected made g calls reports) = goes_safe logged _ _ g (by_status old.coordinator.status refl)
-    where
-      by_status : (status : Status) → old.coordinator.status ≡ status → IsSafe new.coordinator.status new.coordinator.arms
-      by_status Up e = archive_safe (calls e)
-      by_status Halted e =
-          let still = g.while_halted e in
-          subst (λ w. IsSafe w.coordinator.status w.coordinator.arms) (sym g.result) (subst (λ m. IsSafe m.status m.arms) (sym still.1) (h Coordinator))
-      by_status Down e = absurd (g.not_down e)
-  answer_safe from session number reply (ignored x e) = same_safe e
-  answer_safe from session number reply (coordinator_down d e) = same_safe e
+takes_safe : (pair : ℕ) (old : CoordinatorMachine) (r : Running) (taken : Exchange) (new : CoordinatorMachine) (call : Call) → IsSafeJournal old.journal → Takes pair old r taken new call → IsSafeJournal new.journal
+takes_safe pair old r taken _ _ h (coordinator.ends_at_once why fault) = h
+takes_safe pair old r taken _ _ h (coordinator.stops plan logged walk kept fault has advances down) = advances_safe pair _ taken (start_of old r) walk kept h advances
+takes_safe pair old r taken _ _ h (coordinator.ends plan logged walk kept why fault has advances ends) = advances_safe pair _ taken (start_of old r) walk kept h advances
+takes_safe pair old r taken _ _ h (coordinator.goes_on plan logged walk kept left right fault has advances stays asks) = advances_safe pair _ taken (start_of old r) walk kept h advances
 
-  delivers_safe : (message : Option Message) → Delivers old message new → AllSafe new
-  delivers_safe None e = same_safe e
-  delivers_safe (Some (Asks to session number request)) t = request_safe to session number request t
-  delivers_safe (Some (Answers from session number reply)) t = answer_safe from session number reply t
+answer_safe : (pair : ℕ) (old : CoordinatorMachine) (from : Which) (session number : ℕ) (reply : Reply) (new : CoordinatorMachine) (call : Call) → IsSafeJournal old.journal → CoordinatorTakes pair old from session number reply new call → IsSafeJournal new.journal
+answer_safe pair old from session number reply _ _ h (coordinator.takes r request new call expected t) = takes_safe pair old r _ new call h t
+answer_safe pair old from session number reply _ _ h (coordinator.ignores none) = h
 
-  device_safe : (machine : Machine) (status : Status) (arms : Arms) → IsSafe status arms → new ≡ set_device old machine status arms → AllSafe new
-  device_safe (At which) status arms s e = subst AllSafe (sym e) (side_safe old h which (record (side_of old which) { status = status; arms = arms }) s)
-  device_safe Coordinator status arms s e = subst AllSafe (sym e) (coordinator_safe old h (record old.coordinator { status = status; arms = arms }) s)
+starts_safe : (pair : ℕ) (old new : CoordinatorMachine) (call : Call) → IsSafeJournal old.journal → CoordinatorStarts pair old new call → IsSafeJournal new.journal
+starts_safe pair old _ _ h (coordinator.starts session journal next lawful kept_so up) = keeps_safe pair old.journal journal (Session session) (Session session ∷ []) h kept_so
+starts_safe pair old _ _ h (coordinator.start_breaks session journal kept next kept_so broken) = keeps_safe pair old.journal journal (Session session) kept h kept_so
 
-  writes_safe : (which : Which) (event : Event) (machine : SideMachine) (events : List Event) → Writes (side_of old which) event machine events → IsSafe machine.status machine.arms
-  writes_safe which event _ _ (written arms meets) = ((h (At which)).0, (meets_safe _ _ _ _ _ (h (At which)).1 meets).1)
-  writes_safe which event _ _ (failed arms meets) = meets_safe _ _ _ _ _ (h (At which)).1 meets
-  writes_safe which event _ _ (cut meets) = absurd ((meets_safe _ _ _ _ _ (h (At which)).1 meets).0 refl)
+ticks_safe : (old new : CoordinatorMachine) (call : Call) → IsSafeJournal old.journal → CoordinatorTicks old new call → IsSafeJournal new.journal
+ticks_safe old _ _ h (coordinator.no_session none) = h
+ticks_safe old _ _ h (coordinator.resends r is few) = h
+ticks_safe old _ _ h (coordinator.gives_up r why is because) = h
 
-  opens_safe : (which : Which) (calls : ℕ) (machine : SideMachine) (events : List Event) → Opens old.pair (side_of old which) calls machine events → IsSafe machine.status machine.arms
-  opens_safe which calls _ _ (opened room generation arms meets left) = meets_safe _ _ _ _ _ (h (At which)).1 meets
-  opens_safe which calls _ _ (recovered arms event meets w a) = meets_safe _ _ _ _ _ (h (At which)).1 meets
+request_safe : (pair : ℕ) (old : SideMachine) (session : ℕ) (request : Request) (new : SideMachine) (reply : Option Reply) (events : List Event) → IsSafeJournal old.journal → SideTakes pair old session request new reply events → IsSafeJournal new.journal
+request_safe pair old session request _ _ _ h (answers served serves same) = h
+request_safe pair old session request _ _ _ h (adds served event journal events up serves more w) = writes_safe (side_layout pair) old.journal journal event events h w
 
-  compacts_safe : (which : Which) (machine : SideMachine) (events : List Event) → Compacts old.pair (side_of old which) machine events → IsSafe machine.status machine.arms
-  compacts_safe which _ _ (compacted arms meets) = ((h (At which)).0, (meets_safe _ _ _ _ _ (h (At which)).1 meets).1)
-  compacts_safe which _ _ (compacting_failed arms meets) = meets_safe _ _ _ _ _ (h (At which)).1 meets
-  compacts_safe which _ _ (compacting_cut meets) = absurd ((meets_safe _ _ _ _ _ (h (At which)).1 meets).0 refl)
+-- The world
 
-  opens_archive_safe : (calls : ℕ) (machine : CoordinatorMachine) (kept : List Kept) → OpensArchive old.pair old.coordinator calls machine kept → IsSafe machine.status machine.arms
-  opens_archive_safe calls _ _ (archive_opened room generation arms meets left) = meets_safe _ _ _ _ _ (h Coordinator).1 meets
-  opens_archive_safe calls _ _ (archive_recovered arms kept meets w can) = meets_safe _ _ _ _ _ (h Coordinator).1 meets
+side_safe : (old : World) → AllSafe old → (side : Which) (machine : SideMachine) (messages : List Message) (events : List Event) → IsSafeJournal machine.journal → AllSafe (side_goes old side machine messages events)
+side_safe old h Left machine messages events s (At Left) = s
+side_safe old h Left machine messages events s (At Right) = h (At Right)
+side_safe old h Left machine messages events s Coordinator = h Coordinator
+side_safe old h Right machine messages events s (At Left) = h (At Left)
+side_safe old h Right machine messages events s (At Right) = s
+side_safe old h Right machine messages events s Coordinator = h Coordinator
 
-  compacts_archive_safe : CompactsArchive old new → AllSafe new
-  compacts_archive_safe (inl (arms, meets, e)) = subst AllSafe (sym e) (coordinator_safe old h (record old.coordinator { room = room_behind (archive_spelling old.pair old.coordinator.archive); generation = suc old.coordinator.generation; arms = arms }) ((h Coordinator).0, (meets_safe _ _ _ _ _ (h Coordinator).1 meets).1))
-  compacts_archive_safe (inr (inl (arms, meets, e))) = subst AllSafe (sym e) (coordinator_safe old h (record old.coordinator { status = Halted; compacting = true; arms = arms }) (meets_safe _ _ _ _ _ (h Coordinator).1 meets))
-  compacts_archive_safe (inr (inr (meets, e))) = absurd ((meets_safe _ _ _ _ _ (h Coordinator).1 meets).0 refl)
+coordinator_safe : (old : World) → AllSafe old → (machine : CoordinatorMachine) (call : Call) → IsSafeJournal machine.journal → AllSafe (coordinator_goes old machine call)
+coordinator_safe old h machine call s (At Left) = h (At Left)
+coordinator_safe old h machine call s (At Right) = h (At Right)
+coordinator_safe old h machine call s Coordinator = s
 
-  side_goes_safe : (which : Which) (Goes : SideMachine → List Event → Type 0) → ((machine : SideMachine) (events : List Event) → Goes machine events → IsSafe machine.status machine.arms) → SideGoes old which Goes [] new → AllSafe new
-  side_goes_safe which Goes safe (machine, events, goes, e) = subst AllSafe (sym e) (side_safe old h which machine (safe machine events goes))
+device_safe : (old : World) → AllSafe old → (machine : Machine) (status : Status) (arms : Arms) (failed : ℕ) → IsSafe status arms → AllSafe (set_device old machine status arms failed)
+device_safe old h (At Left) status arms failed s (At Left) = s
+device_safe old h (At Left) status arms failed s (At Right) = h (At Right)
+device_safe old h (At Left) status arms failed s Coordinator = h Coordinator
+device_safe old h (At Right) status arms failed s (At Left) = h (At Left)
+device_safe old h (At Right) status arms failed s (At Right) = s
+device_safe old h (At Right) status arms failed s Coordinator = h Coordinator
+device_safe old h Coordinator status arms failed s (At Left) = h (At Left)
+device_safe old h Coordinator status arms failed s (At Right) = h (At Right)
+device_safe old h Coordinator status arms failed s Coordinator = s
 
-  opens_machine_safe : (machine : Machine) (calls : ℕ) → OpensMachine old machine calls new → AllSafe new
-  opens_machine_safe (At which) calls g = side_goes_safe which (Opens old.pair (side_of old which) calls) (opens_safe which calls) g
-  opens_machine_safe Coordinator calls (machine, kept, opens, e) = subst AllSafe (sym e) (coordinator_safe old h machine (opens_archive_safe calls machine kept opens))
+refused_safe : (made : World) (reason : Refusal) → AllSafe made → AllSafe (refuses_with made reason)
+refused_safe made reason h (At Left) = h (At Left)
+refused_safe made reason h (At Right) = h (At Right)
+refused_safe made reason h Coordinator = h Coordinator
 
-  reopens_safe : (machine : Machine) (calls : ℕ) → Reopens old machine calls new → AllSafe new
-  reopens_safe machine calls (inl g) = opens_machine_safe machine calls g
-  reopens_safe machine calls (inr (inl (arms, meets, e))) = device_safe machine Halted arms (meets_safe _ _ _ _ _ (h machine).1 meets) e
-  reopens_safe machine calls (inr (inr (meets, e))) = absurd ((meets_safe _ _ _ _ _ (h machine).1 meets).0 refl)
-
-refused_safe : (world : World) → AllSafe world → (reason : Refusal) (new : World) → new ≡ refuses_with world reason → AllSafe new
-refused_safe world h reason new e = subst AllSafe (sym e) h
-
-answered_safe : (machine : Machine) (made new : World) → AllSafe made → new ≡ answered_by machine made → AllSafe new
-answered_safe machine made new h = told (is_halted (status_of made machine))
+answered_safe : (machine : Machine) (made : World) → AllSafe made → AllSafe (answered_by machine made)
+answered_safe machine made h = told (is_halted (status_of made machine))
   where
-    told : (b : Bool) → new ≡ (if b then refuses_with made Device else made) → AllSafe new
-    told true e = refused_safe made h Device new e
-    told false e = subst AllSafe (sym e) h
+    told : (b : Bool) → AllSafe (if b then refuses_with made Device else made)
+    told true = refused_safe made Device h
+    told false = h
 
-module _ (old : World) (h : AllSafe old) (new : World) where
-  unless_down_safe : (machine : Machine) (IsDone : Type 0) → (IsDone → AllSafe new) → UnlessDown old machine IsDone new → AllSafe new
-  unless_down_safe machine IsDone done (inl (down, e)) = same_safe old h new e
-  unless_down_safe machine IsDone done (inr (up, g)) = done g
+module _ (old : World) (h : AllSafe old) where
+  side_journal : (side : Which) → IsSafeJournal (side_of old side).journal
+  side_journal Left = h (At Left)
+  side_journal Right = h (At Right)
 
-  calls_safe : (machine : Machine) (causes : List Cause) (Made : World → Type 0) → ((made : World) → Made made → AllSafe made) → Calls old machine causes Made new → AllSafe new
-  calls_safe machine causes Made safe (inl (down, e)) = same_safe old h new e
-  calls_safe machine causes Made safe (inr (up, inl (reason, first, e))) = refused_safe old h reason new e
-  calls_safe machine causes Made safe (inr (up, inr (none, made, g, e))) = answered_safe machine made new (safe made g) e
+  unless_down_safe : (machine : Machine) (IsDone : Type 0) (new : World) → (IsDone → AllSafe new) → UnlessDown old machine IsDone new → AllSafe new
+  unless_down_safe machine IsDone new done (inl (down, e)) = subst AllSafe (sym e) h
+  unless_down_safe machine IsDone new done (inr (up, is)) = done is
 
-  step_safe : (step : Step) → ((machine : Machine) (call : ℕ) → step ≡ Stop machine call → ⊥) → Steps old step new → AllSafe new
-  step_safe (Edits side user edit) none g =
-      calls_safe (At side) (edit_causes (side_of old side) (Edited user edit)) (λ made. IsLawfulEvent (Edited user edit) × SideGoes old side (Writes (side_of old side) (Edited user edit)) [] made)
-      (λ made m. side_goes_safe old h made side (Writes (side_of old side) (Edited user edit)) (writes_safe old h made side (Edited user edit)) m.1) g
-  step_safe Start none g = calls_safe Coordinator (start_causes old.coordinator) (Starts old) (λ made s. goes_safe old h made [] _ _ s.0 (meets_safe _ _ _ _ _ (h Coordinator).1 s.4)) g
-  step_safe (Deliver message) none g = delivers_safe old h new (slice_get old.sent message) g
-  step_safe Tick none (inl g) = same_safe old h new g.1
-  step_safe Tick none (inr g) = goes_safe old h new [] _ _ g.1.goes (subst (λ m. IsSafe m.status m.arms) (sym g.1.no_call) (h Coordinator))
-  step_safe (Checkpoint (At which)) none g = calls_safe (At which) ((nat_le greatest (side_of old which).generation, why.Full) ∷ []) (SideGoes old which (Compacts old.pair (side_of old which)) [])
-      (λ made r. side_goes_safe old h made which (Compacts old.pair (side_of old which)) (compacts_safe old h made which) r) g
-  step_safe (Checkpoint Coordinator) none g = calls_safe Coordinator ((nat_le greatest old.coordinator.generation, why.Full) ∷ []) (CompactsArchive old) (λ made r. compacts_archive_safe old h made r) g
-  step_safe (Fail machine call) none g = unless_down_safe machine _ (device_safe old h new machine _ _ (h machine)) g
-  step_safe (Stop machine calls) none g = absurd (none machine calls refl)
-  step_safe (Open machine) none (inl g) = same_safe old h new g.1
-  step_safe (Open machine) none (inr (down, g)) = absurd ((h machine).0 down)
-  step_safe (Reopen machine) none (inl g) = same_safe old h new g.1
-  step_safe (Reopen machine) none (inr (up, (calls, inl (arms, meets, g)))) =
-      let armed = set_device old machine (status_of old machine) arms in
-      refused_safe armed (device_safe old h armed machine (status_of old machine) arms ((h machine).0, (meets_safe _ _ _ _ _ (h machine).1 meets).1) refl) g.0 new g.2
-  step_safe (Reopen machine) none (inr (up, (calls, inr (some, made, r, e)))) = answered_safe machine made new (reopens_safe old h made machine calls r) e
+  calls_safe : (machine : Machine) (causes : List Cause) (Made : World → Type 0) (new : World) → ((made : World) → Made made → AllSafe made) → Calls old machine causes Made new → AllSafe new
+  calls_safe machine causes Made new safe (inl (down, e)) = subst AllSafe (sym e) h
+  calls_safe machine causes Made new safe (inr (up, inl (reason, first, e))) = subst AllSafe (sym e) (refused_safe old reason h)
+  calls_safe machine causes Made new safe (inr (up, inr (none, made, g, e))) = subst AllSafe (sym e) (answered_safe machine made (safe made g))
+
+  edits_safe : (side : Which) (event : Event) (made : World) → EditsSide old side event made → AllSafe made
+  edits_safe side event _ (edits journal events lawful w) = side_safe old h side _ [] events (writes_safe (side_layout old.pair) (side_of old side).journal journal event events (side_journal side) w)
+
+  compacts_machine_safe : (machine : Machine) (made : World) → CompactsMachine old machine made → AllSafe made
+  compacts_machine_safe _ _ (compacts_side side journal c) = side_safe old h side _ [] [] (compacts_safe (side_layout old.pair) (side_of old side).journal journal (side_journal side) c)
+  compacts_machine_safe _ _ (compacts_archive journal c) = coordinator_safe old h (coordinator.with_archive old.coordinator journal) (record coordinator.no_call { kept = [] }) (compacts_safe (archive_layout old.pair) old.coordinator.journal journal (h Coordinator) c)
+
+  opens_machine_safe : (calls : ℕ) (machine : Machine) (made : World) → OpensMachine old calls machine made → AllSafe made
+  opens_machine_safe calls _ _ (opens_side side journal events o) = side_safe old h side _ [] events (opens_safe (side_layout old.pair) _ (side_of old side).journal calls journal events (side_journal side) o)
+  opens_machine_safe calls _ _ (opens_archive journal kept o) = coordinator_safe old h (coordinator.with_archive old.coordinator journal) (record coordinator.no_call { kept = kept }) (opens_safe (archive_layout old.pair) _ old.coordinator.journal calls journal kept (h Coordinator) o)
+
+  delivers_safe : (message : Option Message) (new : World) → Delivers old message new → AllSafe new
+  delivers_safe _ _ no_message = h
+  delivers_safe _ _ (to_no_side side session number request down) = h
+  delivers_safe _ _ (to_side side session number request machine reply events t) = side_safe old h side machine (says side session number reply) events (request_safe old.pair (side_of old side) session request machine reply events (side_journal side) t)
+  delivers_safe _ _ (to_coordinator side session number reply machine call t) = coordinator_safe old h machine call (answer_safe old.pair old.coordinator side session number reply machine call (h Coordinator) t)
+
+  tick_safe : (new : World) → Ticks old new → AllSafe new
+  tick_safe _ (ticks machine call g) = coordinator_safe old h machine call (ticks_safe old.coordinator machine call (h Coordinator) g)
+
+  start_safe : (new : World) → Starts old new → AllSafe new
+  start_safe _ (world.starts machine call g) = coordinator_safe old h machine call (starts_safe old.pair old.coordinator machine call (h Coordinator) g)
+
+  fails_safe : (machine : Machine) (calls : ℕ) (status left : Status) (made : World) → (status ≢ Down → left ≢ Down) → FailsDevice old machine calls status left made → AllSafe made
+  fails_safe machine calls status left _ safe (fails_device arms failed meets) =
+      let after = meets_safe (arms_of old machine) calls status arms failed (h machine).1 meets in
+      device_safe old h machine left arms failed (safe after.0, after.1)
+
+  reopens_safe : (machine : Machine) (new : World) → Reopens old machine new → AllSafe new
+  reopens_safe machine _ (reopens calls new some o) = opens_machine_safe calls machine new o
+  reopens_safe machine _ (reopen_fails calls made f) = refused_safe made Device (fails_safe machine calls Halted Halted made (λ same. same) f)
+  reopens_safe machine _ (reopen_is_cut calls made f) = fails_safe machine calls Down Down made (λ same. same) f
+  reopens_safe machine _ (no_memory_to_reopen calls made f) = refused_safe made Memory (fails_safe machine calls Up (status_of old machine) made (λ _. (h machine).0) f)
+
+  step_safe : (step : Step) → ((machine : Machine) (call : ℕ) → step ≡ Stop machine call → ⊥) → (new : World) → Steps old step new → AllSafe new
+  step_safe (Edits side user edit) none new g = calls_safe (At side) (causes_of old.pair (side_of old side) (Edited user edit)) (EditsSide old side (Edited user edit)) new (edits_safe side (Edited user edit)) g
+  step_safe Start none new g = calls_safe Coordinator (start_causes old.pair old.coordinator) (Starts old) new start_safe g
+  step_safe (Deliver message) none new g = delivers_safe (slice_get old.sent message) new g
+  step_safe Tick none new g = tick_safe new g
+  step_safe (Checkpoint machine) none new g = calls_safe machine (full_generation (generation_of old machine)) (CompactsMachine old machine) new (compacts_machine_safe machine) g
+  step_safe (Fail machine call) none new g = unless_down_safe machine _ new (λ e. subst AllSafe (sym e) (device_safe old h machine (status_of old machine) _ 0 (h machine))) g
+  step_safe (Stop machine calls) none new g = absurd (none machine calls refl)
+  step_safe (Open machine) none new (inl (up, e)) = subst AllSafe (sym e) h
+  step_safe (Open machine) none new (inr (down, o)) = absurd ((h machine).0 down)
+  step_safe (Reopen machine) none new g = unless_down_safe machine _ new (reopens_safe machine new) g
 
 abbrev HasNoStop : List Step → Type 0
 HasNoStop steps = (machine : Machine) (call : ℕ) → Contains steps (Stop machine call) → ⊥
@@ -178,23 +204,23 @@ HasNoStop steps = (machine : Machine) (call : ℕ) → Contains steps (Stop mach
 run_safe : (steps : List Step) (old new : World) → AllSafe old → HasNoStop steps → Runs old steps new → AllSafe new
 run_safe [] old new h none e = subst AllSafe (sym e) h
 run_safe (step ∷ steps) old new h none (between, g, more) =
-    run_safe steps between new (step_safe old h between step (λ machine call e. none machine call (subst (Contains (step ∷ steps)) e (0, omega arith, refl))) g)
+    run_safe steps between new (step_safe old h step (λ machine call e. none machine call (subst (Contains (step ∷ steps)) e (0, omega arith, refl))) between g)
     (λ machine call c. none machine call (Contains-append_right (step ∷ []) steps _ c)) more
 
-start_safe : (world : World) → IsStart world → AllSafe world
-start_safe world s (At Left) = (λ down. up_not_down (sym s.left.0 ∙ down), ap (λ a. a.stop) (s.left.4))
-start_safe world s (At Right) = (λ down. up_not_down (sym s.right.0 ∙ down), ap (λ a. a.stop) (s.right.4))
-start_safe world s Coordinator = (λ down. up_not_down (sym s.coordinator.0 ∙ down), ap (λ a. a.stop) (s.coordinator.4))
+opened_safe : (world : World) → IsStart world → AllSafe world
+opened_safe world s (At Left) = (λ down. up_not_down (sym s.left.0.0 ∙ down), ap (λ a. a.stop) s.left.0.3)
+opened_safe world s (At Right) = (λ down. up_not_down (sym s.right.0.0 ∙ down), ap (λ a. a.stop) s.right.0.3)
+opened_safe world s Coordinator = (λ down. up_not_down (sym s.coordinator.0.0 ∙ down), ap (λ a. a.stop) s.coordinator.0.3)
 
 pub stay_without_stop : StaysWithoutStop
-stay_without_stop old new steps s g none machine = (run_safe steps old new (start_safe old s) none g machine).0
+stay_without_stop old new steps s g none machine = (run_safe steps old new (opened_safe old s) none g machine).0
 
 -- What is armed within the calls of an edit
 
-passed : (arms : Arms) (status : Status) (after : Arms) → Meets arms 4 0 status after → status ≡ Up → IsBefore 4 arms.fail × IsBefore 4 arms.stop
-passed arms _ _ (all_made fail stop) e = (fail, stop)
-passed arms _ _ (one_fails made from up_to fail stop) e = absurd (omega (arith, from, up_to))
-passed arms _ _ (one_stops made from up_to fail stop) e = absurd (cc)
+passed : (arms : Arms) (status : Status) (after : Arms) (failed : ℕ) → Meets arms 4 status after failed → status ≡ Up → IsBefore 4 arms.fail × IsBefore 4 arms.stop
+passed arms _ _ _ (all_made fail stop) e = (fail, stop)
+passed arms _ _ _ (one_fails made few fail stop) e = absurd (let x : Halted ≡ Up = e in cc)
+passed arms _ _ _ (one_stops made failed few fail stop once at) e = absurd (let x : Down ≡ Up = e in cc)
 
 answered_acknowledged : (machine : Machine) (made : World) → (answered_by machine made).acknowledged ≡ made.acknowledged
 answered_acknowledged machine made = told (is_halted (status_of made machine))
@@ -203,15 +229,21 @@ answered_acknowledged machine made = told (is_halted (status_of made machine))
     told true = refl
     told false = refl
 
-unwritten : (old : World) (side : Which) (event : Event) → (IsBefore 4 (side_of old side).arms.fail × IsBefore 4 (side_of old side).arms.stop → ⊥) →
-    (machine : SideMachine) (events : List Event) → Writes (side_of old side) event machine events → events ≡ []
-unwritten old side event armed _ _ (written arms meets) = absurd (armed (passed (side_of old side).arms Up arms meets refl))
-unwritten old side event armed _ _ (failed arms meets) = refl
-unwritten old side event armed _ _ (cut meets) = refl
+unwritten_then : (pair : ℕ) (old new : Journaled History Event) (event : Event) (events : List Event) → (IsBefore 4 old.arms.fail × IsBefore 4 old.arms.stop → ⊥) → Writes (side_layout pair) old event new events → events ≡ []
+unwritten_then pair old _ event _ armed (idle is) = absurd (true≢false (sym is))
+unwritten_then pair old _ event _ armed (written arms is meets) = absurd (armed (passed old.arms Up arms 0 meets refl))
+unwritten_then pair old _ event _ armed (unwritten status arms failed is broken meets) = refl
+
+side_acknowledged : (old : World) (side : Which) (journal : Journaled History Event) (events : List Event) → (side_writes old side journal events).acknowledged ≡ old.acknowledged ++ map (λ event. Happened side event) events
+side_acknowledged old Left journal events = refl
+side_acknowledged old Right journal events = refl
+
+made_acknowledges : (old : World) (side : Which) (event : Event) (made : World) → (IsBefore 4 (side_of old side).journal.arms.fail × IsBefore 4 (side_of old side).journal.arms.stop → ⊥) → EditsSide old side event made → made.acknowledged ≡ old.acknowledged
+made_acknowledges old side event _ armed (edits journal events lawful w) =
+    side_acknowledged old side journal events ∙ (ap (λ es. old.acknowledged ++ map (λ event. Happened side event) es) (unwritten_then old.pair (side_of old side).journal journal event events armed w) ∙ append-nil old.acknowledged)
 
 pub armed_calls_come : ArmedCallsCome
 armed_calls_come old new side user edit armed (inl (down, e)) = ap (λ w. w.acknowledged) e
 armed_calls_come old new side user edit armed (inr (up, inl (reason, first, e))) = ap (λ w. w.acknowledged) e
-armed_calls_come old new side user edit armed (inr (up, inr (none, made, (lawful, (machine, events, writes, is)), e))) =
-    ap (λ w. w.acknowledged) e ∙ (answered_acknowledged (At side) made ∙ (ap (λ w. w.acknowledged) is
-    ∙ (ap (λ es. old.acknowledged ++ map (λ event. Happened side event) es) (unwritten old side (Edited user edit) armed machine events writes) ∙ append-nil old.acknowledged)))
+armed_calls_come old new side user edit armed (inr (up, inr (none, made, g, e))) =
+    ap (λ w. w.acknowledged) e ∙ (answered_acknowledged (At side) made ∙ made_acknowledges old side (Edited user edit) made armed g)

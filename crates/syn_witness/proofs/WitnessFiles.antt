@@ -18,7 +18,7 @@ use Rattle.syn_model.specs.Mark.{mark}
 use Rattle.sha2.proofs.Facts256.{length-sha256}
 use Rattle.syn_model.specs.Archive.{Recorded}
 use Rattle.syn_model.specs.MarkSpelling.{mark_spelling, kept_spelling, mark_spelling_within}
-use Rattle.syn_headline.specs.Side.{record_size}
+use Rattle.syn_headline.specs.Machine.{record_size}
 use Rattle.syn_model.specs.Spelling.{spelling, spelling_within, content_spelling}
 use Rattle.syn_model.proofs.PathLemmas.{same_path}
 use Rattle.syn_model.proofs.HistoryLemmas.{empty-is_tree, at_root-is_part, replace-is_tree, same_file}

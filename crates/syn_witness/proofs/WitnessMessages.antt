@@ -1,9 +1,10 @@
--- The messages of the witness runs: on each side every kind of request has its own number.
-use Rattle.std.proofs.Common.{◌≡◌, ℕ, zero, suc, ◌++◌, refl, sym, ap, ◌∙◌}
-use Rattle.std.specs.Prelude.{All}
-use Rattle.std.proofs.lemmas.List.Elements.{All-contains, Contains-append_left}
+-- The requests of the witness runs: on each side every kind of request has its own number.
+use Rattle.std.proofs.Common.{◌≡◌, ℕ, zero, suc, refl, sym, ap, ◌∙◌, inl, inr}
+use Rattle.std.specs.List.{AllByRecursion}
+use Rattle.std.proofs.lemmas.List.Elements.{All-contains, All-from_recursion}
 use Rattle.syn_headline.specs.Side.{Request, Begin, ListAt, Fetch, Stage, Replace}
-use Rattle.syn_headline.specs.Network.{Which, Left, Right, Message, Asks, Answers, Sent, NumbersTell, AsksNothingTwice, IsRepeat}
+use Rattle.syn_headline.specs.Network.{Which, Left, Right, IsRepeat}
+use Rattle.syn_headline.specs.Coordinator.{Running, WasAsked, AsksOnce}
 
 abbrev pub kind : Request → ℕ
 kind (Begin pair) = 0
@@ -13,7 +14,7 @@ kind (Stage item offset bytes) = 3
 kind (Replace item path since size) = 4
 
 same_kind : (a b : Request) → IsRepeat a b → kind a ≡ kind b
-same_kind (Begin p) (Begin q) r = absurd r
+same_kind (Begin p) (Begin q) r = refl
 same_kind (Begin p) (ListAt q) r = absurd r
 same_kind (Begin p) (Fetch q l n) r = absurd r
 same_kind (Begin p) (Stage j n y) r = absurd r
@@ -39,26 +40,23 @@ same_kind (Replace i p k x) (Fetch q l n) r = absurd r
 same_kind (Replace i p k x) (Stage j n y) r = absurd r
 same_kind (Replace i p k x) (Replace j q l y) r = refl
 
--- the request has the number of its kind, and is what the side was asked under it
-abbrev pub IsNumbered : (Which → ℕ → ℕ) → (Which → ℕ → Request) → Message → Type 0
-IsNumbered number_of asked (Asks to session number request) = (asked to number ≡ request) × (number_of to (kind request) ≡ number)
-IsNumbered number_of asked (Answers from session number reply) = Unit {0}
+-- each request has the number of its kind on its side
+abbrev pub AreNumbered : (Which → ℕ → ℕ) → Running → Type 0
+AreNumbered number_of running =
+    AllByRecursion (λ exchange. number_of exchange.side (kind exchange.request) ≡ exchange.number) running.taken
+    × AllByRecursion (λ one. number_of Left (kind one.request) ≡ one.number) running.left
+    × AllByRecursion (λ one. number_of Right (kind one.request) ≡ one.number) running.right
 
-pub numbers_tell : (number_of : Which → ℕ → ℕ) (asked : Which → ℕ → Request) (sent : Sent) → All (IsNumbered number_of asked) sent → NumbersTell sent
-numbers_tell number_of asked sent all side session n a b ca cb =
-    sym (All-contains (IsNumbered number_of asked) sent (Asks side session n a) all ca).0 ∙ (All-contains (IsNumbered number_of asked) sent (Asks side session n b) all cb).0
+number_was : (number_of : Which → ℕ → ℕ) (running : Running) → AreNumbered number_of running → (side : Which) (number : ℕ) (request : Request) → WasAsked running side number request → number_of side (kind request) ≡ number
+number_was number_of running all side number request (inl taken) =
+    All-contains (λ exchange. number_of exchange.side (kind exchange.request) ≡ exchange.number) running.taken _ (All-from_recursion (λ exchange. number_of exchange.side (kind exchange.request) ≡ exchange.number) running.taken all.0) taken.1
+number_was number_of running all Left number request (inr waits) =
+    All-contains (λ one. number_of Left (kind one.request) ≡ one.number) running.left _ (All-from_recursion (λ one. number_of Left (kind one.request) ≡ one.number) running.left all.1) waits.1
+number_was number_of running all Right number request (inr waits) =
+    All-contains (λ one. number_of Right (kind one.request) ≡ one.number) running.right _ (All-from_recursion (λ one. number_of Right (kind one.request) ≡ one.number) running.right all.2) waits.1
 
-pub asks_once : (number_of : Which → ℕ → ℕ) (asked : Which → ℕ → Request) (sent : Sent) → All (IsNumbered number_of asked) sent → AsksNothingTwice sent
-asks_once number_of asked sent all side session m n a b ca cb r =
-    sym (All-contains (IsNumbered number_of asked) sent (Asks side session m a) all ca).1
-    ∙ (ap (number_of side) (same_kind a b r) ∙ (All-contains (IsNumbered number_of asked) sent (Asks side session n b) all cb).1)
-
--- what is told of a list is told of a beginning of it
-pub tell_before : (sent more : Sent) → NumbersTell (sent ++ more) → NumbersTell sent
-tell_before sent more h side session n a b ca cb = h side session n a b (Contains-append_left sent more _ ca) (Contains-append_left sent more _ cb)
-
-pub once_before : (sent more : Sent) → AsksNothingTwice (sent ++ more) → AsksNothingTwice sent
-once_before sent more h side session m n a b ca cb r = h side session m n a b (Contains-append_left sent more _ ca) (Contains-append_left sent more _ cb) r
+pub asks_once : (number_of : Which → ℕ → ℕ) (running : Running) → AreNumbered number_of running → AsksOnce running
+asks_once number_of running all side m n a b ca cb r = sym (number_was number_of running all side m a ca) ∙ (ap (number_of side) (same_kind a b r) ∙ number_was number_of running all side n b cb)
 
 -- the numbers in a session that stages on the right first
 abbrev right_number : ℕ → ℕ

@@ -14,11 +14,11 @@ use Rattle.syn_model.specs.Archive.{Session, Recorded, new_archive}
 use Rattle.syn_headline.specs.Network.{Left, Right}
 use Rattle.syn_headline.specs.Acknowledged.{Ack, Happened, Kept_by, Stores}
 use Rattle.syn_headline.specs.Report.{Report, Complete, Incomplete}
-use Rattle.syn_headline.specs.Arms.{unarmed}
-use Rattle.syn_headline.specs.World.{World, At, Step, Edits, Start, Deliver, Stop, Coordinator, Tick, Open, Fail, Checkpoint, Reopen, Up, SideMachine, Runs}
+use Rattle.syn_headline.specs.Machine.{Up, Journaled, unarmed, record_size, room_behind}
+use Rattle.syn_headline.specs.SideMachine.{SideMachine}
+use Rattle.syn_headline.specs.World.{World, At, Step, Edits, Start, Deliver, Stop, Coordinator, Tick, Open, Fail, Checkpoint, Reopen, Runs}
 use Rattle.syn_headline.specs.Headline.{IsStart, formatted, stores_of, IsQuietSession, UntouchedSince}
-use Rattle.syn_headline.specs.Side.{token_of, record_size, room_behind}
-use Rattle.syn_witness.specs.Rows.{new_side}
+use Rattle.syn_headline.specs.Side.{token_of}
 
 -- what the image of no events leaves of a half of the disk
 abbrev pub new_room : ℕ
@@ -31,8 +31,21 @@ new_archive_room = 4194266
 abbrev pub NewRoomIs : Type 0
 NewRoomIs = (room_behind (image_spelling 7 (standing_of [])) ≡ new_room) × (room_behind (archive_spelling 7 new_archive) ≡ new_archive_room)
 
+-- a journal that was just formatted and opened
+abbrev pub new_journal : {V W : Type 0} → V → ℕ → Journaled V W
+new_journal value room = record {
+  status = Up;
+  value = value;
+  room = room;
+  generation = 1;
+  compacting = false;
+  writing = None;
+  arms = unarmed;
+  failures = 0;
+}
+
 abbrev pub new_machine : SideMachine
-new_machine = record { status = Up; side = new_side; room = new_room; generation = 1; compacting = false; writing = None; arms = unarmed }
+new_machine = record { journal = new_journal [] new_room; staging = None }
 
 -- three formatted disks of pair 7, opened
 abbrev pub opened_world : World
@@ -40,7 +53,7 @@ opened_world = record {
   pair = 7;
   left = new_machine;
   right = new_machine;
-  coordinator = record { status = Up; archive = formatted.archive; room = new_archive_room; generation = 1; compacting = false; writing = None; running = None; arms = unarmed };
+  coordinator = record { journal = new_journal formatted.archive new_archive_room; running = None };
   sent = [];
   acknowledged = [];
   refusals = [];
@@ -71,13 +84,13 @@ put_one = Put a_path (49 ∷ [])
 abbrev pub StopIsRecovered : Type 0
 StopIsRecovered =
     IsWitness (Stop (At Left) 3 ∷ Edits Left 1 put_one ∷ Open (At Left) ∷ []) 0 (Happened Left (Edited 1 put_one) ∷ []) []
-    (λ world. (world.left.status ≡ Up) × (world.left.side.history ≡ Edited 1 put_one ∷ []))
+    (λ world. (world.left.journal.status ≡ Up) × (world.left.journal.value ≡ Edited 1 put_one ∷ []))
 
 -- the third device call of an edit fails: the edit is refused 9, the next one 10, and a reopening gives the first back or not
 abbrev pub FailedEdit : List Ack → History → Type 0
 FailedEdit acknowledged history =
     IsWitness (Fail (At Left) 3 ∷ Edits Left 1 put_one ∷ Edits Left 1 put_one ∷ Reopen (At Left) ∷ []) 0 acknowledged []
-    (λ world. (world.refusals ≡ Device ∷ Halted ∷ []) × (world.left.status ≡ Up) × (world.left.side.history ≡ history))
+    (λ world. (world.refusals ≡ Device ∷ Halted ∷ []) × (world.left.journal.status ≡ Up) × (world.left.journal.value ≡ history))
 
 abbrev pub FailIsRefused : Type 0
 FailIsRefused = FailedEdit (Happened Left (Edited 1 put_one) ∷ []) (Edited 1 put_one ∷ []) × FailedEdit [] []
@@ -86,7 +99,7 @@ FailIsRefused = FailedEdit (Happened Left (Edited 1 put_one) ∷ []) (Edited 1 p
 abbrev pub CutCheckpoint : ℕ → ℕ → Type 0
 CutCheckpoint room generation =
     IsWitness (Stop (At Left) 9 ∷ Edits Left 1 put_one ∷ Checkpoint (At Left) ∷ Open (At Left) ∷ []) 0 (Happened Left (Edited 1 put_one) ∷ []) []
-    (λ world. (world.left.status ≡ Up) × (world.left.side.history ≡ Edited 1 put_one ∷ []) × (world.left.room ≡ room) × (world.left.generation ≡ generation))
+    (λ world. (world.left.journal.status ≡ Up) × (world.left.journal.value ≡ Edited 1 put_one ∷ []) × (world.left.journal.room ≡ room) × (world.left.journal.generation ≡ generation))
 
 abbrev pub CheckpointIsCut : Type 0
 CheckpointIsCut = CutCheckpoint (new_room - record_size (event_spelling (Edited 1 put_one))) 1 × CutCheckpoint (room_behind (image_spelling 7 (standing_of (Edited 1 put_one ∷ [])))) 2
@@ -109,10 +122,10 @@ one = file (49 ∷ [])
 
 -- both sides have the file and the archive its mark, and the session is one of those that synchronize what they find
 pub record HasCarried (world : World) : Type 0 where
-  pub left : subtree (tree_of world.left.side.history) a_path ≡ one
-  pub right : subtree (tree_of world.right.side.history) a_path ≡ one
-  pub archive : subtree world.coordinator.archive.marks a_path ≡ mark one
-  pub quiet : IsQuietSession formatted world (complete 1) (record { left = Edited 1 put_one ∷ []; right = []; archive = new_archive }) (stores_of world)
+  pub left : subtree (tree_of world.left.journal.value) a_path ≡ one
+  pub right : subtree (tree_of world.right.journal.value) a_path ≡ one
+  pub archive : subtree world.coordinator.journal.value.marks a_path ≡ mark one
+  pub quiet : IsQuietSession formatted world.acknowledged world.reports (complete 1) (record { left = Edited 1 put_one ∷ []; right = []; archive = new_archive }) (stores_of world)
 
 -- a session without loss carries a file that the left alone has
 abbrev pub FileIsCarried : Type 0
@@ -138,10 +151,10 @@ pub record HasBoth (tree first second : Tree) : Type 0 where
   pub second_there : subtree tree b_path ≡ second
 
 pub record HasExchanged (world : World) : Type 0 where
-  pub left : HasBoth (tree_of world.left.side.history) one two
-  pub right : HasBoth (tree_of world.right.side.history) one two
-  pub archive : HasBoth world.coordinator.archive.marks (mark one) (mark two)
-  pub quiet : IsQuietSession formatted world (complete 2) (record { left = Edited 1 put_one ∷ []; right = Edited 2 put_two ∷ []; archive = new_archive }) (stores_of world)
+  pub left : HasBoth (tree_of world.left.journal.value) one two
+  pub right : HasBoth (tree_of world.right.journal.value) one two
+  pub archive : HasBoth world.coordinator.journal.value.marks (mark one) (mark two)
+  pub quiet : IsQuietSession formatted world.acknowledged world.reports (complete 2) (record { left = Edited 1 put_one ∷ []; right = Edited 2 put_two ∷ []; archive = new_archive }) (stores_of world)
 
 -- each side has a file that the other lacks, and a session carries both
 abbrev pub FilesAreExchanged : Type 0
@@ -169,8 +182,8 @@ pub record IsMarkedLater (world : World) : Type 0 where
   pub fetched : one ≡ subtree (tree_at found_later.left 2) a_path
   pub source : UntouchedSince 2 found_later.left a_path
   pub target : UntouchedSince 2 found_later.right a_path
-  pub quiet : IsQuietSession formatted world marked_later found_later (stores_of world)
-  pub archive : subtree world.coordinator.archive.marks a_path ≡ mark one
+  pub quiet : IsQuietSession formatted world.acknowledged world.reports marked_later found_later (stores_of world)
+  pub archive : subtree world.coordinator.journal.value.marks a_path ≡ mark one
 
 -- a coordinator stops before it takes what was done, and the next session marks what was carried
 abbrev pub CarriedIsMarkedLater : Type 0

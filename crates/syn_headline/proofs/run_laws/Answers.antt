@@ -1,30 +1,28 @@
-use Rattle.syn_headline.proofs.WorldLemmas.{run_stands}
+use Rattle.syn_headline.proofs.StandLemmas.{runs_stand}
 use Rattle.syn_headline.proofs.FormattedLemmas.{formatted_is_pair}
-use Rattle.syn_headline.proofs.WholeRuns.{runs_replace_legally, runs_use_tokens_once, runs_owe}
-use Rattle.syn_headline.proofs.LoggedRuns.{runs_log}
-use Rattle.syn_headline.proofs.ArchiveLemmas.{runs_hold_archive, runs_leave_pair}
+use Rattle.syn_headline.proofs.FineRuns.{replace_legally, use_tokens_once, hold_archive, leave_pair, log_plans, owe}
 use Rattle.syn_headline.proofs.run_laws.Goals as goal
 
 pub returns-clause-stands : goal.returns-clause-stands
-returns-clause-stands c = run_stands
+returns-clause-stands c = runs_stand
 
 pub returns-clause-formatted : goal.returns-clause-formatted
 returns-clause-formatted c = formatted_is_pair
 
 pub returns-clause-legal : goal.returns-clause-legal
-returns-clause-legal c = runs_replace_legally
+returns-clause-legal c = replace_legally
 
 pub returns-clause-tokens : goal.returns-clause-tokens
-returns-clause-tokens c = runs_use_tokens_once
+returns-clause-tokens c = use_tokens_once
 
 pub returns-clause-archive : goal.returns-clause-archive
-returns-clause-archive c = runs_hold_archive
+returns-clause-archive c = hold_archive
 
 pub returns-clause-pair : goal.returns-clause-pair
-returns-clause-pair c = runs_leave_pair
+returns-clause-pair c = leave_pair
 
 pub returns-clause-logged : goal.returns-clause-logged
-returns-clause-logged c = runs_log
+returns-clause-logged c = log_plans
 
 pub returns-clause-owe : goal.returns-clause-owe
-returns-clause-owe c = runs_owe
+returns-clause-owe c = owe

@@ -1,18 +1,17 @@
-use Rattle.syn_headline.proofs.SessionRuns.{runs_synchronize, runs_reconcile, runs_report_conflicts, runs_count_items}
-use Rattle.syn_headline.proofs.CarriedLemmas.{runs_mark_carried}
+use Rattle.syn_headline.proofs.FineRuns.{synchronize, reconcile, report_conflicts, count_items, mark_carried}
 use Rattle.syn_headline.proofs.session_laws.Goals as goal
 
 pub returns-clause-synchronized : goal.returns-clause-synchronized
-returns-clause-synchronized c = runs_synchronize
+returns-clause-synchronized c = synchronize
 
 pub returns-clause-reconciled : goal.returns-clause-reconciled
-returns-clause-reconciled c = runs_reconcile
+returns-clause-reconciled c = reconcile
 
 pub returns-clause-conflicts : goal.returns-clause-conflicts
-returns-clause-conflicts c = runs_report_conflicts
+returns-clause-conflicts c = report_conflicts
 
 pub returns-clause-counts : goal.returns-clause-counts
-returns-clause-counts c = runs_count_items
+returns-clause-counts c = count_items
 
 pub returns-clause-marked : goal.returns-clause-marked
-returns-clause-marked c = runs_mark_carried
+returns-clause-marked c = mark_carried

@@ -1,0 +1,535 @@
+-- The coordinator as a machine: its archive's journal, the session that runs, and what it does by itself in a call.
+use Rattle.std.specs.Option.{option_map_or}
+use Rattle.std.specs.List.{list_any, list_all, count_by}
+use Rattle.std.specs.Ordering.{eq_by_cmp}
+use Rattle.std.specs.Prelude.{ℕ, suc, min, Bool, true, false, not, nat_le, nat_lt, if◌then◌else◌, ◌&&◌, ◌==◌}
+use Rattle.std.specs.Prelude.{◌+◌, ◌-◌, ◌^◌, ◌≤◌, ◌≡◌, ◌≢◌, ◌⊎◌, List, [], ◌∷◌, ◌++◌, map, filter, filter_map, length, take}
+use Rattle.std.specs.Prelude.{slice_get, sum_by, Option, Some, None, is_some, IsSome, All, Contains}
+use Rattle.syn_model.specs.Path.{Path, Name, root, child, path_cmp}
+use Rattle.syn_model.specs.Tree.{Content, Directory, is_directory}
+use Rattle.syn_model.specs.Limits.{greatest, fits_path}
+use Rattle.syn_model.specs.Dirty.{IsScanBy}
+use Rattle.syn_model.specs.Refusal.{Refusal, Device, Memory, Full, JournalFull, Busy, TooLarge, BadMessage, NoAnswer, Cause, first_cause}
+use Rattle.syn_model.specs.Refusal as why_refused
+use Rattle.syn_model.specs.Archive.{Archive, Kept, Session, Recorded, RecordedDir, CanKeep, after_kept, kept_refusal}
+use Rattle.syn_model.specs.MarkSpelling.{kept_spelling, archive_spelling}
+use Rattle.syn_model.specs.Decision.{Item, ToLeft, ToRight, MarkSame, MarkDir, Conflict, path_of}
+use Rattle.syn_model.specs.Plan.{plan as items_of}
+use Rattle.syn_headline.specs.Machine.{Status, Up, Halted, Down, Journaled, Layout, IsBefore, unarmed}
+use Rattle.syn_headline.specs.Machine.{has_room, room_behind, cut, with_record, Writes, Compacts}
+use Rattle.syn_headline.specs.Side.{Request, Begin, ListAt, Fetch, Stage, Replace, IsLawfulRequest}
+use Rattle.syn_headline.specs.Side.{Reply, Begun, Listed, NotDir, Piece, Staged, Done, Refused}
+use Rattle.syn_headline.specs.Network.{Which, Left, Right, other, is_side, Message, Asks, IsRepeat}
+use Rattle.syn_headline.specs.Planning.{Planned, seen_on, SeesBoth, SessionPlan, Log, WritesTo}
+use Rattle.syn_headline.specs.Report.{Report, Complete, Incomplete, is_kept, is_carrying, is_marking, conflict_at}
+
+-- a request of the session that was answered, with the answer that was taken
+pub record Exchange : Type 0 where
+  pub side : Which
+  pub number : ℕ
+  pub request : Request
+  pub reply : Reply
+
+-- a request that waits for its answer
+pub record Outstanding : Type 0 where
+  pub number : ℕ
+  pub request : Request
+  pub resent : ℕ
+
+-- A session that runs: its transcript, in order of time; what waits on each side; its plan, once it is made,
+-- the item that it has come to, and what it recorded and refused so far
+pub record Running : Type 0 where
+  pub session : ℕ
+  pub taken : List Exchange
+  pub left : List Outstanding
+  pub right : List Outstanding
+  pub plan : Option (List Planned)
+  pub cursor : ℕ
+  pub kept : List Kept
+  pub refused : List (Refusal × Path)
+
+pub record CoordinatorMachine : Type 0 where
+  pub journal : Journaled Archive Kept
+  pub running : Option Running
+
+-- how an archive's journal is written: a directory that is recorded already is not written
+abbrev pub is_recorded : Archive → Kept → Bool
+is_recorded archive (RecordedDir path) = is_directory archive.marks path
+is_recorded archive (Recorded path marks) = false
+is_recorded archive (Session session) = false
+
+abbrev pub archive_layout : ℕ → Layout Archive Kept
+archive_layout pair = record {
+  after = after_kept;
+  is_idle = is_recorded;
+  payload = kept_spelling;
+  image = archive_spelling pair;
+}
+
+-- What waits
+
+abbrev pub outstanding : Running → Which → List Outstanding
+outstanding running Left = running.left
+outstanding running Right = running.right
+
+-- the request that waits under the number
+abbrev pub asked_in : List Outstanding → ℕ → Option Request
+asked_in [] number = None
+asked_in (waiting ∷ more) number = if waiting.number == number then Some waiting.request else asked_in more number
+
+abbrev pub asked_of : Running → Which → ℕ → Option Request
+asked_of running side number = asked_in (outstanding running side) number
+
+abbrev pub without : ℕ → List Outstanding → List Outstanding
+without number waiting = filter (λ one. not (one.number == number)) waiting
+
+-- how many requests the session sent to a side, resends aside
+abbrev pub asked_count : Running → Which → ℕ
+asked_count running side = count_by (λ exchange. is_side side exchange.side) running.taken + length (outstanding running side)
+
+-- requests that are sent now, numbered on from there
+abbrev pub numbered : ℕ → List Request → List Outstanding
+numbered number [] = []
+numbered number (request ∷ more) =
+    record { number = number; request = request; resent = 0 } ∷ numbered (suc number) more
+
+abbrev pub asking : Running → List Request → List Request → Running
+asking running left right = record running {
+  left = running.left ++ numbered (asked_count running Left) left;
+  right = running.right ++ numbered (asked_count running Right) right;
+}
+
+abbrev pub messages_to : ℕ → Which → List Outstanding → List Message
+messages_to session side waiting = map (λ one. Asks side session one.number one.request) waiting
+
+-- so many requests wait on a side at most
+abbrev pub most_outstanding : ℕ
+most_outstanding = 1
+
+-- it waits for an answer, and on each side for no more than it may at a time
+abbrev pub Waits : Running → Type 0
+Waits running =
+    (1 ≤ length running.left + length running.right)
+    × (length running.left ≤ most_outstanding) × (length running.right ≤ most_outstanding)
+
+-- The transcript
+
+abbrev pub WasTaken : List Exchange → Which → Request → Reply → Type 0
+WasTaken taken side request reply =
+    (number : ℕ) × Contains taken (record { side = side; number = number; request = request; reply = reply })
+
+-- the request was sent to the side in this session
+abbrev pub WasAsked : Running → Which → ℕ → Request → Type 0
+WasAsked running side number request =
+    ((reply : Reply) × Contains running.taken (record { side = side; number = number; request = request; reply = reply }))
+    ⊎ ((resent : ℕ) × Contains (outstanding running side) (record { number = number; request = request; resent = resent }))
+
+-- resends aside, nothing is asked twice of a side
+abbrev pub AsksOnce : Running → Type 0
+AsksOnce running = (side : Which) (m n : ℕ) (a b : Request) →
+    WasAsked running side m a → WasAsked running side n b → IsRepeat a b → m ≡ n
+
+abbrev pub BothBegun : List Exchange → Type 0
+BothBegun taken = (side : Which) → (pair : ℕ) × (position : ℕ) × WasTaken taken side (Begin pair) (Begun position)
+
+-- the path is the root, or a listing that was taken shows a directory there
+abbrev pub IsShown : List Exchange → Which → Path → Type 0
+IsShown taken side path =
+    (path ≡ root)
+    ⊎ ((above : Path) × (name : Name) × (position : ℕ) × (entries : List (Name × Content)) × (path ≡ child above name)
+    × WasTaken taken side (ListAt above) (Listed position entries) × Contains entries (name, Directory))
+
+-- a path was answered as no directory
+abbrev pub is_not_dir : Reply → Bool
+is_not_dir (NotDir position) = true
+is_not_dir _ = false
+
+-- a path of its scans was answered as no directory
+abbrev pub is_unstable : Running → Bool
+is_unstable running = list_any (λ exchange. is_not_dir exchange.reply) running.taken
+
+-- What an answer brings
+
+-- the most nodes of a scan
+abbrev pub most_nodes : ℕ
+most_nodes = 4096
+
+abbrev pub entries_in : Reply → ℕ
+entries_in (Listed position entries) = length entries
+entries_in _ = 0
+
+-- the nodes that the listings of a side show: the root, and each entry
+abbrev pub nodes_shown : List Exchange → Which → ℕ
+nodes_shown taken side =
+    1 + sum_by (λ exchange. if is_side side exchange.side then entries_in exchange.reply else 0) taken
+
+-- the length of the whole that an answer gave first for a path
+abbrev pub piece_total : Path → Request → Reply → Option ℕ
+piece_total path (Fetch at since offset) (Piece total bytes) = if eq_by_cmp path_cmp at path then Some total else None
+piece_total path _ _ = None
+
+abbrev pub first_total : List Exchange → Path → Option ℕ
+first_total taken path = slice_get (filter_map (λ exchange. piece_total path exchange.request exchange.reply) taken) 0
+
+-- the most bytes of a piece
+abbrev pub most_piece : ℕ
+most_piece = 32768
+
+-- a piece has the length that the item's first piece gave for the whole, and all the bytes that it can
+abbrev pub fits_piece : Option ℕ → ℕ → ℕ → ℕ → Bool
+fits_piece first offset total count =
+    option_map_or (λ was. total == was) first true && nat_le offset total && count == min most_piece (total - offset)
+
+-- The refusal with which an answer ends the session at once, if it does: a begin or a listing is refused, a scan grows
+-- too large, or the answer does not belong. A refusal of another request refuses its item and ends nothing
+abbrev pub fault_of : List Exchange → Which → Request → Reply → Option Refusal
+fault_of taken from (Begin pair) (Refused why) = Some why
+fault_of taken from (Begin pair) (Begun position) = None
+fault_of taken from (ListAt path) (Refused why) = Some why
+fault_of taken from (ListAt path) (NotDir position) = None
+fault_of taken from (ListAt path) (Listed position entries) =
+    first_cause ((nat_lt most_nodes (nodes_shown taken from + length entries), TooLarge)
+    ∷ (not (list_all (λ entry. fits_path (child path entry.0)) entries), BadMessage) ∷ [])
+fault_of taken from (Fetch path since offset) (Refused why) = None
+fault_of taken from (Fetch path since offset) (Piece total bytes) =
+    first_cause ((not (fits_piece (first_total taken path) offset total (length bytes)), BadMessage) ∷ [])
+fault_of taken from (Stage item offset bytes) (Refused why) = None
+fault_of taken from (Stage item offset bytes) Staged = None
+fault_of taken from (Replace item path since size) (Refused why) = None
+fault_of taken from (Replace item path since size) Done = None
+fault_of taken from request reply = Some BadMessage
+
+-- The plan
+
+abbrev pub plan_of : Running → List Planned
+plan_of running = option_map_or (λ plan. plan) running.plan []
+
+-- the plan is that of the scans that the transcript gives and of the archive; no session prefers a side yet
+pub record MakesPlan (running : Running) (archive : Archive) (made : SessionPlan) : Type 0 where
+  pub of_session : made.session ≡ running.session
+  pub prefers_none : made.preference ≡ None
+  pub archive_is : made.archive ≡ archive.marks
+  pub begun : BothBegun running.taken
+  pub scanned : (side : Which) → IsScanBy
+      (λ path position entries. WasTaken running.taken side (ListAt path) (Listed position entries))
+      (λ path position. WasTaken running.taken side (ListAt path) (NotDir position)) (made.scan side) (made.since side)
+  pub items : map (λ planned. planned.item) made.plan ≡ items_of (made.scan Left) (made.scan Right) made.archive
+  pub seen : All (SeesBoth made.scan made.since) made.plan
+
+-- the plan stays, or it is made, once in a session
+pub data HasPlan (archive : Archive) (running : Running) : Option (List Planned) → Log → Type 0 where
+  stays : HasPlan archive running running.plan []
+  makes : (made : SessionPlan) → running.plan ≡ None → MakesPlan running archive made →
+      HasPlan archive running (Some made.plan) (made ∷ [])
+
+-- what is to be recorded for an item, with the marks that both scans show or its source shows
+abbrev pub record_for : Planned → Item → Option Kept
+record_for planned (ToLeft path) = Some (Recorded path planned.right.marks)
+record_for planned (ToRight path) = Some (Recorded path planned.left.marks)
+record_for planned (MarkSame path) = Some (Recorded path planned.left.marks)
+record_for planned (MarkDir path) = Some (RecordedDir path)
+record_for planned (Conflict path) = None
+
+-- What is asked for
+
+-- the item that the session has come to
+abbrev pub AtCursor : Running → (Planned → Type 0) → Type 0
+AtCursor running P = (planned : Planned) × (slice_get (plan_of running) running.cursor ≡ Some planned) × P planned
+
+-- what a running session may ask of a side next: a listing, before it has its plan, of a path that is shown as a directory;
+-- then a piece of what the item is to carry, once its record fits the archive; a piece that was taken; and its replacement
+abbrev pub MayAsk : Archive → Running → Which → Request → Type 0
+MayAsk archive running to (Begin pair) = ⊥
+MayAsk archive running to (ListAt path) = (running.plan ≡ None) × BothBegun running.taken × IsShown running.taken to path
+MayAsk archive running to (Fetch path since offset) = AtCursor running (λ planned.
+    WritesTo planned.item (other to) path × (since ≡ (seen_on planned to).since)
+    × (kept_refusal archive (Recorded path (seen_on planned to).marks) ≡ None))
+MayAsk archive running to (Stage item offset bytes) = (item ≡ running.cursor) × AtCursor running (λ planned.
+    WritesTo planned.item to (path_of planned.item) × (total : ℕ)
+    × WasTaken running.taken (other to) (Fetch (path_of planned.item) (seen_on planned (other to)).since offset) (Piece total bytes))
+MayAsk archive running to (Replace item path since size) = (item ≡ running.cursor) × AtCursor running (λ planned.
+    WritesTo planned.item to path × (since ≡ (seen_on planned to).since) × (offset : ℕ) × (bytes : List ℕ)
+    × WasTaken running.taken (other to) (Fetch (path_of planned.item) (seen_on planned (other to)).since offset) (Piece size bytes))
+
+-- and each request is lawful, with a number that four bytes can spell
+pub record Asks_now (archive : Archive) (running : Running) (left right : List Request) : Type 0 where
+  pub may_left : All (MayAsk archive running Left) left
+  pub may_right : All (MayAsk archive running Right) right
+  pub lawful : All (IsLawfulRequest running.session) (left ++ right)
+  pub numbers : (side : Which) → asked_count (asking running left right) side ≤ 2 ^ 32
+  pub once : AsksOnce (asking running left right)
+  pub waits : Waits (asking running left right)
+
+-- How a session goes through its plan
+
+-- the archive, the item that the session has come to, and what it refused so far
+pub record Walk : Type 0 where
+  pub journal : Journaled Archive Kept
+  pub cursor : ℕ
+  pub refused : List (Refusal × Path)
+
+-- past an item: it is settled, or refused so
+abbrev pub past : Walk → Journaled Archive Kept → Walk
+past walk journal = record walk { journal = journal; cursor = suc walk.cursor }
+
+abbrev pub refusing : Walk → Refusal → Planned → Walk
+refusing walk why planned = record walk { cursor = suc walk.cursor; refused = walk.refused ++ (why, path_of planned.item) ∷ [] }
+
+-- the request is for the item of that number
+abbrev pub IsFor : ℕ → Planned → Request → Type 0
+IsFor item planned (Fetch path since offset) = path ≡ path_of planned.item
+IsFor item planned (Stage at offset bytes) = at ≡ item
+IsFor item planned (Replace at path since size) = at ≡ item
+IsFor item planned _ = ⊥
+
+-- a record is due once the item's replacement is done, or where both scans agree, or for a directory of both
+pub data IsDue (item : ℕ) (planned : Planned) (taken : Exchange) : Kept → Type 0 where
+  done : (path : Path) (since size : ℕ) → taken.reply ≡ Done → taken.request ≡ Replace item path since size →
+      WritesTo planned.item taken.side path → IsDue item planned taken (Recorded path (seen_on planned (other taken.side)).marks)
+  same : (path : Path) → planned.item ≡ MarkSame path → planned.left.marks ≡ planned.right.marks →
+      IsDue item planned taken (Recorded path planned.left.marks)
+  directory : (path : Path) → planned.item ≡ MarkDir path → IsDue item planned taken (RecordedDir path)
+
+-- a record is due for the item at the cursor, and the archive does not refuse it
+pub record IsToKeep (plan : List Planned) (taken : Exchange) (walk : Walk) (kept : Kept) : Type 0 where
+  pub planned : Planned
+  pub at : slice_get plan walk.cursor ≡ Some planned
+  pub due : IsDue walk.cursor planned taken kept
+  pub can : CanKeep walk.journal.value kept
+  pub up : walk.journal.status ≡ Up
+
+-- and what the journal has left does not suffice for it
+pub record HasNoRoom (pair : ℕ) (plan : List Planned) (taken : Exchange) (walk : Walk) (kept : Kept) : Type 0 where
+  pub to_keep : IsToKeep plan taken walk kept
+  pub no_room : has_room (archive_layout pair) walk.journal kept ≡ false
+
+-- a record is written; a stop may also come right behind it
+pub data Keeps (pair : ℕ) (journal : Journaled Archive Kept) (kept : Kept) : Journaled Archive Kept → List Kept → Type 0 where
+  writes : (new : Journaled Archive Kept) (acknowledged : List Kept) →
+      Writes (archive_layout pair) journal kept new acknowledged → Keeps pair journal kept new acknowledged
+  cut_behind : is_recorded journal.value kept ≡ false → IsBefore 4 journal.arms.fail → journal.arms.stop ≡ 4 →
+      Keeps pair journal kept (cut (with_record (archive_layout pair) journal kept unarmed)) (kept ∷ [])
+
+-- A call goes on through the plan from item to item, as far as it can: it passes a conflict; it refuses an item as the side
+-- did, or as the archive refuses its record; it keeps a record that is due. For one that does not fit it makes a checkpoint,
+-- or refuses the item 7 where none can be made. A device that fails and a stop end it
+pub data Advances (pair : ℕ) (plan : List Planned) (taken : Exchange) : Walk → List Kept → Walk → Type 0 where
+  stands : (walk : Walk) → Advances pair plan taken walk [] walk
+  conflicts : (walk later : Walk) (kept : List Kept) (planned : Planned) (path : Path) →
+      slice_get plan walk.cursor ≡ Some planned → planned.item ≡ Conflict path →
+      Advances pair plan taken (past walk walk.journal) kept later → Advances pair plan taken walk kept later
+  side_refuses : (walk later : Walk) (kept : List Kept) (planned : Planned) (why : Refusal) →
+      slice_get plan walk.cursor ≡ Some planned → taken.reply ≡ Refused why → IsFor walk.cursor planned taken.request →
+      Advances pair plan taken (refusing walk why planned) kept later → Advances pair plan taken walk kept later
+  archive_refuses : (walk later : Walk) (kept : List Kept) (planned : Planned) (what : Kept) (why : Refusal) →
+      slice_get plan walk.cursor ≡ Some planned → record_for planned planned.item ≡ Some what →
+      (is_carrying planned.item ≡ true) ⊎ (walk.journal.status ≡ Up) → kept_refusal walk.journal.value what ≡ Some why →
+      Advances pair plan taken (refusing walk why planned) kept later → Advances pair plan taken walk kept later
+  no_checkpoint : (walk later : Walk) (kept : List Kept) (what : Kept) (full : HasNoRoom pair plan taken walk what) →
+      nat_le greatest walk.journal.generation ≡ true →
+      Advances pair plan taken (refusing walk Full full.to_keep.planned) kept later → Advances pair plan taken walk kept later
+  checkpoints : (walk later : Walk) (kept : List Kept) (what : Kept) (journal : Journaled Archive Kept) →
+      HasNoRoom pair plan taken walk what → nat_le greatest walk.journal.generation ≡ false →
+      Compacts (archive_layout pair) walk.journal journal → journal.status ≡ Up →
+      Advances pair plan taken (record walk { journal = journal }) kept later → Advances pair plan taken walk kept later
+  checkpoint_breaks : (walk : Walk) (what : Kept) (journal : Journaled Archive Kept) →
+      HasNoRoom pair plan taken walk what → nat_le greatest walk.journal.generation ≡ false →
+      Compacts (archive_layout pair) walk.journal journal → journal.status ≢ Up →
+      Advances pair plan taken walk [] (record walk { journal = journal })
+  keeps : (walk later : Walk) (what : Kept) (kept : List Kept) (journal : Journaled Archive Kept) →
+      IsToKeep plan taken walk what → has_room (archive_layout pair) walk.journal what ≡ true →
+      Keeps pair walk.journal what journal (what ∷ []) → journal.status ≡ Up →
+      Advances pair plan taken (past walk journal) kept later → Advances pair plan taken walk (what ∷ kept) later
+  record_breaks : (walk : Walk) (what : Kept) (kept : List Kept) (journal : Journaled Archive Kept) →
+      IsToKeep plan taken walk what → has_room (archive_layout pair) walk.journal what ≡ true →
+      Keeps pair walk.journal what journal kept → journal.status ≢ Up →
+      Advances pair plan taken walk kept (record walk { journal = journal })
+
+-- How it ends
+
+-- What a session reports that ends so: the conflicts that it came to, and Complete where nothing ended it early,
+-- no item was refused and no path was unstable
+abbrev pub is_whole : Running → Option Refusal → Bool
+is_whole running ended = not (is_some ended) && not (nat_lt 0 (length running.refused)) && not (is_unstable running)
+
+abbrev pub report_of : Running → Option Refusal → Report
+report_of running ended = record {
+  session = running.session;
+  end = if is_whole running ended then Complete else Incomplete;
+  ended = ended;
+  done = count_by (λ planned. is_carrying planned.item && is_kept running.kept planned.item) (plan_of running);
+  marked = count_by (λ planned. is_marking planned.item && is_kept running.kept planned.item) (plan_of running);
+  conflicts = filter_map (λ planned. conflict_at planned.item) (take running.cursor (plan_of running));
+  refused = running.refused;
+}
+
+-- why a call that has come so far ends the session: each item is settled; or the archive's device failed in this call or
+-- had failed before, or a checkpoint left no room for the record either, or memory is refused
+pub data EndsFor (pair : ℕ) (running : Running) (taken : Exchange) (was : Status) (walk : Walk) : Option Refusal → Type 0 where
+  settled : IsSome running.plan → slice_get (plan_of running) walk.cursor ≡ None → walk.journal.status ≡ was →
+      EndsFor pair running taken was walk None
+  fails : was ≡ Up → walk.journal.status ≡ Halted → EndsFor pair running taken was walk (Some Device)
+  failed_before : (planned : Planned) (kept : Kept) → slice_get (plan_of running) walk.cursor ≡ Some planned →
+      IsDue walk.cursor planned taken kept → was ≡ Halted → walk.journal.status ≡ Halted →
+      EndsFor pair running taken was walk (Some why_refused.Halted)
+  no_room_left : (kept : Kept) → HasNoRoom pair (plan_of running) taken walk kept →
+      walk.journal.room ≡ room_behind (archive_spelling pair walk.journal.value) →
+      EndsFor pair running taken was walk (Some JournalFull)
+  no_memory : walk.journal.status ≡ was → EndsFor pair running taken was walk (Some Memory)
+
+-- A call
+
+-- what a call gives beside the machine: what it acknowledged of the archive, the requests that it sent,
+-- the report of a session that it ended, and the plan that it made
+pub record Call : Type 0 where
+  pub kept : List Kept
+  pub messages : List Message
+  pub reports : List Report
+  pub logged : Log
+
+abbrev pub no_call : Call
+no_call = record { kept = []; messages = []; reports = []; logged = [] }
+
+abbrev pub sent_now : Running → List Request → List Request → List Message
+sent_now running left right =
+    messages_to running.session Left (numbered (asked_count running Left) left)
+    ++ messages_to running.session Right (numbered (asked_count running Right) right)
+
+-- the answer has the session and number of a request that waits
+pub record IsExpected (machine : CoordinatorMachine) (from : Which) (session number : ℕ) (running : Running) (request : Request) : Type 0 where
+  pub runs : machine.running ≡ Some running
+  pub of_session : session ≡ running.session
+  pub asked : asked_of running from number ≡ Some request
+
+-- the session, once the answer is taken
+abbrev pub hearing : Running → Exchange → Running
+hearing running exchange = record running {
+  taken = running.taken ++ exchange ∷ [];
+  left = if is_side Left exchange.side then without exchange.number running.left else running.left;
+  right = if is_side Right exchange.side then without exchange.number running.right else running.right;
+}
+
+-- with its plan, as far as the call has carried it out
+abbrev pub advanced : Running → Option (List Planned) → Walk → List Kept → Running
+advanced running plan walk kept = record running {
+  plan = plan;
+  cursor = walk.cursor;
+  kept = running.kept ++ kept;
+  refused = walk.refused;
+}
+
+abbrev pub start_of : CoordinatorMachine → Running → Walk
+start_of machine running = record { journal = machine.journal; cursor = running.cursor; refused = running.refused }
+
+-- how an answer is taken: it ends the session at once, or for want of memory; or the call goes through the plan, and then
+-- the machine is down, or the session ends, or it goes on and asks for what comes next
+pub data Takes (pair : ℕ) (machine : CoordinatorMachine) (running : Running) (taken : Exchange) : CoordinatorMachine → Call → Type 0 where
+  ends_at_once : (why : Refusal) →
+      (fault_of running.taken taken.side taken.request taken.reply ≡ Some why) ⊎ (why ≡ Memory) →
+      Takes pair machine running taken (record machine { running = None })
+      (record no_call { reports = report_of running (Some why) ∷ [] })
+  stops : (plan : Option (List Planned)) (logged : Log) (walk : Walk) (kept : List Kept) →
+      fault_of running.taken taken.side taken.request taken.reply ≡ None →
+      HasPlan machine.journal.value (hearing running taken) plan logged →
+      Advances pair (option_map_or (λ plan. plan) plan []) taken (start_of machine running) kept walk → walk.journal.status ≡ Down →
+      Takes pair machine running taken (record { journal = walk.journal; running = None })
+      (record no_call { kept = kept; logged = logged })
+  ends : (plan : Option (List Planned)) (logged : Log) (walk : Walk) (kept : List Kept) (why : Option Refusal) →
+      fault_of running.taken taken.side taken.request taken.reply ≡ None →
+      HasPlan machine.journal.value (hearing running taken) plan logged →
+      Advances pair (option_map_or (λ plan. plan) plan []) taken (start_of machine running) kept walk →
+      EndsFor pair (advanced (hearing running taken) plan walk kept) taken machine.journal.status walk why →
+      Takes pair machine running taken (record { journal = walk.journal; running = None })
+      (record { kept = kept; messages = []; reports = report_of (advanced (hearing running taken) plan walk kept) why ∷ []; logged = logged })
+  goes_on : (plan : Option (List Planned)) (logged : Log) (walk : Walk) (kept : List Kept) (left right : List Request) →
+      fault_of running.taken taken.side taken.request taken.reply ≡ None →
+      HasPlan machine.journal.value (hearing running taken) plan logged →
+      Advances pair (option_map_or (λ plan. plan) plan []) taken (start_of machine running) kept walk →
+      walk.journal.status ≡ machine.journal.status →
+      Asks_now walk.journal.value (advanced (hearing running taken) plan walk kept) left right →
+      Takes pair machine running taken
+      (record { journal = walk.journal; running = Some (asking (advanced (hearing running taken) plan walk kept) left right) })
+      (record { kept = kept; messages = sent_now (advanced (hearing running taken) plan walk kept) left right; reports = []; logged = logged })
+
+-- A coordinator takes an answer that it waits for, and ignores any other
+pub data CoordinatorTakes (pair : ℕ) (machine : CoordinatorMachine) (from : Which) (session number : ℕ) (reply : Reply) :
+    CoordinatorMachine → Call → Type 0 where
+  takes : (running : Running) (request : Request) (new : CoordinatorMachine) (call : Call) →
+      IsExpected machine from session number running request →
+      Takes pair machine running (record { side = from; number = number; request = request; reply = reply }) new call →
+      CoordinatorTakes pair machine from session number reply new call
+  ignores : ((running : Running) (request : Request) → IsExpected machine from session number running request → ⊥) →
+      CoordinatorTakes pair machine from session number reply machine no_call
+
+-- A start
+
+-- why a coordinator that is up refuses it
+abbrev pub start_causes : ℕ → CoordinatorMachine → List Cause
+start_causes pair machine =
+    let last = machine.journal.value.last_session in
+    (is_some machine.running, Busy) ∷ (nat_le greatest last, Full)
+    ∷ (not (has_room (archive_layout pair) machine.journal (Session (last + 1))), JournalFull) ∷ []
+
+abbrev pub new_session : ℕ → Running
+new_session session = record {
+  session = session;
+  taken = [];
+  left = [];
+  right = [];
+  plan = None;
+  cursor = 0;
+  kept = [];
+  refused = [];
+}
+
+abbrev pub begins : ℕ → List Request
+begins pair = Begin pair ∷ []
+
+-- the next number is kept and both sides are to begin it; or the device fails as it is written, or the machine stops
+pub data CoordinatorStarts (pair : ℕ) (machine : CoordinatorMachine) : CoordinatorMachine → Call → Type 0 where
+  starts : (session : ℕ) (journal : Journaled Archive Kept) → session ≡ machine.journal.value.last_session + 1 →
+      IsLawfulRequest session (Begin pair) → Keeps pair machine.journal (Session session) journal (Session session ∷ []) → journal.status ≡ Up →
+      CoordinatorStarts pair machine
+      (record { journal = journal; running = Some (asking (new_session session) (begins pair) (begins pair)) })
+      (record no_call { kept = Session session ∷ []; messages = sent_now (new_session session) (begins pair) (begins pair) })
+  start_breaks : (session : ℕ) (journal : Journaled Archive Kept) (kept : List Kept) →
+      session ≡ machine.journal.value.last_session + 1 →
+      Keeps pair machine.journal (Session session) journal kept → journal.status ≢ Up →
+      CoordinatorStarts pair machine (record { journal = journal; running = None }) (record no_call { kept = kept })
+
+-- A tick
+
+-- a request is sent again, at most so many times
+abbrev pub most_resends : ℕ
+most_resends = 8
+
+abbrev pub is_resent : Running → Bool
+is_resent running = list_any (λ waiting. nat_le most_resends waiting.resent) (running.left ++ running.right)
+
+abbrev pub once_more : List Outstanding → List Outstanding
+once_more waiting =
+    let again = λ (one : Outstanding). record one { resent = suc one.resent } in map again waiting
+
+-- each request that waits is sent again; where one was sent again so often already, that ends the session, and where
+-- none was, want of memory alone does. A tick makes no device call
+pub data CoordinatorTicks (machine : CoordinatorMachine) : CoordinatorMachine → Call → Type 0 where
+  no_session : machine.running ≡ None → CoordinatorTicks machine machine no_call
+  resends : (running : Running) → machine.running ≡ Some running → is_resent running ≡ false →
+      CoordinatorTicks machine
+      (record machine { running = Some (record running { left = once_more running.left; right = once_more running.right }) })
+      (record no_call { messages = messages_to running.session Left running.left ++ messages_to running.session Right running.right })
+  gives_up : (running : Running) (why : Refusal) → machine.running ≡ Some running →
+      ((is_resent running ≡ true) × (why ≡ NoAnswer)) ⊎ ((is_resent running ≡ false) × (why ≡ Memory)) →
+      CoordinatorTicks machine (record machine { running = None }) (record no_call { reports = report_of running (Some why) ∷ [] })
+
+-- An opening, a checkpoint and a stop
+
+-- a stop loses the session
+abbrev pub running_after : Status → Option Running → Option Running
+running_after Down running = None
+running_after Up running = running
+running_after Halted running = running
+
+-- a call on the journal left it so
+abbrev pub with_archive : CoordinatorMachine → Journaled Archive Kept → CoordinatorMachine
+with_archive machine journal = record { journal = journal; running = running_after journal.status machine.running }
