@@ -45,15 +45,6 @@ pub record IsStart (world : World) : Type 0 where
   pub coordinator : IsJustOpened world.coordinator.journal × (world.coordinator.running ≡ None)
   pub nothing_yet : (world.sent ≡ []) × (world.acknowledged ≡ []) × (world.reports ≡ []) × (world.log ≡ [])
 
--- Opening what any stop leaves: the acknowledged events in order, with at most the one being written.
--- `stands` says what a disk's bytes stand for, and `leaves` which bytes a stop may then leave
-pub record OpensToAcknowledged (stands : Bytes → History → Type 0) (stands_archive : Bytes → Archive → Type 0)
-    (leaves : Which → Bytes → Type 0) (leaves_archive : Bytes → Type 0) (before : Stores) (world : World) : Type 0 where
-  pub side : (which : Which) (bytes : Bytes) → leaves which bytes →
-      (history : History) × stands bytes history × Grown (side_of world which).journal.writing (history_of (stores_after before world.acknowledged) which) history
-  pub archive : (bytes : Bytes) → leaves_archive bytes →
-      (archive : Archive) × stands_archive bytes archive × ArchiveGrown world.coordinator.journal.writing (stores_after before world.acknowledged).archive archive
-
 -- Each replacement of the run is of its session's plan, and puts what the other side held over what the archive recorded, untouched since its listing
 abbrev pub EachReplacementIsLegal : Stores → World → Type 0
 EachReplacementIsLegal before world =
@@ -142,15 +133,6 @@ CarriedIsMarked before world =
     history_of found side ≡ first ++ Replaced token path since new ∷ rest → All (λ event. touches event path ≡ false) rest →
     is_directory (tree_at source fetched) (parent path) ≡ true → new ≡ subtree (tree_at source fetched) path → UntouchedSince fetched source path →
     IsQuietSession before world.acknowledged world.reports report found left → subtree left.archive.marks path ≡ mark new
-
--- The headline
-pub record Headline (stands : Bytes → History → Type 0) (stands_archive : Bytes → Archive → Type 0)
-    (leaves : Which → Bytes → Type 0) (leaves_archive : Bytes → Type 0) (before : Stores) (world : World) : Type 0 where
-  pub opens : OpensToAcknowledged stands stands_archive leaves leaves_archive before world
-  pub replaced : EachReplacementIsLegal before world
-  pub archived : EachEntryWasHeld before world
-  pub synchronized : CompleteSessionsSynchronize before world
-  pub reconciled : CompleteSessionsReconcile before world
 
 -- The machines stand for what was there before and then what was acknowledged, in order
 pub record StandsFor (before : Stores) (world : World) : Type 0 where

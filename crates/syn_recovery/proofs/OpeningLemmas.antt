@@ -1,8 +1,8 @@
 -- An opening gives what a disk may mean.
-use Rattle.std.proofs.Common.{◌≡◌, ℕ, suc, ◌-◌, List, [], ◌∷◌, sym, ap, ◌∙◌, refl, inl, inr, subst, arith}
+use Rattle.std.proofs.Common.{◌≡◌, ℕ, suc, ◌-◌, [], ◌∷◌, sym, ap, ◌∙◌, refl, inl, inr, subst, arith}
 use Rattle.syn_model.specs.Path.{Bytes}
 use Rattle.syn_journal.specs.Layout.{Value, image_alone}
-use Rattle.syn_headline.specs.Machine.{Journaled, Layout, Opens, opened, recovered, Meets, all_made, unarmed, room_behind}
+use Rattle.syn_headline.specs.Machine.{Journaled, opened, recovered, Meets, all_made, unarmed, room_behind}
 use Rattle.syn_headline.specs.Machine.{reopened, with_record as and_record, Up}
 use Rattle.syn_recovery.specs.Meaning.{Keeping, MayMean, as_kept, with_record, compacted, OpensTo, room_left}
 

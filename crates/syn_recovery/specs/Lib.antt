@@ -1,3 +1,4 @@
 pub mod Meaning
 pub mod Machines
+pub mod Headline
 pub use Rattle.syn_journal.specs.Layout

@@ -8,26 +8,8 @@ use Rattle.syn_model.specs.ArchiveImage.{ArchiveStandsFor}
 use Rattle.syn_journal.specs.Layout.{Value}
 use Rattle.syn_headline.specs.Machine.{Journaled, unarmed}
 use Rattle.syn_headline.specs.SideMachine.{side_layout}
-use Rattle.syn_headline.specs.Machine.{Layout}
-use Rattle.syn_model.specs.Archive.{after_kept}
-use Rattle.syn_model.specs.Tree.{is_directory}
-use Rattle.syn_model.specs.Archive.{Session, Recorded, RecordedDir}
-use Rattle.std.specs.Prelude.{Bool, false}
-use Rattle.syn_model.specs.MarkSpelling.{kept_spelling, archive_spelling}
+use Rattle.syn_headline.specs.Coordinator.{archive_layout}
 use Rattle.syn_recovery.specs.Meaning.{Keeping, MayMean, OpensTo}
-
-abbrev pub is_recorded : Archive → Kept → Bool
-is_recorded archive (RecordedDir path) = is_directory archive.marks path
-is_recorded archive (Recorded path marks) = false
-is_recorded archive (Session session) = false
-
-abbrev pub archive_layout : ℕ → Layout Archive Kept
-archive_layout pair = record {
-  after = after_kept;
-  is_idle = is_recorded;
-  payload = kept_spelling;
-  image = archive_spelling pair;
-}
 
 abbrev pub of_side : ℕ → Keeping History Event
 of_side pair = record { layout = side_layout pair; CanAdd = IsAllowed; Stands = StandsFor pair }

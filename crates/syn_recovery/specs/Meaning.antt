@@ -1,5 +1,5 @@
 -- What a machine's disk may mean: what the machine keeps, or that with the one change that it was making.
-use Rattle.std.specs.Prelude.{ℕ, suc, true, false, None, Some, ◌-◌, ◌≡◌, List, [], ◌∷◌, sum_by, Ok}
+use Rattle.std.specs.Prelude.{ℕ, suc, true, false, None, Some, ◌-◌, ◌≡◌, List, sum_by, Ok}
 use Rattle.syn_model.specs.Path.{Bytes}
 use Rattle.syn_journal.specs.Layout.{Value, image_alone, meaning, current, generation_at}
 use Rattle.syn_journal.specs.declared.half.Half.{Half}
@@ -22,6 +22,13 @@ pub record Keeping (V W : Type 0) : Type 1 where
   pub layout : Layout V W
   pub CanAdd : V → W → Type 0
   pub Stands : Bytes → List Bytes → V → Type 0
+
+-- the disk stands for the value, whatever room and generation its journal has
+pub record IsDiskOf {V W : Type 0} (keeping : Keeping V W) (bytes : Bytes) (kept : V) : Type 0 where
+  pub value : Value
+  pub generation : ℕ
+  pub journal : HasJournal bytes value generation
+  pub stands : keeping.Stands value.image value.payloads kept
 
 -- The journal stands for the value that the machine keeps, and has as much room and the generation
 -- that the machine knows
@@ -62,6 +69,13 @@ pub record MayBeOf {V W : Type 0} (keeping : Keeping V W) (machine : Journaled V
   pub generation : ℕ
   pub journal : HasJournal bytes value generation
   pub means : MayMean keeping machine value generation
+
+-- the bytes of a disk are those of the machine, with no change under way
+pub record IsOf {V W : Type 0} (keeping : Keeping V W) (machine : Journaled V W) (bytes : Bytes) : Type 0 where
+  pub value : Value
+  pub generation : ℕ
+  pub journal : HasJournal bytes value generation
+  pub means : MeansAsKept keeping machine value generation
 
 -- A machine that was just opened: it is up, makes no change, and nothing is armed
 pub record IsOpened {V W : Type 0} (machine : Journaled V W) : Type 0 where

@@ -2,9 +2,19 @@
 #![tactic(auto)]
 
 ghost use Rattle.syn_recovery.specs.Machines.{SidesOpen, ArchivesOpen};
+ghost use Rattle.syn_recovery.specs.Headline.{DisksAreStart, Headline};
 
 /// Whatever the disk of a machine may mean, an opening gives it.
 pub fn opening_laws()
     ensures sides { SidesOpen }
     ensures archives { ArchivesOpen }
 {}
+
+/// Three disks of a pair are a start, and a run from them is crash safe, whatever the disks then hold.
+pub fn headline()
+    ensures start { DisksAreStart }
+    ensures crash_safe { Headline }
+{
+    syn_headline::run_laws();
+    syn_headline::session_laws();
+}
