@@ -1,5 +1,7 @@
 -- The refusals of a journal.
 use Rattle.std.specs.Prelude.{◌≡◌, ◌<◌, ℕ, Result, Err}
+use Rattle.syn_disk.specs.Arms.{Arms}
+use Rattle.syn_disk.specs.Calls.{MakesAtMost}
 use Rattle.syn_journal.specs.Layout.{Fault, no_image, damaged}
 use Rattle.syn_journal.specs.declared.error.JournalError.{JournalError}
 use Rattle.syn_journal.specs.declared.error.JournalError.TheVariants.{Full, JournalFull, Device, Halted, Memory, NoImage, Damaged}
@@ -17,6 +19,11 @@ number_of Damaged = 19
 abbrev pub CountsFailures : JournalError → ℕ → ℕ → Type 0
 CountsFailures Device old new = old < new
 CountsFailures _ old new = new ≡ old
+
+-- Where Device is answered, at most so many device calls were made, and none where any other refusal is.
+abbrev pub MakesIfDevice : JournalError → ℕ → Arms → Arms → Type 0
+MakesIfDevice Device most old new = MakesAtMost most old new
+MakesIfDevice _ most old new = new ≡ old
 
 -- the refusals of each call
 abbrev pub IsFormatRefusal : JournalError → Type 0

@@ -5,6 +5,7 @@ ghost use Rattle.syn_disk.specs.Disk.{Only, CountsFailure};
 ghost use Rattle.syn_journal.specs.Layout.{half_size, damaged, longest_image, open_gate, start_of, other_half, is_open, generation_at, image_length_at, current, current_of, bytes_from, records, value_at, meaning, record_of, records_of};
 ghost use Rattle.syn_journal.specs.Opened.{payloads_of, value_read};
 ghost use Rattle.syn_journal.specs.Refusals.{CountsFailures, IsOpenRefusal, IsReadRefusal};
+ghost use Rattle.syn_disk.specs.Calls.{MakesReads};
 ghost use Rattle.syn_disk.specs.Stops.{Untouched};
 ghost use Rattle.syn_journal.specs.Whole.{IsWhole};
 
@@ -34,7 +35,9 @@ pub fn read_contents<D: Disk>(alloc: Global, disk: &mut D) -> Result<Contents, J
     ensures durable { OnOk result (Only (D.seen disk.new) (D.may_leave disk.new)) }
     ensures refusals { IfErr result (λ refusal. IsOpenRefusal refusal (meaning (D.seen disk.old))) }
     ensures untouched { Untouched D.seen D.may_leave D.moment D.left_since disk.old disk.new }
-    ensures count { MatchResult result (λ _. D.failures disk.new ≡ D.failures disk.old) (λ refusal. CountsFailures refusal (D.failures disk.old) (D.failures disk.new)) }
+    ensures count { MatchResult result (λ _. D.failures disk.new ≡ D.failures disk.old)
+        (λ refusal. CountsFailures refusal (D.failures disk.old) (D.failures disk.new)) }
+    ensures calls { MakesReads result (D.arms disk.old) (D.arms disk.new) }
 {
     disk.sync()?;
     let (half, generation, other_is_open) = read_current(disk)?;
@@ -63,6 +66,7 @@ fn read_header<D: Disk>(disk: &mut D, half: Half) -> Result<Header, DeviceFailed
     ensures generation { IfOk result (λ header. header.generation ≡ generation_at (D.seen disk.old) half) }
     ensures untouched { Untouched D.seen D.may_leave D.moment D.left_since disk.old disk.new }
     ensures count { CountsFailure result (D.failures disk.old) (D.failures disk.new) }
+    ensures calls { MakesReads result (D.arms disk.old) (D.arms disk.new) }
 {
     let gate = read_u8(disk, half.start())?;
     let generation = read_u64(disk, half.start() + 1)?;
@@ -80,7 +84,9 @@ fn read_current<D: Disk>(disk: &mut D) -> Result<(Half, u64, bool), JournalError
     ensures other { IfOk result (λ found. found.2 ≡ is_open (D.seen disk.old) (other_half found.0)) }
     ensures refusals { IfErr result (λ refusal. IsOpenRefusal refusal (current (D.seen disk.old))) }
     ensures untouched { Untouched D.seen D.may_leave D.moment D.left_since disk.old disk.new }
-    ensures count { MatchResult result (λ _. D.failures disk.new ≡ D.failures disk.old) (λ refusal. CountsFailures refusal (D.failures disk.old) (D.failures disk.new)) }
+    ensures count { MatchResult result (λ _. D.failures disk.new ≡ D.failures disk.old)
+        (λ refusal. CountsFailures refusal (D.failures disk.old) (D.failures disk.new)) }
+    ensures calls { MakesReads result (D.arms disk.old) (D.arms disk.new) }
 {
     let first = read_header(disk, Half::First)?;
     let second = read_header(disk, Half::Second)?;
@@ -112,7 +118,9 @@ fn read_image<D: Disk>(alloc: Global, disk: &mut D, half: Half) -> Result<Vec<u8
     ensures fits { IfOk result (λ image. length image.items ≤ longest_image) }
     ensures refusals { IfErr result (λ refusal. IsReadRefusal refusal (value_at (D.seen disk.old) half ≡ Err damaged)) }
     ensures untouched { Untouched D.seen D.may_leave D.moment D.left_since disk.old disk.new }
-    ensures count { MatchResult result (λ _. D.failures disk.new ≡ D.failures disk.old) (λ refusal. CountsFailures refusal (D.failures disk.old) (D.failures disk.new)) }
+    ensures count { MatchResult result (λ _. D.failures disk.new ≡ D.failures disk.old)
+        (λ refusal. CountsFailures refusal (D.failures disk.old) (D.failures disk.new)) }
+    ensures calls { MakesReads result (D.arms disk.old) (D.arms disk.new) }
 {
     let size = read_u32(disk, half.start() + 9)? as usize;
     if size > MAX_IMAGE {
@@ -135,7 +143,9 @@ fn read_records<D: Disk>(
     ensures payloads { IfOk result (λ found. take (found.1 - first) (drop (start_of half + first) (D.seen disk.old)) ≡ records_of (payloads_of found.0)) }
     ensures refusals { IfErr result (λ refusal. IsReadRefusal refusal (let bytes = bytes_from (D.seen disk.old) half first in records (length bytes) bytes ≡ None)) }
     ensures untouched { Untouched D.seen D.may_leave D.moment D.left_since disk.old disk.new }
-    ensures count { MatchResult result (λ _. D.failures disk.new ≡ D.failures disk.old) (λ refusal. CountsFailures refusal (D.failures disk.old) (D.failures disk.new)) }
+    ensures count { MatchResult result (λ _. D.failures disk.new ≡ D.failures disk.old)
+        (λ refusal. CountsFailures refusal (D.failures disk.old) (D.failures disk.new)) }
+    ensures calls { MakesReads result (D.arms disk.old) (D.arms disk.new) }
 {
     let mut records = Vec::new(alloc);
     let mut gate = first;
@@ -160,7 +170,9 @@ fn read_record<D: Disk>(
     ensures payload { IfOk result (λ payload. take (5 + length payload.items) (drop (start_of half + gate) (D.seen disk.old)) ≡ record_of payload.items) }
     ensures refusals { IfErr result (λ refusal. IsReadRefusal refusal (half_size < gate + 6 + from_be_bytes w32 (take 4 (drop (start_of half + gate + 1) (D.seen disk.old))))) }
     ensures untouched { Untouched D.seen D.may_leave D.moment D.left_since disk.old disk.new }
-    ensures count { MatchResult result (λ _. D.failures disk.new ≡ D.failures disk.old) (λ refusal. CountsFailures refusal (D.failures disk.old) (D.failures disk.new)) }
+    ensures count { MatchResult result (λ _. D.failures disk.new ≡ D.failures disk.old)
+        (λ refusal. CountsFailures refusal (D.failures disk.old) (D.failures disk.new)) }
+    ensures calls { MakesReads result (D.arms disk.old) (D.arms disk.new) }
 {
     if HALF_SIZE - gate < 6 {
         return Err(JournalError::Damaged);
