@@ -5,9 +5,8 @@ ghost use Rattle.syn_disk.specs.Disk.{Only, overwritten, CountsFailure};
 ghost use Rattle.syn_disk.specs.Stops.{LeavesOnly};
 ghost use Rattle.syn_journal.specs.Commit.{IsStagedOrOpened};
 
+use crate::layout::OPEN_GATE;
 use syn_disk::{DISK_SIZE, DeviceFailed, Disk};
-
-pub const OPEN_GATE: u8 = 0xa5;
 
 /// Writes `body` behind the gate, syncs, opens the gate, and syncs.
 pub fn commit<D: Disk>(disk: &mut D, gate: usize, body: &[u8]) -> Result<(), DeviceFailed>

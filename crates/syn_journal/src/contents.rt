@@ -10,9 +10,10 @@ ghost use Rattle.syn_disk.specs.Stops.{Untouched};
 ghost use Rattle.syn_journal.specs.Whole.{IsWhole};
 
 use crate::JournalError;
-use crate::commit::OPEN_GATE;
 use crate::half::{HALF_SIZE, Half};
-use crate::journal::MAX_IMAGE;
+use crate::layout::{
+    IMAGE_AT, IMAGE_LENGTH_AT, MAX_IMAGE, OPEN_GATE, RECORD_HEADER, RECORD_OVERHEAD,
+};
 use crate::read::{read_bytes, read_u8, read_u32, read_u64};
 use std::alloc::Global;
 use syn_disk::{DeviceFailed, Disk};
@@ -42,7 +43,7 @@ pub fn read_contents<D: Disk>(alloc: Global, disk: &mut D) -> Result<Contents, J
     disk.sync()?;
     let (half, generation, other_is_open) = read_current(disk)?;
     let image = read_image(alloc, disk, half)?;
-    let (records, gate) = read_records(alloc, disk, half, 13 + image.len())?;
+    let (records, gate) = read_records(alloc, disk, half, IMAGE_AT + image.len())?;
     Ok(Contents {
         half,
         generation,
@@ -122,11 +123,11 @@ fn read_image<D: Disk>(alloc: Global, disk: &mut D, half: Half) -> Result<Vec<u8
         (λ refusal. CountsFailures refusal (D.failures disk.old) (D.failures disk.new)) }
     ensures calls { MakesReads result (D.arms disk.old) (D.arms disk.new) }
 {
-    let size = read_u32(disk, half.start() + 9)? as usize;
+    let size = read_u32(disk, half.start() + IMAGE_LENGTH_AT)? as usize;
     if size > MAX_IMAGE {
         return Err(JournalError::Damaged);
     }
-    read_bytes(alloc, disk, half.start() + 13, size)
+    read_bytes(alloc, disk, half.start() + IMAGE_AT, size)
 }
 
 // The payloads from this gate on, and the closed gate behind the last.
@@ -151,7 +152,7 @@ fn read_records<D: Disk>(
     let mut gate = first;
     while read_u8(disk, half.start() + gate)? == OPEN_GATE {
         let payload = read_record(alloc, disk, half, gate)?;
-        gate += 5 + payload.len();
+        gate += RECORD_HEADER + payload.len();
         records.push(payload)?;
     }
     Ok((records, gate))
@@ -174,12 +175,12 @@ fn read_record<D: Disk>(
         (λ refusal. CountsFailures refusal (D.failures disk.old) (D.failures disk.new)) }
     ensures calls { MakesReads result (D.arms disk.old) (D.arms disk.new) }
 {
-    if HALF_SIZE - gate < 6 {
+    if HALF_SIZE - gate < RECORD_OVERHEAD {
         return Err(JournalError::Damaged);
     }
     let size = read_u32(disk, half.start() + gate + 1)? as usize;
-    if size > HALF_SIZE - gate - 6 {
+    if size > HALF_SIZE - gate - RECORD_OVERHEAD {
         return Err(JournalError::Damaged);
     }
-    read_bytes(alloc, disk, half.start() + gate + 5, size)
+    read_bytes(alloc, disk, half.start() + gate + RECORD_HEADER, size)
 }

@@ -1,4 +1,20 @@
 //! The journal, its appends and its checkpoints.
+//!
+//! The disk has two halves of 4 MiB. This is a half, with the offsets of its parts; numbers are big endian:
+//!
+//! ```text
+//! 0      gate of the half, open at a5
+//! 1      generation, 8 bytes
+//! 9      L, the length of the image, 4 bytes
+//! 13     image, L bytes
+//! 13 + L gate of the first record, open at a5
+//!        n, the length of its payload, 4 bytes
+//!        payload, n bytes
+//!        gate of the next record, and so on up to one that is closed
+//! ```
+//!
+//! The current half is the open one of the greatest generation. An append writes behind the closed gate and opens it
+//! last; a checkpoint does the same with the gate of the other half.
 ghost use Rattle.std.specs.Prelude.{◌≡◌, ◌↔◌, ◌⊎◌, ◌≤◌, ◌<◌, ◌+◌, ◌-◌, ◌++◌, ◌∷◌, [], ℕ, true, false, List, length, Ok, IfOk, IfErr, OnOk, OnErr, MatchResult, IsErrAnd};
 ghost use Rattle.syn_disk.specs.Armed.{armed};
 ghost use Rattle.syn_disk.specs.Arms.{is_stopped};
@@ -15,6 +31,7 @@ use crate::JournalError;
 use crate::commit::commit;
 use crate::contents::read_contents;
 use crate::half::{HALF_SIZE, Half};
+use crate::layout::{IMAGE_AT, MAX_IMAGE, RECORD_HEADER, RECORD_OVERHEAD};
 use std::alloc::{AllocError, Global};
 use syn_disk::{Arm, DeviceFailed, Disk, Limit};
 
@@ -22,10 +39,6 @@ mod checkpoint;
 mod reopen;
 
 pub use reopen::Reopened;
-
-/// The length of the longest image, in bytes. With it the first gate is the last byte of its half, and no
-/// record fits.
-pub const MAX_IMAGE: usize = HALF_SIZE - 14;
 
 /// An image and the payloads that were appended since, on a disk.
 ///
@@ -93,7 +106,7 @@ impl<D: Disk> Journal<D> {
                 disk,
                 half: Half::First,
                 generation: 1,
-                gate: 13 + image.len(),
+                gate: IMAGE_AT + image.len(),
                 other_is_open: false,
                 halted: false,
             }),
@@ -152,7 +165,7 @@ impl<D: Disk> Journal<D> {
     pub fn room(&self) -> usize
         ensures { result ≡ room_of self.now }
     {
-        (HALF_SIZE - self.gate).saturating_sub(6)
+        (HALF_SIZE - self.gate).saturating_sub(RECORD_OVERHEAD)
     }
 
     /// The generation of the current half: 1 after `format`.
@@ -203,7 +216,9 @@ impl<D: Disk> Journal<D> {
         if self.halted {
             return Err(JournalError::Halted);
         }
-        if HALF_SIZE - self.gate < 6 || HALF_SIZE - self.gate - 6 < payload.len() {
+        if HALF_SIZE - self.gate < RECORD_OVERHEAD
+            || HALF_SIZE - self.gate - RECORD_OVERHEAD < payload.len()
+        {
             return Err(JournalError::JournalFull);
         }
         let body = record_body(alloc, payload)?;
@@ -211,7 +226,7 @@ impl<D: Disk> Journal<D> {
         // It is halted if a device call fails.
         self.halted = true;
         commit(&mut self.disk, gate, &body)?;
-        self.gate += 5 + payload.len();
+        self.gate += RECORD_HEADER + payload.len();
         self.halted = false;
         Ok(())
     }
@@ -249,7 +264,7 @@ fn record_body(alloc: Global, payload: &[u8]) -> Result<Vec<u8>, AllocError>
     requires { length payload.now < half_size }
     ensures { IfOk result (λ body. body.items ≡ body_of_record payload.now) }
 {
-    let mut body = Vec::with_capacity(alloc, payload.len() + 5)?;
+    let mut body = Vec::with_capacity(alloc, payload.len() + RECORD_HEADER)?;
     body.extend_from_slice(&(payload.len() as u32).to_be_bytes())?;
     body.extend_from_slice(payload)?;
     body.push(0)?;
@@ -261,7 +276,7 @@ fn image_body(alloc: Global, generation: u64, image: &[u8]) -> Result<Vec<u8>, A
     requires { length image.now ≤ longest_image }
     ensures { IfOk result (λ body. body.items ≡ body_of_image generation image.now) }
 {
-    let mut body = Vec::with_capacity(alloc, image.len() + 13)?;
+    let mut body = Vec::with_capacity(alloc, image.len() + IMAGE_AT)?;
     body.extend_from_slice(&generation.to_be_bytes())?;
     body.extend_from_slice(&(image.len() as u32).to_be_bytes())?;
     body.extend_from_slice(image)?;

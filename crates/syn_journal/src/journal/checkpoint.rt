@@ -7,10 +7,11 @@ ghost use Rattle.syn_journal.specs.Commit.{IsClosing, IsNextImage};
 ghost use Rattle.syn_disk.specs.Stops.{LeavesOnly};
 ghost use Rattle.syn_journal.specs.Whole.{IsWhole};
 
-use super::{Journal, MAX_IMAGE, image_body};
+use super::{Journal, image_body};
 use crate::JournalError;
 use crate::commit::commit;
 use crate::half::Half;
+use crate::layout::{IMAGE_AT, MAX_IMAGE};
 use std::alloc::Global;
 use syn_disk::{DeviceFailed, Disk};
 
@@ -61,7 +62,7 @@ impl<D: Disk> Journal<D> {
         replace(&mut self.disk, other, self.other_is_open, &body)?;
         self.half = other;
         self.generation = generation;
-        self.gate = 13 + image.len();
+        self.gate = IMAGE_AT + image.len();
         self.other_is_open = true;
         self.halted = false;
         Ok(())

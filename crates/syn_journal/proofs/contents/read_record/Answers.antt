@@ -25,8 +25,8 @@ returns-clause-payload g c =
     long))
     c.read_bytes.ensures.value c.read_bytes.ensures.size
 
-pub returns-then-gate-lt6-clause-calls : goal.returns-then-gate-lt6-clause-calls
-returns-then-gate-lt6-clause-calls g c = let arms = g.D.Disk.arms c.args.disk.now in some_is_any arms arms (no_reads arms)
+pub returns-then-gate-lt-RECORD_OVERHEAD-clause-calls : goal.returns-then-gate-lt-RECORD_OVERHEAD-clause-calls
+returns-then-gate-lt-RECORD_OVERHEAD-clause-calls g c = let arms = g.D.Disk.arms c.args.disk.now in some_is_any arms arms (no_reads arms)
 
 pub returns-clause-calls : goal.returns-clause-calls
 returns-clause-calls g c =
