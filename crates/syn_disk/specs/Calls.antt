@@ -22,6 +22,7 @@ pub record MakesAtMost (most : ℕ) (old new : Arms) : Type 0 where
 pub record MakesSome (old new : Arms) : Type 0 where
   pub calls : ℕ
   pub made : Makes calls old new
+  pub after : new ≡ after_calls calls old
 
 -- some number of device calls, whatever became of them
 pub record MakesAny (old new : Arms) : Type 0 where

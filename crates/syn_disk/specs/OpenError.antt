@@ -1,9 +1,14 @@
--- The numbers of refusals.
+-- Why a disk in a file cannot be opened, as a refusal of the product.
 use Rattle.std.specs.Prelude.{ℕ}
+use Rattle.syn_model.specs.Refusal.{Refusal, number}
+use Rattle.syn_model.specs.Refusal as why
 use Rattle.syn_disk.specs.declared.error.OpenError.{OpenError}
 use Rattle.syn_disk.specs.declared.error.OpenError.TheVariants.{Device, Memory, Busy}
 
+abbrev pub refusal_of : OpenError → Refusal
+refusal_of Device = why.Device
+refusal_of Memory = why.Memory
+refusal_of Busy = why.Busy
+
 abbrev pub number_of : OpenError → ℕ
-number_of Device = 9
-number_of Memory = 11
-number_of Busy = 12
+number_of error = number (refusal_of error)

@@ -1,9 +1,13 @@
-ghost use Rattle.std.specs.Prelude.{◌≡◌};
+//! Why a call of a replica is refused.
+ghost use Rattle.std.specs.Prelude.{◌≡◌, Some};
 ghost use Rattle.syn_model.specs.Refusal.{number, name_of};
+ghost use Rattle.syn_refusal.specs.Refusals.{cause_of};
 ghost use Rattle.syn_replica.specs.Refusals.{refusal_of, of_journal};
 
 use std::alloc::{AllocError, AllocFailed};
+use std::fmt;
 use syn_journal::JournalError;
+use syn_refusal::Refusal;
 use syn_tree::TreeError;
 use syn_wire::WireError;
 use thiserror::Error;
@@ -11,88 +15,70 @@ use thiserror::Error;
 /// Why a call of a replica is refused.
 #[derive(Clone, Copy, Debug, PartialEq, Eq, Error)]
 pub enum ReplicaError {
-    /// The parent is not a directory.
-    #[error("NoParent")]
+    /// 2: the parent is not a directory.
     NoParent,
-    /// A directory is there, where a file is put.
-    #[error("IsDirectory")]
+    /// 3: a directory is there, where a file is put.
     IsDirectory,
-    /// Something is there, where a directory is made.
-    #[error("Exists")]
+    /// 4: something is there, where a directory is made.
     Exists,
-    /// Nothing is there, or no directory where one is listed.
-    #[error("Absent")]
+    /// 5: nothing is there, or no directory where one is listed.
     Absent,
-    /// The root cannot be edited.
-    #[error("Root")]
+    /// 6: the root cannot be edited.
     Root,
-    /// The result would pass a limit.
-    #[error("Full")]
+    /// 7: the result would pass a limit.
     Full,
-    /// The record does not fit in the current half of the journal.
-    #[error("JournalFull")]
+    /// 8: the record does not fit in the current half of the journal.
     JournalFull,
-    /// A device call failed.
-    #[error("Device")]
+    /// 9: a device call failed.
     Device,
-    /// A device call failed earlier, and the replica was not opened again since.
-    #[error("Halted")]
+    /// 10: a device call failed earlier, and the replica was not opened again since.
     Halted,
-    /// Memory was refused.
-    #[error("Memory")]
+    /// 11: memory was refused.
     Memory,
-    /// Neither half of the disk is open.
-    #[error("NoImage")]
+    /// 18: neither half of the disk is open.
     NoImage,
-    /// The disk means nothing that a replica holds.
-    #[error("Damaged")]
+    /// 19: the disk means nothing that a replica holds.
     Damaged,
-    /// The disk is of another pair.
-    #[error("WrongPair")]
+    /// 20: the disk is of another pair.
     WrongPair,
 }
 
 impl ReplicaError {
+    /// Which refusal it is.
+    pub fn refusal(&self) -> Refusal
+        ensures { cause_of result ≡ refusal_of self.now }
+    {
+        match self {
+            ReplicaError::NoParent => Refusal::NoParent,
+            ReplicaError::IsDirectory => Refusal::IsDirectory,
+            ReplicaError::Exists => Refusal::Exists,
+            ReplicaError::Absent => Refusal::Absent,
+            ReplicaError::Root => Refusal::Root,
+            ReplicaError::Full => Refusal::Full,
+            ReplicaError::JournalFull => Refusal::JournalFull,
+            ReplicaError::Device => Refusal::Device,
+            ReplicaError::Halted => Refusal::Halted,
+            ReplicaError::Memory => Refusal::Memory,
+            ReplicaError::NoImage => Refusal::NoImage,
+            ReplicaError::Damaged => Refusal::Damaged,
+            ReplicaError::WrongPair => Refusal::WrongPair,
+        }
+    }
+
     /// The number of the refusal.
     pub fn number(&self) -> u8
         ensures { result ≡ number (refusal_of self.now) }
     {
-        match self {
-            ReplicaError::NoParent => 2,
-            ReplicaError::IsDirectory => 3,
-            ReplicaError::Exists => 4,
-            ReplicaError::Absent => 5,
-            ReplicaError::Root => 6,
-            ReplicaError::Full => 7,
-            ReplicaError::JournalFull => 8,
-            ReplicaError::Device => 9,
-            ReplicaError::Halted => 10,
-            ReplicaError::Memory => 11,
-            ReplicaError::NoImage => 18,
-            ReplicaError::Damaged => 19,
-            ReplicaError::WrongPair => 20,
-        }
+        self.refusal().number()
     }
+}
 
-    /// The name of the refusal, as it is printed.
-    pub fn name(&self) -> &'static str
-        ensures { result.now ≡ name_of (refusal_of self.now) }
-    {
-        match self {
-            ReplicaError::NoParent => "NoParent",
-            ReplicaError::IsDirectory => "IsDirectory",
-            ReplicaError::Exists => "Exists",
-            ReplicaError::Absent => "Absent",
-            ReplicaError::Root => "Root",
-            ReplicaError::Full => "Full",
-            ReplicaError::JournalFull => "JournalFull",
-            ReplicaError::Device => "Device",
-            ReplicaError::Halted => "Halted",
-            ReplicaError::Memory => "Memory",
-            ReplicaError::NoImage => "NoImage",
-            ReplicaError::Damaged => "Damaged",
-            ReplicaError::WrongPair => "WrongPair",
-        }
+/// The name of the refusal.
+impl fmt::Display for ReplicaError {
+    ghost output = { λ error. Some (name_of (refusal_of error)) };
+
+    fn fmt<W: fmt::Write>(&self, f: &mut fmt::Formatter<W>) -> fmt::Result {
+        write!(f, "{}", self.refusal())
     }
 }
 
