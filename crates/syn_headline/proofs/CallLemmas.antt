@@ -447,5 +447,5 @@ module _ (plans : Plans) (old : fine_world.World) (k : IsKept plans (view old)) 
   takes_follow _ _ (fine.ends_at_once why fault) = (ends_now why, tt)
   takes_follow _ _ (fine.stops plan logged walk kept fault has advances down) = (stops_so plan logged walk kept has advances, tt)
   takes_follow _ _ (fine.ends plan logged walk kept why fault has advances ends) = (ends_so plan logged walk kept has advances why ends, tt)
-  takes_follow _ _ (fine.goes_on plan logged walk kept asks_left asks_right fault has advances stays asks) =
+  takes_follow _ _ (fine.goes_on plan logged walk kept asks_left asks_right fault has advances stays past asks) =
       (goes_on_so plan logged walk kept has advances asks_left asks_right stays asks, heard_on plan logged walk kept has advances asks_left asks_right stays asks)

@@ -351,7 +351,7 @@ empty_is_part = empty-is_tree.part
 
 pub kept_is_tree : (archive : Archive) (kept : Kept) → IsTree archive.marks → CanKeep archive kept → IsTree (after_kept archive kept).marks
 kept_is_tree archive (Session session) h can = h
-kept_is_tree archive (Recorded path marks) h can = recorded_is_tree archive.marks path marks h can.lawful.1 can.lawful.0.names can.not_refused
+kept_is_tree archive (Recorded path marks) h can = recorded_is_tree archive.marks path marks h can.lawful.1.part can.lawful.0.names can.not_refused
 kept_is_tree archive (RecordedDir path) h can =
     elim (is_directory archive.marks path) as (λ b. first_cause ((is_root path, Root) ∷ (if b then [] else record_causes archive.marks path empty_directory)) ≡ None → IsTree (if b then archive else record archive { marks = replace archive.marks path empty_directory }).marks) [
       | true ↦ λ _. h

@@ -54,7 +54,7 @@ takes_value : (pair : ℕ) (old : CoordinatorMachine) (r : Running) (taken : Exc
 takes_value pair old r taken _ _ (fine.ends_at_once why fault) = refl
 takes_value pair old r taken _ _ (fine.stops plan logged walk kept fault has advances down) = advances_value pair _ taken (start_of old r) walk kept advances
 takes_value pair old r taken _ _ (fine.ends plan logged walk kept why fault has advances ends) = advances_value pair _ taken (start_of old r) walk kept advances
-takes_value pair old r taken _ _ (fine.goes_on plan logged walk kept left right fault has advances stays asks) = advances_value pair _ taken (start_of old r) walk kept advances
+takes_value pair old r taken _ _ (fine.goes_on plan logged walk kept left right fault has advances stays moves asks) = advances_value pair _ taken (start_of old r) walk kept advances
 
 answer_value : (pair : ℕ) (old : CoordinatorMachine) (from : Which) (session number : ℕ) (reply : Reply) (new : CoordinatorMachine) (call : Call) → CoordinatorTakes pair old from session number reply new call → new.journal.value ≡ archive_of old.journal.value call.kept
 answer_value pair old from session number reply _ _ (fine.takes r request new call expected t) = takes_value pair old r _ new call t

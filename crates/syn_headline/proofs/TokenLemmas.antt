@@ -21,7 +21,7 @@ numbers_above ls li us ui ts ti h k = (grind (arith, nat_tests), grind (arith, n
 itself_not_below : (s i : ℕ) → (nat_lt s s || (s == s && nat_lt i i)) ≡ false
 itself_not_below s i = grind (arith, nat_tests)
 
-above_last : (history : History) (last token : Token) (path : Path) (since : ℕ) (new : Tree) → last_token history ≡ Some last → IsAllowed history (Replaced token path since new) → is_below last token ≡ true
+pub above_last : (history : History) (last token : Token) (path : Path) (since : ℕ) (new : Tree) → last_token history ≡ Some last → IsAllowed history (Replaced token path since new) → is_below last token ≡ true
 above_last history last token path since new e a =
     let rest = place_causes (tree_of history) path ++ (full_causes (replace (tree_of history) path new) ++ position_causes history) in
     let one = (first_cause-none (is_old_token history token, OldSession) rest a.not_refused).0 in

@@ -236,20 +236,28 @@ record_for planned (Conflict path) = None
 abbrev pub AtCursor : Running → (Planned → Type 0) → Type 0
 AtCursor running P = (planned : Planned) × (slice_get (plan_of running) running.cursor ≡ Some planned) × P planned
 
+-- so many bytes of the item are staged on the side
+abbrev pub IsStagedTo : Running → Which → ℕ → Type 0
+IsStagedTo running to count = (count ≡ 0) ⊎ ((before : ℕ) × (bytes : List ℕ)
+    × WasTaken running.taken to (Stage running.cursor before bytes) Staged × (count ≡ before + length bytes))
+
 -- what a running session may ask of a side next: a listing, before it has its plan, of a path that is shown as a directory;
--- then a piece of what the item is to carry, once its record fits the archive; a piece that was taken; and its replacement
+-- then the next piece of what the item is to carry, once its record fits the archive; a piece that was taken; and its
+-- replacement, once the whole is staged
 abbrev pub MayAsk : Archive → Running → Which → Request → Type 0
 MayAsk archive running to (Begin pair) = ⊥
 MayAsk archive running to (ListAt path) = (running.plan ≡ None) × BothBegun running.taken × IsShown running.taken to path
 MayAsk archive running to (Fetch path since offset) = AtCursor running (λ planned.
     WritesTo planned.item (other to) path × (since ≡ (seen_on planned to).since)
-    × (kept_refusal archive (Recorded path (seen_on planned to).marks) ≡ None))
+    × (kept_refusal archive (Recorded path (seen_on planned to).marks) ≡ None) × IsStagedTo running (other to) offset
+    × (option_map_or (λ total. nat_lt offset total) (first_total running.taken path) (offset == 0) ≡ true))
 MayAsk archive running to (Stage item offset bytes) = (item ≡ running.cursor) × AtCursor running (λ planned.
     WritesTo planned.item to (path_of planned.item) × (total : ℕ)
     × WasTaken running.taken (other to) (Fetch (path_of planned.item) (seen_on planned (other to)).since offset) (Piece total bytes))
 MayAsk archive running to (Replace item path since size) = (item ≡ running.cursor) × AtCursor running (λ planned.
     WritesTo planned.item to path × (since ≡ (seen_on planned to).since) × (offset : ℕ) × (bytes : List ℕ)
-    × WasTaken running.taken (other to) (Fetch (path_of planned.item) (seen_on planned (other to)).since offset) (Piece size bytes))
+    × WasTaken running.taken (other to) (Fetch (path_of planned.item) (seen_on planned (other to)).since offset) (Piece size bytes)
+    × IsStagedTo running to size)
 
 -- and each request is lawful, with a number that four bytes can spell
 pub record Asks_now (archive : Archive) (running : Running) (left right : List Request) : Type 0 where
@@ -377,6 +385,12 @@ pub data EndsFor (pair : ℕ) (running : Running) (taken : Exchange) (was : Stat
       EndsFor pair running taken was walk (Some JournalFull)
   no_memory : walk.journal.status ≡ was → EndsFor pair running taken was walk (Some Memory)
 
+-- the last answer to an item: its request was refused, or its replacement is done
+abbrev pub is_last : Reply → Bool
+is_last (Refused why) = true
+is_last Done = true
+is_last _ = false
+
 -- A call
 
 -- what a call gives beside the machine: what it acknowledged of the archive, the requests that it sent,
@@ -422,7 +436,7 @@ abbrev pub start_of : CoordinatorMachine → Running → Walk
 start_of machine running = record { journal = machine.journal; cursor = running.cursor; refused = running.refused }
 
 -- how an answer is taken: it ends the session at once, or for want of memory; or the call goes through the plan, and then
--- the machine is down, or the session ends, or it goes on and asks for what comes next
+-- the machine is down, or the session ends, or it goes on, past an item that had its last answer, and asks for what comes next
 pub data Takes (pair : ℕ) (machine : CoordinatorMachine) (running : Running) (taken : Exchange) : CoordinatorMachine → Call → Type 0 where
   ends_at_once : (why : Refusal) →
       (fault_of running.taken taken.side taken.request taken.reply ≡ Some why) ⊎ (why ≡ Memory) →
@@ -445,7 +459,7 @@ pub data Takes (pair : ℕ) (machine : CoordinatorMachine) (running : Running) (
       fault_of running.taken taken.side taken.request taken.reply ≡ None →
       HasPlan machine.journal.value (hearing running taken) plan logged →
       Advances pair (option_map_or (λ plan. plan) plan []) taken (start_of machine running) kept walk →
-      walk.journal.status ≡ machine.journal.status →
+      walk.journal.status ≡ machine.journal.status → (is_last taken.reply ≡ true → walk.cursor ≢ running.cursor) →
       Asks_now walk.journal.value (advanced (hearing running taken) plan walk kept) left right →
       Takes pair machine running taken
       (record { journal = walk.journal; running = Some (asking (advanced (hearing running taken) plan walk kept) left right) })

@@ -1,9 +1,11 @@
 -- What follows from the definitions of a side's step, for the other crates to use.
 use Rattle.std.specs.Prelude.{ℕ, ◌≡◌, ◌⊎◌, Bool, true, false, [], ◌∷◌, ◌++◌, Some}
-use Rattle.syn_model.specs.History.{History, IsAllowed, last_token}
+use Rattle.syn_model.specs.History.{History, IsHistory, IsAllowed, last_token}
+use Rattle.std.specs.Option.{option_map_or}
 use Rattle.syn_model.specs.Path.{Path}
+use Rattle.syn_model.specs.Tree.{Tree}
 use Rattle.syn_model.specs.Refusal.{OldSession}
-use Rattle.syn_model.specs.Event.{Token, is_same_token, Event}
+use Rattle.syn_model.specs.Event.{Token, is_same_token, Event, Replaced}
 use Rattle.syn_headline.specs.Side.{Side, Served, Request, Replace, Done, Refused, Serves, IsOutOfMemory, IsLawfulRequest, answer, token_of, is_dead_token}
 
 -- a step of a side leaves its history, or adds one event that is allowed after it
@@ -20,8 +22,18 @@ RepeatsAreDone = (pair : ℕ) (has_room : Event → Bool) (side : Side) (session
     last_token side.history ≡ Some (token_of session item) → Serves pair has_room side session (Replace item path since size) served →
     (served ≡ answer side Done) ⊎ IsOutOfMemory side served
 
--- and once there is a later token, or another session has begun, it is refused as old
+-- and once there is a later token it is refused as old
 abbrev pub LaterAreOld : Type 0
-LaterAreOld = (pair : ℕ) (has_room : Event → Bool) (side : Side) (session item : ℕ) (path : Path) (since size : ℕ) (last : Token) (served : Served) →
-    last_token side.history ≡ Some last → is_same_token last (token_of session item) ≡ false → is_dead_token side (token_of session item) ≡ true →
-    Serves pair has_room side session (Replace item path since size) served → (served ≡ answer side (Refused OldSession)) ⊎ IsOutOfMemory side served
+LaterAreOld = (pair : ℕ) (has_room : Event → Bool) (side : Side) (session item : ℕ) (path : Path) (since size : ℕ) (served : Served)
+    (earlier later : History) (at : Path) (from : ℕ) (new : Tree) (last : Token) → IsHistory side.history →
+    side.history ≡ earlier ++ Replaced (token_of session item) at from new ∷ later →
+    last_token side.history ≡ Some last → is_same_token last (token_of session item) ≡ false →
+    Serves pair has_room side session (Replace item path since size) served →
+    (served ≡ answer side (Refused OldSession)) ⊎ IsOutOfMemory side served
+
+-- so is what is dead otherwise: of a session that is not the one begun last, or below the last or the staged token
+abbrev pub DeadAreOld : Type 0
+DeadAreOld = (pair : ℕ) (has_room : Event → Bool) (side : Side) (session item : ℕ) (path : Path) (since size : ℕ) (served : Served) →
+    option_map_or (λ last. is_same_token last (token_of session item)) (last_token side.history) false ≡ false →
+    is_dead_token side (token_of session item) ≡ true → Serves pair has_room side session (Replace item path since size) served →
+    (served ≡ answer side (Refused OldSession)) ⊎ IsOutOfMemory side served

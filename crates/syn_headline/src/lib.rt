@@ -1,7 +1,7 @@
 //! The definitions from a side's step to the headline, and what holds of every run.
 #![tactic(auto)]
 
-ghost use Rattle.syn_headline.specs.Laws.{ServesAllowed, RepeatsAreDone, LaterAreOld};
+ghost use Rattle.syn_headline.specs.Laws.{ServesAllowed, RepeatsAreDone, LaterAreOld, DeadAreOld};
 ghost use Rattle.syn_headline.specs.Headline.{formatted, IsPair, RunsStand, OfEachRun, EachReplacementIsLegal, EachTokenOnce, EachEntryWasHeld, LeavesPair, LogsPlans, Owes, CompleteSessionsSynchronize, CompleteSessionsReconcile, ReportsItsConflicts, CountsItsItems, CarriedIsMarked};
 
 /// A step of a side leaves its history or adds one allowed event, and answers a repeat as done or as old.
@@ -9,6 +9,7 @@ pub fn side_laws()
     ensures serves { ServesAllowed }
     ensures repeats { RepeatsAreDone }
     ensures later { LaterAreOld }
+    ensures dead { DeadAreOld }
 {}
 
 /// In every run, with stops and failing devices, the machines stand for what was acknowledged, each replacement is legal, and each plan is logged.

@@ -1,9 +1,12 @@
 -- Marks of trees, and what formatted disks stand for.
-use Rattle.std.proofs.Common.{◌≡◌, true, false, cond, List, [], ◌∷◌, ◌++◌, map, refl, sym, ap, ◌∙◌, Some, None, option_map}
+use Rattle.std.proofs.Common.{◌≡◌, true, false, cond, List, [], ◌∷◌, ◌++◌, map, length, refl, sym, ap, ◌∙◌, Option, Some, None, option_map}
+use Rattle.sha2.specs.Sha256.{sha256}
+use Rattle.sha2.proofs.Facts256.{length-sha256}
+use Rattle.std.proofs.lemmas.Option.{none-some, same_Some}
 use Rattle.std.specs.Ordering.{eq_by_cmp}
 use Rattle.std.specs.FinMap.{find, entries, get, get-entries, get-from_entries}
 use Rattle.syn_model.specs.Path.{Path, path_cmp, root}
-use Rattle.syn_model.specs.Tree.{Tree, Directory, Pair, subtree, empty_directory}
+use Rattle.syn_model.specs.Tree.{Tree, Content, Contents, Directory, File, Pair, subtree, empty_directory}
 use Rattle.syn_model.specs.Mark.{mark, mark_of}
 use Rattle.syn_model.specs.History.{tree_of}
 use Rattle.syn_model.proofs.PathLemmas.{path_total}
@@ -27,3 +30,12 @@ mark-subtree t p = same_tree (mark (subtree t p)) (subtree (mark t) p) (λ q.
 pub marked_directory : (q : Path) → get (mark (tree_of [])) q ≡ get empty_directory q
 unfolding tree_of
 marked_directory q = get-mark empty_directory q ∙ (ap (option_map mark_of) (get-at_root Directory q) ∙ (elim (eq_by_cmp path_cmp q root) as (λ b. option_map mark_of (cond b (Some Directory) None) ≡ cond b (Some Directory) None) [ true ↦ refl | false ↦ refl ] ∙ sym (get-at_root Directory q)))
+
+-- each file of a tree of marks is a digest
+pub mark-digests : (tree : Tree) (path : Path) (contents : Contents) → get (mark tree) path ≡ Some (File contents) → length contents.bytes ≡ 32
+mark-digests tree path contents e = by (get tree path) (sym (get-mark tree path) ∙ e)
+  where
+    by : (o : Option Content) → option_map mark_of o ≡ Some (File contents) → length contents.bytes ≡ 32
+    by None e = absurd (none-some _ e)
+    by (Some Directory) e = absurd (let x : Directory ≡ File contents = same_Some _ _ e in cc)
+    by (Some (File was)) e = let x : File (record was { bytes = sha256 was.bytes }) ≡ File contents = same_Some _ _ e in let same : record was { bytes = sha256 was.bytes } ≡ contents = cc in sym (ap (λ c. length c.bytes) same) ∙ length-sha256 was.bytes

@@ -1,11 +1,11 @@
 -- What follows from the definitions, for the other crates to use.
-use Rattle.std.specs.Prelude.{ℕ, ◌≤◌, List, ◌↔◌, ◌≡◌, true, false, not, ◌&&◌, nat_le, [], ◌∷◌, ◌++◌, length, All}
+use Rattle.std.specs.Prelude.{ℕ, ◌≤◌, List, ◌↔◌, ◌≡◌, true, false, not, ◌&&◌, nat_le, [], ◌∷◌, ◌++◌, length, Some, All}
 use Rattle.std.specs.List.{list_any}
 use Rattle.std.specs.Option.{option_map_or, option_map}
 use Rattle.syn_model.specs.Mark.{mark, mark_of}
 use Rattle.std.specs.FinMap.{get}
 use Rattle.syn_model.specs.Path.{Bytes, Path, path_cmp, path_key, key_cmp, root, comparable, strip_prefix, IsName, IsPath}
-use Rattle.syn_model.specs.Tree.{Tree, IsPart, IsTree, StandsIn, subtree, replace}
+use Rattle.syn_model.specs.Tree.{Tree, Contents, File, IsPart, IsTree, StandsIn, subtree, replace}
 use Rattle.syn_model.specs.Limits.{fits_part, fits_paths, fits_replica}
 use Rattle.syn_model.specs.Standing.{new_standing, standing_after, AllAllowedAt}
 use Rattle.syn_model.specs.History.{History, IsHistory, IsAllowed, AllAllowed, tree_of, standing_of, floor, last_touches, is_quiet}
@@ -98,6 +98,10 @@ MarkHas = (tree : Tree) (path : Path) → get (mark tree) path ≡ option_map ma
 
 abbrev pub MarkOfSubtree : Type 0
 MarkOfSubtree = (tree : Tree) (path : Path) → mark (subtree tree path) ≡ subtree (mark tree) path
+
+-- and each of its files is a digest
+abbrev pub MarkIsDigests : Type 0
+MarkIsDigests = (tree : Tree) (path : Path) (contents : Contents) → get (mark tree) path ≡ Some (File contents) → length contents.bytes ≡ 32
 
 -- one more event takes what an image keeps of a history one step on
 abbrev pub StandingSteps : Type 0

@@ -1,7 +1,7 @@
 //! The definitions from path to plan that the other crates cite, and the laws that hold of them.
 #![tactic(auto)]
 
-ghost use Rattle.syn_model.specs.Laws.{SameAtEachPath, SubtreeHas, ReplacedHas, ReplacedIsThere, OthersStay, ReplacedIsPart, SubtreeIsPart, SubtreeFits, SubtreeFitsPaths, SpellingUnfolds, NoSpellingBeginsAnother, DirtyIsClosed, DirtyIsSafe, OneSynchronization, NothingToDo, HistoryIsTree, HistoryFits, PutFits, AllowedGoesOn, StandingSteps, StandingAllows, TouchesTell, FormattedStands, PayloadGoesOn, ImageStands, PathsGoByKey, MarkHas, MarkOfSubtree};
+ghost use Rattle.syn_model.specs.Laws.{SameAtEachPath, SubtreeHas, ReplacedHas, ReplacedIsThere, OthersStay, ReplacedIsPart, SubtreeIsPart, SubtreeFits, SubtreeFitsPaths, SpellingUnfolds, NoSpellingBeginsAnother, DirtyIsClosed, DirtyIsSafe, OneSynchronization, NothingToDo, HistoryIsTree, HistoryFits, PutFits, AllowedGoesOn, StandingSteps, StandingAllows, TouchesTell, FormattedStands, PayloadGoesOn, ImageStands, PathsGoByKey, MarkHas, MarkOfSubtree, MarkIsDigests};
 ghost use Rattle.syn_model.specs.Plan.{NamesAreOnly, PlanIsInOrder, PlanIsOrderly, PlanIsDecided, PlanSynchronizes, PlanReconciles, PlanHasDecided, PlanOverwritesClean, ConflictsArePlanned, ItemFindsArchive, ItemFindsSides};
 ghost use Rattle.syn_model.specs.ArchiveImage.{KeepingStaysSound, StandsForSound, ArchiveImageStands, NewArchiveStands, RecordGoesOn};
 ghost use Rattle.syn_model.specs.Rows.{ItemsOfOneNameHold, Floors, RefusedEditsHold, Spellings};
@@ -34,6 +34,7 @@ pub fn spelling_laws()
 pub fn mark_laws()
     ensures has { MarkHas }
     ensures subtree { MarkOfSubtree }
+    ensures digests { MarkIsDigests }
 {}
 
 /// A scan's dirty paths are closed upward, and none is missed.

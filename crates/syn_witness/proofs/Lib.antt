@@ -5,6 +5,7 @@ pub mod WitnessMessages
 pub mod WitnessLemmas
 pub mod FailLemmas
 pub mod StopLemmas
+pub mod ForbiddenLemmas
 pub mod WitnessScans
 pub mod WitnessSteps
 pub mod WitnessSession

@@ -24,9 +24,9 @@ use Rattle.syn_headline.specs.World.{World, Coordinator, Edits, Start, Deliver, 
 use Rattle.syn_headline.specs.Headline.{IsQuietSession, IsNoEdit, formatted, stores_of}
 use Rattle.syn_witness.specs.Witness.{opened_world, a_path, put_one, one, marked_later, found_later, IsMarkedLater, CarriedIsMarkedLater}
 use Rattle.syn_witness.proofs.WitnessTrees.{get_by, fits_archive_by, children_by}
-use Rattle.syn_witness.proofs.WitnessFiles.{letter_size, alone, with_file, digest, alone-entries, file_mark-entries, put-entries, marked_whole, root_only, path_of_letter, one_byte, file_is_part, file_spelling, file_fits_part, file_fits_paths, mark_is_part}
+use Rattle.syn_witness.proofs.WitnessFiles.{letter_size, alone, with_file, digest, alone-entries, file_mark-entries, put-entries, marked_whole, root_only, path_of_letter, one_byte, file_is_part, file_spelling, file_fits_part, file_fits_paths, are_marks}
 use Rattle.syn_witness.proofs.WitnessMessages.{number_of}
-use Rattle.syn_witness.proofs.WitnessSteps.{meets_unarmed, waits, took, runs_with, world_of, reads_nothing, says_so, adds_so, lists, starts_so, asks_so, goes_on_so, ends_so, keeps_so, recorded, runs_on_from, up_not_down}
+use Rattle.syn_witness.proofs.WitnessSteps.{meets_unarmed, waits, took, runs_with, world_of, reads_nothing, says_so, adds_so, lists, starts_so, asks_so, goes_on_so, not_last, ends_so, keeps_so, recorded, runs_on_from, up_not_down}
 use Rattle.syn_witness.proofs.WitnessLemmas.{letter_a}
 use Rattle.syn_witness.proofs.WitnessSession.{replaced, begun_archive, left_side, right_done, root_lawful, none_there, run_to_done}
 use Rattle.syn_witness.proofs.WitnessSession.{messages as first_messages, made as first_made}
@@ -201,11 +201,11 @@ makes_plan = record {
 
 -- The steps of the coordinator
 takes_left_begun : Steps both_begun (Deliver 16) right_awaited
-takes_left_begun = goes_on_so both_begun both_begin Left 0 (Begin 7) (Begun 3) None [] (start_of both_begun.coordinator both_begin) [] [] [] refl refl refl coordinator.stays (stands (start_of both_begun.coordinator both_begin)) refl
+takes_left_begun = goes_on_so both_begun both_begin Left 0 (Begin 7) (Begun 3) None [] (start_of both_begun.coordinator both_begin) [] [] [] refl refl refl coordinator.stays (stands (start_of both_begun.coordinator both_begin)) refl not_last
     (asks_so number_of next_archive right_begins [] [] tt tt tt (omega arith) (omega arith) ((refl, tt), tt, (refl, tt)) (omega arith, omega arith, omega arith))
 
 takes_right_begun : Steps right_awaited (Deliver 17) listing
-takes_right_begun = goes_on_so right_awaited right_begins Right 0 (Begin 7) (Begun 3) None [] (start_of right_awaited.coordinator right_begins) [] (ListAt root ∷ []) (ListAt root ∷ []) refl refl refl coordinator.stays (stands (start_of right_awaited.coordinator right_begins)) refl
+takes_right_begun = goes_on_so right_awaited right_begins Right 0 (Begin 7) (Begun 3) None [] (start_of right_awaited.coordinator right_begins) [] (ListAt root ∷ []) (ListAt root ∷ []) refl refl refl coordinator.stays (stands (start_of right_awaited.coordinator right_begins)) refl not_last
     (asks_so number_of next_archive (runs_with 2 (take 2 transcript) [] [] None 0 []) (ListAt root ∷ []) (ListAt root ∷ []) ((refl, two_begun, inl refl), tt) ((refl, two_begun, inl refl), tt) ((omega arith, root_lawful), ((omega arith, root_lawful), tt))
     (omega arith) (omega arith) ((refl, (refl, tt)), (refl, tt), (refl, tt)) (omega arith, omega arith, omega arith))
 
@@ -216,14 +216,14 @@ right_listing : fault_of (take 3 transcript) Right (ListAt root) (Listed 3 (chil
 right_listing = ap (λ entries. fault_of (take 3 transcript) Right (ListAt root) (Listed 3 entries)) (children_by right_scan.marks (with_file 97 (digest (49 ∷ []))) right_marks-entries)
 
 takes_left_listing : Steps both_listed (Deliver 20) right_list_awaited
-takes_left_listing = goes_on_so both_listed both_list Left 1 (ListAt root) (Listed 3 (children left_scan.marks root)) None [] (start_of both_listed.coordinator both_list) [] [] [] refl refl left_listing coordinator.stays (stands (start_of both_listed.coordinator both_list)) refl
+takes_left_listing = goes_on_so both_listed both_list Left 1 (ListAt root) (Listed 3 (children left_scan.marks root)) None [] (start_of both_listed.coordinator both_list) [] [] [] refl refl left_listing coordinator.stays (stands (start_of both_listed.coordinator both_list)) refl not_last
     (asks_so number_of next_archive right_lists [] [] tt tt tt (omega arith) (omega arith) ((refl, (refl, (refl, tt))), tt, (refl, tt)) (omega arith, omega arith, omega arith))
 
 can_record : CanKeep next_archive (Recorded a_path (mark one))
 can_record =
     let new = put-entries empty_directory (mark one) 97 (digest (49 ∷ [])) alone-entries (file_mark-entries (49 ∷ [])) in
     record {
-      lawful = (path_of_letter 97 letter_a, mark_is_part (49 ∷ []));
+      lawful = (path_of_letter 97 letter_a, are_marks (49 ∷ []));
       not_refused = rw (get_by empty_directory alone root alone-entries, fits_archive_by (replace empty_directory a_path (mark one)) (with_file 97 (digest (49 ∷ []))) new) refl;
     }
 

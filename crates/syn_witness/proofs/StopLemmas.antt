@@ -81,7 +81,7 @@ takes_safe : (pair : ℕ) (old : CoordinatorMachine) (r : Running) (taken : Exch
 takes_safe pair old r taken _ _ h (coordinator.ends_at_once why fault) = h
 takes_safe pair old r taken _ _ h (coordinator.stops plan logged walk kept fault has advances down) = advances_safe pair _ taken (start_of old r) walk kept h advances
 takes_safe pair old r taken _ _ h (coordinator.ends plan logged walk kept why fault has advances ends) = advances_safe pair _ taken (start_of old r) walk kept h advances
-takes_safe pair old r taken _ _ h (coordinator.goes_on plan logged walk kept left right fault has advances stays asks) = advances_safe pair _ taken (start_of old r) walk kept h advances
+takes_safe pair old r taken _ _ h (coordinator.goes_on plan logged walk kept left right fault has advances stays moves asks) = advances_safe pair _ taken (start_of old r) walk kept h advances
 
 answer_safe : (pair : ℕ) (old : CoordinatorMachine) (from : Which) (session number : ℕ) (reply : Reply) (new : CoordinatorMachine) (call : Call) → IsSafeJournal old.journal → CoordinatorTakes pair old from session number reply new call → IsSafeJournal new.journal
 answer_safe pair old from session number reply _ _ h (coordinator.takes r request new call expected t) = takes_safe pair old r _ new call h t

@@ -14,7 +14,8 @@ use Rattle.syn_model.specs.Tree.{subtree, Tree, Pair, Content, IsPart, IsTree, D
 use Rattle.syn_model.specs.Limits.{fits_replica, fits_part, fits_paths, fits_content, fits_path}
 use Rattle.syn_model.specs.Event.{AreBytes, Edited, Put}
 use Rattle.syn_model.specs.History.{tree_of, IsAllowed}
-use Rattle.syn_model.specs.Mark.{mark}
+use Rattle.syn_model.specs.Mark.{mark, IsMarks}
+use Rattle.syn_model.proofs.MarkLemmas.{mark-digests}
 use Rattle.sha2.proofs.Facts256.{length-sha256}
 use Rattle.syn_model.specs.Archive.{Recorded}
 use Rattle.syn_model.specs.MarkSpelling.{mark_spelling, kept_spelling, mark_spelling_within}
@@ -100,6 +101,9 @@ file_mark-entries bytes = mark-entries (file bytes) ((root, content bytes) ∷ [
 pub mark_is_part : (bytes : Bytes) → IsPart (mark (file bytes))
 mark_is_part bytes =
     subst IsPart (same_entries_map (file (sha256 bytes)) (mark (file bytes)) (file-entries (sha256 bytes) ∙ sym (file_mark-entries bytes))) (file_is_part (sha256 bytes) (digest_is_bytes bytes))
+
+pub are_marks : (bytes : Bytes) → IsMarks (mark (file bytes))
+are_marks bytes = record { part = mark_is_part bytes; digests = mark-digests (file bytes) }
 
 pub file_spelling : (bytes : Bytes) → spelling (file bytes) ≡ 1 ∷ to_be_bytes w32 (length bytes) ++ bytes
 unfolding spelling_within

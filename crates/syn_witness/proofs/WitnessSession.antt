@@ -1,5 +1,5 @@
 -- A whole session over one file, step by step.
-use Rattle.std.proofs.Common.{◌≡◌, map, ℕ, ◌<◌, List, [], ◌∷◌, ◌++◌, take, drop, length, refl, sym, ap, ◌∙◌, subst, Option, Some, None, arith, inl, nat_le}
+use Rattle.std.proofs.Common.{◌≡◌, map, ℕ, ◌<◌, List, [], ◌∷◌, ◌++◌, take, drop, length, refl, sym, ap, ◌∙◌, subst, Option, Some, None, arith, inl, inr, nat_le}
 use Rattle.std.specs.Prelude.{Contains}
 use Rattle.std.proofs.lemmas.List.Elements.{All-nil, All-cons, All-from_recursion}
 use Rattle.sha2.specs.Sha256.{sha256}
@@ -26,10 +26,10 @@ use Rattle.syn_headline.specs.World.{World, Edits, Start, Deliver, Steps, Runs}
 use Rattle.syn_witness.specs.Witness.{opened_world, a_path, put_one, one, complete, FileIsCarried}
 use Rattle.syn_headline.specs.Headline.{IsQuietSession, IsNoEdit, formatted, stores_of}
 use Rattle.syn_witness.proofs.WitnessTrees.{get_by, fits_by, fits_archive_by, children_by}
-use Rattle.syn_witness.proofs.WitnessFiles.{letter_size, alone, with_file, content, digest, alone-entries, file-entries, file_mark-entries, put-entries, marked_whole, alone_whole, root_only, root_alone, path_of_letter, one_byte, file_is_part, file_spelling, file_fits_part, file_fits_paths, mark_is_part}
+use Rattle.syn_witness.proofs.WitnessFiles.{letter_size, alone, with_file, content, digest, alone-entries, file-entries, file_mark-entries, put-entries, marked_whole, alone_whole, root_only, root_alone, path_of_letter, one_byte, file_is_part, file_spelling, file_fits_part, file_fits_paths, are_marks}
 use Rattle.syn_witness.proofs.WitnessScans.{left_history, right_history, left_scan, right_scan, left-entries, right_marks-entries, left_marks-entries, left_root, right_root, left_part, plan_is}
 use Rattle.syn_witness.proofs.WitnessMessages.{number_of}
-use Rattle.syn_witness.proofs.WitnessSteps.{machine_of, meets_unarmed, runs_on_from, edits_so, starts_so, waits, took, runs_with, world_of, reads_nothing, says_so, adds_so, lists, asks_so, goes_on_so, ends_so, keeps_so, recorded}
+use Rattle.syn_witness.proofs.WitnessSteps.{machine_of, meets_unarmed, runs_on_from, edits_so, starts_so, waits, took, runs_with, world_of, reads_nothing, says_so, adds_so, lists, asks_so, goes_on_so, not_last, ends_so, keeps_so, recorded}
 use Rattle.syn_witness.proofs.WitnessLemmas.{letter_a, edit_allowed}
 
 -- The sides, before and after
@@ -260,11 +260,11 @@ pub root_lawful : IsPath root
 root_lawful = record { names = All-nil IsName; not_deep = omega arith; not_long = omega arith }
 
 takes_left_begun : Steps both_begun (Deliver 2) right_awaited
-takes_left_begun = goes_on_so both_begun both_begin Left 0 (Begin 7) (Begun 2) None [] (start_of both_begun.coordinator both_begin) [] [] [] refl refl refl stays (stands (start_of both_begun.coordinator both_begin)) refl
+takes_left_begun = goes_on_so both_begun both_begin Left 0 (Begin 7) (Begun 2) None [] (start_of both_begun.coordinator both_begin) [] [] [] refl refl refl stays (stands (start_of both_begun.coordinator both_begin)) refl not_last
     (asks_so number_of begun_archive right_begins [] [] tt tt tt (omega arith) (omega arith) ((refl, tt), tt, (refl, tt)) (omega arith, omega arith, omega arith))
 
 takes_right_begun : Steps right_awaited (Deliver 3) listing
-takes_right_begun = goes_on_so right_awaited right_begins Right 0 (Begin 7) (Begun 1) None [] (start_of right_awaited.coordinator right_begins) [] (ListAt root ∷ []) (ListAt root ∷ []) refl refl refl stays (stands (start_of right_awaited.coordinator right_begins)) refl
+takes_right_begun = goes_on_so right_awaited right_begins Right 0 (Begin 7) (Begun 1) None [] (start_of right_awaited.coordinator right_begins) [] (ListAt root ∷ []) (ListAt root ∷ []) refl refl refl stays (stands (start_of right_awaited.coordinator right_begins)) refl not_last
     (asks_so number_of begun_archive (runs_with 1 (take 2 transcript) [] [] None 0 []) (ListAt root ∷ []) (ListAt root ∷ []) ((refl, two_begun, inl refl), tt) ((refl, two_begun, inl refl), tt) ((omega arith, root_lawful), ((omega arith, root_lawful), tt))
     (omega arith) (omega arith) ((refl, (refl, tt)), (refl, tt), (refl, tt)) (omega arith, omega arith, omega arith))
   where
@@ -280,34 +280,34 @@ right_listing : fault_of (take 3 transcript) Right (ListAt root) (Listed 1 (chil
 right_listing = ap (λ entries. fault_of (take 3 transcript) Right (ListAt root) (Listed 1 entries)) (children_by right_scan.marks alone right_marks-entries)
 
 takes_left_listing : Steps both_listed (Deliver 6) right_list_awaited
-takes_left_listing = goes_on_so both_listed both_list Left 1 (ListAt root) (Listed 2 (children left_scan.marks root)) None [] (start_of both_listed.coordinator both_list) [] [] [] refl refl left_listing stays (stands (start_of both_listed.coordinator both_list)) refl
+takes_left_listing = goes_on_so both_listed both_list Left 1 (ListAt root) (Listed 2 (children left_scan.marks root)) None [] (start_of both_listed.coordinator both_list) [] [] [] refl refl left_listing stays (stands (start_of both_listed.coordinator both_list)) refl not_last
     (asks_so number_of begun_archive right_lists [] [] tt tt tt (omega arith) (omega arith) ((refl, (refl, (refl, tt))), tt, (refl, tt)) (omega arith, omega arith, omega arith))
 
 can_record : CanKeep begun_archive (Recorded a_path (mark one))
 can_record =
     let new = put-entries empty_directory (mark one) 97 (digest (49 ∷ [])) alone-entries (file_mark-entries (49 ∷ [])) in
     record {
-      lawful = (path_of_letter 97 letter_a, mark_is_part (49 ∷ []));
+      lawful = (path_of_letter 97 letter_a, are_marks (49 ∷ []));
       not_refused = rw (get_by empty_directory alone root alone-entries, fits_archive_by (replace empty_directory a_path (mark one)) (with_file 97 (digest (49 ∷ []))) new) refl;
     }
 
 takes_right_listing : Steps right_list_awaited (Deliver 7) fetching
 takes_right_listing = goes_on_so right_list_awaited right_lists Right 1 (ListAt root) (Listed 1 (children right_scan.marks root)) (Some plan) (made ∷ []) (start_of right_list_awaited.coordinator right_lists) [] (Fetch a_path 2 0 ∷ []) [] refl refl right_listing (makes made refl makes_plan)
-    (stands (start_of right_list_awaited.coordinator right_lists)) refl
-    (asks_so number_of begun_archive (runs_with 1 (take 4 transcript) [] [] (Some plan) 0 []) (Fetch a_path 2 0 ∷ []) [] ((planned, refl, (refl, refl, can_record.not_refused)), tt) tt ((omega arith, (path_of_letter 97 letter_a, omega arith, omega arith)), tt)
+    (stands (start_of right_list_awaited.coordinator right_lists)) refl not_last
+    (asks_so number_of begun_archive (runs_with 1 (take 4 transcript) [] [] (Some plan) 0 []) (Fetch a_path 2 0 ∷ []) [] ((planned, refl, (refl, refl, can_record.not_refused, inl refl, refl)), tt) tt ((omega arith, (path_of_letter 97 letter_a, omega arith, omega arith)), tt)
     (omega arith) (omega arith) ((refl, (refl, (refl, (refl, tt)))), (refl, tt), tt) (omega arith, omega arith, omega arith))
 
 bytes_lawful : AreBytes file_bytes
 bytes_lawful = All-from_recursion (λ byte. byte < 256) file_bytes (omega arith, (omega arith, (omega arith, (omega arith, (omega arith, (omega arith, tt))))))
 
 takes_piece : Steps fetched (Deliver 9) staging
-takes_piece = goes_on_so fetched left_fetches Left 2 (Fetch a_path 2 0) (Piece 6 file_bytes) (Some plan) [] (start_of fetched.coordinator left_fetches) [] [] (Stage 0 0 file_bytes ∷ []) refl refl refl stays (stands (start_of fetched.coordinator left_fetches)) refl
+takes_piece = goes_on_so fetched left_fetches Left 2 (Fetch a_path 2 0) (Piece 6 file_bytes) (Some plan) [] (start_of fetched.coordinator left_fetches) [] [] (Stage 0 0 file_bytes ∷ []) refl refl refl stays (stands (start_of fetched.coordinator left_fetches)) refl not_last
     (asks_so number_of begun_archive (runs_with 1 (take 5 transcript) [] [] (Some plan) 0 []) [] (Stage 0 0 file_bytes ∷ []) tt ((refl, (planned, refl, (refl, 6, (2, (4, omega arith, refl))))), tt) ((omega arith, (omega arith, omega arith, (omega arith, omega arith, bytes_lawful))), tt)
     (omega arith) (omega arith) ((refl, (refl, (refl, (refl, (refl, tt))))), tt, (refl, tt)) (omega arith, omega arith, omega arith))
 
 takes_staged : Steps staged (Deliver 11) replacing
-takes_staged = goes_on_so staged right_stages Right 2 (Stage 0 0 file_bytes) Staged (Some plan) [] (start_of staged.coordinator right_stages) [] [] (Replace 0 a_path 1 6 ∷ []) refl refl refl stays (stands (start_of staged.coordinator right_stages)) refl
-    (asks_so number_of begun_archive (runs_with 1 (take 6 transcript) [] [] (Some plan) 0 []) [] (Replace 0 a_path 1 6 ∷ []) tt ((refl, (planned, refl, (refl, refl, 0, file_bytes, (2, (4, omega arith, refl))))), tt) ((omega arith, (omega arith, path_of_letter 97 letter_a, omega arith, omega arith)), tt)
+takes_staged = goes_on_so staged right_stages Right 2 (Stage 0 0 file_bytes) Staged (Some plan) [] (start_of staged.coordinator right_stages) [] [] (Replace 0 a_path 1 6 ∷ []) refl refl refl stays (stands (start_of staged.coordinator right_stages)) refl not_last
+    (asks_so number_of begun_archive (runs_with 1 (take 6 transcript) [] [] (Some plan) 0 []) [] (Replace 0 a_path 1 6 ∷ []) tt ((refl, (planned, refl, (refl, refl, 0, file_bytes, (2, (4, omega arith, refl)), inr (0, file_bytes, (2, (5, omega arith, refl)), refl)))), tt) ((omega arith, (omega arith, path_of_letter 97 letter_a, omega arith, omega arith)), tt)
     (omega arith) (omega arith) ((refl, (refl, (refl, (refl, (refl, (refl, tt)))))), tt, (refl, tt)) (omega arith, omega arith, omega arith))
 
 takes_done : Steps replaced (Deliver 13) carried

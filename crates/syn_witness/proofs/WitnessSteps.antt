@@ -1,6 +1,6 @@
 -- Steps of a witness run, built from what each is about: where no device fails and no machine stops.
 use Rattle.std.specs.Option.{option_map_or}
-use Rattle.std.proofs.Common.{fold, filter_map, ◌≤◌, ◌^◌, ◌||◌, not, nat_le, inr, ◌-◌, ◌≡◌, ◌≢◌, ℕ, true, List, [], ◌∷◌, ◌++◌, take, length, if◌then◌else◌, refl, sym, ap, ◌∙◌, subst, Option, Some, None, arith, inl, ◌+◌, false, slice_get}
+use Rattle.std.proofs.Common.{fold, filter_map, ◌≤◌, ◌^◌, ◌||◌, not, nat_le, true≢false, inr, ◌-◌, ◌≡◌, ◌≢◌, ℕ, true, List, [], ◌∷◌, ◌++◌, take, length, if◌then◌else◌, refl, sym, ap, ◌∙◌, subst, Option, Some, None, arith, inl, ◌+◌, false, slice_get}
 use Rattle.std.specs.List.{AllByRecursion}
 use Rattle.std.specs.FinMap.{get, len}
 use Rattle.std.proofs.lemmas.List.Elements.{All-from_recursion}
@@ -21,7 +21,7 @@ use Rattle.syn_headline.specs.SideMachine.{SideMachine, side_layout, side_now, w
 use Rattle.syn_headline.specs.Network.{Which, Left, Right, Asks, Answers, Sent}
 use Rattle.syn_headline.specs.Acknowledged.{Ack, kept_in}
 use Rattle.syn_headline.specs.Planning.{Planned, Log}
-use Rattle.syn_headline.specs.Coordinator.{Exchange, Outstanding, Running, CoordinatorMachine, Call, no_call, Walk, Waits, MayAsk, Asks_now, HasPlan, IsDue, Keeps, writes, Advances, stands, keeps, past, settled, is_recorded, archive_layout, asked_of, asked_count, asking, hearing, advanced, start_of, sent_now, fault_of, report_of, new_session, begins, start_causes, takes, ends, goes_on}
+use Rattle.syn_headline.specs.Coordinator.{Exchange, Outstanding, Running, CoordinatorMachine, Call, no_call, Walk, Waits, MayAsk, Asks_now, HasPlan, IsDue, Keeps, writes, Advances, stands, keeps, past, settled, is_recorded, archive_layout, asked_of, asked_count, asking, hearing, advanced, start_of, sent_now, fault_of, is_last, report_of, new_session, begins, start_causes, takes, ends, goes_on}
 use Rattle.syn_headline.specs.Coordinator.{starts as session_starts}
 use Rattle.syn_headline.specs.World.{World, At, Step, Edits, Start, Steps, Runs, side_of, side_goes, side_writes, coordinator_goes, says, is_halted, answered_by, refuses_with, edits, starts, Delivers, to_side, to_coordinator}
 use Rattle.syn_witness.specs.Witness.{new_room, new_archive_room, new_journal}
@@ -167,15 +167,19 @@ asks_so number_of archive running left right may_left may_right lawful few few' 
   waits = waits;
 }
 
+-- an answer that is not the last of an item
+pub not_last : {P : Type 0} → false ≡ true → P
+not_last e = absurd (true≢false (sym e))
+
 -- the session goes on as an answer is taken
 pub goes_on_so : (old : World) (running : Running) (from : Which) (number : ℕ) (request : Request) (reply : Reply) (plan : Option (List Planned)) (logged : Log) (walk : Walk) (kept : List Kept) (left right : List Request) → old.coordinator.running ≡ Some running → asked_of running from number ≡ Some request →
     fault_of running.taken from request reply ≡ None → HasPlan old.coordinator.journal.value (hearing running (took from number request reply)) plan logged →
-    Advances old.pair (option_map_or (λ plan. plan) plan []) (took from number request reply) (start_of old.coordinator running) kept walk → walk.journal.status ≡ old.coordinator.journal.status →
+    Advances old.pair (option_map_or (λ plan. plan) plan []) (took from number request reply) (start_of old.coordinator running) kept walk → walk.journal.status ≡ old.coordinator.journal.status → (is_last reply ≡ true → walk.cursor ≢ running.cursor) →
     Asks_now walk.journal.value (advanced (hearing running (took from number request reply)) plan walk kept) left right →
     Delivers old (Some (Answers from running.session number reply)) (coordinator_goes old (record { journal = walk.journal; running = Some (asking (advanced (hearing running (took from number request reply)) plan walk kept) left right) })
     (record { kept = kept; messages = sent_now (advanced (hearing running (took from number request reply)) plan walk kept) left right; reports = []; logged = logged }))
-goes_on_so old running from number request reply plan logged walk kept left right runs asked fault has advances stays asks =
-    to_coordinator from running.session number reply _ _ (takes running request _ _ (record { runs = runs; of_session = refl; asked = asked }) (goes_on plan logged walk kept left right fault has advances stays asks))
+goes_on_so old running from number request reply plan logged walk kept left right runs asked fault has advances stays moves asks =
+    to_coordinator from running.session number reply _ _ (takes running request _ _ (record { runs = runs; of_session = refl; asked = asked }) (goes_on plan logged walk kept left right fault has advances stays moves asks))
 
 -- or it ends, with each item settled
 pub ends_so : (old : World) (running : Running) (from : Which) (number : ℕ) (request : Request) (reply : Reply) (plan : List Planned) (logged : Log) (walk : Walk) (kept : List Kept) → old.coordinator.running ≡ Some running → asked_of running from number ≡ Some request →

@@ -1,7 +1,12 @@
 -- What no run does.
-use Rattle.std.specs.Prelude.{ℕ, ◌≡◌, ◌≢◌, List, Contains}
+use Rattle.std.specs.Prelude.{ℕ, ◌≡◌, ◌≢◌, true, List, Some, None, All, Contains}
+use Rattle.syn_model.specs.Refusal.{NoAnswer, TooLarge, BadMessage}
 use Rattle.syn_model.specs.Event.{Edit}
-use Rattle.syn_headline.specs.Network.{Which}
+use Rattle.syn_headline.specs.Side.{Begin}
+use Rattle.syn_headline.specs.Network.{Which, Asks}
+use Rattle.syn_headline.specs.Report.{Complete}
+use Rattle.syn_headline.specs.Coordinator.{CoordinatorMachine, Running, Exchange, Call, Takes, CoordinatorStarts, CoordinatorTicks}
+use Rattle.syn_headline.specs.Coordinator.{fault_of, is_unstable}
 use Rattle.syn_headline.specs.Machine.{Down, IsBefore}
 use Rattle.syn_headline.specs.World.{World, Machine, Step, Edits, Stop, Steps, Runs, side_of, status_of}
 use Rattle.syn_headline.specs.Headline.{IsStart}
@@ -15,3 +20,31 @@ StaysWithoutStop = (old new : World) (steps : List Step) → IsStart old → Run
 abbrev pub ArmedCallsCome : Type 0
 ArmedCallsCome = (old new : World) (side : Which) (user : ℕ) (edit : Edit) → let arms = (side_of old side).journal.arms in
     (IsBefore 4 arms.fail × IsBefore 4 arms.stop → ⊥) → Steps old (Edits side user edit) new → new.acknowledged ≡ old.acknowledged
+
+-- a session that has just started is not given up at its first tick
+abbrev pub StartsFresh : Type 0
+StartsFresh = (pair : ℕ) (old started new : CoordinatorMachine) (call ticked : Call) →
+    CoordinatorStarts pair old started call → CoordinatorTicks started new ticked →
+    All (λ report. report.ended ≢ Some NoAnswer) ticked.reports
+
+-- no side is asked twice to begin a session, but by a resend
+abbrev pub BeginsOnce : Type 0
+BeginsOnce = (old new : World) (steps : List Step) → IsStart old → Runs old steps new →
+    (side : Which) (session m n pair again : ℕ) → Contains new.sent (Asks side session m (Begin pair)) →
+    Contains new.sent (Asks side session n (Begin again)) → m ≡ n
+
+-- an answer with no fault in it ends no session 22 or 23
+abbrev pub FaultsAlone : Type 0
+FaultsAlone = (pair : ℕ) (old : CoordinatorMachine) (running : Running) (taken : Exchange) (new : CoordinatorMachine) (call : Call) →
+    Takes pair old running taken new call → fault_of running.taken taken.side taken.request taken.reply ≡ None →
+    All (λ report. (report.ended ≢ Some TooLarge) × (report.ended ≢ Some BadMessage)) call.reports
+
+-- a session that took an answer of a path as no directory does not report Complete
+abbrev pub UnstableIsIncomplete : Type 0
+UnstableIsIncomplete = (pair : ℕ) (old : CoordinatorMachine) (running : Running) (taken : Exchange) (new : CoordinatorMachine) (call : Call) →
+    Takes pair old running taken new call → is_unstable running ≡ true → All (λ report. report.end ≢ Complete) call.reports
+
+-- a session whose archive's device fails in a call does not go on
+abbrev pub FailureEnds : Type 0
+FailureEnds = (pair : ℕ) (old : CoordinatorMachine) (running : Running) (taken : Exchange) (new : CoordinatorMachine) (call : Call) →
+    Takes pair old running taken new call → new.journal.status ≢ old.journal.status → new.running ≡ None

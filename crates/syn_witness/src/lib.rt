@@ -2,7 +2,7 @@
 #![tactic(auto)]
 
 ghost use Rattle.syn_witness.specs.Rows.{SideRows};
-ghost use Rattle.syn_witness.specs.Forbidden.{StaysWithoutStop, ArmedCallsCome};
+ghost use Rattle.syn_witness.specs.Forbidden.{StaysWithoutStop, ArmedCallsCome, StartsFresh, BeginsOnce, FaultsAlone, UnstableIsIncomplete, FailureEnds};
 ghost use Rattle.syn_witness.specs.Witness.{OpenedIsStart, NewRoomIs, StopIsRecovered, FailIsRefused, CheckpointIsCut, SilenceEnds, FileIsCarried, FilesAreExchanged, CarriedIsMarkedLater};
 
 /// What a side answers in worked examples, which its definition gives.
@@ -26,8 +26,15 @@ pub fn witnesses()
     ensures marked { CarriedIsMarkedLater }
 {}
 
-/// What no run does: without a stop among the steps no machine goes down, and an edit is not acknowledged where one of its device calls is armed.
+/// What no run does: without a stop among the steps no machine goes down, an edit is not acknowledged where one of its device
+/// calls is armed, a session is not given up at its first tick, begun twice on a side, ended 22 or 23 for an answer without a fault,
+/// called Complete with an unstable path, or gone on with once its archive's device failed.
 pub fn forbidden()
     ensures up { StaysWithoutStop }
     ensures armed { ArmedCallsCome }
+    ensures fresh { StartsFresh }
+    ensures begins { BeginsOnce }
+    ensures faults { FaultsAlone }
+    ensures unstable { UnstableIsIncomplete }
+    ensures fails { FailureEnds }
 {}

@@ -1,5 +1,5 @@
 use Rattle.syn_headline.proofs.SideLemmas.{serves_allowed}
-use Rattle.syn_headline.proofs.RepeatLemmas.{repeats_are_done, later_are_old}
+use Rattle.syn_headline.proofs.RepeatLemmas.{repeats_are_done, later_are_old, dead_are_old}
 use Rattle.syn_headline.proofs.side_laws.Goals as goal
 
 pub returns-clause-serves : goal.returns-clause-serves
@@ -10,3 +10,6 @@ returns-clause-repeats c = repeats_are_done
 
 pub returns-clause-later : goal.returns-clause-later
 returns-clause-later c = later_are_old
+
+pub returns-clause-dead : goal.returns-clause-dead
+returns-clause-dead c = dead_are_old

@@ -1,4 +1,5 @@
 use Rattle.syn_witness.proofs.StopLemmas.{stay_without_stop, armed_calls_come}
+use Rattle.syn_witness.proofs.ForbiddenLemmas.{starts_fresh, begins_once, faults_alone, unstable_is_incomplete, failure_ends}
 use Rattle.syn_witness.proofs.forbidden.Goals as goal
 
 pub returns-clause-up : goal.returns-clause-up
@@ -6,3 +7,18 @@ returns-clause-up c = stay_without_stop
 
 pub returns-clause-armed : goal.returns-clause-armed
 returns-clause-armed c = armed_calls_come
+
+pub returns-clause-fresh : goal.returns-clause-fresh
+returns-clause-fresh c = starts_fresh
+
+pub returns-clause-begins : goal.returns-clause-begins
+returns-clause-begins c = begins_once
+
+pub returns-clause-faults : goal.returns-clause-faults
+returns-clause-faults c = faults_alone
+
+pub returns-clause-unstable : goal.returns-clause-unstable
+returns-clause-unstable c = unstable_is_incomplete
+
+pub returns-clause-fails : goal.returns-clause-fails
+returns-clause-fails c = failure_ends
