@@ -1,8 +1,10 @@
--- The numbers of refusals.
-use Rattle.std.specs.Prelude.{ℕ}
+-- Why a disk in a file cannot be opened, as a refusal of the product.
+use Rattle.syn_model.specs.Refusal.{Refusal}
+use Rattle.syn_model.specs.Refusal as why
 use Rattle.syn_disk.specs.declared.error.OpenError.{OpenError}
-use Rattle.syn_disk.specs.declared.error.OpenError.TheVariants.{Device, Memory}
+use Rattle.syn_disk.specs.declared.error.OpenError.TheVariants.{Device, Memory, Busy}
 
-abbrev pub number_of : OpenError → ℕ
-number_of Device = 9
-number_of Memory = 11
+abbrev pub refusal_of : OpenError → Refusal
+refusal_of Device = why.Device
+refusal_of Memory = why.Memory
+refusal_of Busy = why.Busy

@@ -1,9 +1,13 @@
-ghost use Rattle.std.specs.Prelude.{◌≡◌};
+//! Why a call of a replica is refused.
+ghost use Rattle.std.specs.Prelude.{◌≡◌, Some};
 ghost use Rattle.syn_model.specs.Refusal.{number, name_of};
-ghost use Rattle.syn_replica.specs.Refusals.{refusal_of, of_journal};
+ghost use Rattle.syn_refusal.specs.Refusals.{cause_of};
+ghost use Rattle.syn_replica.specs.Refusals.{refusal_of};
 
 use std::alloc::{AllocError, AllocFailed};
+use std::fmt;
 use syn_journal::JournalError;
+use syn_refusal::Refusal;
 use syn_tree::TreeError;
 use syn_wire::WireError;
 use thiserror::Error;
@@ -12,92 +16,73 @@ use thiserror::Error;
 #[derive(Clone, Copy, Debug, PartialEq, Eq, Error)]
 pub enum ReplicaError {
     /// The parent is not a directory.
-    #[error("NoParent")]
     NoParent,
     /// A directory is there, where a file is put.
-    #[error("IsDirectory")]
     IsDirectory,
     /// Something is there, where a directory is made.
-    #[error("Exists")]
     Exists,
     /// Nothing is there, or no directory where one is listed.
-    #[error("Absent")]
     Absent,
     /// The root cannot be edited.
-    #[error("Root")]
     Root,
     /// The result would pass a limit.
-    #[error("Full")]
     Full,
     /// The record does not fit in the current half of the journal.
-    #[error("JournalFull")]
     JournalFull,
     /// A device call failed.
-    #[error("Device")]
     Device,
     /// A device call failed earlier, and the replica was not opened again since.
-    #[error("Halted")]
     Halted,
     /// Memory was refused.
-    #[error("Memory")]
     Memory,
     /// Neither half of the disk is open.
-    #[error("NoImage")]
     NoImage,
     /// The disk means nothing that a replica holds.
-    #[error("Damaged")]
     Damaged,
     /// The disk is of another pair.
-    #[error("WrongPair")]
     WrongPair,
 }
 
 impl ReplicaError {
+    /// Which refusal it is.
+    pub fn refusal(&self) -> Refusal
+        ensures { cause_of result ≡ refusal_of self.now }
+    {
+        match self {
+            ReplicaError::NoParent => Refusal::NoParent,
+            ReplicaError::IsDirectory => Refusal::IsDirectory,
+            ReplicaError::Exists => Refusal::Exists,
+            ReplicaError::Absent => Refusal::Absent,
+            ReplicaError::Root => Refusal::Root,
+            ReplicaError::Full => Refusal::Full,
+            ReplicaError::JournalFull => Refusal::JournalFull,
+            ReplicaError::Device => Refusal::Device,
+            ReplicaError::Halted => Refusal::Halted,
+            ReplicaError::Memory => Refusal::Memory,
+            ReplicaError::NoImage => Refusal::NoImage,
+            ReplicaError::Damaged => Refusal::Damaged,
+            ReplicaError::WrongPair => Refusal::WrongPair,
+        }
+    }
+
     /// The number of the refusal.
     pub fn number(&self) -> u8
         ensures { result ≡ number (refusal_of self.now) }
     {
-        match self {
-            ReplicaError::NoParent => 2,
-            ReplicaError::IsDirectory => 3,
-            ReplicaError::Exists => 4,
-            ReplicaError::Absent => 5,
-            ReplicaError::Root => 6,
-            ReplicaError::Full => 7,
-            ReplicaError::JournalFull => 8,
-            ReplicaError::Device => 9,
-            ReplicaError::Halted => 10,
-            ReplicaError::Memory => 11,
-            ReplicaError::NoImage => 18,
-            ReplicaError::Damaged => 19,
-            ReplicaError::WrongPair => 20,
-        }
+        self.refusal().number()
     }
+}
 
-    /// The name of the refusal, as it is printed.
-    pub fn name(&self) -> &'static str
-        ensures { result.now ≡ name_of (refusal_of self.now) }
-    {
-        match self {
-            ReplicaError::NoParent => "NoParent",
-            ReplicaError::IsDirectory => "IsDirectory",
-            ReplicaError::Exists => "Exists",
-            ReplicaError::Absent => "Absent",
-            ReplicaError::Root => "Root",
-            ReplicaError::Full => "Full",
-            ReplicaError::JournalFull => "JournalFull",
-            ReplicaError::Device => "Device",
-            ReplicaError::Halted => "Halted",
-            ReplicaError::Memory => "Memory",
-            ReplicaError::NoImage => "NoImage",
-            ReplicaError::Damaged => "Damaged",
-            ReplicaError::WrongPair => "WrongPair",
-        }
+/// The name of the refusal.
+impl fmt::Display for ReplicaError {
+    ghost output = { λ error. Some (name_of (refusal_of error)) };
+
+    fn fmt<W: fmt::Write>(&self, f: &mut fmt::Formatter<W>) -> fmt::Result {
+        write!(f, "{}", self.refusal())
     }
 }
 
 impl From<JournalError> for ReplicaError {
-    ghost use Rattle.std.specs.Prelude.{◌≡◌};
     ghost use Rattle.syn_replica.specs.Refusals.{of_journal};
 
     ghost from_gives = { λ refused e. e ≡ of_journal refused };
@@ -116,7 +101,6 @@ impl From<JournalError> for ReplicaError {
 }
 
 impl From<TreeError> for ReplicaError {
-    ghost use Rattle.std.specs.Prelude.{◌≡◌};
     ghost use Rattle.syn_replica.specs.Refusals.{of_tree};
 
     ghost from_gives = { λ refused e. e ≡ of_tree refused };
@@ -135,7 +119,6 @@ impl From<TreeError> for ReplicaError {
 }
 
 impl From<WireError> for ReplicaError {
-    ghost use Rattle.std.specs.Prelude.{◌≡◌};
     ghost use Rattle.syn_replica.specs.declared.error.ReplicaError.TheVariants.{Memory};
 
     ghost from_gives = { λ _ e. e ≡ Memory };
@@ -146,7 +129,6 @@ impl From<WireError> for ReplicaError {
 }
 
 impl From<AllocError> for ReplicaError {
-    ghost use Rattle.std.specs.Prelude.{◌≡◌};
     ghost use Rattle.syn_replica.specs.declared.error.ReplicaError.TheVariants.{Memory};
 
     ghost from_gives = { λ _ e. e ≡ Memory };
@@ -157,7 +139,6 @@ impl From<AllocError> for ReplicaError {
 }
 
 impl<T: Drop> From<AllocFailed<T>> for ReplicaError {
-    ghost use Rattle.std.specs.Prelude.{◌≡◌};
     ghost use Rattle.syn_replica.specs.declared.error.ReplicaError.TheVariants.{Memory};
 
     ghost from_gives = { λ _ e. e ≡ Memory };
