@@ -77,16 +77,17 @@ given_text id rows f given = go (find (λ r. bytes_eq r.id id) rows) (full_find 
 -- ---- one use of an argument
 
 -- a use of the argument gives it a value, or leaves the rows as they are
-abbrev gives_by : ArgAction → ℕ → Bool
-gives_by action.Set least = nat_lt 0 least
-gives_by action.Help least = true
-gives_by action.HelpShort least = true
-gives_by action.HelpLong least = true
-gives_by action.Version least = true
-gives_by _ least = false
+abbrev gives_by : ArgAction → ℕ → List Text → Bool
+gives_by action.Set least missing = nat_lt 0 least
+gives_by action.SetTrue least missing = nat_lt 0 (length missing)
+gives_by action.Help least missing = true
+gives_by action.HelpShort least missing = true
+gives_by action.HelpLong least missing = true
+gives_by action.Version least missing = true
+gives_by _ least missing = false
 
 abbrev pub gives : Rule → Bool
-gives a = gives_by (action_of a) (unwrap_or_range a.range).start_inclusive
+gives a = gives_by (action_of a) (unwrap_or_range a.range).start_inclusive a.missing
 
 abbrev pub give : List Rule → Type 0
 give rules = list_all gives rules ≡ true
@@ -101,16 +102,31 @@ in_range least most [] some e =
     let bad : InvalidValue ∷ [] ≡ [] = rw some at e in
     absurd (omega (arith, ap length bad))
 
-full_used_as : (x : ArgAction) (least most : ℕ) (a : Rule) (values : List Text) (rows : List Row) → gives_by x least ≡ true
-    → range_kinds least most (length values) ≡ [] → IsFull rows → IsFull (used_as x a.id (reading_by a) (values_or_missing a values) rows)
+nonempty : (values : List Text) → nat_lt 0 (length values) ≡ true → IsNonempty values
+nonempty (v ∷ vs) some = tt
+nonempty [] some = absurd (true≢false (sym some))
+
+-- a flag that is used without a value has the one for that
+flag_value : (a : Rule) (values : List Text) → nat_lt 0 (length a.missing) ≡ true
+    → IsNonempty (values_or_missing a values)
+flag_value a [] some = nonempty a.missing some
+flag_value a (v ∷ vs) some = tt
+
+full_used_as : (x : ArgAction) (least most : ℕ) (a : Rule) (values : List Text) (rows : List Row)
+    → gives_by x least a.missing ≡ true → range_kinds least most (length values) ≡ [] → IsFull rows
+    → IsFull (used_as x a.id (reading_by a) (values_or_missing a values) rows)
 full_used_as action.Set least most a [] rows g r f = absurd (in_range least most [] g r)
-full_used_as action.Set least most a (v ∷ vs) rows g r f = full_with a.id (reading_by a) CommandLine (v ∷ vs) (without a.id rows) tt (full_without a.id rows f)
+full_used_as action.Set least most a (v ∷ vs) rows g r f =
+    full_with a.id (reading_by a) CommandLine (v ∷ vs) (without a.id rows) tt
+    (full_without a.id rows f)
+full_used_as action.SetTrue least most a values rows g r f =
+    full_with a.id (reading_by a) CommandLine (values_or_missing a values) (without a.id rows)
+    (flag_value a values g) (full_without a.id rows f)
 full_used_as action.Help least most a values rows g r f = f
 full_used_as action.HelpShort least most a values rows g r f = f
 full_used_as action.HelpLong least most a values rows g r f = f
 full_used_as action.Version least most a values rows g r f = f
 full_used_as action.Append least most a values rows g r f = absurd (true≢false (sym g))
-full_used_as action.SetTrue least most a values rows g r f = absurd (true≢false (sym g))
 full_used_as action.SetFalse least most a values rows g r f = absurd (true≢false (sym g))
 full_used_as action.Count least most a values rows g r f = absurd (true≢false (sym g))
 

@@ -1,6 +1,6 @@
 pub mod GivenLemmas
 pub mod InputLemmas
 pub mod LineLemmas
-pub mod PutLemmas
+pub mod EditLemmas
 pub mod ShowLemmas
 pub mod WrongLemmas

@@ -11,8 +11,11 @@ use Rattle.clap.proofs.OnLiterals.{clap_on_literals}
 use Rattle.clap.proofs.WalkLemmas.{first_value-rows}
 use Rattle.syn.specs.App.{syn_app}
 use Rattle.syn.specs.Reads.{Asks, AsksHelp, HasText, IfUsage, IsMistake, IsRequest, IsFormat, IsEdit, IsEditName, IsRight, IsValue, IsWanting, IfValue, Lacks, NothingReads, Reads, ReadsRows}
+use Rattle.syn.specs.Asked.{word_of}
+use Rattle.syn.specs.declared.line.Change.{Change}
+use Rattle.syn.specs.declared.line.Change.TheVariants as change
 use Rattle.syn.specs.declared.line.Line.{Line}
-use Rattle.syn.specs.declared.line.Line.TheVariants.{Format, Put, MakeDir, Remove, Show}
+use Rattle.syn.specs.declared.line.Line.TheVariants.{Format, Edit, Show}
 use Rattle.syn.specs.declared.line.ValueName.{ValueName}
 use Rattle.syn.specs.declared.line.LineError.{LineError}
 use Rattle.syn.specs.declared.line.LineError.TheVariants.{Usage, Value, Memory}
@@ -95,54 +98,62 @@ value_is (Err e) P Q p h = λ _. h p
 pub differ : (a b : Text) → (slice_index a 0 ≡ slice_index b 0 → ⊥) → a ≡ b → ⊥
 differ a b letters e = letters (ap (λ (t : List ℕ). slice_index t 0) e)
 
+-- the word of an edit is not `format`, and not `show`
+no_format : (change : Change) → word_of change ≡ codes "format" → ⊥
+no_format change.Put = differ (codes "put") (codes "format") (λ (e : 112 ≡ 102). omega (arith, e))
+no_format change.MakeDir =
+    differ (codes "mkdir") (codes "format") (λ (e : 109 ≡ 102). omega (arith, e))
+no_format change.Remove = differ (codes "rm") (codes "format") (λ (e : 114 ≡ 102). omega (arith, e))
+
+no_show : (change : Change) → word_of change ≡ codes "show" → ⊥
+no_show change.Put = differ (codes "put") (codes "show") (λ (e : 112 ≡ 115). omega (arith, e))
+no_show change.MakeDir = differ (codes "mkdir") (codes "show") (λ (e : 109 ≡ 115). omega (arith, e))
+no_show change.Remove = differ (codes "rm") (codes "show") (λ (e : 114 ≡ 115). omega (arith, e))
+
+-- the word of an edit is one of the three
+pub is_edit_word : (change : Change) → IsEditName (word_of change)
+is_edit_word change.Put = inl refl
+is_edit_word change.MakeDir = inr (inl refl)
+is_edit_word change.Remove = inr (inr refl)
+
 pub only_format : (name : Text) (rows : List Row) → name ≡ codes "format"
     → ((pair : ℕ) (file : Text) → IsFormat rows pair file → ⊥) → NothingReads (Some (name, rows))
 only_format name rows same none (Format pair file) read = none pair file.now read.1
-only_format name rows same none (Put file user path) read = differ (codes "format") (codes "put") (λ (e : 102 ≡ 112). omega (arith, e)) (sym same ∙ read.0)
-only_format name rows same none (MakeDir file user path) read = differ (codes "format") (codes "mkdir") (λ (e : 102 ≡ 109). omega (arith, e)) (sym same ∙ read.0)
-only_format name rows same none (Remove file user path) read = differ (codes "format") (codes "rm") (λ (e : 102 ≡ 114). omega (arith, e)) (sym same ∙ read.0)
-only_format name rows same none (Show file path) read = differ (codes "format") (codes "show") (λ (e : 102 ≡ 115). omega (arith, e)) (sym same ∙ read.0)
+only_format name rows same none (Edit line) read = no_format line.change (sym read.0 ∙ same)
+only_format name rows same none (Show file path) read =
+    differ (codes "format") (codes "show") (λ (e : 102 ≡ 115). omega (arith, e)) (sym same ∙ read.0)
 
-pub only_put : (name : Text) (rows : List Row) → name ≡ codes "put"
-    → ((file : Text) (user : ℕ) (path : Text) → IsEdit rows file user path → ⊥) → NothingReads (Some (name, rows))
-only_put name rows same none (Format pair file) read = differ (codes "put") (codes "format") (λ (e : 112 ≡ 102). omega (arith, e)) (sym same ∙ read.0)
-only_put name rows same none (Put file user path) read = none file.now user path.now read.1
-only_put name rows same none (MakeDir file user path) read = differ (codes "put") (codes "mkdir") (λ (e : 112 ≡ 109). omega (arith, e)) (sym same ∙ read.0)
-only_put name rows same none (Remove file user path) read = differ (codes "put") (codes "rm") (λ (e : 112 ≡ 114). omega (arith, e)) (sym same ∙ read.0)
-only_put name rows same none (Show file path) read = differ (codes "put") (codes "show") (λ (e : 112 ≡ 115). omega (arith, e)) (sym same ∙ read.0)
-
-pub only_make_dir : (name : Text) (rows : List Row) → name ≡ codes "mkdir"
-    → ((file : Text) (user : ℕ) (path : Text) → IsEdit rows file user path → ⊥) → NothingReads (Some (name, rows))
-only_make_dir name rows same none (Format pair file) read = differ (codes "mkdir") (codes "format") (λ (e : 109 ≡ 102). omega (arith, e)) (sym same ∙ read.0)
-only_make_dir name rows same none (Put file user path) read = differ (codes "mkdir") (codes "put") (λ (e : 109 ≡ 112). omega (arith, e)) (sym same ∙ read.0)
-only_make_dir name rows same none (MakeDir file user path) read = none file.now user path.now read.1
-only_make_dir name rows same none (Remove file user path) read = differ (codes "mkdir") (codes "rm") (λ (e : 109 ≡ 114). omega (arith, e)) (sym same ∙ read.0)
-only_make_dir name rows same none (Show file path) read = differ (codes "mkdir") (codes "show") (λ (e : 109 ≡ 115). omega (arith, e)) (sym same ∙ read.0)
-
-pub only_remove : (name : Text) (rows : List Row) → name ≡ codes "rm"
-    → ((file : Text) (user : ℕ) (path : Text) → IsEdit rows file user path → ⊥) → NothingReads (Some (name, rows))
-only_remove name rows same none (Format pair file) read = differ (codes "rm") (codes "format") (λ (e : 114 ≡ 102). omega (arith, e)) (sym same ∙ read.0)
-only_remove name rows same none (Put file user path) read = differ (codes "rm") (codes "put") (λ (e : 114 ≡ 112). omega (arith, e)) (sym same ∙ read.0)
-only_remove name rows same none (MakeDir file user path) read = differ (codes "rm") (codes "mkdir") (λ (e : 114 ≡ 109). omega (arith, e)) (sym same ∙ read.0)
-only_remove name rows same none (Remove file user path) read = none file.now user path.now read.1
-only_remove name rows same none (Show file path) read = differ (codes "rm") (codes "show") (λ (e : 114 ≡ 115). omega (arith, e)) (sym same ∙ read.0)
+pub only_edit : (change : Change) (name : Text) (rows : List Row) → name ≡ word_of change
+    → ((file : Text) (user : ℕ) (path : Text) → IsEdit rows file user path → ⊥)
+    → NothingReads (Some (name, rows))
+only_edit change name rows same none (Format pair file) read =
+    no_format change (sym same ∙ read.0)
+only_edit change name rows same none (Edit line) read =
+    none line.file.now line.user line.path.now read.1
+only_edit change name rows same none (Show file path) read = no_show change (sym same ∙ read.0)
 
 pub only_show : (name : Text) (rows : List Row) → name ≡ codes "show"
     → ((file : Text) → HasText rows (codes "FILE") file → ⊥) → NothingReads (Some (name, rows))
-only_show name rows same none (Format pair file) read = differ (codes "show") (codes "format") (λ (e : 115 ≡ 102). omega (arith, e)) (sym same ∙ read.0)
-only_show name rows same none (Put file user path) read = differ (codes "show") (codes "put") (λ (e : 115 ≡ 112). omega (arith, e)) (sym same ∙ read.0)
-only_show name rows same none (MakeDir file user path) read = differ (codes "show") (codes "mkdir") (λ (e : 115 ≡ 109). omega (arith, e)) (sym same ∙ read.0)
-only_show name rows same none (Remove file user path) read = differ (codes "show") (codes "rm") (λ (e : 115 ≡ 114). omega (arith, e)) (sym same ∙ read.0)
+only_show name rows same none (Format pair file) read =
+    differ (codes "show") (codes "format") (λ (e : 115 ≡ 102). omega (arith, e)) (sym same ∙ read.0)
+only_show name rows same none (Edit line) read = no_show line.change (sym read.0 ∙ same)
 only_show name rows same none (Show file path) read = none file.now read.1
 
 -- any other name is no command's
-pub other_name : (name : Text) (rows : List Row) → (name ≡ codes "format" → ⊥) → (name ≡ codes "put" → ⊥) → (name ≡ codes "mkdir" → ⊥) → (name ≡ codes "rm" → ⊥) → (name ≡ codes "show" → ⊥)
-    → NothingReads (Some (name, rows))
-other_name name rows no_format no_put no_make_dir no_remove no_show (Format pair file) read = no_format read.0
-other_name name rows no_format no_put no_make_dir no_remove no_show (Put file user path) read = no_put read.0
-other_name name rows no_format no_put no_make_dir no_remove no_show (MakeDir file user path) read = no_make_dir read.0
-other_name name rows no_format no_put no_make_dir no_remove no_show (Remove file user path) read = no_remove read.0
-other_name name rows no_format no_put no_make_dir no_remove no_show (Show file path) read = no_show read.0
+pub other_name : (name : Text) (rows : List Row)
+    → (name ≡ codes "format" → ⊥) → (name ≡ codes "put" → ⊥) → (name ≡ codes "mkdir" → ⊥)
+    → (name ≡ codes "rm" → ⊥) → (name ≡ codes "show" → ⊥) → NothingReads (Some (name, rows))
+other_name name rows not_format not_put not_make_dir not_remove not_show (Format pair file) read =
+    not_format read.0
+other_name name rows not_format not_put not_make_dir not_remove not_show (Edit line) read =
+    go line.change read.0
+  where
+    go : (change : Change) → name ≡ word_of change → ⊥
+    go change.Put = not_put
+    go change.MakeDir = not_make_dir
+    go change.Remove = not_remove
+other_name name rows not_format not_put not_make_dir not_remove not_show (Show file path) read =
+    not_show read.0
 
 -- what is told where the help is asked for
 pub is_asked : (error : LineError) (words : List Text) → IsRequest error

@@ -14,7 +14,7 @@ use Rattle.clap.specs.Takes.{is_given}
 use Rattle.clap.specs.Walk.{Held, Names, Outcome, Row, Rule, Step, Text, Waiting, Walk, after_flag, after_step, answers_to, arg_by_index, done, idle, long_or_other, next, nothing_held, option, plain, plain_word, positional, refused, rows_after, settled, short_or_plain, subcommand, subcommand_met, subcommand_or_other, first_of, to_positional, trailing, value, waits, walk, walk_from, walked, walked_from, word_met}
 use Rattle.clap.specs.declared.error.kind.ErrorKind.TheVariants.{DisplayHelp, InvalidSubcommand}
 use Rattle.clap.proofs.OnLiterals.{clap_on_literals}
-use Rattle.syn.specs.App.{edit_app, show_app, syn_app, word_app}
+use Rattle.syn.specs.App.{edit_app, format_app, show_app, syn_app}
 use Rattle.syn.specs.Reads.{HasEditValues, HasFormatValues, IsCommandName, IsComplete, IsEditName, IsGiven, IsWrongIn, IsWrongValue, Lacks}
 use Rattle.syn.specs.declared.line.ValueName.{ValueName}
 use Rattle.syn.specs.declared.line.ValueName.TheVariants.{Command, Kind, Pair, User, File, Path}
@@ -157,9 +157,6 @@ AreSound (s ∷ rest) = IsSound s × AreSound rest
 
 abbrev sub_of : App → Shape
 sub_of a = built_leaf (inherited (with_leaf_noted (marked_built syn_app.top)) a.top)
-
-abbrev format_app : App
-format_app = word_app (codes "format") (codes "KIND" ∷ codes "PAIR" ∷ codes "FILE" ∷ [])
 
 format_sound : IsSound (sub_of format_app)
 unfolding clap_on_literals

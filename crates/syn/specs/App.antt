@@ -1,5 +1,6 @@
 -- The commands of the program, as `clap` sees them.
-use Rattle.std.specs.Prelude.{true, List, [], ◌∷◌, fold, codes}
+use Rattle.std.specs.Prelude.{true, List, [], ◌∷◌, fold, codes, Some}
+use Rattle.clap.specs.declared.builder.action.ArgAction.TheVariants.{SetTrue}
 use Rattle.clap.specs.Words.{App, Rule, Text, new_app, new_rule, with_rule, with_subcommand}
 
 abbrev pub required_rule : Text → Rule
@@ -9,12 +10,30 @@ required_rule id = record (new_rule id) { required = true }
 abbrev pub word_app : Text → List Text → App
 word_app name ids = fold (λ app id. with_rule app (required_rule id)) (new_app name) ids
 
+-- the flag that asks for an explanation
+abbrev pub verbose_rule : Rule
+verbose_rule = record (new_rule (codes "verbose")) {
+  short = Some 118;
+  long = Some (codes "verbose");
+  action = Some SetTrue;
+}
+
+-- such a command, with that flag
+abbrev pub command_app : Text → List Text → App
+command_app name ids = with_rule (word_app name ids) verbose_rule
+
+abbrev pub format_app : App
+format_app = command_app (codes "format") (codes "KIND" ∷ codes "PAIR" ∷ codes "FILE" ∷ [])
+
 -- an edit of a file, by a user, at a path
 abbrev pub edit_app : Text → App
-edit_app name = word_app name (codes "FILE" ∷ codes "USER" ∷ codes "PATH" ∷ [])
+edit_app name = command_app name (codes "FILE" ∷ codes "USER" ∷ codes "PATH" ∷ [])
 
 abbrev pub show_app : App
-show_app = with_rule (word_app (codes "show") (codes "FILE" ∷ [])) (new_rule (codes "PATH"))
+show_app =
+    with_rule
+    (with_rule (word_app (codes "show") (codes "FILE" ∷ [])) (new_rule (codes "PATH")))
+    verbose_rule
 
 -- a command that has a version
 abbrev pub versioned : App → App
@@ -24,9 +43,13 @@ versioned app = record app { top = record app.top { has_version = true } }
 abbrev pub requiring : App → App
 requiring app = record app { top = record app.top { subcommand_required = true } }
 
+abbrev pub top_app : App
+top_app = with_rule (requiring (versioned (new_app (codes "syn")))) verbose_rule
+
 abbrev pub syn_app : App
-syn_app = with_subcommand (with_subcommand (with_subcommand (with_subcommand (with_subcommand (requiring (versioned (new_app (codes "syn"))))
-    (word_app (codes "format") (codes "KIND" ∷ codes "PAIR" ∷ codes "FILE" ∷ [])).top)
+syn_app = with_subcommand (with_subcommand
+    (with_subcommand (with_subcommand (with_subcommand top_app
+    format_app.top)
     (edit_app (codes "put")).top)
     (edit_app (codes "mkdir")).top)
     (edit_app (codes "rm")).top)

@@ -1,5 +1,6 @@
 pub mod App
+pub mod Asked
+pub mod Errors
 pub mod Printed
 pub mod Reads
-pub mod Refusals
 pub mod Status

@@ -11,7 +11,9 @@ use Rattle.syn_path.specs.Paths.{printed_form}
 
 -- the line of a file: its path, its length, and its digest in lower case hexadecimal digits
 abbrev pub file_line : List (List ℕ) → List ℕ → List ℕ
-file_line path bytes = codes "f " ++ (printed_form path ++ (codes " " ++ (decimal (length bytes) ++ (codes " " ++ (encode_lower (sha256 bytes) ++ codes "\n")))))
+file_line path bytes = codes "f " ++
+    (printed_form path ++ (codes " " ++
+    (decimal (length bytes) ++ (codes " " ++ (encode_lower (sha256 bytes) ++ codes "\n")))))
 
 -- the line of a directory
 abbrev pub directory_line : List (List ℕ) → List ℕ
@@ -31,7 +33,8 @@ lines_below tree at = lines_of (filter (is_below at) (entries tree))
 
 -- the first line of an image
 abbrev pub image_line : ℕ → ℕ → List ℕ
-image_line pair position = codes "replica pair " ++ (decimal pair ++ (codes " position " ++ (decimal position ++ codes "\n")))
+image_line pair position = codes "replica pair "
+    ++ (decimal pair ++ (codes " position " ++ (decimal position ++ codes "\n")))
 
 -- what is printed of a path: the bytes of a file, or the lines of what is below a directory
 abbrev pub content_shown : Tree → Path → Content → List ℕ

@@ -1,12 +1,14 @@
 -- What a command and its values say of the words.
-use Rattle.std.specs.Prelude.{◌≡◌, ◌≢◌, ◌⊎◌, ◌<◌, ◌^◌, ℕ, List, [], Option, Some, None, codes, option_map}
+use Rattle.std.specs.Prelude.{◌≡◌, ◌≢◌, ◌⊎◌, ◌<◌, ◌^◌, ℕ, List, [], Option, Some, None, codes}
+use Rattle.std.specs.Prelude.{option_map}
 use Rattle.std.specs.Str.Parse.{IsNumeral, digits_value}
 use Rattle.clap.specs.Words.{IsAmong, Row, Text, fault_of, first_of, kind_of, subcommand_of}
 use Rattle.clap.specs.declared.error.Error.{Error}
 use Rattle.clap.specs.declared.error.kind.ErrorKind.TheVariants.{DisplayHelp, DisplayVersion}
 use Rattle.syn.specs.App.{syn_app}
+use Rattle.syn.specs.Asked.{word_of}
 use Rattle.syn.specs.declared.line.Line.{Line}
-use Rattle.syn.specs.declared.line.Line.TheVariants.{Format, Put, MakeDir, Remove, Show}
+use Rattle.syn.specs.declared.line.Line.TheVariants.{Format, Edit, Show}
 use Rattle.syn.specs.declared.line.ValueName.{ValueName}
 use Rattle.syn.specs.declared.line.ValueName.TheVariants.{Command, Kind, Pair, User, File, Path}
 use Rattle.syn.specs.declared.line.LineError.{LineError}
@@ -28,19 +30,21 @@ HasNumber bits rows id n = (text : Text) × HasText rows id text × IsNumber bit
 
 -- the values of each command
 abbrev pub IsFormat : List Row → ℕ → Text → Type 0
-IsFormat rows pair file = HasText rows (codes "KIND") (codes "replica") × HasNumber 64 rows (codes "PAIR") pair × HasText rows (codes "FILE") file
+IsFormat rows pair file = HasText rows (codes "KIND") (codes "replica")
+    × HasNumber 64 rows (codes "PAIR") pair × HasText rows (codes "FILE") file
 
 abbrev pub IsEdit : List Row → Text → ℕ → Text → Type 0
-IsEdit rows file user path = HasText rows (codes "FILE") file × HasNumber 32 rows (codes "USER") user × HasText rows (codes "PATH") path
+IsEdit rows file user path = HasText rows (codes "FILE") file
+    × HasNumber 32 rows (codes "USER") user × HasText rows (codes "PATH") path
 
 -- the line is that of the subcommand and its rows
 abbrev pub ReadsRows : Text → List Row → Line → Type 0
 ReadsRows name rows (Format pair file) = (name ≡ codes "format") × IsFormat rows pair file.now
-ReadsRows name rows (Put file user path) = (name ≡ codes "put") × IsEdit rows file.now user path.now
-ReadsRows name rows (MakeDir file user path) = (name ≡ codes "mkdir") × IsEdit rows file.now user path.now
-ReadsRows name rows (Remove file user path) = (name ≡ codes "rm") × IsEdit rows file.now user path.now
+ReadsRows name rows (Edit line) =
+    (name ≡ word_of line.change) × IsEdit rows line.file.now line.user line.path.now
 ReadsRows name rows (Show file path) =
-    (name ≡ codes "show") × HasText rows (codes "FILE") file.now × (first_of (codes "PATH") rows ≡ option_map (λ p. p.now) path)
+    (name ≡ codes "show") × HasText rows (codes "FILE") file.now
+    × (first_of (codes "PATH") rows ≡ option_map (λ p. p.now) path)
 
 abbrev pub Reads : Option (Text × List Row) → Line → Type 0
 Reads None line = ⊥
@@ -56,10 +60,12 @@ IsGiven rows id = (text : Text) × HasText rows id text
 
 -- a text is given for each value of a format, and of an edit
 abbrev pub HasFormatValues : List Row → Type 0
-HasFormatValues rows = IsGiven rows (codes "KIND") × IsGiven rows (codes "PAIR") × IsGiven rows (codes "FILE")
+HasFormatValues rows = IsGiven rows (codes "KIND") × IsGiven rows (codes "PAIR")
+    × IsGiven rows (codes "FILE")
 
 abbrev pub HasEditValues : List Row → Type 0
-HasEditValues rows = IsGiven rows (codes "FILE") × IsGiven rows (codes "USER") × IsGiven rows (codes "PATH")
+HasEditValues rows = IsGiven rows (codes "FILE") × IsGiven rows (codes "USER")
+    × IsGiven rows (codes "PATH")
 
 abbrev pub IsEditName : Text → Type 0
 IsEditName name = (name ≡ codes "put") ⊎ ((name ≡ codes "mkdir") ⊎ (name ≡ codes "rm"))
@@ -67,7 +73,8 @@ IsEditName name = (name ≡ codes "put") ⊎ ((name ≡ codes "mkdir") ⊎ (name
 -- the name is that of a command, and each value that the command requires is given
 abbrev pub IsComplete : Text → List Row → Type 0
 IsComplete name rows = ((name ≡ codes "format") × HasFormatValues rows)
-    ⊎ ((IsEditName name × HasEditValues rows) ⊎ ((name ≡ codes "show") × IsGiven rows (codes "FILE")))
+    ⊎ ((IsEditName name × HasEditValues rows)
+    ⊎ ((name ≡ codes "show") × IsGiven rows (codes "FILE")))
 
 -- the text given for KIND is another than `replica`
 abbrev pub IsOtherKind : List Row → Type 0
@@ -77,10 +84,12 @@ IsOtherKind rows = (kind : Text) × HasText rows (codes "KIND") kind × (kind �
 abbrev pub IsNoNumber : ℕ → List Row → Text → Type 0
 IsNoNumber bits rows id = (text : Text) × HasText rows id text × ((n : ℕ) → ¬ IsNumber bits text n)
 
--- each value is given, and this one is wrong: the KIND or the PAIR of a format, or the USER of an edit
+-- each value is given, and this one is wrong: the KIND or the PAIR of a format, or the USER of an
+-- edit
 abbrev pub IsWrongIn : Text → List Row → ValueName → Type 0
 IsWrongIn name rows Kind = (name ≡ codes "format") × HasFormatValues rows × IsOtherKind rows
-IsWrongIn name rows Pair = (name ≡ codes "format") × HasFormatValues rows × IsNoNumber 64 rows (codes "PAIR")
+IsWrongIn name rows Pair = (name ≡ codes "format") × HasFormatValues rows
+    × IsNoNumber 64 rows (codes "PAIR")
 IsWrongIn name rows User = IsEditName name × HasEditValues rows × IsNoNumber 32 rows (codes "USER")
 IsWrongIn name rows _ = ⊥
 
@@ -127,7 +136,8 @@ pub record Asks (words : List Text) (line : Line) : Type 0 where
 
 -- the words ask for the help or the version
 abbrev pub AsksHelp : List Text → Type 0
-AsksHelp words = IsAmong DisplayHelp (fault_of syn_app words) ⊎ IsAmong DisplayVersion (fault_of syn_app words)
+AsksHelp words = IsAmong DisplayHelp (fault_of syn_app words)
+    ⊎ IsAmong DisplayVersion (fault_of syn_app words)
 
 -- a value is wrong
 abbrev pub IsValue : LineError → Type 0

@@ -4,6 +4,26 @@ ghost use Rattle.syn.specs.Reads.{name_of};
 
 use thiserror::Error;
 
+/// What an edit does.
+#[derive(Clone, Copy, Debug, PartialEq, Eq)]
+pub enum Change {
+    /// Puts standard input.
+    Put,
+    /// Makes a directory.
+    MakeDir,
+    /// Removes what stands there, with all below it.
+    Remove,
+}
+
+/// An edit of a file's image at a path, by a user.
+#[derive(Clone, Copy, Debug, PartialEq, Eq)]
+pub struct EditLine<'a> {
+    pub change: Change,
+    pub file: &'a str,
+    pub user: u32,
+    pub path: &'a str,
+}
+
 /// A command with its values.
 #[derive(Clone, Copy, Debug, PartialEq, Eq)]
 pub enum Line<'a> {
@@ -12,29 +32,20 @@ pub enum Line<'a> {
         pair: u64,
         file: &'a str,
     },
-    /// Puts standard input at the path, for the user.
-    Put {
-        file: &'a str,
-        user: u32,
-        path: &'a str,
-    },
-    /// Makes a directory at the path, for the user.
-    MakeDir {
-        file: &'a str,
-        user: u32,
-        path: &'a str,
-    },
-    /// Removes what stands at the path, with all below it, for the user.
-    Remove {
-        file: &'a str,
-        user: u32,
-        path: &'a str,
-    },
+    /// Edits the image in a file.
+    Edit(EditLine<'a>),
     /// Prints the whole image, or what stands at the path.
     Show {
         file: &'a str,
         path: Option<&'a str>,
     },
+}
+
+/// A command, and whether a refusal of it is to be explained.
+#[derive(Clone, Copy, Debug, PartialEq, Eq)]
+pub struct Asked<'a> {
+    pub line: Line<'a>,
+    pub is_verbose: bool,
 }
 
 /// What a word of a command stands for.
@@ -60,6 +71,18 @@ impl ValueName {
             ValueName::User => "USER",
             ValueName::File => "FILE",
             ValueName::Path => "PATH",
+        }
+    }
+
+    /// What the help says of it.
+    pub fn help(self) -> &'static str {
+        match self {
+            ValueName::Command => "What to do",
+            ValueName::Kind => "What the image is to hold: 'replica'",
+            ValueName::Pair => "The number of the pair that the replica belongs to, below 2^64",
+            ValueName::User => "The number of the user who makes the edit, below 2^32",
+            ValueName::File => "The file that has the image",
+            ValueName::Path => "A path in the image: '.' for its root, else names parted by '/'",
         }
     }
 }

@@ -5,10 +5,12 @@ ghost use Rattle.std.specs.Io.KnownBytes.{Appends};
 ghost use Rattle.std.specs.String.{string_bytes};
 ghost use Rattle.syn_model.specs.Tree.{Content, is_present};
 ghost use Rattle.syn_replica.specs.Replica.{pair_of, position_shown, tree_shown};
-ghost use Rattle.syn.specs.Printed.{content_line, content_shown, directory_line, file_line, image_line, lines_below};
-ghost use Rattle.syn.specs.Refusals.{number_of, IsOfStream};
+ghost use Rattle.syn.specs.Printed.{content_line, content_shown, directory_line, file_line};
+ghost use Rattle.syn.specs.Printed.{image_line, lines_below};
+ghost use Rattle.syn_model.specs.Refusal.{Absent};
+ghost use Rattle.syn.specs.Errors.{refusal_of, IsOfStream};
 
-use crate::refusal::Refusal;
+use crate::error::CommandError;
 use sha2::{Digest, Sha256};
 use std::alloc::{AllocError, Global};
 use std::io::Write;
@@ -17,14 +19,15 @@ use syn_path::Path;
 use syn_replica::{Replica, ReplicaError};
 use syn_tree::{Entry, Found, Tree};
 
-/// Prints the whole image: a line with its numbers, and a line for each path but the root, in path order.
+/// Prints the whole image: a line with its numbers, and a line for each path but the root, in path
+/// order.
 ///
 /// Refused 9 where the output cannot be written, and 11 where memory is refused.
 pub fn show_image<D: Disk, W: Write>(
     alloc: Global,
     replica: &Replica<D>,
     output: &mut W,
-) -> Result<(), Refusal>
+) -> Result<(), CommandError>
     ensures printed { OnOk result (Appends (W.contents output.old) (W.contents output.new)
         (image_line (pair_of replica.now) (position_shown replica.now) ++ lines_below (tree_shown replica.now) [])) }
     ensures stream { IfErr result IsOfStream }
@@ -36,23 +39,25 @@ pub fn show_image<D: Disk, W: Write>(
 
 /// Prints the bytes of the file at the path, or the lines of what is below the directory there.
 ///
-/// Refused 5 where nothing is there, 9 where the output cannot be written, and 11 where memory is refused.
+/// Refused 5 where nothing is there, 9 where the output cannot be written, and 11 where memory is
+/// refused.
 pub fn show_path<D: Disk, W: Write>(
     alloc: Global,
     replica: &Replica<D>,
     path: &Path,
     output: &mut W,
-) -> Result<(), Refusal>
+) -> Result<(), CommandError>
     ensures printed { (content : Content) → get (tree_shown replica.now) path.now ≡ Some content
         → OnOk result (Appends (W.contents output.old) (W.contents output.new) (content_shown (tree_shown replica.now) path.now content)) }
     ensures found { OnOk result (is_present (tree_shown replica.now) path.now ≡ true) }
-    ensures refusals { IfErr result (λ e. ((number_of e ≡ 5) × (get (tree_shown replica.now) path.now ≡ None)) ⊎ IsOfStream e) }
+    ensures refusals { IfErr result (λ e.
+        ((refusal_of e ≡ Absent) × (get (tree_shown replica.now) path.now ≡ None)) ⊎ IsOfStream e) }
 {
     let tree = replica.tree();
     match tree.get(path) {
         Some(Found::File(bytes)) => Ok(output.write_all(bytes)?),
         Some(Found::Dir) => show_below(alloc, tree, path, output),
-        None => Err(Refusal::Replica(ReplicaError::Absent)),
+        None => Err(CommandError::Replica(ReplicaError::Absent)),
     }
 }
 
@@ -62,8 +67,9 @@ fn show_below<W: Write>(
     tree: &Tree,
     directory: &Path,
     output: &mut W,
-) -> Result<(), Refusal>
-    ensures printed { OnOk result (Appends (W.contents output.old) (W.contents output.new) (lines_below tree.now directory.now)) }
+) -> Result<(), CommandError>
+    ensures printed { OnOk result (Appends (W.contents output.old) (W.contents output.new)
+        (lines_below tree.now directory.now)) }
     ensures stream { IfErr result IsOfStream }
 {
     for entry in tree.below(directory) {

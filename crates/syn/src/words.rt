@@ -1,78 +1,140 @@
 //! Reads a command line by `clap`.
-ghost use Rattle.std.specs.Prelude.{◌≡◌, ◌≢◌, ℕ, [], IfOk, IfErr, OnOk, OnErr, Some, None, codes, map, false};
-ghost use Rattle.syn.specs.Reads.{Asks, HasText, IfUsage, IfValue, IsFormat, IsNumber, IsEdit, IsEditName, IsRight, IsValue, IsWanting, IsWrongValue, Lacks, NothingReads, ReadsRows, name_of};
+ghost use Rattle.std.specs.Prelude.{◌≡◌, ◌≢◌, ℕ, [], IfOk, IfErr, OnOk, OnErr, Some, None, codes};
+ghost use Rattle.std.specs.Prelude.{map, false};
+ghost use Rattle.syn.specs.Reads.{Asks, HasText, IfUsage, IfValue, IsFormat, IsNumber, IsEdit};
+ghost use Rattle.syn.specs.Reads.{IsEditName, IsRight, IsValue, IsWanting, IsWrongValue, Lacks};
+ghost use Rattle.syn.specs.Reads.{NothingReads, ReadsRows, name_of};
 ghost use Rattle.syn.specs.declared.line.LineError.TheVariants.{Value};
-ghost use Rattle.clap.specs.Words.{IsAmong, Text, app_of, fault_of, first_of, found_of, kind_of, rows_of, subcommand_of};
+ghost use Rattle.clap.specs.Words.{IsAmong, Text, app_of, with_rule, fault_of, first_of, found_of};
+ghost use Rattle.clap.specs.Words.{kind_of, rows_of, subcommand_of};
 ghost use Rattle.clap.specs.declared.Command.TheViews.{out-Command};
-ghost use Rattle.syn.specs.App.{show_app, syn_app, word_app};
+ghost use Rattle.syn.specs.App.{command_app, edit_app, format_app, show_app, syn_app, top_app};
+ghost use Rattle.syn.specs.App.{verbose_rule, word_app};
+ghost use Rattle.syn.specs.Asked.{word_of};
 
-use crate::line::{Line, LineError, ValueName};
+use crate::line::{Asked, Change, EditLine, Line, LineError, ValueName};
 use clap::error::ErrorKind;
-use clap::{Arg, ArgMatches, Command};
+use clap::{Arg, ArgAction, ArgMatches, Command};
 use std::alloc::{AllocError, Global};
+
+/// What the words of a command line stand for, as the help ends.
+const TERMS: &str = "\
+An image is a file of 8 MiB that holds one replica: a tree of files and directories with the
+history of its edits. A pair is the number of the two replicas that are to be kept the same. A
+user is the number of somebody who edits. syn reads and writes images alone, and no folder of
+yours.";
 
 /// A command that takes words, each required, in the order of their names.
 fn word_command<'a>(
     alloc: Global,
     name: &'a str,
     about: &'a str,
-    ids: &[&'a str],
+    values: &[ValueName],
 ) -> Result<Command<'a>, AllocError>
-    ensures app { IfOk result (λ c. app_of c ≡ word_app name.entry.now (map (λ id. id.now) ids.now)) }
+    ensures app { IfOk result (λ c. app_of c ≡ word_app name.entry.now (map name_of values.now)) }
     ensures globals { IfOk result (λ c. (out-Command c).has_globals ≡ false) }
 {
     let mut command = Command::new(alloc, name).about(about);
-    for id in ids {
-        command = command.arg(Arg::new(alloc, id).required(true))?;
+    for value in values {
+        let id: &'a str = value.as_str();
+        let help: &'a str = value.help();
+        let arg = Arg::new(alloc, id).required(true);
+        command = command.arg(arg.help(help))?;
     }
     Ok(command)
 }
 
+/// The command, with the flag that asks for an explanation.
+fn with_verbose<'a>(alloc: Global, command: Command<'a>) -> Result<Command<'a>, AllocError>
+    requires { (out-Command command).has_globals ≡ false }
+    ensures app { IfOk result (λ c. app_of c ≡ with_rule (app_of command.entry) verbose_rule) }
+    ensures globals { IfOk result (λ c. (out-Command c).has_globals ≡ false) }
+{
+    let flag = Arg::new(alloc, "verbose")
+        .short('v')
+        .long("verbose")
+        .action(ArgAction::SetTrue);
+    command.arg(flag.help("Says behind a refusal, in plain words, what was refused"))
+}
+
+/// The command that makes an image.
+fn format_command<'a>(alloc: Global) -> Result<Command<'a>, AllocError>
+    ensures app { IfOk result (λ c. app_of c ≡ format_app) }
+    ensures globals { IfOk result (λ c. (out-Command c).has_globals ≡ false) }
+{
+    let words = word_command(
+        alloc,
+        "format",
+        "Makes FILE an image of KIND `replica` for the pair numbered PAIR",
+        &[ValueName::Kind, ValueName::Pair, ValueName::File],
+    )?;
+    with_verbose(alloc, words)
+}
+
+/// The command of an edit.
+fn edit_command<'a>(alloc: Global, name: &'a str, about: &'a str) -> Result<Command<'a>, AllocError>
+    ensures app { IfOk result (λ c. app_of c ≡ edit_app name.entry.now) }
+    ensures globals { IfOk result (λ c. (out-Command c).has_globals ≡ false) }
+{
+    let words = word_command(
+        alloc,
+        name,
+        about,
+        &[ValueName::File, ValueName::User, ValueName::Path],
+    )?;
+    with_verbose(alloc, words)
+}
+
+/// The command that prints an image.
 fn show_command<'a>(alloc: Global) -> Result<Command<'a>, AllocError>
     ensures app { IfOk result (λ c. app_of c ≡ show_app) }
     ensures globals { IfOk result (λ c. (out-Command c).has_globals ≡ false) }
 {
-    word_command(
+    let words = word_command(
         alloc,
         "show",
         "Prints an image, or a file or a directory of it",
-        &["FILE"],
-    )?
-    .arg(Arg::new(alloc, "PATH"))
+        &[ValueName::File],
+    )?;
+    let help: &'a str = ValueName::Path.help();
+    let path = Arg::new(alloc, "PATH").help(help);
+    with_verbose(alloc, words.arg(path)?)
+}
+
+/// The program, with no command yet.
+fn top_command<'a>(alloc: Global) -> Result<Command<'a>, AllocError>
+    ensures app { IfOk result (λ c. app_of c ≡ top_app) }
+    ensures globals { IfOk result (λ c. (out-Command c).has_globals ≡ false) }
+{
+    let top = Command::new(alloc, "syn")
+        .about("A crash-safe synchronizer of file trees")
+        .version("0.1.0")
+        .after_help(TERMS)
+        .subcommand_required(true);
+    with_verbose(alloc, top)
 }
 
 fn syn_command<'a>(alloc: Global) -> Result<Command<'a>, AllocError>
     ensures { IfOk result (λ c. app_of c ≡ syn_app) }
 {
-    let format = word_command(
-        alloc,
-        "format",
-        "Makes FILE an image of KIND `replica` for the pair numbered PAIR",
-        &["KIND", "PAIR", "FILE"],
-    )?;
-    let put = word_command(
+    let format = format_command(alloc)?;
+    let put = edit_command(
         alloc,
         "put",
         "Puts standard input at PATH, as an edit of the user numbered USER",
-        &["FILE", "USER", "PATH"],
     )?;
-    let mkdir = word_command(
+    let mkdir = edit_command(
         alloc,
         "mkdir",
         "Makes a directory at PATH, as an edit of the user numbered USER",
-        &["FILE", "USER", "PATH"],
     )?;
-    let rm = word_command(
+    let rm = edit_command(
         alloc,
         "rm",
         "Removes what is at PATH, with all below it, as an edit of the user numbered USER",
-        &["FILE", "USER", "PATH"],
     )?;
     let show = show_command(alloc)?;
-    Command::new(alloc, "syn")
-        .about("A crash-safe synchronizer of file trees")
-        .version("0.1.0")
-        .subcommand_required(true)
+    top_command(alloc)?
         .subcommand(format)?
         .subcommand(put)?
         .subcommand(mkdir)?
@@ -81,31 +143,37 @@ fn syn_command<'a>(alloc: Global) -> Result<Command<'a>, AllocError>
 }
 
 /// The command that the words ask for. The first word is the program's own.
-pub fn read_words<'a>(alloc: Global, words: &'a [&'a str]) -> Result<Line<'a>, LineError>
-    ensures ok { IfOk result (Asks (map (λ word. word.now) words.entry.now)) }
-    ensures usage { IfErr result (λ error. IfUsage error (λ told. IsAmong (kind_of told) (fault_of syn_app (map (λ word. word.now) words.entry.now)))) }
+pub fn read_words<'a>(alloc: Global, words: &'a [&'a str]) -> Result<Asked<'a>, LineError>
+    ensures ok { IfOk result (λ asked. Asks (map (λ word. word.now) words.entry.now) asked.line) }
+    ensures usage { IfErr result (λ error. IfUsage error
+        (λ told. IsAmong (kind_of told) (fault_of syn_app
+        (map (λ word. word.now) words.entry.now)))) }
 
     // Where `clap` takes the words, a value is wrong: no line is what they say.
     ensures value { IfErr result (λ error. IsValue error → (fault_of syn_app (map (λ word. word.now) words.entry.now) ≡ [])
         × NothingReads (subcommand_of syn_app (map (λ word. word.now) words.entry.now))) }
 
-    // And then the words name a command with each value that it requires, and the KIND, the PAIR or the USER that is told is wrong.
-    ensures wrong { IfErr result (λ error. IfValue error (IsWrongValue (subcommand_of syn_app (map (λ word. word.now) words.entry.now)))) }
+    // And then the words name a command with each value that it requires, and the KIND, the PAIR or
+    // the USER that is told is wrong.
+    ensures wrong { IfErr result (λ error. IfValue error
+        (IsWrongValue (subcommand_of syn_app (map (λ word. word.now) words.entry.now)))) }
 {
     let command = syn_command(alloc)?;
     let matches = match command.try_get_matches_from(words) {
         Ok(matches) => matches,
         Err(error) => return Err(told(error)),
     };
-    match matches.subcommand() {
-        Some((name, found)) => line_of(name, found),
-        None => Err(LineError::Value(ValueName::Command)),
-    }
+    let Some((name, found)) = matches.subcommand() else {
+        return Err(LineError::Value(ValueName::Command));
+    };
+    let is_verbose = matches.get_flag("verbose") || found.get_flag("verbose");
+    asked_of(name, found, is_verbose)
 }
 
 /// What a parse that failed is told as.
 fn told(error: clap::Error) -> LineError
-    ensures usage { IfUsage result (λ told. (told ≡ error) × (kind_of error ≢ ErrorKind.OutOfMemory)) }
+    ensures usage { IfUsage result (λ told. (told ≡ error)
+        × (kind_of error ≢ ErrorKind.OutOfMemory)) }
     ensures value { ¬ IsValue result }
 {
     match error.kind() {
@@ -114,28 +182,51 @@ fn told(error: clap::Error) -> LineError
     }
 }
 
+/// The command of a name and its matches, and whether a refusal is to be explained.
+fn asked_of<'a>(
+    name: &'a str,
+    found: &ArgMatches<'a>,
+    is_verbose: bool,
+) -> Result<Asked<'a>, LineError>
+    ensures ok { IfOk result (λ asked.
+        ReadsRows name.entry.now (rows_of (found_of found.now)) asked.line) }
+    ensures value { IfErr result (λ error. IsValue error) }
+    ensures lacks { IfErr result (λ error.
+        IfValue error (Lacks name.entry.now (rows_of (found_of found.now)))) }
+    ensures nothing { OnErr result
+        (NothingReads (Some (name.entry.now, rows_of (found_of found.now)))) }
+{
+    let line = line_of(name, found)?;
+    Ok(Asked { line, is_verbose })
+}
+
 /// The command of a name and its matches.
 fn line_of<'a>(name: &'a str, found: &ArgMatches<'a>) -> Result<Line<'a>, LineError>
     ensures ok { IfOk result (λ line. ReadsRows name.entry.now (rows_of (found_of found.now)) line) }
     ensures value { IfErr result (λ error. IsValue error) }
-    ensures lacks { IfErr result (λ error. IfValue error (Lacks name.entry.now (rows_of (found_of found.now)))) }
-    ensures nothing { OnErr result (NothingReads (Some (name.entry.now, rows_of (found_of found.now)))) }
+    ensures lacks { IfErr result (λ error. IfValue error
+        (Lacks name.entry.now (rows_of (found_of found.now)))) }
+    ensures nothing { OnErr result (NothingReads
+        (Some (name.entry.now, rows_of (found_of found.now)))) }
 {
     match name {
         "format" => format_line(found),
-        "put" => put_line(found),
-        "mkdir" => make_dir_line(found),
-        "rm" => remove_line(found),
+        "put" => edit_line(Change::Put, found),
+        "mkdir" => edit_line(Change::MakeDir, found),
+        "rm" => edit_line(Change::Remove, found),
         "show" => show_line(found),
         _ => Err(LineError::Value(ValueName::Command)),
     }
 }
 
 fn format_line<'a>(found: &ArgMatches<'a>) -> Result<Line<'a>, LineError>
-    ensures ok { IfOk result (λ line. ReadsRows (codes "format") (rows_of (found_of found.now)) line) }
+    ensures ok { IfOk result (λ line. ReadsRows (codes "format")
+        (rows_of (found_of found.now)) line) }
     ensures value { IfErr result (λ error. IsValue error) }
-    ensures lacks { IfErr result (λ error. IfValue error (Lacks (codes "format") (rows_of (found_of found.now)))) }
-    ensures nothing { OnErr result ((pair : ℕ) (file : Text) → ¬ IsFormat (rows_of (found_of found.now)) pair file) }
+    ensures lacks { IfErr result (λ error. IfValue error
+        (Lacks (codes "format") (rows_of (found_of found.now)))) }
+    ensures nothing { OnErr result ((pair : ℕ) (file : Text)
+        → ¬ IsFormat (rows_of (found_of found.now)) pair file) }
 {
     replica_kind(text(found, ValueName::Kind)?)?;
     let pair = number(text(found, ValueName::Pair)?)?;
@@ -143,42 +234,34 @@ fn format_line<'a>(found: &ArgMatches<'a>) -> Result<Line<'a>, LineError>
     Ok(Line::Format { pair, file })
 }
 
-fn put_line<'a>(found: &ArgMatches<'a>) -> Result<Line<'a>, LineError>
-    ensures ok { IfOk result (λ line. ReadsRows (codes "put") (rows_of (found_of found.now)) line) }
+/// The edit of the change, whose word was read.
+fn edit_line<'a>(change: Change, found: &ArgMatches<'a>) -> Result<Line<'a>, LineError>
+    ensures ok { IfOk result (λ line. ReadsRows (word_of change)
+        (rows_of (found_of found.now)) line) }
     ensures value { IfErr result (λ error. IsValue error) }
-    ensures lacks { IfErr result (λ error. IfValue error (Lacks (codes "put") (rows_of (found_of found.now)))) }
-    ensures nothing { OnErr result ((file : Text) (user : ℕ) (path : Text) → ¬ IsEdit (rows_of (found_of found.now)) file user path) }
+    ensures lacks { IfErr result (λ error. IfValue error
+        (Lacks (word_of change) (rows_of (found_of found.now)))) }
+    ensures nothing { OnErr result ((file : Text) (user : ℕ) (path : Text)
+        → ¬ IsEdit (rows_of (found_of found.now)) file user path) }
 {
     let (file, user, path) = edit_values(found)?;
-    Ok(Line::Put { file, user, path })
-}
-
-fn make_dir_line<'a>(found: &ArgMatches<'a>) -> Result<Line<'a>, LineError>
-    ensures ok { IfOk result (λ line. ReadsRows (codes "mkdir") (rows_of (found_of found.now)) line) }
-    ensures value { IfErr result (λ error. IsValue error) }
-    ensures lacks { IfErr result (λ error. IfValue error (Lacks (codes "mkdir") (rows_of (found_of found.now)))) }
-    ensures nothing { OnErr result ((file : Text) (user : ℕ) (path : Text) → ¬ IsEdit (rows_of (found_of found.now)) file user path) }
-{
-    let (file, user, path) = edit_values(found)?;
-    Ok(Line::MakeDir { file, user, path })
-}
-
-fn remove_line<'a>(found: &ArgMatches<'a>) -> Result<Line<'a>, LineError>
-    ensures ok { IfOk result (λ line. ReadsRows (codes "rm") (rows_of (found_of found.now)) line) }
-    ensures value { IfErr result (λ error. IsValue error) }
-    ensures lacks { IfErr result (λ error. IfValue error (Lacks (codes "rm") (rows_of (found_of found.now)))) }
-    ensures nothing { OnErr result ((file : Text) (user : ℕ) (path : Text) → ¬ IsEdit (rows_of (found_of found.now)) file user path) }
-{
-    let (file, user, path) = edit_values(found)?;
-    Ok(Line::Remove { file, user, path })
+    Ok(Line::Edit(EditLine {
+        change,
+        file,
+        user,
+        path,
+    }))
 }
 
 /// The file, the user and the path of an edit.
 fn edit_values<'a>(found: &ArgMatches<'a>) -> Result<(&'a str, u32, &'a str), LineError>
-    ensures ok { IfOk result (λ values. IsEdit (rows_of (found_of found.now)) values.0.now values.1 values.2.now) }
+    ensures ok { IfOk result (λ values. IsEdit
+        (rows_of (found_of found.now)) values.0.now values.1 values.2.now) }
     ensures value { IfErr result (λ error. IsValue error) }
-    ensures lacks { (name : Text) → IsEditName name → IfErr result (λ error. IfValue error (Lacks name (rows_of (found_of found.now)))) }
-    ensures nothing { OnErr result ((file : Text) (user : ℕ) (path : Text) → ¬ IsEdit (rows_of (found_of found.now)) file user path) }
+    ensures lacks { (name : Text) → IsEditName name
+        → IfErr result (λ error. IfValue error (Lacks name (rows_of (found_of found.now)))) }
+    ensures nothing { OnErr result ((file : Text) (user : ℕ) (path : Text)
+        → ¬ IsEdit (rows_of (found_of found.now)) file user path) }
 {
     let file = text(found, ValueName::File)?;
     let user = user(text(found, ValueName::User)?)?;
@@ -190,8 +273,10 @@ fn edit_values<'a>(found: &ArgMatches<'a>) -> Result<(&'a str, u32, &'a str), Li
 fn show_line<'a>(found: &ArgMatches<'a>) -> Result<Line<'a>, LineError>
     ensures ok { IfOk result (λ line. ReadsRows (codes "show") (rows_of (found_of found.now)) line) }
     ensures value { IfErr result (λ error. IsValue error) }
-    ensures lacks { IfErr result (λ error. IfValue error (Lacks (codes "show") (rows_of (found_of found.now)))) }
-    ensures nothing { OnErr result ((file : Text) → ¬ HasText (rows_of (found_of found.now)) (codes "FILE") file) }
+    ensures lacks { IfErr result (λ error. IfValue error
+        (Lacks (codes "show") (rows_of (found_of found.now)))) }
+    ensures nothing { OnErr result ((file : Text)
+        → ¬ HasText (rows_of (found_of found.now)) (codes "FILE") file) }
 {
     let file = text(found, ValueName::File)?;
     let path = found.get_str("PATH");
@@ -201,7 +286,8 @@ fn show_line<'a>(found: &ArgMatches<'a>) -> Result<Line<'a>, LineError>
 /// The text that is given for the id.
 #[tactic(auto, using(crate::proofs::LineLemmas::first_value_rows))]
 fn text<'a>(found: &ArgMatches<'a>, value: ValueName) -> Result<&'a str, LineError>
-    ensures ok { IfOk result (λ text. first_of (name_of value) (rows_of (found_of found.now)) ≡ Some text.now) }
+    ensures ok { IfOk result (λ text. first_of (name_of value) (rows_of (found_of found.now))
+        ≡ Some text.now) }
     ensures value { IfErr result (λ error. error ≡ Value value) }
     ensures nothing { OnErr result (first_of (name_of value) (rows_of (found_of found.now)) ≡ None) }
 {

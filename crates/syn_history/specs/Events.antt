@@ -12,4 +12,5 @@ token_of token = record { session = token.session; item = token.item }
 abbrev pub event_of : Event → model.Event
 event_of (has.Edited user edit) = model.Edited user (edit_of edit)
 event_of (has.Began session) = model.Began session
-event_of (has.Replaced token path since new) = model.Replaced (token_of token) path since (part_of new)
+event_of (has.Replaced token path since new) = model.Replaced (token_of token) path since
+    (part_of new)

@@ -12,8 +12,16 @@ use Rattle.syn_history.specs.Past.{Past}
 abbrev pub step_of : model.Event → Step
 step_of (model.Edited user edit) = has.Edited (edited_path edit)
 step_of (model.Began session) = has.Began session
-step_of (model.Replaced token path since new) = has.Replaced (record { session = token.session; item = token.item }) path
+step_of (model.Replaced token path since new) = has.Replaced
+    (record { session = token.session; item = token.item }) path
 
 abbrev pub past_from : Parts → Past
 past_from parts =
-    record { position = parts.position; floor = parts.floor; touches = parts.touches.items; session = parts.session; token = option_map token_of parts.token }
+    record {
+      position = parts.position;
+      floor = parts.floor;
+      touches = parts.touches.items;
+      session
+          = parts.session;
+      token = option_map token_of parts.token;
+    }

@@ -16,8 +16,8 @@ pub enum Event {
     Began {
         session: u64,
     },
-    /// A session's item puts what is given in the place of all that is at and below the path, or takes it out. No event
-    /// from the position `since` on had touched the path.
+    /// A session's item puts what is given in the place of all that is at and below the path, or
+    /// takes it out. No event from the position `since` on had touched the path.
     Replaced {
         token: Token,
         path: Path,

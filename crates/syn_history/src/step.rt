@@ -21,7 +21,8 @@ pub enum Step {
 }
 
 impl Step {
-    /// The step of the event. Refused 11 where memory is refused, and for no other cause; the begin of a session takes none.
+    /// The step of the event. Refused 11 where memory is refused, and for no other cause; the begin
+    /// of a session takes none.
     pub fn of(alloc: Global, event: &Event) -> Result<Step, HistoryError>
         ensures step { IfOk result (λ step. step ≡ step_of (event_of event.now)) }
         ensures memory { IfErr result (λ e. e ≡ HistoryError.Memory) }

@@ -1,4 +1,6 @@
-ghost use Rattle.std.specs.Prelude.{◌≡◌, ◌≢◌, ◌↔◌, ◌⊎◌, ◌<◌, ◌≤◌, ◌++◌, ◌∷◌, [], Err, not, length, take, drop, option_map, All, IfOk, IfErr, IfSome, IfNone, IsTrue, OnOk, OnErr};
+ghost use Rattle.std.specs.Prelude.{◌≡◌, ◌≢◌, ◌↔◌, ◌⊎◌, ◌<◌, ◌≤◌, ◌++◌, ◌∷◌, [], Err, not, length};
+ghost use Rattle.std.specs.Prelude.{take, drop, option_map, All, IfOk, IfErr, IfSome, IfNone};
+ghost use Rattle.std.specs.Prelude.{IsTrue, OnOk, OnErr};
 ghost use Rattle.std.specs.List.{list_any};
 ghost use Rattle.circular_buffer.specs.Buffer.{buffer};
 ghost use Rattle.syn_model.specs.Event as model;
@@ -10,7 +12,9 @@ ghost use Rattle.syn_model.specs.Standing.{most_touches, surplus, above_last};
 ghost use Rattle.syn_model.specs.History.{History, is_quiet};
 ghost use Rattle.syn_model.specs.Image.{IsStanding};
 ghost use Rattle.syn_history.specs.Events.{event_of, token_of};
-ghost use Rattle.syn_history.specs.Past.{past_of, past_after, past_touched, standing_with, IsLawful, tells, are_between, is_lawful, past_with, is_of_session as is_session_of};
+ghost use Rattle.syn_history.specs.Past.{past_of, past_after, past_touched, standing_with};
+ghost use Rattle.syn_history.specs.Past.{IsLawful, tells, are_between, is_lawful, past_with};
+ghost use Rattle.syn_history.specs.Past.{is_of_session as is_session_of};
 ghost use Rattle.syn_history.specs.Trails.{step_of, past_from};
 
 use crate::error::HistoryError;
@@ -42,14 +46,16 @@ pub struct Parts {
     pub token: Option<Token>,
 }
 
-/// What a replica keeps of its history beside the tree: the number of its events, the last 4,096 touches with the position from which
-/// on they are whole (the floor), the session begun last, and the token of the last replacement.
-/// Contracts see it as the standing of a history without the tree.
+/// What a replica keeps of its history beside the tree: the number of its events, the last 4,096
+/// touches with the position from which on they are whole (the floor), the session begun last, and
+/// the token of the last replacement. Contracts see it as the standing of a history without the
+/// tree.
 #[derive(Debug, Drop)]
 pub struct Trail {
     position: u64,
     floor: u64,
-    /// The touches, the oldest first, with room for the most: no event takes memory for the list, and none moves another.
+    /// The touches, the oldest first, with room for the most: no event takes memory for the list,
+    /// and none moves another.
     touches: HeapCircularBuffer<Touch>,
     session: u64,
     token: Option<Token>,
@@ -66,7 +72,13 @@ impl Model for Trail {
     ghost use Rattle.syn_history.specs.Events.{token_of};
     ghost use Rattle.syn_history.specs.Past.{IsKept};
 
-    ghost view = { λ t. record { position = t.position; floor = t.floor; touches = t.touches.items; session = t.session; token = option_map token_of t.token } };
+    ghost view = { λ t. record {
+      position = t.position;
+      floor = t.floor;
+      touches = t.touches.items;
+      session = t.session;
+      token = option_map token_of t.token;
+    } };
 
     ghost invariant = { λ t. IsKept t.position t.touches.items t.touches.capacity };
 }
@@ -87,14 +99,16 @@ impl Trail {
         })
     }
 
-    /// The trail of these parts, where they are lawful; else none. They are where the floor is not above the position, at most 4,096
-    /// touches rise from the floor on and before the position, and the token is of a session from 1 to the one begun last.
+    /// The trail of these parts, where they are lawful; else none. They are where the floor is not
+    /// above the position, at most 4,096 touches rise from the floor on and before the position,
+    /// and the token is of a session from 1 to the one begun last.
     ///
     /// Refused 11 where memory is refused.
     pub fn from_parts(alloc: Global, parts: Parts) -> Result<Option<Trail>, HistoryError>
         ensures parts { IfOk result (λ read. IfSome read (λ trail. trail ≡ past_from parts)) }
         ensures lawful { IfOk result (λ read. IfSome read IsLawful) }
-        ensures none { IfOk result (λ read. IfNone read ((tree : model_tree.Tree) → ¬ IsStanding (standing_with tree (past_from parts)))) }
+        ensures none { IfOk result (λ read. IfNone read
+            ((tree : model_tree.Tree) → ¬ IsStanding (standing_with tree (past_from parts)))) }
         ensures memory { IfErr result (λ e. e ≡ HistoryError.Memory) }
     {
         let Parts {
@@ -127,7 +141,8 @@ impl Trail {
         self.position
     }
 
-    /// The position from which on the touches are whole: 0 while none was dropped, and else one above the last that was.
+    /// The position from which on the touches are whole: 0 while none was dropped, and else one
+    /// above the last that was.
     pub fn floor(&self) -> u64
         ensures { result ≡ self.now.floor }
     {
@@ -148,7 +163,8 @@ impl Trail {
         self.token
     }
 
-    /// The last touches, the oldest first: those of the first slice, and then those of the second. At most 4,096.
+    /// The last touches, the oldest first: those of the first slice, and then those of the second.
+    /// At most 4,096.
     pub fn touches(&self) -> (&[Touch], &[Touch])
         ensures all { result.0.now ++ result.1.now ≡ self.now.touches }
         ensures count { length self.now.touches ≤ most_touches }
@@ -157,13 +173,18 @@ impl Trail {
         self.touches.as_slices()
     }
 
-    /// Whether an event from the position `since` on changed the path, or what is above or below it. It takes no memory.
+    /// Whether an event from the position `since` on changed the path, or what is above or below
+    /// it. It takes no memory.
     ///
     /// Refused 15 where `since` is below the floor or above the position.
     pub fn touched(&self, path: &Path, since: u64) -> Result<bool, HistoryError>
-        ensures quiet { (history : History) → self.now ≡ past_of history → IfOk result (λ touched. touched ≡ not (is_quiet history since (length history) path.now)) }
-        ensures kept { IfOk result (λ touched. touched ≡ list_any (tells since path.now) self.now.touches) }
-        ensures below { (result ≡ Err HistoryError.BelowFloor) ↔ ((since < self.now.floor) ⊎ (self.now.position < since)) }
+        ensures quiet { (history : History) → self.now ≡ past_of history
+            → IfOk result (λ touched. touched
+            ≡ not (is_quiet history since (length history) path.now)) }
+        ensures kept { IfOk result (λ touched. touched
+            ≡ list_any (tells since path.now) self.now.touches) }
+        ensures below { (result ≡ Err HistoryError.BelowFloor)
+            ↔ ((since < self.now.floor) ⊎ (self.now.position < since)) }
         ensures refusals { IfErr result (λ e. e ≡ HistoryError.BelowFloor) }
     {
         history_laws();
@@ -174,7 +195,8 @@ impl Trail {
         Ok(is_touched(older, path, since) || is_touched(newer, path, since))
     }
 
-    /// The step of the event, ready to be recorded, with all memory for it. The trail stays as it is.
+    /// The step of the event, ready to be recorded, with all memory for it. The trail stays as it
+    /// is.
     ///
     /// Refused 7 where the position is the greatest, and 11 where memory is refused.
     pub fn prepare(&self, alloc: Global, event: &Event) -> Result<Step, HistoryError>
@@ -192,7 +214,8 @@ impl Trail {
     /// Records the step of an event. It takes no memory.
     pub fn record(&mut self, step: Step)
         requires { self.old.position < greatest }
-        ensures { (event : model.Event) → step ≡ step_of event → self.new ≡ past_after self.old event }
+        ensures { (event : model.Event) → step ≡ step_of event → self.new
+            ≡ past_after self.old event }
     {
         match step {
             Step::Edited(path) => self.touch(path),
@@ -217,10 +240,11 @@ impl Trail {
         self.position += 1;
     }
 
-    /// Goes on by the event: a touch is added unless a session begins, and where there are 4,096 the oldest goes, and the floor is
-    /// one above it.
+    /// Goes on by the event: a touch is added unless a session begins, and where there are 4,096
+    /// the oldest goes, and the floor is one above it.
     ///
-    /// Refused 7 where the position is the greatest, and 11 where memory is refused; then nothing changes.
+    /// Refused 7 where the position is the greatest, and 11 where memory is refused; then nothing
+    /// changes.
     pub fn push(&mut self, alloc: Global, event: &Event) -> Result<(), HistoryError>
         ensures done { OnOk result (self.new ≡ past_after self.old (event_of event.now)) }
         ensures same { OnErr result (self.new ≡ self.old) }
@@ -238,8 +262,10 @@ fn add_touch(touches: &mut HeapCircularBuffer<Touch>, floor: u64, touch: Touch) 
     requires room { touches.old.capacity ≡ most_touches }
     requires brief { All (λ older. older.position < greatest) touches.old.items }
     requires after { touch.position < greatest }
-    ensures touches { let all = touches.old.items ++ touch ∷ [] in touches.new ≡ buffer (drop (surplus most_touches all) all) most_touches }
-    ensures floor { let all = touches.old.items ++ touch ∷ [] in result ≡ above_last floor (take (surplus most_touches all) all) }
+    ensures touches { let all = touches.old.items ++ touch ∷ [] in touches.new
+        ≡ buffer (drop (surplus most_touches all) all) most_touches }
+    ensures floor { let all = touches.old.items ++ touch ∷ [] in result
+        ≡ above_last floor (take (surplus most_touches all) all) }
 {
     let _count = touches.len();
     match touches.push_back(touch) {
@@ -263,8 +289,10 @@ fn are_lawful(
     session: u64,
     token: &Option<Token>,
 ) -> bool
-    ensures value { result ≡ is_lawful (past_with position floor touches.now session (option_map token_of token.now)) }
-    ensures lawful { IsTrue result → IsLawful (past_with position floor touches.now session (option_map token_of token.now)) }
+    ensures value { result ≡ is_lawful
+        (past_with position floor touches.now session (option_map token_of token.now)) }
+    ensures lawful { IsTrue result → IsLawful
+        (past_with position floor touches.now session (option_map token_of token.now)) }
 {
     if position < floor {
         return false;

@@ -10,7 +10,7 @@ use Rattle.syn_lock.specs.declared.view.Hold.{Hold}
 use Rattle.syn_lock.specs.declared.view.Known.{Known}
 use Rattle.syn_lock.specs.History.{end_of, IsHistory, holds_by}
 use Rattle.syn_lock.specs.Views.{newcomer}
-use Rattle.syn_lock.specs.Rule.{known, witness, counting, hearing, agreeing, Tells, arrives, admits, IsUnused, Fits, Holds, Kept, Turned, Counted, Lawful}
+use Rattle.syn_lock.specs.inner.Rule.{known, witness, counting, hearing, agreeing, Tells, arrives, admits, IsUnused, Fits, Holds, Kept, Turned, Counted, Lawful}
 use Rattle.syn_lock.specs.Prefixes.{prefix_self}
 use Rattle.syn_lock.proofs.Histories.{nothing_told, none_in_prefix, own_between}
 use Rattle.syn_lock.proofs.Seats.{newest, others, still, unused_set, unused_numbered, unused_more}

@@ -14,7 +14,7 @@ use Rattle.syn_lock.specs.declared.view.Hold.{Hold}
 use Rattle.syn_lock.specs.declared.view.Known.{Known}
 use Rattle.syn_lock.specs.History.{hold, end_of, IsHistory, holds_by}
 use Rattle.syn_lock.specs.Views.{seeing, entered, published, outside, own_hold, Sees}
-use Rattle.syn_lock.specs.Rule.{Sat, known, caught_up, turned_away, takes_lock, publishes, gives_lock, leaves, looks, looks_far, far, Tells, confirms, Fits, Holds, Kept, Turned, Counted, Lawful}
+use Rattle.syn_lock.specs.inner.Rule.{Sat, known, caught_up, turned_away, takes_lock, publishes, gives_lock, leaves, looks, looks_far, far, Tells, confirms, Fits, Holds, Kept, Turned, Counted, Lawful}
 use Rattle.syn_lock.specs.Prefixes.{prefix_self}
 use Rattle.syn_lock.proofs.Histories.{at_below, nothing_told, prefix_more, end_of-append, history-append, own_more, other_more, prefix_grows}
 use Rattle.syn_lock.proofs.Bits.{with_bit, bit_there}

@@ -5,7 +5,7 @@ use lib.ListN.{get_elem?}
 use lib.Seq.{set-get_or}
 use Rattle.atomic_table.proofs.Lists.{at_set, set_here, at_longer}
 use Rattle.syn_lock.specs.declared.view.Known.{Known}
-use Rattle.syn_lock.specs.Rule.{IsUnused, is_pass, passes_of}
+use Rattle.syn_lock.specs.inner.Rule.{IsUnused, is_pass, passes_of}
 use Rattle.syn_lock.proofs.Histories.{at_below}
 
 module _ {A : Type 0} where

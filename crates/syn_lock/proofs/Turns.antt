@@ -6,7 +6,7 @@ use lib.ListN.{get_elem?}
 use Rattle.syn_lock.specs.declared.view.Hold.{Hold}
 use Rattle.syn_lock.specs.declared.view.Known.{Known}
 use Rattle.syn_lock.specs.History.{hold, end_of, IsWordHistory, holds_by}
-use Rattle.syn_lock.specs.Rule.{Turned, Counted, is_pass}
+use Rattle.syn_lock.specs.inner.Rule.{Turned, Counted, is_pass}
 use Rattle.syn_lock.proofs.Histories.{prefix_more, end_of-append, history-append, own_more, other_more}
 use Rattle.syn_lock.proofs.Seats.{newest, others, unused_set, unused_more, number_used, passes_of-set, passes_of-more, same_kind}
 

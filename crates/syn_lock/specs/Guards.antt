@@ -27,11 +27,15 @@ module _ {S : Type 0} where
 
   abbrev pub IsGuardOf : TableId → S → Guard S → Type 0
   IsGuardOf lock origin g =
-      (g.pass.now.seat.table_id ≡ lock) × (g.pass.now.seat.me.1 ≡ (0, None) ∷ []) × (g.pass.now.seat.me.0.inside ≡ true) × (0 < (knows g).number) × ((knows g).origin ≡ Some origin)
+      (g.pass.now.seat.table_id ≡ lock) × (g.pass.now.seat.me.1 ≡ (0, None) ∷ [])
+      × (g.pass.now.seat.me.0.inside ≡ true) × (0 < (knows g).number)
+      × ((knows g).origin ≡ Some origin)
 
-  -- The pass has seen a lock history that begins with all that it had seen, and has its own holds and no others under its number. The guard lends the state at its end
+  -- The pass has seen a lock history that begins with all that it had seen, and has its own holds
+  -- and no others under its number. The guard lends the state at its end
   abbrev pub HasEntered : (S → S → Type 0) → S → View S → Guard S → Type 0
-  HasEntered grows origin v g = (seen : List (Hold S)) × Sees grows origin v seen × (knows g ≡ entered v seen) × (state_of g ≡ end_of origin seen)
+  HasEntered grows origin v g = (seen : List (Hold S)) × Sees grows origin v seen
+      × (knows g ≡ entered v seen) × (state_of g ≡ end_of origin seen)
 
   -- the same, after the lock was found taken any number of times
   abbrev pub HasWaited : (S → S → Type 0) → S → View S → Guard S → Type 0

@@ -11,7 +11,8 @@ module _ {S : Type 0} where
   end_of s [] = s
   end_of s (h ∷ hs) = end_of h.left hs
 
-  -- each hold found what the one before left, the first found s, and each left what has grown from what it found
+  -- each hold found what the one before left, the first found s, and each left what has grown from
+  -- what it found
   abbrev pub IsHistory : (S → S → Type 0) → S → List (Hold S) → Type 0
   IsHistory grows s [] = Unit {0}
   IsHistory grows s (h ∷ hs) = (h.found ≡ s) × grows s h.left × IsHistory grows h.left hs

@@ -17,4 +17,13 @@ module _ {S : Type 0} where
 
 -- a name where no lock was picked
 abbrev pub no_lock : TableId
-no_lock = record { words = 0; slots = 0; views_name = 0; atom = 0; block = 0; offset = 0; slot_names = [] }
+no_lock = record {
+  words = 0;
+  slots = 0;
+  views_name = 0;
+  atom = 0;
+  block = 0;
+  offset = 0;
+  slot_names
+      = [];
+}

@@ -15,15 +15,18 @@ module _ {S : Type 0} where
   -- the pass is of the lock of that name, into which origin was put, and has not entered it
   abbrev pub IsPassIn : TableId → Option S → Pass S → Type 0
   IsPassIn lock origin p =
-      (p.seat.table_id ≡ lock) × (p.seat.me.1 ≡ []) × (p.seat.me.0.inside ≡ false) × (0 < (view_of p).number) × ((view_of p).origin ≡ origin)
+      (p.seat.table_id ≡ lock) × (p.seat.me.1 ≡ []) × (p.seat.me.0.inside ≡ false)
+      × (0 < (view_of p).number) × ((view_of p).origin ≡ origin)
 
   abbrev pub IsPassOf : TableId → S → Pass S → Type 0
   IsPassOf lock origin p = IsPassIn lock (Some origin) p
 
-  -- the pass has seen a lock history, no hold is its own, and it has made no step on the lock's word
+  -- the pass has seen a lock history, no hold is its own, and it has made no step on the lock's
+  -- word
   abbrev pub IsNew : (S → S → Type 0) → S → Pass S → Type 0
   IsNew grows origin p =
-      IsHistory grows origin (view_of p).seen × (holds_by (view_of p).number (view_of p).seen ≡ []) × ((view_of p).own ≡ []) × ((view_of p).turns ≡ [])
+      IsHistory grows origin (view_of p).seen × (holds_by (view_of p).number (view_of p).seen ≡ [])
+      × ((view_of p).own ≡ []) × ((view_of p).turns ≡ [])
 
   -- the pass's exchange found the lock taken, and nothing else changed
   abbrev pub WasRefused : TableId → S → Pass S → Pass S → Type 0

@@ -8,7 +8,8 @@ ghost use Rattle.syn_lock.specs.History.{end_of};
 ghost use Rattle.syn_lock.specs.Views.{published, outside};
 ghost use Rattle.syn_lock.specs.Locks.{id_of, origin_of};
 ghost use Rattle.syn_lock.specs.Passes.{view_of, IsPassOf, WasRefused};
-ghost use Rattle.syn_lock.specs.Guards.{state_of, with_state, name_of_pass, knows, IsGuardOf, HasEntered, HasWaited};
+ghost use Rattle.syn_lock.specs.Guards.{state_of, with_state, name_of_pass, knows, IsGuardOf};
+ghost use Rattle.syn_lock.specs.Guards.{HasEntered, HasWaited};
 
 use crate::error::LockError;
 use crate::grows::Grows;
@@ -23,15 +24,18 @@ pub struct Guard<'a, S> {
 }
 
 impl<S: Grows> Pass<S> {
-    /// Takes the lock if it is free. It is refused (12) where its one exchange found the lock taken.
+    /// Takes the lock if it is free. It is refused (12) where its one exchange found the lock
+    /// taken.
     pub fn try_enter(&mut self, own: &Own<S>) -> Result<Guard<'_, S>, LockError>
         requires { IsPassOf (id_of own.now) (origin_of own.now) self.old }
         ensures busy { IfErr result (λ error. error ≡ LockError.Busy) }
-        ensures* refused { sem 𝓛 (RestsIfErr (pass_row S.row) self.entry name_of_pass result (WasRefused (id_of own.now) (origin_of own.now) self.old)) }
+        ensures* refused { sem 𝓛 (RestsIfErr (pass_row S.row) self.entry name_of_pass result
+            (WasRefused (id_of own.now) (origin_of own.now) self.old)) }
         ensures same_reference { IfOk result (λ g. name_of_pass g ≡ self.entry.ghost_name) }
         ensures of { IfOk result (IsGuardOf (id_of own.now) (origin_of own.now)) }
         ensures entered { IfOk result (HasEntered S.grows (origin_of own.now) (view_of self.old)) }
-        ensures later { IfOk result (λ g. S.grows (end_of (origin_of own.now) (view_of self.old).seen) (state_of g)) }
+        ensures later { IfOk result (λ g. S.grows
+            (end_of (origin_of own.now) (view_of self.old).seen) (state_of g)) }
     {
         let Some(state) = own.take(self) else {
             return Err(LockError::Busy);
@@ -45,7 +49,8 @@ impl<S: Grows> Pass<S> {
         ensures same_reference { name_of_pass result ≡ self.entry.ghost_name }
         ensures of { IsGuardOf (id_of own.now) (origin_of own.now) result }
         ensures entered { HasWaited S.grows (origin_of own.now) (view_of self.old) result }
-        ensures later { S.grows (end_of (origin_of own.now) (view_of self.old).seen) (state_of result) }
+        ensures later { S.grows (end_of (origin_of own.now) (view_of self.old).seen)
+            (state_of result) }
     {
         let state = self.wait(rt, own);
         Guard { pass: self, state }
@@ -58,7 +63,8 @@ impl<S: Grows> Own<S> {
         requires of { IsGuardOf (id_of self.now) (origin_of self.now) guard }
         requires grown { S.grows (end_of (origin_of self.now) (knows guard).seen) (state_of guard) }
         ensures of { IsPassOf (id_of self.now) (origin_of self.now) guard.exit.0.now }
-        ensures left { view_of guard.exit.0.now ≡ outside (published (origin_of self.now) (knows guard.entry) (state_of guard.entry)) }
+        ensures left { view_of guard.exit.0.now
+            ≡ outside (published (origin_of self.now) (knows guard.entry) (state_of guard.entry)) }
     {
         let Guard { pass, state } = guard;
         let position = state.position();
@@ -83,12 +89,15 @@ impl<S> Deref for Guard<'_, S> {
     }
 }
 
-// The borrow checker reads this `follows` only if the row gives the guard's lifetime as `named 1`, its number in this signature.
+// The borrow checker reads this `follows` only if the row gives the guard's lifetime as `named 1`,
+// its number in this signature.
 impl<S> DerefMut for Guard<'_, S> {
     ghost deref_mut_gives = { λ g x. x ≡ state_of g };
 
     fn deref_mut(&mut self) -> &mut S
-        ensures* writes_back { sem 𝓛 (follows (the_row (record { mir = named 1; lft = [] }) S.row) S.row self.entry.ghost_name result.ghost_name (with_state self.old)) }
+        ensures* writes_back { sem 𝓛 (follows
+            (the_row (record { mir = named 1; lft = [] }) S.row) S.row self.entry.ghost_name
+            result.ghost_name (with_state self.old)) }
         ensures value { result.now ≡ state_of self.old }
     {
         &mut self.state

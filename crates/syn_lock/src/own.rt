@@ -1,6 +1,7 @@
 //! The lock and its passes.
-ghost use Rattle.std.specs.Prelude.{◌≡◌, ℕ, ◌∷◌, ◌%◌, ◌≤◌, ◌<◌, [], true, false, Some, List, IfOk, IfErr, IfSome, MatchOption};
-ghost use Rattle.syn_lock.specs.Rule.{Tells, far};
+ghost use Rattle.std.specs.Prelude.{◌≡◌, ℕ, ◌∷◌, ◌%◌, ◌≤◌, ◌<◌, [], true, false, Some, List, IfOk};
+ghost use Rattle.std.specs.Prelude.{IfErr, IfSome, MatchOption};
+ghost use Rattle.syn_lock.specs.inner.Rule.{Tells, far};
 
 use crate::error::{LockError, Refused};
 use crate::grows::Grows;
@@ -62,15 +63,18 @@ impl<S: Grows> Own<S> {
     ghost use Rattle.syn_lock.specs.declared.view.Hold.{Hold};
     ghost use mathlib.Core.List.{IsPrefix};
     ghost use Rattle.syn_lock.specs.History.{end_of, holds_by};
-    ghost use Rattle.syn_lock.specs.Views.{seeing, entered, published, outside, Sees, LooksAt, EndsAt};
-    ghost use Rattle.syn_lock.specs.Rule.{caught_up, turned_away};
-    ghost use Rattle.syn_lock.specs.Passes.{view_of, IsPassOf, IsNew, WasRefused, IsOnlookerOf, passes_seen};
+    ghost use Rattle.syn_lock.specs.Views.{seeing, entered, published, outside, Sees, LooksAt};
+    ghost use Rattle.syn_lock.specs.Views.{EndsAt};
+    ghost use Rattle.syn_lock.specs.inner.Rule.{caught_up, turned_away};
+    ghost use Rattle.syn_lock.specs.Passes.{view_of, IsPassOf, IsNew, WasRefused, IsOnlookerOf};
+    ghost use Rattle.syn_lock.specs.Passes.{passes_seen};
     ghost use Rattle.syn_lock.specs.Locks.{id_of, origin_of};
 
     /// A free lock. Where memory is wanting (11), the state comes back.
     pub fn new(alloc: Global, state: S) -> Result<Own<S>, Refused<S>>
         ensures ok { IfOk result (λ own. origin_of own ≡ state) }
-        ensures err { IfErr result (λ refused. (refused.error ≡ LockError.Memory) × (refused.value ≡ state)) }
+        ensures err { IfErr result (λ refused. (refused.error ≡ LockError.Memory)
+            × (refused.value ≡ state)) }
     {
         let (first, second) = words_of(state.position());
         let words = [first, second, 0];
@@ -97,13 +101,16 @@ impl<S: Grows> Own<S> {
         }
     }
 
-    /// A new pass, which has seen the history so far. It is refused (24) where as many passes are out as a lock gives: an onlooker comes back, which has seen them.
+    /// A new pass, which has seen the history so far. It is refused (24) where as many passes are
+    /// out as a lock gives: an onlooker comes back, which has seen them.
     ///
     /// A pass that is dropped stays out. The call takes no memory.
     pub fn pass(&self) -> Result<Pass<S>, Refused<Onlooker<S>>>
         ensures of { IfOk result (IsPassOf (id_of self.now) (origin_of self.now)) }
         ensures new { IfOk result (IsNew S.grows (origin_of self.now)) }
-        ensures all_out { IfErr result (λ refused. (refused.error ≡ LockError.NoSeat) × IsOnlookerOf (id_of self.now) refused.value × (passes_seen refused.value ≡ MOST_PASSES)) }
+        ensures all_out { IfErr result (λ refused. (refused.error ≡ LockError.NoSeat)
+            × IsOnlookerOf (id_of self.now) refused.value
+            × (passes_seen refused.value ≡ MOST_PASSES)) }
     {
         let shared = &self.table.shared;
         let (mut given, mut seat) = shared.load_new_seat::<Arrive>(PASSES);
@@ -125,7 +132,8 @@ impl<S: Grows> Own<S> {
         requires { IsPassOf (id_of self.now) (origin_of self.now) pass.old }
         ensures of { IsPassOf (id_of self.now) (origin_of self.now) pass.new }
         ensures seen { LooksAt S.grows (origin_of self.now) (view_of pass.old) (view_of pass.new) }
-        ensures position { result ≡ S.position (end_of (origin_of self.now) (view_of pass.new).seen) }
+        ensures position { result ≡ S.position
+            (end_of (origin_of self.now) (view_of pass.new).seen) }
         ensures later { S.position (end_of (origin_of self.now) (view_of pass.old).seen) ≤ result }
     {
         self.look(pass)
@@ -137,8 +145,10 @@ impl<S: Grows> Own<S> {
         requires second { IsPassOf (id_of self.now) (origin_of self.now) second.old }
         ensures first_of { IsPassOf (id_of self.now) (origin_of self.now) first.new }
         ensures second_of { IsPassOf (id_of self.now) (origin_of self.now) second.new }
-        ensures first_sees { LooksAt S.grows (origin_of self.now) (view_of first.old) (view_of first.new) }
-        ensures second_sees { LooksAt S.grows (origin_of self.now) (view_of second.old) (view_of second.new) }
+        ensures first_sees { LooksAt S.grows (origin_of self.now) (view_of first.old)
+            (view_of first.new) }
+        ensures second_sees { LooksAt S.grows (origin_of self.now) (view_of second.old)
+            (view_of second.new) }
         ensures one { (view_of first.new).seen ≡ (view_of second.new).seen }
     {
         self.hear(second, first);
@@ -146,14 +156,16 @@ impl<S: Grows> Own<S> {
         self.agree(first, second);
     }
 
-    /// The state at the end of the history. It is refused (12) where a guard was never left: the pass comes back, which found the lock taken. The lock is gone in either case.
+    /// The state at the end of the history. It is refused (12) where a guard was never left: the
+    /// pass comes back, which found the lock taken. The lock is gone in either case.
     pub fn close(self, mut pass: Pass<S>) -> Result<S, Refused<Pass<S>>>
     where
         S: Drop,
         requires { IsPassOf (id_of self) (origin_of self) pass }
         ensures ok { IfOk result (EndsAt S.grows (origin_of self) (view_of pass)) }
         ensures later { IfOk result (S.grows (end_of (origin_of self) (view_of pass).seen)) }
-        ensures err { IfErr result (λ refused. (refused.error ≡ LockError.Busy) × WasRefused (id_of self) (origin_of self) pass refused.value) }
+        ensures err { IfErr result (λ refused. (refused.error ≡ LockError.Busy)
+            × WasRefused (id_of self) (origin_of self) pass refused.value) }
     {
         let Some(state) = self.take(&mut pass) else {
             return Err(Refused {
@@ -170,7 +182,8 @@ impl<S: Grows> Own<S> {
         ensures of { IsPassOf (id_of self.now) (origin_of self.now) pass.new }
         ensures seen { LooksAt S.grows (origin_of self.now) (view_of pass.old) (view_of pass.new) }
         ensures told { IsPrefix pass.old.seat.me.0.told (view_of pass.new).seen }
-        ensures position { result ≡ S.position (end_of (origin_of self.now) (view_of pass.new).seen) }
+        ensures position { result ≡ S.position
+            (end_of (origin_of self.now) (view_of pass.new).seen) }
     {
         let shared = &self.table.shared;
         let near = shared.load::<Look>(&mut pass.seat, LOCK);
@@ -201,7 +214,8 @@ impl<S: Grows> Own<S> {
         ensures pass_of { IsPassOf (id_of self.now) (origin_of self.now) pass.new }
         ensures other_of { IsPassOf (id_of self.now) (origin_of self.now) other.new }
         ensures pass_sees { view_of pass.new ≡ seeing (view_of pass.old) (view_of other.old).seen }
-        ensures own { holds_by (view_of pass.new).number (view_of pass.new).seen ≡ (view_of pass.new).own }
+        ensures own { holds_by (view_of pass.new).number (view_of pass.new).seen
+            ≡ (view_of pass.new).own }
         ensures other_same { view_of other.new ≡ view_of other.old }
     {
         let shared = &self.table.shared;
@@ -214,8 +228,18 @@ impl<S: Grows> Own<S> {
     pub(crate) fn take(&self, pass: &mut Pass<S>) -> Option<S>
         requires { IsPassOf (id_of self.now) (origin_of self.now) pass.old }
         ensures same { pass.new.seat.table_id ≡ pass.old.seat.table_id }
-        ensures taken { MatchOption result (pass.new.seat.me ≡ (turned_away pass.old.seat.me.0, [])) (λ state. (seen : List (Hold S)) × Sees S.grows (origin_of self.now) (view_of pass.old) seen × (pass.new.seat.me ≡ (caught_up pass.old.seat.me.0 (entered (view_of pass.old) seen) true, (0, None) ∷ [])) × (state ≡ end_of (origin_of self.now) seen)) }
-        ensures later { IfSome result (S.grows (end_of (origin_of self.now) (view_of pass.old).seen)) }
+        ensures taken { MatchOption result (pass.new.seat.me ≡ (turned_away pass.old.seat.me.0, []))
+            (λ state. (seen : List (Hold S))
+            × Sees S.grows (origin_of self.now) (view_of pass.old) seen
+            ×
+            (pass.new.seat.me ≡ (
+              caught_up pass.old.seat.me.0
+                  (entered (view_of pass.old) seen) true,
+              (0, None) ∷ [],
+            ))
+            × (state ≡ end_of (origin_of self.now) seen)) }
+        ensures later { IfSome result (S.grows
+            (end_of (origin_of self.now) (view_of pass.old).seen)) }
     {
         let shared = &self.table.shared;
         let found = shared.fetch_or::<Take>(&mut pass.seat, LOCK, 1);
@@ -236,7 +260,8 @@ impl<S: Grows> Own<S> {
         let None = before else { unreachable!() };
     }
 
-    // Puts the state into the slot, and its position into the first word, which is for the far ones.
+    // Puts the state into the slot, and its position into the first word, which is for the far
+    // ones.
     pub(crate) fn publish(&self, pass: &mut Pass<S>, state: S, position: u64)
         requires ours { pass.old.seat.table_id ≡ id_of self.now }
         requires out { pass.old.seat.me.1 ≡ (0, None) ∷ [] }
@@ -248,7 +273,8 @@ impl<S: Grows> Own<S> {
         ensures same { pass.new.seat.table_id ≡ pass.old.seat.table_id }
         ensures inside { pass.new.seat.me.0.inside ≡ true }
         ensures put { pass.new.seat.me.1 ≡ (0, Some state) ∷ [] }
-        ensures published { view_of pass.new ≡ published (origin_of self.now) (view_of pass.old) state }
+        ensures published { view_of pass.new
+            ≡ published (origin_of self.now) (view_of pass.old) state }
         ensures last { end_of (origin_of self.now) (view_of pass.new).seen ≡ state }
     {
         self.put(pass, state);
@@ -260,7 +286,8 @@ impl<S: Grows> Own<S> {
     // Gives the lock back with the last state of the history, whose position is far.
     pub(crate) fn give(&self, pass: &mut Pass<S>)
         requires ours { pass.old.seat.table_id ≡ id_of self.now }
-        requires last { pass.old.seat.me.1 ≡ (0, Some (end_of (origin_of self.now) (view_of pass.old).seen)) ∷ [] }
+        requires last { pass.old.seat.me.1
+            ≡ (0, Some (end_of (origin_of self.now) (view_of pass.old).seen)) ∷ [] }
         requires inside { pass.old.seat.me.0.inside ≡ true }
         requires origin { (view_of pass.old).origin ≡ Some (origin_of self.now) }
         requires far { far ≤ S.position (end_of (origin_of self.now) (view_of pass.old).seen) }
@@ -282,7 +309,8 @@ impl<S: Grows> Own<S> {
         requires near { position < far }
         ensures same { pass.new.seat.table_id ≡ pass.old.seat.table_id }
         ensures outside { (pass.new.seat.me.1 ≡ []) × (pass.new.seat.me.0.inside ≡ false) }
-        ensures left { view_of pass.new ≡ outside (published (origin_of self.now) (view_of pass.old) state) }
+        ensures left { view_of pass.new ≡ outside
+            (published (origin_of self.now) (view_of pass.old) state) }
     {
         self.put(pass, state);
         self.table
@@ -302,8 +330,12 @@ impl<S: Grows> Pass<S> {
     pub(crate) fn wait<R: Wait>(&mut self, rt: &R, own: &Own<S>) -> S
         requires { IsPassOf (id_of own.now) (origin_of own.now) self.old }
         ensures same { self.new.seat.table_id ≡ self.old.seat.table_id }
-        ensures inside { (self.new.seat.me.1 ≡ (0, None) ∷ []) × (self.new.seat.me.0.inside ≡ true) }
-        ensures taken { (times : ℕ) × (seen : List (Hold S)) × Sees S.grows (origin_of own.now) (view_of self.old) seen × (view_of self.new ≡ entered (refused_times (view_of self.old) times) seen) × (result ≡ end_of (origin_of own.now) seen) }
+        ensures inside { (self.new.seat.me.1 ≡ (0, None) ∷ [])
+            × (self.new.seat.me.0.inside ≡ true) }
+        ensures taken { (times : ℕ) × (seen : List (Hold S))
+            × Sees S.grows (origin_of own.now) (view_of self.old) seen
+            × (view_of self.new ≡ entered (refused_times (view_of self.old) times) seen)
+            × (result ≡ end_of (origin_of own.now) seen) }
         ensures later { S.grows (end_of (origin_of own.now) (view_of self.old).seen) result }
     {
         for _ in rt.forever() {

@@ -7,7 +7,8 @@ use crate::own::Pass;
 use std::marker::{Brand, Model, PhantomData};
 use std::sync::{Mutex, Wait};
 
-/// Names one lock over a state of the type `S`. Each call of a program that passes `Brand` picks it.
+/// Names one lock over a state of the type `S`. Each call of a program that passes `Brand` picks
+/// it.
 pub trait Naming<S> {
     ghost use Rattle.std.specs.Prelude.{Option};
     ghost use Rattle.atomic_table.specs.Seated.{TableId};
@@ -27,7 +28,8 @@ impl<S> Naming<S> for Brand {
     ghost origin = { None };
 }
 
-/// A pass of the lock that `L` names. Its type alone says so: it may lie in a collection or under another lock, and go to another thread. To a contract it is the pass.
+/// A pass of the lock that `L` names. Its type alone says so: it may lie in a collection or under
+/// another lock, and go to another thread. To a contract it is the pass.
 #[derive(Drop)]
 pub struct NamedPass<S, L: Naming<S>> {
     pass: Pass<S>,

@@ -1,6 +1,7 @@
-// The rule of the lock's table, and what each of its steps tells.
-// Word 1 is the lock's word: twice the position of the state that was left last, and 1 more while the lock is taken. A position from 2^63 on is word 0, which is 0 up to then. Word 2 counts passes.
-// Slot 0 has the state while the lock is free.
+// The rule of the lock's table, and what each of its steps tells. Word 1 is the lock's word: twice
+// the position of the state that was left last, and 1 more while the lock is taken. A position from
+// 2^63 on is word 0, which is 0 up to then. Word 2 counts passes. Slot 0 has the state while the
+// lock is free.
 use crate::grows::Grows;
 use crate::view::Known;
 use atomic_table::{Join, Play, Split, TableRule};
@@ -9,7 +10,7 @@ use std::snapshot::Snapshot;
 pub struct Discipline;
 
 impl<S: Grows> TableRule<Option<S>, Known<S>, Snapshot<S>> for Discipline {
-    ghost use Rattle.syn_lock.specs.Rule.{Lawful, witness};
+    ghost use Rattle.syn_lock.specs.inner.Rule.{Lawful, witness};
     ghost use Rattle.std.specs.Prelude.{[], Some};
 
     ghost holds = { λ key. Lawful S.position S.grows key.value };
@@ -21,7 +22,7 @@ impl<S: Grows> TableRule<Option<S>, Known<S>, Snapshot<S>> for Discipline {
 pub(crate) struct Take;
 
 impl<S: Grows> Play<Option<S>, Known<S>> for Take {
-    ghost use Rattle.syn_lock.specs.Rule.{takes_lock};
+    ghost use Rattle.syn_lock.specs.inner.Rule.{takes_lock};
 
     ghost then = { takes_lock S.grows };
 }
@@ -30,7 +31,7 @@ impl<S: Grows> Play<Option<S>, Known<S>> for Take {
 pub(crate) struct Publish;
 
 impl<S: Grows> Play<Option<S>, Known<S>> for Publish {
-    ghost use Rattle.syn_lock.specs.Rule.{publishes};
+    ghost use Rattle.syn_lock.specs.inner.Rule.{publishes};
 
     ghost then = { publishes };
 }
@@ -39,16 +40,17 @@ impl<S: Grows> Play<Option<S>, Known<S>> for Publish {
 pub(crate) struct Give;
 
 impl<S: Grows> Play<Option<S>, Known<S>> for Give {
-    ghost use Rattle.syn_lock.specs.Rule.{gives_lock};
+    ghost use Rattle.syn_lock.specs.inner.Rule.{gives_lock};
 
     ghost then = { gives_lock };
 }
 
-/// A store of twice the new position into the lock's word, which publishes it and gives the lock back.
+/// A store of twice the new position into the lock's word, which publishes it and gives the lock
+/// back.
 pub(crate) struct Leave;
 
 impl<S: Grows> Play<Option<S>, Known<S>> for Leave {
-    ghost use Rattle.syn_lock.specs.Rule.{leaves};
+    ghost use Rattle.syn_lock.specs.inner.Rule.{leaves};
 
     ghost then = { leaves };
 }
@@ -57,7 +59,7 @@ impl<S: Grows> Play<Option<S>, Known<S>> for Leave {
 pub(crate) struct Look;
 
 impl<S: Grows> Play<Option<S>, Known<S>> for Look {
-    ghost use Rattle.syn_lock.specs.Rule.{looks};
+    ghost use Rattle.syn_lock.specs.inner.Rule.{looks};
 
     ghost then = { looks S.position S.grows };
 }
@@ -66,7 +68,7 @@ impl<S: Grows> Play<Option<S>, Known<S>> for Look {
 pub(crate) struct LookFar;
 
 impl<S: Grows> Play<Option<S>, Known<S>> for LookFar {
-    ghost use Rattle.syn_lock.specs.Rule.{looks_far};
+    ghost use Rattle.syn_lock.specs.inner.Rule.{looks_far};
 
     ghost then = { looks_far S.position S.grows };
 }
@@ -75,7 +77,7 @@ impl<S: Grows> Play<Option<S>, Known<S>> for LookFar {
 pub(crate) struct Confirm;
 
 impl<S: Grows> Play<Option<S>, Known<S>> for Confirm {
-    ghost use Rattle.syn_lock.specs.Rule.{confirms};
+    ghost use Rattle.syn_lock.specs.inner.Rule.{confirms};
 
     ghost then = { confirms };
 }
@@ -84,7 +86,7 @@ impl<S: Grows> Play<Option<S>, Known<S>> for Confirm {
 pub(crate) struct Arrive;
 
 impl<S: Grows> Play<Option<S>, Known<S>> for Arrive {
-    ghost use Rattle.syn_lock.specs.Rule.{arrives};
+    ghost use Rattle.syn_lock.specs.inner.Rule.{arrives};
 
     ghost then = { arrives };
 }
@@ -93,7 +95,7 @@ impl<S: Grows> Play<Option<S>, Known<S>> for Arrive {
 pub(crate) struct Admit;
 
 impl<S: Grows> Play<Option<S>, Known<S>> for Admit {
-    ghost use Rattle.syn_lock.specs.Rule.{admits};
+    ghost use Rattle.syn_lock.specs.inner.Rule.{admits};
 
     ghost then = { admits S.grows };
 }
@@ -102,7 +104,7 @@ impl<S: Grows> Play<Option<S>, Known<S>> for Admit {
 pub(crate) struct Tell;
 
 impl<S> Split<Known<S>> for Tell {
-    ghost use Rattle.syn_lock.specs.Rule.{witness};
+    ghost use Rattle.syn_lock.specs.inner.Rule.{witness};
 
     ghost left = { λ v. v };
 
@@ -114,7 +116,7 @@ pub(crate) struct Hear;
 
 impl<S> Join<Known<S>> for Hear {
     ghost use Rattle.std.specs.Prelude.{[], None};
-    ghost use Rattle.syn_lock.specs.Rule.{hearing, witness};
+    ghost use Rattle.syn_lock.specs.inner.Rule.{hearing, witness};
 
     ghost both = { hearing };
 
@@ -126,7 +128,7 @@ pub(crate) struct Agree;
 
 impl<S> Join<Known<S>> for Agree {
     ghost use Rattle.std.specs.Prelude.{[], None};
-    ghost use Rattle.syn_lock.specs.Rule.{agreeing, witness};
+    ghost use Rattle.syn_lock.specs.inner.Rule.{agreeing, witness};
 
     ghost both = { agreeing };
 

@@ -1,7 +1,8 @@
 // What a pass knows. It exists in proofs alone.
 use std::collections::LinkedList;
 
-/// One hold of the lock, or one step on the lock's word: who made it, what was there before, and what after. No value of it is made.
+/// One hold of the lock, or one step on the lock's word: who made it, what was there before, and
+/// what after. No value of it is made.
 pub struct Hold<S> {
     /// The number of the pass.
     pub pass: u64,
@@ -18,7 +19,8 @@ pub struct View<S> {
     pub seen: LinkedList<Hold<S>>,
     /// The pass's own holds.
     pub own: LinkedList<Hold<S>>,
-    /// The pass's own steps on the lock's word, which is 0 while the lock is free and 1 while it is taken.
+    /// The pass's own steps on the lock's word, which is 0 while the lock is free and 1 while it is
+    /// taken.
     pub turns: LinkedList<Hold<u64>>,
 }
 

@@ -1,9 +1,11 @@
 -- The text of a path, and how it is printed.
-use Rattle.std.specs.Prelude.{◌≡◌, ℕ, ◌+◌, Bool, ◌/◌, ◌%◌, ◌||◌, ◌==◌, nat_lt, if◌then◌else◌, encode_utf8, List, [], ◌∷◌, ◌++◌, codes, Some, bytes_eq, refl}
+use Rattle.std.specs.Prelude.{◌≡◌, ℕ, ◌+◌, Bool, ◌/◌, ◌%◌, ◌||◌, ◌==◌, nat_lt, if◌then◌else◌}
+use Rattle.std.specs.Prelude.{encode_utf8, List, [], ◌∷◌, ◌++◌, codes, Some, bytes_eq, refl}
 use Rattle.std.specs.List.{flat_map, join_with_byte}
 use Rattle.std.specs.Str.{chars}
 use Rattle.std.specs.Cmp.{IsPartialOrder, partial_order_from_agreeing_total}
-use Rattle.std.specs.Cmp.Lexicographic.{pointwise, slice_cmp, lists_total, nat_list_cmp_total, lists_ties, texts_ties}
+use Rattle.std.specs.Cmp.Lexicographic.{pointwise, slice_cmp, lists_total, nat_list_cmp_total}
+use Rattle.std.specs.Cmp.Lexicographic.{lists_ties, texts_ties}
 use Rattle.std.specs.Ordering.{nat_cmp}
 use Rattle.syn_model.specs.Path.{Bytes, Path, IsPath, path_cmp}
 
@@ -17,7 +19,8 @@ pub record NamesPath (text : Bytes) (path : Path) : Type 0 where
   pub lawful : IsPath path
   pub written : text_of path ≡ text
 
--- A character below hex 20, hex 7f and the backslash are printed as `\x` and two lower case digits: a terminal may take them for something else.
+-- A character below hex 20, hex 7f and the backslash are printed as `\x` and two lower case digits:
+-- a terminal may take them for something else.
 abbrev pub is_escaped : ℕ → Bool
 is_escaped c = nat_lt c 32 || (c == 127 || c == 92)
 
@@ -45,4 +48,5 @@ IsPrefix p q = (rest : Path) × (p ++ rest ≡ q)
 
 -- the order of paths is equal at equal paths alone
 pub paths_po : IsPartialOrder (pointwise bytes_eq) (λ p q. Some (path_cmp p q))
-paths_po = partial_order_from_agreeing_total path_cmp (lists_total nat_list_cmp_total) (λ p q. refl) (lists_ties (slice_cmp nat_cmp) texts_ties)
+paths_po = partial_order_from_agreeing_total path_cmp (lists_total nat_list_cmp_total) (λ p q. refl)
+    (lists_ties (slice_cmp nat_cmp) texts_ties)

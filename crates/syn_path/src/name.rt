@@ -5,8 +5,8 @@ use crate::error::PathError;
 use std::alloc::Global;
 use std::marker::Model;
 
-/// A name in a directory: 1 to 64 bytes of UTF-8 without `/` and the zero byte, and neither `.` nor `..`.
-/// Contracts see it as its bytes.
+/// A name in a directory: 1 to 64 bytes of UTF-8 without `/` and the zero byte, and neither `.` nor
+/// `..`. Contracts see it as its bytes.
 #[derive(Debug, Drop)]
 pub struct Name {
     text: String,

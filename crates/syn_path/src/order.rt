@@ -3,7 +3,9 @@ ghost use Rattle.std.specs.Prelude.{Some, bytes_eq, nat_eq};
 ghost use Rattle.std.proofs.Common.{rules};
 ghost use Rattle.std.specs.Ordering.{nat_cmp};
 ghost use Rattle.std.specs.Cmp.{partial_equiv_from_equiv};
-ghost use Rattle.std.specs.Cmp.Lexicographic.{pointwise, slice_cmp, nat_list_eq_equiv, nat_list_cmp_total, texts_ties, texts_po, lists_equiv, lists_total, lists_ties};
+ghost use Rattle.std.specs.Cmp.Lexicographic.{pointwise, slice_cmp, nat_list_eq_equiv};
+ghost use Rattle.std.specs.Cmp.Lexicographic.{nat_list_cmp_total, texts_ties, texts_po};
+ghost use Rattle.std.specs.Cmp.Lexicographic.{lists_equiv, lists_total, lists_ties};
 ghost use Rattle.syn_model.specs.Path.{path_cmp};
 ghost use Rattle.syn_path.specs.Paths.{paths_po};
 

@@ -1,6 +1,8 @@
-ghost use Rattle.std.specs.Prelude.{◌≡◌, ◌↔◌, ◌++◌, ◌∷◌, [], ◌+◌, ◌==◌, ◌<◌, ◌≤◌, length, map, IfOk, IfSome, IfNone, IfErr, IsTrue, Contains, All};
+ghost use Rattle.std.specs.Prelude.{◌≡◌, ◌↔◌, ◌++◌, ◌∷◌, [], ◌+◌, ◌==◌, ◌<◌, ◌≤◌, length, map};
+ghost use Rattle.std.specs.Prelude.{IfOk, IfSome, IfNone, IfErr, IsTrue, Contains, All};
 ghost use Rattle.std.specs.List.{slice_split};
-ghost use Rattle.syn_model.specs.Path.{IsName, IsPath, comparable, is_prefix, path_cmp, path_spelling};
+ghost use Rattle.syn_model.specs.Path.{IsName, IsPath, comparable, is_prefix, path_cmp};
+ghost use Rattle.syn_model.specs.Path.{path_spelling};
 ghost use Rattle.syn_path.specs.Paths.{IsPrefix, NamesPath};
 
 use crate::error::PathError;
@@ -8,8 +10,8 @@ use crate::name::Name;
 use std::alloc::{AllocError, Global};
 use std::marker::Model;
 
-/// A path of a replica: at most 16 names, whose spelling (a count, and each name with its length) has at most 255 bytes.
-/// Contracts see it as the list of its names.
+/// A path of a replica: at most 16 names, whose spelling (a count, and each name with its length)
+/// has at most 255 bytes. Contracts see it as the list of its names.
 #[derive(Debug, Drop)]
 pub struct Path {
     names: Vec<Name>,
@@ -41,7 +43,8 @@ impl Path {
     /// Refused 1 where the text names no path within the limits, and 11 where memory is refused.
     pub fn parse(alloc: Global, text: &str) -> Result<Path, PathError>
         ensures ok { IfOk result (λ path. NamesPath text.now path) }
-        ensures bad { IfErr result (λ e. e ≡ PathError.BadPath → (path : _) → ¬ NamesPath text.now path) }
+        ensures bad { IfErr result (λ e. e ≡ PathError.BadPath → (path : _)
+            → ¬ NamesPath text.now path) }
     {
         if text == "." {
             return Ok(Path::root(alloc));
@@ -83,7 +86,8 @@ impl Path {
     /// Refused 1 where that path would pass the limits, and 11 where memory is refused.
     pub fn child(&self, alloc: Global, name: &Name) -> Result<Path, PathError>
         ensures ok { IfOk result (λ path. (path ≡ self.now ++ name.now ∷ []) × IsPath path) }
-        ensures bad { IfErr result (λ e. e ≡ PathError.BadPath → ¬ IsPath (self.now ++ name.now ∷ [])) }
+        ensures bad { IfErr result (λ e. e ≡ PathError.BadPath
+            → ¬ IsPath (self.now ++ name.now ∷ [])) }
     {
         if self.names.len() >= 16
             || spelled_len(self.names.as_slice()) + 1 + name.as_str().len() > 255
@@ -98,7 +102,8 @@ impl Path {
     /// The path without its last name; none for the root. Refused 11 where memory is refused.
     pub fn parent(&self, alloc: Global) -> Result<Option<Path>, PathError>
         ensures root { IfOk result (λ parent. IfNone parent (self.now ≡ [])) }
-        ensures below { IfOk result (λ parent. IfSome parent (λ path. (name : _) × (path ++ name ∷ [] ≡ self.now))) }
+        ensures below { IfOk result (λ parent. IfSome parent
+            (λ path. (name : _) × (path ++ name ∷ [] ≡ self.now))) }
         ensures memory { IfErr result (λ e. e ≡ PathError.BadPath → ⊥) }
     {
         match self.names.as_slice() {
@@ -137,15 +142,18 @@ impl Path {
 
 /// The pieces of the text between slashes.
 fn pieces_of(alloc: Global, text: &str) -> Result<Vec<&str>, AllocError>
-    ensures { IfOk result (λ pieces. map (λ p. p.now) pieces.items ≡ slice_split (λ b. b == 47) text.now) }
+    ensures { IfOk result (λ pieces. map (λ p. p.now) pieces.items
+        ≡ slice_split (λ b. b == 47) text.now) }
 {
     text.split('/').collect(alloc)
 }
 
 /// The names that the pieces are.
 fn parse_names(alloc: Global, pieces: &[&str]) -> Result<Vec<Name>, PathError>
-    ensures ok { IfOk result (λ names. (names.items ≡ map (λ p. p.now) pieces.now) × All IsName names.items) }
-    ensures bad { IfErr result (λ e. e ≡ PathError.BadPath → ¬ All IsName (map (λ p. p.now) pieces.now)) }
+    ensures ok { IfOk result (λ names. (names.items ≡ map (λ p. p.now) pieces.now)
+        × All IsName names.items) }
+    ensures bad { IfErr result (λ e. e ≡ PathError.BadPath
+        → ¬ All IsName (map (λ p. p.now) pieces.now)) }
 {
     let mut names = Vec::new(alloc);
     for piece in pieces {

@@ -6,7 +6,8 @@ use crate::name::Name;
 use crate::path::Path;
 use std::fmt;
 
-/// A character, where one that a terminal may take for a command, and the backslash, are `\x` and two digits.
+/// A character, where one that a terminal may take for a command, and the backslash, are `\x` and
+/// two digits.
 #[derive(Drop)]
 struct Printed(char);
 
@@ -49,7 +50,8 @@ impl fmt::Display for Name {
     }
 }
 
-/// The text that `Path::parse` reads, with control characters and backslashes as `\x` and two lower case digits.
+/// The text that `Path::parse` reads, with control characters and backslashes as `\x` and two lower
+/// case digits.
 impl fmt::Display for Path {
     ghost output = { λ path. Some (printed_form path) };
 

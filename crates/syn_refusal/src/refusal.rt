@@ -9,7 +9,7 @@ use thiserror::Error;
 /// Why a call is refused.
 #[derive(Clone, Copy, Debug, PartialEq, Eq, Error)]
 pub enum Refusal {
-    /// The text is no path: `.`, or 1 to 16 names parted by `/`, each of 1 to 64 bytes, in all at most 255.
+    /// The text is no path: `.`, or at most 16 names of 1 to 64 bytes parted by `/`.
     BadPath,
     /// The parent of the path is not a directory.
     NoParent,
@@ -25,7 +25,7 @@ pub enum Refusal {
     Full,
     /// The record does not fit in what is left of the journal.
     JournalFull,
-    /// A file or a stream cannot be read, written or synced, or it is no image of the right length.
+    /// A file or a stream cannot be read or written, or the file is no image.
     Device,
     /// A call of the device failed before, and the image was not opened again since.
     Halted,
@@ -108,7 +108,7 @@ impl Refusal {
             Refusal::BadPath => (
                 1,
                 "BadPath",
-                "the text is no path: `.`, or 1 to 16 names parted by `/`, each of 1 to 64 bytes, in all at most 255",
+                "the text is no path: `.`, or at most 16 names of 1 to 64 bytes parted by `/`",
             ),
             Refusal::NoParent => (2, "NoParent", "the parent of the path is not a directory"),
             Refusal::IsDirectory => (
@@ -136,7 +136,7 @@ impl Refusal {
             Refusal::Device => (
                 9,
                 "Device",
-                "a file or a stream cannot be read, written or synced, or it is no image of the right length",
+                "a file or a stream cannot be read or written, or the file is no image",
             ),
             Refusal::Halted => (
                 10,

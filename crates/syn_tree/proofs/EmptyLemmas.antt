@@ -8,7 +8,7 @@ use Rattle.syn_model.specs.Limits.{fits_replica, fits_part, fits_paths, fits_pat
 use Rattle.syn_model.proofs.HistoryLemmas.{get-at_root}
 use Rattle.syn_tree.specs.Pairs.{Pairs, tree_with, spelling_length}
 use Rattle.syn_tree.specs.Entries.{AreEntries}
-use Rattle.syn_tree.specs.Kept.{IsKept}
+use Rattle.syn_tree.specs.inner.Kept.{IsKept}
 use Rattle.syn_tree.proofs.TreeLemmas.{entries-one, from_entries-same}
 use Rattle.syn_tree.proofs.ChangeLemmas.{lawful_part}
 use Rattle.syn_tree.proofs.CheckLemmas.{one_fits}

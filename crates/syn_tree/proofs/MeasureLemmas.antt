@@ -9,7 +9,7 @@ use Rattle.syn_model.specs.Limits.{fits_replica, fits_part, fits_paths, tree_spe
 use Rattle.syn_model.specs.Refusal.{first_cause}
 use Rattle.syn_model.specs.Standing.{place_causes}
 use Rattle.syn_tree.specs.Pairs.{Pairs, rooted, tree_with, within, spelling_length}
-use Rattle.syn_tree.specs.Kept.{IsKept}
+use Rattle.syn_tree.specs.inner.Kept.{IsKept}
 use Rattle.syn_tree.specs.Lists.{IsMeasured}
 use Rattle.syn_tree.proofs.RisingLemmas.{rising_of, replaced, counted}
 use Rattle.syn_tree.proofs.TreeLemmas.{entries-with}

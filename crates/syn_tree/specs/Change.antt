@@ -34,4 +34,5 @@ after_change tree change = replace tree change.at change.new
 
 -- a replacement is stored as the pair of its fields
 abbrev pub coded_replacement : Coded Replacement
-coded_replacement = code_by (Path × Tree) (coded× (coded_list (coded_list coded_ℕ)) coded_tree) (λ c. (c.at, c.new)) (λ p. record { at = p.0; new = p.1 }) (λ _. refl)
+coded_replacement = code_by (Path × Tree) (coded× (coded_list (coded_list coded_ℕ)) coded_tree)
+    (λ c. (c.at, c.new)) (λ p. record { at = p.0; new = p.1 }) (λ _. refl)

@@ -17,11 +17,13 @@ pub record AreEntries (pairs : Pairs) : Type 0 where
 
 -- the pair is a file, or a directory with no more entries than are allowed
 abbrev pub has_few : Pairs → Pair → Bool
-has_few pairs pair = not (is_directory_content (Some pair.1)) || nat_le (count_by (λ other. is_child pair.0 other.0) pairs) 256
+has_few pairs pair = not (is_directory_content (Some pair.1))
+    || nat_le (count_by (λ other. is_child pair.0 other.0) pairs) 256
 
 -- the pair stands in a directory, and keeps the limits of a file and a directory
 abbrev pub stands_in : Pairs → Pair → Bool
-stands_in pairs pair = is_directory_content (find path_cmp (parent pair.0) (rooted pairs)) && fits_content pair.1 && has_few pairs pair
+stands_in pairs pair = is_directory_content (find path_cmp (parent pair.0) (rooted pairs))
+    && fits_content pair.1 && has_few pairs pair
 
 -- its path is lawful, and its bytes are bytes
 abbrev pub IsLawfulPair : Pair → Type 0

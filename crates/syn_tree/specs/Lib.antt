@@ -4,6 +4,6 @@ pub mod Entries
 pub mod Nodes
 pub mod Edits
 pub mod Change
-pub mod Kept
 pub mod Lists
 pub mod Refusals
+pub mod inner

@@ -1,5 +1,6 @@
 -- What a tree shows of a directory, and what is measured before a change.
-use Rattle.std.specs.Prelude.{◌≡◌, ℕ, Bool, true, false, List, ◌++◌, map, Option, Some, None, option_map, option_and_then, filter_map, if◌then◌else◌}
+use Rattle.std.specs.Prelude.{◌≡◌, ℕ, Bool, true, false, List, ◌++◌, map, Option, Some, None}
+use Rattle.std.specs.Prelude.{option_map, option_and_then, filter_map, if◌then◌else◌}
 use Rattle.std.specs.List.{list_all}
 use Rattle.std.specs.FinMap.{entries, len}
 use Rattle.syn_model.specs.Path.{Name, Path, IsPath, strip_prefix, is_root}
@@ -12,13 +13,16 @@ use Rattle.syn_tree.specs.Pairs.{Pairs, under, spelling_length}
 
 -- the names in a directory, each with whether it is a directory
 abbrev pub listing : Tree → Path → List (Name × Bool)
-listing tree path = map (λ child. (child.0, is_directory_content (Some child.1))) (children tree path)
+listing tree path = map (λ child. (child.0, is_directory_content (Some child.1)))
+    (children tree path)
 
 -- why a tree refuses a replacement
 abbrev pub replace_refusal : Tree → Path → Tree → Option Refusal
-replace_refusal tree path new = first_cause (place_causes tree path ++ full_causes (model.replace tree path new))
+replace_refusal tree path new = first_cause
+    (place_causes tree path ++ full_causes (model.replace tree path new))
 
--- what is measured of a part that is to stand at a path: its nodes and its size, where it keeps the other limits
+-- what is measured of a part that is to stand at a path: its nodes and its size, where it keeps the
+-- other limits
 pub record IsMeasured (at : Path) (new : Tree) (nodes size : ℕ) : Type 0 where
   pub parents : HasParents new
   pub count : len new ≡ nodes
@@ -41,11 +45,13 @@ FitsNowhere at new = (tree : Tree) → fits_replica (model.replace tree at new) 
 -- the names among the pairs that are children of the path, each with whether it is a directory
 abbrev pub child_names : Path → Pairs → List (Name × Bool)
 child_names path pairs =
-    filter_map (λ pair. option_map (λ name. (name, is_directory_content (Some pair.1))) (option_and_then only_name (strip_prefix path pair.0))) pairs
+    filter_map (λ pair. option_map (λ name. (name, is_directory_content (Some pair.1)))
+    (option_and_then only_name (strip_prefix path pair.0))) pairs
 
 -- a pair below the path, without the path before its own
 abbrev pub below_off : Path → Pair → Option Pair
-below_off at pair = option_and_then (λ rest. if is_root rest then None else Some (rest, pair.1)) (strip_prefix at pair.0)
+below_off at pair = option_and_then (λ rest. if is_root rest then None else Some (rest, pair.1))
+    (strip_prefix at pair.0)
 
 abbrev pub stripped : Path → Pairs → Pairs
 stripped at pairs = filter_map (below_off at) pairs

@@ -1,5 +1,7 @@
--- A tree below its root directory as a list of pairs in path order, and where the pairs lie to a path.
-use Rattle.std.specs.Prelude.{◌≡◌, ℕ, ◌+◌, Bool, true, not, ◌&&◌, ◌||◌, List, ◌∷◌, ◌++◌, map, filter, is_some, sum_by, option_and_then}
+-- A tree below its root directory as a list of pairs in path order, and where the pairs lie to a
+-- path.
+use Rattle.std.specs.Prelude.{◌≡◌, ℕ, ◌+◌, Bool, true, not, ◌&&◌, ◌||◌, List, ◌∷◌, ◌++◌, map}
+use Rattle.std.specs.Prelude.{filter, is_some, sum_by, option_and_then}
 use Rattle.std.specs.Ordering.{is_lt}
 use Rattle.std.specs.FinMap.{from_sorted, is_sorted}
 use Rattle.syn_model.specs.Path.{Path, path_cmp, root, strip_prefix, is_prefix}

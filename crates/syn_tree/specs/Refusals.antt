@@ -5,7 +5,8 @@ use Rattle.syn_model.specs.Refusal as why
 use Rattle.syn_path.specs.declared.error.PathError.{PathError}
 use Rattle.syn_path.specs.declared.error.PathError.TheVariants as path
 use Rattle.syn_tree.specs.declared.error.TreeError.{TreeError}
-use Rattle.syn_tree.specs.declared.error.TreeError.TheVariants.{NoParent, IsDirectory, Exists, Absent, Root, Full, Memory}
+use Rattle.syn_tree.specs.declared.error.TreeError.TheVariants.{NoParent, IsDirectory, Exists}
+use Rattle.syn_tree.specs.declared.error.TreeError.TheVariants.{Absent, Root, Full, Memory}
 
 abbrev pub refusal_of : TreeError → Refusal
 refusal_of NoParent = why.NoParent

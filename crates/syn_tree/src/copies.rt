@@ -20,7 +20,8 @@ use std::alloc::Global;
 use std::cmp::Ordering;
 use syn_path::{Name, Path, PathError};
 
-/// Equal names, put behind those that are there. Refused 11 where memory is refused, and for no other cause.
+/// Equal names, put behind those that are there. Refused 11 where memory is refused, and for no
+/// other cause.
 fn push_names(alloc: Global, names: &mut Vec<Name>, source: &[Name]) -> Result<(), PathError>
     ensures ok { OnOk result (names.new.items ≡ names.old.items ++ source.now) }
     ensures memory { IfErr result (λ e. e ≡ PathError.BadPath → ⊥) }
@@ -60,7 +61,8 @@ fn copy_content(alloc: Global, found: Found<'_>) -> Result<Content, TreeError>
 /// Refused 7 where they fit nowhere at that path, and 11 where memory is refused.
 pub(crate) fn placed(alloc: Global, at: &Path, new: Option<Node>) -> Result<Vec<Entry>, TreeError>
     ensures ok { IfOk result (λ list. IsPlaceable at.now (part_of new) list.items) }
-    ensures full { IfErr result (λ e. e ≢ TreeError.Memory → (e ≡ TreeError.Full) × FitsNowhere at.now (part_of new)) }
+    ensures full { IfErr result (λ e. e ≢ TreeError.Memory → (e ≡ TreeError.Full)
+        × FitsNowhere at.now (part_of new)) }
 {
     is_path(at);
     match new {
@@ -73,7 +75,8 @@ pub(crate) fn placed(alloc: Global, at: &Path, new: Option<Node>) -> Result<Vec<
 /// A file at the path.
 fn placed_file(alloc: Global, at: &Path, bytes: Vec<u8>) -> Result<Vec<Entry>, TreeError>
     ensures ok { IfOk result (λ list. IsPlaceable at.now (file bytes.items) list.items) }
-    ensures full { IfErr result (λ e. e ≢ TreeError.Memory → (e ≡ TreeError.Full) × FitsNowhere at.now (file bytes.items)) }
+    ensures full { IfErr result (λ e. e ≢ TreeError.Memory → (e ≡ TreeError.Full)
+        × FitsNowhere at.now (file bytes.items)) }
 {
     are_bytes(&bytes);
     is_path(at);
@@ -88,7 +91,8 @@ fn placed_file(alloc: Global, at: &Path, bytes: Vec<u8>) -> Result<Vec<Entry>, T
 /// A directory at the path, with what is below it.
 fn placed_directory(alloc: Global, at: &Path, entries: Entries) -> Result<Vec<Entry>, TreeError>
     ensures ok { IfOk result (λ list. IsPlaceable at.now entries list.items) }
-    ensures full { IfErr result (λ e. e ≢ TreeError.Memory → (e ≡ TreeError.Full) × FitsNowhere at.now entries) }
+    ensures full { IfErr result (λ e. e ≢ TreeError.Memory → (e ≡ TreeError.Full)
+        × FitsNowhere at.now entries) }
 {
     is_path(at);
     let mut list = Vec::with_capacity(alloc, 1)?;
@@ -107,8 +111,10 @@ fn push_under(
     source: Vec<Entry>,
 ) -> Result<(), TreeError>
     ensures ok { OnOk result (list.new.items ≡ list.old.items ++ under at.now source.items) }
-    ensures paths { OnOk result (list_all (λ pair. fits_path pair.0) (under at.now source.items) ≡ true) }
-    ensures full { IfErr result (λ e. e ≢ TreeError.Memory → (e ≡ TreeError.Full) × (list_all (λ pair. fits_path pair.0) (under at.now source.items) ≡ false)) }
+    ensures paths { OnOk result (list_all (λ pair. fits_path pair.0) (under at.now source.items)
+        ≡ true) }
+    ensures full { IfErr result (λ e. e ≢ TreeError.Memory → (e ≡ TreeError.Full)
+        × (list_all (λ pair. fits_path pair.0) (under at.now source.items) ≡ false)) }
 {
     for entry in source {
         let (path, content) = entry.into_parts();
@@ -118,7 +124,8 @@ fn push_under(
     Ok(())
 }
 
-/// The entries below the path, each without the path before its own. Refused 11 where memory is refused, and for no other cause.
+/// The entries below the path, each without the path before its own. Refused 11 where memory is
+/// refused, and for no other cause.
 pub(crate) fn below(alloc: Global, list: &[Entry], at: &Path) -> Result<Vec<Entry>, TreeError>
     ensures ok { IfOk result (λ copies. copies.items ≡ stripped at.now list.now) }
     ensures memory { IfErr result (λ e. e ≡ TreeError.Memory) }
@@ -137,7 +144,8 @@ fn push_below(
     at: &Path,
     entry: &Entry,
 ) -> Result<(), TreeError>
-    ensures ok { OnOk result (copies.new.items ≡ copies.old.items ++ stripped at.now (entry.now ∷ [])) }
+    ensures ok { OnOk result (copies.new.items ≡ copies.old.items
+        ++ stripped at.now (entry.now ∷ [])) }
     ensures memory { IfErr result (λ e. e ≡ TreeError.Memory) }
 {
     if !at.is_prefix(entry.path()) {
@@ -153,7 +161,8 @@ fn push_below(
     Ok(())
 }
 
-/// The names in the directory of these names, each with whether it is a directory. Refused 11 where memory is refused.
+/// The names in the directory of these names, each with whether it is a directory. Refused 11 where
+/// memory is refused.
 pub(crate) fn children(
     alloc: Global,
     list: &[Entry],
@@ -176,7 +185,8 @@ fn push_child(
     above: &[Name],
     entry: &Entry,
 ) -> Result<(), TreeError>
-    ensures ok { OnOk result (names.new.items ≡ names.old.items ++ child_names above.now (entry.now ∷ [])) }
+    ensures ok { OnOk result (names.new.items ≡ names.old.items
+        ++ child_names above.now (entry.now ∷ [])) }
     ensures memory { IfErr result (λ e. e ≡ TreeError.Memory) }
 {
     let is_directory = entry.content().is_directory();

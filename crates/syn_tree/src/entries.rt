@@ -20,9 +20,10 @@ use std::alloc::Global;
 use std::marker::Model;
 use syn_path::Path;
 
-/// What stands below a directory, in path order: 256 entries a directory, 16,384 bytes a file, and each path,
-/// taken from the directory, within the limits of a path. The number of nodes and their size are limits of a whole tree alone.
-/// Contracts see it as the tree with that directory as its root.
+/// What stands below a directory, in path order: 256 entries a directory, 16,384 bytes a file, and
+/// each path, taken from the directory, within the limits of a path. The number of nodes and their
+/// size are limits of a whole tree alone. Contracts see it as the tree with that directory as its
+/// root.
 #[derive(Debug, Drop)]
 pub struct Entries {
     list: Vec<Entry>,
@@ -65,7 +66,8 @@ impl Entries {
         Entries { list }
     }
 
-    /// These entries, where they stand in path order, each below a directory, and keep the limits; else none.
+    /// These entries, where they stand in path order, each below a directory, and keep the limits;
+    /// else none.
     pub fn from_vec(list: Vec<Entry>) -> Option<Entries>
         ensures some { IfSome result (λ all. rooted list.items ≡ entries all) }
         ensures none { IfNone result (¬ AreEntries list.items) }
@@ -92,8 +94,9 @@ impl Entries {
         self.list.as_slice()
     }
 
-    /// How many names are in the directory at the path, which is taken from the directory that these stand below;
-    /// none where no directory is there. The work grows with what is below the path, and not with all entries.
+    /// How many names are in the directory at the path, which is taken from the directory that
+    /// these stand below; none where no directory is there. The work grows with what is below the
+    /// path, and not with all entries.
     pub fn child_count(&self, path: &Path) -> usize
         ensures { result ≡ length (children self.now path.now) }
     {

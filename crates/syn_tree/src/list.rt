@@ -1,12 +1,16 @@
 //! Entries in path order.
-ghost use Rattle.std.specs.Prelude.{◌≡◌, ◌≤◌, ◌<◌, ◌+◌, ◌^◌, ◌++◌, ◌∷◌, length, take, drop, filter, count_by, option_map, IfSome, IfNone, IsTrue, ◌↔◌, vec_len, vec_capacity};
+ghost use Rattle.std.specs.Prelude.{◌≡◌, ◌≤◌, ◌<◌, ◌+◌, ◌^◌, ◌++◌, ◌∷◌, length, take, drop, filter};
+ghost use Rattle.std.specs.Prelude.{count_by, option_map, IfSome, IfNone, IsTrue, ◌↔◌, vec_len};
+ghost use Rattle.std.specs.Prelude.{vec_capacity};
 ghost use Rattle.std.specs.Ordering.{eq_by_cmp, is_lt};
 ghost use Rattle.std.specs.FinMap.{find};
 ghost use Rattle.syn_model.specs.Path.{path_cmp, parent, IsPath};
 ghost use Rattle.syn_model.specs.Tree.{is_directory_content};
 ghost use Rattle.syn_model.specs.Limits.{last_name_spelling_length};
 ghost use Rattle.syn_tree.specs.Contents.{found_content};
-ghost use Rattle.syn_tree.specs.Pairs.{rooted, AreRising, is_before, is_within, before, within, behind, is_below, is_child, pair_spelling_length, spelling_length};
+ghost use Rattle.syn_tree.specs.Pairs.{rooted, AreRising, is_before, is_within, before, within};
+ghost use Rattle.syn_tree.specs.Pairs.{behind, is_below, is_child, pair_spelling_length};
+ghost use Rattle.syn_tree.specs.Pairs.{spelling_length};
 
 use crate::content::Found;
 use crate::entry::Entry;
@@ -119,7 +123,8 @@ pub(crate) fn part_below<'a>(list: &'a [Entry], at: &Path) -> &'a [Entry]
 /// What stands at the path of these names, of entries below a root directory.
 pub(crate) fn find<'a>(list: &'a [Entry], names: &[Name]) -> Option<Found<'a>>
     requires { AreRising (rooted list.now) }
-    ensures { option_map (λ found. found_content found) result ≡ find path_cmp names.now (rooted list.now) }
+    ensures { option_map (λ found. found_content found) result
+        ≡ find path_cmp names.now (rooted list.now) }
 {
     if names.is_empty() {
         return Some(Found::Dir);
@@ -236,12 +241,15 @@ pub(crate) fn measured(list: &[Entry]) -> Option<usize>
     Some(size)
 }
 
-/// Puts these entries in the place of what is at and below the path, and answers how many bytes spelled that.
+/// Puts these entries in the place of what is at and below the path, and answers how many bytes
+/// spelled that.
 pub(crate) fn splice(list: &mut Vec<Entry>, at: &Path, added: Vec<Entry>) -> usize
     requires rising { AreRising list.old.items }
     requires brief { spelling_length (within at.now list.old.items) ≤ 524288 }
-    requires room { length (before at.now list.old.items) + length (behind at.now list.old.items) + vec_len added ≤ vec_capacity list.old }
-    ensures items { list.new.items ≡ before at.now list.old.items ++ (added.items ++ behind at.now list.old.items) }
+    requires room { length (before at.now list.old.items) + length
+        (behind at.now list.old.items) + vec_len added ≤ vec_capacity list.old }
+    ensures items { list.new.items ≡ before at.now list.old.items
+        ++ (added.items ++ behind at.now list.old.items) }
     ensures room { vec_capacity list.old ≤ vec_capacity list.new }
     ensures removed { result ≡ spelling_length (within at.now list.old.items) }
 {
@@ -255,7 +263,8 @@ pub(crate) fn splice(list: &mut Vec<Entry>, at: &Path, added: Vec<Entry>) -> usi
 fn replace_run(list: &mut Vec<Entry>, start: usize, count: usize, added: Vec<Entry>)
     requires bounds { start + count ≤ vec_len list.old }
     requires room { vec_len list.old + vec_len added ≤ vec_capacity list.old + count }
-    ensures items { list.new.items ≡ take start list.old.items ++ (added.items ++ drop (start + count) list.old.items) }
+    ensures items { list.new.items ≡ take start list.old.items
+        ++ (added.items ++ drop (start + count) list.old.items) }
     ensures room { vec_capacity list.old ≤ vec_capacity list.new }
 {
     if count == added.len() {
@@ -269,7 +278,8 @@ fn replace_run(list: &mut Vec<Entry>, start: usize, count: usize, added: Vec<Ent
 /// Puts the entries in the place of as many; no other entry moves.
 fn swap_run(list: &mut Vec<Entry>, start: usize, added: Vec<Entry>)
     requires { start + vec_len added ≤ vec_len list.old }
-    ensures items { list.new.items ≡ take start list.old.items ++ (added.items ++ drop (start + vec_len added) list.old.items) }
+    ensures items { list.new.items ≡ take start list.old.items
+        ++ (added.items ++ drop (start + vec_len added) list.old.items) }
     ensures room { vec_capacity list.new ≡ vec_capacity list.old }
 {
     let mut added = added;
@@ -281,7 +291,8 @@ fn swap_run(list: &mut Vec<Entry>, start: usize, added: Vec<Entry>)
 /// Takes out so many entries from the start on.
 fn take_out(list: &mut Vec<Entry>, start: usize, count: usize)
     requires { start + count ≤ vec_len list.old }
-    ensures items { list.new.items ≡ take start list.old.items ++ drop (start + count) list.old.items }
+    ensures items { list.new.items ≡ take start list.old.items
+        ++ drop (start + count) list.old.items }
     ensures room { vec_capacity list.new ≡ vec_capacity list.old }
 {
     let (_, tail) = list.split_at_mut(start);
@@ -293,7 +304,8 @@ fn take_out(list: &mut Vec<Entry>, start: usize, count: usize)
 fn put_in(list: &mut Vec<Entry>, at: usize, added: Vec<Entry>)
     requires bounds { at ≤ vec_len list.old }
     requires room { vec_len list.old + vec_len added ≤ vec_capacity list.old }
-    ensures items { list.new.items ≡ take at list.old.items ++ (added.items ++ drop at list.old.items) }
+    ensures items { list.new.items ≡ take at list.old.items
+        ++ (added.items ++ drop at list.old.items) }
     ensures room { vec_capacity list.old ≤ vec_capacity list.new }
 {
     let mut added = added;

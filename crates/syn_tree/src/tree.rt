@@ -1,6 +1,9 @@
-ghost use Rattle.std.specs.Prelude.{◌≡◌, ◌≢◌, ◌↔◌, ◌⊎◌, Err, ◌<◌, ◌^◌, ◌&&◌, ◌||◌, not, nat_le, nat_lt, count_by, ℕ, List, true, false, Some, None, length, filter, option_map, IfOk, IfErr, OnOk, OnErr};
+ghost use Rattle.std.specs.Prelude.{◌≡◌, ◌≢◌, ◌↔◌, ◌⊎◌, Err, ◌<◌, ◌^◌, ◌&&◌, ◌||◌, not, nat_le};
+ghost use Rattle.std.specs.Prelude.{nat_lt, count_by, ℕ, List, true, false, Some, None, length};
+ghost use Rattle.std.specs.Prelude.{filter, option_map, IfOk, IfErr, OnOk, OnErr};
 ghost use Rattle.std.specs.FinMap.{entries, get, len};
-ghost use Rattle.syn_model.specs.Tree.{Tree as Pairs, IsTree, empty_directory, is_directory, is_present, subtree, replace};
+ghost use Rattle.syn_model.specs.Tree.{Tree as Pairs, IsTree, empty_directory, is_directory};
+ghost use Rattle.syn_model.specs.Tree.{is_present, subtree, replace};
 ghost use Rattle.syn_model.specs.Event.{Put, MakeDir, Remove, after_edit};
 ghost use Rattle.syn_model.specs.Limits.{children, fits_replica, tree_spelling_length};
 ghost use Rattle.syn_model.specs.Refusal.{first_cause};
@@ -34,12 +37,13 @@ use syn_path::{Name, Path};
 /// The most nodes of a tree below its root.
 const MOST_BELOW: usize = 1023;
 
-/// A file tree whose root is a directory, within the limits of a replica: 16,384 bytes a file, 256 entries a directory,
-/// 1,024 nodes with the root, 524,288 bytes of spelling, and the limits of a path.
-/// Contracts see it as the set of its paths, each with what stands there.
+/// A file tree whose root is a directory, within the limits of a replica: 16,384 bytes a file, 256
+/// entries a directory, 1,024 nodes with the root, 524,288 bytes of spelling, and the limits of a
+/// path. Contracts see it as the set of its paths, each with what stands there.
 #[derive(Debug, Drop)]
 pub struct Tree {
-    /// What stands below the root, in path order, with room for the most nodes: no change takes memory for the list.
+    /// What stands below the root, in path order, with room for the most nodes: no change takes
+    /// memory for the list.
     list: Vec<Entry>,
     /// How many bytes spell the tree.
     spelled: usize,
@@ -54,7 +58,7 @@ impl Model for Tree {
     ghost coded = { coded_tree };
 
     ghost use Rattle.syn_tree.specs.Pairs.{tree_with};
-    ghost use Rattle.syn_tree.specs.Kept.{IsKept};
+    ghost use Rattle.syn_tree.specs.inner.Kept.{IsKept};
 
     ghost view = { λ t. tree_with t.list.items };
 
@@ -87,7 +91,8 @@ impl Tree {
         self.list.as_slice()
     }
 
-    /// What stands below the path, without what is at it, in path order; nothing where no directory is there.
+    /// What stands below the path, without what is at it, in path order; nothing where no directory
+    /// is there.
     pub fn below(&self, path: &Path) -> &[Entry]
         ensures { result.now ≡ filter (is_below path.now) (entries self.now) }
     {
@@ -116,7 +121,8 @@ impl Tree {
         self.spelled
     }
 
-    /// Why nothing may be put at the path or taken from it: it is the root (6), or its parent is no directory (2).
+    /// Why nothing may be put at the path or taken from it: it is the root (6), or its parent is no
+    /// directory (2).
     fn check_place(&self, path: &Path) -> Result<(), TreeError>
         ensures { refusal_in result ≡ first_cause (place_causes self.now path.now) }
     {
@@ -130,12 +136,14 @@ impl Tree {
         }
     }
 
-    /// Whether the limits are kept where so many nodes, spelled with so many bytes, take the place of what is at the path.
+    /// Whether the limits are kept where so many nodes, spelled with so many bytes, take the place
+    /// of what is at the path.
     fn fits(&self, path: &Path, nodes: usize, size: usize) -> bool
         requires place { first_cause (place_causes self.now path.now) ≡ None }
         requires nodes { nodes < 2 ^ 62 }
         requires size { size < 2 ^ 62 }
-        ensures { (new : Pairs) → IsMeasured path.now new nodes size → result ≡ fits_replica (replace self.now path.now new) }
+        ensures { (new : Pairs) → IsMeasured path.now new nodes size → result
+            ≡ fits_replica (replace self.now path.now new) }
     {
         let part = part_at(&self.list, path.names());
         let count = self.list.len() - part.len() + nodes;
@@ -146,9 +154,9 @@ impl Tree {
 
     /// Why the edit is refused, with no change and no memory taken.
     ///
-    /// Refused 6 at the root, 2 where the parent is no directory, 3 where a file would take the place of a directory,
-    /// 4 where a directory would be made where something is, 5 where nothing is there to remove,
-    /// and 7 where the tree would pass a limit.
+    /// Refused 6 at the root, 2 where the parent is no directory, 3 where a file would take the
+    /// place of a directory, 4 where a directory would be made where something is, 5 where nothing
+    /// is there to remove, and 7 where the tree would pass a limit.
     pub fn check(&self, edit: &Edit) -> Result<(), TreeError>
         ensures { refusal_in result ≡ edit_refusal self.now (edit_of edit.now) }
     {
@@ -168,7 +176,8 @@ impl Tree {
 
     /// Why a file of so many bytes is not put.
     fn check_put(&self, path: &Path, size: usize) -> Result<(), TreeError>
-        ensures { (bytes : List ℕ) → length bytes ≡ size → refusal_in result ≡ edit_refusal self.now (Put path.now bytes) }
+        ensures { (bytes : List ℕ) → length bytes ≡ size → refusal_in result
+            ≡ edit_refusal self.now (Put path.now bytes) }
     {
         self.check_place(path)?;
         if self.is_directory_at(path) {
@@ -217,9 +226,11 @@ impl Tree {
     /// Refused as `check` refuses it, and 11 where memory is refused.
     pub fn prepare(&self, alloc: Global, edit: Edit) -> Result<Change, TreeError>
         ensures ready { IfOk result (λ change. IsPreparedFor self.now change) }
-        ensures gives { IfOk result (λ change. after_change self.now change ≡ after_edit self.now (edit_of edit)) }
+        ensures gives { IfOk result (λ change. after_change self.now change
+            ≡ after_edit self.now (edit_of edit)) }
         ensures allowed { IfOk result (λ _. edit_refusal self.now (edit_of edit) ≡ None) }
-        ensures refused { IfErr result (λ e. e ≢ TreeError.Memory → edit_refusal self.now (edit_of edit) ≡ Some (refusal_of e)) }
+        ensures refused { IfErr result (λ e. e ≢ TreeError.Memory
+            → edit_refusal self.now (edit_of edit) ≡ Some (refusal_of e)) }
     {
         self.check(&edit)?;
         match edit {
@@ -232,9 +243,11 @@ impl Tree {
         }
     }
 
-    /// The replacement of all that is at and below the path, ready to be made, with all memory for it. The tree stays as it is.
+    /// The replacement of all that is at and below the path, ready to be made, with all memory for
+    /// it. The tree stays as it is.
     ///
-    /// Refused 6 at the root, 2 where the parent is no directory, 7 where the tree would pass a limit, and 11 where memory is refused.
+    /// Refused 6 at the root, 2 where the parent is no directory, 7 where the tree would pass a
+    /// limit, and 11 where memory is refused.
     pub fn prepare_replace(
         &self,
         alloc: Global,
@@ -244,8 +257,10 @@ impl Tree {
         ensures ready { IfOk result (λ change. IsPreparedFor self.now change) }
         ensures at { IfOk result (λ change. change.at ≡ path.now) }
         ensures new { IfOk result (λ change. change.new ≡ part_of new) }
-        ensures allowed { IfOk result (λ _. replace_refusal self.now path.now (part_of new) ≡ None) }
-        ensures refused { IfErr result (λ e. e ≢ TreeError.Memory → replace_refusal self.now path.now (part_of new) ≡ Some (refusal_of e)) }
+        ensures allowed { IfOk result (λ _.
+            replace_refusal self.now path.now (part_of new) ≡ None) }
+        ensures refused { IfErr result (λ e. e ≢ TreeError.Memory
+            → replace_refusal self.now path.now (part_of new) ≡ Some (refusal_of e)) }
     {
         self.check_place(path)?;
         let at = path.copy(alloc)?;
@@ -277,7 +292,8 @@ impl Tree {
         ensures done { OnOk result (self.new ≡ after_edit self.old (edit_of edit)) }
         ensures same { OnErr result (self.new ≡ self.old) }
         ensures allowed { OnOk result (edit_refusal self.old (edit_of edit) ≡ None) }
-        ensures refused { IfErr result (λ e. e ≢ TreeError.Memory → edit_refusal self.old (edit_of edit) ≡ Some (refusal_of e)) }
+        ensures refused { IfErr result (λ e. e ≢ TreeError.Memory
+            → edit_refusal self.old (edit_of edit) ≡ Some (refusal_of e)) }
     {
         let change = self.prepare(alloc, edit)?;
         self.make(change);
@@ -286,8 +302,8 @@ impl Tree {
 
     /// Puts what is given in the place of all that is at and below the path, or takes it out.
     ///
-    /// Refused 6 at the root, 2 where the parent is no directory, 7 where the tree would pass a limit, and 11 where memory is refused;
-    /// then nothing changes.
+    /// Refused 6 at the root, 2 where the parent is no directory, 7 where the tree would pass a
+    /// limit, and 11 where memory is refused; then nothing changes.
     pub fn replace(
         &mut self,
         alloc: Global,
@@ -297,7 +313,8 @@ impl Tree {
         ensures done { OnOk result (self.new ≡ replace self.old path.now (part_of new)) }
         ensures same { OnErr result (self.new ≡ self.old) }
         ensures allowed { OnOk result (replace_refusal self.old path.now (part_of new) ≡ None) }
-        ensures refused { IfErr result (λ e. e ≢ TreeError.Memory → replace_refusal self.old path.now (part_of new) ≡ Some (refusal_of e)) }
+        ensures refused { IfErr result (λ e. e ≢ TreeError.Memory
+            → replace_refusal self.old path.now (part_of new) ≡ Some (refusal_of e)) }
     {
         let change = self.prepare_replace(alloc, path, new)?;
         self.make(change);
@@ -310,7 +327,8 @@ impl Tree {
     pub fn list(&self, alloc: Global, path: &Path) -> Result<Vec<(Name, bool)>, TreeError>
         ensures names { IfOk result (λ names. names.items ≡ listing self.now path.now) }
         ensures directory { OnOk result (is_directory self.now path.now ≡ true) }
-        ensures absent { (result ≡ Err TreeError.Absent) ↔ (is_directory self.now path.now ≡ false) }
+        ensures absent { (result ≡ Err TreeError.Absent)
+            ↔ (is_directory self.now path.now ≡ false) }
         ensures refusals { IfErr result (λ e. (e ≡ TreeError.Absent) ⊎ (e ≡ TreeError.Memory)) }
     {
         match self.get(path) {
@@ -347,7 +365,8 @@ impl Tree {
     pub fn from_entries(alloc: Global, entries: Entries) -> Result<Tree, TreeError>
         ensures ok { IfOk result (λ tree. tree ≡ entries) }
         ensures fits { OnOk result (fits_replica entries ≡ true) }
-        ensures refused { IfErr result (λ e. e ≢ TreeError.Memory → (e ≡ TreeError.Full) × (fits_replica entries ≡ false)) }
+        ensures refused { IfErr result (λ e. e ≢ TreeError.Memory → (e ≡ TreeError.Full)
+            × (fits_replica entries ≡ false)) }
     {
         let mut list = entries.into_vec();
         let Some(below) = measured(&list) else {
@@ -372,10 +391,14 @@ fn is_within_limits(count: usize, length: usize, room: bool) -> bool
     count <= MOST_BELOW && length <= LONGEST_SPELLING && room
 }
 
-/// The directory of the path has a place for what is put there, where something stands there or it has not the most entries.
+/// The directory of the path has a place for what is put there, where something stands there or it
+/// has not the most entries.
 fn has_room(list: &[Entry], path: &Path, stands: bool, nodes: usize) -> bool
     requires { AreRising list.now }
-    ensures { result ≡ (stands || (not (nat_lt 0 nodes) || nat_lt (count_by (λ pair. is_child (parent path.now) pair.0) list.now) 256)) }
+    ensures { result
+        ≡
+        (stands || (not (nat_lt 0 nodes) || nat_lt
+        (count_by (λ pair. is_child (parent path.now) pair.0) list.now) 256)) }
 {
     stands || nodes == 0 || has_place(list, parent_names(path))
 }

@@ -23,7 +23,7 @@ use Rattle.syn_tree.proofs.TreeLemmas.{entries-rising, entries-subtree, get-risi
 use Rattle.syn_wire.specs.Events.{IsFile, file_spelling}
 use Rattle.syn_wire.specs.Reads.{BeginsWith}
 use Rattle.syn_wire.specs.Trees.{last_name_spelling}
-use Rattle.syn_wire.specs.Parts.{IsChildOf, PartIsRead, PartsAreRead}
+use Rattle.syn_wire.specs.inner.Parts.{IsChildOf, PartIsRead, PartsAreRead}
 use Rattle.syn_wire.proofs.GroupLemmas.{tops}
 use Rattle.syn_wire.proofs.PartsLemmas.{child_name, own_pair}
 

@@ -22,7 +22,7 @@ use Rattle.syn_tree.proofs.TreeLemmas.{entries-absent, entries-one, from_entries
 use Rattle.syn_wire.specs.Events.{IsFile, file_spelling}
 use Rattle.syn_wire.specs.Reads.{BeginsWith, IsReading}
 use Rattle.syn_wire.specs.Trees.{NoTreeBeginsAnother, IsDirectoryTree, IsOptionalTree, IsWholeTree}
-use Rattle.syn_wire.specs.Parts.{ReadsParts, PartsAreRead, StandsAt, parts_pairs, parts_spelling}
+use Rattle.syn_wire.specs.inner.Parts.{ReadsParts, PartsAreRead, StandsAt, parts_pairs, parts_spelling}
 use Rattle.syn_wire.proofs.EventLemmas.{file_tells}
 use Rattle.syn_wire.proofs.NameLemmas.{first_or}
 use Rattle.syn_wire.proofs.NodeLemmas.{file_spelled}

@@ -7,7 +7,7 @@ use Rattle.std.proofs.lemmas.List.{length-append}
 use Rattle.std.proofs.lemmas.Grind.{flat_map-append}
 use Rattle.syn_model.specs.Path.{Bytes, Name, Path, IsName, IsPath, path_spelling}
 use Rattle.syn_wire.specs.Reads.{BeginsWith, NoneBeginsAnother}
-use Rattle.syn_wire.specs.Names.{AreNames, name_spelling, names_spelling}
+use Rattle.syn_wire.specs.inner.Names.{AreNames, name_spelling, names_spelling}
 
 -- lists of one length that go on to one list are one, and so is what follows
 pub split : (a b r s : Bytes) → length a ≡ length b → a ++ r ≡ b ++ s → (a ≡ b) × (r ≡ s)

@@ -21,10 +21,10 @@ use Rattle.syn_model.proofs.SpellingLemmas.{spelling_unfolds}
 use Rattle.syn_tree.specs.Pairs.{Pairs, under}
 use Rattle.syn_tree.proofs.RisingLemmas.{each-map}
 use Rattle.syn_wire.specs.Events.{IsFile, file_spelling}
-use Rattle.syn_wire.specs.Names.{name_spelling}
+use Rattle.syn_wire.specs.inner.Names.{name_spelling}
 use Rattle.syn_wire.specs.Reads.{BeginsWith, IsReading, NoneBeginsAnother}
 use Rattle.syn_wire.specs.Trees.{last_name_spelling}
-use Rattle.syn_wire.specs.Parts.{IsChildOf, Parts, ReadsPart, ReadsParts, StandIn, StandsAt, parts_pairs, parts_spelling}
+use Rattle.syn_wire.specs.inner.Parts.{IsChildOf, Parts, ReadsPart, ReadsParts, StandIn, StandsAt, parts_pairs, parts_spelling}
 use Rattle.syn_wire.proofs.GroupLemmas.{is_rooted, file_alone, directory_grouped}
 use Rattle.syn_wire.proofs.NameLemmas.{first_or, rest_of, names_tell}
 use Rattle.syn_wire.proofs.WalkLemmas.{children_present}

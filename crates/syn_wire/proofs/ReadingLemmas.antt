@@ -6,7 +6,7 @@ use Rattle.syn_model.specs.Tree.{Pair, Directory, File, contents_of}
 use Rattle.syn_tree.specs.Pairs.{Pairs, under}
 use Rattle.syn_wire.specs.Events.{IsFile, file_spelling}
 use Rattle.syn_wire.specs.Reads.{BeginsWith, IsReading}
-use Rattle.syn_wire.specs.Parts.{ReadsPart, ReadsParts, parts_pairs, parts_spelling}
+use Rattle.syn_wire.specs.inner.Parts.{ReadsPart, ReadsParts, parts_pairs, parts_spelling}
 use Rattle.syn_wire.proofs.EventLemmas.{file_tells}
 use Rattle.syn_wire.proofs.NumberLemmas.{u16_tells}
 use Rattle.syn_wire.proofs.PartsLemmas.{own_pair, file_at, directory_at, parts_in, parts_stand, under_parts, one_kind}

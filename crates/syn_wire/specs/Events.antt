@@ -3,7 +3,8 @@ use Rattle.std.specs.Prelude.{◌≡◌, ℕ, ◌<◌, ◌^◌, true, List, ◌+
 use Rattle.std.specs.Int.{to_be_bytes, w32, w64}
 use Rattle.syn_model.specs.Path.{Bytes}
 use Rattle.syn_model.specs.Limits.{fits_part, fits_paths}
-use Rattle.syn_model.specs.Event.{AreBytes, Event, Edited, Began, Replaced, Put, MakeDir, Remove, IsLawfulEvent}
+use Rattle.syn_model.specs.Event.{AreBytes, Event, Edited, Began, Replaced, Put, MakeDir, Remove}
+use Rattle.syn_model.specs.Event.{IsLawfulEvent}
 
 abbrev pub IsNumber32 : ℕ → Type 0
 IsNumber32 n = n < 2 ^ 32
@@ -32,7 +33,8 @@ pub record IsFile (file : Bytes) : Type 0 where
 abbrev pub file_spelling : Bytes → Bytes
 file_spelling bytes = to_be_bytes w32 (length bytes) ++ bytes
 
--- what is put has a length that four bytes spell, and a part keeps the limits of each file and directory and of its own paths
+-- what is put has a length that four bytes spell, and a part keeps the limits of each file and
+-- directory and of its own paths
 abbrev pub IsShort : Event → Type 0
 IsShort (Edited user (Put path bytes)) = length bytes < 2 ^ 32
 IsShort (Edited user (MakeDir path)) = Unit {0}

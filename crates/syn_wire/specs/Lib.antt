@@ -1,7 +1,6 @@
 pub mod Refusals
 pub mod Reads
-pub mod Names
 pub mod Laws
 pub mod Events
 pub mod Trees
-pub mod Parts
+pub mod inner

@@ -3,8 +3,10 @@ use Rattle.std.specs.Prelude.{◌≡◌, ℕ, true, [], ◌∷◌, ◌++◌, len
 use Rattle.std.specs.Int.{to_be_bytes, w16, w32}
 use Rattle.std.specs.FinMap.{entries}
 use Rattle.syn_model.specs.Path.{Bytes, Path, root}
-use Rattle.syn_model.specs.Tree.{Tree, Content, Directory, File, Pair, HasParents, IsPart, IsTree, is_present}
-use Rattle.syn_model.specs.Limits.{children, fits_part, fits_paths, fits_replica, tree_spelling_length}
+use Rattle.syn_model.specs.Tree.{Tree, Content, Directory, File, Pair, HasParents, IsPart, IsTree}
+use Rattle.syn_model.specs.Tree.{is_present}
+use Rattle.syn_model.specs.Limits.{children, fits_part, fits_paths, fits_replica}
+use Rattle.syn_model.specs.Limits.{tree_spelling_length}
 use Rattle.syn_model.specs.Spelling.{spelling}
 use Rattle.syn_wire.specs.Reads.{NoneBeginsAnother}
 
@@ -16,20 +18,24 @@ last_name_spelling (name ∷ next ∷ path) = last_name_spelling (next ∷ path)
 
 -- a file with its bytes, or a directory with so many names
 abbrev pub standing_spelling : ℕ → Content → Bytes
-standing_spelling count (File contents) = 1 ∷ to_be_bytes w32 (length contents.bytes) ++ contents.bytes
+standing_spelling count (File contents) = 1 ∷ to_be_bytes w32 (length contents.bytes)
+    ++ contents.bytes
 standing_spelling count Directory = 2 ∷ to_be_bytes w16 count
 
 -- a pair of the tree, without what is below it
 abbrev pub pair_spelling : Tree → Pair → Bytes
-pair_spelling tree pair = last_name_spelling pair.0 ++ standing_spelling (length (children tree pair.0)) pair.1
+pair_spelling tree pair = last_name_spelling pair.0
+    ++ standing_spelling (length (children tree pair.0)) pair.1
 
 -- the spelling of what is there is that of one pair after the other
 abbrev pub SpellingIsWalk : Type 0
-SpellingIsWalk = (tree : Tree) → HasParents tree → is_present tree root ≡ true → spelling tree ≡ flat_map (pair_spelling tree) (entries tree)
+SpellingIsWalk = (tree : Tree) → HasParents tree → is_present tree root ≡ true → spelling tree
+    ≡ flat_map (pair_spelling tree) (entries tree)
 
 -- and is as long as the model measures
 abbrev pub SpellingIsMeasured : Type 0
-SpellingIsMeasured = (tree : Tree) → HasParents tree → is_present tree root ≡ true → length (spelling tree) ≡ tree_spelling_length tree
+SpellingIsMeasured = (tree : Tree) → HasParents tree → is_present tree root ≡ true
+    → length (spelling tree) ≡ tree_spelling_length tree
 
 -- a file, a directory with all below it, or nothing, within the limits of each and of its own paths
 pub record IsOptionalTree (t : Tree) : Type 0 where

@@ -8,7 +8,8 @@ use crate::error::WireError;
 use crate::number::{read_u32, write_u32};
 use std::alloc::Global;
 
-// The bytes behind their length, and the rest. Takes no memory, so that a length is believed only once its bytes are seen.
+// The bytes behind their length, and the rest. Takes no memory, so that a length is believed only
+// once its bytes are seen.
 pub(crate) fn split_file(bytes: &[u8]) -> Option<(&[u8], &[u8])>
     ensures { IsReading IsFile file_spelling bytes.now
         (option_map (λ found. (found.0.now, found.1.now)) result) }
@@ -27,7 +28,8 @@ pub(crate) fn split_file(bytes: &[u8]) -> Option<(&[u8], &[u8])>
 pub(crate) fn read_file(alloc: Global, bytes: &[u8]) -> Result<Option<(Vec<u8>, &[u8])>, WireError>
     ensures read { IfOk result (λ read. IsReading IsFile file_spelling bytes.now
         (option_map (λ found. (found.0.items, found.1.now)) read)) }
-    ensures memory { IfErr result (λ _. (file : _) × (rest : _) × BeginsWith IsFile file_spelling bytes.now file rest) }
+    ensures memory { IfErr result (λ _. (file : _) × (rest : _)
+        × BeginsWith IsFile file_spelling bytes.now file rest) }
 {
     let Some((file, rest)) = split_file(bytes) else {
         return Ok(None);

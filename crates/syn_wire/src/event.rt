@@ -5,7 +5,9 @@ ghost use Rattle.syn_model.specs.Event.{Edited, IsLawfulEdit, IsLawfulToken};
 ghost use Rattle.syn_model.specs.Spelling.{event_spelling, token_spelling};
 ghost use Rattle.syn_tree.specs.Edits.{edit_of};
 ghost use Rattle.syn_history.specs.Events.{event_of, token_of};
-ghost use Rattle.syn_wire.specs.Events.{Both, IsFile, IsNumber32, IsNumber64, IsShort, IsSpelledEvent, both_spelling, file_spelling, number_spelling, number64_spelling};
+ghost use Rattle.syn_wire.specs.Events.{Both, IsFile, IsNumber32, IsNumber64, IsShort};
+ghost use Rattle.syn_wire.specs.Events.{IsSpelledEvent, both_spelling, file_spelling};
+ghost use Rattle.syn_wire.specs.Events.{number_spelling, number64_spelling};
 ghost use Rattle.syn_wire.specs.Reads.{IsReading};
 
 use crate::bytes::{read_file, write_file};
@@ -67,7 +69,8 @@ pub fn encode_event(alloc: Global, event: &Event) -> Result<Vec<u8>, WireError>
 /// Refused 11 where memory is refused.
 pub fn encode_edit(alloc: Global, user: u32, edit: &Edit) -> Result<Vec<u8>, WireError>
     requires { IsShort (Edited user (edit_of edit.now)) }
-    ensures spelling { IfOk result (λ bytes. bytes.items ≡ event_spelling (Edited user (edit_of edit.now))) }
+    ensures spelling { IfOk result (λ bytes. bytes.items
+        ≡ event_spelling (Edited user (edit_of edit.now))) }
     ensures lawful { OnOk result (IsLawfulEdit (edit_of edit.now)) }
 {
     let mut out = Vec::new(alloc);
@@ -100,11 +103,13 @@ pub fn edit_length(edit: &Edit) -> usize
     }
 }
 
-/// The event that the bytes begin with, and the rest; none where no front of them is the spelling of an event.
+/// The event that the bytes begin with, and the rest; none where no front of them is the spelling
+/// of an event.
 ///
 /// Refused 11 where memory is refused.
 pub fn decode_event(alloc: Global, bytes: &[u8]) -> Result<Option<(Event, &[u8])>, WireError>
-    ensures { IfOk result (λ read. IsReading IsSpelledEvent event_spelling bytes.now (option_map (λ found. (event_of found.0, found.1.now)) read)) }
+    ensures { IfOk result (λ read. IsReading IsSpelledEvent event_spelling bytes.now
+        (option_map (λ found. (event_of found.0, found.1.now)) read)) }
 {
     let [kind, fields @ ..] = bytes else {
         return Ok(None);
@@ -121,7 +126,8 @@ pub fn decode_event(alloc: Global, bytes: &[u8]) -> Result<Option<(Event, &[u8])
 
 // What follows the kind of a put.
 fn read_put(alloc: Global, fields: &[u8]) -> Result<Option<(Event, &[u8])>, WireError>
-    ensures { IfOk result (λ read. IsReading IsSpelledEvent event_spelling (PUT ∷ fields.now) (option_map (λ found. (event_of found.0, found.1.now)) read)) }
+    ensures { IfOk result (λ read. IsReading IsSpelledEvent event_spelling (PUT ∷ fields.now)
+        (option_map (λ found. (event_of found.0, found.1.now)) read)) }
 {
     match read_placed_file(alloc, fields)? {
         Some((user, path, bytes, rest)) => Ok(Some((
@@ -136,7 +142,8 @@ fn read_put(alloc: Global, fields: &[u8]) -> Result<Option<(Event, &[u8])>, Wire
 }
 
 fn read_make_dir(alloc: Global, fields: &[u8]) -> Result<Option<(Event, &[u8])>, WireError>
-    ensures { IfOk result (λ read. IsReading IsSpelledEvent event_spelling (MAKE_DIR ∷ fields.now) (option_map (λ found. (event_of found.0, found.1.now)) read)) }
+    ensures { IfOk result (λ read. IsReading IsSpelledEvent event_spelling (MAKE_DIR ∷ fields.now)
+        (option_map (λ found. (event_of found.0, found.1.now)) read)) }
 {
     match read_place(alloc, fields)? {
         Some((user, path, rest)) => Ok(Some((
@@ -151,7 +158,8 @@ fn read_make_dir(alloc: Global, fields: &[u8]) -> Result<Option<(Event, &[u8])>,
 }
 
 fn read_remove(alloc: Global, fields: &[u8]) -> Result<Option<(Event, &[u8])>, WireError>
-    ensures { IfOk result (λ read. IsReading IsSpelledEvent event_spelling (REMOVE ∷ fields.now) (option_map (λ found. (event_of found.0, found.1.now)) read)) }
+    ensures { IfOk result (λ read. IsReading IsSpelledEvent event_spelling (REMOVE ∷ fields.now)
+        (option_map (λ found. (event_of found.0, found.1.now)) read)) }
 {
     match read_place(alloc, fields)? {
         Some((user, path, rest)) => Ok(Some((
@@ -166,14 +174,16 @@ fn read_remove(alloc: Global, fields: &[u8]) -> Result<Option<(Event, &[u8])>, W
 }
 
 fn read_began(fields: &[u8]) -> Option<(Event, &[u8])>
-    ensures { IsReading IsSpelledEvent event_spelling (BEGAN ∷ fields.now) (option_map (λ found. (event_of found.0, found.1.now)) result) }
+    ensures { IsReading IsSpelledEvent event_spelling (BEGAN ∷ fields.now)
+        (option_map (λ found. (event_of found.0, found.1.now)) result) }
 {
     let (session, rest) = read_u64(fields)?;
     Some((Event::Began { session }, rest))
 }
 
 fn read_replaced(alloc: Global, fields: &[u8]) -> Result<Option<(Event, &[u8])>, WireError>
-    ensures { IfOk result (λ read. IsReading IsSpelledEvent event_spelling (REPLACED ∷ fields.now) (option_map (λ found. (event_of found.0, found.1.now)) read)) }
+    ensures { IfOk result (λ read. IsReading IsSpelledEvent event_spelling (REPLACED ∷ fields.now)
+        (option_map (λ found. (event_of found.0, found.1.now)) read)) }
 {
     let Some((token, path, since, after)) = read_since(alloc, fields)? else {
         return Ok(None);
@@ -194,7 +204,8 @@ fn read_replaced(alloc: Global, fields: &[u8]) -> Result<Option<(Event, &[u8])>,
 
 // A token, a path and a position.
 fn read_since(alloc: Global, bytes: &[u8]) -> Result<Option<(Token, Path, u64, &[u8])>, WireError>
-    ensures { IfOk result (λ read. IsReading (Both (Both IsLawfulToken IsPath) IsNumber64) (both_spelling (both_spelling token_spelling path_spelling) number64_spelling) bytes.now
+    ensures { IfOk result (λ read. IsReading (Both (Both IsLawfulToken IsPath) IsNumber64)
+        (both_spelling (both_spelling token_spelling path_spelling) number64_spelling) bytes.now
         (option_map (λ found. (((token_of found.0, found.1), found.2), found.3.now)) read)) }
 {
     let Some((token, path, after)) = read_item(alloc, bytes)? else {
@@ -208,7 +219,8 @@ fn read_since(alloc: Global, bytes: &[u8]) -> Result<Option<(Token, Path, u64, &
 
 // A token and a path.
 fn read_item(alloc: Global, bytes: &[u8]) -> Result<Option<(Token, Path, &[u8])>, WireError>
-    ensures { IfOk result (λ read. IsReading (Both IsLawfulToken IsPath) (both_spelling token_spelling path_spelling) bytes.now
+    ensures { IfOk result (λ read. IsReading (Both IsLawfulToken IsPath)
+        (both_spelling token_spelling path_spelling) bytes.now
         (option_map (λ found. ((token_of found.0, found.1), found.2.now)) read)) }
 {
     let Some((token, after)) = read_token(bytes) else {
@@ -222,7 +234,8 @@ fn read_item(alloc: Global, bytes: &[u8]) -> Result<Option<(Token, Path, &[u8])>
 
 // The number of a session, and that of its item.
 fn read_token(bytes: &[u8]) -> Option<(Token, &[u8])>
-    ensures { IsReading IsLawfulToken token_spelling bytes.now (option_map (λ found. (token_of found.0, found.1.now)) result) }
+    ensures { IsReading IsLawfulToken token_spelling bytes.now
+        (option_map (λ found. (token_of found.0, found.1.now)) result) }
 {
     let (session, after) = read_u64(bytes)?;
     let (item, rest) = read_u32(after)?;
@@ -240,7 +253,8 @@ fn write_token(out: &mut Vec<u8>, token: &Token) -> Result<(), WireError>
 
 // A user and a path.
 fn read_place(alloc: Global, bytes: &[u8]) -> Result<Option<(u32, Path, &[u8])>, WireError>
-    ensures { IfOk result (λ read. IsReading (Both IsNumber32 IsPath) (both_spelling number_spelling path_spelling) bytes.now
+    ensures { IfOk result (λ read. IsReading (Both IsNumber32 IsPath)
+        (both_spelling number_spelling path_spelling) bytes.now
         (option_map (λ found. ((found.0, found.1), found.2.now)) read)) }
 {
     spelling_laws();
@@ -258,7 +272,8 @@ fn read_placed_file(
     alloc: Global,
     bytes: &[u8],
 ) -> Result<Option<(u32, Path, Vec<u8>, &[u8])>, WireError>
-    ensures { IfOk result (λ read. IsReading (Both (Both IsNumber32 IsPath) IsFile) (both_spelling (both_spelling number_spelling path_spelling) file_spelling) bytes.now
+    ensures { IfOk result (λ read. IsReading (Both (Both IsNumber32 IsPath) IsFile)
+        (both_spelling (both_spelling number_spelling path_spelling) file_spelling) bytes.now
         (option_map (λ found. (((found.0, found.1), found.2.items), found.3.now)) read)) }
 {
     spelling_laws();
@@ -273,7 +288,8 @@ fn read_placed_file(
 
 // Adds a user and a path.
 fn write_place(out: &mut Vec<u8>, user: u32, path: &Path) -> Result<(), WireError>
-    ensures added { OnOk result (out.new.items ≡ out.old.items ++ both_spelling number_spelling path_spelling (user, path.now)) }
+    ensures added { OnOk result (out.new.items ≡ out.old.items
+        ++ both_spelling number_spelling path_spelling (user, path.now)) }
     ensures lawful { OnOk result (IsPath path.now) }
 {
     write_u32(out, user)?;

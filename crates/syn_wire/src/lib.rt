@@ -1,9 +1,11 @@
 //! The one spelling of a value in bytes: what is written, and what is read from it.
 //!
-//! All numbers are big-endian. Each value has one spelling, and no spelling of a value begins another.
+//! All numbers are big-endian. Each value has one spelling, and no spelling of a value begins
+//! another.
 #![tactic(auto)]
 
-ghost use Rattle.syn_wire.specs.Laws.{NoU16BeginsAnother, NoU32BeginsAnother, NoU64BeginsAnother, NoPathBeginsAnother, NoEventBeginsAnother};
+ghost use Rattle.syn_wire.specs.Laws.{NoU16BeginsAnother, NoU32BeginsAnother, NoU64BeginsAnother};
+ghost use Rattle.syn_wire.specs.Laws.{NoPathBeginsAnother, NoEventBeginsAnother};
 ghost use Rattle.syn_wire.specs.Trees.{NoTreeBeginsAnother, SpellingIsWalk, SpellingIsMeasured};
 
 mod bytes;

@@ -1,5 +1,5 @@
-//! Whole numbers of two, four and eight bytes, the highest byte first. All numbers of a spelling are read and
-//! written here.
+//! Whole numbers of two, four and eight bytes, the highest byte first. All numbers of a spelling
+//! are read and written here.
 ghost use Rattle.std.specs.Prelude.{◌≡◌, ◌<◌, ◌^◌, ◌++◌, OnOk, option_map};
 ghost use Rattle.std.specs.Int.{to_be_bytes, w16, w32, w64};
 ghost use Rattle.syn_wire.specs.Reads.{IsBeginning, IsReading};

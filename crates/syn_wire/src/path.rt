@@ -2,18 +2,20 @@
 ghost use Rattle.std.specs.Prelude.{◌≡◌, ◌≤◌, ◌++◌, length, IfOk, OnOk, option_map};
 ghost use Rattle.syn_model.specs.Path.{IsName, IsPath, path_spelling};
 ghost use Rattle.syn_wire.specs.Reads.{IsBeginning, IsReading};
-ghost use Rattle.syn_wire.specs.Names.{AreNames, name_spelling, names_spelling};
+ghost use Rattle.syn_wire.specs.inner.Names.{AreNames, name_spelling, names_spelling};
 
 use crate::error::WireError;
 use std::alloc::Global;
 use std::str;
 use syn_path::{Name, Path, PathError};
 
-/// The path that the bytes begin with, and the rest; none where no front of them is the spelling of a path.
+/// The path that the bytes begin with, and the rest; none where no front of them is the spelling of
+/// a path.
 ///
 /// Refused 11 where memory is refused.
 pub fn decode_path(alloc: Global, bytes: &[u8]) -> Result<Option<(Path, &[u8])>, WireError>
-    ensures { IfOk result (λ read. IsReading IsPath path_spelling bytes.now (option_map (λ found. (found.0, found.1.now)) read)) }
+    ensures { IfOk result (λ read. IsReading IsPath path_spelling bytes.now
+        (option_map (λ found. (found.0, found.1.now)) read)) }
 {
     let [count, names @ ..] = bytes else {
         return Ok(None);
@@ -38,7 +40,8 @@ pub fn encode_path(alloc: Global, path: &Path) -> Result<Vec<u8>, WireError>
     Ok(out)
 }
 
-/// Adds the spelling of the path. Refused 11 where memory is refused; a beginning of it may then have been added.
+/// Adds the spelling of the path. Refused 11 where memory is refused; a beginning of it may then
+/// have been added.
 pub fn write_path(out: &mut Vec<u8>, path: &Path) -> Result<(), WireError>
     ensures added { OnOk result (out.new.items ≡ out.old.items ++ path_spelling path.now) }
     ensures kept { IsBeginning out.old.items out.new.items }
@@ -72,7 +75,8 @@ fn read_names(
     count: usize,
     bytes: &[u8],
 ) -> Result<Option<(Vec<Name>, &[u8])>, WireError>
-    ensures { IfOk result (λ read. IsReading (AreNames count) names_spelling bytes.now (option_map (λ found. (found.0.items, found.1.now)) read)) }
+    ensures { IfOk result (λ read. IsReading (AreNames count) names_spelling bytes.now
+        (option_map (λ found. (found.0.items, found.1.now)) read)) }
 {
     let mut names = Vec::new(alloc);
     let mut rest = bytes;
@@ -88,7 +92,8 @@ fn read_names(
 
 // A name behind its length, and the rest.
 pub(crate) fn read_name(alloc: Global, bytes: &[u8]) -> Result<Option<(Name, &[u8])>, WireError>
-    ensures { IfOk result (λ read. IsReading IsName name_spelling bytes.now (option_map (λ found. (found.0, found.1.now)) read)) }
+    ensures { IfOk result (λ read. IsReading IsName name_spelling bytes.now
+        (option_map (λ found. (found.0, found.1.now)) read)) }
 {
     let [length, after @ ..] = bytes else {
         return Ok(None);

@@ -36,14 +36,16 @@ pub fn encode_tree(alloc: Global, tree: &Tree) -> Result<Vec<u8>, WireError>
 /// Refused 11 where memory is refused.
 pub fn encode_node(alloc: Global, node: Option<&Node>) -> Result<Vec<u8>, WireError>
     requires { fits_part (part_of (option_map (λ there. there.now) node)) ≡ true }
-    ensures { IfOk result (λ bytes. bytes.items ≡ spelling (part_of (option_map (λ there. there.now) node.entry))) }
+    ensures { IfOk result (λ bytes. bytes.items
+        ≡ spelling (part_of (option_map (λ there. there.now) node.entry))) }
 {
     let mut out = Vec::new(alloc);
     write_node(&mut out, node)?;
     Ok(out)
 }
 
-/// Adds the spelling of the tree. Refused 11 where memory is refused; a beginning of it may then have been added.
+/// Adds the spelling of the tree. Refused 11 where memory is refused; a beginning of it may then
+/// have been added.
 pub fn write_tree(out: &mut Vec<u8>, tree: &Tree) -> Result<(), WireError>
     ensures added { OnOk result (out.new.items ≡ out.old.items ++ spelling tree.now) }
     ensures kept { IsBeginning out.old.items out.new.items }
@@ -57,11 +59,12 @@ pub fn write_tree(out: &mut Vec<u8>, tree: &Tree) -> Result<(), WireError>
     Ok(())
 }
 
-/// Adds the spelling of what stands at a path, or of nothing. Refused 11 where memory is refused; a beginning of it may then
-/// have been added.
+/// Adds the spelling of what stands at a path, or of nothing. Refused 11 where memory is refused; a
+/// beginning of it may then have been added.
 pub fn write_node(out: &mut Vec<u8>, node: Option<&Node>) -> Result<(), WireError>
     requires { fits_part (part_of (option_map (λ there. there.now) node)) ≡ true }
-    ensures added { OnOk result (out.new.items ≡ out.old.items ++ spelling (part_of (option_map (λ there. there.now) node.entry))) }
+    ensures added { OnOk result (out.new.items ≡ out.old.items
+        ++ spelling (part_of (option_map (λ there. there.now) node.entry))) }
     ensures kept { IsBeginning out.old.items out.new.items }
 {
     match node {
@@ -104,7 +107,8 @@ fn write_directory(out: &mut Vec<u8>, entries: &Entries) -> Result<(), WireError
 
 // How many names are in the directory at the entry's path. A file is spelled without a count.
 fn count_in_tree(tree: &Tree, entry: &Entry) -> usize
-    ensures spelled { standing_spelling result entry.now.1 ≡ standing_spelling (length (children tree.now entry.now.0)) entry.now.1 }
+    ensures spelled { standing_spelling result entry.now.1
+        ≡ standing_spelling (length (children tree.now entry.now.0)) entry.now.1 }
     ensures few { result ≤ length (children tree.now entry.now.0) }
 {
     match entry.content() {
@@ -115,7 +119,8 @@ fn count_in_tree(tree: &Tree, entry: &Entry) -> usize
 
 // The same below a directory.
 fn count_in_entries(entries: &Entries, entry: &Entry) -> usize
-    ensures spelled { standing_spelling result entry.now.1 ≡ standing_spelling (length (children entries.now entry.now.0)) entry.now.1 }
+    ensures spelled { standing_spelling result entry.now.1
+        ≡ standing_spelling (length (children entries.now entry.now.0)) entry.now.1 }
     ensures few { result ≤ length (children entries.now entry.now.0) }
 {
     match entry.content() {
@@ -128,7 +133,8 @@ fn count_in_entries(entries: &Entries, entry: &Entry) -> usize
 fn write_entry(out: &mut Vec<u8>, entry: &Entry, count: usize) -> Result<(), WireError>
     requires count { count < 2 ^ 16 }
     requires brief { fits_content entry.now.1 ≡ true }
-    ensures added { OnOk result (out.new.items ≡ out.old.items ++ (last_name_spelling entry.now.0 ++ standing_spelling count entry.now.1)) }
+    ensures added { OnOk result (out.new.items ≡ out.old.items
+        ++ (last_name_spelling entry.now.0 ++ standing_spelling count entry.now.1)) }
     ensures kept { IsBeginning out.old.items out.new.items }
 {
     write_last_name(out, entry.path())?;
@@ -157,7 +163,8 @@ fn write_last_name(out: &mut Vec<u8>, path: &Path) -> Result<(), WireError>
 // Adds the kind of a directory, and how many names are in it.
 fn write_count(out: &mut Vec<u8>, count: usize) -> Result<(), WireError>
     requires { count < 2 ^ 16 }
-    ensures added { OnOk result (out.new.items ≡ out.old.items ++ standing_spelling count Directory) }
+    ensures added { OnOk result (out.new.items
+        ≡ out.old.items ++ standing_spelling count Directory) }
     ensures kept { IsBeginning out.old.items out.new.items }
 {
     out.push(DIRECTORY)?;

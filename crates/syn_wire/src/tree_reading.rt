@@ -4,9 +4,10 @@ ghost use Rattle.syn_model.specs.Path.{IsName};
 ghost use Rattle.syn_model.specs.Spelling.{spelling};
 ghost use Rattle.syn_tree.specs.Nodes.{part_of};
 ghost use Rattle.syn_wire.specs.Reads.{IsReading};
-ghost use Rattle.syn_wire.specs.Names.{name_spelling};
-ghost use Rattle.syn_wire.specs.Trees.{last_name_spelling, IsDirectoryTree, IsOptionalTree, IsWholeTree};
-ghost use Rattle.syn_wire.specs.Parts.{IsChildOf, ReadsPart, ReadsParts, PartIsRead, PartsAreRead};
+ghost use Rattle.syn_wire.specs.inner.Names.{name_spelling};
+ghost use Rattle.syn_wire.specs.Trees.{last_name_spelling, IsDirectoryTree, IsOptionalTree};
+ghost use Rattle.syn_wire.specs.Trees.{IsWholeTree};
+ghost use Rattle.syn_wire.specs.inner.Parts.{IsChildOf, ReadsPart, ReadsParts, PartIsRead, PartsAreRead};
 
 use crate::bytes::read_file;
 use crate::error::WireError;
@@ -21,11 +22,13 @@ use syn_tree::{Content, Entries, Entry, Node, Tree, TreeError};
 // The most bytes of a file.
 const LONGEST_FILE: usize = 16_384;
 
-/// The tree that the bytes begin with, and the rest; none where no front of them is the spelling of a tree within all limits of a replica.
+/// The tree that the bytes begin with, and the rest; none where no front of them is the spelling of
+/// a tree within all limits of a replica.
 ///
 /// Refused 11 where memory is refused.
 pub fn decode_tree(alloc: Global, bytes: &[u8]) -> Result<Option<(Tree, &[u8])>, WireError>
-    ensures { IfOk result (λ read. IsReading IsWholeTree spelling bytes.now (option_map (λ found. (found.0, found.1.now)) read)) }
+    ensures { IfOk result (λ read. IsReading IsWholeTree spelling bytes.now
+        (option_map (λ found. (found.0, found.1.now)) read)) }
 {
     let [kind, fields @ ..] = bytes else {
         return Ok(None);
@@ -36,12 +39,14 @@ pub fn decode_tree(alloc: Global, bytes: &[u8]) -> Result<Option<(Tree, &[u8])>,
     }
 }
 
-/// What the bytes begin with, a file, a directory with all below it or nothing, and the rest; none where no front of them is the
-/// spelling of one that keeps the limits of each file and directory, and of its paths as they are taken from its root.
+/// What the bytes begin with, a file, a directory with all below it or nothing, and the rest; none
+/// where no front of them is the spelling of one that keeps the limits of each file and directory,
+/// and of its paths as they are taken from its root.
 ///
 /// Refused 11 where memory is refused.
 pub fn decode_node(alloc: Global, bytes: &[u8]) -> Result<Option<(Option<Node>, &[u8])>, WireError>
-    ensures { IfOk result (λ read. IsReading IsOptionalTree spelling bytes.now (option_map (λ found. (part_of found.0, found.1.now)) read)) }
+    ensures { IfOk result (λ read. IsReading IsOptionalTree spelling bytes.now
+        (option_map (λ found. (part_of found.0, found.1.now)) read)) }
 {
     let [kind, fields @ ..] = bytes else {
         return Ok(None);
@@ -56,7 +61,8 @@ pub fn decode_node(alloc: Global, bytes: &[u8]) -> Result<Option<(Option<Node>, 
 
 // What follows the kind of a file.
 fn read_file_node(alloc: Global, fields: &[u8]) -> Result<Option<(Option<Node>, &[u8])>, WireError>
-    ensures { IfOk result (λ read. IsReading IsOptionalTree spelling (FILE ∷ fields.now) (option_map (λ found. (part_of found.0, found.1.now)) read)) }
+    ensures { IfOk result (λ read. IsReading IsOptionalTree spelling (FILE ∷ fields.now)
+        (option_map (λ found. (part_of found.0, found.1.now)) read)) }
 {
     let Some((bytes, rest)) = read_file(alloc, fields)? else {
         return Ok(None);
@@ -72,7 +78,8 @@ fn read_directory_node(
     alloc: Global,
     fields: &[u8],
 ) -> Result<Option<(Option<Node>, &[u8])>, WireError>
-    ensures { IfOk result (λ read. IsReading IsOptionalTree spelling (DIRECTORY ∷ fields.now) (option_map (λ found. (part_of found.0, found.1.now)) read)) }
+    ensures { IfOk result (λ read. IsReading IsOptionalTree spelling (DIRECTORY ∷ fields.now)
+        (option_map (λ found. (part_of found.0, found.1.now)) read)) }
 {
     match read_directory(alloc, fields)? {
         Some((entries, rest)) => Ok(Some((Some(Node::Dir(entries)), rest))),
@@ -82,7 +89,8 @@ fn read_directory_node(
 
 // What follows the kind of a whole tree's root.
 fn read_tree(alloc: Global, fields: &[u8]) -> Result<Option<(Tree, &[u8])>, WireError>
-    ensures { IfOk result (λ read. IsReading IsWholeTree spelling (DIRECTORY ∷ fields.now) (option_map (λ found. (found.0, found.1.now)) read)) }
+    ensures { IfOk result (λ read. IsReading IsWholeTree spelling (DIRECTORY ∷ fields.now)
+        (option_map (λ found. (found.0, found.1.now)) read)) }
 {
     spelling_laws();
     let Some((entries, rest)) = read_directory(alloc, fields)? else {
@@ -97,7 +105,8 @@ fn read_tree(alloc: Global, fields: &[u8]) -> Result<Option<(Tree, &[u8])>, Wire
 
 // What follows the kind of a directory.
 fn read_directory(alloc: Global, fields: &[u8]) -> Result<Option<(Entries, &[u8])>, WireError>
-    ensures { IfOk result (λ read. IsReading IsDirectoryTree spelling (DIRECTORY ∷ fields.now) (option_map (λ found. (found.0, found.1.now)) read)) }
+    ensures { IfOk result (λ read. IsReading IsDirectoryTree spelling (DIRECTORY ∷ fields.now)
+        (option_map (λ found. (found.0, found.1.now)) read)) }
 {
     let Some((count, below)) = read_u16(fields) else {
         return Ok(None);
@@ -114,7 +123,8 @@ fn read_directory(alloc: Global, fields: &[u8]) -> Result<Option<(Entries, &[u8]
     Ok(Some((entries, rest)))
 }
 
-// Adds so many names of a directory, each with what stands there and all below it, and answers what is left.
+// Adds so many names of a directory, each with what stands there and all below it, and answers what
+// is left.
 #[cycle(parts)]
 fn read_parts<'a>(
     alloc: Global,
@@ -123,8 +133,10 @@ fn read_parts<'a>(
     count: u16,
     bytes: &'a [u8],
 ) -> Result<Option<&'a [u8]>, WireError>
-    ensures reads { IfOk result (λ left. ReadsParts above.now count bytes.now list.old.items list.new.items (option_map (λ rest. rest.now) left)) }
-    ensures spelled { IfOk result (λ left. PartsAreRead above.now count bytes.now list.old.items list.new.items (option_map (λ rest. rest.now) left)) }
+    ensures reads { IfOk result (λ left. ReadsParts above.now count bytes.now list.old.items
+        list.new.items (option_map (λ rest. rest.now) left)) }
+    ensures spelled { IfOk result (λ left. PartsAreRead above.now count bytes.now list.old.items
+        list.new.items (option_map (λ rest. rest.now) left)) }
 {
     let mut rest = bytes;
     for _read in 0..count {
@@ -139,7 +151,8 @@ fn read_parts<'a>(
     Ok(Some(rest))
 }
 
-// Adds what stands at the path with all below it, and answers what is left. Each call goes one name deeper, and a path has at most 16.
+// Adds what stands at the path with all below it, and answers what is left. Each call goes one name
+// deeper, and a path has at most 16.
 #[cycle(parts)]
 fn read_part<'a>(
     alloc: Global,
@@ -147,8 +160,10 @@ fn read_part<'a>(
     path: Path,
     bytes: &'a [u8],
 ) -> Result<Option<&'a [u8]>, WireError>
-    ensures reads { IfOk result (λ left. ReadsPart path bytes.now list.old.items list.new.items (option_map (λ rest. rest.now) left)) }
-    ensures spelled { IfOk result (λ left. PartIsRead path bytes.now list.old.items list.new.items (option_map (λ rest. rest.now) left)) }
+    ensures reads { IfOk result (λ left. ReadsPart path bytes.now list.old.items list.new.items
+        (option_map (λ rest. rest.now) left)) }
+    ensures spelled { IfOk result (λ left. PartIsRead path bytes.now list.old.items list.new.items
+        (option_map (λ rest. rest.now) left)) }
 {
     let [kind, fields @ ..] = bytes else {
         return Ok(None);
@@ -168,8 +183,12 @@ fn read_directory_at<'a>(
     path: Path,
     fields: &'a [u8],
 ) -> Result<Option<&'a [u8]>, WireError>
-    ensures reads { IfOk result (λ left. ReadsPart path (DIRECTORY ∷ fields.now) list.old.items list.new.items (option_map (λ rest. rest.now) left)) }
-    ensures spelled { IfOk result (λ left. PartIsRead path (DIRECTORY ∷ fields.now) list.old.items list.new.items (option_map (λ rest. rest.now) left)) }
+    ensures reads { IfOk result (λ left. ReadsPart path
+        (DIRECTORY ∷ fields.now) list.old.items list.new.items
+        (option_map (λ rest. rest.now) left)) }
+    ensures spelled { IfOk result (λ left. PartIsRead path
+        (DIRECTORY ∷ fields.now) list.old.items list.new.items
+        (option_map (λ rest. rest.now) left)) }
 {
     let Some((count, below)) = read_u16(fields) else {
         return Ok(None);
@@ -186,8 +205,10 @@ fn read_file_at<'a>(
     path: Path,
     fields: &'a [u8],
 ) -> Result<Option<&'a [u8]>, WireError>
-    ensures reads { IfOk result (λ left. ReadsPart path (FILE ∷ fields.now) list.old.items list.new.items (option_map (λ rest. rest.now) left)) }
-    ensures spelled { IfOk result (λ left. PartIsRead path (FILE ∷ fields.now) list.old.items list.new.items (option_map (λ rest. rest.now) left)) }
+    ensures reads { IfOk result (λ left. ReadsPart path
+        (FILE ∷ fields.now) list.old.items list.new.items (option_map (λ rest. rest.now) left)) }
+    ensures spelled { IfOk result (λ left. PartIsRead path
+        (FILE ∷ fields.now) list.old.items list.new.items (option_map (λ rest. rest.now) left)) }
 {
     let Some((file, rest)) = read_file(alloc, fields)? else {
         return Ok(None);
@@ -202,7 +223,8 @@ fn read_child<'a>(
     above: &Path,
     bytes: &'a [u8],
 ) -> Result<Option<(Path, &'a [u8])>, WireError>
-    ensures { IfOk result (λ read. IsReading (IsChildOf above.now) last_name_spelling bytes.now (option_map (λ found. (found.0, found.1.now)) read)) }
+    ensures { IfOk result (λ read. IsReading (IsChildOf above.now) last_name_spelling bytes.now
+        (option_map (λ found. (found.0, found.1.now)) read)) }
 {
     let Some((name, rest)) = read_name(alloc, bytes)? else {
         return Ok(None);

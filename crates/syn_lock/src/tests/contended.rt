@@ -16,7 +16,8 @@ struct Round {
     is_asked: AtomicBool,
 }
 
-/// In each round the first pass holds the lock until the second has asked for it. The passes come back.
+/// In each round the first pass holds the lock until the second has asked for it. The passes come
+/// back.
 pub fn hold_while_asked<R: Threads + Wait + Clock + Sync>(
     rt: &R,
     own: &Own<Counter>,
@@ -65,7 +66,8 @@ fn one_round<R: Threads + Wait + Clock + Sync>(
     )
 }
 
-/// Enters, and leaves a while after the other has begun to ask: by then it has looked, and found the lock taken.
+/// Enters, and leaves a while after the other has begun to ask: by then it has looked, and found
+/// the lock taken.
 fn hold<R: Wait + Clock>(
     rt: &R,
     own: &Own<Counter>,

@@ -34,7 +34,8 @@ impl Grows for Counter {
 impl Counter {
     /// Adds an amount, or nothing where the sum would pass the greatest number.
     pub fn add(&mut self, amount: u64) -> bool
-        ensures { MatchBool result (self.new.count ≡ self.old.count + amount) ((self.new ≡ self.old) × (2 ^ 64 ≤ self.old.count + amount)) }
+        ensures { MatchBool result (self.new.count ≡ self.old.count + amount)
+            ((self.new ≡ self.old) × (2 ^ 64 ≤ self.old.count + amount)) }
     {
         if amount > u64::MAX - self.count {
             return false;
@@ -55,9 +56,12 @@ pub enum AddError {
 pub fn try_add(own: &Own<Counter>, pass: &mut Pass<Counter>, amount: u64) -> Result<(), AddError>
     requires { IsPassOf (id_of own.now) (origin_of own.now) pass.old }
     ensures of { IsPassOf (id_of own.now) (origin_of own.now) pass.new }
-    ensures added { OnOk result (Held (λ c d. c.count ≤ d.count) (origin_of own.now) (view_of pass.old) (view_of pass.new) (λ c d. d.count ≡ c.count + amount)) }
+    ensures added { OnOk result (Held (λ c d. c.count ≤ d.count) (origin_of own.now)
+        (view_of pass.old) (view_of pass.new) (λ c d. d.count ≡ c.count + amount)) }
     ensures busy { result ≡ Err AddError.Busy → view_of pass.new ≡ refused (view_of pass.old) }
-    ensures too_much { result ≡ Err AddError.TooMuch → Held (λ c d. c.count ≤ d.count) (origin_of own.now) (view_of pass.old) (view_of pass.new) (λ c d. (d ≡ c) × (2 ^ 64 ≤ c.count + amount)) }
+    ensures too_much { result ≡ Err AddError.TooMuch
+        → Held (λ c d. c.count ≤ d.count) (origin_of own.now) (view_of pass.old) (view_of pass.new)
+        (λ c d. (d ≡ c) × (2 ^ 64 ≤ c.count + amount)) }
 {
     let mut guard = match pass.try_enter(own) {
         Ok(guard) => guard,
@@ -77,7 +81,8 @@ pub fn try_add(own: &Own<Counter>, pass: &mut Pass<Counter>, amount: u64) -> Res
 pub fn bump<R: Wait>(rt: &R, own: &Own<Counter>, pass: &mut Pass<Counter>)
     requires { IsPassOf (id_of own.now) (origin_of own.now) pass.old }
     ensures of { IsPassOf (id_of own.now) (origin_of own.now) pass.new }
-    ensures bumped { (times : ℕ) × Held (λ c d. c.count ≤ d.count) (origin_of own.now) (refused_times (view_of pass.old) times) (view_of pass.new) (λ c d. c.count ≤ d.count) }
+    ensures bumped { (times : ℕ) × Held (λ c d. c.count ≤ d.count) (origin_of own.now)
+        (refused_times (view_of pass.old) times) (view_of pass.new) (λ c d. c.count ≤ d.count) }
 {
     let mut guard = pass.enter(rt, own);
     let _ = guard.add(1);

@@ -75,7 +75,9 @@ pub fn append<R: Wait>(
 ) -> Result<(), AllocError>
     requires { IsPassOf (id_of own.now) (origin_of own.now) pass.old }
     ensures of { IsPassOf (id_of own.now) (origin_of own.now) pass.new }
-    ensures appended { OnOk result ((times : ℕ) × Held (λ l m. IsPrefix l m) (origin_of own.now) (refused_times (view_of pass.old) times) (view_of pass.new) (λ l m. m ≡ l ++ line ∷ [])) }
+    ensures appended { OnOk result ((times : ℕ)
+        × Held (λ l m. IsPrefix l m) (origin_of own.now) (refused_times (view_of pass.old) times)
+        (view_of pass.new) (λ l m. m ≡ l ++ line ∷ [])) }
 {
     let mut guard = pass.enter(rt, own);
     let answer = guard.push(line);
@@ -109,8 +111,10 @@ pub fn append_both<R: Threads + Wait + Sync>(
 ) -> Result<(Pass<Lines>, Pass<Lines>), AllocError>
     requires first { IsPassOf (id_of own.now) (origin_of own.now) first.0 }
     requires second { IsPassOf (id_of own.now) (origin_of own.now) second.0 }
-    ensures first { IfOk result (λ passes. IsPassOf (id_of own.entry.now) (origin_of own.entry.now) passes.0) }
-    ensures second { IfOk result (λ passes. IsPassOf (id_of own.entry.now) (origin_of own.entry.now) passes.1) }
+    ensures first { IfOk result (λ passes. IsPassOf (id_of own.entry.now)
+        (origin_of own.entry.now) passes.0) }
+    ensures second { IfOk result (λ passes. IsPassOf (id_of own.entry.now)
+        (origin_of own.entry.now) passes.1) }
 {
     let (pass, lines) = first;
     let (other_pass, other_lines) = second;

@@ -9,24 +9,38 @@ pub returns-in-Err-clause-usage : goal.returns-in-Err-clause-usage
 returns-in-Err-clause-usage c =
     IfUsage-weaker c.told.result _ _ (λ e told. rw told.0 (fault_among _ _ c.in-Err.error c.in_ok-command.ensures c.in-Err.ensures.kinds told.1)) c.told.ensures.usage
 
-pub returns-in-Some-clause-ok : goal.returns-in-Some-clause-ok
-returns-in-Some-clause-ok c =
-    let asked = subcommand_is c.in-Ok.matches _ (map (λ word. word.now) c.args.words.now) c.in-Some.name.now (rows_of (found_of c.in-Some.found.now)) c.in_ok-command.ensures c.in-Ok.ensures.matches c.in-Some.ensures.name c.in-Some.ensures.rows in
-    IfOk-weaker c.line_of.result _ _ (λ line read. record {
+pub returns-clause-ok : goal.returns-clause-ok
+returns-clause-ok c =
+    let words = map (λ word. word.now) c.args.words.now in
+    let asked =
+    subcommand_is c.in-Ok.matches _ words c.in-Some.name.now
+    (rows_of (found_of c.in-Some.found.now)) c.in_ok-command.ensures c.in-Ok.ensures.matches
+    c.in-Some.ensures.name c.in-Some.ensures.rows in
+    IfOk-weaker c.asked_of.result _ _ (λ told read. record {
       taken = no_fault _ _ c.in_ok-command.ensures c.in-Ok.ensures.kinds;
-      reads = reads_found _ _ _ line asked read;
-    }) c.line_of.ensures.ok
+      reads = reads_found _ _ _ told.line asked read;
+    }) c.asked_of.ensures.ok
 
-pub returns-in-Some-clause-value : goal.returns-in-Some-clause-value
-returns-in-Some-clause-value c =
-    let asked = subcommand_is c.in-Ok.matches _ (map (λ word. word.now) c.args.words.now) c.in-Some.name.now (rows_of (found_of c.in-Some.found.now)) c.in_ok-command.ensures c.in-Ok.ensures.matches c.in-Some.ensures.name c.in-Some.ensures.rows in
-    value_is c.line_of.result _ _ c.line_of.ensures.nothing (λ nothing. (
+pub returns-clause-value : goal.returns-clause-value
+returns-clause-value c =
+    let words = map (λ word. word.now) c.args.words.now in
+    let asked =
+    subcommand_is c.in-Ok.matches _ words c.in-Some.name.now
+    (rows_of (found_of c.in-Some.found.now)) c.in_ok-command.ensures c.in-Ok.ensures.matches
+    c.in-Some.ensures.name c.in-Some.ensures.rows in
+    value_is c.asked_of.result _ _ c.asked_of.ensures.nothing (λ nothing. (
       no_fault _ _ c.in_ok-command.ensures c.in-Ok.ensures.kinds,
       nothing_read _ _ _ asked nothing,
     ))
 
-pub returns-in-Some-clause-wrong : goal.returns-in-Some-clause-wrong
-returns-in-Some-clause-wrong c =
-    let asked = subcommand_is c.in-Ok.matches _ (map (λ word. word.now) c.args.words.now) c.in-Some.name.now (rows_of (found_of c.in-Some.found.now)) c.in_ok-command.ensures c.in-Ok.ensures.matches c.in-Some.ensures.name c.in-Some.ensures.rows in
+pub returns-clause-wrong : goal.returns-clause-wrong
+returns-clause-wrong c =
+    let words = map (λ word. word.now) c.args.words.now in
+    let asked =
+    subcommand_is c.in-Ok.matches _ words c.in-Some.name.now
+    (rows_of (found_of c.in-Some.found.now)) c.in_ok-command.ensures c.in-Ok.ensures.matches
+    c.in-Some.ensures.name c.in-Some.ensures.rows in
     let taken = no_fault _ _ c.in_ok-command.ensures c.in-Ok.ensures.kinds in
-    IfErr-weaker c.line_of.result _ _ (λ error lacks. IfValue-weaker error _ _ (λ value lacks. wrong_found (map (λ word. word.now) c.args.words.now) _ _ value taken asked lacks) lacks) c.line_of.ensures.lacks
+    IfErr-weaker c.asked_of.result _ _ (λ error lacks.
+    IfValue-weaker error _ _ (λ value lacks. wrong_found words _ _ value taken asked lacks) lacks)
+    c.asked_of.ensures.lacks

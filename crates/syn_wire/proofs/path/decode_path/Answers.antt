@@ -1,7 +1,7 @@
 use Rattle.std.proofs.Common.{◌-◌, subst, option_map, slice_index_or, take, drop, length}
 use Rattle.syn_model.specs.Path.{IsPath, path_spelling}
 use Rattle.syn_wire.specs.Reads.{IsReading, BeginsWith}
-use Rattle.syn_wire.specs.Names.{AreNames, names_spelling}
+use Rattle.syn_wire.specs.inner.Names.{AreNames, names_spelling}
 use Rattle.syn_wire.proofs.NameLemmas.{path_of_names, first_and_rest}
 use Rattle.syn_wire.proofs.path.decode_path.Goals as goal
 

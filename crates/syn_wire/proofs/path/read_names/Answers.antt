@@ -1,7 +1,7 @@
 use Rattle.std.proofs.Common.{◌++◌, ap, sym, ◌∙◌, subst, option_map}
 use Rattle.syn_model.specs.Path.{IsName}
 use Rattle.syn_wire.specs.Reads.{IsReading}
-use Rattle.syn_wire.specs.Names.{AreNames, name_spelling, names_spelling}
+use Rattle.syn_wire.specs.inner.Names.{AreNames, name_spelling, names_spelling}
 use Rattle.syn_wire.proofs.NameLemmas.{next_name, one_more}
 use Rattle.syn_wire.proofs.path.read_names.Goals as goal
 

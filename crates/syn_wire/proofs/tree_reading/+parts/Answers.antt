@@ -2,7 +2,7 @@ use Rattle.std.proofs.Common.{length, option_map, subst, slice_index_or, take, d
 use Rattle.std.proofs.lemmas.Result.{IfOk-weaker}
 use Rattle.syn_wire.specs.Reads.{IsReading}
 use Rattle.syn_wire.specs.Trees.{last_name_spelling}
-use Rattle.syn_wire.specs.Parts.{IsChildOf, PartIsRead, ReadsPart}
+use Rattle.syn_wire.specs.inner.Parts.{IsChildOf, PartIsRead, ReadsPart}
 use Rattle.syn_wire.proofs.NameLemmas.{first_and_rest}
 use Rattle.syn_wire.proofs.ListedLemmas.{all_listed, directory_spelled, none_listed, one_listed}
 use Rattle.syn_wire.proofs.PartsLemmas.{no_name_left, no_part_left, none_read, part_more}

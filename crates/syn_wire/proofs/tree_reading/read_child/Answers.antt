@@ -1,6 +1,6 @@
 use Rattle.std.proofs.Common.{option_map, subst}
 use Rattle.syn_model.specs.Path.{IsName}
-use Rattle.syn_wire.specs.Names.{name_spelling}
+use Rattle.syn_wire.specs.inner.Names.{name_spelling}
 use Rattle.syn_wire.specs.Reads.{IsReading}
 use Rattle.syn_wire.proofs.PartsLemmas.{no_child, a_child, bad_child}
 use Rattle.syn_wire.proofs.tree_reading.read_child.Goals as goal

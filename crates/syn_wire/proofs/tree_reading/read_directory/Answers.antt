@@ -1,5 +1,5 @@
 use Rattle.std.proofs.Common.{option_map, subst}
-use Rattle.syn_wire.specs.Parts.{PartsAreRead, ReadsParts}
+use Rattle.syn_wire.specs.inner.Parts.{PartsAreRead, ReadsParts}
 use Rattle.syn_wire.proofs.MadeLemmas.{no_directory_read, no_parts_read, all_entries, not_made, directory_made}
 use Rattle.syn_wire.proofs.tree_reading.read_directory.Goals as goal
 

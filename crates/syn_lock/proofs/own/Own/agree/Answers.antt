@@ -1,6 +1,6 @@
 use Rattle.std.proofs.Common.{rules, ap, sym, List, subst}
 use mathlib.Core.List.{IsPrefix}
-use Rattle.syn_lock.specs.Rule.{Sat}
+use Rattle.syn_lock.specs.inner.Rule.{Sat}
 use Rattle.syn_lock.specs.declared.view.Hold.{Hold}
 use Rattle.syn_lock.specs.Locks.{origin_of}
 use Rattle.syn_lock.proofs.Keeps.{confirm_keeps}

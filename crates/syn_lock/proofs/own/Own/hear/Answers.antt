@@ -1,5 +1,5 @@
 use Rattle.std.proofs.Common.{rules, ap}
-use Rattle.syn_lock.specs.Rule.{Sat}
+use Rattle.syn_lock.specs.inner.Rule.{Sat}
 use Rattle.syn_lock.specs.Locks.{origin_of}
 use Rattle.syn_lock.proofs.Arrivals.{tell_keeps, hear_keeps}
 use Rattle.syn_lock.proofs.own.Own.hear.Goals as goal

@@ -1,5 +1,5 @@
 use Rattle.std.proofs.Common.{rules, ◌≤◌, ◌∙◌, ap, sym, subst, ◌*◌, ◌<◌}
-use Rattle.syn_lock.specs.Rule.{Sat, far}
+use Rattle.syn_lock.specs.inner.Rule.{Sat, far}
 use Rattle.syn_lock.specs.declared.view.Known.{Known}
 use Rattle.syn_lock.specs.History.{end_of}
 use Rattle.syn_lock.specs.Views.{published, outside}

@@ -3,7 +3,7 @@ use Rattle.atomic_table.specs.Table.{Allows, step}
 use mathlib.Core.Option.{none}
 use prog.Atomic.{either}
 use Rattle.syn_lock.specs.History.{IsHistory, holds_by}
-use Rattle.syn_lock.specs.Rule.{Sat, Lawful, admits}
+use Rattle.syn_lock.specs.inner.Rule.{Sat, Lawful, admits}
 use Rattle.syn_lock.specs.Locks.{id_of, origin_of}
 use Rattle.syn_lock.proofs.Arrivals.{arrive_keeps, admit_keeps}
 use Rattle.syn_lock.proofs.own.Own.pass.Goals as goal

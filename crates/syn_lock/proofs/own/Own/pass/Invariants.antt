@@ -1,5 +1,5 @@
 use Rattle.std.proofs.Common.{◌-◌, ◌≡◌, ◌≤◌, [], Some}
-use Rattle.syn_lock.specs.Rule.{counting, witness}
+use Rattle.syn_lock.specs.inner.Rule.{counting, witness}
 use Rattle.syn_lock.specs.Locks.{id_of, origin_of}
 use Rattle.syn_lock.proofs.own.Own.pass.Given as goal
 

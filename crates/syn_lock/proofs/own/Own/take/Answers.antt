@@ -1,6 +1,6 @@
 use Rattle.std.proofs.Common.{rules, ◌≡◌, subst, Some, ap, sym, ◌∙◌, ◌∷◌}
 use Rattle.atomic_table.specs.Table.{rest}
-use Rattle.syn_lock.specs.Rule.{Sat}
+use Rattle.syn_lock.specs.inner.Rule.{Sat}
 use Rattle.syn_lock.specs.History.{end_of}
 use Rattle.syn_lock.specs.Locks.{origin_of}
 use Rattle.syn_lock.proofs.Histories.{prefix_grows}

@@ -3,7 +3,7 @@ use Rattle.std.proofs.lemmas.List.{replicate_more}
 use mathlib.Core.List.{append-nil}
 use Rattle.syn_lock.specs.declared.view.View.{View}
 use Rattle.syn_lock.specs.Views.{view, entered, refused, refused_times, Sees}
-use Rattle.syn_lock.specs.Rule.{Sat, known, turned_away}
+use Rattle.syn_lock.specs.inner.Rule.{Sat, known, turned_away}
 use Rattle.syn_lock.specs.History.{hold, end_of}
 use Rattle.syn_lock.specs.Locks.{id_of, origin_of}
 use Rattle.syn_lock.proofs.own.Pass.wait.Goals as goal

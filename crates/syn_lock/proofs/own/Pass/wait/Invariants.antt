@@ -1,6 +1,6 @@
 use Rattle.std.proofs.Common.{◌≡◌, ℕ, []}
 use Rattle.syn_lock.specs.Views.{refused_times}
-use Rattle.syn_lock.specs.Rule.{known}
+use Rattle.syn_lock.specs.inner.Rule.{known}
 use Rattle.syn_lock.proofs.own.Pass.wait.Given as goal
 
 abbrev pub invariant-loop : goal.invariant-loop

@@ -1,5 +1,6 @@
 -- What is read of the parts of a tree, one behind the other.
-use Rattle.std.specs.Prelude.{◌≡◌, ℕ, true, List, [], ◌∷◌, ◌++◌, length, flat_map, Option, Some, None, IsSome}
+use Rattle.std.specs.Prelude.{◌≡◌, ℕ, true, List, [], ◌∷◌, ◌++◌, length, flat_map, Option, Some}
+use Rattle.std.specs.Prelude.{None, IsSome}
 use Rattle.std.specs.Int.{to_be_bytes, w16}
 use Rattle.std.specs.List.{AllByRecursion}
 use Rattle.std.specs.FinMap.{entries, from_sorted, get}
@@ -35,13 +36,16 @@ pub record IsChildOf (above : Path) (path : Path) : Type 0 where
   pub below : path ≡ above ++ name ∷ []
   pub lawful : IsPath path
 
--- where the bytes begin with the spelling of what may stand at a path, its pairs are added, and the rest is left
+-- where the bytes begin with the spelling of what may stand at a path, its pairs are added, and the
+-- rest is left
 abbrev pub ReadsPart : Path → Bytes → Pairs → Pairs → Option Bytes → Type 0
-ReadsPart at bytes old new left = (part : Tree) (rest : Bytes) → StandsAt at part → bytes ≡ spelling part ++ rest → (left ≡ Some rest) × (new ≡ old ++ under at (entries part))
+ReadsPart at bytes old new left = (part : Tree) (rest : Bytes) → StandsAt at part → bytes
+    ≡ spelling part ++ rest → (left ≡ Some rest) × (new ≡ old ++ under at (entries part))
 
 -- the same of so many names of a directory
 abbrev pub ReadsParts : Path → ℕ → Bytes → Pairs → Pairs → Option Bytes → Type 0
-ReadsParts at count bytes old new left = (parts : Parts) (rest : Bytes) → length parts ≡ count → StandIn at parts → bytes ≡ parts_spelling parts ++ rest →
+ReadsParts at count bytes old new left = (parts : Parts) (rest : Bytes) → length parts ≡ count
+    → StandIn at parts → bytes ≡ parts_spelling parts ++ rest →
     (left ≡ Some rest) × (new ≡ old ++ parts_pairs at parts)
 
 -- pairs of a part as they were read: the bytes spell their tree, if they stand in path order
@@ -54,10 +58,13 @@ pub record IsRead (bytes : Bytes) (pairs : Pairs) (rest : Bytes) : Type 0 where
 -- where something is left, such pairs were added
 abbrev pub PartIsRead : Path → Bytes → Pairs → Pairs → Option Bytes → Type 0
 PartIsRead at bytes old new None = Unit {0}
-PartIsRead at bytes old new (Some rest) = (pairs : Pairs) × (new ≡ old ++ under at pairs) × IsRead bytes pairs rest
+PartIsRead at bytes old new (Some rest) = (pairs : Pairs) × (new ≡ old ++ under at pairs)
+    × IsRead bytes pairs rest
 
 -- the same of so many names of a directory, which make it with its root
 abbrev pub PartsAreRead : Path → ℕ → Bytes → Pairs → Pairs → Option Bytes → Type 0
 PartsAreRead at count bytes old new None = Unit {0}
 PartsAreRead at count bytes old new (Some rest) =
-    (pairs : Pairs) × (new ≡ old ++ under at pairs) × (AreRising (rooted pairs) → 2 ∷ to_be_bytes w16 count ++ bytes ≡ spelling (from_sorted (rooted pairs)) ++ rest)
+    (pairs : Pairs) × (new ≡ old ++ under at pairs)
+    × (AreRising (rooted pairs) → 2 ∷ to_be_bytes w16 count ++ bytes
+    ≡ spelling (from_sorted (rooted pairs)) ++ rest)

@@ -1,9 +1,9 @@
--- A put of an input of which at most one byte more is read than a file may have.
+-- An edit that is asked for. Of the input of a put at most one byte more is read than a file may have.
 use Rattle.std.proofs.Common.{◌≡◌, ◌⊎◌, inl, inr, ◌<◌, ◌≤◌, ◌++◌, ◌∷◌, ◌∙◌, ℕ, Bool, true, false, not, nat_le, [], List, length, take, Option, Some, sym, ap, subst, refl, arith}
 use Rattle.std.specs.Option.{IfSome}
 use Rattle.std.proofs.lemmas.Bool.{leb-true, leb-false}
 use Rattle.std.proofs.lemmas.List.{take_all, length-take-le}
-use Rattle.syn_model.specs.Event.{Edited, Put, after_edit}
+use Rattle.syn_model.specs.Event.{Edit, Edited, Put, after_edit}
 use Rattle.syn_model.specs.History.{History, IsHistory, tree_of, event_refusal}
 use Rattle.syn_model.specs.Limits.{fits_replica}
 use Rattle.syn_model.specs.Path.{Bytes, Path}
@@ -11,14 +11,17 @@ use Rattle.syn_model.specs.Refusal.{Full, first_cause}
 use Rattle.syn_model.specs.Standing.{edit_causes, full_position}
 use Rattle.syn_model.specs.Laws.{HistoryFits, PutFits, StandingSteps}
 use Rattle.syn_replica.specs.Disks.{DiskStands, StandsBeforeOrAfter}
+use Rattle.syn.specs.Asked.{edit_asked}
+use Rattle.syn.specs.declared.line.Change.{Change}
+use Rattle.syn.specs.declared.line.Change.TheVariants as change
 
 -- the most bytes that are read
 abbrev most : ℕ
 most = 16385
 
--- what was read, where it is known what is left
-pub known : (o : Option Bytes) (left bytes : Bytes) → o ≡ Some left → IfSome o (λ l. bytes ≡ take most l) → bytes ≡ take most left
-known o left bytes e h = subst (λ x. IfSome x (λ l. bytes ≡ take most l)) e h
+-- a fact of what is left, where that is known
+pub known : (o : Option Bytes) (left : Bytes) (P : Bytes → Type 0) → o ≡ Some left → IfSome o P → P left
+known o left P e h = subst (λ x. IfSome x P) e h
 
 over : (n : ℕ) → n ≤ 16384 → 16384 < n → ⊥
 over n a b = omega (arith, a, b)
@@ -47,14 +50,8 @@ module _ (fits : HistoryFits) (put : PutFits) (steps : StandingSteps) where
       put (tree_of history) path bytes (ap (λ s. fits_replica s.tree) (sym (steps history (Edited user (Put path bytes)))) ∙ fits (history ++ Edited user (Put path bytes) ∷ []) h)
 
   -- so it is what is left of the input
-  pub read_whole : (history : History) (user : ℕ) (path : Path) (bytes left : Bytes) → bytes ≡ take most left → IsHistory (history ++ Edited user (Put path bytes) ∷ []) → bytes ≡ left
+  read_whole : (history : History) (user : ℕ) (path : Path) (bytes left : Bytes) → bytes ≡ take most left → IsHistory (history ++ Edited user (Put path bytes) ∷ []) → bytes ≡ left
   read_whole history user path bytes left e h = whole bytes left e (small history user path bytes h)
-
-  pub before_or_after : (pair : ℕ) (history : History) (user : ℕ) (path : Path) (bytes left : Bytes) → bytes ≡ take most left
-      → (c : List ℕ) → StandsBeforeOrAfter pair history (Edited user (Put path bytes)) c → StandsBeforeOrAfter pair history (Edited user (Put path left)) c
-  before_or_after pair history user path bytes left e c (inl before) = inl before
-  before_or_after pair history user path bytes left e c (inr after) =
-      inr (subst (λ b. DiskStands pair c (history ++ Edited user (Put path b) ∷ [])) (read_whole history user path bytes left e after.stands.lawful) after)
 
   too_long : (history : History) (path : Path) (bytes : Bytes) → 16384 < length bytes → fits_replica (after_edit (tree_of history) (Put path bytes)) ≡ false
   too_long history path bytes long =
@@ -64,11 +61,39 @@ module _ (fits : HistoryFits) (put : PutFits) (steps : StandingSteps) where
       ] refl
 
   -- and a longer input is refused as what was read of it is
-  pub same_refusal : (history : History) (user : ℕ) (path : Path) (bytes left : Bytes) → bytes ≡ take most left
+  put_refusal : (history : History) (user : ℕ) (path : Path) (bytes left : Bytes) → bytes ≡ take most left
       → event_refusal history (Edited user (Put path bytes)) ≡ event_refusal history (Edited user (Put path left))
-  same_refusal history user path bytes left e =
+  put_refusal history user path bytes left e =
       let causes = λ (b : Bool). first_cause (edit_causes (tree_of history) (Put path bytes) ++ ((not b, Full) ∷ full_position (length history))) in
       elim (longer bytes left e) as (λ _. event_refusal history (Edited user (Put path bytes)) ≡ event_refusal history (Edited user (Put path left))) [
         | inl same ↦ ap (λ b. event_refusal history (Edited user (Put path b))) same
         | inr both ↦ ap causes (too_long history path bytes both.0 ∙ sym (too_long history path left both.1))
       ]
+
+  -- an edit that came into a history is the one that was asked for
+  pub same_edit : (history : History) (user : ℕ) (change : Change) (path : Path) (left : Bytes)
+      → IsHistory (history ++ Edited user (edit_asked change path (take most left)) ∷ [])
+      → edit_asked change path (take most left) ≡ edit_asked change path left
+  same_edit history user change.Put path left h =
+      ap (Put path) (read_whole history user path (take most left) left refl h)
+  same_edit history user change.MakeDir path left h = refl
+  same_edit history user change.Remove path left h = refl
+
+  pub before_or_after : (pair : ℕ) (history : History) (user : ℕ) (change : Change) (path : Path)
+      (left : Bytes) (edit : Edit) → edit ≡ edit_asked change path (take most left)
+      → (c : List ℕ) → StandsBeforeOrAfter pair history (Edited user edit) c
+      → StandsBeforeOrAfter pair history (Edited user (edit_asked change path left)) c
+  before_or_after pair history user change path left edit is c (inl before) = inl before
+  before_or_after pair history user change path left edit is c (inr after) =
+      let Stands : Edit → Type 0 = λ e. DiskStands pair c (history ++ Edited user e ∷ []) in
+      let cut = subst Stands is after in
+      inr (subst Stands (same_edit history user change path left cut.stands.lawful) cut)
+
+  -- what is asked for is refused as what was read of it is
+  pub same_refusal : (history : History) (user : ℕ) (change : Change) (path : Path) (left : Bytes)
+      → event_refusal history (Edited user (edit_asked change path (take most left)))
+      ≡ event_refusal history (Edited user (edit_asked change path left))
+  same_refusal history user change.Put path left =
+      put_refusal history user path (take most left) left refl
+  same_refusal history user change.MakeDir path left = refl
+  same_refusal history user change.Remove path left = refl

@@ -4,7 +4,8 @@ use Rattle.syn_model.specs.Tree.{IsTree}
 use Rattle.syn_model.specs.Limits.{fits_replica}
 use Rattle.syn_tree.specs.Pairs.{Pairs, rooted, tree_with, AreRising, spelling_length}
 
--- the pairs make a tree within all limits, the length of its spelling is known, and there is room for the most nodes
+-- the pairs make a tree within all limits, the length of its spelling is known, and there is room
+-- for the most nodes
 pub record IsKept (pairs : Pairs) (spelled capacity : ℕ) : Type 0 where
   pub rising : AreRising (rooted pairs)
   pub tree : IsTree (tree_with pairs)

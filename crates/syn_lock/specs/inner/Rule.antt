@@ -1,5 +1,6 @@
 -- The rule of the lock's table, and what each step tells its seat.
-use Rattle.std.specs.Prelude.{◌≡◌, ◌≢◌, ℕ, ◌+◌, ◌/◌, ◌%◌, ◌<◌, ◌≤◌, ◌==◌, ◌⊎◌, cond, Bool, true, false, List, [], ◌∷◌, length, slice_index, Option, Some}
+use Rattle.std.specs.Prelude.{◌≡◌, ◌≢◌, ℕ, ◌+◌, ◌/◌, ◌%◌, ◌<◌, ◌≤◌, ◌==◌, ◌⊎◌, cond, Bool, true}
+use Rattle.std.specs.Prelude.{false, List, [], ◌∷◌, length, slice_index, Option, Some}
 use mathlib.Core.Option.{some}
 use mathlib.Core.List.{IsPrefix}
 use lib.ListN.{get_elem?}
@@ -14,16 +15,19 @@ use Rattle.syn_lock.specs.Views.{view, newcomer, seeing, entered, refused, outsi
 abbrev pub far : ℕ
 far = 9223372036854775808
 
--- The two words that tell the position. While it is near, the first is 0 and half of the second is the position
+-- The two words that tell the position. While it is near, the first is 0 and half of the second is
+-- the position
 abbrev pub Tells : ℕ → ℕ → ℕ → Type 0
-Tells first second position = (first ≡ 0 → (second / 2 ≡ position) × (position < far)) × (first ≢ 0 → (first ≡ position) × (far ≤ first))
+Tells first second position = (first ≡ 0 → (second / 2 ≡ position) × (position < far))
+    × (first ≢ 0 → (first ≡ position) × (far ≤ first))
 
 abbrev pub Sat : Type 0 → Type 0
 Sat S = Me (Option S) (Known S)
 
 module _ {S : Type 0} where
   abbrev pub known : View S → List (Hold S) → List (Hold ℕ) → Bool → ℕ → Known S
-  known v told watched inside passes = record { view = v; told = told; watched = watched; inside = inside; passes = passes }
+  known v told watched inside passes = record
+      { view = v; told = told; watched = watched; inside = inside; passes = passes }
 
   -- a seat that is no pass, and has seen these holds
   abbrev pub witness : Option S → List (Hold S) → Known S
@@ -50,34 +54,43 @@ module _ {S : Type 0} where
   abbrev pub takes_lock : (S → S → Type 0) → Step (Option S) → Sat S → ℕ → Sat S → Type 0
   takes_lock grows st m r n =
       (r % 2 ≡ 0 → (origin : S) → m.0.view.origin ≡ Some origin
-      → (seen : List (Hold S)) × Sees grows origin m.0.view seen × (n ≡ (caught_up m.0 (entered m.0.view seen) true, (0, Some (end_of origin seen)) ∷ m.1)))
+      → (seen : List (Hold S)) × Sees grows origin m.0.view seen
+      ×
+      (n ≡ (caught_up m.0 (entered m.0.view seen) true, (0, Some (end_of origin seen)) ∷ m.1)))
       × (r % 2 ≢ 0 → n ≡ (turned_away m.0, m.1))
 
   abbrev pub publishes : Step (Option S) → Sat S → ℕ → Sat S → Type 0
-  publishes st m r n = (origin left : S) → m.0.view.origin ≡ Some origin → m.1 ≡ (0, Some left) ∷ [] → n ≡ (caught_up m.0 (published origin m.0.view left) m.0.inside, m.1)
+  publishes st m r n = (origin left : S) → m.0.view.origin ≡ Some origin → m.1 ≡ (0, Some left) ∷ []
+      → n ≡ (caught_up m.0 (published origin m.0.view left) m.0.inside, m.1)
 
   -- who gives the lock back has watched the word up to that step
   abbrev pub gives_lock : Step (Option S) → Sat S → ℕ → Sat S → Type 0
-  gives_lock st m r n = (watched : List (Hold ℕ)) × (n ≡ (known (outside m.0.view) m.0.told watched false m.0.passes, []))
+  gives_lock st m r n = (watched : List (Hold ℕ))
+      × (n ≡ (known (outside m.0.view) m.0.told watched false m.0.passes, []))
 
   -- both at once
   abbrev pub leaves : Step (Option S) → Sat S → ℕ → Sat S → Type 0
   leaves st m r n =
       (origin left : S) → m.0.view.origin ≡ Some origin → m.1 ≡ (0, Some left) ∷ []
-      → (watched : List (Hold ℕ)) × (n ≡ (known (outside (published origin m.0.view left)) [] watched false m.0.passes, []))
+      → (watched : List (Hold ℕ)) × (n ≡
+      (known (outside (published origin m.0.view left)) [] watched false m.0.passes, []))
 
   abbrev pub looks : (S → ℕ) → (S → S → Type 0) → Step (Option S) → Sat S → ℕ → Sat S → Type 0
   looks position grows st m r n =
       (origin : S) → m.0.view.origin ≡ Some origin
-      → (seen : List (Hold S)) × Sees grows origin m.0.view seen × IsPrefix m.0.told seen × (n ≡ (caught_up m.0 (seeing m.0.view seen) m.0.inside, m.1))
+      → (seen : List (Hold S)) × Sees grows origin m.0.view seen × IsPrefix m.0.told seen
+      × (n ≡ (caught_up m.0 (seeing m.0.view seen) m.0.inside, m.1))
       × (position (end_of origin seen) < far → r / 2 ≡ position (end_of origin seen))
 
-  -- a look at the first word finds 0, so that the position was near up to now, or it finds the position
+  -- a look at the first word finds 0, so that the position was near up to now, or it finds the
+  -- position
   abbrev pub looks_far : (S → ℕ) → (S → S → Type 0) → Step (Option S) → Sat S → ℕ → Sat S → Type 0
   looks_far position grows st m r n =
       (origin : S) → m.0.view.origin ≡ Some origin
       → (r ≡ 0 → (position (end_of origin m.0.view.seen) < far) × (n ≡ m))
-      × (r ≢ 0 → (seen : List (Hold S)) × Sees grows origin m.0.view seen × (n ≡ (caught_up m.0 (seeing m.0.view seen) m.0.inside, m.1)) × (r ≡ position (end_of origin seen)))
+      × (r ≢ 0 → (seen : List (Hold S)) × Sees grows origin m.0.view seen
+      × (n ≡ (caught_up m.0 (seeing m.0.view seen) m.0.inside, m.1))
+      × (r ≡ position (end_of origin seen)))
 
   -- what the pass has seen has its own holds and no others under its number
   abbrev pub confirms : Step (Option S) → Sat S → ℕ → Sat S → Type 0
@@ -87,17 +100,21 @@ module _ {S : Type 0} where
   abbrev pub arrives : Step (Option S) → Sat S → ℕ → Sat S → Type 0
   arrives st m r n = (r ≤ 63) × (n ≡ (counting m.0 r, m.1))
 
-  -- an exchange of the count finds the number that it wants, and its seat becomes a pass; or it finds another
+  -- an exchange of the count finds the number that it wants, and its seat becomes a pass; or it
+  -- finds another
   abbrev pub admits : (S → S → Type 0) → Step (Option S) → Sat S → ℕ → Sat S → Type 0
   admits grows st m r n =
       (m.0.passes ≤ r) × (r ≤ 63)
       × (r ≡ st.first → (origin : S) → m.0.view.origin ≡ Some origin
-      → (number : ℕ) × (seen : List (Hold S)) × (0 < number) × Sees grows origin (newcomer number origin []) seen × (n ≡ (known (newcomer number origin seen) [] [] false r, [])))
+      → (number : ℕ) × (seen : List (Hold S)) × (0 < number)
+      × Sees grows origin (newcomer number origin []) seen
+      × (n ≡ (known (newcomer number origin seen) [] [] false r, [])))
       × (r ≢ st.first → n ≡ (counting m.0 r, m.1))
 
   -- no seat has this number
   abbrev pub IsUnused : List (Known S) → ℕ → Type 0
-  IsUnused seats number = (number ≡ 0) ⊎ ((seat : ℕ) (k : Known S) → get_elem? seats seat ≡ some k → k.view.number ≢ number)
+  IsUnused seats number = (number ≡ 0)
+      ⊎ ((seat : ℕ) (k : Known S) → get_elem? seats seat ≡ some k → k.view.number ≢ number)
 
   pub record Fits (origin : S) (log : List (Hold S)) (seat : ℕ) (k : Known S) : Type 0 where
     pub origin_is : (o : S) → k.view.origin ≡ Some o → o ≡ origin
@@ -114,26 +131,34 @@ module _ {S : Type 0} where
     pub taken : lock ≢ 0
     pub number_is : k.view.number ≡ seat + 1
 
-  -- There is one history of the state. The first two words tell its last position. While the lock is free its last state is at home
-  pub record Kept (position : S → ℕ) (grows : S → S → Type 0) (origin : S) (s : State (Option S) (Known S)) : Type 0 where
+  -- There is one history of the state. The first two words tell its last position. While the lock
+  -- is free its last state is at home
+  pub record Kept (position : S → ℕ) (grows : S → S → Type 0) (origin : S)
+      (s : State (Option S) (Known S)) : Type 0 where
     pub log : List (Hold S)
     pub holder : ℕ
     pub words : length s.words ≡ 3
     pub slots : length s.homes ≡ 1
     pub legal : IsHistory grows origin log
-    pub position_is : Tells (slice_index s.words 0) (slice_index s.words 1) (position (end_of origin log))
+    pub position_is : Tells (slice_index s.words 0) (slice_index s.words 1)
+        (position (end_of origin log))
     pub fits : (seat : ℕ) (k : Known S) → get_elem? s.views seat ≡ some k → Fits origin log seat k
-    pub home : slice_index s.words 1 % 2 ≡ 0 → get_elem? s.homes 0 ≡ some (some (Some (end_of origin log)))
-    pub inside : (seat : ℕ) (k : Known S) → get_elem? s.views seat ≡ some k → k.inside ≡ true → Holds log (slice_index s.words 1 % 2) holder seat k
+    pub home : slice_index s.words 1 % 2 ≡ 0 → get_elem? s.homes 0
+        ≡ some (some (Some (end_of origin log)))
+    pub inside : (seat : ℕ) (k : Known S) → get_elem? s.views seat ≡ some k → k.inside ≡ true
+        → Holds log (slice_index s.words 1 % 2) holder seat k
     pub unused : (number : ℕ) → IsUnused s.views number → holds_by number log ≡ []
 
-  -- There is one history of the lowest bit of the lock's word, of which each pass knows its own steps, and who gave the lock back all up to then
+  -- There is one history of the lowest bit of the lock's word, of which each pass knows its own
+  -- steps, and who gave the lock back all up to then
   pub record Turned (words : List ℕ) (seats : List (Known S)) : Type 0 where
     pub turns : List (Hold ℕ)
     pub chained : IsWordHistory turns
     pub word_is : slice_index words 1 % 2 ≡ end_of 0 turns
-    pub watched : (seat : ℕ) (k : Known S) → get_elem? seats seat ≡ some k → IsPrefix k.watched turns
-    pub own : (seat : ℕ) (k : Known S) → get_elem? seats seat ≡ some k → holds_by k.view.number turns ≡ k.view.turns
+    pub watched : (seat : ℕ) (k : Known S) → get_elem? seats seat ≡ some k
+        → IsPrefix k.watched turns
+    pub own : (seat : ℕ) (k : Known S) → get_elem? seats seat ≡ some k
+        → holds_by k.view.number turns ≡ k.view.turns
     pub unused : (number : ℕ) → IsUnused seats number → holds_by number turns ≡ []
 
   abbrev pub is_pass : Known S → ℕ
@@ -148,7 +173,9 @@ module _ {S : Type 0} where
   pub record Counted (words : List ℕ) (seats : List (Known S)) : Type 0 where
     pub few : slice_index words 2 ≤ 63
     pub count_is : slice_index words 2 ≡ passes_of seats
-    pub seen : (seat : ℕ) (k : Known S) → get_elem? seats seat ≡ some k → k.passes ≤ slice_index words 2
+    pub seen : (seat : ℕ) (k : Known S) → get_elem? seats seat ≡ some k
+        → k.passes ≤ slice_index words 2
 
   abbrev pub Lawful : (S → ℕ) → (S → S → Type 0) → S → State (Option S) (Known S) → Type 0
-  Lawful position grows origin s = Kept position grows origin s × Turned s.words s.views × Counted s.words s.views
+  Lawful position grows origin s = Kept position grows origin s × Turned s.words s.views
+      × Counted s.words s.views

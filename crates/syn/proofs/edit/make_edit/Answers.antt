@@ -1,0 +1,80 @@
+use Rattle.std.proofs.Common.{◌≡◌, ◌++◌, ◌∷◌, ◌∙◌, [], inl, take, ap, sym, subst, ℕ}
+use Rattle.std.proofs.lemmas.Result.{err_from_is_err_and}
+use Rattle.syn_replica.proofs.StandLemmas.{leaves_weaker}
+use Rattle.syn_model.specs.Event.{Edit, Edited}
+use Rattle.syn_model.specs.History.{IsHistory, event_refusal}
+use Rattle.syn_replica.specs.Disks.{StandsBeforeOrAfter}
+use Rattle.syn_replica.specs.Replica.{Stands}
+use Rattle.syn_tree.specs.Edits.{edit_of}
+use Rattle.syn.specs.Asked.{edit_asked}
+use Rattle.syn.proofs.EditLemmas.{known, same_edit, before_or_after, same_refusal}
+use Rattle.syn.proofs.edit.make_edit.Goals as goal
+
+pub returns-in_err-edit-clause-any_moment : goal.returns-in_err-edit-clause-any_moment
+returns-in_err-edit-clause-any_moment g c history left stands e =
+    let laws = c.history_laws.ensures in
+    let line = c.args.line.now in
+    let edit = edit_of c.in_ok-asked.asked in
+    let is = known _ left (λ l. edit ≡ edit_asked line.change c.args.path (take 16385 l)) e
+    c.in_ok-asked.ensures.edit in
+    let asked = edit_asked line.change c.args.path left in
+    leaves_weaker g.D.Disk.moment g.D.Disk.left_since _ _
+    (StandsBeforeOrAfter c.args.replica.now.pair history (Edited line.user edit))
+    (StandsBeforeOrAfter c.args.replica.now.pair history (Edited line.user asked))
+    (before_or_after laws.fits laws.put laws.steps c.args.replica.now.pair history line.user
+    line.change c.args.path left edit is)
+    (c.in_err-edit.ensures.any_moment history stands)
+
+pub returns-in_err-edit-clause-refused : goal.returns-in_err-edit-clause-refused
+returns-in_err-edit-clause-refused g c history left why stands e refused =
+    let laws = c.history_laws.ensures in
+    let line = c.args.line.now in
+    let edit = edit_of c.in_ok-asked.asked in
+    let is = known _ left (λ l. edit ≡ edit_asked line.change c.args.path (take 16385 l)) e
+    c.in_ok-asked.ensures.edit in
+    let same = same_refusal laws.fits laws.put laws.steps history line.user line.change c.args.path left in
+    let told = err_from_is_err_and c.from_residual-in_err-edit.result c.from_residual-in_err-edit.ensures.1 in
+    let cause = c.in_err-edit.ensures.refused history why stands
+    (ap (λ (x : Edit). event_refusal history (Edited line.user x)) is ∙ (same ∙ refused)) in
+    rw (told.1, told.2) (inl cause)
+
+pub returns-clause-acknowledged : goal.returns-clause-acknowledged
+returns-clause-acknowledged g c history left stands e =
+    let laws = c.history_laws.ensures in
+    let line = c.args.line.now in
+    let edit = edit_of c.in_ok-asked.asked in
+    let is = known _ left (λ l. edit ≡ edit_asked line.change c.args.path (take 16385 l)) e
+    c.in_ok-asked.ensures.edit in
+    let done = c.in_ok-edit.ensures.acknowledged history stands in
+    let IsMade : Edit → Type 0 = λ x. IsHistory (history ++ Edited line.user x ∷ []) in
+    let same = same_edit laws.fits laws.put laws.steps history line.user line.change c.args.path left
+    (subst IsMade is done.1.remembers.lawful) in
+    let IsStanding : Edit → Type 0 =
+    λ x. Stands c.edit.new.self (history ++ Edited line.user x ∷ []) in
+    (done.0, subst IsStanding (is ∙ same) done.1)
+
+pub returns-clause-any_moment : goal.returns-clause-any_moment
+returns-clause-any_moment g c history left stands e =
+    let laws = c.history_laws.ensures in
+    let line = c.args.line.now in
+    let edit = edit_of c.in_ok-asked.asked in
+    let is = known _ left (λ l. edit ≡ edit_asked line.change c.args.path (take 16385 l)) e
+    c.in_ok-asked.ensures.edit in
+    let asked = edit_asked line.change c.args.path left in
+    leaves_weaker g.D.Disk.moment g.D.Disk.left_since _ _
+    (StandsBeforeOrAfter c.args.replica.now.pair history (Edited line.user edit))
+    (StandsBeforeOrAfter c.args.replica.now.pair history (Edited line.user asked))
+    (before_or_after laws.fits laws.put laws.steps c.args.replica.now.pair history line.user
+    line.change c.args.path left edit is)
+    (c.in_ok-edit.ensures.any_moment history stands)
+
+pub returns-clause-refused : goal.returns-clause-refused
+returns-clause-refused g c history left why stands e refused =
+    let laws = c.history_laws.ensures in
+    let line = c.args.line.now in
+    let edit = edit_of c.in_ok-asked.asked in
+    let is = known _ left (λ l. edit ≡ edit_asked line.change c.args.path (take 16385 l)) e
+    c.in_ok-asked.ensures.edit in
+    let same = same_refusal laws.fits laws.put laws.steps history line.user line.change c.args.path left in
+    absurd (c.in_ok-edit.ensures.refused history why stands
+    (ap (λ (x : Edit). event_refusal history (Edited line.user x)) is ∙ (same ∙ refused)))

@@ -1,7 +1,0 @@
-use Rattle.std.proofs.Common.{rules, codes, inl, inr, refl}
-use Rattle.syn.proofs.words.remove_line.Goals as goal
-
-pub returns-in_err-file-clause-lacks : goal.returns-in_err-file-clause-lacks
-returns-in_err-file-clause-lacks c =
-    let lacks = c.in_err-file.ensures.lacks (codes "rm") (inr (inr refl)) in
-    search rules

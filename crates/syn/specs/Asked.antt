@@ -1,0 +1,23 @@
+-- The edit that a line asks for.
+use Rattle.std.specs.Prelude.{List, ℕ, codes}
+use Rattle.syn_model.specs.Path.{Bytes, Path}
+use Rattle.syn_model.specs.Event.{Event, Edited, Edit, Put, MakeDir, Remove}
+use Rattle.syn.specs.declared.line.Change.{Change}
+use Rattle.syn.specs.declared.line.Change.TheVariants as change
+use Rattle.syn.specs.declared.line.EditLine.{EditLine}
+
+-- the word of its command
+abbrev pub word_of : Change → List ℕ
+word_of change.Put = codes "put"
+word_of change.MakeDir = codes "mkdir"
+word_of change.Remove = codes "rm"
+
+-- the edit at a path, where this is left of the input
+abbrev pub edit_asked : Change → Path → Bytes → Edit
+edit_asked change.Put path left = Put path left
+edit_asked change.MakeDir path left = MakeDir path
+edit_asked change.Remove path left = Remove path
+
+-- the same as an event of the line's user
+abbrev pub event_asked : EditLine → Path → Bytes → Event
+event_asked line path left = Edited line.user (edit_asked line.change path left)

@@ -1,0 +1,29 @@
+-- Why a command is refused, as a refusal of the product.
+use Rattle.syn_model.specs.Refusal.{Refusal}
+use Rattle.syn_model.specs.Refusal as why
+use Rattle.syn_path.specs.Refusals.{refusal_of as of_path}
+use Rattle.syn_disk.specs.OpenError.{refusal_of as of_disk}
+use Rattle.syn_replica.specs.Refusals.{refusal_of as of_replica}
+use Rattle.syn.specs.declared.error.CommandError.{CommandError}
+use Rattle.syn.specs.declared.error.CommandError.TheVariants.{Path, Open, Replica, Device, Longer}
+use Rattle.syn.specs.declared.error.CommandError.TheVariants.{Memory}
+
+-- it is that of what refused
+abbrev pub refusal_of : CommandError → Refusal
+refusal_of (Path error) = of_path error
+refusal_of (Open error) = of_disk error
+refusal_of (Replica error) = of_replica error
+refusal_of (Device error) = why.Device
+refusal_of Longer = why.Device
+refusal_of Memory = why.Memory
+
+-- the refusals of a stream that cannot be read or written
+abbrev pub IsOfStream : CommandError → Type 0
+IsOfStream (Device error) = Unit {0}
+IsOfStream Memory = Unit {0}
+IsOfStream _ = ⊥
+
+-- the refusals of a text that is read as a path
+abbrev pub IsOfPath : CommandError → Type 0
+IsOfPath (Path error) = Unit {0}
+IsOfPath _ = ⊥

@@ -1,0 +1,97 @@
+//! Makes an edit that a line asks for.
+ghost use Rattle.std.specs.Prelude.{◌≡◌, ◌⊎◌, ◌+◌, ◌++◌, ◌∷◌, [], length, take, IfOk, IfErr};
+ghost use Rattle.std.specs.Prelude.{IfSome, IsErrAnd, Some};
+ghost use Rattle.syn_disk.specs.Stops.{LeavesOnly};
+ghost use Rattle.syn_model.specs.History.{History, event_refusal};
+ghost use Rattle.syn_model.specs.Path.{Bytes};
+ghost use Rattle.syn_model.specs.Refusal.{Refusal as Why};
+ghost use Rattle.syn_path.specs.Paths.{NamesPath};
+ghost use Rattle.syn_replica.specs.Disks.{StandsBeforeOrAfter};
+ghost use Rattle.syn_replica.specs.Replica.{Stands, disk_of, pair_of};
+ghost use Rattle.syn_tree.specs.Edits.{edit_of};
+ghost use Rattle.syn_model.specs.Refusal.{Device};
+ghost use Rattle.syn.specs.Asked.{edit_asked, event_asked};
+ghost use Rattle.syn.specs.Errors.{refusal_of, IsOfStream};
+
+use crate::error::CommandError;
+use crate::line::{Change, EditLine};
+use std::alloc::Global;
+use std::io::Read;
+use syn_disk::Disk;
+use syn_model::history_laws;
+use syn_path::Path;
+use syn_replica::Replica;
+use syn_tree::Edit;
+
+/// How many bytes of the input are read at most: one more than a file may have.
+const MOST_INPUT: u64 = 16_385;
+
+/// Makes the edit that the line asks for, as its user, and answers the new position. A put puts
+/// what is left of the input.
+///
+/// It is refused as the replica refuses the edit, 9 where the input cannot be read or a device call
+/// fails, and 11 where memory is refused. Of an input that is longer than a file may be only one
+/// byte more than that is read.
+pub fn make_edit<D: Disk, I: Read>(
+    alloc: Global,
+    replica: &mut Replica<D>,
+    line: &EditLine<'_>,
+    path: Path,
+    input: &mut I,
+) -> Result<u64, CommandError>
+    requires { NamesPath line.now.path.now path }
+    ensures acknowledged { (history : History) (left : Bytes)
+        → Stands replica.old history → I.remaining input.old ≡ Some left
+        → IfOk result (λ position. (position ≡ length history + 1)
+        × Stands replica.new (history ++ event_asked line.entry.now path left ∷ [])) }
+    ensures any_moment { (history : History) (left : Bytes)
+        → Stands replica.old history → I.remaining input.old ≡ Some left
+        → LeavesOnly D.moment D.left_since (disk_of replica.old) (disk_of replica.new)
+        (StandsBeforeOrAfter (pair_of replica.old) history
+        (event_asked line.entry.now path left)) }
+
+    // An edit that the history refuses is refused so, unless the input cannot be read.
+    ensures refused { (history : History) (left : Bytes) (why : Why)
+        → Stands replica.old history → I.remaining input.old ≡ Some left
+        → event_refusal history (event_asked line.entry.now path left) ≡ Some why
+        → IsErrAnd result (λ e. (refusal_of e ≡ why) ⊎ IsOfStream e) }
+    ensures unchanged { (history : History) → Stands replica.old history
+        → IfErr result (λ e. (refusal_of e ≡ Device) ⊎ Stands replica.new history) }
+{
+    history_laws();
+    let asked = read_edit(alloc, line.change, path, input)?;
+    Ok(replica.edit(alloc, line.user, asked)?)
+}
+
+/// The edit, with the bytes of the input where it is a put.
+fn read_edit<I: Read>(
+    alloc: Global,
+    change: Change,
+    path: Path,
+    input: &mut I,
+) -> Result<Edit, CommandError>
+    ensures edit { IfOk result (λ edit. IfSome (I.remaining input.old) (λ left.
+        edit_of edit ≡ edit_asked change path (take MOST_INPUT left))) }
+    ensures stream { IfErr result IsOfStream }
+{
+    match change {
+        Change::Put => {
+            let bytes = read_input(alloc, input)?;
+            Ok(Edit::Put(path, bytes))
+        }
+        Change::MakeDir => Ok(Edit::MakeDir(path)),
+        Change::Remove => Ok(Edit::Remove(path)),
+    }
+}
+
+/// The bytes of the input, or the first of them where it has more than a file may have. No more are
+/// read.
+fn read_input<I: Read>(alloc: Global, input: &mut I) -> Result<Vec<u8>, CommandError>
+    ensures bytes { IfOk result (λ bytes. IfSome (I.remaining input.old) (λ left.
+        bytes.items ≡ take MOST_INPUT left)) }
+    ensures stream { IfErr result IsOfStream }
+{
+    let mut bytes = Vec::new(alloc);
+    input.take(MOST_INPUT).read_to_end(&mut bytes)?;
+    Ok(bytes)
+}

@@ -1,0 +1,121 @@
+//! Why a command is refused.
+ghost use Rattle.std.specs.Prelude.{◌≡◌, Some};
+ghost use Rattle.syn_model.specs.Refusal.{number, name_of};
+ghost use Rattle.syn_refusal.specs.Refusals.{cause_of};
+ghost use Rattle.syn.specs.Errors.{refusal_of};
+
+use std::alloc::{AllocError, AllocFailed};
+use std::{fmt, io};
+use syn_disk::OpenError;
+use syn_path::PathError;
+use syn_refusal::Refusal;
+use syn_replica::ReplicaError;
+use thiserror::Error;
+
+/// Why a command is refused, by what refused it.
+#[derive(Debug, Drop, Error)]
+pub enum CommandError {
+    /// The text is no path.
+    Path(PathError),
+    /// The file is no disk, or somebody else has it.
+    Open(OpenError),
+    /// The replica refuses the call.
+    Replica(ReplicaError),
+    /// Standard input cannot be read, standard output cannot be written, or the file cannot be
+    /// made.
+    Device(io::Error),
+    /// The file is longer than an image: to cut it would lose what somebody has there.
+    Longer,
+    /// Memory was refused.
+    Memory,
+}
+
+impl CommandError {
+    /// Which refusal it is.
+    pub fn refusal(&self) -> Refusal
+        ensures { cause_of result ≡ refusal_of self.now }
+    {
+        match self {
+            CommandError::Path(error) => error.refusal(),
+            CommandError::Open(error) => error.refusal(),
+            CommandError::Replica(error) => error.refusal(),
+            CommandError::Device(_) | CommandError::Longer => Refusal::Device,
+            CommandError::Memory => Refusal::Memory,
+        }
+    }
+
+    /// The number of the refusal.
+    pub fn number(&self) -> u8
+        ensures { result ≡ number (refusal_of self.now) }
+    {
+        self.refusal().number()
+    }
+}
+
+/// The name of the refusal.
+impl fmt::Display for CommandError {
+    ghost output = { λ error. Some (name_of (refusal_of error)) };
+
+    fn fmt<W: fmt::Write>(&self, f: &mut fmt::Formatter<W>) -> fmt::Result {
+        write!(f, "{}", self.refusal())
+    }
+}
+
+impl From<PathError> for CommandError {
+    ghost use Rattle.syn.specs.declared.error.CommandError.TheVariants.{Path};
+
+    ghost from_gives = { λ error e. e ≡ Path error };
+
+    fn from(error: PathError) -> CommandError {
+        CommandError::Path(error)
+    }
+}
+
+impl From<OpenError> for CommandError {
+    ghost use Rattle.syn.specs.declared.error.CommandError.TheVariants.{Open};
+
+    ghost from_gives = { λ error e. e ≡ Open error };
+
+    fn from(error: OpenError) -> CommandError {
+        CommandError::Open(error)
+    }
+}
+
+impl From<ReplicaError> for CommandError {
+    ghost use Rattle.syn.specs.declared.error.CommandError.TheVariants.{Replica};
+
+    ghost from_gives = { λ error e. e ≡ Replica error };
+
+    fn from(error: ReplicaError) -> CommandError {
+        CommandError::Replica(error)
+    }
+}
+
+impl From<io::Error> for CommandError {
+    ghost use Rattle.syn.specs.Errors.{IsOfStream};
+
+    ghost from_gives = { λ _ e. IsOfStream e };
+
+    fn from(error: io::Error) -> CommandError {
+        match error.kind() {
+            io::ErrorKind::OutOfMemory => CommandError::Memory,
+            _ => CommandError::Device(error),
+        }
+    }
+}
+
+impl From<AllocError> for CommandError {
+    ghost use Rattle.syn.specs.declared.error.CommandError.TheVariants.{Memory};
+
+    ghost from_gives = { λ _ e. e ≡ Memory };
+
+    fn from(_error: AllocError) -> CommandError {
+        CommandError::Memory
+    }
+}
+
+impl<T: Drop> From<AllocFailed<T>> for CommandError {
+    fn from(_error: AllocFailed<T>) -> CommandError {
+        CommandError::Memory
+    }
+}

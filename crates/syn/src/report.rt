@@ -1,0 +1,77 @@
+//! Tells how a command came out.
+ghost use Rattle.std.specs.Prelude.{◌≡◌};
+ghost use Rattle.syn.specs.Status.{status_of};
+
+use crate::error::CommandError;
+use crate::line::Line;
+use crate::status::Status;
+use std::io::Write;
+use syn_refusal::Refusal;
+
+/// The status of the answer. A refusal is told in one line, and where `asked` is given in a second
+/// one in plain words.
+///
+/// An error of `errors` itself is not told: there is nowhere left to tell it.
+pub fn report<E: Write>(
+    asked: Option<&Line<'_>>,
+    answer: &Result<(), CommandError>,
+    errors: &mut E,
+) -> Status
+    ensures { result ≡ status_of answer.now }
+{
+    match answer {
+        Ok(()) => Status::Done,
+        Err(error) => {
+            refuse(error, errors);
+            if let Some(line) = asked {
+                explain(line, error, errors);
+            }
+            Status::Refused
+        }
+    }
+}
+
+/// The line of a refusal.
+fn refuse<E: Write>(error: &CommandError, errors: &mut E) {
+    let number = error.number();
+    let _ = writeln!(errors, "syn: refused {number} {error}");
+}
+
+/// What was refused, of which file or path, and what the system said of it, where it said
+/// something.
+fn explain<E: Write>(line: &Line<'_>, error: &CommandError, errors: &mut E) {
+    let _ = match line {
+        Line::Format { file, .. } | Line::Show { file, path: None } => write!(
+            errors,
+            "syn: {file}"
+        ),
+        Line::Edit(edit) => write!(errors, "syn: {} in {}", edit.path, edit.file),
+        Line::Show {
+            file,
+            path: Some(path),
+        } => write!(errors, "syn: {path} in {file}"),
+    };
+    let _ = match error {
+        CommandError::Device(system) => {
+            writeln!(errors, ": {} ({system})", Refusal::Device.explanation())
+        }
+        CommandError::Longer => writeln!(errors, ": the file is longer than an image"),
+        _ => writeln!(errors, ": {}", error.refusal().explanation()),
+    };
+}
+
+/// The exit statuses, and each refusal with its meaning, as the help ends.
+pub fn print_meanings<W: Write>(output: &mut W) -> std::io::Result<()> {
+    writeln!(output)?;
+    writeln!(output, "Exit status:")?;
+    writeln!(output, "  0  the command was done")?;
+    writeln!(output, "  1  it was refused, and why is on standard error")?;
+    writeln!(output, "  2  the words are no command")?;
+    writeln!(output)?;
+    writeln!(output, "Refusals:")?;
+    for refusal in Refusal::ALL {
+        let number = refusal.number();
+        writeln!(output, "  {number} {refusal}: {}", refusal.explanation())?;
+    }
+    Ok(())
+}
