@@ -1,13 +1,17 @@
 -- Images and records stand for archives.
 use Rattle.std.proofs.Common.{◌≡◌, ◌≤◌, ℕ, ◌+◌, Bool, true, false, not, ◌==◌, nat_le, if◌then◌else◌, fold, map}
-use Rattle.std.proofs.Common.{List, [], ◌∷◌, ◌++◌, None, refl, sym, ap, ◌∙◌, subst, arith}
+use Rattle.std.proofs.Common.{List, [], ◌∷◌, ◌++◌, Some, None, length, refl, sym, ap, ◌∙◌, subst, arith}
 use Rattle.std.specs.FinMap.{len-entries}
 use Rattle.std.proofs.lemmas.Bool.{leb-false, eqb-true, not-false}
 use Rattle.std.proofs.lemmas.List.{map-append}
 use Rattle.std.proofs.lemmas.List.Sums.{fold-append}
-use Rattle.syn_model.specs.Path.{Path, is_root, IsPath}
-use Rattle.syn_model.specs.Tree.{Tree, IsTree, IsPart, Directory, empty_directory, is_directory, replace}
+use Rattle.syn_model.specs.Path.{Path, is_root, strip_prefix, IsPath}
+use Rattle.syn_model.specs.Tree.{Tree, IsTree, IsPart, Directory, File, empty_directory, is_directory, replace}
+use Rattle.std.specs.FinMap.{get}
+use Rattle.std.specs.Option.{option_map_or}
+use Rattle.syn_model.specs.Mark.{IsMarks}
 use Rattle.syn_model.specs.Limits.{greatest, fits_archive}
+use Rattle.syn_model.proofs.TreeLemmas.{get-replace}
 use Rattle.syn_model.specs.Refusal.{Cause, first_cause, Root, Full, BadMessage}
 use Rattle.syn_model.specs.Standing.{place_causes}
 use Rattle.syn_model.specs.History.{tree_of}
@@ -17,19 +21,37 @@ use Rattle.syn_model.specs.MarkSpelling.{kept_spelling}
 use Rattle.syn_model.specs.ArchiveImage.{IsArchive, AllKept, ArchiveStandsFor, KeepingStaysSound, StandsForSound}
 use Rattle.syn_model.specs.ArchiveImage.{ArchiveImageStands, NewArchiveStands, RecordGoesOn}
 use Rattle.syn_model.proofs.HistoryLemmas.{first_cause-none, none-append, place-stands, replace-is_tree, at_root-is_part}
-use Rattle.syn_model.proofs.HistoryLemmas.{no_file, empty-is_tree}
+use Rattle.syn_model.proofs.HistoryLemmas.{no_file, only, empty-is_tree}
 use Rattle.syn_model.proofs.RowLemmas.{entries-at_root}
 
+-- marks that are put into marks leave marks
+replaced_marks : (t : Tree) (p : Path) (u : Tree) → IsPart (replace t p u) → IsMarks t → IsMarks u → IsMarks (replace t p u)
+replaced_marks t p u part ht hu = record {
+  part = part;
+  digests = λ path contents found. elim (strip_prefix p path) as (λ rest. option_map_or (λ rest. get u rest) rest (get t path) ≡ Some (File contents) → length contents.bytes ≡ 32) [
+    | None ↦ λ e. ht.digests path contents e
+    | Some rest ↦ λ e. hu.digests rest contents e
+  ] (sym (get-replace t p u path) ∙ found);
+}
+
+directory_is_marks : IsMarks empty_directory
+directory_is_marks = record {
+  part = at_root-is_part Directory (λ b x. absurd (no_file b x));
+  digests = λ path contents found. absurd (no_file contents (only Directory path contents found));
+}
+
 -- what no cause refuses is put where it may stand, and fits
-recorded : (archive : Archive) (path : Path) (new : Tree) → IsArchive archive → IsPath path → IsPart new →
+recorded : (archive : Archive) (path : Path) (new : Tree) → IsArchive archive → IsPath path → IsMarks new →
     first_cause (record_causes archive.marks path new) ≡ None → IsArchive (record archive { marks = replace archive.marks path new })
-recorded archive path new sound lawful part e =
+recorded archive path new sound lawful marks e =
     let full : List Cause = (not (fits_archive (replace archive.marks path new)), Full) ∷ [] in
     let place = place-stands archive.marks path full e in
     let room = first_cause-none (not (fits_archive (replace archive.marks path new)), Full) []
     (none-append (place_causes archive.marks path) full e).1 in
+    let tree = replace-is_tree archive.marks path new sound.tree marks.part place.0 place.1 lawful.names in
     record {
-      tree = replace-is_tree archive.marks path new sound.tree part place.0 place.1 lawful.names;
+      tree = tree;
+      marks = replaced_marks archive.marks path new tree.part sound.marks marks;
       fits = not-false (fits_archive (replace archive.marks path new)) room.0;
       session = sound.session;
     }
@@ -40,7 +62,7 @@ keeping_stays_sound archive (Session session) sound can =
     let next = first_cause-none (not (session == archive.last_session + 1), BadMessage) [] parts.1 in
     let below = leb-false greatest archive.last_session parts.0 in
     let is = eqb-true session (archive.last_session + 1) (not-false (session == archive.last_session + 1) next.0) in
-    record { tree = sound.tree; fits = sound.fits; session = omega (arith, below, is) }
+    record { tree = sound.tree; marks = sound.marks; fits = sound.fits; session = omega (arith, below, is) }
 keeping_stays_sound archive (Recorded path marks) sound can = recorded archive path marks sound can.lawful.0 can.lawful.1 can.not_refused
 keeping_stays_sound archive (RecordedDir path) sound can =
     let made = record archive { marks = replace archive.marks path empty_directory } in
@@ -48,7 +70,7 @@ keeping_stays_sound archive (RecordedDir path) sound can =
     let rest = first_cause-none (is_root path, Root) (if is_directory archive.marks path then [] else causes) can.not_refused in
     elim (is_directory archive.marks path) as (λ b. first_cause (if b then [] else causes) ≡ None → IsArchive (if b then archive else made)) [
       | true ↦ λ none. sound
-      | false ↦ λ none. recorded archive path empty_directory sound can.lawful (at_root-is_part Directory (λ b x. absurd (no_file b x))) none
+      | false ↦ λ none. recorded archive path empty_directory sound can.lawful directory_is_marks none
     ] rest.1
 
 all_sound : (archive : Archive) (kept : List Kept) → IsArchive archive → AllKept archive kept → IsArchive (archive_of archive kept)
@@ -75,7 +97,7 @@ new_fits = rw (len-entries, entries-at_root)
 
 pub new_archive_stands : NewArchiveStands
 unfolding tree_of
-new_archive_stands pair = archive_image_stands pair new_archive (record { tree = empty-is_tree; fits = new_fits; session = omega arith })
+new_archive_stands pair = archive_image_stands pair new_archive (record { tree = empty-is_tree; marks = directory_is_marks; fits = new_fits; session = omega arith })
 
 kept-append : (archive : Archive) (kept : List Kept) (one : Kept) → AllKept archive kept → CanKeep (archive_of archive kept) one → AllKept archive (kept ++ one ∷ [])
 kept-append archive [] one all can = (can, tt)

@@ -56,7 +56,7 @@ names : (x : Content) (p : Path) → IsSome (get (at_root x) p) → All IsName p
 names x [] h = All-nil IsName
 names x (n ∷ p) h = absurd (true≢false (sym h ∙ ap is_some (get-at_root x (n ∷ p))))
 
-only : (x : Content) (p : Path) (contents : Contents) → get (at_root x) p ≡ Some (File contents) → x ≡ File contents
+pub only : (x : Content) (p : Path) (contents : Contents) → get (at_root x) p ≡ Some (File contents) → x ≡ File contents
 only x [] contents h = same_Some _ _ (sym (get-at_root x root) ∙ h)
 only x (n ∷ p) contents h = absurd (none-some _ (sym (get-at_root x (n ∷ p)) ∙ h))
 

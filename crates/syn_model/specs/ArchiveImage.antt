@@ -2,6 +2,7 @@
 use Rattle.std.specs.Prelude.{ℕ, ◌≡◌, ◌≤◌, true, List, [], ◌∷◌, ◌++◌, map}
 use Rattle.syn_model.specs.Path.{Bytes}
 use Rattle.syn_model.specs.Tree.{IsTree}
+use Rattle.syn_model.specs.Mark.{IsMarks}
 use Rattle.syn_model.specs.Limits.{greatest, fits_archive}
 use Rattle.syn_model.specs.Archive.{Archive, Kept, CanKeep, after_kept, archive_of, new_archive}
 use Rattle.syn_model.specs.MarkSpelling.{kept_spelling, archive_spelling}
@@ -9,6 +10,7 @@ use Rattle.syn_model.specs.MarkSpelling.{kept_spelling, archive_spelling}
 -- what an image may hold
 pub record IsArchive (archive : Archive) : Type 0 where
   pub tree : IsTree archive.marks
+  pub marks : IsMarks archive.marks
   pub fits : fits_archive archive.marks ≡ true
   pub session : archive.last_session ≤ greatest
 
