@@ -6,6 +6,7 @@ pub mod WitnessLemmas
 pub mod FailLemmas
 pub mod StopLemmas
 pub mod ForbiddenLemmas
+pub mod FailureLemmas
 pub mod WitnessScans
 pub mod WitnessSteps
 pub mod WitnessSession
