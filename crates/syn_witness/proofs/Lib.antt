@@ -15,3 +15,4 @@ pub mod ExchangeSides
 pub mod ExchangeLemmas
 pub mod MarkedScans
 pub mod MarkedLemmas
+pub mod RefusedLemmas
