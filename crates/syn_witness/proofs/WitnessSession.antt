@@ -200,7 +200,7 @@ fetches = says_so fetching Left 1 2 (Fetch a_path 2 0) None left_side (Piece 6 f
 stages : Steps staging (Deliver 10) staged
 stages = says_so staging Right 1 2 (Stage 0 0 file_bytes) None right_staged Staged refl reads_nothing refl refl
 
-done_is : answer right_done Done ≡ serve 7 (has_room_for 7 (machine_of right_staged)) (Some one) right_staged 1 (Replace 0 a_path 1 6)
+pub done_is : answer right_done Done ≡ serve 7 (has_room_for 7 (machine_of right_staged)) (Some one) right_staged 1 (Replace 0 a_path 1 6)
 unfolding tree_of
 done_is =
     let new = put-entries empty_directory one 97 (content (49 ∷ [])) alone-entries (file-entries (49 ∷ [])) in

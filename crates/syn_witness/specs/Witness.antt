@@ -15,8 +15,9 @@ use Rattle.syn_headline.specs.Network.{Left, Right}
 use Rattle.syn_headline.specs.Acknowledged.{Ack, Happened, Kept_by, Stores}
 use Rattle.syn_headline.specs.Report.{Report, Complete, Incomplete}
 use Rattle.syn_headline.specs.Machine.{Up, Journaled, unarmed, record_size, room_behind}
+use Rattle.syn_headline.specs.Machine as status
 use Rattle.syn_headline.specs.SideMachine.{SideMachine}
-use Rattle.syn_headline.specs.World.{World, At, Step, Edits, Start, Deliver, Stop, Coordinator, Tick, Open, Fail, Checkpoint, Reopen, Runs}
+use Rattle.syn_headline.specs.World.{World, At, Step, Edits, Start, Deliver, Stop, Coordinator, Tick, Open, Fail, Checkpoint, Reopen, Runs, failures_of}
 use Rattle.syn_headline.specs.Headline.{IsStart, formatted, stores_of, IsQuietSession, UntouchedSince}
 use Rattle.syn_headline.specs.Side.{token_of}
 
@@ -232,3 +233,20 @@ TouchedIsRefused =
     IsWitness (up_to_replacement ++ (Edits Right 2 put_other ∷ map Deliver (12 ∷ 13 ∷ []))) 14
     (acknowledged_then ++ Happened Right (Edited 2 put_other) ∷ []) ((touched_report, 5) ∷ [])
     (λ world. world.right.journal.value ≡ Began 1 ∷ Edited 2 put_other ∷ [])
+
+abbrev pub failed_report : Report
+failed_report = record {
+  session = 1;
+  end = Incomplete;
+  ended = None;
+  done = 0;
+  marked = 0;
+  conflicts = [];
+  refused = (Device, a_path) ∷ [];
+}
+
+-- the second device call of a replacement fails: it is refused 9 and the side halted, and the session refuses its item
+abbrev pub ReplacementFails : Type 0
+ReplacementFails =
+    IsWitness (up_to_replacement ++ (Fail (At Right) 2 ∷ map Deliver (12 ∷ 13 ∷ []))) 14 acknowledged_then ((failed_report, 4) ∷ [])
+    (λ world. (world.right.journal.status ≡ status.Halted) × (failures_of world (At Right) ≡ 1))

@@ -3,7 +3,7 @@
 
 ghost use Rattle.syn_witness.specs.Rows.{SideRows};
 ghost use Rattle.syn_witness.specs.Forbidden.{StaysWithoutStop, ArmedCallsCome, StartsFresh, BeginsOnce, FaultsAlone, UnstableIsIncomplete, FailureEnds, HaltedAfterFailure};
-ghost use Rattle.syn_witness.specs.Witness.{OpenedIsStart, NewRoomIs, StopIsRecovered, FailIsRefused, CheckpointIsCut, SilenceEnds, FileIsCarried, FilesAreExchanged, CarriedIsMarkedLater, RepeatIsDone, TouchedIsRefused};
+ghost use Rattle.syn_witness.specs.Witness.{OpenedIsStart, NewRoomIs, StopIsRecovered, FailIsRefused, CheckpointIsCut, SilenceEnds, FileIsCarried, FilesAreExchanged, CarriedIsMarkedLater, RepeatIsDone, TouchedIsRefused, ReplacementFails};
 
 /// What a side answers in worked examples, which its definition gives.
 pub fn examples()
@@ -13,7 +13,8 @@ pub fn examples()
 /// Runs from three formatted disks, step by step, that the definitions of a run allow: a stop while an edit is written and its
 /// recovery, an edit whose device call fails and what a reopening gives, a checkpoint that is cut
 /// off, a session that nobody answers, a whole session over one file, one that carries a file each way, and one that marks
-/// what an earlier session carried and did not record; a replacement that comes twice, and one that comes after an edit.
+/// what an earlier session carried and did not record; a replacement that comes twice, one that comes after an edit,
+/// and one whose device call fails.
 pub fn witnesses()
     ensures start { OpenedIsStart }
     ensures room { NewRoomIs }
@@ -26,6 +27,7 @@ pub fn witnesses()
     ensures marked { CarriedIsMarkedLater }
     ensures repeated { RepeatIsDone }
     ensures touched { TouchedIsRefused }
+    ensures device { ReplacementFails }
 {}
 
 /// What no run does: without a stop among the steps no machine goes down, an edit is not acknowledged where one of its device
