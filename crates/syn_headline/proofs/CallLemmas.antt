@@ -18,7 +18,7 @@ use Rattle.syn_headline.specs.Network.{Which, Left, Right, other, Message, Asks,
 use Rattle.syn_headline.specs.Acknowledged.{Ack, Kept_by, kept_in}
 use Rattle.syn_headline.specs.Planning.{Planned, SessionPlan, Log, WritesTo, HasBegun, IsPlanOf}
 use Rattle.syn_headline.specs.Report.{Report, Complete, Incomplete, is_kept, is_carrying, is_marking, conflict_at}
-use Rattle.syn_headline.specs.Coordinator.{Exchange, Running, CoordinatorMachine, Walk, Call, WasTaken, BothBegun, MakesPlan, MayAsk, Asks_now, IsExpected, asked_of, asked_count, numbered, messages_to, outstanding, hearing, advanced, asking, sent_now, plan_of, report_of, is_whole, is_unstable, IsDue, EndsFor}
+use Rattle.syn_headline.specs.Coordinator.{Exchange, Running, CoordinatorMachine, Walk, Call, WasTaken, BothBegun, MakesPlan, MayAsk, AsksNext, IsExpected, asked_of, asked_count, numbered, messages_to, outstanding, hearing, advanced, asking, sent_now, plan_of, report_of, is_whole, is_unstable, IsDue, EndsFor}
 use Rattle.syn_headline.specs.Coordinator as fine
 use Rattle.syn_headline.specs.World as fine_world
 use Rattle.syn_headline.specs.World.{coordinator_goes}
@@ -384,7 +384,7 @@ module _ (plans : Plans) (old : fine_world.World) (k : IsKept plans (view old)) 
         conflicts_of : slice_get (list_of plan) walk.cursor ≡ None → filter_map (λ planned. conflict_at planned.item) (take walk.cursor (list_of plan)) ≡ filter_map (λ planned. conflict_at planned.item) (list_of plan)
         conflicts_of over = ap (filter_map (λ planned. conflict_at planned.item)) (take_whole (list_of plan) walk.cursor over)
 
-    module _ (asks_left asks_right : List Request) (stays : walk.journal.status ≡ old.coordinator.journal.status) (asks : Asks_now walk.journal.value later asks_left asks_right) where
+    module _ (asks_left asks_right : List Request) (stays : walk.journal.status ≡ old.coordinator.journal.status) (asks : AsksNext walk.journal.value later asks_left asks_right) where
       abbrev on : Running
       on = asking later asks_left asks_right
 

@@ -1,272 +1,32 @@
 -- The coordinator as a machine: its archive's journal, the session that runs, and what it does by itself in a call.
 use Rattle.std.specs.Option.{option_map_or}
-use Rattle.std.specs.List.{list_any, list_all, count_by}
-use Rattle.std.specs.Ordering.{eq_by_cmp}
-use Rattle.std.specs.Prelude.{ℕ, suc, min, Bool, true, false, not, nat_le, nat_lt, if◌then◌else◌, ◌&&◌, ◌==◌}
-use Rattle.std.specs.Prelude.{◌+◌, ◌-◌, ◌^◌, ◌≤◌, ◌≡◌, ◌≢◌, ◌⊎◌, List, [], ◌∷◌, ◌++◌, map, filter, filter_map, length, take}
-use Rattle.std.specs.Prelude.{slice_get, sum_by, Option, Some, None, is_some, IsSome, All, Contains}
-use Rattle.syn_model.specs.Path.{Path, Name, root, child, path_cmp}
-use Rattle.syn_model.specs.Tree.{Content, Directory, is_directory}
-use Rattle.syn_model.specs.Limits.{greatest, fits_path}
-use Rattle.syn_model.specs.Dirty.{IsScanBy}
+use Rattle.std.specs.List.{list_any, count_by}
+use Rattle.std.specs.Prelude.{ℕ, suc, Bool, true, false, not, nat_le, nat_lt, if◌then◌else◌, ◌&&◌}
+use Rattle.std.specs.Prelude.{◌+◌, ◌≡◌, ◌≢◌, ◌⊎◌, List, [], ◌∷◌, ◌++◌, map, filter_map, length, take}
+use Rattle.std.specs.Prelude.{slice_get, Option, Some, None, is_some, IsSome}
+use Rattle.syn_model.specs.Path.{Path}
+use Rattle.syn_model.specs.Limits.{greatest}
 use Rattle.syn_model.specs.Refusal.{Refusal, Device, Memory, Full, JournalFull, Busy, TooLarge, BadMessage, NoAnswer, Cause, first_cause}
 use Rattle.syn_model.specs.Refusal as why_refused
-use Rattle.syn_model.specs.Archive.{Archive, Kept, Session, Recorded, RecordedDir, CanKeep, after_kept, kept_refusal}
-use Rattle.syn_model.specs.MarkSpelling.{kept_spelling, archive_spelling}
-use Rattle.syn_model.specs.Decision.{Item, ToLeft, ToRight, MarkSame, MarkDir, Conflict, path_of}
-use Rattle.syn_model.specs.Plan.{plan as items_of}
-use Rattle.syn_headline.specs.Machine.{Status, Up, Halted, Down, Journaled, Layout, IsBefore, unarmed}
+use Rattle.syn_model.specs.Archive.{Archive, Kept, Session, Recorded, RecordedDir, CanKeep, kept_refusal}
+use Rattle.syn_model.specs.MarkSpelling.{archive_spelling}
+use Rattle.syn_model.specs.Decision.{MarkSame, MarkDir, Conflict, path_of}
+use Rattle.syn_headline.specs.Machine.{Status, Up, Halted, Down, Journaled, IsBefore, unarmed}
 use Rattle.syn_headline.specs.Machine.{has_room, room_behind, cut, with_record, Writes, Compacts}
-use Rattle.syn_headline.specs.Side.{Request, Begin, ListAt, Fetch, Stage, Replace, IsLawfulRequest}
-use Rattle.syn_headline.specs.Side.{Reply, Begun, Listed, NotDir, Piece, Staged, Done, Refused}
-use Rattle.syn_headline.specs.Network.{Which, Left, Right, other, is_side, Message, Asks, IsRepeat}
-use Rattle.syn_headline.specs.Planning.{Planned, seen_on, SeesBoth, SessionPlan, Log, WritesTo}
+use Rattle.syn_headline.specs.Side.{Request, Begin, Fetch, Stage, Replace, IsLawfulRequest}
+use Rattle.syn_headline.specs.Side.{Reply, Done, Refused}
+use Rattle.syn_headline.specs.Network.{Which, Left, Right, other, is_side, Message}
+use Rattle.syn_headline.specs.Planning.{Planned, seen_on, Log, WritesTo}
 use Rattle.syn_headline.specs.Report.{Report, Complete, Incomplete, is_kept, is_carrying, is_marking, conflict_at}
-
--- a request of the session that was answered, with the answer that was taken
-pub record Exchange : Type 0 where
-  pub side : Which
-  pub number : ℕ
-  pub request : Request
-  pub reply : Reply
-
--- a request that waits for its answer
-pub record Outstanding : Type 0 where
-  pub number : ℕ
-  pub request : Request
-  pub resent : ℕ
-
--- A session that runs: its transcript, in order of time; what waits on each side; its plan, once it is made,
--- the item that it has come to, and what it recorded and refused so far
-pub record Running : Type 0 where
-  pub session : ℕ
-  pub taken : List Exchange
-  pub left : List Outstanding
-  pub right : List Outstanding
-  pub plan : Option (List Planned)
-  pub cursor : ℕ
-  pub kept : List Kept
-  pub refused : List (Refusal × Path)
-
-pub record CoordinatorMachine : Type 0 where
-  pub journal : Journaled Archive Kept
-  pub running : Option Running
-
--- how an archive's journal is written: a directory that is recorded already is not written
-abbrev pub is_recorded : Archive → Kept → Bool
-is_recorded archive (RecordedDir path) = is_directory archive.marks path
-is_recorded archive (Recorded path marks) = false
-is_recorded archive (Session session) = false
-
-abbrev pub archive_layout : ℕ → Layout Archive Kept
-archive_layout pair = record {
-  after = after_kept;
-  is_idle = is_recorded;
-  payload = kept_spelling;
-  image = archive_spelling pair;
-}
-
--- What waits
-
-abbrev pub outstanding : Running → Which → List Outstanding
-outstanding running Left = running.left
-outstanding running Right = running.right
-
--- the request that waits under the number
-abbrev pub asked_in : List Outstanding → ℕ → Option Request
-asked_in [] number = None
-asked_in (waiting ∷ more) number = if waiting.number == number then Some waiting.request else asked_in more number
-
-abbrev pub asked_of : Running → Which → ℕ → Option Request
-asked_of running side number = asked_in (outstanding running side) number
-
-abbrev pub without : ℕ → List Outstanding → List Outstanding
-without number waiting = filter (λ one. not (one.number == number)) waiting
-
--- how many requests the session sent to a side, resends aside
-abbrev pub asked_count : Running → Which → ℕ
-asked_count running side = count_by (λ exchange. is_side side exchange.side) running.taken + length (outstanding running side)
-
--- requests that are sent now, numbered on from there
-abbrev pub numbered : ℕ → List Request → List Outstanding
-numbered number [] = []
-numbered number (request ∷ more) =
-    record { number = number; request = request; resent = 0 } ∷ numbered (suc number) more
-
-abbrev pub asking : Running → List Request → List Request → Running
-asking running left right = record running {
-  left = running.left ++ numbered (asked_count running Left) left;
-  right = running.right ++ numbered (asked_count running Right) right;
-}
-
-abbrev pub messages_to : ℕ → Which → List Outstanding → List Message
-messages_to session side waiting = map (λ one. Asks side session one.number one.request) waiting
-
--- so many requests wait on a side at most
-abbrev pub most_outstanding : ℕ
-most_outstanding = 1
-
--- it waits for an answer, and on each side for no more than it may at a time
-abbrev pub Waits : Running → Type 0
-Waits running =
-    (1 ≤ length running.left + length running.right)
-    × (length running.left ≤ most_outstanding) × (length running.right ≤ most_outstanding)
-
--- The transcript
-
-abbrev pub WasTaken : List Exchange → Which → Request → Reply → Type 0
-WasTaken taken side request reply =
-    (number : ℕ) × Contains taken (record { side = side; number = number; request = request; reply = reply })
-
--- the request was sent to the side in this session
-abbrev pub WasAsked : Running → Which → ℕ → Request → Type 0
-WasAsked running side number request =
-    ((reply : Reply) × Contains running.taken (record { side = side; number = number; request = request; reply = reply }))
-    ⊎ ((resent : ℕ) × Contains (outstanding running side) (record { number = number; request = request; resent = resent }))
-
--- resends aside, nothing is asked twice of a side
-abbrev pub AsksOnce : Running → Type 0
-AsksOnce running = (side : Which) (m n : ℕ) (a b : Request) →
-    WasAsked running side m a → WasAsked running side n b → IsRepeat a b → m ≡ n
-
-abbrev pub BothBegun : List Exchange → Type 0
-BothBegun taken = (side : Which) → (pair : ℕ) × (position : ℕ) × WasTaken taken side (Begin pair) (Begun position)
-
--- the path is the root, or a listing that was taken shows a directory there
-abbrev pub IsShown : List Exchange → Which → Path → Type 0
-IsShown taken side path =
-    (path ≡ root)
-    ⊎ ((above : Path) × (name : Name) × (position : ℕ) × (entries : List (Name × Content)) × (path ≡ child above name)
-    × WasTaken taken side (ListAt above) (Listed position entries) × Contains entries (name, Directory))
-
--- a path was answered as no directory
-abbrev pub is_not_dir : Reply → Bool
-is_not_dir (NotDir position) = true
-is_not_dir _ = false
-
--- a path of its scans was answered as no directory
-abbrev pub is_unstable : Running → Bool
-is_unstable running = list_any (λ exchange. is_not_dir exchange.reply) running.taken
-
--- What an answer brings
-
--- the most nodes of a scan
-abbrev pub most_nodes : ℕ
-most_nodes = 4096
-
-abbrev pub entries_in : Reply → ℕ
-entries_in (Listed position entries) = length entries
-entries_in _ = 0
-
--- the nodes that the listings of a side show: the root, and each entry
-abbrev pub nodes_shown : List Exchange → Which → ℕ
-nodes_shown taken side =
-    1 + sum_by (λ exchange. if is_side side exchange.side then entries_in exchange.reply else 0) taken
-
--- the length of the whole that an answer gave first for a path
-abbrev pub piece_total : Path → Request → Reply → Option ℕ
-piece_total path (Fetch at since offset) (Piece total bytes) = if eq_by_cmp path_cmp at path then Some total else None
-piece_total path _ _ = None
-
-abbrev pub first_total : List Exchange → Path → Option ℕ
-first_total taken path = slice_get (filter_map (λ exchange. piece_total path exchange.request exchange.reply) taken) 0
-
--- the most bytes of a piece
-abbrev pub most_piece : ℕ
-most_piece = 32768
-
--- a piece has the length that the item's first piece gave for the whole, and all the bytes that it can
-abbrev pub fits_piece : Option ℕ → ℕ → ℕ → ℕ → Bool
-fits_piece first offset total count =
-    option_map_or (λ was. total == was) first true && nat_le offset total && count == min most_piece (total - offset)
-
--- The refusal with which an answer ends the session at once, if it does: a begin or a listing is refused, a scan grows
--- too large, or the answer does not belong. A refusal of another request refuses its item and ends nothing
-abbrev pub fault_of : List Exchange → Which → Request → Reply → Option Refusal
-fault_of taken from (Begin pair) (Refused why) = Some why
-fault_of taken from (Begin pair) (Begun position) = None
-fault_of taken from (ListAt path) (Refused why) = Some why
-fault_of taken from (ListAt path) (NotDir position) = None
-fault_of taken from (ListAt path) (Listed position entries) =
-    first_cause ((nat_lt most_nodes (nodes_shown taken from + length entries), TooLarge)
-    ∷ (not (list_all (λ entry. fits_path (child path entry.0)) entries), BadMessage) ∷ [])
-fault_of taken from (Fetch path since offset) (Refused why) = None
-fault_of taken from (Fetch path since offset) (Piece total bytes) =
-    first_cause ((not (fits_piece (first_total taken path) offset total (length bytes)), BadMessage) ∷ [])
-fault_of taken from (Stage item offset bytes) (Refused why) = None
-fault_of taken from (Stage item offset bytes) Staged = None
-fault_of taken from (Replace item path since size) (Refused why) = None
-fault_of taken from (Replace item path since size) Done = None
-fault_of taken from request reply = Some BadMessage
-
--- The plan
-
-abbrev pub plan_of : Running → List Planned
-plan_of running = option_map_or (λ plan. plan) running.plan []
-
--- the plan is that of the scans that the transcript gives and of the archive; no session prefers a side yet
-pub record MakesPlan (running : Running) (archive : Archive) (made : SessionPlan) : Type 0 where
-  pub of_session : made.session ≡ running.session
-  pub prefers_none : made.preference ≡ None
-  pub archive_is : made.archive ≡ archive.marks
-  pub begun : BothBegun running.taken
-  pub scanned : (side : Which) → IsScanBy
-      (λ path position entries. WasTaken running.taken side (ListAt path) (Listed position entries))
-      (λ path position. WasTaken running.taken side (ListAt path) (NotDir position)) (made.scan side) (made.since side)
-  pub items : map (λ planned. planned.item) made.plan ≡ items_of (made.scan Left) (made.scan Right) made.archive
-  pub seen : All (SeesBoth made.scan made.since) made.plan
-
--- the plan stays, or it is made, once in a session
-pub data HasPlan (archive : Archive) (running : Running) : Option (List Planned) → Log → Type 0 where
-  stays : HasPlan archive running running.plan []
-  makes : (made : SessionPlan) → running.plan ≡ None → MakesPlan running archive made →
-      HasPlan archive running (Some made.plan) (made ∷ [])
-
--- what is to be recorded for an item, with the marks that both scans show or its source shows
-abbrev pub record_for : Planned → Item → Option Kept
-record_for planned (ToLeft path) = Some (Recorded path planned.right.marks)
-record_for planned (ToRight path) = Some (Recorded path planned.left.marks)
-record_for planned (MarkSame path) = Some (Recorded path planned.left.marks)
-record_for planned (MarkDir path) = Some (RecordedDir path)
-record_for planned (Conflict path) = None
-
--- What is asked for
-
--- the item that the session has come to
-abbrev pub AtCursor : Running → (Planned → Type 0) → Type 0
-AtCursor running P = (planned : Planned) × (slice_get (plan_of running) running.cursor ≡ Some planned) × P planned
-
--- so many bytes of the item are staged on the side
-abbrev pub IsStagedTo : Running → Which → ℕ → Type 0
-IsStagedTo running to count = (count ≡ 0) ⊎ ((before : ℕ) × (bytes : List ℕ)
-    × WasTaken running.taken to (Stage running.cursor before bytes) Staged × (count ≡ before + length bytes))
-
--- what a running session may ask of a side next: a listing, before it has its plan, of a path that is shown as a directory;
--- then the next piece of what the item is to carry, once its record fits the archive; a piece that was taken; and its
--- replacement, once the whole is staged
-abbrev pub MayAsk : Archive → Running → Which → Request → Type 0
-MayAsk archive running to (Begin pair) = ⊥
-MayAsk archive running to (ListAt path) = (running.plan ≡ None) × BothBegun running.taken × IsShown running.taken to path
-MayAsk archive running to (Fetch path since offset) = AtCursor running (λ planned.
-    WritesTo planned.item (other to) path × (since ≡ (seen_on planned to).since)
-    × (kept_refusal archive (Recorded path (seen_on planned to).marks) ≡ None) × IsStagedTo running (other to) offset
-    × (option_map_or (λ total. nat_lt offset total) (first_total running.taken path) (offset == 0) ≡ true))
-MayAsk archive running to (Stage item offset bytes) = (item ≡ running.cursor) × AtCursor running (λ planned.
-    WritesTo planned.item to (path_of planned.item) × (total : ℕ)
-    × WasTaken running.taken (other to) (Fetch (path_of planned.item) (seen_on planned (other to)).since offset) (Piece total bytes))
-MayAsk archive running to (Replace item path since size) = (item ≡ running.cursor) × AtCursor running (λ planned.
-    WritesTo planned.item to path × (since ≡ (seen_on planned to).since) × (offset : ℕ) × (bytes : List ℕ)
-    × WasTaken running.taken (other to) (Fetch (path_of planned.item) (seen_on planned (other to)).since offset) (Piece size bytes)
-    × IsStagedTo running to size)
-
--- and each request is lawful, with a number that four bytes can spell
-pub record Asks_now (archive : Archive) (running : Running) (left right : List Request) : Type 0 where
-  pub may_left : All (MayAsk archive running Left) left
-  pub may_right : All (MayAsk archive running Right) right
-  pub lawful : All (IsLawfulRequest running.session) (left ++ right)
-  pub numbers : (side : Which) → asked_count (asking running left right) side ≤ 2 ^ 32
-  pub once : AsksOnce (asking running left right)
-  pub waits : Waits (asking running left right)
+pub use Rattle.syn_headline.specs.Session.{Exchange, Outstanding, Running, CoordinatorMachine}
+pub use Rattle.syn_headline.specs.Session.{is_recorded, archive_layout, outstanding, asked_in}
+pub use Rattle.syn_headline.specs.Session.{asked_of, without, asked_count, numbered, asking}
+pub use Rattle.syn_headline.specs.Session.{messages_to, most_outstanding, Waits, WasTaken}
+pub use Rattle.syn_headline.specs.Session.{WasAsked, AsksOnce, BothBegun, IsShown, is_not_dir}
+pub use Rattle.syn_headline.specs.Session.{is_unstable, most_nodes, entries_in, nodes_shown}
+pub use Rattle.syn_headline.specs.Session.{piece_total, first_total, most_piece, fits_piece}
+pub use Rattle.syn_headline.specs.Session.{fault_of, plan_of, MakesPlan, HasPlan, record_for}
+pub use Rattle.syn_headline.specs.Session.{AtCursor, IsStagedTo, MayAsk, AsksNext, stays, makes}
 
 -- How a session goes through its plan
 
@@ -460,7 +220,7 @@ pub data Takes (pair : ℕ) (machine : CoordinatorMachine) (running : Running) (
       HasPlan machine.journal.value (hearing running taken) plan logged →
       Advances pair (option_map_or (λ plan. plan) plan []) taken (start_of machine running) kept walk →
       walk.journal.status ≡ machine.journal.status → (is_last taken.reply ≡ true → walk.cursor ≢ running.cursor) →
-      Asks_now walk.journal.value (advanced (hearing running taken) plan walk kept) left right →
+      AsksNext walk.journal.value (advanced (hearing running taken) plan walk kept) left right →
       Takes pair machine running taken
       (record { journal = walk.journal; running = Some (asking (advanced (hearing running taken) plan walk kept) left right) })
       (record { kept = kept; messages = sent_now (advanced (hearing running taken) plan walk kept) left right; reports = []; logged = logged })

@@ -4,6 +4,7 @@ pub mod SideMachine
 pub mod Network
 pub mod Planning
 pub mod Report
+pub mod Session
 pub mod Coordinator
 pub mod Acknowledged
 pub mod World

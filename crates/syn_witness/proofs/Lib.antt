@@ -6,6 +6,7 @@ pub mod WitnessLemmas
 pub mod FailLemmas
 pub mod StopLemmas
 pub mod ForbiddenLemmas
+pub mod FailureLemmas
 pub mod WitnessScans
 pub mod WitnessSteps
 pub mod WitnessSession
@@ -14,3 +15,4 @@ pub mod ExchangeSides
 pub mod ExchangeLemmas
 pub mod MarkedScans
 pub mod MarkedLemmas
+pub mod RefusedLemmas

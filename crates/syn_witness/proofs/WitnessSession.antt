@@ -23,7 +23,7 @@ use Rattle.syn_headline.specs.Acknowledged.{Ack, Happened, Kept_by}
 use Rattle.syn_headline.specs.Planning.{Planned, SeesBoth, SessionPlan}
 use Rattle.syn_headline.specs.Coordinator.{Exchange, Running, MakesPlan, WasTaken, BothBegun, fault_of, hearing, start_of, stays, makes, stands, done}
 use Rattle.syn_headline.specs.World.{World, Edits, Start, Deliver, Steps, Runs}
-use Rattle.syn_witness.specs.Witness.{opened_world, a_path, put_one, one, complete, FileIsCarried}
+use Rattle.syn_witness.specs.Witness.{opened_world, a_path, put_one, one, complete, up_to_replacement, FileIsCarried}
 use Rattle.syn_headline.specs.Headline.{IsQuietSession, IsNoEdit, formatted, stores_of}
 use Rattle.syn_witness.proofs.WitnessTrees.{get_by, fits_by, fits_archive_by, children_by}
 use Rattle.syn_witness.proofs.WitnessFiles.{letter_size, alone, with_file, content, digest, alone-entries, file-entries, file_mark-entries, put-entries, marked_whole, alone_whole, root_only, root_alone, path_of_letter, one_byte, file_is_part, file_spelling, file_fits_part, file_fits_paths, are_marks}
@@ -162,7 +162,7 @@ staged = world left_side right_staged begun_archive (Some right_stages) 12 4
 abbrev pub right_replaces : Running
 right_replaces = runs_with 1 (take 6 transcript) [] (waits 3 (Replace 0 a_path 1 6)) (Some plan) 0 []
 
-abbrev replacing : World
+abbrev pub replacing : World
 replacing = world left_side right_staged begun_archive (Some right_replaces) 13 4
 
 abbrev pub replaced : World
@@ -200,14 +200,14 @@ fetches = says_so fetching Left 1 2 (Fetch a_path 2 0) None left_side (Piece 6 f
 stages : Steps staging (Deliver 10) staged
 stages = says_so staging Right 1 2 (Stage 0 0 file_bytes) None right_staged Staged refl reads_nothing refl refl
 
-done_is : answer right_done Done ≡ serve 7 (has_room_for 7 (machine_of right_staged)) (Some one) right_staged 1 (Replace 0 a_path 1 6)
+pub done_is : answer right_done Done ≡ serve 7 (has_room_for 7 (machine_of right_staged)) (Some one) right_staged 1 (Replace 0 a_path 1 6)
 unfolding tree_of
 done_is =
     let new = put-entries empty_directory one 97 (content (49 ∷ [])) alone-entries (file-entries (49 ∷ [])) in
     let fits = fits_by (replace empty_directory a_path one) (with_file 97 (content (49 ∷ []))) new in
     rw (get_by empty_directory alone root alone-entries, fits, file_spelling (49 ∷ [])) refl
 
-replaces : Steps replacing (Deliver 12) replaced
+pub replaces : Steps replacing (Deliver 12) replaced
 replaces = adds_so replacing Right 1 3 (Replace 0 a_path 1 6) (Some one) right_done Done (Replaced (token_of 1 0) a_path 1 one) refl refl
     (file_is_part (49 ∷ []) (one_byte 49 (omega arith)), file_fits_part 49, file_fits_paths 49, file_spelling (49 ∷ [])) done_is refl
 
@@ -347,6 +347,13 @@ lists_both = (listing, takes_right_begun, (left_listed, lists_left, (both_listed
 
 carries : Runs fetching (map Deliver (8 ∷ 9 ∷ 10 ∷ 11 ∷ 12 ∷ [])) replaced
 carries = (fetched, fetches, (staging, takes_piece, (staged, stages, (replacing, takes_staged, (replaced, replaces, refl)))))
+
+-- up to the replacement
+pub run_to_replacement : Runs opened_world up_to_replacement replacing
+run_to_replacement =
+    runs_on_from opened_world right_awaited replacing (Edits Left 1 put_one ∷ Start ∷ map Deliver (0 ∷ 1 ∷ 2 ∷ [])) (map Deliver (3 ∷ 4 ∷ 5 ∷ 6 ∷ 7 ∷ 8 ∷ 9 ∷ 10 ∷ 11 ∷ [])) begins
+    (runs_on_from right_awaited fetching replacing (map Deliver (3 ∷ 4 ∷ 5 ∷ 6 ∷ 7 ∷ [])) (map Deliver (8 ∷ 9 ∷ 10 ∷ 11 ∷ [])) lists_both
+    (fetched, fetches, (staging, takes_piece, (staged, stages, (replacing, takes_staged, refl)))))
 
 pub run_to_done : Runs opened_world (Edits Left 1 put_one ∷ Start ∷ map Deliver (0 ∷ 1 ∷ 2 ∷ 3 ∷ 4 ∷ 5 ∷ 6 ∷ 7 ∷ 8 ∷ 9 ∷ 10 ∷ 11 ∷ 12 ∷ [])) replaced
 run_to_done =

@@ -21,7 +21,7 @@ use Rattle.syn_headline.specs.SideMachine.{SideMachine, side_layout, side_now, w
 use Rattle.syn_headline.specs.Network.{Which, Left, Right, Asks, Answers, Sent}
 use Rattle.syn_headline.specs.Acknowledged.{Ack, kept_in}
 use Rattle.syn_headline.specs.Planning.{Planned, Log}
-use Rattle.syn_headline.specs.Coordinator.{Exchange, Outstanding, Running, CoordinatorMachine, Call, no_call, Walk, Waits, MayAsk, Asks_now, HasPlan, IsDue, Keeps, writes, Advances, stands, keeps, past, settled, is_recorded, archive_layout, asked_of, asked_count, asking, hearing, advanced, start_of, sent_now, fault_of, is_last, report_of, new_session, begins, start_causes, takes, ends, goes_on}
+use Rattle.syn_headline.specs.Coordinator.{Exchange, Outstanding, Running, CoordinatorMachine, Call, no_call, Walk, Waits, MayAsk, AsksNext, HasPlan, IsDue, Keeps, writes, Advances, stands, keeps, past, settled, is_recorded, archive_layout, asked_of, asked_count, asking, hearing, advanced, start_of, sent_now, fault_of, is_last, report_of, new_session, begins, start_causes, takes, ends, goes_on}
 use Rattle.syn_headline.specs.Coordinator.{starts as session_starts}
 use Rattle.syn_headline.specs.World.{World, At, Step, Edits, Start, Steps, Runs, side_of, side_goes, side_writes, coordinator_goes, says, is_halted, answered_by, refuses_with, edits, starts, Delivers, to_side, to_coordinator}
 use Rattle.syn_witness.specs.Witness.{new_room, new_archive_room, new_journal}
@@ -157,7 +157,7 @@ starts_so old session up arms none next lawful new is =
 
 -- what is asked for next
 pub asks_so : (number_of : Which → ℕ → ℕ) (archive : Archive) (running : Running) (left right : List Request) → AllByRecursion (MayAsk archive running Left) left → AllByRecursion (MayAsk archive running Right) right → AllByRecursion (IsLawfulRequest running.session) (left ++ right) →
-    (asked_count (asking running left right) Left ≤ 2 ^ 32) → (asked_count (asking running left right) Right ≤ 2 ^ 32) → AreNumbered number_of (asking running left right) → Waits (asking running left right) → Asks_now archive running left right
+    (asked_count (asking running left right) Left ≤ 2 ^ 32) → (asked_count (asking running left right) Right ≤ 2 ^ 32) → AreNumbered number_of (asking running left right) → Waits (asking running left right) → AsksNext archive running left right
 asks_so number_of archive running left right may_left may_right lawful few few' numbered waits = record {
   may_left = All-from_recursion (MayAsk archive running Left) left may_left;
   may_right = All-from_recursion (MayAsk archive running Right) right may_right;
@@ -175,7 +175,7 @@ not_last e = absurd (true≢false (sym e))
 pub goes_on_so : (old : World) (running : Running) (from : Which) (number : ℕ) (request : Request) (reply : Reply) (plan : Option (List Planned)) (logged : Log) (walk : Walk) (kept : List Kept) (left right : List Request) → old.coordinator.running ≡ Some running → asked_of running from number ≡ Some request →
     fault_of running.taken from request reply ≡ None → HasPlan old.coordinator.journal.value (hearing running (took from number request reply)) plan logged →
     Advances old.pair (option_map_or (λ plan. plan) plan []) (took from number request reply) (start_of old.coordinator running) kept walk → walk.journal.status ≡ old.coordinator.journal.status → (is_last reply ≡ true → walk.cursor ≢ running.cursor) →
-    Asks_now walk.journal.value (advanced (hearing running (took from number request reply)) plan walk kept) left right →
+    AsksNext walk.journal.value (advanced (hearing running (took from number request reply)) plan walk kept) left right →
     Delivers old (Some (Answers from running.session number reply)) (coordinator_goes old (record { journal = walk.journal; running = Some (asking (advanced (hearing running (took from number request reply)) plan walk kept) left right) })
     (record { kept = kept; messages = sent_now (advanced (hearing running (took from number request reply)) plan walk kept) left right; reports = []; logged = logged }))
 goes_on_so old running from number request reply plan logged walk kept left right runs asked fault has advances stays moves asks =

@@ -1,5 +1,5 @@
 -- What no run does.
-use Rattle.std.specs.Prelude.{ℕ, ◌≡◌, ◌≢◌, true, List, Some, None, All, Contains}
+use Rattle.std.specs.Prelude.{ℕ, ◌≤◌, ◌<◌, ◌≡◌, ◌≢◌, true, List, Some, None, All, Contains}
 use Rattle.syn_model.specs.Refusal.{NoAnswer, TooLarge, BadMessage}
 use Rattle.syn_model.specs.Event.{Edit}
 use Rattle.syn_headline.specs.Side.{Begin}
@@ -7,8 +7,8 @@ use Rattle.syn_headline.specs.Network.{Which, Asks}
 use Rattle.syn_headline.specs.Report.{Complete}
 use Rattle.syn_headline.specs.Coordinator.{CoordinatorMachine, Running, Exchange, Call, Takes, CoordinatorStarts, CoordinatorTicks}
 use Rattle.syn_headline.specs.Coordinator.{fault_of, is_unstable}
-use Rattle.syn_headline.specs.Machine.{Down, IsBefore}
-use Rattle.syn_headline.specs.World.{World, Machine, Step, Edits, Stop, Steps, Runs, side_of, status_of}
+use Rattle.syn_headline.specs.Machine.{Halted, Down, IsBefore}
+use Rattle.syn_headline.specs.World.{World, Machine, Step, Edits, Stop, Steps, Runs, side_of, status_of, failures_of}
 use Rattle.syn_headline.specs.Headline.{IsStart}
 
 -- without a stop among the steps no machine goes down
@@ -48,3 +48,9 @@ UnstableIsIncomplete = (pair : ℕ) (old : CoordinatorMachine) (running : Runnin
 abbrev pub FailureEnds : Type 0
 FailureEnds = (pair : ℕ) (old : CoordinatorMachine) (running : Running) (taken : Exchange) (new : CoordinatorMachine) (call : Call) →
     Takes pair old running taken new call → new.journal.status ≢ old.journal.status → new.running ≡ None
+
+-- a machine is halted only after one of its device calls failed, so where none fails in a run none is
+abbrev pub HaltedAfterFailure : Type 0
+HaltedAfterFailure = (old new : World) (steps : List Step) → IsStart old → Runs old steps new → (machine : Machine) →
+    (failures_of old machine ≤ failures_of new machine)
+    × (status_of new machine ≡ Halted → failures_of old machine < failures_of new machine)

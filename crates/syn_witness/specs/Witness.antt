@@ -1,8 +1,8 @@
 -- Runs that the definitions are to allow: from three formatted disks that have just been opened, each step of the world.
-use Rattle.std.specs.Prelude.{ℕ, ◌-◌, ◌≡◌, false, List, [], ◌∷◌, ◌++◌, None, Some, map, length, replicate}
+use Rattle.std.specs.Prelude.{ℕ, ◌-◌, ◌≡◌, false, List, [], ◌∷◌, ◌++◌, None, Some, map, length, replicate, slice_get}
 use Rattle.syn_model.specs.Rows.{a_name}
 use Rattle.syn_model.specs.Path.{Path}
-use Rattle.syn_model.specs.Refusal.{NoAnswer, Device, Halted}
+use Rattle.syn_model.specs.Refusal.{NoAnswer, Touched, Device, Halted}
 use Rattle.syn_model.specs.Event.{Put, Edit, Edited, Began, Replaced}
 use Rattle.syn_model.specs.Tree.{Tree, file, subtree, empty_directory}
 use Rattle.syn_model.specs.Image.{image_spelling}
@@ -15,8 +15,9 @@ use Rattle.syn_headline.specs.Network.{Left, Right}
 use Rattle.syn_headline.specs.Acknowledged.{Ack, Happened, Kept_by, Stores}
 use Rattle.syn_headline.specs.Report.{Report, Complete, Incomplete}
 use Rattle.syn_headline.specs.Machine.{Up, Journaled, unarmed, record_size, room_behind}
+use Rattle.syn_headline.specs.Machine as status
 use Rattle.syn_headline.specs.SideMachine.{SideMachine}
-use Rattle.syn_headline.specs.World.{World, At, Step, Edits, Start, Deliver, Stop, Coordinator, Tick, Open, Fail, Checkpoint, Reopen, Runs}
+use Rattle.syn_headline.specs.World.{World, At, Step, Edits, Start, Deliver, Stop, Coordinator, Tick, Open, Fail, Checkpoint, Reopen, Runs, failures_of}
 use Rattle.syn_headline.specs.Headline.{IsStart, formatted, stores_of, IsQuietSession, UntouchedSince}
 use Rattle.syn_headline.specs.Side.{token_of}
 
@@ -194,3 +195,58 @@ CarriedIsMarkedLater =
     ∷ Happened Right (Replaced (token_of 1 0) a_path 1 one) ∷ Kept_by (Session 2) ∷ Happened Left (Began 2) ∷ Happened Right (Began 2)
     ∷ Kept_by (Recorded a_path (mark one)) ∷ [])
     ((marked_later, 9) ∷ []) IsMarkedLater
+
+-- the steps up to the answer of the replacement, which is not delivered yet
+abbrev pub up_to_replacement : List Step
+up_to_replacement =
+    Edits Left 1 put_one ∷ Start ∷ map Deliver (0 ∷ 1 ∷ 2 ∷ 3 ∷ 4 ∷ 5 ∷ 6 ∷ 7 ∷ 8 ∷ 9 ∷ 10 ∷ 11 ∷ [])
+
+abbrev pub acknowledged_then : List Ack
+acknowledged_then =
+    Happened Left (Edited 1 put_one) ∷ Kept_by (Session 1) ∷ Happened Left (Began 1) ∷ Happened Right (Began 1) ∷ []
+
+-- a replacement that is delivered twice is done once, and answered so twice
+abbrev pub RepeatIsDone : Type 0
+RepeatIsDone =
+    IsWitness (up_to_replacement ++ map Deliver (12 ∷ 12 ∷ [])) 15
+    (acknowledged_then ++ Happened Right (Replaced (token_of 1 0) a_path 1 one) ∷ []) []
+    (λ world. slice_get world.sent 13 ≡ slice_get world.sent 14)
+
+-- the file `a` with the byte `2`
+abbrev pub put_other : Edit
+put_other = Put a_path (50 ∷ [])
+
+abbrev pub touched_report : Report
+touched_report = record {
+  session = 1;
+  end = Incomplete;
+  ended = None;
+  done = 0;
+  marked = 0;
+  conflicts = [];
+  refused = (Touched, a_path) ∷ [];
+}
+
+-- a path that was edited after its listing is not replaced: its item is refused, and the session ends Incomplete
+abbrev pub TouchedIsRefused : Type 0
+TouchedIsRefused =
+    IsWitness (up_to_replacement ++ (Edits Right 2 put_other ∷ map Deliver (12 ∷ 13 ∷ []))) 14
+    (acknowledged_then ++ Happened Right (Edited 2 put_other) ∷ []) ((touched_report, 5) ∷ [])
+    (λ world. world.right.journal.value ≡ Began 1 ∷ Edited 2 put_other ∷ [])
+
+abbrev pub failed_report : Report
+failed_report = record {
+  session = 1;
+  end = Incomplete;
+  ended = None;
+  done = 0;
+  marked = 0;
+  conflicts = [];
+  refused = (Device, a_path) ∷ [];
+}
+
+-- the second device call of a replacement fails: it is refused 9 and the side halted, and the session refuses its item
+abbrev pub ReplacementFails : Type 0
+ReplacementFails =
+    IsWitness (up_to_replacement ++ (Fail (At Right) 2 ∷ map Deliver (12 ∷ 13 ∷ []))) 14 acknowledged_then ((failed_report, 4) ∷ [])
+    (λ world. (world.right.journal.status ≡ status.Halted) × (failures_of world (At Right) ≡ 1))

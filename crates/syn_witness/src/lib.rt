@@ -2,8 +2,8 @@
 #![tactic(auto)]
 
 ghost use Rattle.syn_witness.specs.Rows.{SideRows};
-ghost use Rattle.syn_witness.specs.Forbidden.{StaysWithoutStop, ArmedCallsCome, StartsFresh, BeginsOnce, FaultsAlone, UnstableIsIncomplete, FailureEnds};
-ghost use Rattle.syn_witness.specs.Witness.{OpenedIsStart, NewRoomIs, StopIsRecovered, FailIsRefused, CheckpointIsCut, SilenceEnds, FileIsCarried, FilesAreExchanged, CarriedIsMarkedLater};
+ghost use Rattle.syn_witness.specs.Forbidden.{StaysWithoutStop, ArmedCallsCome, StartsFresh, BeginsOnce, FaultsAlone, UnstableIsIncomplete, FailureEnds, HaltedAfterFailure};
+ghost use Rattle.syn_witness.specs.Witness.{OpenedIsStart, NewRoomIs, StopIsRecovered, FailIsRefused, CheckpointIsCut, SilenceEnds, FileIsCarried, FilesAreExchanged, CarriedIsMarkedLater, RepeatIsDone, TouchedIsRefused, ReplacementFails};
 
 /// What a side answers in worked examples, which its definition gives.
 pub fn examples()
@@ -13,7 +13,8 @@ pub fn examples()
 /// Runs from three formatted disks, step by step, that the definitions of a run allow: a stop while an edit is written and its
 /// recovery, an edit whose device call fails and what a reopening gives, a checkpoint that is cut
 /// off, a session that nobody answers, a whole session over one file, one that carries a file each way, and one that marks
-/// what an earlier session carried and did not record.
+/// what an earlier session carried and did not record; a replacement that comes twice, one that comes after an edit,
+/// and one whose device call fails.
 pub fn witnesses()
     ensures start { OpenedIsStart }
     ensures room { NewRoomIs }
@@ -24,11 +25,14 @@ pub fn witnesses()
     ensures carried { FileIsCarried }
     ensures exchanged { FilesAreExchanged }
     ensures marked { CarriedIsMarkedLater }
+    ensures repeated { RepeatIsDone }
+    ensures touched { TouchedIsRefused }
+    ensures device { ReplacementFails }
 {}
 
 /// What no run does: without a stop among the steps no machine goes down, an edit is not acknowledged where one of its device
 /// calls is armed, a session is not given up at its first tick, begun twice on a side, ended 22 or 23 for an answer without a fault,
-/// called Complete with an unstable path, or gone on with once its archive's device failed.
+/// called Complete with an unstable path, or gone on with once its archive's device failed; and no machine is halted before a device call of it failed.
 pub fn forbidden()
     ensures up { StaysWithoutStop }
     ensures armed { ArmedCallsCome }
@@ -37,4 +41,5 @@ pub fn forbidden()
     ensures faults { FaultsAlone }
     ensures unstable { UnstableIsIncomplete }
     ensures fails { FailureEnds }
+    ensures halted { HaltedAfterFailure }
 {}

@@ -1,3 +1,4 @@
+use Rattle.syn_witness.proofs.FailureLemmas.{halted_after_failure}
 use Rattle.syn_witness.proofs.StopLemmas.{stay_without_stop, armed_calls_come}
 use Rattle.syn_witness.proofs.ForbiddenLemmas.{starts_fresh, begins_once, faults_alone, unstable_is_incomplete, failure_ends}
 use Rattle.syn_witness.proofs.forbidden.Goals as goal
@@ -22,3 +23,6 @@ returns-clause-unstable c = unstable_is_incomplete
 
 pub returns-clause-fails : goal.returns-clause-fails
 returns-clause-fails c = failure_ends
+
+pub returns-clause-halted : goal.returns-clause-halted
+returns-clause-halted c = halted_after_failure

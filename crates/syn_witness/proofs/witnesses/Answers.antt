@@ -1,3 +1,4 @@
+use Rattle.syn_witness.proofs.RefusedLemmas.{repeat_is_done, touched_is_refused, replacement_fails}
 use Rattle.syn_witness.proofs.FailLemmas.{fail_is_refused, checkpoint_is_cut}
 use Rattle.syn_witness.proofs.WitnessLemmas.{opened_is_start, new_room_is, stop_is_recovered, silence_ends}
 use Rattle.syn_witness.proofs.WitnessSession.{file_is_carried}
@@ -31,3 +32,12 @@ returns-clause-room c = new_room_is
 
 pub returns-clause-checkpoint : goal.returns-clause-checkpoint
 returns-clause-checkpoint c = checkpoint_is_cut
+
+pub returns-clause-repeated : goal.returns-clause-repeated
+returns-clause-repeated c = repeat_is_done
+
+pub returns-clause-touched : goal.returns-clause-touched
+returns-clause-touched c = touched_is_refused
+
+pub returns-clause-device : goal.returns-clause-device
+returns-clause-device c = replacement_fails
