@@ -18,8 +18,7 @@ use clap::error::ErrorKind;
 use std::alloc::Global;
 use std::fs::Files;
 use std::io::{Read, Write};
-use std::os::unix::fs::FileExt;
-use syn_disk::FileDisk;
+use syn_disk::{FileDisk, HostFile, MirroredFile};
 use syn_path::Path;
 use syn_replica::Replica;
 
@@ -36,7 +35,7 @@ pub fn command<F: Files, I: Read, O: Write, E: Write>(
     errors: &mut E,
 ) -> Status
 where
-    F::File: FileExt,
+    F::File: HostFile,
     ensures done { result ≡ Status.Done
         → ((line : Line) × Asks (map (λ word. word.now) words.entry.now) line)
         ⊎ AsksHelp (map (λ word. word.now) words.entry.now) }
@@ -92,7 +91,7 @@ fn carry_out<F: Files, I: Read, O: Write>(
     output: &mut O,
 ) -> Result<(), CommandError>
 where
-    F::File: FileExt,
+    F::File: HostFile,
 {
     match line {
         Line::Format { pair, file } => {
@@ -103,7 +102,9 @@ where
             let position = edit(alloc, line, files, input)?;
             writeln!(output, "ok {position}")?;
         }
-        Line::Show { file, path: None } => show_image(alloc, &open(alloc, files, file)?, output)?,
+        Line::Show { file, path: None } => {
+            show_image(alloc, &open_to_read(alloc, files, file)?, output)?;
+        }
         Line::Show {
             file,
             path: Some(path),
@@ -121,7 +122,7 @@ fn edit<F: Files, I: Read>(
     input: &mut I,
 ) -> Result<u64, CommandError>
 where
-    F::File: FileExt,
+    F::File: HostFile,
     ensures { ((path : ModelPath) → ¬ NamesPath line.entry.now.path.now path)
         → IsErrAnd result IsOfPath }
 {
@@ -140,22 +141,35 @@ fn show<F: Files, O: Write>(
     output: &mut O,
 ) -> Result<(), CommandError>
 where
-    F::File: FileExt,
+    F::File: HostFile,
     ensures { ((at : ModelPath) → ¬ NamesPath path.now at) → IsErrAnd result IsOfPath }
 {
     let path = Path::parse(alloc, path)?;
-    show_path(alloc, &open(alloc, files, file)?, &path, output)
+    show_path(alloc, &open_to_read(alloc, files, file)?, &path, output)
 }
 
-/// The replica in the file.
+/// The replica in the file, which no other process may open meanwhile.
 fn open<F: Files>(
     alloc: Global,
     files: &F,
     name: &str,
-) -> Result<Replica<FileDisk<F::File>>, CommandError>
+) -> Result<Replica<FileDisk<MirroredFile<F::File>>>, CommandError>
 where
-    F::File: FileExt,
+    F::File: HostFile,
 {
     let disk = FileDisk::open(alloc, files, name)?;
+    Replica::open(alloc, disk, None).map_err(|(error, _)| CommandError::from(error))
+}
+
+/// The replica in the file, to be read. The file need not be one that can be written.
+fn open_to_read<F: Files>(
+    alloc: Global,
+    files: &F,
+    name: &str,
+) -> Result<Replica<FileDisk<MirroredFile<F::File>>>, CommandError>
+where
+    F::File: HostFile,
+{
+    let disk = FileDisk::open_to_read(alloc, files, name)?;
     Replica::open(alloc, disk, None).map_err(|(error, _)| CommandError::from(error))
 }

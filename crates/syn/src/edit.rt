@@ -1,7 +1,7 @@
 //! Makes an edit that a line asks for.
 ghost use Rattle.std.specs.Prelude.{◌≡◌, ◌⊎◌, ◌+◌, ◌++◌, ◌∷◌, [], length, take, IfOk, IfErr};
 ghost use Rattle.std.specs.Prelude.{IfSome, IsErrAnd, Some};
-ghost use Rattle.syn_journal.specs.Stops.{LeavesOnly};
+ghost use Rattle.syn_disk.specs.Stops.{LeavesOnly};
 ghost use Rattle.syn_model.specs.History.{History, event_refusal};
 ghost use Rattle.syn_model.specs.Path.{Bytes};
 ghost use Rattle.syn_model.specs.Refusal.{Refusal as Why};

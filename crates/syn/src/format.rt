@@ -4,15 +4,14 @@ use crate::error::CommandError;
 use std::alloc::Global;
 use std::fs::{Files, OpenFile, OpenOptions};
 use std::io;
-use std::os::unix::fs::FileExt;
-use syn_disk::{DISK_SIZE, FileDisk};
+use syn_disk::{DISK_SIZE, FileDisk, HostFile};
 use syn_replica::Replica;
 
 /// Makes the file a replica of the pair. Where that is refused, the file is as long as it was, or
 /// missing.
 pub fn format<F: Files>(alloc: Global, files: &F, file: &str, pair: u64) -> Result<(), CommandError>
 where
-    F::File: FileExt,
+    F::File: HostFile,
 {
     let before = make_room(files, file)?;
     if let Err(refusal) = format_disk(alloc, files, file, pair) {
@@ -72,7 +71,7 @@ fn format_disk<F: Files>(
     pair: u64,
 ) -> Result<(), CommandError>
 where
-    F::File: FileExt,
+    F::File: HostFile,
 {
     let disk = FileDisk::open(alloc, files, name)?;
     match Replica::format(alloc, disk, pair) {

@@ -6,3 +6,4 @@ mod Overwritten
 mod Padding
 mod Stopped
 mod Tracking
+mod Written

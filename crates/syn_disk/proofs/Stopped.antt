@@ -3,12 +3,12 @@ use Rattle.std.proofs.Common.{◌≡◌, inl, inr, ℕ, ◌-◌, ◌<◌, Bool, 
 use Rattle.std.specs.Prelude.{if◌then◌else◌}
 use Rattle.std.proofs.lemmas.Bool.{cases_lt}
 use Rattle.std.proofs.lemmas.List.{get_or_past, get_or_append_left, get_or-append_right}
-use Rattle.syn_disk.specs.Memory.{Tracks}
+use Rattle.syn_disk.specs.inner.Memory.{Tracks}
 use Rattle.syn_disk.specs.Padded.{padded}
-use Rattle.syn_disk.specs.PaddedLaws.{length-padded}
+use Rattle.syn_disk.specs.inner.PaddedLaws.{length-padded}
 use Rattle.syn_disk.specs.Stop.{Left, left_byte}
 use Rattle.syn_disk.specs.Written.{is_written}
-use Rattle.syn_disk.specs.declared.leaves.Leaves.{Leaves}
+use Rattle.syn_disk.specs.declared.simulated.leaves.Leaves.{Leaves}
 use Rattle.syn_disk.proofs.Padding.{get-padded}
 
 module _ (leaves : Leaves) where

@@ -4,7 +4,7 @@ use Rattle.std.specs.Prelude.{slice_range}
 use Rattle.std.proofs.lemmas.List.{get_or-take, get_or-drop, ext_get_or}
 use Rattle.std.proofs.lemmas.Bool.{false≢true}
 use Rattle.syn_disk.specs.Disk.{overwritten}
-use Rattle.syn_disk.specs.Memory.{Tracks}
+use Rattle.syn_disk.specs.inner.Memory.{Tracks}
 use Rattle.syn_disk.specs.Written.{is_written, IsHull}
 use Rattle.syn_disk.proofs.Flags.{place, length-marked, marked-outside, marked-inside}
 use Rattle.syn_disk.proofs.Overwritten.{length-overwritten, overwritten-below, overwritten-in, overwritten-behind}

@@ -1,7 +1,5 @@
 -- Which calls a disk refuses that was told to.
 use Rattle.std.specs.Prelude.{ℕ, ◌-◌, ◌==◌, ◌||◌, Bool, false, Option, Some, None, if◌then◌else◌}
-use Rattle.syn_disk.specs.declared.limit.Arm.{Arm}
-use Rattle.syn_disk.specs.declared.limit.Arm.TheVariants.{Fail, Stop}
 
 -- the number of calls up to the failure (0: none), and the calls that are still made before the stop
 pub record Arms : Type 0 where
@@ -18,6 +16,7 @@ is_zero (Some calls) = calls == 0
 abbrev pub is_stopped : Arms → Bool
 is_stopped arms = is_zero arms.stop
 
+-- the next call is refused
 abbrev pub is_refused : Arms → Bool
 is_refused arms = is_stopped arms || arms.failure == 1
 
@@ -28,8 +27,3 @@ one_fewer (Some calls) = Some (calls - 1)
 -- once it is stopped nothing changes
 abbrev pub after_call : Arms → Arms
 after_call arms = if is_stopped arms then arms else record { failure = arms.failure - 1; stop = one_fewer arms.stop }
-
--- an arm takes the place of one of its kind that is still to come
-abbrev pub armed : Arms → Arm → Arms
-armed arms (Fail call) = record arms { failure = call }
-armed arms (Stop calls) = if is_stopped arms then arms else record arms { stop = Some calls }

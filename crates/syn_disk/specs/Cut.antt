@@ -1,7 +1,7 @@
 -- What a `Cut` shows.
 use Rattle.std.specs.Prelude.{◌+◌, ℕ}
 use Rattle.syn_disk.specs.Arms.{Arms}
-use Rattle.syn_disk.specs.declared.cut.Cut.{Cut}
+use Rattle.syn_disk.specs.declared.simulated.cut.Cut.{Cut}
 
 -- the disk that it passes calls on to
 abbrev pub disk_of : {D : Type 0} → Cut D → D

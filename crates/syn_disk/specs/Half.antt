@@ -2,8 +2,8 @@
 use Rattle.std.specs.Prelude.{◌≡◌, ℕ, Bool, false, List}
 use Rattle.syn_disk.specs.Padded.{padded}
 use Rattle.syn_disk.specs.Written.{is_written}
-use Rattle.syn_disk.specs.declared.half.Half.{Half}
-use Rattle.syn_disk.specs.declared.half.TheConstants.{HALF_SIZE}
+use Rattle.syn_disk.specs.declared.simulated.half.Half.{Half}
+use Rattle.syn_disk.specs.declared.disk.TheConstants.{HALF_SIZE}
 
 -- what a read gives
 abbrev pub content_of : Half → List ℕ

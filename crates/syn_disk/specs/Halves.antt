@@ -3,11 +3,10 @@ use Rattle.std.specs.Prelude.{◌≡◌, ℕ, Bool, false, List, ◌++◌, lengt
 use Rattle.std.proofs.Common.{arith, length-append}
 use Rattle.syn_disk.specs.Half.{content_of, synced_of, written_of}
 use Rattle.syn_disk.specs.Moments.{MayLeave}
-use Rattle.syn_disk.specs.PaddedLaws.{length-padded}
+use Rattle.syn_disk.specs.inner.PaddedLaws.{length-padded}
 use Rattle.syn_disk.specs.Written.{is_written}
-use Rattle.syn_disk.specs.declared.disk.TheConstants.{DISK_SIZE}
-use Rattle.syn_disk.specs.declared.half.Half.{Half}
-use Rattle.syn_disk.specs.declared.half.TheConstants.{HALF_SIZE}
+use Rattle.syn_disk.specs.declared.disk.TheConstants.{DISK_SIZE, HALF_SIZE}
+use Rattle.syn_disk.specs.declared.simulated.half.Half.{Half}
 
 abbrev pub both_contents : Half → Half → List ℕ
 both_contents low high = content_of low ++ content_of high

@@ -4,8 +4,8 @@ use Rattle.syn_disk.specs.Disk.{Elapses}
 use Rattle.syn_disk.specs.Halves.{HalvesMayLeave, both_contents, both_synced, both_written}
 use Rattle.syn_disk.specs.Moments.{MayLeave, LeftSince}
 use Rattle.syn_disk.specs.Written.{is_written}
-use Rattle.syn_disk.specs.declared.leaves.Leaves.{Leaves}
-use Rattle.syn_disk.specs.declared.memory.MemDisk.{MemDisk}
+use Rattle.syn_disk.specs.declared.simulated.leaves.Leaves.{Leaves}
+use Rattle.syn_disk.specs.declared.simulated.memory.MemDisk.{MemDisk}
 
 -- what a read gives
 abbrev pub bytes_of : MemDisk → List ℕ

@@ -1,8 +1,8 @@
 -- What a stop makes of a disk in memory.
 use Rattle.std.specs.Prelude.{◌≡◌, ◌<◌, ◌-◌, ℕ, Bool, if◌then◌else◌, List, length, slice_index}
 use Rattle.syn_disk.specs.Written.{is_written}
-use Rattle.syn_disk.specs.declared.leaves.Leaves.{Leaves}
-use Rattle.syn_disk.specs.declared.leaves.Leaves.TheVariants.{Lose, Keep, Noise}
+use Rattle.syn_disk.specs.declared.simulated.leaves.Leaves.{Leaves}
+use Rattle.syn_disk.specs.declared.simulated.leaves.Leaves.TheVariants.{Lose, Keep, Noise}
 
 -- of a byte that was written since the last sync: the one before, the one written, or its complement
 abbrev pub left_byte : Leaves → ℕ → ℕ → ℕ

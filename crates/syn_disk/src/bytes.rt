@@ -1,5 +1,5 @@
 //! Parts of the bytes of a disk.
-ghost use Rattle.std.specs.Prelude.{◌≡◌, ◌≤◌, ◌+◌, ◌-◌, List, length, slice_range, take, drop, vec_capacity};
+ghost use Rattle.std.specs.Prelude.{◌≡◌, ◌≤◌, ◌+◌, ◌-◌, ◌++◌, List, length, replicate, slice_range, take, drop, vec_capacity};
 ghost use Rattle.syn_disk.specs.Disk.{overwritten};
 
 pub fn overwrite(content: &mut Vec<u8>, at: usize, bytes: &[u8])
@@ -25,4 +25,14 @@ pub fn copy_out(content: &Vec<u8>, at: usize, into: &mut [u8])
     ensures { into.new ≡ take (length into.old) (drop at content.now.items) }
 {
     into.copy_from_slice(&content[at..at + into.len()]);
+}
+
+/// Adds zeros, in the room that is there.
+pub fn extend(bytes: &mut Vec<u8>, to: usize)
+    requires longer { length bytes.old.items ≤ to }
+    requires room { to ≤ vec_capacity bytes.old }
+    ensures items { bytes.new.items ≡ bytes.old.items ++ replicate (to - length bytes.old.items) 0 }
+    ensures room { vec_capacity bytes.old ≤ vec_capacity bytes.new }
+{
+    bytes.resize(to, 0).unwrap();
 }

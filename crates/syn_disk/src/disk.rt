@@ -1,9 +1,13 @@
 //! The disk as the layers above see it.
-ghost use Rattle.std.specs.Prelude.{◌≡◌, ◌≤◌, ◌+◌, ℕ, List, length, take, drop, OnOk, OnErr};
+ghost use Rattle.std.specs.Prelude.{◌≡◌, ◌≤◌, ◌+◌, ℕ, false, List, length, take, drop, OnOk, OnErr};
+ghost use Rattle.syn_disk.specs.Arms.{Arms, after_call, is_refused};
 ghost use Rattle.syn_disk.specs.Disk.{overwritten, Torn, Follows, NothingNew, Only, Elapses, CountsFailure};
 
 /// The number of bytes of a disk.
 pub const DISK_SIZE: usize = 8_388_608;
+
+/// The number of bytes of each of the two parts in which memory for a disk is taken.
+pub(crate) const HALF_SIZE: usize = 4_194_304;
 
 /// A device call failed, which the layers above answer as refusal 9.
 #[derive(Clone, Copy, Debug, PartialEq, Eq)]
@@ -28,6 +32,9 @@ pub trait Disk {
     /// How many calls have failed.
     ghost failures: { Self → ℕ };
 
+    /// Which calls it was told to refuse. A disk that cannot be told has no arms.
+    ghost arms: { Self → Arms };
+
     /// Fills `into` with the bytes from `at` on.
     fn read(&mut self, at: usize, into: &mut [u8]) -> Result<(), DeviceFailed>
         requires { at + length into.old ≤ DISK_SIZE }
@@ -36,7 +43,9 @@ pub trait Disk {
         ensures stop { NothingNew (may_leave self.old) (may_leave self.new) }
         ensures time { Elapses (moment self.old) (moment self.new)
             (left_since self.old) (left_since self.new) (may_leave self.new) }
-        ensures count { CountsFailure result (failures self.old) (failures self.new) };
+        ensures count { CountsFailure result (failures self.old) (failures self.new) }
+        ensures arms { arms self.new ≡ after_call (arms self.old) }
+        ensures allowed { OnOk result (is_refused (arms self.old) ≡ false) };
 
     /// Until the next sync that succeeds a stop may leave any bytes in the range, also where the write failed.
     fn write(&mut self, at: usize, bytes: &[u8]) -> Result<(), DeviceFailed>
@@ -46,7 +55,9 @@ pub trait Disk {
         ensures stop { Follows (Torn at (length bytes.now)) (may_leave self.old) (may_leave self.new) }
         ensures time { Elapses (moment self.old) (moment self.new)
             (left_since self.old) (left_since self.new) (may_leave self.new) }
-        ensures count { CountsFailure result (failures self.old) (failures self.new) };
+        ensures count { CountsFailure result (failures self.old) (failures self.new) }
+        ensures arms { arms self.new ≡ after_call (arms self.old) }
+        ensures allowed { OnOk result (is_refused (arms self.old) ≡ false) };
 
     /// After it a stop leaves what a read gives.
     fn sync(&mut self) -> Result<(), DeviceFailed>
@@ -55,7 +66,9 @@ pub trait Disk {
         ensures stop { NothingNew (may_leave self.old) (may_leave self.new) }
         ensures time { Elapses (moment self.old) (moment self.new)
             (left_since self.old) (left_since self.new) (may_leave self.new) }
-        ensures count { CountsFailure result (failures self.old) (failures self.new) };
+        ensures count { CountsFailure result (failures self.old) (failures self.new) }
+        ensures arms { arms self.new ≡ after_call (arms self.old) }
+        ensures allowed { OnOk result (is_refused (arms self.old) ≡ false) };
 
     /// This moment is one of those since an earlier one.
     ghost counts_now: { (disk : Self) (t : ℕ) (c : List ℕ) → t ≤ moment disk → may_leave disk c → left_since disk t c };
@@ -68,15 +81,4 @@ pub trait Disk {
 
     /// A stop leaves a whole disk.
     ghost whole: { (disk : Self) (t : ℕ) (c : List ℕ) → left_since disk t c → length c ≡ DISK_SIZE };
-}
-
-/// A disk that the machine finds again after a stop.
-pub trait Restart: Disk {
-    /// Reads give what the stop left, and a further stop leaves the same.
-    fn restart(self) -> Self
-        ensures left { Self.Disk.may_leave self (Self.Disk.seen result) }
-        ensures settled { Only (Self.Disk.seen result) (Self.Disk.may_leave result) }
-        ensures time { Elapses (Self.Disk.moment self) (Self.Disk.moment result)
-            (Self.Disk.left_since self) (Self.Disk.left_since result) (Self.Disk.may_leave result) }
-        ensures count { Self.Disk.failures result ≡ Self.Disk.failures self };
 }

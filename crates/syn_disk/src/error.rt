@@ -1,8 +1,8 @@
 //! Why a disk in a file cannot be opened.
 ghost use Rattle.std.specs.Prelude.{◌≡◌, Some};
-ghost use Rattle.syn_model.specs.Refusal.{number, name_of};
+ghost use Rattle.syn_model.specs.Refusal.{name_of};
 ghost use Rattle.syn_refusal.specs.Refusals.{cause_of};
-ghost use Rattle.syn_disk.specs.OpenError.{refusal_of};
+ghost use Rattle.syn_disk.specs.OpenError.{refusal_of, number_of};
 
 use std::fmt;
 use syn_refusal::Refusal;
@@ -11,11 +11,11 @@ use thiserror::Error;
 /// Why a disk in a file cannot be opened.
 #[derive(Clone, Copy, Debug, PartialEq, Eq, Error)]
 pub enum OpenError {
-    /// The file is missing or of another length, or it cannot be locked, read or synced.
+    /// 9: the file is missing or of another length, or it cannot be locked, read or synced.
     Device,
-    /// There is no memory for the bytes of the disk.
+    /// 11: there is no memory for the bytes of the disk.
     Memory,
-    /// Another process has the file open.
+    /// 12: another process has the file open.
     Busy,
 }
 
@@ -33,7 +33,7 @@ impl OpenError {
 
     /// The number of the refusal.
     pub fn number(&self) -> u8
-        ensures { result ≡ number (refusal_of self.now) }
+        ensures { result ≡ number_of self.now }
     {
         self.refusal().number()
     }

@@ -1,59 +1,111 @@
-//! A disk whose bytes a file holds.
-ghost use Rattle.std.specs.Prelude.{◌≡◌, ◌||◌, ◌+◌, ◌<◌, ◌≤◌, [], ◌∷◌, ◌++◌, length, false, refl, IsOk, OnErr, OnOk, IfOk, ℕ, List};
-ghost use Rattle.syn_disk.specs.Disk.{overwritten, CountsFailure, Only};
-ghost use Rattle.syn_disk.specs.Extent.{is_between, is_in_some};
-ghost use Rattle.syn_disk.specs.Moments.{MayLeave, LeftSince};
-ghost use Rattle.syn_disk.specs.MomentLaws.{now_counts, only_now};
-ghost use Rattle.syn_disk.specs.Ranged.{RangedMayLeave};
+//! A disk in a file.
+ghost use Rattle.std.specs.Prelude.{◌≡◌, ◌≤◌, ◌<◌, ◌+◌, true, false, refl, Bool, ℕ, List, length, take, drop, IfOk, OnOk, OnErr};
+ghost use Rattle.syn_disk.specs.Arms.{no_arms};
+ghost use Rattle.syn_disk.specs.Disk.{overwritten, Torn, Follows, NothingNew, Only, Elapses, CountsFailure};
 ghost use Rattle.syn_disk.specs.declared.disk.TheConstants.{DISK_SIZE};
 
-use crate::bytes::{copy_out, overwrite};
 use crate::error::OpenError;
-use crate::extent::Extent;
-use crate::history::{History, Tally};
-use crate::{DISK_SIZE, DeviceFailed, Disk};
-use arrayvec::ArrayVec;
+use crate::history::Tally;
+use crate::{DeviceFailed, Disk};
 use std::alloc::Global;
-use std::fs::{Files, OpenFile, OpenOptions};
-use std::io;
-use std::os::unix::fs::FileExt;
+use std::fs::{Files, OpenOptions};
 
-/// How many written parts are kept apart before a write syncs first.
-const MOST_UNSYNCED: usize = 16;
+pub mod host;
+mod image;
+pub mod mirror;
 
-/// A file of `DISK_SIZE` bytes, and its bytes.
+use host::{Access, HostFile};
+use mirror::MirroredFile;
+
+/// A file of `DISK_SIZE` bytes, by what each call on it leaves.
 ///
-/// A read takes its bytes from memory, and a write goes to memory and to the file. The parts that were
-/// written since the last sync that succeeded are remembered, each for itself: one range over all of them would say
-/// that a stop can spoil bytes between them. After a call that failed, the next sync writes them all again before it
-/// syncs, so that the file agrees with memory after each sync that succeeds. Where no further part can be remembered, a
-/// write syncs first, so that no call takes memory.
-///
-/// No contract can say what a file holds: that it follows the memory in this way is taken as given, and all else is
-/// proved of the memory.
-#[derive(Drop)]
-pub struct FileDisk<F> {
-    file: F,
-    image: Vec<u8>,
-    unsynced: ArrayVec<Extent, MOST_UNSYNCED>,
-    /// A call failed since the last sync, so that the file may lack what was written.
-    is_stale: bool,
-    failed: Tally,
-    history: History<Vec<u8>, ArrayVec<Extent, MOST_UNSYNCED>>,
-    ghost full: { length image.items ≡ DISK_SIZE },
+/// It is sound as long as no sync of it failed. Then the system may drop what was written and take it for
+/// synced, so that no later sync can be believed: nothing is to be asked of the file any more.
+pub trait DiskFile {
+    /// The bytes that a read gives.
+    ghost seen: { Self → List ℕ };
+
+    /// The contents that a stop at this moment may leave.
+    ghost may_leave: { Self → List ℕ → Type 0 };
+
+    /// The moment, as a number that does not fall.
+    ghost moment: { Self → ℕ };
+
+    /// The contents that a stop at some moment from that one on might have left, during a call or between two.
+    ghost left_since: { Self → ℕ → List ℕ → Type 0 };
+
+    /// No sync has failed.
+    ghost is_sound: { Self → Bool };
+
+    /// Fills `into` with the bytes from `at` on.
+    fn read(&mut self, at: usize, into: &mut [u8]) -> Result<(), DeviceFailed>
+        requires fits { at + length into.old ≤ DISK_SIZE }
+        requires sound { is_sound self.old ≡ true }
+        ensures bytes { OnOk result (into.new ≡ take (length into.old) (drop at (seen self.old))) }
+        ensures seen { seen self.new ≡ seen self.old }
+        ensures stop { NothingNew (may_leave self.old) (may_leave self.new) }
+        ensures time { Elapses (moment self.old) (moment self.new)
+            (left_since self.old) (left_since self.new) (may_leave self.new) }
+        ensures sound { is_sound self.new ≡ true };
+
+    /// Until the next sync that succeeds a stop may leave any bytes in the range, also where the write failed.
+    fn write(&mut self, at: usize, bytes: &[u8]) -> Result<(), DeviceFailed>
+        requires fits { at + length bytes.now ≤ DISK_SIZE }
+        requires sound { is_sound self.old ≡ true }
+        ensures written { OnOk result (seen self.new ≡ overwritten (seen self.old) at bytes.now) }
+        ensures torn { OnErr result (Torn at (length bytes.now) (seen self.old) (seen self.new)) }
+        ensures stop { Follows (Torn at (length bytes.now)) (may_leave self.old) (may_leave self.new) }
+        ensures time { Elapses (moment self.old) (moment self.new)
+            (left_since self.old) (left_since self.new) (may_leave self.new) }
+        ensures sound { is_sound self.new ≡ true };
+
+    /// After it a stop leaves what a read gives. Where it fails the file may be sound no more.
+    fn sync(&mut self) -> Result<(), DeviceFailed>
+        requires sound { is_sound self.old ≡ true }
+        ensures durable { OnOk result (Only (seen self.old) (may_leave self.new)) }
+        ensures seen { seen self.new ≡ seen self.old }
+        ensures stop { NothingNew (may_leave self.old) (may_leave self.new) }
+        ensures time { Elapses (moment self.old) (moment self.new)
+            (left_since self.old) (left_since self.new) (may_leave self.new) }
+        ensures sound { OnOk result (is_sound self.new ≡ true) };
+
+    /// This moment is one of those since an earlier one.
+    ghost counts_now: { (file : Self) (t : ℕ) (c : List ℕ) → t ≤ moment file → may_leave file c → left_since file t c };
+
+    /// Since this moment there is no other.
+    ghost only_now: { (file : Self) (c : List ℕ) → left_since file (moment file) c → may_leave file c };
+
+    /// A stop may leave what a read gives.
+    ghost seen_may_stay: { (file : Self) → may_leave file (seen file) };
+
+    /// A stop leaves a whole file.
+    ghost whole: { (file : Self) (t : ℕ) (c : List ℕ) → left_since file t c → length c ≡ DISK_SIZE };
 }
 
-impl<F: FileExt + OpenFile + Drop> FileDisk<F> {
-    ghost use Rattle.syn_disk.specs.FileDisk.{bytes_of, file_of, IsLeft, failures_of};
+/// A disk in a file.
+///
+/// Once a sync failed, each call fails until the file is opened again.
+#[derive(Drop)]
+pub struct FileDisk<F: DiskFile> {
+    file: F,
+    /// A sync failed.
+    is_lost: bool,
+    failed: Tally,
+    ghost sound: { is_lost ≡ false → F.is_sound file ≡ true },
+}
 
-    /// The disk in the file at the path. It is refused 9 where the file is missing or of another length, or cannot be
-    /// read or synced, and 11 for want of memory.
-    pub fn open<R: Files<File = F>>(
+impl<H: HostFile> FileDisk<MirroredFile<H>> {
+    ghost use Rattle.syn_disk.specs.FileDisk.{file_of, failures_of};
+
+    /// The disk in the file at the path, which no other process may open as long as this one has it.
+    ///
+    /// It is refused 12 where another process has the file open, 9 where the file is missing or of another length
+    /// than a disk, or cannot be locked, read or synced, and 11 for want of memory.
+    pub fn open<R: Files<File = H>>(
         alloc: Global,
         files: &R,
         path: &str,
-    ) -> Result<FileDisk<F>, OpenError>
-        ensures settled { IfOk result (λ disk. Only (bytes_of disk) (IsLeft disk)) }
+    ) -> Result<FileDisk<MirroredFile<H>>, OpenError>
         ensures failures { IfOk result (λ disk. failures_of disk ≡ 0) }
     {
         let file = OpenOptions::new()
@@ -61,22 +113,45 @@ impl<F: FileExt + OpenFile + Drop> FileDisk<F> {
             .write(true)
             .open(files, path)
             .map_err(|_| OpenError::Device)?;
-        FileDisk::over(alloc, file)
+        FileDisk::over(MirroredFile::open(alloc, file, Access::Write)?)
     }
 
-    /// The disk in a file that is open for reading and writing. It is refused as `open` is.
-    pub fn over(alloc: Global, file: F) -> Result<FileDisk<F>, OpenError>
-        ensures settled { IfOk result (λ disk. Only (bytes_of disk) (IsLeft disk)) }
+    /// The disk in the file at the path, to be read. A file and a folder that cannot be written will do. Other
+    /// processes may read the file meanwhile, and none may write it. Each write fails.
+    ///
+    /// It is refused as `open` is, but 12 only where another process has the file open to write.
+    pub fn open_to_read<R: Files<File = H>>(
+        alloc: Global,
+        files: &R,
+        path: &str,
+    ) -> Result<FileDisk<MirroredFile<H>>, OpenError>
         ensures failures { IfOk result (λ disk. failures_of disk ≡ 0) }
     {
-        let image = read_image(alloc, &file)?;
+        let file = OpenOptions::new()
+            .read(true)
+            .open(files, path)
+            .map_err(|_| OpenError::Device)?;
+        FileDisk::over(MirroredFile::open(alloc, file, Access::Read)?)
+    }
+}
+
+impl<F: DiskFile + Drop> FileDisk<F> {
+    ghost use Rattle.syn_disk.specs.FileDisk.{file_of, failures_of};
+
+    /// The disk in a file. The file is synced first, so that a stop leaves what a read gives.
+    ///
+    /// It is refused 9 where the file cannot be synced.
+    pub fn over(mut file: F) -> Result<FileDisk<F>, OpenError>
+        requires { F.is_sound file ≡ true }
+        ensures seen { IfOk result (λ disk. F.seen (file_of disk) ≡ F.seen file) }
+        ensures settled { IfOk result (λ disk. Only (F.seen file) (F.may_leave (file_of disk))) }
+        ensures failures { IfOk result (λ disk. failures_of disk ≡ 0) }
+    {
+        file.sync().map_err(|_| OpenError::Device)?;
         Ok(FileDisk {
             file,
-            image,
-            unsynced: ArrayVec::new(),
-            is_stale: false,
+            is_lost: false,
             failed: Tally::new(),
-            history: History::new(),
         })
     }
 
@@ -87,130 +162,63 @@ impl<F: FileExt + OpenFile + Drop> FileDisk<F> {
         self.file
     }
 
+    // Counts a call that failed.
     fn fail(&mut self) -> DeviceFailed
-        ensures image { self.new.image ≡ self.old.image }
-        ensures unsynced { self.new.unsynced ≡ self.old.unsynced }
-        ensures history { self.new.history ≡ self.old.history }
+        ensures file { file_of self.new ≡ file_of self.old }
         ensures counted { failures_of self.new ≡ failures_of self.old + 1 }
     {
-        self.is_stale = true;
         self.failed.add_one();
         DeviceFailed
     }
-
-    // Syncs where no further part can be kept apart.
-    fn make_room(&mut self) -> Result<(), DeviceFailed>
-        ensures image { self.new.image ≡ self.old.image }
-        ensures room { OnOk result (length self.new.unsynced.items < MOST_UNSYNCED) }
-        ensures unsynced { (i : ℕ) → is_in_some self.old.unsynced.items i ≡ false
-            → is_in_some self.new.unsynced.items i ≡ false }
-        ensures history { self.new.history ≡ self.old.history }
-        ensures counted { CountsFailure result (failures_of self.old) (failures_of self.new) }
-    {
-        if self.unsynced.is_full() {
-            return self.flush();
-        }
-        Ok(())
-    }
-
-    // Writes to memory and to the file.
-    fn put(&mut self, at: usize, bytes: &[u8]) -> Result<(), DeviceFailed>
-        requires room { length self.old.unsynced.items < MOST_UNSYNCED }
-        requires fits { at + length bytes.now ≤ DISK_SIZE }
-        ensures image { bytes_of self.new ≡ overwritten (bytes_of self.old) at bytes.now }
-        ensures unsynced { (i : ℕ) → is_in_some self.new.unsynced.items i
-            ≡ (is_in_some self.old.unsynced.items i || is_between at (length bytes.now) i) }
-        ensures history { self.new.history ≡ self.old.history }
-        ensures counted { CountsFailure result (failures_of self.old) (failures_of self.new) }
-    {
-        self.unsynced.push(Extent {
-            start: at,
-            len: bytes.len(),
-        });
-        overwrite(&mut self.image, at, bytes);
-        if self.file.write_all_at(bytes, at as u64).is_err() {
-            return Err(self.fail());
-        }
-        Ok(())
-    }
-
-    // Brings the file in step with memory, and syncs it.
-    fn flush(&mut self) -> Result<(), DeviceFailed>
-        ensures image { self.new.image ≡ self.old.image }
-        ensures ok { OnOk result (self.new.unsynced.items ≡ []) }
-        ensures err { OnErr result (self.new.unsynced ≡ self.old.unsynced) }
-        ensures history { self.new.history ≡ self.old.history }
-        ensures counted { CountsFailure result (failures_of self.old) (failures_of self.new) }
-    {
-        let is_written = !self.is_stale
-            || write_again(&self.file, &self.image, &self.unsynced).is_ok();
-        if !is_written || self.file.sync_data().is_err() {
-            return Err(self.fail());
-        }
-        self.is_stale = false;
-        self.unsynced.clear();
-        Ok(())
-    }
 }
 
-// Writes parts of the image to the file.
-fn write_again<F: FileExt>(file: &F, image: &[u8], extents: &[Extent]) -> io::Result<()>
-    requires { length image.now ≡ DISK_SIZE }
-{
-    for extent in extents {
-        let end = extent.start + extent.len;
-        file.write_all_at(&image[extent.start..end], extent.start as u64)?;
-    }
-    Ok(())
-}
+impl<F: DiskFile + Drop> Disk for FileDisk<F> {
+    ghost use Rattle.syn_disk.specs.FileDisk.{file_of, failures_of};
 
-// The bytes of a file of a disk's length. It is synced first, so that a stop leaves what was read.
-fn read_image<F: FileExt + OpenFile>(alloc: Global, file: &F) -> Result<Vec<u8>, OpenError>
-    ensures { IfOk result (λ image. length image.items ≡ DISK_SIZE) }
-{
-    match file.metadata() {
-        Ok(metadata) if metadata.len() == DISK_SIZE as u64 => {}
-        _ => return Err(OpenError::Device),
-    }
-    let mut image = vec![in alloc; 0u8; DISK_SIZE].map_err(|_| OpenError::Memory)?;
-    file.sync_data().map_err(|_| OpenError::Device)?;
-    file.read_exact_at(&mut image, 0)
-        .map_err(|_| OpenError::Device)?;
-    Ok(image)
-}
+    ghost seen = { λ d. F.DiskFile.seen d.file };
 
-impl<F: FileExt + OpenFile + Drop> Disk for FileDisk<F> {
-    ghost seen = { λ d. d.image.items };
+    ghost may_leave = { λ d. F.DiskFile.may_leave d.file };
 
-    ghost may_leave = { λ d. MayLeave d.image.items (is_in_some d.unsynced.items) };
+    ghost moment = { λ d. F.DiskFile.moment d.file };
 
-    ghost moment = { λ d. length d.history };
-
-    ghost left_since = { λ d. LeftSince RangedMayLeave d.history (d.image, d.unsynced) };
+    ghost left_since = { λ d. F.DiskFile.left_since d.file };
 
     ghost failures = { λ d. d.failed };
 
-    ghost counts_now = { λ d t c le left. now_counts RangedMayLeave d.history (d.image, d.unsynced) c t le left };
+    ghost arms = { λ _. no_arms };
 
-    ghost only_now = { λ d c left. only_now RangedMayLeave d.history (d.image, d.unsynced) c left };
+    ghost counts_now = { λ d. F.DiskFile.counts_now d.file };
 
-    ghost seen_may_stay = { λ d. record { whole = d.full; kept = λ i none. refl } };
+    ghost only_now = { λ d. F.DiskFile.only_now d.file };
 
-    ghost whole = { λ d t c left. left.2.whole };
+    ghost seen_may_stay = { λ d. F.DiskFile.seen_may_stay d.file };
+
+    ghost whole = { λ d. F.DiskFile.whole d.file };
 
     fn read(&mut self, at: usize, into: &mut [u8]) -> Result<(), DeviceFailed> {
-        copy_out(&self.image, at, into);
+        if self.is_lost || self.file.read(at, into).is_err() {
+            return Err(self.fail());
+        }
         Ok(())
     }
 
     fn write(&mut self, at: usize, bytes: &[u8]) -> Result<(), DeviceFailed> {
-        self.history.note(&self.image, &self.unsynced);
-        self.make_room()?;
-        self.put(at, bytes)
+        if self.is_lost || self.file.write(at, bytes).is_err() {
+            return Err(self.fail());
+        }
+        Ok(())
     }
 
+    /// After one that fails each call fails.
     fn sync(&mut self) -> Result<(), DeviceFailed> {
-        self.history.note(&self.image, &self.unsynced);
-        self.flush()
+        if self.is_lost {
+            return Err(self.fail());
+        }
+        self.is_lost = true;
+        if self.file.sync().is_err() {
+            return Err(self.fail());
+        }
+        self.is_lost = false;
+        Ok(())
     }
 }

@@ -5,25 +5,24 @@
 //! stop left, and a further stop without writes leaves the same. A write that fails leaves any bytes in its range, and a
 //! read or a sync that fails changes nothing that a read gives. A count, which only clauses see, grows exactly when a
 //! call fails. No call takes memory.
+//!
+//! `FileDisk` is the disk of the product. The disks for tests and for simulated machines stand in `simulated`.
 #![tactic(auto)]
 
 mod bytes;
-mod cut;
 mod disk;
 mod error;
-mod extent;
 mod file;
-mod half;
 mod history;
-mod leaves;
-mod limit;
-mod memory;
-mod written;
+mod simulated;
 
-pub use cut::Cut;
-pub use disk::{DISK_SIZE, DeviceFailed, Disk, Restart};
+pub use disk::{DISK_SIZE, DeviceFailed, Disk};
 pub use error::OpenError;
-pub use file::FileDisk;
-pub use leaves::Leaves;
-pub use limit::{Arm, Limit};
-pub use memory::MemDisk;
+pub use file::host::{Access, HostFile};
+pub use file::mirror::MirroredFile;
+pub use file::{DiskFile, FileDisk};
+pub use simulated::cut::Cut;
+pub use simulated::leaves::Leaves;
+pub use simulated::limit::{Arm, Limit};
+pub use simulated::memory::MemDisk;
+pub use simulated::restart::Restart;

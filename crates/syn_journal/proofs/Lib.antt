@@ -1,4 +1,5 @@
 mod Appends
+mod Calls
 mod Checkpoints
 mod Commits
 mod Formats

@@ -1,7 +1,7 @@
 -- How a run of device calls goes on.
 use Rattle.std.proofs.Common.{◌≡◌, ◌∙◌, inl, inr, ⊎_elim, ℕ, List, refl, arith}
 use Rattle.syn_disk.specs.Disk.{Elapses, NothingNew}
-use Rattle.syn_journal.specs.Stops.{LeavesOnly, Untouched}
+use Rattle.syn_disk.specs.Stops.{LeavesOnly, Untouched}
 
 module _ {D : Type 0} (moment : D → ℕ) (left_since : D → ℕ → List ℕ → Type 0) where
   -- before the first call

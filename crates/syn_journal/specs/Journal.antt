@@ -1,10 +1,10 @@
 -- What a journal shows.
-use Rattle.std.specs.Prelude.{◌≡◌, ℕ, true, false, Ok}
+use Rattle.std.specs.Prelude.{◌≡◌, ◌<◌, ◌≤◌, ◌+◌, ◌-◌, ℕ, true, false, Ok}
 use Rattle.syn_disk.specs.Disk.{Only}
 use Rattle.syn_disk.specs.declared.disk.Disk.{Ghosts}
 use Rattle.syn_journal.specs.declared.half.Half.{Half}
 use Rattle.syn_journal.specs.declared.journal.Journal.{Journal}
-use Rattle.syn_journal.specs.Layout.{Value, meaning, size_of}
+use Rattle.syn_journal.specs.Layout.{Value, half_size, meaning, size_of}
 use Rattle.syn_journal.specs.Whole.{value_or_empty}
 
 module _ {D : Type 0} {disk : Ghosts D} (journal : Journal D disk) where
@@ -20,6 +20,17 @@ module _ {D : Type 0} {disk : Ghosts D} (journal : Journal D disk) where
   -- where its next gate stands in the half
   abbrev pub gate_of : ℕ
   gate_of = journal.gate
+
+  -- the length of the longest payload that fits, or 0 where none does
+  abbrev pub room_of : ℕ
+  room_of = half_size - gate_of - 6
+
+  -- a payload of this length fits, or does not
+  abbrev pub Takes : ℕ → Type 0
+  Takes size = gate_of + 6 + size ≤ half_size
+
+  abbrev pub IsTooLong : ℕ → Type 0
+  IsTooLong size = half_size < gate_of + 6 + size
 
   -- A device call failed, and the journal was not opened again since.
   abbrev pub IsHalted : Type 0

@@ -1,7 +1,6 @@
 pub mod Commit
 pub mod Layout
 pub mod Whole
-pub mod Stops
 pub mod Journal
 pub mod Refusals
 pub mod Opened

@@ -1,22 +1,34 @@
 -- The refusals of a journal.
 use Rattle.std.specs.Prelude.{◌≡◌, ◌<◌, ℕ, Result, Err}
+use Rattle.syn_disk.specs.Arms.{Arms}
+use Rattle.syn_disk.specs.Calls.{MakesAtMost}
+use Rattle.syn_model.specs.Refusal.{Refusal, number}
+use Rattle.syn_model.specs.Refusal as why
 use Rattle.syn_journal.specs.Layout.{Fault, no_image, damaged}
 use Rattle.syn_journal.specs.declared.error.JournalError.{JournalError}
 use Rattle.syn_journal.specs.declared.error.JournalError.TheVariants.{Full, JournalFull, Device, Halted, Memory, NoImage, Damaged}
 
+abbrev pub refusal_of : JournalError → Refusal
+refusal_of Full = why.Full
+refusal_of JournalFull = why.JournalFull
+refusal_of Device = why.Device
+refusal_of Halted = why.Halted
+refusal_of Memory = why.Memory
+refusal_of NoImage = why.NoImage
+refusal_of Damaged = why.Damaged
+
 abbrev pub number_of : JournalError → ℕ
-number_of Full = 7
-number_of JournalFull = 8
-number_of Device = 9
-number_of Halted = 10
-number_of Memory = 11
-number_of NoImage = 18
-number_of Damaged = 19
+number_of error = number (refusal_of error)
 
 -- Device is answered where the count of failed calls grew, and any other refusal where it did not.
 abbrev pub CountsFailures : JournalError → ℕ → ℕ → Type 0
 CountsFailures Device old new = old < new
 CountsFailures _ old new = new ≡ old
+
+-- Where Device is answered, at most so many device calls were made, and none where any other refusal is.
+abbrev pub MakesIfDevice : JournalError → ℕ → Arms → Arms → Type 0
+MakesIfDevice Device most old new = MakesAtMost most old new
+MakesIfDevice _ most old new = new ≡ old
 
 -- the refusals of each call
 abbrev pub IsFormatRefusal : JournalError → Type 0

@@ -1,12 +1,12 @@
 //! The device calls that put something behind a closed gate and then open the gate.
 ghost use Rattle.std.specs.Prelude.{◌≡◌, ◌≤◌, ◌+◌, ◌∷◌, [], length, OnOk};
+ghost use Rattle.syn_disk.specs.Calls.{MakesUpTo};
 ghost use Rattle.syn_disk.specs.Disk.{Only, overwritten, CountsFailure};
-ghost use Rattle.syn_journal.specs.Stops.{LeavesOnly};
+ghost use Rattle.syn_disk.specs.Stops.{LeavesOnly};
 ghost use Rattle.syn_journal.specs.Commit.{IsStagedOrOpened};
 
+use crate::layout::OPEN_GATE;
 use syn_disk::{DISK_SIZE, DeviceFailed, Disk};
-
-pub const OPEN_GATE: u8 = 0xa5;
 
 /// Writes `body` behind the gate, syncs, opens the gate, and syncs.
 pub fn commit<D: Disk>(disk: &mut D, gate: usize, body: &[u8]) -> Result<(), DeviceFailed>
@@ -21,6 +21,7 @@ pub fn commit<D: Disk>(disk: &mut D, gate: usize, body: &[u8]) -> Result<(), Dev
         (IsStagedOrOpened (D.seen disk.old) gate body.now) }
 
     ensures count { CountsFailure result (D.failures disk.old) (D.failures disk.new) }
+    ensures calls { MakesUpTo 4 result (D.arms disk.old) (D.arms disk.new) }
 {
     disk.write(gate + 1, body)?;
     disk.sync()?;

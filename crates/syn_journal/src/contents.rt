@@ -5,13 +5,15 @@ ghost use Rattle.syn_disk.specs.Disk.{Only, CountsFailure};
 ghost use Rattle.syn_journal.specs.Layout.{half_size, damaged, longest_image, open_gate, start_of, other_half, is_open, generation_at, image_length_at, current, current_of, bytes_from, records, value_at, meaning, record_of, records_of};
 ghost use Rattle.syn_journal.specs.Opened.{payloads_of, value_read};
 ghost use Rattle.syn_journal.specs.Refusals.{CountsFailures, IsOpenRefusal, IsReadRefusal};
-ghost use Rattle.syn_journal.specs.Stops.{Untouched};
+ghost use Rattle.syn_disk.specs.Calls.{MakesReads};
+ghost use Rattle.syn_disk.specs.Stops.{Untouched};
 ghost use Rattle.syn_journal.specs.Whole.{IsWhole};
 
 use crate::JournalError;
-use crate::commit::OPEN_GATE;
 use crate::half::{HALF_SIZE, Half};
-use crate::journal::MAX_IMAGE;
+use crate::layout::{
+    IMAGE_AT, IMAGE_LENGTH_AT, MAX_IMAGE, OPEN_GATE, RECORD_HEADER, RECORD_OVERHEAD,
+};
 use crate::read::{read_bytes, read_u8, read_u32, read_u64};
 use std::alloc::Global;
 use syn_disk::{DeviceFailed, Disk};
@@ -34,12 +36,14 @@ pub fn read_contents<D: Disk>(alloc: Global, disk: &mut D) -> Result<Contents, J
     ensures durable { OnOk result (Only (D.seen disk.new) (D.may_leave disk.new)) }
     ensures refusals { IfErr result (λ refusal. IsOpenRefusal refusal (meaning (D.seen disk.old))) }
     ensures untouched { Untouched D.seen D.may_leave D.moment D.left_since disk.old disk.new }
-    ensures count { MatchResult result (λ _. D.failures disk.new ≡ D.failures disk.old) (λ refusal. CountsFailures refusal (D.failures disk.old) (D.failures disk.new)) }
+    ensures count { MatchResult result (λ _. D.failures disk.new ≡ D.failures disk.old)
+        (λ refusal. CountsFailures refusal (D.failures disk.old) (D.failures disk.new)) }
+    ensures calls { MakesReads result (D.arms disk.old) (D.arms disk.new) }
 {
     disk.sync()?;
     let (half, generation, other_is_open) = read_current(disk)?;
     let image = read_image(alloc, disk, half)?;
-    let (records, gate) = read_records(alloc, disk, half, 13 + image.len())?;
+    let (records, gate) = read_records(alloc, disk, half, IMAGE_AT + image.len())?;
     Ok(Contents {
         half,
         generation,
@@ -63,6 +67,7 @@ fn read_header<D: Disk>(disk: &mut D, half: Half) -> Result<Header, DeviceFailed
     ensures generation { IfOk result (λ header. header.generation ≡ generation_at (D.seen disk.old) half) }
     ensures untouched { Untouched D.seen D.may_leave D.moment D.left_since disk.old disk.new }
     ensures count { CountsFailure result (D.failures disk.old) (D.failures disk.new) }
+    ensures calls { MakesReads result (D.arms disk.old) (D.arms disk.new) }
 {
     let gate = read_u8(disk, half.start())?;
     let generation = read_u64(disk, half.start() + 1)?;
@@ -80,7 +85,9 @@ fn read_current<D: Disk>(disk: &mut D) -> Result<(Half, u64, bool), JournalError
     ensures other { IfOk result (λ found. found.2 ≡ is_open (D.seen disk.old) (other_half found.0)) }
     ensures refusals { IfErr result (λ refusal. IsOpenRefusal refusal (current (D.seen disk.old))) }
     ensures untouched { Untouched D.seen D.may_leave D.moment D.left_since disk.old disk.new }
-    ensures count { MatchResult result (λ _. D.failures disk.new ≡ D.failures disk.old) (λ refusal. CountsFailures refusal (D.failures disk.old) (D.failures disk.new)) }
+    ensures count { MatchResult result (λ _. D.failures disk.new ≡ D.failures disk.old)
+        (λ refusal. CountsFailures refusal (D.failures disk.old) (D.failures disk.new)) }
+    ensures calls { MakesReads result (D.arms disk.old) (D.arms disk.new) }
 {
     let first = read_header(disk, Half::First)?;
     let second = read_header(disk, Half::Second)?;
@@ -112,13 +119,15 @@ fn read_image<D: Disk>(alloc: Global, disk: &mut D, half: Half) -> Result<Vec<u8
     ensures fits { IfOk result (λ image. length image.items ≤ longest_image) }
     ensures refusals { IfErr result (λ refusal. IsReadRefusal refusal (value_at (D.seen disk.old) half ≡ Err damaged)) }
     ensures untouched { Untouched D.seen D.may_leave D.moment D.left_since disk.old disk.new }
-    ensures count { MatchResult result (λ _. D.failures disk.new ≡ D.failures disk.old) (λ refusal. CountsFailures refusal (D.failures disk.old) (D.failures disk.new)) }
+    ensures count { MatchResult result (λ _. D.failures disk.new ≡ D.failures disk.old)
+        (λ refusal. CountsFailures refusal (D.failures disk.old) (D.failures disk.new)) }
+    ensures calls { MakesReads result (D.arms disk.old) (D.arms disk.new) }
 {
-    let size = read_u32(disk, half.start() + 9)? as usize;
+    let size = read_u32(disk, half.start() + IMAGE_LENGTH_AT)? as usize;
     if size > MAX_IMAGE {
         return Err(JournalError::Damaged);
     }
-    read_bytes(alloc, disk, half.start() + 13, size)
+    read_bytes(alloc, disk, half.start() + IMAGE_AT, size)
 }
 
 // The payloads from this gate on, and the closed gate behind the last.
@@ -135,13 +144,15 @@ fn read_records<D: Disk>(
     ensures payloads { IfOk result (λ found. take (found.1 - first) (drop (start_of half + first) (D.seen disk.old)) ≡ records_of (payloads_of found.0)) }
     ensures refusals { IfErr result (λ refusal. IsReadRefusal refusal (let bytes = bytes_from (D.seen disk.old) half first in records (length bytes) bytes ≡ None)) }
     ensures untouched { Untouched D.seen D.may_leave D.moment D.left_since disk.old disk.new }
-    ensures count { MatchResult result (λ _. D.failures disk.new ≡ D.failures disk.old) (λ refusal. CountsFailures refusal (D.failures disk.old) (D.failures disk.new)) }
+    ensures count { MatchResult result (λ _. D.failures disk.new ≡ D.failures disk.old)
+        (λ refusal. CountsFailures refusal (D.failures disk.old) (D.failures disk.new)) }
+    ensures calls { MakesReads result (D.arms disk.old) (D.arms disk.new) }
 {
     let mut records = Vec::new(alloc);
     let mut gate = first;
     while read_u8(disk, half.start() + gate)? == OPEN_GATE {
         let payload = read_record(alloc, disk, half, gate)?;
-        gate += 5 + payload.len();
+        gate += RECORD_HEADER + payload.len();
         records.push(payload)?;
     }
     Ok((records, gate))
@@ -160,14 +171,16 @@ fn read_record<D: Disk>(
     ensures payload { IfOk result (λ payload. take (5 + length payload.items) (drop (start_of half + gate) (D.seen disk.old)) ≡ record_of payload.items) }
     ensures refusals { IfErr result (λ refusal. IsReadRefusal refusal (half_size < gate + 6 + from_be_bytes w32 (take 4 (drop (start_of half + gate + 1) (D.seen disk.old))))) }
     ensures untouched { Untouched D.seen D.may_leave D.moment D.left_since disk.old disk.new }
-    ensures count { MatchResult result (λ _. D.failures disk.new ≡ D.failures disk.old) (λ refusal. CountsFailures refusal (D.failures disk.old) (D.failures disk.new)) }
+    ensures count { MatchResult result (λ _. D.failures disk.new ≡ D.failures disk.old)
+        (λ refusal. CountsFailures refusal (D.failures disk.old) (D.failures disk.new)) }
+    ensures calls { MakesReads result (D.arms disk.old) (D.arms disk.new) }
 {
-    if HALF_SIZE - gate < 6 {
+    if HALF_SIZE - gate < RECORD_OVERHEAD {
         return Err(JournalError::Damaged);
     }
     let size = read_u32(disk, half.start() + gate + 1)? as usize;
-    if size > HALF_SIZE - gate - 6 {
+    if size > HALF_SIZE - gate - RECORD_OVERHEAD {
         return Err(JournalError::Damaged);
     }
-    read_bytes(alloc, disk, half.start() + gate + 5, size)
+    read_bytes(alloc, disk, half.start() + gate + RECORD_HEADER, size)
 }

@@ -1,51 +1,65 @@
 //! Why a call of the journal is refused.
-ghost use Rattle.std.specs.Prelude.{◌≡◌};
-ghost use Rattle.syn_journal.specs.Refusals.{number_of};
+ghost use Rattle.std.specs.Prelude.{◌≡◌, Some};
+ghost use Rattle.syn_model.specs.Refusal.{name_of};
+ghost use Rattle.syn_refusal.specs.Refusals.{cause_of};
+ghost use Rattle.syn_journal.specs.Refusals.{refusal_of, number_of};
 ghost use Rattle.syn_journal.specs.declared.error.JournalError.TheVariants.{Device, Memory};
 
 use std::alloc::{AllocError, AllocFailed};
+use std::fmt;
 use syn_disk::DeviceFailed;
+use syn_refusal::Refusal;
 use thiserror::Error;
 
+/// Why a call of the journal is refused.
 #[derive(Clone, Copy, Debug, PartialEq, Eq, Error)]
 pub enum JournalError {
-    /// The image is too long.
-    #[error("Full")]
+    /// 7: the image is too long, or the generation is the greatest.
     Full,
-    /// The record does not fit in the current half.
-    #[error("JournalFull")]
+    /// 8: the record does not fit in the current half.
     JournalFull,
-    /// A device call failed during this call.
-    #[error("Device")]
+    /// 9: a device call failed during this call.
     Device,
-    /// A device call failed before, and the journal was not opened again since.
-    #[error("Halted")]
+    /// 10: a device call failed before, and the journal was not opened again since.
     Halted,
-    /// A growth was refused.
-    #[error("Memory")]
+    /// 11: memory was refused.
     Memory,
-    /// Neither half of the disk is open.
-    #[error("NoImage")]
+    /// 18: neither half of the disk is open.
     NoImage,
-    /// Both halves are open and of one generation, or the current one breaks the layout.
-    #[error("Damaged")]
+    /// 19: both halves are open and of one generation, or the current one breaks the layout.
     Damaged,
 }
 
 impl JournalError {
+    /// Which refusal it is.
+    pub fn refusal(&self) -> Refusal
+        ensures { cause_of result ≡ refusal_of self.now }
+    {
+        match self {
+            JournalError::Full => Refusal::Full,
+            JournalError::JournalFull => Refusal::JournalFull,
+            JournalError::Device => Refusal::Device,
+            JournalError::Halted => Refusal::Halted,
+            JournalError::Memory => Refusal::Memory,
+            JournalError::NoImage => Refusal::NoImage,
+            JournalError::Damaged => Refusal::Damaged,
+        }
+    }
+
     /// The number of the refusal.
     pub fn number(&self) -> u8
         ensures { result ≡ number_of self.now }
     {
-        match self {
-            JournalError::Full => 7,
-            JournalError::JournalFull => 8,
-            JournalError::Device => 9,
-            JournalError::Halted => 10,
-            JournalError::Memory => 11,
-            JournalError::NoImage => 18,
-            JournalError::Damaged => 19,
-        }
+        self.refusal().number()
+    }
+}
+
+/// The name of the refusal.
+impl fmt::Display for JournalError {
+    ghost output = { λ error. Some (name_of (refusal_of error)) };
+
+    fn fmt<W: fmt::Write>(&self, f: &mut fmt::Formatter<W>) -> fmt::Result {
+        write!(f, "{}", self.refusal())
     }
 }
 

@@ -1,9 +1,27 @@
 //! The journal, its appends and its checkpoints.
+//!
+//! The disk has two halves of 4 MiB. This is a half, with the offsets of its parts; numbers are big endian:
+//!
+//! ```text
+//! 0      gate of the half, open at a5
+//! 1      generation, 8 bytes
+//! 9      L, the length of the image, 4 bytes
+//! 13     image, L bytes
+//! 13 + L gate of the first record, open at a5
+//!        n, the length of its payload, 4 bytes
+//!        payload, n bytes
+//!        gate of the next record, and so on up to one that is closed
+//! ```
+//!
+//! The current half is the open one of the greatest generation. An append writes behind the closed gate and opens it
+//! last; a checkpoint does the same with the gate of the other half.
 ghost use Rattle.std.specs.Prelude.{◌≡◌, ◌↔◌, ◌⊎◌, ◌≤◌, ◌<◌, ◌+◌, ◌-◌, ◌++◌, ◌∷◌, [], ℕ, true, false, List, length, Ok, IfOk, IfErr, OnOk, OnErr, MatchResult, IsErrAnd};
-ghost use Rattle.syn_disk.specs.Arms.{armed, is_stopped};
+ghost use Rattle.syn_disk.specs.Armed.{armed};
+ghost use Rattle.syn_disk.specs.Arms.{is_stopped};
+ghost use Rattle.syn_disk.specs.Calls.{Makes, MakesSome, MakesAny, MakesUpTo};
 ghost use Rattle.syn_disk.specs.Disk.{CountsFailure, Only, SameOutcomes};
 ghost use Rattle.syn_journal.specs.Layout.{Value, half_size, is_open, longest_image, current, generation_at, meaning, image_alone, with_payload, IsBeforeOrAfter};
-ghost use Rattle.syn_journal.specs.Stops.{LeavesOnly, Untouched};
+ghost use Rattle.syn_disk.specs.Stops.{LeavesOnly, Untouched};
 ghost use Rattle.syn_journal.specs.Opened.{value_read};
 ghost use Rattle.syn_journal.specs.Whole.{IsInStep, IsWhole};
 ghost use Rattle.syn_journal.specs.Commit.{body_of_image, body_of_record};
@@ -13,6 +31,7 @@ use crate::JournalError;
 use crate::commit::commit;
 use crate::contents::read_contents;
 use crate::half::{HALF_SIZE, Half};
+use crate::layout::{IMAGE_AT, MAX_IMAGE, RECORD_HEADER, RECORD_OVERHEAD};
 use std::alloc::{AllocError, Global};
 use syn_disk::{Arm, DeviceFailed, Disk, Limit};
 
@@ -20,10 +39,6 @@ mod checkpoint;
 mod reopen;
 
 pub use reopen::Reopened;
-
-/// The length of the longest image, in bytes. With it the first gate is the last byte of its half, and no
-/// record fits.
-pub const MAX_IMAGE: usize = HALF_SIZE - 14;
 
 /// An image and the payloads that were appended since, on a disk.
 ///
@@ -56,8 +71,8 @@ pub struct Opened<D: Disk> {
 }
 
 impl<D: Disk> Journal<D> {
-    ghost use Rattle.syn_journal.specs.Journal.{disk_of, half_of, generation_of, gate_of, value_of, IsHalted, Stands};
-    ghost use Rattle.syn_journal.specs.Refusals.{CountsFailures, IsFormatRefusal, IsOpenRefusal, IsAppendRefusal};
+    ghost use Rattle.syn_journal.specs.Journal.{disk_of, half_of, generation_of, gate_of, room_of, value_of, IsTooLong, IsHalted, Stands};
+    ghost use Rattle.syn_journal.specs.Refusals.{CountsFailures, MakesIfDevice, IsFormatRefusal, IsOpenRefusal, IsAppendRefusal};
 
     /// Makes a disk stand for this image and no payloads, whatever it held. A disk that is refused comes back.
     ///
@@ -75,6 +90,10 @@ impl<D: Disk> Journal<D> {
         ensures refusals { IfErr result (λ refused. IsFormatRefusal refused.0) }
         ensures unchanged { IfErr result (λ refused. (refused.0 ≡ JournalError.Device) ⊎ (refused.1 ≡ disk)) }
         ensures failures { MatchResult result (λ journal. D.failures (disk_of journal) ≡ D.failures disk) (λ refused. CountsFailures refused.0 (D.failures disk) (D.failures refused.1)) }
+
+        // Seven device calls where it succeeds.
+        ensures calls { MatchResult result (λ journal. Makes 7 (D.arms disk) (D.arms (disk_of journal)))
+            (λ refused. MakesIfDevice refused.0 7 (D.arms disk) (D.arms refused.1)) }
     {
         if image.len() > MAX_IMAGE {
             return Err((JournalError::Full, disk));
@@ -87,7 +106,7 @@ impl<D: Disk> Journal<D> {
                 disk,
                 half: Half::First,
                 generation: 1,
-                gate: 13 + image.len(),
+                gate: IMAGE_AT + image.len(),
                 other_is_open: false,
                 halted: false,
             }),
@@ -113,6 +132,10 @@ impl<D: Disk> Journal<D> {
             (λ opened. Untouched D.seen D.may_leave D.moment D.left_since disk (disk_of opened.journal))
             (λ refused. Untouched D.seen D.may_leave D.moment D.left_since disk refused.1) }
         ensures failures { MatchResult result (λ opened. D.failures (disk_of opened.journal) ≡ D.failures disk) (λ refused. CountsFailures refused.0 (D.failures disk) (D.failures refused.1)) }
+
+        // A sync and then reads, whose number is not fixed.
+        ensures calls { MatchResult result (λ opened. MakesSome (D.arms disk) (D.arms (disk_of opened.journal)))
+            (λ refused. MakesAny (D.arms disk) (D.arms refused.1)) }
     {
         match read_contents(alloc, &mut disk) {
             Ok(found) => Ok(Opened {
@@ -140,9 +163,9 @@ impl<D: Disk> Journal<D> {
 
     /// The length of the longest payload that fits, or 0 where none does.
     pub fn room(&self) -> usize
-        ensures { result ≡ half_size - gate_of self.now - 6 }
+        ensures { result ≡ room_of self.now }
     {
-        (HALF_SIZE - self.gate).saturating_sub(6)
+        (HALF_SIZE - self.gate).saturating_sub(RECORD_OVERHEAD)
     }
 
     /// The generation of the current half: 1 after `format`.
@@ -175,11 +198,15 @@ impl<D: Disk> Journal<D> {
 
         // When each refusal comes, and what it leaves.
         ensures halted { (result ≡ Err JournalError.Halted) ↔ IsHalted self.old }
-        ensures full { (result ≡ Err JournalError.JournalFull) ↔ (¬ IsHalted self.old × (half_size < gate_of self.old + 6 + length payload.now)) }
+        ensures full { (result ≡ Err JournalError.JournalFull) ↔ (¬ IsHalted self.old × IsTooLong self.old (length payload.now)) }
         ensures halts { result ≡ Err JournalError.Device → IsHalted self.new }
         ensures refusals { IfErr result IsAppendRefusal }
         ensures unchanged { IfErr result (λ refusal. (refusal ≡ JournalError.Device) ⊎ (self.new ≡ self.old)) }
         ensures failures { MatchResult result (λ _. D.failures (disk_of self.new) ≡ D.failures (disk_of self.old)) (λ refusal. CountsFailures refusal (D.failures (disk_of self.old)) (D.failures (disk_of self.new))) }
+
+        // Four device calls where it succeeds.
+        ensures calls { MatchResult result (λ _. Makes 4 (D.arms (disk_of self.old)) (D.arms (disk_of self.new)))
+            (λ refusal. MakesIfDevice refusal 4 (D.arms (disk_of self.old)) (D.arms (disk_of self.new))) }
 
         // The readings, also after a refusal.
         ensures half { half_of self.new ≡ half_of self.old }
@@ -189,7 +216,9 @@ impl<D: Disk> Journal<D> {
         if self.halted {
             return Err(JournalError::Halted);
         }
-        if HALF_SIZE - self.gate < 6 || HALF_SIZE - self.gate - 6 < payload.len() {
+        if HALF_SIZE - self.gate < RECORD_OVERHEAD
+            || HALF_SIZE - self.gate - RECORD_OVERHEAD < payload.len()
+        {
             return Err(JournalError::JournalFull);
         }
         let body = record_body(alloc, payload)?;
@@ -197,7 +226,7 @@ impl<D: Disk> Journal<D> {
         // It is halted if a device call fails.
         self.halted = true;
         commit(&mut self.disk, gate, &body)?;
-        self.gate += 5 + payload.len();
+        self.gate += RECORD_HEADER + payload.len();
         self.halted = false;
         Ok(())
     }
@@ -208,7 +237,7 @@ impl<D: Limit> Journal<D> {
 
     /// Arms the journal's disk. It takes the place of an arm of its kind that is still to come.
     pub fn arm(&mut self, arm: Arm)
-        ensures arms { D.Limit.arms (disk_of self.new) ≡ armed (D.Limit.arms (disk_of self.old)) arm }
+        ensures arms { D.Disk.arms (disk_of self.new) ≡ armed (D.Disk.arms (disk_of self.old)) arm }
 
         // It changes nothing that a read gives or a stop leaves.
         ensures seen { D.Disk.seen (disk_of self.new) ≡ D.Disk.seen (disk_of self.old) }
@@ -224,7 +253,7 @@ impl<D: Limit> Journal<D> {
 
     /// Whether all the device calls before a stop are made.
     pub fn is_cut(&self) -> bool
-        ensures { result ≡ is_stopped (D.Limit.arms (disk_of self.now)) }
+        ensures { result ≡ is_stopped (D.Disk.arms (disk_of self.now)) }
     {
         self.disk.is_cut()
     }
@@ -235,7 +264,7 @@ fn record_body(alloc: Global, payload: &[u8]) -> Result<Vec<u8>, AllocError>
     requires { length payload.now < half_size }
     ensures { IfOk result (λ body. body.items ≡ body_of_record payload.now) }
 {
-    let mut body = Vec::with_capacity(alloc, payload.len() + 5)?;
+    let mut body = Vec::with_capacity(alloc, payload.len() + RECORD_HEADER)?;
     body.extend_from_slice(&(payload.len() as u32).to_be_bytes())?;
     body.extend_from_slice(payload)?;
     body.push(0)?;
@@ -247,7 +276,7 @@ fn image_body(alloc: Global, generation: u64, image: &[u8]) -> Result<Vec<u8>, A
     requires { length image.now ≤ longest_image }
     ensures { IfOk result (λ body. body.items ≡ body_of_image generation image.now) }
 {
-    let mut body = Vec::with_capacity(alloc, image.len() + 13)?;
+    let mut body = Vec::with_capacity(alloc, image.len() + IMAGE_AT)?;
     body.extend_from_slice(&generation.to_be_bytes())?;
     body.extend_from_slice(&(image.len() as u32).to_be_bytes())?;
     body.extend_from_slice(image)?;
@@ -259,6 +288,7 @@ fn image_body(alloc: Global, generation: u64, image: &[u8]) -> Result<Vec<u8>, A
 fn close<D: Disk>(disk: &mut D, half: Half) -> Result<(), DeviceFailed>
     ensures closed { OnOk result (is_open (D.seen disk.new) half ≡ false) }
     ensures count { CountsFailure result (D.failures disk.old) (D.failures disk.new) }
+    ensures calls { MakesUpTo 1 result (D.arms disk.old) (D.arms disk.new) }
 {
     disk.write(half.start(), &[0])
 }
@@ -271,6 +301,7 @@ fn write_image<D: Disk>(disk: &mut D, body: &[u8]) -> Result<(), DeviceFailed>
     ensures other { OnOk result (is_open (D.seen disk.new) Second ≡ false) }
     ensures durable { OnOk result (Only (D.seen disk.new) (D.may_leave disk.new)) }
     ensures count { CountsFailure result (D.failures disk.old) (D.failures disk.new) }
+    ensures calls { MakesUpTo 7 result (D.arms disk.old) (D.arms disk.new) }
 {
     close(disk, Half::First)?;
     close(disk, Half::Second)?;

@@ -6,8 +6,10 @@ mod contents;
 mod error;
 mod half;
 mod journal;
+mod layout;
 mod read;
 
 pub use error::JournalError;
 pub use half::HALF_SIZE;
-pub use journal::{Journal, MAX_IMAGE, Opened, Reopened};
+pub use journal::{Journal, Opened, Reopened};
+pub use layout::MAX_IMAGE;

@@ -2,7 +2,8 @@
 ghost use Rattle.std.specs.Prelude.{◌≡◌, ◌+◌, ◌≤◌, length, take, drop, slice_index, IfOk, IfErr, MatchResult};
 ghost use Rattle.std.specs.Int.{w32, w64, from_be_bytes, to_be_bytes};
 ghost use Rattle.syn_disk.specs.Disk.{CountsFailure};
-ghost use Rattle.syn_journal.specs.Stops.{Untouched};
+ghost use Rattle.syn_disk.specs.Calls.{MakesReads};
+ghost use Rattle.syn_disk.specs.Stops.{Untouched};
 ghost use Rattle.syn_journal.specs.Refusals.{CountsFailures, IsReadRefusal};
 
 use crate::JournalError;
@@ -15,6 +16,7 @@ pub fn read_u8<D: Disk>(disk: &mut D, at: usize) -> Result<u8, DeviceFailed>
     ensures value { IfOk result (λ byte. byte ≡ slice_index (D.seen disk.old) at) }
     ensures untouched { Untouched D.seen D.may_leave D.moment D.left_since disk.old disk.new }
     ensures count { CountsFailure result (D.failures disk.old) (D.failures disk.new) }
+    ensures calls { MakesReads result (D.arms disk.old) (D.arms disk.new) }
 {
     let mut bytes = [0; 1];
     disk.read(at, &mut bytes)?;
@@ -28,6 +30,7 @@ pub fn read_u32<D: Disk>(disk: &mut D, at: usize) -> Result<u32, DeviceFailed>
     ensures bytes { IfOk result (λ n. to_be_bytes w32 n ≡ take 4 (drop at (D.seen disk.old))) }
     ensures untouched { Untouched D.seen D.may_leave D.moment D.left_since disk.old disk.new }
     ensures count { CountsFailure result (D.failures disk.old) (D.failures disk.new) }
+    ensures calls { MakesReads result (D.arms disk.old) (D.arms disk.new) }
 {
     let mut bytes = [0; 4];
     disk.read(at, &mut bytes)?;
@@ -48,6 +51,7 @@ pub fn read_u64<D: Disk>(disk: &mut D, at: usize) -> Result<u64, DeviceFailed>
     ensures value { IfOk result (λ n. n ≡ from_be_bytes w64 (take 8 (drop at (D.seen disk.old)))) }
     ensures untouched { Untouched D.seen D.may_leave D.moment D.left_since disk.old disk.new }
     ensures count { CountsFailure result (D.failures disk.old) (D.failures disk.new) }
+    ensures calls { MakesReads result (D.arms disk.old) (D.arms disk.new) }
 {
     let mut bytes = [0; 8];
     disk.read(at, &mut bytes)?;
@@ -66,7 +70,9 @@ pub fn read_bytes<D: Disk>(
     ensures size { IfOk result (λ bytes. length bytes.items ≡ size) }
     ensures refusals { IfErr result (λ refusal. IsReadRefusal refusal ⊥) }
     ensures untouched { Untouched D.seen D.may_leave D.moment D.left_since disk.old disk.new }
-    ensures count { MatchResult result (λ _. D.failures disk.new ≡ D.failures disk.old) (λ refusal. CountsFailures refusal (D.failures disk.old) (D.failures disk.new)) }
+    ensures count { MatchResult result (λ _. D.failures disk.new ≡ D.failures disk.old)
+        (λ refusal. CountsFailures refusal (D.failures disk.old) (D.failures disk.new)) }
+    ensures calls { MakesReads result (D.arms disk.old) (D.arms disk.new) }
 {
     let mut bytes = vec![in alloc; 0; size]?;
     disk.read(at, &mut bytes)?;

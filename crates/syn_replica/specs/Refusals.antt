@@ -1,5 +1,7 @@
 -- Why a call of a replica is refused, as a refusal of the product.
 use Rattle.std.specs.Prelude.{◌≡◌, ◌<◌, ℕ}
+use Rattle.syn_disk.specs.Arms.{Arms}
+use Rattle.syn_disk.specs.Calls.{MakesAtMost}
 use Rattle.syn_model.specs.Refusal.{Refusal}
 use Rattle.syn_model.specs.Refusal as why
 use Rattle.syn_tree.specs.declared.error.TreeError.{TreeError}
@@ -46,6 +48,11 @@ of_journal journal.Damaged = Damaged
 abbrev pub CountsFailures : ReplicaError → ℕ → ℕ → Type 0
 CountsFailures Device old new = old < new
 CountsFailures _ old new = new ≡ old
+
+-- Where Device is answered, at most so many device calls were made, and none where any other refusal is.
+abbrev pub MakesIfDevice : ReplicaError → ℕ → Arms → Arms → Type 0
+MakesIfDevice Device most old new = MakesAtMost most old new
+MakesIfDevice _ most old new = new ≡ old
 
 -- the refusals of each call
 abbrev pub IsOfFormat : ReplicaError → Type 0

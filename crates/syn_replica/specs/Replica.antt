@@ -1,9 +1,9 @@
 -- What a replica shows, and what it stands for.
-use Rattle.std.specs.Prelude.{◌≡◌, ◌-◌, ℕ, length}
+use Rattle.std.specs.Prelude.{◌≡◌, ℕ, length}
 use Rattle.syn_disk.specs.declared.disk.Disk.{Ghosts}
 use Rattle.syn_journal.specs.Journal as journal
 use Rattle.syn_journal.specs.declared.journal.Journal.{Journal}
-use Rattle.syn_journal.specs.Layout.{Value, half_size}
+use Rattle.syn_journal.specs.Layout.{Value}
 use Rattle.syn_model.specs.Tree.{Tree}
 use Rattle.syn_model.specs.History.{History, IsHistory, tree_of}
 use Rattle.syn_model.specs.Image.{StandsFor}
@@ -27,7 +27,7 @@ module _ {D : Type 0} {disk : Ghosts D} (replica : Replica D disk) where
 
   -- the length of the longest payload that its journal still takes
   abbrev pub room_shown : ℕ
-  room_shown = half_size - journal.gate_of replica.journal - 6
+  room_shown = journal.room_of replica.journal
 
   -- a device call failed, and the replica was not opened again since
   abbrev pub IsHalted : Type 0

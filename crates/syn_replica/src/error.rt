@@ -2,7 +2,7 @@
 ghost use Rattle.std.specs.Prelude.{◌≡◌, Some};
 ghost use Rattle.syn_model.specs.Refusal.{number, name_of};
 ghost use Rattle.syn_refusal.specs.Refusals.{cause_of};
-ghost use Rattle.syn_replica.specs.Refusals.{refusal_of};
+ghost use Rattle.syn_replica.specs.Refusals.{refusal_of, of_journal};
 
 use std::alloc::{AllocError, AllocFailed};
 use std::fmt;
@@ -15,31 +15,31 @@ use thiserror::Error;
 /// Why a call of a replica is refused.
 #[derive(Clone, Copy, Debug, PartialEq, Eq, Error)]
 pub enum ReplicaError {
-    /// The parent is not a directory.
+    /// 2: the parent is not a directory.
     NoParent,
-    /// A directory is there, where a file is put.
+    /// 3: a directory is there, where a file is put.
     IsDirectory,
-    /// Something is there, where a directory is made.
+    /// 4: something is there, where a directory is made.
     Exists,
-    /// Nothing is there, or no directory where one is listed.
+    /// 5: nothing is there, or no directory where one is listed.
     Absent,
-    /// The root cannot be edited.
+    /// 6: the root cannot be edited.
     Root,
-    /// The result would pass a limit.
+    /// 7: the result would pass a limit.
     Full,
-    /// The record does not fit in the current half of the journal.
+    /// 8: the record does not fit in the current half of the journal.
     JournalFull,
-    /// A device call failed.
+    /// 9: a device call failed.
     Device,
-    /// A device call failed earlier, and the replica was not opened again since.
+    /// 10: a device call failed earlier, and the replica was not opened again since.
     Halted,
-    /// Memory was refused.
+    /// 11: memory was refused.
     Memory,
-    /// Neither half of the disk is open.
+    /// 18: neither half of the disk is open.
     NoImage,
-    /// The disk means nothing that a replica holds.
+    /// 19: the disk means nothing that a replica holds.
     Damaged,
-    /// The disk is of another pair.
+    /// 20: the disk is of another pair.
     WrongPair,
 }
 
@@ -83,6 +83,7 @@ impl fmt::Display for ReplicaError {
 }
 
 impl From<JournalError> for ReplicaError {
+    ghost use Rattle.std.specs.Prelude.{◌≡◌};
     ghost use Rattle.syn_replica.specs.Refusals.{of_journal};
 
     ghost from_gives = { λ refused e. e ≡ of_journal refused };
@@ -101,6 +102,7 @@ impl From<JournalError> for ReplicaError {
 }
 
 impl From<TreeError> for ReplicaError {
+    ghost use Rattle.std.specs.Prelude.{◌≡◌};
     ghost use Rattle.syn_replica.specs.Refusals.{of_tree};
 
     ghost from_gives = { λ refused e. e ≡ of_tree refused };
@@ -119,6 +121,7 @@ impl From<TreeError> for ReplicaError {
 }
 
 impl From<WireError> for ReplicaError {
+    ghost use Rattle.std.specs.Prelude.{◌≡◌};
     ghost use Rattle.syn_replica.specs.declared.error.ReplicaError.TheVariants.{Memory};
 
     ghost from_gives = { λ _ e. e ≡ Memory };
@@ -129,6 +132,7 @@ impl From<WireError> for ReplicaError {
 }
 
 impl From<AllocError> for ReplicaError {
+    ghost use Rattle.std.specs.Prelude.{◌≡◌};
     ghost use Rattle.syn_replica.specs.declared.error.ReplicaError.TheVariants.{Memory};
 
     ghost from_gives = { λ _ e. e ≡ Memory };
@@ -139,6 +143,7 @@ impl From<AllocError> for ReplicaError {
 }
 
 impl<T: Drop> From<AllocFailed<T>> for ReplicaError {
+    ghost use Rattle.std.specs.Prelude.{◌≡◌};
     ghost use Rattle.syn_replica.specs.declared.error.ReplicaError.TheVariants.{Memory};
 
     ghost from_gives = { λ _ e. e ≡ Memory };

@@ -11,10 +11,13 @@ ghost use Rattle.syn_tree.specs.Change.{IsPreparedFor, after_change};
 ghost use Rattle.syn_tree.specs.Contents.{content_of};
 ghost use Rattle.syn_tree.specs.Edits.{edit_of};
 ghost use Rattle.syn_tree.specs.Lists.{listing};
-ghost use Rattle.syn_journal.specs.Journal.{gate_of};
-ghost use Rattle.syn_journal.specs.Layout.{half_size};
-ghost use Rattle.syn_journal.specs.Stops.{LeavesOnly, Untouched};
-ghost use Rattle.syn_replica.specs.Refusals.{refusal_of, CountsFailures, IsOfFormat, IsOfEdit, IsOfReading, MayHideOtherPair};
+ghost use Rattle.syn_journal.specs.Journal.{SameReadings, Takes};
+ghost use Rattle.syn_disk.specs.Armed.{armed};
+ghost use Rattle.syn_disk.specs.Arms.{is_stopped};
+ghost use Rattle.syn_disk.specs.Calls.{Makes, MakesSome, MakesAny};
+ghost use Rattle.syn_disk.specs.Disk.{SameOutcomes};
+ghost use Rattle.syn_disk.specs.Stops.{LeavesOnly, Untouched};
+ghost use Rattle.syn_replica.specs.Refusals.{refusal_of, CountsFailures, MakesIfDevice, IsOfFormat, IsOfEdit, IsOfReading, MayHideOtherPair};
 ghost use Rattle.syn_replica.specs.Admission.{refusal_by, IsAdmission, IsOfTree, IsOfCommit, IsTooLong};
 ghost use Rattle.syn_replica.specs.Disks.{DiskStands, StandsBeforeOrAfter, IsOfOtherPair, IsOpenRefusal};
 ghost use Rattle.syn_replica.specs.Edits.{event_by};
@@ -25,7 +28,7 @@ use crate::image::encode_image;
 use crate::opening::read_replica;
 use crate::prepare::prepare;
 use std::alloc::Global;
-use syn_disk::Disk;
+use syn_disk::{Arm, Disk, Limit};
 use syn_journal::{Journal, Opened};
 use syn_model::{history_laws, worked_rows};
 use syn_path::{Name, Path};
@@ -55,6 +58,10 @@ impl<D: Disk> Replica<D> {
         ensures unchanged { IfErr result (λ refused. (refused.0 ≡ ReplicaError.Device) ⊎ (refused.1 ≡ disk)) }
         ensures failures { MatchResult result (λ replica. D.failures (disk_of replica) ≡ D.failures disk)
             (λ refused. CountsFailures refused.0 (D.failures disk) (D.failures refused.1)) }
+
+        // Seven device calls where it succeeds.
+        ensures calls { MatchResult result (λ replica. Makes 7 (D.arms disk) (D.arms (disk_of replica)))
+            (λ refused. MakesIfDevice refused.0 7 (D.arms disk) (D.arms refused.1)) }
     {
         history_laws();
         worked_rows();
@@ -94,6 +101,10 @@ impl<D: Disk> Replica<D> {
             (λ refused. Untouched D.seen D.may_leave D.moment D.left_since disk refused.1) }
         ensures failures { MatchResult result (λ replica. D.failures (disk_of replica) ≡ D.failures disk)
             (λ refused. CountsFailures refused.0 (D.failures disk) (D.failures refused.1)) }
+
+        // A sync and then reads, whose number is not fixed.
+        ensures calls { MatchResult result (λ replica. MakesSome (D.arms disk) (D.arms (disk_of replica)))
+            (λ refused. MakesAny (D.arms disk) (D.arms refused.1)) }
     {
         let opened = match Journal::open(alloc, disk) {
             Ok(opened) => opened,
@@ -221,6 +232,10 @@ impl<D: Disk> Replica<D> {
         ensures failures { MatchResult result (λ _. D.failures (disk_of self.new) ≡ D.failures (disk_of self.old))
             (λ e. CountsFailures e (D.failures (disk_of self.old)) (D.failures (disk_of self.new))) }
 
+        // Four device calls where it succeeds.
+        ensures calls { MatchResult result (λ _. Makes 4 (D.arms (disk_of self.old)) (D.arms (disk_of self.new)))
+            (λ e. MakesIfDevice e 4 (D.arms (disk_of self.old)) (D.arms (disk_of self.new))) }
+
         // What stays after a refusal.
         ensures remembers { (history : History) → Remembers self.old history → IfErr result (λ _. Remembers self.new history) }
         ensures unchanged { (history : History) → Stands self.old history
@@ -258,7 +273,7 @@ impl<D: Disk> Replica<D> {
     fn commit(&mut self, alloc: Global, payload: &[u8], change: Change) -> Result<u64, ReplicaError>
         requires ready { IsPreparedFor (tree_shown self.old) change }
         requires below { position_shown self.old < 2 ^ 64 - 1 }
-        requires takes { gate_of (journal_of self.old) + 6 + length payload.now ≤ half_size }
+        requires takes { Takes (journal_of self.old) (length payload.now) }
         ensures acknowledged { (history : History) (event : Event) → Stands self.old history → IsAllowed history event → payload.now ≡ event_spelling event
             → after_change (tree_shown self.old) change ≡ after_event (tree_of history) event
             → IfOk result (λ position. (position ≡ length history + 1) × Stands self.new (history ++ event ∷ [])) }
@@ -268,6 +283,10 @@ impl<D: Disk> Replica<D> {
         ensures halts { result ≡ Err ReplicaError.Device → IsHalted self.new }
         ensures failures { MatchResult result (λ _. D.failures (disk_of self.new) ≡ D.failures (disk_of self.old))
             (λ e. CountsFailures e (D.failures (disk_of self.old)) (D.failures (disk_of self.new))) }
+
+        // Four device calls where it succeeds.
+        ensures calls { MatchResult result (λ _. Makes 4 (D.arms (disk_of self.old)) (D.arms (disk_of self.new)))
+            (λ e. MakesIfDevice e 4 (D.arms (disk_of self.old)) (D.arms (disk_of self.new))) }
         ensures remembers { IfErr result (λ _. SameMemory self.old self.new) }
         ensures unchanged { IfErr result (λ e. (e ≡ ReplicaError.Device) ⊎ (journal_of self.new ≡ journal_of self.old)) }
     {
@@ -276,6 +295,34 @@ impl<D: Disk> Replica<D> {
         self.tree.make(change);
         self.position += 1;
         Ok(self.position)
+    }
+}
+
+impl<D: Limit> Replica<D> {
+    ghost use Rattle.syn_replica.specs.Replica.{disk_of, journal_of, SameMemory, Stands};
+
+    /// Arms the replica's disk. It takes the place of an arm of its kind that is still to come.
+    pub fn arm(&mut self, arm: Arm)
+        ensures arms { D.Disk.arms (disk_of self.new) ≡ armed (D.Disk.arms (disk_of self.old)) arm }
+
+        // It changes nothing that a read gives or a stop leaves.
+        ensures seen { D.Disk.seen (disk_of self.new) ≡ D.Disk.seen (disk_of self.old) }
+        ensures stop { SameOutcomes (D.Disk.may_leave (disk_of self.old)) (D.Disk.may_leave (disk_of self.new)) }
+        ensures moment { D.Disk.moment (disk_of self.new) ≡ D.Disk.moment (disk_of self.old) }
+        ensures past { (t : ℕ) → SameOutcomes (D.Disk.left_since (disk_of self.old) t) (D.Disk.left_since (disk_of self.new) t) }
+        ensures failures { D.Disk.failures (disk_of self.new) ≡ D.Disk.failures (disk_of self.old) }
+        ensures stands { (history : History) → Stands self.old history → Stands self.new history }
+        ensures memory { SameMemory self.old self.new }
+        ensures readings { SameReadings (journal_of self.old) (journal_of self.new) }
+    {
+        self.journal.arm(arm);
+    }
+
+    /// Whether all the device calls before a stop are made.
+    pub fn is_cut(&self) -> bool
+        ensures { result ≡ is_stopped (D.Disk.arms (disk_of self.now)) }
+    {
+        self.journal.is_cut()
     }
 }
 

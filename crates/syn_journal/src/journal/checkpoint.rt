@@ -1,21 +1,23 @@
 //! A checkpoint: another image in the half that is not current.
 ghost use Rattle.std.specs.Prelude.{◌≡◌, ◌↔◌, ◌⊎◌, ◌≤◌, ◌<◌, ◌+◌, ◌^◌, true, false, ℕ, List, length, Err, OnOk, IfErr, MatchResult};
+ghost use Rattle.syn_disk.specs.Calls.{Makes, MakesUpTo};
 ghost use Rattle.syn_disk.specs.Disk.{CountsFailure, Only};
 ghost use Rattle.syn_journal.specs.Layout.{Value, half_size, longest_image, other_half, is_open, image_alone, IsBeforeOrAfter};
 ghost use Rattle.syn_journal.specs.Commit.{IsClosing, IsNextImage};
-ghost use Rattle.syn_journal.specs.Stops.{LeavesOnly};
+ghost use Rattle.syn_disk.specs.Stops.{LeavesOnly};
 ghost use Rattle.syn_journal.specs.Whole.{IsWhole};
 
-use super::{Journal, MAX_IMAGE, image_body};
+use super::{Journal, image_body};
 use crate::JournalError;
 use crate::commit::commit;
 use crate::half::Half;
+use crate::layout::{IMAGE_AT, MAX_IMAGE};
 use std::alloc::Global;
 use syn_disk::{DeviceFailed, Disk};
 
 impl<D: Disk> Journal<D> {
     ghost use Rattle.syn_journal.specs.Journal.{disk_of, half_of, generation_of, gate_of, IsHalted, Stands};
-    ghost use Rattle.syn_journal.specs.Refusals.{CountsFailures, IsCheckpointRefusal};
+    ghost use Rattle.syn_journal.specs.Refusals.{CountsFailures, MakesIfDevice, IsCheckpointRefusal};
 
     /// Takes this image, with no payloads, in the place of what the journal stood for. At `Ok` it is durable: from
     /// then on each stop leaves it. It is written into the half that is not current, with the next generation.
@@ -37,6 +39,10 @@ impl<D: Disk> Journal<D> {
         ensures unchanged { IfErr result (λ refusal. (refusal ≡ JournalError.Device) ⊎ (self.new ≡ self.old)) }
         ensures failures { MatchResult result (λ _. D.failures (disk_of self.new) ≡ D.failures (disk_of self.old)) (λ refusal. CountsFailures refusal (D.failures (disk_of self.old)) (D.failures (disk_of self.new))) }
 
+        // Six device calls where it succeeds.
+        ensures calls { MatchResult result (λ _. Makes 6 (D.arms (disk_of self.old)) (D.arms (disk_of self.new)))
+            (λ refusal. MakesIfDevice refusal 6 (D.arms (disk_of self.old)) (D.arms (disk_of self.new))) }
+
         // The readings, also after a refusal.
         ensures half { MatchResult result (λ _. half_of self.new ≡ other_half (half_of self.old)) (λ _. half_of self.new ≡ half_of self.old) }
         ensures generation { MatchResult result (λ _. generation_of self.new ≡ generation_of self.old + 1) (λ _. generation_of self.new ≡ generation_of self.old) }
@@ -56,7 +62,7 @@ impl<D: Disk> Journal<D> {
         replace(&mut self.disk, other, self.other_is_open, &body)?;
         self.half = other;
         self.generation = generation;
-        self.gate = 13 + image.len();
+        self.gate = IMAGE_AT + image.len();
         self.other_is_open = true;
         self.halted = false;
         Ok(())
@@ -81,6 +87,7 @@ fn replace<D: Disk>(
     ensures any_moment { (generation gate : ℕ) (value : Value) (image : List ℕ) → IsNextImage (D.seen disk.old) half generation gate value image body.now
         → LeavesOnly D.moment D.left_since disk.old disk.new (IsBeforeOrAfter value (image_alone image)) }
     ensures count { CountsFailure result (D.failures disk.old) (D.failures disk.new) }
+    ensures calls { MakesUpTo 6 result (D.arms disk.old) (D.arms disk.new) }
 {
     ensure_closed(disk, half, was_open)?;
     commit(disk, half.start(), body)
@@ -96,6 +103,7 @@ fn ensure_closed<D: Disk>(disk: &mut D, half: Half, was_open: bool) -> Result<()
     ensures any_moment { Only (D.seen disk.old) (D.may_leave disk.old)
         → LeavesOnly D.moment D.left_since disk.old disk.new (IsClosing (D.seen disk.old) half) }
     ensures count { CountsFailure result (D.failures disk.old) (D.failures disk.new) }
+    ensures calls { MakesUpTo 2 result (D.arms disk.old) (D.arms disk.new) }
 {
     let gate: &[u8] = if was_open { &[0] } else { &[] };
     disk.write(half.start(), gate)?;

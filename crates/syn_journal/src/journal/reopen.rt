@@ -2,7 +2,8 @@
 ghost use Rattle.std.specs.Prelude.{◌≡◌, ◌⊎◌, Ok, Err, IfOk, IfErr, OnErr, MatchResult};
 ghost use Rattle.syn_journal.specs.Layout.{current, generation_at, meaning};
 ghost use Rattle.syn_journal.specs.Opened.{value_read};
-ghost use Rattle.syn_journal.specs.Stops.{Untouched};
+ghost use Rattle.syn_disk.specs.Calls.{MakesReads};
+ghost use Rattle.syn_disk.specs.Stops.{Untouched};
 
 use super::Journal;
 use crate::JournalError;
@@ -38,6 +39,9 @@ impl<D: Disk> Journal<D> {
         // Reads give the same, and a stop at any moment of the call leaves only what it might have left before.
         ensures untouched { Untouched D.seen D.may_leave D.moment D.left_since (disk_of self.old) (disk_of self.new) }
         ensures failures { MatchResult result (λ _. D.failures (disk_of self.new) ≡ D.failures (disk_of self.old)) (λ refusal. CountsFailures refusal (D.failures (disk_of self.old)) (D.failures (disk_of self.new))) }
+
+        // A sync and then reads, whose number is not fixed.
+        ensures calls { MakesReads result (D.arms (disk_of self.old)) (D.arms (disk_of self.new)) }
 
         // The readings, also after a refusal.
         ensures half { MatchResult result (λ _. current (D.seen (disk_of self.old)) ≡ Ok (half_of self.new)) (λ _. half_of self.new ≡ half_of self.old) }

@@ -7,6 +7,7 @@ use Rattle.syn_journal.specs.Opened.{payloads_of}
 use Rattle.syn_journal.specs.Refusals.{IsReadRefusal}
 use Rattle.syn_journal.proofs.Moments.{no_call, and_then}
 use Rattle.syn_journal.proofs.Openings.{read_more, read_damaged, if_err_by, read_refusal_weaker}
+use Rattle.syn_journal.proofs.Calls.{no_reads, reads_of_exit, some_is_any, then_any, then_some}
 use Rattle.syn_journal.proofs.contents.read_records.Goals as goal
 
 pub loop-records-init : goal.loop-records-init
@@ -18,6 +19,7 @@ loop-records-init g c =
       so_far = ap (λ k. take k (drop (start_of c.args.half + c.args.first) (g.D.Disk.seen c.args.disk.now))) none ∙ sym (ap (λ items. records_of (map (λ payload. payload.items) items)) c.new-records.ensures.items);
       untouched = no_call g.met.D.Disk.only_now c.args.disk.now;
       count = refl;
+      calls = no_reads (g.D.Disk.arms c.args.disk.now);
     }
 
 pub loop-records-preserved : goal.loop-records-preserved
@@ -41,6 +43,11 @@ loop-records-preserved g c =
       untouched = and_then c.args.disk.now loop.disk c.read_record.new.disk loop.invariant.untouched
           (and_then loop.disk c.read_u8.new.disk c.read_record.new.disk c.in_ok-read_u8.ensures.untouched c.in_ok-payload.ensures.untouched);
       count = c.in_ok-payload.ensures.count ∙ c.in_ok-read_u8.ensures.count ∙ loop.invariant.count;
+      calls =
+          let old = g.D.Disk.arms c.args.disk.now in
+          let gate = g.D.Disk.arms c.read_u8.new.disk in
+          then_some old gate (g.D.Disk.arms c.read_record.new.disk)
+          (then_some old (g.D.Disk.arms loop.disk) gate loop.invariant.calls c.in_ok-read_u8.ensures.calls) c.in_ok-payload.ensures.calls;
     }
 
 pub returns-in_err-payload-clause-refusals : goal.returns-in_err-payload-clause-refusals
@@ -59,3 +66,30 @@ returns-in_err-payload-clause-refusals g c =
     let refused : IsReadRefusal c.in_err-payload.field-0.0 (records (length bytes) bytes ≡ None) =
     read_refusal_weaker c.in_err-payload.field-0.0 _ _ (read_damaged seen c.args.half c.args.first loop.gate (payloads_of loop.records) loop.invariant.ordered loop.invariant.so_far whole loop.invariant.within opened) cause in
     if_err_by c.from_residual-in_err-payload.result _ _ c.from_residual-in_err-payload.ensures.1 (λ e gives. subst (λ refusal. IsReadRefusal refusal (records (length bytes) bytes ≡ None)) (sym gives) refused)
+
+pub returns-in_err-read_u8-clause-calls : goal.returns-in_err-read_u8-clause-calls
+returns-in_err-read_u8-clause-calls g c =
+    let old = g.D.Disk.arms c.args.disk.now in
+    let new = g.D.Disk.arms c.read_u8.new.disk in
+    reads_of_exit c.from_residual.result _ old new c.from_residual.ensures.1
+    (then_any old (g.D.Disk.arms c.loop-records.disk) new c.loop-records.invariant.calls c.in_err-read_u8.ensures.calls)
+
+pub returns-in_err-payload-clause-calls : goal.returns-in_err-payload-clause-calls
+returns-in_err-payload-clause-calls g c =
+    let old = g.D.Disk.arms c.args.disk.now in
+    let gate = g.D.Disk.arms c.read_u8.new.disk in
+    let new = g.D.Disk.arms c.read_record.new.disk in
+    reads_of_exit c.from_residual-in_err-payload.result _ old new c.from_residual-in_err-payload.ensures.1
+    (then_any old gate new (then_some old (g.D.Disk.arms c.loop-records.disk) gate c.loop-records.invariant.calls c.in_ok-read_u8.ensures.calls) c.in_err-payload.ensures.calls)
+
+pub returns-in_err-push-clause-calls : goal.returns-in_err-push-clause-calls
+returns-in_err-push-clause-calls g c =
+    let old = g.D.Disk.arms c.args.disk.now in
+    let gate = g.D.Disk.arms c.read_u8.new.disk in
+    let new = g.D.Disk.arms c.read_record.new.disk in
+    reads_of_exit c.from_residual-in_err-push.result _ old new c.from_residual-in_err-push.ensures.1
+    (some_is_any old new (then_some old gate new (then_some old (g.D.Disk.arms c.loop-records.disk) gate c.loop-records.invariant.calls c.in_ok-read_u8.ensures.calls) c.in_ok-payload.ensures.calls))
+
+pub returns-clause-calls : goal.returns-clause-calls
+returns-clause-calls g c =
+    then_some (g.D.Disk.arms c.args.disk.now) (g.D.Disk.arms c.loop-records.disk) (g.D.Disk.arms c.read_u8.new.disk) c.loop-records.invariant.calls c.in_ok-read_u8.ensures.calls

@@ -6,6 +6,7 @@ use Rattle.syn_journal.specs.declared.half.Half.{Half}
 use Rattle.syn_journal.specs.Layout.{is_open, open_gate, start_of}
 use Rattle.syn_journal.proofs.Meanings.{within_disk}
 use Rattle.syn_journal.proofs.Parts.{overwritten-in}
+use Rattle.syn_journal.proofs.Calls.{one_up_to}
 use Rattle.syn_journal.proofs.journal.close.Goals as goal
 
 now_closed : (old new : List ℕ) (half : Half) → length old ≡ DISK_SIZE → new ≡ overwritten old (start_of half) (0 ∷ []) → is_open new half ≡ false
@@ -20,3 +21,6 @@ returns-clause-closed g c =
     let size : length (g.D.Disk.seen disk) ≡ DISK_SIZE = g.met.D.Disk.whole disk _ _ (g.met.D.Disk.counts_now disk (g.D.Disk.moment disk) _ (omega arith) (g.met.D.Disk.seen_may_stay disk)) in
     let written = rw c.start.ensures at c.write.ensures.written in
     on_ok_weaker c.write.result (λ is. now_closed _ _ c.args.half size is) written
+
+pub returns-clause-calls : goal.returns-clause-calls
+returns-clause-calls g c = one_up_to c.write.result (g.D.Disk.arms c.args.disk.now) (g.D.Disk.arms c.write.new.self) c.write.ensures.allowed c.write.ensures.arms

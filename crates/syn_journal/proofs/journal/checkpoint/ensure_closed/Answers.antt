@@ -6,6 +6,7 @@ use Rattle.syn_journal.specs.Commit.{IsClosing}
 use Rattle.syn_journal.specs.Layout.{start_of, is_open}
 use Rattle.syn_journal.proofs.Checkpoints.{closing_bytes, at_first, follows, seen_closing, seen_closed}
 use Rattle.syn_journal.proofs.Moments.{started, goes_on}
+use Rattle.syn_journal.proofs.Calls.{fewer, one_at_most, one_made, one_up_to, then_up_to, up_to_of_exit}
 use Rattle.syn_journal.proofs.journal.checkpoint.ensure_closed.Goals as goal
 use Rattle.syn_journal.proofs.journal.checkpoint.ensure_closed.Goals.{then-was_open, else-was_open}
 
@@ -62,3 +63,16 @@ returns-clause-closed g c =
     ] in
     let seen : g.D.Disk.seen c.sync.new.self ≡ overwritten start (start_of half) c.if-was_open.gate.now = c.sync.ensures.seen ∙ (rw c.start.ensures at c.in_ok-write.ensures.written) in
     on_ok_weaker c.sync.result (λ _. ap (λ d. is_open d half) seen ∙ seen_closed start half c.args.was_open _ c.requires bytes size) c.sync.ensures.durable
+
+pub returns-in_err-write-clause-calls : goal.returns-in_err-write-clause-calls
+returns-in_err-write-clause-calls g c =
+    let a = g.D.Disk.arms c.args.disk.now in
+    let b = g.D.Disk.arms c.write.new.self in
+    up_to_of_exit 2 c.from_residual.result _ a b c.from_residual.ensures.1 (fewer 1 2 a b (omega arith) (one_at_most a b c.write.ensures.arms))
+
+pub returns-clause-calls : goal.returns-clause-calls
+returns-clause-calls g c =
+    let a = g.D.Disk.arms c.args.disk.now in
+    let b = g.D.Disk.arms c.write.new.self in
+    let d = g.D.Disk.arms c.sync.new.self in
+    then_up_to 1 1 c.sync.result a b d (one_made a b c.in_ok-write.ensures.allowed c.write.ensures.arms) (one_up_to c.sync.result b d c.sync.ensures.allowed c.sync.ensures.arms)

@@ -1,4 +1,4 @@
-use Rattle.std.proofs.Common.{◌≡◌, ◌+◌, inl, true, length, subst, sym}
+use Rattle.std.proofs.Common.{◌≡◌, ◌+◌, inl, true, length, subst, sym, arith}
 use Rattle.std.proofs.lemmas.Result.{on_ok_weaker}
 use Rattle.syn_journal.specs.Commit.{IsClosing, IsStagedOrOpened}
 use Rattle.syn_journal.specs.Layout.{start_of, other_half, is_open, image_alone, IsBeforeOrAfter}
@@ -6,6 +6,7 @@ use Rattle.syn_journal.specs.Whole.{IsWhole}
 use Rattle.syn_journal.proofs.Checkpoints.{while_closing, still_next, before_or_after, checkpointed}
 use Rattle.syn_journal.proofs.Meanings.{means}
 use Rattle.syn_journal.proofs.Moments.{weakened, in_turn}
+use Rattle.syn_journal.proofs.Calls.{fewer, then_up_to, up_to_of_exit}
 use Rattle.syn_journal.proofs.journal.checkpoint.replace.Goals as goal
 
 pub returns-in_err-ensure_closed-clause-any_moment : goal.returns-in_err-ensure_closed-clause-any_moment
@@ -42,3 +43,11 @@ returns-clause-written g c generation gate value image next =
     (λ is. subst (λ d. IsWhole d half (generation + 1) (13 + length image) (image_alone image) × (is_open d (other_half half) ≡ true)) (sym is)
     (checkpointed mid half generation gate value image c.args.body.now next' c.in_ok-ensure_closed.ensures.closed))
     (rw c.start.ensures at c.commit.ensures.written)
+
+pub returns-in_err-ensure_closed-clause-calls : goal.returns-in_err-ensure_closed-clause-calls
+returns-in_err-ensure_closed-clause-calls g c =
+    up_to_of_exit 6 c.from_residual.result _ (g.D.Disk.arms c.args.disk.now) (g.D.Disk.arms c.ensure_closed.new.disk) c.from_residual.ensures.1 (fewer 2 6 (g.D.Disk.arms c.args.disk.now) (g.D.Disk.arms c.ensure_closed.new.disk) (omega arith) c.in_err-ensure_closed.ensures.calls)
+
+pub returns-clause-calls : goal.returns-clause-calls
+returns-clause-calls g c =
+    then_up_to 2 4 c.commit.result (g.D.Disk.arms c.args.disk.now) (g.D.Disk.arms c.ensure_closed.new.disk) (g.D.Disk.arms c.commit.new.disk) c.in_ok-ensure_closed.ensures.calls c.commit.ensures.calls

@@ -1,0 +1,6 @@
+-- Definitions that no public clause reaches.
+pub mod Extent
+pub mod Memory
+pub mod Mirror
+pub mod MomentLaws
+pub mod PaddedLaws

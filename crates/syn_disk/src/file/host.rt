@@ -1,0 +1,60 @@
+//! What a disk in a file asks of the operating system, beside reads, writes and syncs.
+use std::fs::{File, OpenFile, TryLockError};
+use std::io;
+use std::os::fd::AsRawFd;
+use std::os::unix::fs::FileExt;
+
+/// What a file is opened for.
+#[derive(Clone, Copy, Debug, PartialEq, Eq)]
+pub enum Access {
+    Read,
+    Write,
+}
+
+/// An open file of the operating system.
+pub trait HostFile: FileExt + OpenFile + Drop {
+    /// Takes the system's lock on the file: to write it alone, and to read it beside others that read. It
+    /// does not wait. The lock is held until the file is closed.
+    fn try_lock(&self, access: Access) -> Result<(), TryLockError>;
+
+    /// Where the next bytes that the file keeps begin, from `from` on; none where it keeps no more. What it does not
+    /// keep reads as zeros.
+    fn next_kept(&self, from: u64) -> io::Result<Option<u64>>;
+
+    /// Lets the system forget what it has in memory of the file and takes for synced. After a sync that failed
+    /// in an earlier process that may be other than what the device has.
+    fn forget(&self);
+}
+
+/// `lseek`'s word for the next bytes that a file keeps.
+const SEEK_DATA: i32 = 3;
+
+/// The error of `lseek` where a file keeps no more bytes.
+const ENXIO: i32 = 6;
+
+impl HostFile for File {
+    fn try_lock(&self, access: Access) -> Result<(), TryLockError> {
+        match access {
+            Access::Read => File::try_lock_shared(self),
+            Access::Write => File::try_lock(self),
+        }
+    }
+
+    fn next_kept(&self, from: u64) -> io::Result<Option<u64>> {
+        let next = libc::lseek(self.as_raw_fd(), from.cast_signed(), SEEK_DATA);
+        if next >= 0 {
+            return Ok(Some(next.cast_unsigned()));
+        }
+        match os::errno() {
+            ENXIO => Ok(None),
+            // The file system does not tell.
+            libc::EINVAL => Ok(Some(from)),
+            error => Err(io::Error::from_raw_os_error(error)),
+        }
+    }
+
+    fn forget(&self) {
+        // It is advice, and a system that does not take it is none the worse.
+        let _ = libc::posix_fadvise(self.as_raw_fd(), 0, 0, libc::POSIX_FADV_DONTNEED);
+    }
+}
