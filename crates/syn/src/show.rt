@@ -29,7 +29,8 @@ pub fn show_image<D: Disk, W: Write>(
     output: &mut W,
 ) -> Result<(), CommandError>
     ensures printed { OnOk result (Appends (W.contents output.old) (W.contents output.new)
-        (image_line (pair_of replica.now) (position_shown replica.now) ++ lines_below (tree_shown replica.now) [])) }
+        (image_line (pair_of replica.now) (position_shown replica.now)
+        ++ lines_below (tree_shown replica.now) [])) }
     ensures stream { IfErr result IsOfStream }
 {
     let line = image_line(alloc, replica.pair(), replica.position())?;
@@ -48,7 +49,8 @@ pub fn show_path<D: Disk, W: Write>(
     output: &mut W,
 ) -> Result<(), CommandError>
     ensures printed { (content : Content) → get (tree_shown replica.now) path.now ≡ Some content
-        → OnOk result (Appends (W.contents output.old) (W.contents output.new) (content_shown (tree_shown replica.now) path.now content)) }
+        → OnOk result (Appends (W.contents output.old) (W.contents output.new)
+        (content_shown (tree_shown replica.now) path.now content)) }
     ensures found { OnOk result (is_present (tree_shown replica.now) path.now ≡ true) }
     ensures refusals { IfErr result (λ e.
         ((refusal_of e ≡ Absent) × (get (tree_shown replica.now) path.now ≡ None)) ⊎ IsOfStream e) }

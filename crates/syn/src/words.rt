@@ -150,7 +150,8 @@ pub fn read_words<'a>(alloc: Global, words: &'a [&'a str]) -> Result<Asked<'a>, 
         (map (λ word. word.now) words.entry.now)))) }
 
     // Where `clap` takes the words, a value is wrong: no line is what they say.
-    ensures value { IfErr result (λ error. IsValue error → (fault_of syn_app (map (λ word. word.now) words.entry.now) ≡ [])
+    ensures value { IfErr result (λ error. IsValue error
+        → (fault_of syn_app (map (λ word. word.now) words.entry.now) ≡ [])
         × NothingReads (subcommand_of syn_app (map (λ word. word.now) words.entry.now))) }
 
     // And then the words name a command with each value that it requires, and the KIND, the PAIR or
@@ -202,7 +203,8 @@ fn asked_of<'a>(
 
 /// The command of a name and its matches.
 fn line_of<'a>(name: &'a str, found: &ArgMatches<'a>) -> Result<Line<'a>, LineError>
-    ensures ok { IfOk result (λ line. ReadsRows name.entry.now (rows_of (found_of found.now)) line) }
+    ensures ok { IfOk result (λ line.
+        ReadsRows name.entry.now (rows_of (found_of found.now)) line) }
     ensures value { IfErr result (λ error. IsValue error) }
     ensures lacks { IfErr result (λ error. IfValue error
         (Lacks name.entry.now (rows_of (found_of found.now)))) }
@@ -271,7 +273,8 @@ fn edit_values<'a>(found: &ArgMatches<'a>) -> Result<(&'a str, u32, &'a str), Li
 
 #[tactic(auto, using(crate::proofs::LineLemmas::first_value_rows))]
 fn show_line<'a>(found: &ArgMatches<'a>) -> Result<Line<'a>, LineError>
-    ensures ok { IfOk result (λ line. ReadsRows (codes "show") (rows_of (found_of found.now)) line) }
+    ensures ok { IfOk result (λ line.
+        ReadsRows (codes "show") (rows_of (found_of found.now)) line) }
     ensures value { IfErr result (λ error. IsValue error) }
     ensures lacks { IfErr result (λ error. IfValue error
         (Lacks (codes "show") (rows_of (found_of found.now)))) }
@@ -289,7 +292,8 @@ fn text<'a>(found: &ArgMatches<'a>, value: ValueName) -> Result<&'a str, LineErr
     ensures ok { IfOk result (λ text. first_of (name_of value) (rows_of (found_of found.now))
         ≡ Some text.now) }
     ensures value { IfErr result (λ error. error ≡ Value value) }
-    ensures nothing { OnErr result (first_of (name_of value) (rows_of (found_of found.now)) ≡ None) }
+    ensures nothing { OnErr result
+        (first_of (name_of value) (rows_of (found_of found.now)) ≡ None) }
 {
     match found.get_str(value.as_str()) {
         Some(text) => Ok(text),
