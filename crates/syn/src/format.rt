@@ -5,6 +5,7 @@ use std::alloc::Global;
 use std::fs::{Files, OpenFile, OpenOptions};
 use std::io;
 use syn_disk::{DISK_SIZE, FileDisk, HostFile};
+use syn_refusal::Refusal;
 use syn_replica::Replica;
 
 /// Makes the file a replica of the pair. Where that is refused, the file is as long as it was, or
@@ -15,7 +16,10 @@ where
 {
     let before = make_room(files, file)?;
     if let Err(refusal) = format_disk(alloc, files, file, pair) {
-        put_back(files, file, before);
+        // What another process has now is not this one's to undo.
+        if refusal.refusal() != Refusal::Busy {
+            put_back(files, file, before);
+        }
         return Err(refusal);
     }
     Ok(())

@@ -2,5 +2,6 @@
 pub mod Extent
 pub mod Memory
 pub mod Mirror
+pub mod Mirrored
 pub mod MomentLaws
 pub mod PaddedLaws

@@ -19,8 +19,9 @@ use mirror::MirroredFile;
 
 /// A file of `DISK_SIZE` bytes, by what each call on it leaves.
 ///
-/// It is sound as long as no sync of it failed. Then the system may drop what was written and take it for
-/// synced, so that no later sync can be believed: nothing is to be asked of the file any more.
+/// It is sound as long as no write and no sync of it failed. After a failed write nobody knows what the file holds. After
+/// a failed sync the system may drop what was written and take it for synced, so that no later sync can be believed.
+/// Nothing is to be asked of such a file any more.
 pub trait DiskFile {
     /// The bytes that a read gives.
     ghost seen: { Self → List ℕ };
@@ -34,7 +35,7 @@ pub trait DiskFile {
     /// The contents that a stop at some moment from that one on might have left, during a call or between two.
     ghost left_since: { Self → ℕ → List ℕ → Type 0 };
 
-    /// No sync has failed.
+    /// No write and no sync has failed.
     ghost is_sound: { Self → Bool };
 
     /// Fills `into` with the bytes from `at` on.
@@ -48,7 +49,8 @@ pub trait DiskFile {
             (left_since self.old) (left_since self.new) (may_leave self.new) }
         ensures sound { is_sound self.new ≡ true };
 
-    /// Until the next sync that succeeds a stop may leave any bytes in the range, also where the write failed.
+    /// Until the next sync that succeeds a stop may leave any bytes in the range, also where the write failed. Where it
+    /// fails the file may be sound no more.
     fn write(&mut self, at: usize, bytes: &[u8]) -> Result<(), DeviceFailed>
         requires fits { at + length bytes.now ≤ DISK_SIZE }
         requires sound { is_sound self.old ≡ true }
@@ -57,7 +59,7 @@ pub trait DiskFile {
         ensures stop { Follows (Torn at (length bytes.now)) (may_leave self.old) (may_leave self.new) }
         ensures time { Elapses (moment self.old) (moment self.new)
             (left_since self.old) (left_since self.new) (may_leave self.new) }
-        ensures sound { is_sound self.new ≡ true };
+        ensures sound { OnOk result (is_sound self.new ≡ true) };
 
     /// After it a stop leaves what a read gives. Where it fails the file may be sound no more.
     fn sync(&mut self) -> Result<(), DeviceFailed>
@@ -84,11 +86,11 @@ pub trait DiskFile {
 
 /// A disk in a file.
 ///
-/// Once a sync failed, each call fails until the file is opened again.
+/// Once a write or a sync failed, each call fails until the file is opened again.
 #[derive(Drop)]
 pub struct FileDisk<F: DiskFile> {
     file: F,
-    /// A sync failed.
+    /// A write or a sync failed.
     is_lost: bool,
     failed: Tally,
     ghost sound: { is_lost ≡ false → F.is_sound file ≡ true },
@@ -202,10 +204,16 @@ impl<F: DiskFile + Drop> Disk for FileDisk<F> {
         Ok(())
     }
 
+    /// After one that fails each call fails.
     fn write(&mut self, at: usize, bytes: &[u8]) -> Result<(), DeviceFailed> {
-        if self.is_lost || self.file.write(at, bytes).is_err() {
+        if self.is_lost {
             return Err(self.fail());
         }
+        self.is_lost = true;
+        if self.file.write(at, bytes).is_err() {
+            return Err(self.fail());
+        }
+        self.is_lost = false;
         Ok(())
     }
 

@@ -1,12 +1,10 @@
-mod contended;
 mod counter;
 mod list;
 mod served;
 
-use crate::tests::contended::hold_while_asked;
 use crate::tests::counter::{AddError, Counter, bump_both, try_add};
 use crate::tests::list::{Lines, append, append_both, part};
-use crate::tests::served::{drains_and_fills, serve_two};
+use crate::tests::served::serve_two;
 use crate::{LockError, MOST_PASSES, Own};
 use std::marker::Brand;
 use std::mem::ManuallyDrop;
@@ -21,17 +19,6 @@ fn two_threads_lose_nothing(rt: HostRuntime) -> Result<(), Fail> {
     assert_eq!(&rt; own.position(&mut first), 1000);
     let state = own.close(second).map_err(|_| "close")?;
     assert_eq!(&rt; state.count, 1000);
-    Ok(())
-}
-
-/// A pass that finds the lock taken looks again until it is free.
-#[test]
-fn who_waits_is_let_in(rt: HostRuntime) -> Result<(), Fail> {
-    let own = Own::new(rt.alloc(), Counter { count: 0 }).map_err(|_| "memory")?;
-    let first = own.pass().map_err(|_| "first")?;
-    let second = own.pass().map_err(|_| "second")?;
-    let (mut first, _second) = hold_while_asked(&rt, &own, first, second, 200);
-    assert_eq!(&rt; own.position(&mut first), 200);
     Ok(())
 }
 
@@ -184,15 +171,5 @@ fn pool_of_passes(rt: HostRuntime) -> Result<(), Fail> {
     let own = Own::new(rt.alloc(), Counter { count: 0 }).map_err(|_| "memory")?;
     let sum = serve_two::<Brand, HostRuntime>(&rt, rt.alloc(), own, 100);
     assert_eq!(&rt; sum, Some(200));
-    Ok(())
-}
-
-/// A pool gives each of its passes once, and takes all of them back.
-#[test]
-fn pools_of_one_and_of_many(rt: HostRuntime) -> Result<(), Fail> {
-    for size in [1, 62] {
-        let own = Own::new(rt.alloc(), Counter { count: 0 }).map_err(|_| "memory")?;
-        assert!(&rt; drains_and_fills::<Brand, HostRuntime>(&rt, rt.alloc(), own, size));
-    }
     Ok(())
 }

@@ -1,5 +1,5 @@
 //! A file of the operating system, with its bytes in memory.
-ghost use Rattle.std.specs.Prelude.{◌≡◌, ◌≤◌, ◌<◌, ◌+◌, [], ◌∷◌, true, refl, ℕ, List, length, IfOk, IsOk};
+ghost use Rattle.std.specs.Prelude.{◌≡◌, ◌≤◌, ◌<◌, ◌+◌, [], ◌∷◌, true, false, not, refl, ℕ, List, length, IfOk, IsOk};
 ghost use Rattle.syn_disk.specs.Moments.{MayLeave, LeftSince};
 ghost use Rattle.syn_disk.specs.inner.Extent.{is_in_some};
 ghost use Rattle.syn_disk.specs.inner.Mirror.{FileMayLeave, bytes_of, length-bytes};
@@ -20,8 +20,8 @@ const CHUNK: usize = 16_384;
 
 /// A file of the operating system, with its bytes in memory. A read takes them from there.
 ///
-/// No contract can say what the system's file holds. One sentence is taken as given: as long as no sync failed, it
-/// holds what is in memory, a stop spoils no byte but those written since the last sync, and a sync that
+/// No contract can say what the system's file holds. One sentence is taken as given: as long as no write and no sync
+/// failed, it holds what is in memory, a stop spoils no byte but those written since the last sync, and a sync that
 /// succeeds makes it durable.
 #[derive(Drop)]
 pub struct MirroredFile<H> {
@@ -30,14 +30,20 @@ pub struct MirroredFile<H> {
     /// The ranges that were written since the last sync.
     unsynced: History<usize, usize>,
     history: History<Image, History<usize, usize>>,
+    /// A write or a sync failed, so that the file need not hold what is in memory.
+    has_failed: bool,
 }
 
 impl<H: HostFile> MirroredFile<H> {
+    ghost use Rattle.syn_disk.specs.inner.Mirrored.{has_failed_of};
+
     /// Takes the system's lock on a file that was opened, and reads what the file keeps.
     ///
     /// It is refused 12 where another process has the lock, 9 where the file is of another length than a disk, or
     /// cannot be locked or read, and 11 for want of memory.
-    pub fn open(alloc: Global, file: H, access: Access) -> Result<MirroredFile<H>, OpenError> {
+    pub fn open(alloc: Global, file: H, access: Access) -> Result<MirroredFile<H>, OpenError>
+        ensures sound { IfOk result (λ file. has_failed_of file ≡ false) }
+    {
         match file.try_lock(access) {
             Ok(()) => {}
             Err(TryLockError::WouldBlock) => return Err(OpenError::Busy),
@@ -59,6 +65,7 @@ impl<H: HostFile> MirroredFile<H> {
             image,
             unsynced,
             history: History::new(),
+            has_failed: false,
         })
     }
 }
@@ -93,7 +100,7 @@ impl<H: HostFile> DiskFile for MirroredFile<H> {
 
     ghost left_since = { λ f. LeftSince FileMayLeave f.history (f.image, f.unsynced) };
 
-    ghost is_sound = { λ _. true };
+    ghost is_sound = { λ f. not f.has_failed };
 
     ghost counts_now = { λ f t c le left. now_counts FileMayLeave f.history (f.image, f.unsynced) c t le left };
 
@@ -115,7 +122,10 @@ impl<H: HostFile> DiskFile for MirroredFile<H> {
         self.image.write(at, bytes);
         match self.file.write_all_at(bytes, at as u64) {
             Ok(()) => Ok(()),
-            Err(_) => Err(DeviceFailed),
+            Err(_) => {
+                self.has_failed = true;
+                Err(DeviceFailed)
+            }
         }
     }
 
@@ -126,7 +136,10 @@ impl<H: HostFile> DiskFile for MirroredFile<H> {
                 self.unsynced = History::new();
                 Ok(())
             }
-            Err(_) => Err(DeviceFailed),
+            Err(_) => {
+                self.has_failed = true;
+                Err(DeviceFailed)
+            }
         }
     }
 }
