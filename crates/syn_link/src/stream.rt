@@ -17,6 +17,8 @@ const MOST_READ: usize = 16_384;
 pub fn write_frame<W: Write>(writer: &mut W, body: &[u8]) -> Result<(), LinkError>
     ensures written { OnOk result (Appends (W.contents writer.old) (W.contents writer.new) (frame_of body.now)) }
     ensures beginning { OnErr result (AppendsSome (W.contents writer.old) (W.contents writer.new) (frame_of body.now)) }
+    ensures nothing { IfErr result (λ e. (e ≡ LinkError.Device)
+        ⊎ Keeps (W.contents writer.old) (W.contents writer.new)) }
     ensures bad_frame { (result ≡ Err LinkError.BadFrame) ↔ (length body.now ≡ 0) }
     ensures too_large { (result ≡ Err LinkError.TooLarge) ↔ (MAX_BODY < length body.now) }
     ensures memory { IfErr result (λ e. e ≢ LinkError.Memory) }
