@@ -1,9 +1,7 @@
 -- What no coordinator does.
-use Rattle.std.proofs.Common.{◌≡◌, ◌≢◌, ◌&&◌, ◌||◌, ℕ, not, nat_lt, is_some, length, Bool, true, false, true≢false, if◌then◌else◌, List, [], ◌∷◌, ◌++◌, refl, sym, ap, ◌∙◌, Option, Some, None, inl, inr}
+use Rattle.std.proofs.Common.{◌≡◌, ◌≢◌, ◌&&◌, ℕ, not, nat_lt, is_some, length, Bool, true, false, true≢false, if◌then◌else◌, [], ◌∷◌, refl, sym, ap, ◌∙◌, Option, Some, None, inl, inr}
 use Rattle.std.specs.Prelude.{All}
-use Rattle.std.specs.List.{list_any}
 use Rattle.std.proofs.lemmas.List.Elements.{All-nil, All-cons}
-use Rattle.std.proofs.lemmas.List.Folds.{list_any-append}
 use Rattle.std.proofs.lemmas.Option.{none-some, same_Some}
 use Rattle.syn_model.specs.Refusal.{Refusal, NoAnswer, Memory, TooLarge, BadMessage, Device, Halted, JournalFull}
 use Rattle.syn_headline.specs.Report.{Report, Complete, Incomplete}
@@ -68,14 +66,15 @@ not_whole running ended unstable = by (is_whole running ended) (whole_is (not (i
     by true e c = true≢false e
     by false e c = let x : Incomplete ≡ Complete = c in cc
 
-unstable_more : (taken : List Exchange) (exchange : Exchange) → list_any (λ exchange. is_not_dir exchange.reply) taken ≡ true → list_any (λ exchange. is_not_dir exchange.reply) (taken ++ exchange ∷ []) ≡ true
-unstable_more taken exchange e = list_any-append (λ exchange. is_not_dir exchange.reply) taken (exchange ∷ []) ∙ ap (λ b. b || (is_not_dir exchange.reply || false)) e
+-- nor is what was ended early
+not_early : (running : Running) (why : Refusal) → (report_of running (Some why)).end ≢ Complete
+not_early running why c = let x : Incomplete ≡ Complete = c in cc
 
 pub unstable_is_incomplete : UnstableIsIncomplete
-unstable_is_incomplete pair old running taken _ _ (coordinator.ends_at_once why fault) unstable = one_report (λ report. report.end ≢ Complete) (report_of running (Some why)) (not_whole running (Some why) unstable)
+unstable_is_incomplete pair old running taken _ _ (coordinator.ends_at_once why fault) unstable = one_report (λ report. report.end ≢ Complete) (report_of running (Some why)) (not_early running why)
 unstable_is_incomplete pair old running taken _ _ (coordinator.stops plan logged walk kept fault has advances down) unstable = All-nil (λ report. report.end ≢ Complete)
 unstable_is_incomplete pair old running taken _ _ (coordinator.ends plan logged walk kept why fault has advances ends) unstable =
-    one_report (λ report. report.end ≢ Complete) (report_of (advanced (hearing running taken) plan walk kept) why) (not_whole (advanced (hearing running taken) plan walk kept) why (unstable_more running.taken taken unstable))
+    one_report (λ report. report.end ≢ Complete) (report_of (advanced (hearing running taken) plan walk kept) why) (not_whole (advanced (hearing running taken) plan walk kept) why unstable)
 unstable_is_incomplete pair old running taken _ _ (coordinator.goes_on plan logged walk kept left right fault has advances stays moves asks) unstable = All-nil (λ report. report.end ≢ Complete)
 
 pub failure_ends : FailureEnds

@@ -6,7 +6,7 @@ use Rattle.syn_headline.specs.Side.{Begin}
 use Rattle.syn_headline.specs.Network.{Which, Asks}
 use Rattle.syn_headline.specs.Report.{Complete}
 use Rattle.syn_headline.specs.Coordinator.{CoordinatorMachine, Running, Exchange, Call, Takes, CoordinatorStarts, CoordinatorTicks}
-use Rattle.syn_headline.specs.Coordinator.{fault_of, is_unstable}
+use Rattle.syn_headline.specs.Coordinator.{fault_of, is_unstable, hearing}
 use Rattle.syn_headline.specs.Machine.{Halted, Down, IsBefore}
 use Rattle.syn_headline.specs.World.{World, Machine, Step, Edits, Stop, Steps, Runs, side_of, status_of, failures_of}
 use Rattle.syn_headline.specs.Headline.{IsStart}
@@ -42,7 +42,8 @@ FaultsAlone = (pair : ℕ) (old : CoordinatorMachine) (running : Running) (taken
 -- a session that took an answer of a path as no directory does not report Complete
 abbrev pub UnstableIsIncomplete : Type 0
 UnstableIsIncomplete = (pair : ℕ) (old : CoordinatorMachine) (running : Running) (taken : Exchange) (new : CoordinatorMachine) (call : Call) →
-    Takes pair old running taken new call → is_unstable running ≡ true → All (λ report. report.end ≢ Complete) call.reports
+    Takes pair old running taken new call → is_unstable (hearing running taken) ≡ true →
+    All (λ report. report.end ≢ Complete) call.reports
 
 -- a session whose archive's device fails in a call does not go on
 abbrev pub FailureEnds : Type 0
