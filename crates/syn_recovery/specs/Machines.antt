@@ -1,12 +1,12 @@
 -- How a side and a coordinator keep their values, and what follows for each of their disks.
-use Rattle.std.specs.Prelude.{ℕ, ◌≡◌}
+use Rattle.std.specs.Prelude.{ℕ}
 use Rattle.syn_model.specs.Event.{Event}
 use Rattle.syn_model.specs.History.{History, IsAllowed}
 use Rattle.syn_model.specs.Image.{StandsFor}
 use Rattle.syn_model.specs.Archive.{Archive, Kept, CanKeep}
 use Rattle.syn_model.specs.ArchiveImage.{ArchiveStandsFor}
 use Rattle.syn_journal.specs.Layout.{Value}
-use Rattle.syn_headline.specs.Machine.{Journaled, unarmed}
+use Rattle.syn_headline.specs.Machine.{Journaled, Arms, Meets, Up}
 use Rattle.syn_headline.specs.SideMachine.{side_layout}
 use Rattle.syn_headline.specs.Coordinator.{archive_layout}
 use Rattle.syn_recovery.specs.Meaning.{Keeping, MayMean, OpensTo}
@@ -18,14 +18,16 @@ abbrev pub of_archive : ℕ → Keeping Archive Kept
 of_archive pair =
     record { layout = archive_layout pair; CanAdd = CanKeep; Stands = ArchiveStandsFor pair }
 
--- Whatever the disk of a side may mean, an opening that finds nothing armed gives it
+-- Whatever the disk of a side may mean, an opening whose device calls are all made gives it
 abbrev pub SidesOpen : Type 0
-SidesOpen = (pair : ℕ) (machine : Journaled History Event) (value : Value) (generation : ℕ) →
-    machine.arms ≡ unarmed →
-    MayMean (of_side pair) machine value generation → OpensTo (of_side pair) machine value generation
+SidesOpen = (pair : ℕ) (machine : Journaled History Event) (calls : ℕ) (arms : Arms) (value : Value)
+    (generation : ℕ) → Meets machine.arms calls Up arms 0 →
+    MayMean (of_side pair) machine value generation →
+    OpensTo (of_side pair) machine calls arms value generation
 
 -- and so of an archive
 abbrev pub ArchivesOpen : Type 0
-ArchivesOpen = (pair : ℕ) (machine : Journaled Archive Kept) (value : Value) (generation : ℕ) →
-    machine.arms ≡ unarmed →
-    MayMean (of_archive pair) machine value generation → OpensTo (of_archive pair) machine value generation
+ArchivesOpen = (pair : ℕ) (machine : Journaled Archive Kept) (calls : ℕ) (arms : Arms) (value : Value)
+    (generation : ℕ) → Meets machine.arms calls Up arms 0 →
+    MayMean (of_archive pair) machine value generation →
+    OpensTo (of_archive pair) machine calls arms value generation

@@ -3,7 +3,7 @@ use Rattle.std.specs.Prelude.{ℕ, suc, true, false, None, Some, ◌-◌, ◌≡
 use Rattle.syn_model.specs.Path.{Bytes}
 use Rattle.syn_journal.specs.Layout.{Value, image_alone, meaning, current, generation_at}
 use Rattle.syn_journal.specs.declared.half.Half.{Half}
-use Rattle.syn_headline.specs.Machine.{Journaled, Layout, Opens, Up, unarmed, record_size, room_behind}
+use Rattle.syn_headline.specs.Machine.{Journaled, Layout, Arms, Opens, Up, record_size, room_behind}
 
 -- the journal on the disk has this value, and this generation
 pub record HasJournal (bytes : Bytes) (value : Value) (generation : ℕ) : Type 0 where
@@ -77,19 +77,19 @@ pub record IsOf {V W : Type 0} (keeping : Keeping V W) (machine : Journaled V W)
   pub journal : HasJournal bytes value generation
   pub means : MeansAsKept keeping machine value generation
 
--- A machine that was just opened: it is up, makes no change, and nothing is armed
+-- A machine that was just opened: it is up, and makes no change
 pub record IsOpened {V W : Type 0} (machine : Journaled V W) : Type 0 where
   pub up : machine.status ≡ Up
   pub idle : machine.writing ≡ None
   pub settled : machine.compacting ≡ false
-  pub disarmed : machine.arms ≡ unarmed
 
--- What an opening by the bytes gives: the model's opening allows it, and the machine that it gives knows
--- what the journal on the disk has
-pub record OpensTo {V W : Type 0} (keeping : Keeping V W) (machine : Journaled V W) (value : Value)
-    (generation : ℕ) : Type 0 where
+-- What an opening by so many device calls gives: the model's opening allows it, and the machine that it gives
+-- knows what the journal on the disk has. These are the arms that are then still to come
+pub record OpensTo {V W : Type 0} (keeping : Keeping V W) (machine : Journaled V W) (calls : ℕ) (arms : Arms)
+    (value : Value) (generation : ℕ) : Type 0 where
   pub new : Journaled V W
   pub added : List W
-  pub opens : Opens keeping.layout keeping.CanAdd machine 0 new added
+  pub opens : Opens keeping.layout keeping.CanAdd machine calls new added
   pub opened : IsOpened new
+  pub armed : new.arms ≡ arms
   pub means : MeansAsKept keeping new value generation
