@@ -197,12 +197,12 @@ all_asked P session side Q h from (request ∷ more) all = All-cons P (Asks side
 -- without a plan there is nowhere to go
 nowhere : (pair : ℕ) (taken : Exchange) (walk later : Walk) (kept : List Kept) → fine.Advances pair [] taken walk kept later → later.cursor ≡ walk.cursor
 nowhere pair taken walk _ _ (fine.stands _) = refl
-nowhere pair taken walk later kept (fine.conflicts _ _ _ planned path at is more) = absurd (none-some _ at)
-nowhere pair taken walk later kept (fine.side_refuses _ _ _ planned why at is for more) = absurd (none-some _ at)
-nowhere pair taken walk later kept (fine.archive_refuses _ _ _ planned what why at is may refused more) = absurd (none-some _ at)
-nowhere pair taken walk later kept (fine.no_checkpoint _ _ _ what full greatest more) = absurd (none-some _ full.to_keep.at)
-nowhere pair taken walk later kept (fine.checkpoints _ _ _ what journal full smaller compacts up more) = absurd (none-some _ full.to_keep.at)
-nowhere pair taken walk _ _ (fine.checkpoint_breaks _ what journal full smaller compacts down) = refl
+nowhere pair taken walk later kept (fine.conflicts _ _ _ planned path first at is more) = absurd (none-some _ at)
+nowhere pair taken walk later kept (fine.side_refuses _ _ _ planned why first at is for more) = absurd (none-some _ at)
+nowhere pair taken walk later kept (fine.archive_refuses _ _ _ planned what why first at is may refused more) = absurd (none-some _ at)
+nowhere pair taken walk later kept (fine.no_checkpoint _ _ _ what first full greatest more) = absurd (none-some _ full.to_keep.at)
+nowhere pair taken walk later kept (fine.checkpoints _ _ _ what journal first full smaller compacts up more) = absurd (none-some _ full.to_keep.at)
+nowhere pair taken walk _ _ (fine.checkpoint_breaks _ what journal first full smaller compacts down) = refl
 nowhere pair taken walk later _ (fine.keeps _ _ what kept journal to_keep room kept_so up more) = absurd (none-some _ to_keep.at)
 nowhere pair taken walk _ kept (fine.record_breaks _ what _ journal to_keep room kept_so down) = refl
 
@@ -447,5 +447,5 @@ module _ (plans : Plans) (old : fine_world.World) (k : IsKept plans (view old)) 
   takes_follow _ _ (fine.ends_at_once why fault) = (ends_now why, tt)
   takes_follow _ _ (fine.stops plan logged walk kept fault has advances down) = (stops_so plan logged walk kept has advances, tt)
   takes_follow _ _ (fine.ends plan logged walk kept why fault has advances ends) = (ends_so plan logged walk kept has advances why ends, tt)
-  takes_follow _ _ (fine.goes_on plan logged walk kept asks_left asks_right fault has advances stays past asks) =
+  takes_follow _ _ (fine.goes_on plan logged walk kept asks_left asks_right fault has advances rests stays past asks) =
       (goes_on_so plan logged walk kept has advances asks_left asks_right stays asks, heard_on plan logged walk kept has advances asks_left asks_right stays asks)

@@ -1,6 +1,6 @@
 -- What is proved of whole runs.
 use Rattle.std.specs.Prelude.{ℕ, true, ◌≡◌, ◌≢◌, ◌≤◌, ◌↔◌, ◌+◌, drop, false, List, [], ◌∷◌, ◌++◌, length, take, None, All, AllPairs, Contains, IfSome}
-use Rattle.syn_model.specs.Path.{Bytes, Path, parent}
+use Rattle.syn_model.specs.Path.{Path, parent}
 use Rattle.syn_model.specs.Tree.{Tree, IsTree, subtree, is_directory}
 use Rattle.syn_model.specs.Event.{Token, is_same_token, Event, Edited, Began, Replaced, touches}
 use Rattle.syn_model.specs.History.{History, IsHistory, tree_of, tree_at, last_session}

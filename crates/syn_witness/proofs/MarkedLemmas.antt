@@ -201,11 +201,11 @@ makes_plan = record {
 
 -- The steps of the coordinator
 takes_left_begun : Steps both_begun (Deliver 16) right_awaited
-takes_left_begun = goes_on_so both_begun both_begin Left 0 (Begin 7) (Begun 3) None [] (start_of both_begun.coordinator both_begin) [] [] [] refl refl refl coordinator.stays (stands (start_of both_begun.coordinator both_begin)) refl not_last
+takes_left_begun = goes_on_so both_begun both_begin Left 0 (Begin 7) (Begun 3) None [] (start_of both_begun.coordinator both_begin) [] [] [] refl refl refl coordinator.stays (stands (start_of both_begun.coordinator both_begin)) refl refl not_last
     (asks_so number_of next_archive right_begins [] [] tt tt tt (omega arith) (omega arith) ((refl, tt), tt, (refl, tt)) (omega arith, omega arith, omega arith))
 
 takes_right_begun : Steps right_awaited (Deliver 17) listing
-takes_right_begun = goes_on_so right_awaited right_begins Right 0 (Begin 7) (Begun 3) None [] (start_of right_awaited.coordinator right_begins) [] (ListAt root ∷ []) (ListAt root ∷ []) refl refl refl coordinator.stays (stands (start_of right_awaited.coordinator right_begins)) refl not_last
+takes_right_begun = goes_on_so right_awaited right_begins Right 0 (Begin 7) (Begun 3) None [] (start_of right_awaited.coordinator right_begins) [] (ListAt root ∷ []) (ListAt root ∷ []) refl refl refl coordinator.stays (stands (start_of right_awaited.coordinator right_begins)) refl refl not_last
     (asks_so number_of next_archive (runs_with 2 (take 2 transcript) [] [] None 0 []) (ListAt root ∷ []) (ListAt root ∷ []) ((refl, two_begun, inl refl), tt) ((refl, two_begun, inl refl), tt) ((omega arith, root_lawful), ((omega arith, root_lawful), tt))
     (omega arith) (omega arith) ((refl, (refl, tt)), (refl, tt), (refl, tt)) (omega arith, omega arith, omega arith))
 
@@ -216,7 +216,7 @@ right_listing : fault_of (take 3 transcript) Right (ListAt root) (Listed 3 (chil
 right_listing = ap (λ entries. fault_of (take 3 transcript) Right (ListAt root) (Listed 3 entries)) (children_by right_scan.marks (with_file 97 (digest (49 ∷ []))) right_marks-entries)
 
 takes_left_listing : Steps both_listed (Deliver 20) right_list_awaited
-takes_left_listing = goes_on_so both_listed both_list Left 1 (ListAt root) (Listed 3 (children left_scan.marks root)) None [] (start_of both_listed.coordinator both_list) [] [] [] refl refl left_listing coordinator.stays (stands (start_of both_listed.coordinator both_list)) refl not_last
+takes_left_listing = goes_on_so both_listed both_list Left 1 (ListAt root) (Listed 3 (children left_scan.marks root)) None [] (start_of both_listed.coordinator both_list) [] [] [] refl refl left_listing coordinator.stays (stands (start_of both_listed.coordinator both_list)) refl refl not_last
     (asks_so number_of next_archive right_lists [] [] tt tt tt (omega arith) (omega arith) ((refl, (refl, (refl, tt))), tt, (refl, tt)) (omega arith, omega arith, omega arith))
 
 can_record : CanKeep next_archive (Recorded a_path (mark one))
