@@ -37,6 +37,7 @@ pub mod View
 pub mod Walks
 pub mod Heard
 pub mod Remembers
+pub mod InOrder
 pub mod Sessions
 pub mod CallLemmas
 pub mod StartLemmas

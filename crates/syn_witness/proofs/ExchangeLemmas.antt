@@ -47,7 +47,6 @@ both_scanned Left = record {
   tree = marked_whole (tree_of left_history) 97 (49 ∷ []) letter_a left-entries;
   fits = fits_archive_by left_scan.marks (with_file 97 (digest (49 ∷ []))) left_marks-entries;
   listed = λ path there stable. subst (λ at. WasTaken (take 4 transcript) Left (ListAt at) (Listed 2 (children left_scan.marks at))) (sym (root_only left_scan.marks 97 (sha256 (49 ∷ [])) left_marks-entries path there)) (1, (2, omega arith, refl));
-  ordered = λ path name there. omega arith;
   not_dir = λ path c. absurd (none_there path c);
   nothing_below = λ path c. absurd (none_there path c);
 }
@@ -55,7 +54,6 @@ both_scanned Right = record {
   tree = marked_whole (tree_of right_history) 98 (50 ∷ []) letter_b right-entries;
   fits = fits_archive_by right_scan.marks (with_file 98 (digest (50 ∷ []))) right_marks-entries;
   listed = λ path there stable. subst (λ at. WasTaken (take 4 transcript) Right (ListAt at) (Listed 2 (children right_scan.marks at))) (sym (root_only right_scan.marks 98 (sha256 (50 ∷ [])) right_marks-entries path there)) (1, (3, omega arith, refl));
-  ordered = λ path name there. omega arith;
   not_dir = λ path c. absurd (none_there path c);
   nothing_below = λ path c. absurd (none_there path c);
 }

@@ -224,7 +224,6 @@ both_scanned Left = record {
   tree = marked_whole (tree_of left_history) 97 (49 ∷ []) letter_a left-entries;
   fits = fits_archive_by left_scan.marks (with_file 97 (digest (49 ∷ []))) left_marks-entries;
   listed = λ path there stable. subst (λ at. WasTaken (take 4 transcript) Left (ListAt at) (Listed 2 (children left_scan.marks at))) (sym (root_only left_scan.marks 97 (sha256 (49 ∷ [])) left_marks-entries path there)) (1, (2, omega arith, refl));
-  ordered = λ path name there. omega arith;
   not_dir = λ path c. absurd (none_there path c);
   nothing_below = λ path c. absurd (none_there path c);
 }
@@ -232,7 +231,6 @@ both_scanned Right = record {
   tree = alone_whole right_scan.marks right_marks-entries;
   fits = fits_archive_by right_scan.marks alone right_marks-entries;
   listed = λ path there stable. subst (λ at. WasTaken (take 4 transcript) Right (ListAt at) (Listed 1 (children right_scan.marks at))) (sym (root_alone right_scan.marks right_marks-entries path there)) (1, (3, omega arith, refl));
-  ordered = λ path name there. omega arith;
   not_dir = λ path c. absurd (none_there path c);
   nothing_below = λ path c. absurd (none_there path c);
 }
