@@ -30,6 +30,7 @@ pub mod KeptLemmas
 pub mod ReportLemmas
 pub mod CourseLemmas
 pub mod WatchLemmas
+pub mod EarlyLemmas
 pub mod ToldLemmas
 pub mod SessionRuns
 pub mod LoggedRuns
@@ -46,3 +47,4 @@ pub mod StandLemmas
 pub mod FineRuns
 pub mod AlikeLemmas
 pub mod CarriedLemmas
+pub mod FetchedLemmas

@@ -249,8 +249,14 @@ quiet = record {
 is_marked : IsMarkedLater marked
 unfolding tree_of
 is_marked = record {
-  fetched = sym (subtree-replace empty_directory a_path one);
-  source = All-nil (λ event. touches event a_path ≡ false);
+  fetched = record {
+    position = 2;
+    offset = 0;
+    total = 6;
+    bytes = file_bytes;
+    answered = record { number = 2; asked = (8, omega arith, refl); answered = (9, omega arith, refl) };
+    untouched = All-nil (λ event. touches event a_path ≡ false);
+  };
   target = All-nil (λ event. touches event a_path ≡ false);
   quiet = quiet;
   archive = subtree-replace empty_directory a_path (mark one);
