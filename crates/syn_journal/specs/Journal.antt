@@ -41,7 +41,8 @@ module _ {D : Type 0} {disk : Ghosts D} (journal : Journal D disk) where
   value_of = value_or_empty (meaning (disk.seen journal.disk))
 
 -- The journal runs and has this value, and each stop leaves it.
-pub record Stands {D : Type 0} {disk : Ghosts D} (journal : Journal D disk) (value : Value) : Type 0 where
+pub record Stands {D : Type 0} {disk : Ghosts D} (journal : Journal D disk)
+    (value : Value) : Type 0 where
   pub running : journal.halted ≡ false
   pub means : meaning (disk.seen journal.disk) ≡ Ok value
   pub durable : Only (disk.seen journal.disk) (disk.may_leave journal.disk)
