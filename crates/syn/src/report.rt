@@ -58,7 +58,10 @@ fn explain<E: Write>(line: &Line<'_>, error: &CommandError, errors: &mut E) {
             writeln!(errors, ": {plain} ({system})")
         }
         CommandError::Open(OpenError::Length(length)) => {
-            writeln!(errors, ": {plain} (it has {length} bytes, an image {DISK_SIZE})")
+            writeln!(
+                errors,
+                ": {plain} (it has {length} bytes, an image {DISK_SIZE})"
+            )
         }
         CommandError::Longer => writeln!(errors, ": the file is longer than an image"),
         _ => writeln!(errors, ": {plain}"),

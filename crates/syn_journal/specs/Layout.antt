@@ -9,6 +9,7 @@ use Rattle.std.specs.Prelude.{false, if◌then◌else◌, List, [], ◌∷◌, �
 use Rattle.std.specs.Prelude.{slice_index, Option, Some, None, Result, Ok, Err}
 use Rattle.std.specs.Int.{w32, w64, from_be_bytes, to_be_bytes}
 use Rattle.syn_journal.specs.declared.half.Half.{Half}
+use Rattle.syn_journal.specs.declared.layout.TheConstants.{IMAGE_AT, IMAGE_LENGTH_AT}
 use Rattle.syn_journal.specs.declared.half.Half.TheVariants.{First, Second}
 
 abbrev pub half_size : ℕ
@@ -46,7 +47,7 @@ unfoldable pub generation_at : List ℕ → Half → ℕ
 generation_at disk half = from_be_bytes w64 (take 8 (drop (start_of half + 1) disk))
 
 unfoldable pub image_length_at : List ℕ → Half → ℕ
-image_length_at disk half = from_be_bytes w32 (take 4 (drop (start_of half + 9) disk))
+image_length_at disk half = from_be_bytes w32 (take 4 (drop (start_of half + IMAGE_LENGTH_AT) disk))
 
 -- by which halves are open, and their generations
 abbrev pub current_of : Bool → Bool → ℕ → ℕ → Result Half Fault
@@ -88,9 +89,9 @@ with_image image (Some payloads) = Ok (record { image = image; payloads = payloa
 unfoldable pub value_at : List ℕ → Half → Result Value Fault
 value_at disk half =
     let n = image_length_at disk half in
-    let behind = bytes_from disk half (13 + n) in
+    let behind = bytes_from disk half (IMAGE_AT + n) in
     if nat_le n longest_image
-    then with_image (take n (drop (start_of half + 13) disk)) (records (length behind) behind)
+    then with_image (take n (drop (start_of half + IMAGE_AT) disk)) (records (length behind) behind)
     else Err damaged
 
 abbrev pub value_in : List ℕ → Result Half Fault → Result Value Fault
@@ -113,7 +114,7 @@ spelled image payloads = to_be_bytes w32 (length image) ++ (image ++ records_of 
 
 -- where the next gate stands in its half
 abbrev pub size_of : Value → ℕ
-size_of value = 13 + length value.image + length (records_of value.payloads)
+size_of value = IMAGE_AT + length value.image + length (records_of value.payloads)
 
 abbrev pub with_payload : Value → List ℕ → Value
 with_payload value payload = record value { payloads = value.payloads ++ payload ∷ [] }
@@ -121,6 +122,11 @@ with_payload value payload = record value { payloads = value.payloads ++ payload
 -- an image, and no payload yet
 abbrev pub image_alone : List ℕ → Value
 image_alone image = record { image = image; payloads = [] }
+
+-- the value, or none where there is none
+abbrev pub value_or_empty : Result Value Fault → Value
+value_or_empty (Ok value) = value
+value_or_empty (Err fault) = image_alone []
 
 -- the disk has the value before a change, or the one after it
 abbrev pub IsBeforeOrAfter : Value → Value → List ℕ → Type 0

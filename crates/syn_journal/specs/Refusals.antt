@@ -70,10 +70,3 @@ IsCheckpointRefusal Full = Unit {0}
 IsCheckpointRefusal Memory = Unit {0}
 IsCheckpointRefusal Device = Unit {0}
 IsCheckpointRefusal _ = ⊥
-
--- of reading a part of the disk, which is damaged where this holds
-abbrev pub IsReadRefusal : JournalError → Type 0 → Type 0
-IsReadRefusal Damaged cause = cause
-IsReadRefusal Memory cause = Unit {0}
-IsReadRefusal Device cause = Unit {0}
-IsReadRefusal _ cause = ⊥

@@ -9,10 +9,12 @@ ghost use Rattle.syn_journal.specs.Layout.{current, current_of, bytes_from, reco
 ghost use Rattle.syn_journal.specs.Layout.{meaning, record_of, records_of};
 ghost use Rattle.syn_journal.specs.Opened.{payloads_of, value_read};
 ghost use Rattle.syn_journal.specs.Refusals.{CountsFailures, ReadsAtLeast, IsOpenRefusal};
-ghost use Rattle.syn_journal.specs.Refusals.{IsReadRefusal};
+ghost use Rattle.syn_journal.specs.inner.Reading.{IsReadRefusal};
 ghost use Rattle.syn_disk.specs.Calls.{MakesReads};
 ghost use Rattle.syn_disk.specs.Stops.{Untouched};
-ghost use Rattle.syn_journal.specs.Whole.{IsWhole};
+ghost use Rattle.syn_journal.specs.inner.Whole.{IsWhole};
+ghost use Rattle.syn_journal.specs.declared.layout.TheConstants.{IMAGE_LENGTH_AT, RECORD_HEADER};
+ghost use Rattle.syn_journal.specs.declared.layout.TheConstants.{RECORD_OVERHEAD};
 
 use crate::JournalError;
 use crate::half::{HALF_SIZE, Half};
@@ -131,7 +133,8 @@ fn choose(first: Header, second: Header) -> Result<Half, JournalError>
 
 fn read_image<D: Disk>(alloc: Global, disk: &mut D, half: Half) -> Result<Vec<u8>, JournalError>
     ensures image { IfOk result
-        (λ image. take (4 + length image.items) (drop (start_of half + 9) (D.seen disk.old))
+        (λ image. take (4 + length image.items)
+            (drop (start_of half + IMAGE_LENGTH_AT) (D.seen disk.old))
         ≡ to_be_bytes w32 (length image.items) ++ image.items) }
     ensures fits { IfOk result (λ image. length image.items ≤ longest_image) }
     ensures refusals { IfErr result
@@ -191,14 +194,16 @@ fn read_record<D: Disk>(
 ) -> Result<Vec<u8>, JournalError>
     requires within { gate < half_size }
     requires opened { slice_index (D.seen disk.old) (start_of half + gate) ≡ open_gate }
-    ensures fits { IfOk result (λ payload. gate + 6 + length payload.items ≤ half_size) }
+    ensures fits { IfOk result
+        (λ payload. gate + RECORD_OVERHEAD + length payload.items ≤ half_size) }
     ensures payload { IfOk result
-        (λ payload. take (5 + length payload.items) (drop (start_of half + gate) (D.seen disk.old))
+        (λ payload. take (RECORD_HEADER + length payload.items)
+            (drop (start_of half + gate) (D.seen disk.old))
         ≡ record_of payload.items) }
     ensures refusals { IfErr result
         (λ refusal. IsReadRefusal refusal
         (half_size
-        < gate + 6 + from_be_bytes w32
+        < gate + RECORD_OVERHEAD + from_be_bytes w32
         (take 4 (drop (start_of half + gate + 1) (D.seen disk.old))))) }
     ensures untouched { Untouched D.seen D.may_leave D.moment D.left_since disk.old disk.new }
     ensures count { MatchResult result (λ _. D.failures disk.new ≡ D.failures disk.old)

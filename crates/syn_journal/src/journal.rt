@@ -28,9 +28,10 @@ ghost use Rattle.syn_journal.specs.Layout.{generation_at, meaning, image_alone, 
 ghost use Rattle.syn_journal.specs.Layout.{IsBeforeOrAfter};
 ghost use Rattle.syn_disk.specs.Stops.{LeavesOnly, Untouched};
 ghost use Rattle.syn_journal.specs.Opened.{value_read};
-ghost use Rattle.syn_journal.specs.Whole.{IsInStep, IsWhole};
-ghost use Rattle.syn_journal.specs.Commit.{body_of_image, body_of_record};
+ghost use Rattle.syn_journal.specs.inner.Whole.{IsInStep, IsWhole};
+ghost use Rattle.syn_journal.specs.inner.Commit.{body_of_image, body_of_record};
 ghost use Rattle.syn_journal.specs.declared.half.Half.TheVariants.{First, Second};
+ghost use Rattle.syn_journal.specs.declared.layout.TheConstants.{IMAGE_AT, RECORD_HEADER};
 
 use crate::JournalError;
 use crate::commit::commit;
@@ -246,7 +247,7 @@ impl<D: Disk> Journal<D> {
         ensures half { half_of self.new ≡ half_of self.old }
         ensures generation { generation_of self.new ≡ generation_of self.old }
         ensures gate { MatchResult result
-            (λ _. gate_of self.new ≡ gate_of self.old + 5 + length payload.now)
+            (λ _. gate_of self.new ≡ gate_of self.old + RECORD_HEADER + length payload.now)
             (λ _. gate_of self.new ≡ gate_of self.old) }
     {
         if self.halted {
@@ -337,7 +338,8 @@ fn write_image<D: Disk>(disk: &mut D, body: &[u8]) -> Result<(), DeviceFailed>
     requires { length body.now < half_size }
     ensures written { (image : List ℕ) → length image ≤ longest_image
         → body.now ≡ body_of_image 1 image
-        → OnOk result (IsWhole (D.seen disk.new) First 1 (13 + length image) (image_alone image)) }
+        → OnOk result
+            (IsWhole (D.seen disk.new) First 1 (IMAGE_AT + length image) (image_alone image)) }
     ensures other { OnOk result (is_open (D.seen disk.new) Second ≡ false) }
     ensures durable { OnOk result (Only (D.seen disk.new) (D.may_leave disk.new)) }
     ensures count { CountsFailure result (D.failures disk.old) (D.failures disk.new) }

@@ -6,7 +6,8 @@ ghost use Rattle.std.specs.Int.{w32, w64, from_be_bytes, to_be_bytes};
 ghost use Rattle.syn_disk.specs.Disk.{CountsFailure};
 ghost use Rattle.syn_disk.specs.Calls.{MakesReads};
 ghost use Rattle.syn_disk.specs.Stops.{Untouched};
-ghost use Rattle.syn_journal.specs.Refusals.{CountsFailures, ReadsAtLeast, IsReadRefusal};
+ghost use Rattle.syn_journal.specs.Refusals.{CountsFailures, ReadsAtLeast};
+ghost use Rattle.syn_journal.specs.inner.Reading.{IsReadRefusal};
 
 use crate::JournalError;
 use std::alloc::Global;

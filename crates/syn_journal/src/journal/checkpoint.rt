@@ -5,9 +5,10 @@ ghost use Rattle.syn_disk.specs.Calls.{Makes, MakesUpTo};
 ghost use Rattle.syn_disk.specs.Disk.{CountsFailure, Only};
 ghost use Rattle.syn_journal.specs.Layout.{Value, half_size, longest_image, other_half, is_open};
 ghost use Rattle.syn_journal.specs.Layout.{image_alone, IsBeforeOrAfter};
-ghost use Rattle.syn_journal.specs.Commit.{IsClosing, IsNextImage};
+ghost use Rattle.syn_journal.specs.inner.Commit.{IsClosing, IsNextImage};
 ghost use Rattle.syn_disk.specs.Stops.{LeavesOnly};
-ghost use Rattle.syn_journal.specs.Whole.{IsWhole};
+ghost use Rattle.syn_journal.specs.inner.Whole.{IsWhole};
+ghost use Rattle.syn_journal.specs.declared.layout.TheConstants.{IMAGE_AT};
 
 use super::{Journal, image_body};
 use crate::JournalError;
@@ -64,7 +65,7 @@ impl<D: Disk> Journal<D> {
         ensures generation { MatchResult result
             (λ _. generation_of self.new ≡ generation_of self.old + 1)
             (λ _. generation_of self.new ≡ generation_of self.old) }
-        ensures gate { MatchResult result (λ _. gate_of self.new ≡ 13 + length image.now)
+        ensures gate { MatchResult result (λ _. gate_of self.new ≡ IMAGE_AT + length image.now)
             (λ _. gate_of self.new ≡ gate_of self.old) }
     {
         if self.halted {
@@ -105,7 +106,8 @@ fn replace<D: Disk>(
     ensures written { (generation gate : ℕ) (value : Value) (image : List ℕ)
         → IsNextImage (D.seen disk.old) half generation gate value image body.now
         → OnOk result
-        (IsWhole (D.seen disk.new) half (generation + 1) (13 + length image) (image_alone image)
+        (IsWhole (D.seen disk.new) half (generation + 1) (IMAGE_AT + length image)
+            (image_alone image)
         × (is_open (D.seen disk.new) (other_half half) ≡ true)) }
     ensures durable { OnOk result (Only (D.seen disk.new) (D.may_leave disk.new)) }
     ensures any_moment { (generation gate : ℕ) (value : Value) (image : List ℕ)

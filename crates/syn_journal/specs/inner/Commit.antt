@@ -5,7 +5,7 @@ use Rattle.std.specs.Int.{w32, w64, to_be_bytes}
 use Rattle.syn_disk.specs.Disk.{Torn, overwritten}
 use Rattle.syn_journal.specs.declared.half.Half.{Half}
 use Rattle.syn_journal.specs.Layout.{longest_image, start_of, other_half, is_open, Value}
-use Rattle.syn_journal.specs.Whole.{IsWhole}
+use Rattle.syn_journal.specs.inner.Whole.{IsWhole}
 
 -- behind the gate of a half: the generation, the image, and the closed gate behind it
 abbrev pub body_of_image : ℕ → List ℕ → List ℕ
