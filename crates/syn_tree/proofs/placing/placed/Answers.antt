@@ -2,7 +2,7 @@ use Rattle.std.proofs.Common.{sym, subst}
 use Rattle.syn_tree.specs.Nodes.{part_of}
 use Rattle.syn_tree.specs.Lists.{IsPlaceable}
 use Rattle.syn_tree.proofs.PlaceableLemmas.{placeable_none}
-use Rattle.syn_tree.proofs.copies.placed.Goals as goal
+use Rattle.syn_tree.proofs.placing.placed.Goals as goal
 
 pub returns-in-None-clause-ok : goal.returns-in-None-clause-ok
 returns-in-None-clause-ok c =

@@ -4,7 +4,7 @@ use Rattle.syn_model.specs.Path.{Path}
 use Rattle.syn_model.specs.Tree.{Directory}
 use Rattle.syn_tree.specs.Pairs.{under}
 use Rattle.syn_tree.proofs.PlaceableLemmas.{placeable_directory, nowhere_directory}
-use Rattle.syn_tree.proofs.copies.placed_directory.Goals as goal
+use Rattle.syn_tree.proofs.placing.placed_directory.Goals as goal
 
 pub returns-in_err-push_under-clause-full : goal.returns-in_err-push_under-clause-full
 returns-in_err-push_under-clause-full c =

@@ -4,7 +4,7 @@ use Rattle.syn_model.specs.Tree.{File, contents_of}
 use Rattle.syn_model.specs.Path.{Path}
 use Rattle.syn_model.specs.Event.{AreBytes}
 use Rattle.syn_tree.proofs.PlaceableLemmas.{placeable_one, nowhere_content}
-use Rattle.syn_tree.proofs.copies.placed_file.Goals as goal
+use Rattle.syn_tree.proofs.placing.placed_file.Goals as goal
 
 pub returns-then-len-gt-LONGEST_FILE-clause-full : goal.returns-then-len-gt-LONGEST_FILE-clause-full
 returns-then-len-gt-LONGEST_FILE-clause-full c e =
