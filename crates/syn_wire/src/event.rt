@@ -233,7 +233,7 @@ fn read_item(alloc: Global, bytes: &[u8]) -> Result<Option<(Token, Path, &[u8])>
 }
 
 // The number of a session, and that of its item.
-fn read_token(bytes: &[u8]) -> Option<(Token, &[u8])>
+pub(crate) fn read_token(bytes: &[u8]) -> Option<(Token, &[u8])>
     ensures { IsReading IsLawfulToken token_spelling bytes.now
         (option_map (λ found. (token_of found.0, found.1.now)) result) }
 {
@@ -243,7 +243,7 @@ fn read_token(bytes: &[u8]) -> Option<(Token, &[u8])>
 }
 
 // Adds the number of a session, and that of its item.
-fn write_token(out: &mut Vec<u8>, token: &Token) -> Result<(), WireError>
+pub(crate) fn write_token(out: &mut Vec<u8>, token: &Token) -> Result<(), WireError>
     ensures { OnOk result (out.new.items ≡ out.old.items ++ token_spelling (token_of token.now)) }
 {
     write_u64(out, token.session)?;
