@@ -4,7 +4,7 @@ ghost use Rattle.std.specs.Int.{w32, from_be_bytes, to_be_bytes};
 ghost use Rattle.syn_disk.specs.Disk.{Only, CountsFailure};
 ghost use Rattle.syn_journal.specs.Layout.{half_size, damaged, longest_image, open_gate, start_of, other_half, is_open, generation_at, image_length_at, current, current_of, bytes_from, records, value_at, meaning, record_of, records_of};
 ghost use Rattle.syn_journal.specs.Opened.{payloads_of, value_read};
-ghost use Rattle.syn_journal.specs.Refusals.{CountsFailures, IsOpenRefusal, IsReadRefusal};
+ghost use Rattle.syn_journal.specs.Refusals.{CountsFailures, ReadsAtLeast, IsOpenRefusal, IsReadRefusal};
 ghost use Rattle.syn_disk.specs.Calls.{MakesReads};
 ghost use Rattle.syn_disk.specs.Stops.{Untouched};
 ghost use Rattle.syn_journal.specs.Whole.{IsWhole};
@@ -38,7 +38,7 @@ pub fn read_contents<D: Disk>(alloc: Global, disk: &mut D) -> Result<Contents, J
     ensures untouched { Untouched D.seen D.may_leave D.moment D.left_since disk.old disk.new }
     ensures count { MatchResult result (λ _. D.failures disk.new ≡ D.failures disk.old)
         (λ refusal. CountsFailures refusal (D.failures disk.old) (D.failures disk.new)) }
-    ensures calls { MakesReads result (D.arms disk.old) (D.arms disk.new) }
+    ensures calls { ReadsAtLeast 1 result (D.arms disk.old) (D.arms disk.new) }
 {
     disk.sync()?;
     let (half, generation, other_is_open) = read_current(disk)?;
@@ -87,7 +87,7 @@ fn read_current<D: Disk>(disk: &mut D) -> Result<(Half, u64, bool), JournalError
     ensures untouched { Untouched D.seen D.may_leave D.moment D.left_since disk.old disk.new }
     ensures count { MatchResult result (λ _. D.failures disk.new ≡ D.failures disk.old)
         (λ refusal. CountsFailures refusal (D.failures disk.old) (D.failures disk.new)) }
-    ensures calls { MakesReads result (D.arms disk.old) (D.arms disk.new) }
+    ensures calls { ReadsAtLeast 0 result (D.arms disk.old) (D.arms disk.new) }
 {
     let first = read_header(disk, Half::First)?;
     let second = read_header(disk, Half::Second)?;
@@ -121,7 +121,7 @@ fn read_image<D: Disk>(alloc: Global, disk: &mut D, half: Half) -> Result<Vec<u8
     ensures untouched { Untouched D.seen D.may_leave D.moment D.left_since disk.old disk.new }
     ensures count { MatchResult result (λ _. D.failures disk.new ≡ D.failures disk.old)
         (λ refusal. CountsFailures refusal (D.failures disk.old) (D.failures disk.new)) }
-    ensures calls { MakesReads result (D.arms disk.old) (D.arms disk.new) }
+    ensures calls { ReadsAtLeast 0 result (D.arms disk.old) (D.arms disk.new) }
 {
     let size = read_u32(disk, half.start() + IMAGE_LENGTH_AT)? as usize;
     if size > MAX_IMAGE {
@@ -146,7 +146,7 @@ fn read_records<D: Disk>(
     ensures untouched { Untouched D.seen D.may_leave D.moment D.left_since disk.old disk.new }
     ensures count { MatchResult result (λ _. D.failures disk.new ≡ D.failures disk.old)
         (λ refusal. CountsFailures refusal (D.failures disk.old) (D.failures disk.new)) }
-    ensures calls { MakesReads result (D.arms disk.old) (D.arms disk.new) }
+    ensures calls { ReadsAtLeast 0 result (D.arms disk.old) (D.arms disk.new) }
 {
     let mut records = Vec::new(alloc);
     let mut gate = first;
@@ -173,7 +173,7 @@ fn read_record<D: Disk>(
     ensures untouched { Untouched D.seen D.may_leave D.moment D.left_since disk.old disk.new }
     ensures count { MatchResult result (λ _. D.failures disk.new ≡ D.failures disk.old)
         (λ refusal. CountsFailures refusal (D.failures disk.old) (D.failures disk.new)) }
-    ensures calls { MakesReads result (D.arms disk.old) (D.arms disk.new) }
+    ensures calls { ReadsAtLeast 0 result (D.arms disk.old) (D.arms disk.new) }
 {
     if HALF_SIZE - gate < RECORD_OVERHEAD {
         return Err(JournalError::Damaged);

@@ -18,7 +18,7 @@
 ghost use Rattle.std.specs.Prelude.{◌≡◌, ◌↔◌, ◌⊎◌, ◌≤◌, ◌<◌, ◌+◌, ◌-◌, ◌++◌, ◌∷◌, [], ℕ, true, false, List, length, Ok, IfOk, IfErr, OnOk, OnErr, MatchResult, IsErrAnd};
 ghost use Rattle.syn_disk.specs.Armed.{armed};
 ghost use Rattle.syn_disk.specs.Arms.{is_stopped};
-ghost use Rattle.syn_disk.specs.Calls.{Makes, MakesSome, MakesAny, MakesUpTo};
+ghost use Rattle.syn_disk.specs.Calls.{Makes, MakesAtLeast, MakesUpTo};
 ghost use Rattle.syn_disk.specs.Disk.{CountsFailure, Only, SameOutcomes};
 ghost use Rattle.syn_journal.specs.Layout.{Value, half_size, is_open, longest_image, current, generation_at, meaning, image_alone, with_payload, IsBeforeOrAfter};
 ghost use Rattle.syn_disk.specs.Stops.{LeavesOnly, Untouched};
@@ -72,7 +72,7 @@ pub struct Opened<D: Disk> {
 
 impl<D: Disk> Journal<D> {
     ghost use Rattle.syn_journal.specs.Journal.{disk_of, half_of, generation_of, gate_of, room_of, value_of, IsTooLong, IsHalted, Stands};
-    ghost use Rattle.syn_journal.specs.Refusals.{CountsFailures, MakesIfDevice, IsFormatRefusal, IsOpenRefusal, IsAppendRefusal};
+    ghost use Rattle.syn_journal.specs.Refusals.{CountsFailures, MakesIfDevice, AfterReads, IsFormatRefusal, IsOpenRefusal, IsAppendRefusal};
 
     /// Makes a disk stand for this image and no payloads, whatever it held. A disk that is refused comes back.
     ///
@@ -91,7 +91,7 @@ impl<D: Disk> Journal<D> {
         ensures unchanged { IfErr result (λ refused. (refused.0 ≡ JournalError.Device) ⊎ (refused.1 ≡ disk)) }
         ensures failures { MatchResult result (λ journal. D.failures (disk_of journal) ≡ D.failures disk) (λ refused. CountsFailures refused.0 (D.failures disk) (D.failures refused.1)) }
 
-        // Seven device calls where it succeeds.
+        // Seven device calls where it succeeds. After Device the last that was made failed.
         ensures calls { MatchResult result (λ journal. Makes 7 (D.arms disk) (D.arms (disk_of journal)))
             (λ refused. MakesIfDevice refused.0 7 (D.arms disk) (D.arms refused.1)) }
     {
@@ -133,9 +133,9 @@ impl<D: Disk> Journal<D> {
             (λ refused. Untouched D.seen D.may_leave D.moment D.left_since disk refused.1) }
         ensures failures { MatchResult result (λ opened. D.failures (disk_of opened.journal) ≡ D.failures disk) (λ refused. CountsFailures refused.0 (D.failures disk) (D.failures refused.1)) }
 
-        // A sync and then reads, whose number is not fixed.
-        ensures calls { MatchResult result (λ opened. MakesSome (D.arms disk) (D.arms (disk_of opened.journal)))
-            (λ refused. MakesAny (D.arms disk) (D.arms refused.1)) }
+        // A sync and then reads, whose number is not fixed; after Device the last of them failed.
+        ensures calls { MatchResult result (λ opened. MakesAtLeast 1 (D.arms disk) (D.arms (disk_of opened.journal)))
+            (λ refused. AfterReads 1 refused.0 (D.arms disk) (D.arms refused.1)) }
     {
         match read_contents(alloc, &mut disk) {
             Ok(found) => Ok(Opened {
@@ -204,7 +204,7 @@ impl<D: Disk> Journal<D> {
         ensures unchanged { IfErr result (λ refusal. (refusal ≡ JournalError.Device) ⊎ (self.new ≡ self.old)) }
         ensures failures { MatchResult result (λ _. D.failures (disk_of self.new) ≡ D.failures (disk_of self.old)) (λ refusal. CountsFailures refusal (D.failures (disk_of self.old)) (D.failures (disk_of self.new))) }
 
-        // Four device calls where it succeeds.
+        // Four device calls where it succeeds. After Device the last that was made failed.
         ensures calls { MatchResult result (λ _. Makes 4 (D.arms (disk_of self.old)) (D.arms (disk_of self.new)))
             (λ refusal. MakesIfDevice refusal 4 (D.arms (disk_of self.old)) (D.arms (disk_of self.new))) }
 

@@ -39,7 +39,7 @@ impl<D: Disk> Journal<D> {
         ensures unchanged { IfErr result (λ refusal. (refusal ≡ JournalError.Device) ⊎ (self.new ≡ self.old)) }
         ensures failures { MatchResult result (λ _. D.failures (disk_of self.new) ≡ D.failures (disk_of self.old)) (λ refusal. CountsFailures refusal (D.failures (disk_of self.old)) (D.failures (disk_of self.new))) }
 
-        // Six device calls where it succeeds.
+        // Six device calls where it succeeds. After Device the last that was made failed.
         ensures calls { MatchResult result (λ _. Makes 6 (D.arms (disk_of self.old)) (D.arms (disk_of self.new)))
             (λ refusal. MakesIfDevice refusal 6 (D.arms (disk_of self.old)) (D.arms (disk_of self.new))) }
 

@@ -2,7 +2,6 @@
 ghost use Rattle.std.specs.Prelude.{◌≡◌, ◌⊎◌, Ok, Err, IfOk, IfErr, OnErr, MatchResult};
 ghost use Rattle.syn_journal.specs.Layout.{current, generation_at, meaning};
 ghost use Rattle.syn_journal.specs.Opened.{value_read};
-ghost use Rattle.syn_disk.specs.Calls.{MakesReads};
 ghost use Rattle.syn_disk.specs.Stops.{Untouched};
 
 use super::Journal;
@@ -22,7 +21,7 @@ pub struct Reopened {
 
 impl<D: Disk> Journal<D> {
     ghost use Rattle.syn_journal.specs.Journal.{disk_of, half_of, generation_of, gate_of, IsHalted, Stands, IsAsBefore};
-    ghost use Rattle.syn_journal.specs.Refusals.{CountsFailures, IsOpenRefusal};
+    ghost use Rattle.syn_journal.specs.Refusals.{CountsFailures, ReadsAtLeast, IsOpenRefusal};
 
     /// Opens the journal's own disk again, and hands out what it stands for. It syncs before it reads, so that each
     /// later stop leaves what is handed out, and it writes nothing. A journal that was halted runs again.
@@ -40,8 +39,8 @@ impl<D: Disk> Journal<D> {
         ensures untouched { Untouched D.seen D.may_leave D.moment D.left_since (disk_of self.old) (disk_of self.new) }
         ensures failures { MatchResult result (λ _. D.failures (disk_of self.new) ≡ D.failures (disk_of self.old)) (λ refusal. CountsFailures refusal (D.failures (disk_of self.old)) (D.failures (disk_of self.new))) }
 
-        // A sync and then reads, whose number is not fixed.
-        ensures calls { MakesReads result (D.arms (disk_of self.old)) (D.arms (disk_of self.new)) }
+        // A sync and then reads, whose number is not fixed; after Device the last of them failed.
+        ensures calls { ReadsAtLeast 1 result (D.arms (disk_of self.old)) (D.arms (disk_of self.new)) }
 
         // The readings, also after a refusal.
         ensures half { MatchResult result (λ _. current (D.seen (disk_of self.old)) ≡ Ok (half_of self.new)) (λ _. half_of self.new ≡ half_of self.old) }
