@@ -1,12 +1,14 @@
 -- The refusals of a journal.
-use Rattle.std.specs.Prelude.{◌≡◌, ◌<◌, ℕ, Result, Err}
+use Rattle.std.specs.Prelude.{◌≡◌, ◌<◌, ℕ, Result, Err, MatchResult}
 use Rattle.syn_disk.specs.Arms.{Arms}
-use Rattle.syn_disk.specs.Calls.{MakesAtMost}
+use Rattle.syn_disk.specs.Calls.{MakesAtLeast, Breaks, BreaksSometime}
 use Rattle.syn_model.specs.Refusal.{Refusal, number}
 use Rattle.syn_model.specs.Refusal as why
 use Rattle.syn_journal.specs.Layout.{Fault, no_image, damaged}
 use Rattle.syn_journal.specs.declared.error.JournalError.{JournalError}
-use Rattle.syn_journal.specs.declared.error.JournalError.TheVariants.{Full, JournalFull, Device, Halted, Memory, NoImage, Damaged}
+use Rattle.syn_journal.specs.declared.error.JournalError.TheVariants.{Full, JournalFull, Device}
+use Rattle.syn_journal.specs.declared.error.JournalError.TheVariants.{Halted, Memory, NoImage}
+use Rattle.syn_journal.specs.declared.error.JournalError.TheVariants.{Damaged}
 
 abbrev pub refusal_of : JournalError → Refusal
 refusal_of Full = why.Full
@@ -25,10 +27,20 @@ abbrev pub CountsFailures : JournalError → ℕ → ℕ → Type 0
 CountsFailures Device old new = old < new
 CountsFailures _ old new = new ≡ old
 
--- Where Device is answered, at most so many device calls were made, and none where any other refusal is.
+-- Where Device is answered, the last of at most so many device calls failed, and none was made
+-- where any other refusal is.
 abbrev pub MakesIfDevice : JournalError → ℕ → Arms → Arms → Type 0
-MakesIfDevice Device most old new = MakesAtMost most old new
+MakesIfDevice Device most old new = Breaks most old new
 MakesIfDevice _ most old new = new ≡ old
+
+-- Where Device is answered, the last device call failed, and none where any other refusal is.
+abbrev pub AfterReads : ℕ → JournalError → Arms → Arms → Type 0
+AfterReads least Device old new = BreaksSometime old new
+AfterReads least _ old new = MakesAtLeast least old new
+
+abbrev pub ReadsAtLeast : {T : Type 0} → ℕ → Result T JournalError → Arms → Arms → Type 0
+ReadsAtLeast least result old new =
+    MatchResult result (λ _. MakesAtLeast least old new) (λ e. AfterReads least e old new)
 
 -- the refusals of each call
 abbrev pub IsFormatRefusal : JournalError → Type 0
@@ -58,10 +70,3 @@ IsCheckpointRefusal Full = Unit {0}
 IsCheckpointRefusal Memory = Unit {0}
 IsCheckpointRefusal Device = Unit {0}
 IsCheckpointRefusal _ = ⊥
-
--- of reading a part of the disk, which is damaged where this holds
-abbrev pub IsReadRefusal : JournalError → Type 0 → Type 0
-IsReadRefusal Damaged cause = cause
-IsReadRefusal Memory cause = Unit {0}
-IsReadRefusal Device cause = Unit {0}
-IsReadRefusal _ cause = ⊥

@@ -1,10 +1,13 @@
-//! The reads of an opening. They write nothing, so a stop meanwhile leaves what it might have left before.
-ghost use Rattle.std.specs.Prelude.{◌≡◌, ◌+◌, ◌≤◌, length, take, drop, slice_index, IfOk, IfErr, MatchResult};
+//! The reads of an opening. They write nothing, so a stop meanwhile leaves what it might have left
+//! before.
+ghost use Rattle.std.specs.Prelude.{◌≡◌, ◌+◌, ◌≤◌, length, take, drop, slice_index, IfOk, IfErr};
+ghost use Rattle.std.specs.Prelude.{MatchResult};
 ghost use Rattle.std.specs.Int.{w32, w64, from_be_bytes, to_be_bytes};
 ghost use Rattle.syn_disk.specs.Disk.{CountsFailure};
 ghost use Rattle.syn_disk.specs.Calls.{MakesReads};
 ghost use Rattle.syn_disk.specs.Stops.{Untouched};
-ghost use Rattle.syn_journal.specs.Refusals.{CountsFailures, IsReadRefusal};
+ghost use Rattle.syn_journal.specs.Refusals.{CountsFailures, ReadsAtLeast};
+ghost use Rattle.syn_journal.specs.inner.Reading.{IsReadRefusal};
 
 use crate::JournalError;
 use std::alloc::Global;
@@ -72,7 +75,7 @@ pub fn read_bytes<D: Disk>(
     ensures untouched { Untouched D.seen D.may_leave D.moment D.left_since disk.old disk.new }
     ensures count { MatchResult result (λ _. D.failures disk.new ≡ D.failures disk.old)
         (λ refusal. CountsFailures refusal (D.failures disk.old) (D.failures disk.new)) }
-    ensures calls { MakesReads result (D.arms disk.old) (D.arms disk.new) }
+    ensures calls { ReadsAtLeast 0 result (D.arms disk.old) (D.arms disk.new) }
 {
     let mut bytes = vec![in alloc; 0; size]?;
     disk.read(at, &mut bytes)?;

@@ -1,7 +1,7 @@
 -- Why a call of a replica is refused, as a refusal of the product.
 use Rattle.std.specs.Prelude.{◌≡◌, ◌<◌, ℕ}
 use Rattle.syn_disk.specs.Arms.{Arms}
-use Rattle.syn_disk.specs.Calls.{MakesAtMost}
+use Rattle.syn_disk.specs.Calls.{MakesAtLeast, Breaks, BreaksSometime}
 use Rattle.syn_model.specs.Refusal.{Refusal}
 use Rattle.syn_model.specs.Refusal as why
 use Rattle.syn_tree.specs.declared.error.TreeError.{TreeError}
@@ -49,10 +49,16 @@ abbrev pub CountsFailures : ReplicaError → ℕ → ℕ → Type 0
 CountsFailures Device old new = old < new
 CountsFailures _ old new = new ≡ old
 
--- Where Device is answered, at most so many device calls were made, and none where any other refusal is.
+-- Where Device is answered, the last of at most so many device calls failed, and none was made where
+-- any other refusal is.
 abbrev pub MakesIfDevice : ReplicaError → ℕ → Arms → Arms → Type 0
-MakesIfDevice Device most old new = MakesAtMost most old new
+MakesIfDevice Device most old new = Breaks most old new
 MakesIfDevice _ most old new = new ≡ old
+
+-- Where Device is answered, the last device call failed, and none where any other refusal is.
+abbrev pub AfterReads : ℕ → ReplicaError → Arms → Arms → Type 0
+AfterReads least Device old new = BreaksSometime old new
+AfterReads least _ old new = MakesAtLeast least old new
 
 -- the refusals of each call
 abbrev pub IsOfFormat : ReplicaError → Type 0

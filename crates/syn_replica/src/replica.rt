@@ -14,10 +14,10 @@ ghost use Rattle.syn_tree.specs.Lists.{listing};
 ghost use Rattle.syn_journal.specs.Journal.{SameReadings, Takes};
 ghost use Rattle.syn_disk.specs.Armed.{armed};
 ghost use Rattle.syn_disk.specs.Arms.{is_stopped};
-ghost use Rattle.syn_disk.specs.Calls.{Makes, MakesSome, MakesAny};
+ghost use Rattle.syn_disk.specs.Calls.{Makes, MakesAtLeast};
 ghost use Rattle.syn_disk.specs.Disk.{SameOutcomes};
 ghost use Rattle.syn_disk.specs.Stops.{LeavesOnly, Untouched};
-ghost use Rattle.syn_replica.specs.Refusals.{refusal_of, CountsFailures, MakesIfDevice, IsOfFormat, IsOfEdit, IsOfReading, MayHideOtherPair};
+ghost use Rattle.syn_replica.specs.Refusals.{refusal_of, CountsFailures, MakesIfDevice, AfterReads, IsOfFormat, IsOfEdit, IsOfReading, MayHideOtherPair};
 ghost use Rattle.syn_replica.specs.Admission.{refusal_by, IsAdmission, IsOfTree, IsOfCommit, IsTooLong};
 ghost use Rattle.syn_replica.specs.Disks.{DiskStands, StandsBeforeOrAfter, IsOfOtherPair, IsOpenRefusal};
 ghost use Rattle.syn_replica.specs.Edits.{event_by};
@@ -59,7 +59,7 @@ impl<D: Disk> Replica<D> {
         ensures failures { MatchResult result (λ replica. D.failures (disk_of replica) ≡ D.failures disk)
             (λ refused. CountsFailures refused.0 (D.failures disk) (D.failures refused.1)) }
 
-        // Seven device calls where it succeeds.
+        // Seven device calls where it succeeds. After Device the last that was made failed.
         ensures calls { MatchResult result (λ replica. Makes 7 (D.arms disk) (D.arms (disk_of replica)))
             (λ refused. MakesIfDevice refused.0 7 (D.arms disk) (D.arms refused.1)) }
     {
@@ -102,9 +102,9 @@ impl<D: Disk> Replica<D> {
         ensures failures { MatchResult result (λ replica. D.failures (disk_of replica) ≡ D.failures disk)
             (λ refused. CountsFailures refused.0 (D.failures disk) (D.failures refused.1)) }
 
-        // A sync and then reads, whose number is not fixed.
-        ensures calls { MatchResult result (λ replica. MakesSome (D.arms disk) (D.arms (disk_of replica)))
-            (λ refused. MakesAny (D.arms disk) (D.arms refused.1)) }
+        // A sync and then reads, whose number is not fixed; after Device the last of them failed.
+        ensures calls { MatchResult result (λ replica. MakesAtLeast 1 (D.arms disk) (D.arms (disk_of replica)))
+            (λ refused. AfterReads 1 refused.0 (D.arms disk) (D.arms refused.1)) }
     {
         let opened = match Journal::open(alloc, disk) {
             Ok(opened) => opened,
@@ -232,7 +232,7 @@ impl<D: Disk> Replica<D> {
         ensures failures { MatchResult result (λ _. D.failures (disk_of self.new) ≡ D.failures (disk_of self.old))
             (λ e. CountsFailures e (D.failures (disk_of self.old)) (D.failures (disk_of self.new))) }
 
-        // Four device calls where it succeeds.
+        // Four device calls where it succeeds. After Device the last that was made failed.
         ensures calls { MatchResult result (λ _. Makes 4 (D.arms (disk_of self.old)) (D.arms (disk_of self.new)))
             (λ e. MakesIfDevice e 4 (D.arms (disk_of self.old)) (D.arms (disk_of self.new))) }
 
@@ -284,7 +284,7 @@ impl<D: Disk> Replica<D> {
         ensures failures { MatchResult result (λ _. D.failures (disk_of self.new) ≡ D.failures (disk_of self.old))
             (λ e. CountsFailures e (D.failures (disk_of self.old)) (D.failures (disk_of self.new))) }
 
-        // Four device calls where it succeeds.
+        // Four device calls where it succeeds. After Device the last that was made failed.
         ensures calls { MatchResult result (λ _. Makes 4 (D.arms (disk_of self.old)) (D.arms (disk_of self.new)))
             (λ e. MakesIfDevice e 4 (D.arms (disk_of self.old)) (D.arms (disk_of self.new))) }
         ensures remembers { IfErr result (λ _. SameMemory self.old self.new) }

@@ -126,7 +126,7 @@ impl Tree {
 
     /// Why nothing may be put at the path or taken from it: it is the root (6), or its parent is no
     /// directory (2).
-    fn check_place(&self, path: &Path) -> Result<(), TreeError>
+    pub fn check_place(&self, path: &Path) -> Result<(), TreeError>
         ensures { refusal_in result ≡ first_cause (place_causes self.now path.now) }
     {
         let [above @ .., _] = path.names() else {
@@ -236,6 +236,18 @@ impl Tree {
             → edit_refusal self.now (edit_of edit) ≡ Some (refusal_of e)) }
     {
         self.check(&edit)?;
+        self.prepare_allowed(alloc, edit)
+    }
+
+    /// The edit, ready to be made, with all memory for it, where `check` does not refuse it. The
+    /// tree stays as it is. Refused 11 where memory is refused.
+    pub fn prepare_allowed(&self, alloc: Global, edit: Edit) -> Result<Change, TreeError>
+        requires { edit_refusal self.now (edit_of edit) ≡ None }
+        ensures ready { IfOk result (λ change. IsPreparedFor self.now change) }
+        ensures gives { IfOk result (λ change. after_change self.now change
+            ≡ after_edit self.now (edit_of edit)) }
+        ensures memory { IfErr result (λ e. e ≡ TreeError.Memory) }
+    {
         match edit {
             Edit::Put(path, bytes) => {
                 are_bytes(&bytes);

@@ -1,7 +1,7 @@
 use Rattle.std.proofs.Common.{◌≡◌, ◌+◌, arith}
 use Rattle.syn_disk.specs.Disk.{Only, overwritten}
-use Rattle.syn_journal.specs.Commit.{IsStagedOrOpened}
-use Rattle.syn_journal.proofs.Calls.{fewer, one_at_most, one_made, one_up_to, then_at_most, then_made, then_up_to, up_to_of_exit}
+use Rattle.syn_journal.specs.inner.Commit.{IsStagedOrOpened}
+use Rattle.syn_journal.proofs.Calls.{fewer, one_breaks, one_made, one_up_to, then_breaks, then_made, then_up_to, up_to_of_exit}
 use Rattle.syn_journal.proofs.Commits.{at_first, staged, opened}
 use Rattle.syn_journal.proofs.Moments.{started, goes_on}
 use Rattle.syn_journal.proofs.commit.commit.Goals as goal
@@ -43,7 +43,7 @@ pub returns-in_err-write-clause-calls : goal.returns-in_err-write-clause-calls
 returns-in_err-write-clause-calls g c =
     let a = g.D.Disk.arms c.args.disk.now in
     let b = g.D.Disk.arms c.write.new.self in
-    up_to_of_exit 4 c.from_residual.result _ a b c.from_residual.ensures.1 (fewer 1 4 a b (omega arith) (one_at_most a b c.write.ensures.arms))
+    up_to_of_exit 4 c.from_residual.result _ a b c.from_residual.ensures.1 (fewer 1 4 a b (omega arith) (one_breaks a b c.write.ensures.arms))
 
 pub returns-in_err-sync-clause-calls : goal.returns-in_err-sync-clause-calls
 returns-in_err-sync-clause-calls g c =
@@ -51,7 +51,7 @@ returns-in_err-sync-clause-calls g c =
     let b = g.D.Disk.arms c.write.new.self in
     let d = g.D.Disk.arms c.sync.new.self in
     let written = one_made a b c.in_ok-write.ensures.allowed c.write.ensures.arms in
-    up_to_of_exit 4 c.from_residual-in_err-sync.result _ a d c.from_residual-in_err-sync.ensures.1 (fewer 2 4 a d (omega arith) (then_at_most 1 1 a b d written (one_at_most b d c.sync.ensures.arms)))
+    up_to_of_exit 4 c.from_residual-in_err-sync.result _ a d c.from_residual-in_err-sync.ensures.1 (fewer 2 4 a d (omega arith) (then_breaks 1 1 a b d written (one_breaks b d c.sync.ensures.arms)))
 
 pub returns-in_err-write-2-clause-calls : goal.returns-in_err-write-2-clause-calls
 returns-in_err-write-2-clause-calls g c =
@@ -61,7 +61,7 @@ returns-in_err-write-2-clause-calls g c =
     let e = g.D.Disk.arms c.write-2.new.self in
     let written = one_made a b c.in_ok-write.ensures.allowed c.write.ensures.arms in
     let synced = then_made 1 1 a b d written (one_made b d c.in_ok-sync.ensures.allowed c.sync.ensures.arms) in
-    up_to_of_exit 4 c.from_residual-in_err-write-2.result _ a e c.from_residual-in_err-write-2.ensures.1 (fewer 3 4 a e (omega arith) (then_at_most 2 1 a d e synced (one_at_most d e c.write-2.ensures.arms)))
+    up_to_of_exit 4 c.from_residual-in_err-write-2.result _ a e c.from_residual-in_err-write-2.ensures.1 (fewer 3 4 a e (omega arith) (then_breaks 2 1 a d e synced (one_breaks d e c.write-2.ensures.arms)))
 
 pub returns-clause-calls : goal.returns-clause-calls
 returns-clause-calls g c =

@@ -3,9 +3,10 @@ use Rattle.std.specs.Int.{w32, to_be_bytes}
 use Rattle.std.specs.Prelude.{Err}
 use Rattle.syn_journal.specs.Layout.{open_gate, start_of, damaged, current, generation_at, value_at, meaning, bytes_from, records, records_of}
 use Rattle.syn_journal.specs.Opened.{payloads_of}
-use Rattle.syn_journal.specs.Refusals.{IsOpenRefusal, IsReadRefusal}
+use Rattle.syn_journal.specs.Refusals.{IsOpenRefusal}
+use Rattle.syn_journal.specs.inner.Reading.{IsReadRefusal}
 use Rattle.syn_journal.proofs.Openings.{if_err_by, refused_by_halves, refused_by_value, refused_by_records, front_read}
-use Rattle.syn_journal.proofs.Calls.{one_read, one_tried, reads_of_exit, then_any, then_some}
+use Rattle.syn_journal.proofs.Calls.{one_broke, one_read, reads_of_exit, then_after, then_some}
 use Rattle.syn_journal.proofs.contents.read_contents.Goals as goal
 
 pub returns-in_err-half-clause-refusals : goal.returns-in_err-half-clause-refusals
@@ -73,15 +74,18 @@ pub returns-in_err-sync-clause-calls : goal.returns-in_err-sync-clause-calls
 returns-in_err-sync-clause-calls g c =
     let old = g.D.Disk.arms c.args.disk.now in
     let new = g.D.Disk.arms c.sync.new.self in
-    reads_of_exit c.from_residual.result _ old new c.from_residual.ensures.1 (one_tried old new c.sync.ensures.arms)
+    reads_of_exit 1 c.from_residual.result _ old new c.from_residual.ensures.1
+    (one_broke old new c.sync.ensures.arms)
 
 pub returns-in_err-half-clause-calls : goal.returns-in_err-half-clause-calls
 returns-in_err-half-clause-calls g c =
     let old = g.D.Disk.arms c.args.disk.now in
     let synced = g.D.Disk.arms c.sync.new.self in
     let new = g.D.Disk.arms c.read_current.new.disk in
-    reads_of_exit c.from_residual-in_err-half.result _ old new c.from_residual-in_err-half.ensures.1
-    (then_any old synced new (one_read old synced c.in_ok-sync.ensures.allowed c.sync.ensures.arms) c.in_err-half.ensures.calls)
+    let first = one_read 1 old synced (omega arith) c.in_ok-sync.ensures.allowed c.sync.ensures.arms in
+    reads_of_exit 1 c.from_residual-in_err-half.result _ old new
+    c.from_residual-in_err-half.ensures.1
+    (then_after 1 old synced new first c.in_err-half.field-0.0 c.in_err-half.ensures.calls)
 
 pub returns-in_err-image-clause-calls : goal.returns-in_err-image-clause-calls
 returns-in_err-image-clause-calls g c =
@@ -89,8 +93,11 @@ returns-in_err-image-clause-calls g c =
     let synced = g.D.Disk.arms c.sync.new.self in
     let chosen = g.D.Disk.arms c.read_current.new.disk in
     let new = g.D.Disk.arms c.read_image.new.disk in
-    let first = then_some old synced chosen (one_read old synced c.in_ok-sync.ensures.allowed c.sync.ensures.arms) c.in_ok-half.ensures.calls in
-    reads_of_exit c.from_residual-in_err-image.result _ old new c.from_residual-in_err-image.ensures.1 (then_any old chosen new first c.in_err-image.ensures.calls)
+    let first = one_read 1 old synced (omega arith) c.in_ok-sync.ensures.allowed c.sync.ensures.arms in
+    let second = then_some 1 old synced chosen first c.in_ok-half.ensures.calls in
+    reads_of_exit 1 c.from_residual-in_err-image.result _ old new
+    c.from_residual-in_err-image.ensures.1
+    (then_after 1 old chosen new second c.in_err-image.field-0.0 c.in_err-image.ensures.calls)
 
 pub returns-in_err-records-clause-calls : goal.returns-in_err-records-clause-calls
 returns-in_err-records-clause-calls g c =
@@ -99,9 +106,12 @@ returns-in_err-records-clause-calls g c =
     let chosen = g.D.Disk.arms c.read_current.new.disk in
     let image = g.D.Disk.arms c.read_image.new.disk in
     let new = g.D.Disk.arms c.read_records.new.disk in
-    let first = then_some old synced chosen (one_read old synced c.in_ok-sync.ensures.allowed c.sync.ensures.arms) c.in_ok-half.ensures.calls in
-    let second = then_some old chosen image first c.in_ok-image.ensures.calls in
-    reads_of_exit c.from_residual-in_err-records.result _ old new c.from_residual-in_err-records.ensures.1 (then_any old image new second c.in_err-records.ensures.calls)
+    let first = one_read 1 old synced (omega arith) c.in_ok-sync.ensures.allowed c.sync.ensures.arms in
+    let second = then_some 1 old synced chosen first c.in_ok-half.ensures.calls in
+    let third = then_some 1 old chosen image second c.in_ok-image.ensures.calls in
+    reads_of_exit 1 c.from_residual-in_err-records.result _ old new
+    c.from_residual-in_err-records.ensures.1
+    (then_after 1 old image new third c.in_err-records.field-0.0 c.in_err-records.ensures.calls)
 
 pub returns-clause-calls : goal.returns-clause-calls
 returns-clause-calls g c =
@@ -109,5 +119,8 @@ returns-clause-calls g c =
     let synced = g.D.Disk.arms c.sync.new.self in
     let chosen = g.D.Disk.arms c.read_current.new.disk in
     let image = g.D.Disk.arms c.read_image.new.disk in
-    let first = then_some old synced chosen (one_read old synced c.in_ok-sync.ensures.allowed c.sync.ensures.arms) c.in_ok-half.ensures.calls in
-    then_some old image (g.D.Disk.arms c.read_records.new.disk) (then_some old chosen image first c.in_ok-image.ensures.calls) c.in_ok-records.ensures.calls
+    let first = one_read 1 old synced (omega arith) c.in_ok-sync.ensures.allowed c.sync.ensures.arms in
+    let second = then_some 1 old synced chosen first c.in_ok-half.ensures.calls in
+    let third = then_some 1 old chosen image second c.in_ok-image.ensures.calls in
+    then_some 1 old image (g.D.Disk.arms c.read_records.new.disk) third
+    c.in_ok-records.ensures.calls

@@ -2,7 +2,7 @@ use Rattle.std.proofs.Common.{◌≡◌, ◌∙◌, ◌+◌, ◌<◌, ap, take, 
 use Rattle.std.specs.Int.{w32, to_be_bytes}
 use Rattle.syn_journal.specs.Layout.{image_length_at, longest_image, start_of}
 use Rattle.syn_journal.proofs.Openings.{if_ok_both, with_word, image_too_long}
-use Rattle.syn_journal.proofs.Calls.{some_is_any, then_reads}
+use Rattle.syn_journal.proofs.Calls.{then_reads}
 use Rattle.syn_journal.proofs.contents.read_image.Goals as goal
 
 pub returns-then-size-gt-MAX_IMAGE-clause-refusals : goal.returns-then-size-gt-MAX_IMAGE-clause-refusals
@@ -28,7 +28,7 @@ returns-clause-image g c =
 
 pub returns-clause-calls : goal.returns-clause-calls
 returns-clause-calls g c =
-    then_reads c.read_bytes.result (g.D.Disk.arms c.args.disk.now) (g.D.Disk.arms c.read_u32.new.disk) (g.D.Disk.arms c.read_bytes.new.disk) c.in_ok-size.ensures.calls c.read_bytes.ensures.calls
+    then_reads 0 c.read_bytes.result (g.D.Disk.arms c.args.disk.now) (g.D.Disk.arms c.read_u32.new.disk) (g.D.Disk.arms c.read_bytes.new.disk) c.in_ok-size.ensures.calls c.read_bytes.ensures.calls
 
 pub returns-then-size-gt-MAX_IMAGE-clause-calls : goal.returns-then-size-gt-MAX_IMAGE-clause-calls
-returns-then-size-gt-MAX_IMAGE-clause-calls g c = some_is_any (g.D.Disk.arms c.args.disk.now) (g.D.Disk.arms c.read_u32.new.disk) c.in_ok-size.ensures.calls
+returns-then-size-gt-MAX_IMAGE-clause-calls g c = c.in_ok-size.ensures.calls

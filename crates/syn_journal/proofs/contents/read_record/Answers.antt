@@ -4,7 +4,7 @@ use Rattle.syn_disk.specs.declared.disk.TheConstants.{DISK_SIZE}
 use Rattle.syn_journal.specs.Layout.{half_size, start_of}
 use Rattle.syn_journal.proofs.Meanings.{within_disk}
 use Rattle.syn_journal.proofs.Openings.{if_ok_both, with_word, with_gate}
-use Rattle.syn_journal.proofs.Calls.{no_reads, some_is_any, then_reads}
+use Rattle.syn_journal.proofs.Calls.{no_reads, then_reads}
 use Rattle.syn_journal.proofs.contents.read_record.Goals as goal
 
 pub returns-clause-payload : goal.returns-clause-payload
@@ -26,11 +26,11 @@ returns-clause-payload g c =
     c.read_bytes.ensures.value c.read_bytes.ensures.size
 
 pub returns-then-gate-lt-RECORD_OVERHEAD-clause-calls : goal.returns-then-gate-lt-RECORD_OVERHEAD-clause-calls
-returns-then-gate-lt-RECORD_OVERHEAD-clause-calls g c = let arms = g.D.Disk.arms c.args.disk.now in some_is_any arms arms (no_reads arms)
+returns-then-gate-lt-RECORD_OVERHEAD-clause-calls g c = no_reads (g.D.Disk.arms c.args.disk.now)
 
 pub returns-clause-calls : goal.returns-clause-calls
 returns-clause-calls g c =
-    then_reads c.read_bytes.result (g.D.Disk.arms c.args.disk.now) (g.D.Disk.arms c.read_u32.new.disk) (g.D.Disk.arms c.read_bytes.new.disk) c.in_ok-size.ensures.calls c.read_bytes.ensures.calls
+    then_reads 0 c.read_bytes.result (g.D.Disk.arms c.args.disk.now) (g.D.Disk.arms c.read_u32.new.disk) (g.D.Disk.arms c.read_bytes.new.disk) c.in_ok-size.ensures.calls c.read_bytes.ensures.calls
 
 pub returns-then-size-gate-clause-calls : goal.returns-then-size-gate-clause-calls
-returns-then-size-gate-clause-calls g c = some_is_any (g.D.Disk.arms c.args.disk.now) (g.D.Disk.arms c.read_u32.new.disk) c.in_ok-size.ensures.calls
+returns-then-size-gate-clause-calls g c = c.in_ok-size.ensures.calls

@@ -4,10 +4,10 @@ use Rattle.std.specs.Int.{w32, from_be_bytes}
 use Rattle.syn_disk.specs.declared.disk.TheConstants.{DISK_SIZE}
 use Rattle.syn_journal.specs.Layout.{half_size, open_gate, start_of, bytes_from, records, record_of, records_of}
 use Rattle.syn_journal.specs.Opened.{payloads_of}
-use Rattle.syn_journal.specs.Refusals.{IsReadRefusal}
+use Rattle.syn_journal.specs.inner.Reading.{IsReadRefusal}
 use Rattle.syn_journal.proofs.Moments.{no_call, and_then}
 use Rattle.syn_journal.proofs.Openings.{read_more, read_damaged, if_err_by, read_refusal_weaker}
-use Rattle.syn_journal.proofs.Calls.{no_reads, reads_of_exit, some_is_any, then_any, then_some}
+use Rattle.syn_journal.proofs.Calls.{no_reads, reads_of_exit, then_after, then_broke, then_some}
 use Rattle.syn_journal.proofs.contents.read_records.Goals as goal
 
 pub loop-records-init : goal.loop-records-init
@@ -46,8 +46,8 @@ loop-records-preserved g c =
       calls =
           let old = g.D.Disk.arms c.args.disk.now in
           let gate = g.D.Disk.arms c.read_u8.new.disk in
-          then_some old gate (g.D.Disk.arms c.read_record.new.disk)
-          (then_some old (g.D.Disk.arms loop.disk) gate loop.invariant.calls c.in_ok-read_u8.ensures.calls) c.in_ok-payload.ensures.calls;
+          then_some 0 old gate (g.D.Disk.arms c.read_record.new.disk)
+          (then_some 0 old (g.D.Disk.arms loop.disk) gate loop.invariant.calls c.in_ok-read_u8.ensures.calls) c.in_ok-payload.ensures.calls;
     }
 
 pub returns-in_err-payload-clause-refusals : goal.returns-in_err-payload-clause-refusals
@@ -71,25 +71,26 @@ pub returns-in_err-read_u8-clause-calls : goal.returns-in_err-read_u8-clause-cal
 returns-in_err-read_u8-clause-calls g c =
     let old = g.D.Disk.arms c.args.disk.now in
     let new = g.D.Disk.arms c.read_u8.new.disk in
-    reads_of_exit c.from_residual.result _ old new c.from_residual.ensures.1
-    (then_any old (g.D.Disk.arms c.loop-records.disk) new c.loop-records.invariant.calls c.in_err-read_u8.ensures.calls)
+    reads_of_exit 0 c.from_residual.result _ old new c.from_residual.ensures.1
+    (then_broke 0 old (g.D.Disk.arms c.loop-records.disk) new c.loop-records.invariant.calls
+    c.in_err-read_u8.ensures.calls)
 
 pub returns-in_err-payload-clause-calls : goal.returns-in_err-payload-clause-calls
 returns-in_err-payload-clause-calls g c =
     let old = g.D.Disk.arms c.args.disk.now in
     let gate = g.D.Disk.arms c.read_u8.new.disk in
     let new = g.D.Disk.arms c.read_record.new.disk in
-    reads_of_exit c.from_residual-in_err-payload.result _ old new c.from_residual-in_err-payload.ensures.1
-    (then_any old gate new (then_some old (g.D.Disk.arms c.loop-records.disk) gate c.loop-records.invariant.calls c.in_ok-read_u8.ensures.calls) c.in_err-payload.ensures.calls)
+    reads_of_exit 0 c.from_residual-in_err-payload.result _ old new c.from_residual-in_err-payload.ensures.1
+    (then_after 0 old gate new (then_some 0 old (g.D.Disk.arms c.loop-records.disk) gate c.loop-records.invariant.calls c.in_ok-read_u8.ensures.calls) c.in_err-payload.field-0.0 c.in_err-payload.ensures.calls)
 
 pub returns-in_err-push-clause-calls : goal.returns-in_err-push-clause-calls
 returns-in_err-push-clause-calls g c =
     let old = g.D.Disk.arms c.args.disk.now in
     let gate = g.D.Disk.arms c.read_u8.new.disk in
     let new = g.D.Disk.arms c.read_record.new.disk in
-    reads_of_exit c.from_residual-in_err-push.result _ old new c.from_residual-in_err-push.ensures.1
-    (some_is_any old new (then_some old gate new (then_some old (g.D.Disk.arms c.loop-records.disk) gate c.loop-records.invariant.calls c.in_ok-read_u8.ensures.calls) c.in_ok-payload.ensures.calls))
+    reads_of_exit 0 c.from_residual-in_err-push.result _ old new c.from_residual-in_err-push.ensures.1
+    (then_some 0 old gate new (then_some 0 old (g.D.Disk.arms c.loop-records.disk) gate c.loop-records.invariant.calls c.in_ok-read_u8.ensures.calls) c.in_ok-payload.ensures.calls)
 
 pub returns-clause-calls : goal.returns-clause-calls
 returns-clause-calls g c =
-    then_some (g.D.Disk.arms c.args.disk.now) (g.D.Disk.arms c.loop-records.disk) (g.D.Disk.arms c.read_u8.new.disk) c.loop-records.invariant.calls c.in_ok-read_u8.ensures.calls
+    then_some 0 (g.D.Disk.arms c.args.disk.now) (g.D.Disk.arms c.loop-records.disk) (g.D.Disk.arms c.read_u8.new.disk) c.loop-records.invariant.calls c.in_ok-read_u8.ensures.calls

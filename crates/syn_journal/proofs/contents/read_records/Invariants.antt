@@ -1,7 +1,7 @@
 use Rattle.std.proofs.Common.{◌≡◌, ◌+◌, ◌-◌, ◌<◌, ◌≤◌, take, drop}
 use Rattle.syn_journal.specs.Layout.{half_size, start_of, records_of}
 use Rattle.syn_journal.specs.Opened.{payloads_of}
-use Rattle.syn_disk.specs.Calls.{MakesSome}
+use Rattle.syn_disk.specs.Calls.{MakesAtLeast}
 use Rattle.syn_disk.specs.Stops.{Untouched}
 use Rattle.syn_journal.proofs.contents.read_records.Given as goal
 
@@ -12,7 +12,7 @@ invariant-loop-records g l = record {
   so_far : take (l.gate - l.first) (drop (start_of l.half + l.first) (g.D.Disk.seen l.initial.disk)) ≡ records_of (payloads_of l.records);
   untouched : Untouched g.D.Disk.seen g.D.Disk.may_leave g.D.Disk.moment g.D.Disk.left_since l.initial.disk l.disk;
   count : g.D.Disk.failures l.disk ≡ g.D.Disk.failures l.initial.disk;
-  calls : MakesSome (g.D.Disk.arms l.initial.disk) (g.D.Disk.arms l.disk);
+  calls : MakesAtLeast 0 (g.D.Disk.arms l.initial.disk) (g.D.Disk.arms l.disk);
 }
 
 abbrev pub decreases-loop-records : goal.decreases-loop-records

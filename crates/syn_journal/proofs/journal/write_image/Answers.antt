@@ -4,8 +4,8 @@ use Rattle.syn_disk.specs.declared.disk.TheConstants.{DISK_SIZE}
 use Rattle.syn_journal.specs.declared.half.Half.TheVariants.{First, Second}
 use Rattle.syn_journal.specs.Layout.{is_open}
 use Rattle.syn_journal.proofs.Formats.{formatted}
-use Rattle.syn_journal.specs.Whole.{IsWhole}
-use Rattle.syn_journal.proofs.Calls.{fewer, one_at_most, one_made, then_at_most, then_made, then_up_to, up_to_of_exit}
+use Rattle.syn_journal.specs.inner.Whole.{IsWhole}
+use Rattle.syn_journal.proofs.Calls.{fewer, one_breaks, one_made, then_breaks, then_made, then_up_to, up_to_of_exit}
 use Rattle.syn_journal.proofs.journal.write_image.Goals as goal
 
 pub returns-clause-written : goal.returns-clause-written
@@ -27,7 +27,7 @@ returns-in_err-close-2-clause-calls g c =
     let a = g.D.Disk.arms c.args.disk.now in
     let b = g.D.Disk.arms c.close.new.disk in
     let d = g.D.Disk.arms c.close-2.new.disk in
-    up_to_of_exit 7 c.from_residual-in_err-close-2.result _ a d c.from_residual-in_err-close-2.ensures.1 (fewer 2 7 a d (omega arith) (then_at_most 1 1 a b d c.in_ok-close.ensures.calls c.in_err-close-2.ensures.calls))
+    up_to_of_exit 7 c.from_residual-in_err-close-2.result _ a d c.from_residual-in_err-close-2.ensures.1 (fewer 2 7 a d (omega arith) (then_breaks 1 1 a b d c.in_ok-close.ensures.calls c.in_err-close-2.ensures.calls))
 
 pub returns-in_err-sync-clause-calls : goal.returns-in_err-sync-clause-calls
 returns-in_err-sync-clause-calls g c =
@@ -36,7 +36,7 @@ returns-in_err-sync-clause-calls g c =
     let d = g.D.Disk.arms c.close-2.new.disk in
     let e = g.D.Disk.arms c.sync.new.self in
     let closed = then_made 1 1 a b d c.in_ok-close.ensures.calls c.in_ok-close-2.ensures.calls in
-    up_to_of_exit 7 c.from_residual-in_err-sync.result _ a e c.from_residual-in_err-sync.ensures.1 (fewer 3 7 a e (omega arith) (then_at_most 2 1 a d e closed (one_at_most d e c.sync.ensures.arms)))
+    up_to_of_exit 7 c.from_residual-in_err-sync.result _ a e c.from_residual-in_err-sync.ensures.1 (fewer 3 7 a e (omega arith) (then_breaks 2 1 a d e closed (one_breaks d e c.sync.ensures.arms)))
 
 pub returns-clause-calls : goal.returns-clause-calls
 returns-clause-calls g c =

@@ -2,11 +2,11 @@ use Rattle.std.proofs.Common.{◌≡◌, ◌∙◌, length, ap, sym, subst, arit
 use Rattle.std.proofs.lemmas.Result.{on_ok_weaker}
 use Rattle.syn_disk.specs.Disk.{overwritten}
 use Rattle.syn_disk.specs.declared.disk.TheConstants.{DISK_SIZE}
-use Rattle.syn_journal.specs.Commit.{IsClosing}
+use Rattle.syn_journal.specs.inner.Commit.{IsClosing}
 use Rattle.syn_journal.specs.Layout.{start_of, is_open}
 use Rattle.syn_journal.proofs.Checkpoints.{closing_bytes, at_first, follows, seen_closing, seen_closed}
 use Rattle.syn_journal.proofs.Moments.{started, goes_on}
-use Rattle.syn_journal.proofs.Calls.{fewer, one_at_most, one_made, one_up_to, then_up_to, up_to_of_exit}
+use Rattle.syn_journal.proofs.Calls.{fewer, one_breaks, one_made, one_up_to, then_up_to, up_to_of_exit}
 use Rattle.syn_journal.proofs.journal.checkpoint.ensure_closed.Goals as goal
 use Rattle.syn_journal.proofs.journal.checkpoint.ensure_closed.Goals.{then-was_open, else-was_open}
 
@@ -68,7 +68,7 @@ pub returns-in_err-write-clause-calls : goal.returns-in_err-write-clause-calls
 returns-in_err-write-clause-calls g c =
     let a = g.D.Disk.arms c.args.disk.now in
     let b = g.D.Disk.arms c.write.new.self in
-    up_to_of_exit 2 c.from_residual.result _ a b c.from_residual.ensures.1 (fewer 1 2 a b (omega arith) (one_at_most a b c.write.ensures.arms))
+    up_to_of_exit 2 c.from_residual.result _ a b c.from_residual.ensures.1 (fewer 1 2 a b (omega arith) (one_breaks a b c.write.ensures.arms))
 
 pub returns-clause-calls : goal.returns-clause-calls
 returns-clause-calls g c =

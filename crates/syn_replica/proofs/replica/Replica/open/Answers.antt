@@ -14,8 +14,3 @@ returns-in-Ok-read_replica-clause-each g c number history fits stands =
     subst (λ n. IsShownBy number c.in-Ok-read_replica.pair c.in-Ok-read_replica.tree n history) count
     (c.in-Ok-read_replica.ensures.each number history fits
     (subst (λ p. StandsFor number c.deref.result.now p history) (ap bytes_of_each (sym c.deref-2.ensures.value)) (subst (λ i. StandsFor number i value.payloads history) (sym c.deref.ensures.value) s))))
-
-pub returns-clause-calls : goal.returns-clause-calls
-returns-clause-calls g c =
-    let some = c.in-Ok.ensures.calls in
-    rw c.into_disk.ensures (record { calls = some.calls; after = some.after })
