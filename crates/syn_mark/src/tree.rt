@@ -1,10 +1,10 @@
-ghost use Rattle.std.specs.Prelude.{◌≡◌, ◌≢◌, ◌↔◌, IsTrue, true, Some, None, filter, option_map, IfOk, IfErr, IfSome, IfNone};
+ghost use Rattle.std.specs.Prelude.{◌≡◌, ◌≢◌, ◌↔◌, IsTrue, true, length, Some, None, filter, option_map, IfOk, IfErr, IfSome, IfNone};
 ghost use Rattle.std.specs.FinMap.{entries, get, len};
 ghost use Rattle.syn_model.specs.Path.{root};
 ghost use Rattle.syn_model.specs.Tree.{Tree as Pairs, at_root, is_directory, is_present, replace};
 ghost use Rattle.syn_model.specs.Tree.{subtree};
 ghost use Rattle.syn_model.specs.Mark.{IsMarks};
-ghost use Rattle.syn_model.specs.Limits.{fits_archive};
+ghost use Rattle.syn_model.specs.Limits.{children, fits_archive};
 ghost use Rattle.syn_tree.specs.Pairs.{is_below};
 ghost use Rattle.syn_tree.specs.Refusals.{refusal_of, refusal_in};
 ghost use Rattle.syn_model.specs.Refusal.{first_cause};
@@ -20,7 +20,7 @@ use crate::same::same_entries;
 use std::alloc::Global;
 use std::marker::Model;
 use syn_path::Path;
-use syn_tree::list::{are_rising, entry_at, part_at, part_below, replace_part};
+use syn_tree::list::{are_rising, count_children_at, entry_at, part_at, part_below, replace_part};
 use syn_tree::{Placed, Standing, TreeError};
 
 /// A path with its mark. Contracts see it as the pair of the two.
@@ -145,6 +145,14 @@ impl MarkTree {
         ensures { result ≡ len self.now }
     {
         self.list.len()
+    }
+
+    /// How many names are in the directory; none where no directory is there.
+    /// The work grows with what is below the path, and not with the whole tree.
+    pub fn child_count(&self, path: &Path) -> usize
+        ensures { result ≡ length (children self.now path.now) }
+    {
+        count_children_at(&self.list, path)
     }
 
     /// The mark of the root.
