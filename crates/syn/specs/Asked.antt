@@ -1,5 +1,5 @@
 -- The edit that a line asks for.
-use Rattle.std.specs.Prelude.{List, ℕ, codes}
+use Rattle.std.specs.Prelude.{◌≡◌, List, ℕ, Option, Some, codes}
 use Rattle.syn_model.specs.Path.{Bytes, Path}
 use Rattle.syn_model.specs.Event.{Event, Edited, Edit, Put, MakeDir, Remove}
 use Rattle.syn.specs.declared.line.Change.{Change}
@@ -11,6 +11,12 @@ abbrev pub word_of : Change → List ℕ
 word_of change.Put = codes "put"
 word_of change.MakeDir = codes "mkdir"
 word_of change.Remove = codes "rm"
+
+-- this is left of the input, which only a put reads
+abbrev pub IsInput : Change → Option Bytes → Bytes → Type 0
+IsInput change.Put input left = input ≡ Some left
+IsInput change.MakeDir input left = Unit {0}
+IsInput change.Remove input left = Unit {0}
 
 -- the edit at a path, where this is left of the input
 abbrev pub edit_asked : Change → Path → Bytes → Edit

@@ -10,7 +10,7 @@ ghost use Rattle.syn_replica.specs.Disks.{StandsBeforeOrAfter};
 ghost use Rattle.syn_replica.specs.Replica.{Stands, disk_of, pair_of};
 ghost use Rattle.syn_tree.specs.Edits.{edit_of};
 ghost use Rattle.syn_model.specs.Refusal.{Device};
-ghost use Rattle.syn.specs.Asked.{edit_asked, event_asked};
+ghost use Rattle.syn.specs.Asked.{IsInput, edit_asked, event_asked};
 ghost use Rattle.syn.specs.Errors.{refusal_of, IsOfStream};
 
 use crate::error::CommandError;
@@ -32,6 +32,8 @@ const MOST_INPUT: u64 = 16_385;
 /// It is refused as the replica refuses the edit, 9 where the input cannot be read or a device call
 /// fails, and 11 where memory is refused. Of an input that is longer than a file may be only one
 /// byte more than that is read.
+///
+/// The path has to be the one that the line names, so that no caller can hand over another.
 pub fn make_edit<D: Disk, I: Read>(
     alloc: Global,
     replica: &mut Replica<D>,
@@ -41,18 +43,18 @@ pub fn make_edit<D: Disk, I: Read>(
 ) -> Result<u64, CommandError>
     requires { NamesPath line.now.path.now path }
     ensures acknowledged { (history : History) (left : Bytes)
-        → Stands replica.old history → I.remaining input.old ≡ Some left
+        → Stands replica.old history → IsInput line.entry.now.change (I.remaining input.old) left
         → IfOk result (λ position. (position ≡ length history + 1)
         × Stands replica.new (history ++ event_asked line.entry.now path left ∷ [])) }
     ensures any_moment { (history : History) (left : Bytes)
-        → Stands replica.old history → I.remaining input.old ≡ Some left
+        → Stands replica.old history → IsInput line.entry.now.change (I.remaining input.old) left
         → LeavesOnly D.moment D.left_since (disk_of replica.old) (disk_of replica.new)
         (StandsBeforeOrAfter (pair_of replica.old) history
         (event_asked line.entry.now path left)) }
 
     // An edit that the history refuses is refused so, unless the input cannot be read.
     ensures refused { (history : History) (left : Bytes) (why : Why)
-        → Stands replica.old history → I.remaining input.old ≡ Some left
+        → Stands replica.old history → IsInput line.entry.now.change (I.remaining input.old) left
         → event_refusal history (event_asked line.entry.now path left) ≡ Some why
         → IsErrAnd result (λ e. (refusal_of e ≡ why) ⊎ IsOfStream e) }
     ensures unchanged { (history : History) → Stands replica.old history
@@ -70,8 +72,8 @@ fn read_edit<I: Read>(
     path: Path,
     input: &mut I,
 ) -> Result<Edit, CommandError>
-    ensures edit { IfOk result (λ edit. IfSome (I.remaining input.old) (λ left.
-        edit_of edit ≡ edit_asked change path (take MOST_INPUT left))) }
+    ensures edit { IfOk result (λ edit. (left : Bytes) → IsInput change (I.remaining input.old) left
+        → edit_of edit ≡ edit_asked change path (take MOST_INPUT left)) }
     ensures stream { IfErr result IsOfStream }
 {
     match change {

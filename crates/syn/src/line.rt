@@ -74,6 +74,16 @@ impl ValueName {
         }
     }
 
+    /// What it has to be.
+    pub fn wanted(self) -> &'static str {
+        match self {
+            ValueName::Kind => "'replica'",
+            ValueName::Pair => "a decimal number below 2^64",
+            ValueName::User => "a decimal number below 2^32",
+            ValueName::Command | ValueName::File | ValueName::Path => "there",
+        }
+    }
+
     /// What the help says of it.
     pub fn help(self) -> &'static str {
         match self {
@@ -94,7 +104,7 @@ pub enum LineError {
     #[error("{0}")]
     Usage(clap::Error),
     /// The value of this name is not what it has to be.
-    #[error("error: invalid value for '<{}>': KIND is 'replica', PAIR and USER are decimal numbers\n\nFor more information, try '--help'.\n", .0.as_str())]
+    #[error("error: invalid value for '<{}>': it has to be {}\n\nFor more information, try '--help'.\n", .0.as_str(), .0.wanted())]
     Value(ValueName),
     /// Memory was refused.
     #[error("Memory")]

@@ -6,6 +6,7 @@ use crate::error::CommandError;
 use crate::line::Line;
 use crate::status::Status;
 use std::io::Write;
+use syn_disk::{DISK_SIZE, OpenError};
 use syn_refusal::Refusal;
 
 /// The status of the answer. A refusal is told in one line, and where `asked` is given in a second
@@ -51,12 +52,19 @@ fn explain<E: Write>(line: &Line<'_>, error: &CommandError, errors: &mut E) {
             path: Some(path),
         } => write!(errors, "syn: {path} in {file}"),
     };
+    let plain = error.refusal().explanation();
     let _ = match error {
-        CommandError::Device(system) => {
-            writeln!(errors, ": {} ({system})", Refusal::Device.explanation())
+        CommandError::Device(system) | CommandError::Open(OpenError::System(system)) => {
+            writeln!(errors, ": {plain} ({system})")
+        }
+        CommandError::Open(OpenError::Length(length)) => {
+            writeln!(
+                errors,
+                ": {plain} (it has {length} bytes, an image {DISK_SIZE})"
+            )
         }
         CommandError::Longer => writeln!(errors, ": the file is longer than an image"),
-        _ => writeln!(errors, ": {}", error.refusal().explanation()),
+        _ => writeln!(errors, ": {plain}"),
     };
 }
 

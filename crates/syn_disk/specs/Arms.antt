@@ -1,7 +1,8 @@
 -- Which calls a disk refuses that was told to.
 use Rattle.std.specs.Prelude.{ℕ, ◌-◌, ◌==◌, ◌||◌, Bool, false, Option, Some, None, if◌then◌else◌}
 
--- the number of calls up to the failure (0: none), and the calls that are still made before the stop
+-- the number of calls up to the failure (0: none), and the calls that are still made before the
+-- stop
 pub record Arms : Type 0 where
   pub failure : ℕ
   pub stop : Option ℕ
@@ -26,4 +27,6 @@ one_fewer (Some calls) = Some (calls - 1)
 
 -- once it is stopped nothing changes
 abbrev pub after_call : Arms → Arms
-after_call arms = if is_stopped arms then arms else record { failure = arms.failure - 1; stop = one_fewer arms.stop }
+after_call arms =
+    if is_stopped arms then arms
+    else record { failure = arms.failure - 1; stop = one_fewer arms.stop }

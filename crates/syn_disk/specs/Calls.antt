@@ -27,7 +27,8 @@ BreaksSometime old new = (most : ℕ) × Breaks most old new
 
 -- all these device calls where it succeeds, and else the last that was made failed
 abbrev pub MakesUpTo : {T E : Type 0} → ℕ → Result T E → Arms → Arms → Type 0
-MakesUpTo most result old new = MatchResult result (λ _. Makes most old new) (λ _. Breaks most old new)
+MakesUpTo most result old new =
+    MatchResult result (λ _. Makes most old new) (λ _. Breaks most old new)
 
 -- some device calls, which were all to succeed where it succeeds, and else the last of them failed
 abbrev pub MakesReads : {T E : Type 0} → Result T E → Arms → Arms → Type 0

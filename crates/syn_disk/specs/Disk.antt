@@ -1,5 +1,6 @@
 -- What the calls of a disk do to its bytes, and what a stop may leave.
-use Rattle.std.specs.Prelude.{◌≡◌, ◌<◌, ◌≤◌, ◌⊎◌, ◌↔◌, ◌+◌, ℕ, List, ◌++◌, length, take, drop, slice_index, Result, MatchResult}
+use Rattle.std.specs.Prelude.{◌≡◌, ◌<◌, ◌≤◌, ◌⊎◌, ◌↔◌, ◌+◌, ℕ, List, ◌++◌, length, take, drop}
+use Rattle.std.specs.Prelude.{slice_index, Result, MatchResult}
 
 -- old with these bytes from `at` on
 abbrev pub overwritten : {X : Type 0} → List X → ℕ → List X → List X
@@ -27,8 +28,10 @@ SameOutcomes old new = (c : List ℕ) → old c ↔ new c
 abbrev pub Only : List ℕ → (List ℕ → Type 0) → Type 0
 Only content outcomes = (c : List ℕ) → outcomes c → c ≡ content
 
--- Time goes on: a stop since t might have left what it might have left before, or what it may leave now.
-pub record Elapses (before now : ℕ) (past since : ℕ → List ℕ → Type 0) (may_leave : List ℕ → Type 0) : Type 0 where
+-- Time goes on: a stop since t might have left what it might have left before, or what it may leave
+-- now.
+pub record Elapses (before now : ℕ) (past since : ℕ → List ℕ → Type 0)
+    (may_leave : List ℕ → Type 0) : Type 0 where
   pub later : before ≤ now
   pub nothing_else : (t : ℕ) (c : List ℕ) → t ≤ before → since t c → past t c ⊎ may_leave c
   pub keeps : (t : ℕ) (c : List ℕ) → t ≤ before → past t c → since t c

@@ -19,19 +19,38 @@ both_written low high = written_of low ++ written_of high
 
 -- what a stop may leave of them
 abbrev pub HalvesMayLeave : Half × Half → List ℕ → Type 0
-HalvesMayLeave halves = MayLeave (both_contents halves.0 halves.1) (is_written (both_written halves.0 halves.1))
+HalvesMayLeave halves =
+    MayLeave (both_contents halves.0 halves.1) (is_written (both_written halves.0 halves.1))
 
 pub length-half : (half : Half) → length (content_of half) ≡ HALF_SIZE
 length-half half = length-padded 0 half.content.items HALF_SIZE half.tracks.fits
 
 pub length-halves : (low high : Half) → length (both_contents low high) ≡ DISK_SIZE
-length-halves low high = omega (arith, length-append (content_of low) (content_of high), length-half low, length-half high)
+length-halves low high =
+    omega (
+      arith,
+      length-append (content_of low)
+          (content_of high),
+      length-half low,
+      length-half high,
+    )
 
 pub length-synced : (half : Half) → length (synced_of half) ≡ HALF_SIZE
-length-synced half = length-padded 0 half.synced.items HALF_SIZE (omega (arith, half.tracks.fits, half.tracks.synced_size))
+length-synced half =
+    length-padded 0 half.synced.items HALF_SIZE
+    (omega (arith, half.tracks.fits, half.tracks.synced_size))
 
 pub length-written : (half : Half) → length (written_of half) ≡ HALF_SIZE
-length-written half = length-padded false half.written HALF_SIZE (omega (arith, half.tracks.fits, half.tracks.written_size))
+length-written half =
+    length-padded false half.written HALF_SIZE
+    (omega (arith, half.tracks.fits, half.tracks.written_size))
 
 pub length-both_written : (low high : Half) → length (both_written low high) ≡ DISK_SIZE
-length-both_written low high = omega (arith, length-append (written_of low) (written_of high), length-written low, length-written high)
+length-both_written low high =
+    omega (
+      arith,
+      length-append (written_of low)
+          (written_of high),
+      length-written low,
+      length-written high,
+    )

@@ -1,5 +1,6 @@
 //! Parts of the bytes of a disk.
-ghost use Rattle.std.specs.Prelude.{◌≡◌, ◌≤◌, ◌+◌, ◌-◌, ◌++◌, List, length, replicate, slice_range, take, drop, vec_capacity};
+ghost use Rattle.std.specs.Prelude.{◌≡◌, ◌≤◌, ◌+◌, ◌-◌, ◌++◌, List, length, replicate, slice_range};
+ghost use Rattle.std.specs.Prelude.{take, drop, vec_capacity};
 ghost use Rattle.syn_disk.specs.Disk.{overwritten};
 
 pub fn overwrite(content: &mut Vec<u8>, at: usize, bytes: &[u8])
@@ -14,7 +15,8 @@ pub fn copy_range(copy: &mut Vec<u8>, original: &Vec<u8>, from: usize, to: usize
     requires ordered { from ≤ to }
     requires within { to ≤ length original.now.items }
     requires fits { to ≤ length copy.old.items }
-    ensures items { copy.new.items ≡ overwritten copy.old.items from (slice_range original.now.items from to) }
+    ensures items { copy.new.items
+        ≡ overwritten copy.old.items from (slice_range original.now.items from to) }
     ensures room { vec_capacity copy.new ≡ vec_capacity copy.old }
 {
     overwrite(copy, from, &original[from..to]);

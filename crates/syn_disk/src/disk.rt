@@ -1,7 +1,8 @@
 //! The disk as the layers above see it.
 ghost use Rattle.std.specs.Prelude.{◌≡◌, ◌≤◌, ◌+◌, ℕ, false, List, length, take, drop, OnOk, OnErr};
 ghost use Rattle.syn_disk.specs.Arms.{Arms, after_call, is_refused};
-ghost use Rattle.syn_disk.specs.Disk.{overwritten, Torn, Follows, NothingNew, Only, Elapses, CountsFailure};
+ghost use Rattle.syn_disk.specs.Disk.{overwritten, Torn, Follows, NothingNew, Only, Elapses};
+ghost use Rattle.syn_disk.specs.Disk.{CountsFailure};
 
 /// The number of bytes of a disk.
 pub const DISK_SIZE: usize = 8_388_608;
@@ -26,7 +27,8 @@ pub trait Disk {
     /// The moment, as a number that does not fall.
     ghost moment: { Self → ℕ };
 
-    /// The contents that a stop at some moment from that one on might have left, during a call or between two.
+    /// The contents that a stop at some moment from that one on might have left, during a call or
+    /// between two.
     ghost left_since: { Self → ℕ → List ℕ → Type 0 };
 
     /// How many calls have failed.
@@ -47,12 +49,14 @@ pub trait Disk {
         ensures arms { arms self.new ≡ after_call (arms self.old) }
         ensures allowed { OnOk result (is_refused (arms self.old) ≡ false) };
 
-    /// Until the next sync that succeeds a stop may leave any bytes in the range, also where the write failed.
+    /// Until the next sync that succeeds a stop may leave any bytes in the range, also where the
+    /// write failed.
     fn write(&mut self, at: usize, bytes: &[u8]) -> Result<(), DeviceFailed>
         requires { at + length bytes.now ≤ DISK_SIZE }
         ensures written { OnOk result (seen self.new ≡ overwritten (seen self.old) at bytes.now) }
         ensures torn { OnErr result (Torn at (length bytes.now) (seen self.old) (seen self.new)) }
-        ensures stop { Follows (Torn at (length bytes.now)) (may_leave self.old) (may_leave self.new) }
+        ensures stop { Follows (Torn at (length bytes.now)) (may_leave self.old)
+            (may_leave self.new) }
         ensures time { Elapses (moment self.old) (moment self.new)
             (left_since self.old) (left_since self.new) (may_leave self.new) }
         ensures count { CountsFailure result (failures self.old) (failures self.new) }
@@ -71,14 +75,17 @@ pub trait Disk {
         ensures allowed { OnOk result (is_refused (arms self.old) ≡ false) };
 
     /// This moment is one of those since an earlier one.
-    ghost counts_now: { (disk : Self) (t : ℕ) (c : List ℕ) → t ≤ moment disk → may_leave disk c → left_since disk t c };
+    ghost counts_now: { (disk : Self) (t : ℕ) (c : List ℕ) → t ≤ moment disk → may_leave disk c
+        → left_since disk t c };
 
     /// Since this moment there is no other.
-    ghost only_now: { (disk : Self) (c : List ℕ) → left_since disk (moment disk) c → may_leave disk c };
+    ghost only_now: { (disk : Self) (c : List ℕ) → left_since disk (moment disk) c
+        → may_leave disk c };
 
     /// A stop may leave what a read gives.
     ghost seen_may_stay: { (disk : Self) → may_leave disk (seen disk) };
 
     /// A stop leaves a whole disk.
-    ghost whole: { (disk : Self) (t : ℕ) (c : List ℕ) → left_since disk t c → length c ≡ DISK_SIZE };
+    ghost whole: { (disk : Self) (t : ℕ) (c : List ℕ) → left_since disk t c
+        → length c ≡ DISK_SIZE };
 }

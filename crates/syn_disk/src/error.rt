@@ -4,15 +4,20 @@ ghost use Rattle.syn_model.specs.Refusal.{name_of};
 ghost use Rattle.syn_refusal.specs.Refusals.{cause_of};
 ghost use Rattle.syn_disk.specs.OpenError.{refusal_of, number_of};
 
-use std::fmt;
+use std::alloc::AllocError;
+use std::{fmt, io};
 use syn_refusal::Refusal;
 use thiserror::Error;
 
 /// Why a disk in a file cannot be opened.
-#[derive(Clone, Copy, Debug, PartialEq, Eq, Error)]
+#[derive(Debug, Drop, Error)]
 pub enum OpenError {
-    /// 9: the file is missing or of another length, or it cannot be locked, read or synced.
-    Device,
+    /// 9: the system does not let the file be opened, locked or read, and says why.
+    System(io::Error),
+    /// 9: the file is this many bytes long, which a disk is not.
+    Length(u64),
+    /// 9: the file cannot be synced.
+    Sync,
     /// 11: there is no memory for the bytes of the disk.
     Memory,
     /// 12: another process has the file open.
@@ -25,7 +30,7 @@ impl OpenError {
         ensures { cause_of result ≡ refusal_of self.now }
     {
         match self {
-            OpenError::Device => Refusal::Device,
+            OpenError::System(_) | OpenError::Length(_) | OpenError::Sync => Refusal::Device,
             OpenError::Memory => Refusal::Memory,
             OpenError::Busy => Refusal::Busy,
         }
@@ -45,5 +50,20 @@ impl fmt::Display for OpenError {
 
     fn fmt<W: fmt::Write>(&self, f: &mut fmt::Formatter<W>) -> fmt::Result {
         write!(f, "{}", self.refusal())
+    }
+}
+
+impl From<io::Error> for OpenError {
+    fn from(error: io::Error) -> OpenError {
+        match error.kind() {
+            io::ErrorKind::OutOfMemory => OpenError::Memory,
+            _ => OpenError::System(error),
+        }
+    }
+}
+
+impl From<AllocError> for OpenError {
+    fn from(_error: AllocError) -> OpenError {
+        OpenError::Memory
     }
 }

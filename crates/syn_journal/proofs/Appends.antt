@@ -1,10 +1,10 @@
 -- What a stop leaves during an append.
 use Rattle.std.proofs.Common.{◌≡◌, inl, inr, ℕ, ◌+◌, ◌≤◌, List, length, get_or, arith}
 use Rattle.std.proofs.lemmas.Bool.{cases_eq}
-use Rattle.syn_journal.specs.Commit.{IsStagedOrOpened, body_of_record}
+use Rattle.syn_journal.specs.inner.Commit.{IsStagedOrOpened, body_of_record}
 use Rattle.syn_journal.specs.declared.half.Half.{Half}
 use Rattle.syn_journal.specs.Layout.{half_size, open_gate, start_of, Value, with_payload, IsBeforeOrAfter}
-use Rattle.syn_journal.specs.Whole.{IsWhole}
+use Rattle.syn_journal.specs.inner.Whole.{IsWhole}
 use Rattle.syn_journal.proofs.Whole.{behind_gate, still_closed, now_open, long}
 use Rattle.syn_journal.proofs.Meanings.{means}
 

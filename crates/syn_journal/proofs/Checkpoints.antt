@@ -6,11 +6,11 @@ use Rattle.std.specs.Int.{w64, to_be_bytes}
 use Rattle.std.specs.Prelude.{if◌then◌else◌}
 use Rattle.syn_disk.specs.Disk.{Torn, Follows, Only, overwritten}
 use Rattle.syn_disk.specs.declared.disk.TheConstants.{DISK_SIZE}
-use Rattle.syn_journal.specs.Commit.{IsClosing, IsNextImage, IsStagedOrOpened}
+use Rattle.syn_journal.specs.inner.Commit.{IsClosing, IsNextImage, IsStagedOrOpened}
 use Rattle.syn_journal.specs.declared.half.Half.{Half}
 use Rattle.syn_journal.specs.declared.half.Half.TheVariants.{First, Second}
 use Rattle.syn_journal.specs.Layout.{half_size, open_gate, start_of, other_half, Value, is_open, generation_at, current, current_of, image_alone, IsBeforeOrAfter}
-use Rattle.syn_journal.specs.Whole.{IsWhole}
+use Rattle.syn_journal.specs.inner.Whole.{IsWhole}
 use Rattle.syn_journal.proofs.Formats.{long, only_open, other_stays, long_after, other_gate, other_generation, this_gate, this_generation, committed, torn_final, open_final}
 use Rattle.syn_journal.proofs.Commits.{untouched}
 use Rattle.syn_journal.proofs.Meanings.{means, within_disk}

@@ -1,7 +1,7 @@
 -- What a stop leaves in each of the two steps of a commit.
 use Rattle.std.proofs.Common.{◌≡◌, inl, inr, ℕ, ◌+◌, List, length, refl, sym, subst}
 use Rattle.syn_disk.specs.Disk.{Torn, Follows, Only, overwritten}
-use Rattle.syn_journal.specs.Commit.{IsStagedOrOpened}
+use Rattle.syn_journal.specs.inner.Commit.{IsStagedOrOpened}
 
 pub untouched : (at n : ℕ) (c : List ℕ) → Torn at n c c
 untouched at n c = record { size = refl; before = λ i less. refl; behind = λ i past. refl }

@@ -5,11 +5,11 @@ use Rattle.std.proofs.lemmas.Nat.{from_be_bytes-to_be_bytes_8}
 use Rattle.std.specs.Int.{w32, w64, to_be_bytes, from_be_bytes}
 use Rattle.syn_disk.specs.Disk.{Torn, overwritten}
 use Rattle.syn_disk.specs.declared.disk.TheConstants.{DISK_SIZE}
-use Rattle.syn_journal.specs.Commit.{body_of_image}
+use Rattle.syn_journal.specs.inner.Commit.{body_of_image}
 use Rattle.syn_journal.specs.declared.half.Half.{Half}
 use Rattle.syn_journal.specs.declared.half.Half.TheVariants.{First, Second}
 use Rattle.syn_journal.specs.Layout.{half_size, longest_image, open_gate, start_of, other_half, is_open, generation_at, current, current_of, image_alone, spelled}
-use Rattle.syn_journal.specs.Whole.{IsWhole}
+use Rattle.syn_journal.specs.inner.Whole.{IsWhole}
 use Rattle.syn_journal.proofs.Meanings.{within_disk}
 use Rattle.syn_journal.proofs.Parts.{part_is, next_part, length-overwritten, overwritten-in, overwritten-below, overwritten-behind, torn_by}
 use Rattle.syn_journal.proofs.Whole.{SameHeader, apart, same_gate, same_generation}

@@ -10,7 +10,8 @@ use Rattle.syn_disk.specs.declared.disk.TheConstants.{DISK_SIZE}
 use Rattle.syn_journal.specs.declared.half.Half.{Half}
 use Rattle.syn_journal.specs.declared.half.Half.TheVariants.{First, Second}
 use Rattle.syn_journal.specs.Layout.{half_size, longest_image, start_of, other_half, is_open, Value, damaged, records, image_length_at, with_image, bytes_from, value_at, value_in, meaning, records_of, spelled}
-use Rattle.syn_journal.specs.Whole.{IsWhole, IsInStep, value_or_empty}
+use Rattle.syn_journal.specs.inner.Whole.{IsWhole, IsInStep}
+use Rattle.syn_journal.specs.Layout.{value_or_empty}
 use Rattle.syn_journal.proofs.Parts.{next_part, take_over}
 use Rattle.syn_journal.proofs.Records.{records_read}
 

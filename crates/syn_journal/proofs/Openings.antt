@@ -11,7 +11,8 @@ use Rattle.syn_journal.specs.declared.half.Half.{Half}
 use Rattle.syn_journal.specs.declared.error.JournalError.{JournalError}
 use Rattle.syn_journal.specs.declared.error.JournalError.TheVariants.{Full, JournalFull, Device, Halted, Memory, NoImage, Damaged}
 use Rattle.syn_journal.specs.Layout.{half_size, longest_image, open_gate, start_of, Value, Fault, no_image, damaged, current, meaning, value_in, spelled, records, image_length_at, with_image, bytes_from, value_at, record_of, records_of}
-use Rattle.syn_journal.specs.Refusals.{IsReadRefusal, IsOpenRefusal}
+use Rattle.syn_journal.specs.Refusals.{IsOpenRefusal}
+use Rattle.syn_journal.specs.inner.Reading.{IsReadRefusal}
 use Rattle.syn_journal.proofs.Meanings.{within_disk}
 use Rattle.syn_journal.proofs.Parts.{part_add}
 use Rattle.syn_journal.proofs.Records.{records_broken, records_of-push}

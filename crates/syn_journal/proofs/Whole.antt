@@ -3,11 +3,11 @@ use Rattle.std.proofs.Common.{◌≡◌, ◌≢◌, ◌⊎◌, inl, inr, ⊎_eli
 use Rattle.std.proofs.lemmas.List.{get_or_append_left, get_or-append_right, append_assoc}
 use Rattle.std.specs.Int.{w32, w64, to_be_bytes, from_be_bytes}
 use Rattle.syn_disk.specs.Disk.{Torn, overwritten}
-use Rattle.syn_journal.specs.Commit.{body_of_record}
+use Rattle.syn_journal.specs.inner.Commit.{body_of_record}
 use Rattle.syn_journal.specs.declared.half.Half.{Half}
 use Rattle.syn_journal.specs.declared.half.Half.TheVariants.{First, Second}
 use Rattle.syn_journal.specs.Layout.{half_size, open_gate, start_of, other_half, Value, is_open, generation_at, current, current_of, record_of, records_of, spelled, with_payload}
-use Rattle.syn_journal.specs.Whole.{IsWhole}
+use Rattle.syn_journal.specs.inner.Whole.{IsWhole}
 use Rattle.syn_journal.proofs.Meanings.{within_disk, sizes}
 use Rattle.syn_journal.proofs.Parts.{same_part, part_is, part_add, length-overwritten, overwritten-below, overwritten-in, overwritten-behind, torn_by}
 use Rattle.syn_journal.proofs.Records.{records_of-push}

@@ -4,8 +4,9 @@ use Rattle.syn_disk.specs.Disk.{Only}
 use Rattle.syn_disk.specs.declared.disk.Disk.{Ghosts}
 use Rattle.syn_journal.specs.declared.half.Half.{Half}
 use Rattle.syn_journal.specs.declared.journal.Journal.{Journal}
+use Rattle.syn_journal.specs.declared.layout.TheConstants.{RECORD_OVERHEAD}
 use Rattle.syn_journal.specs.Layout.{Value, half_size, meaning, size_of}
-use Rattle.syn_journal.specs.Whole.{value_or_empty}
+use Rattle.syn_journal.specs.Layout.{value_or_empty}
 
 module _ {D : Type 0} {disk : Ghosts D} (journal : Journal D disk) where
   abbrev pub disk_of : D
@@ -23,14 +24,14 @@ module _ {D : Type 0} {disk : Ghosts D} (journal : Journal D disk) where
 
   -- the length of the longest payload that fits, or 0 where none does
   abbrev pub room_of : ℕ
-  room_of = half_size - gate_of - 6
+  room_of = half_size - gate_of - RECORD_OVERHEAD
 
   -- a payload of this length fits, or does not
   abbrev pub Takes : ℕ → Type 0
-  Takes size = gate_of + 6 + size ≤ half_size
+  Takes size = gate_of + RECORD_OVERHEAD + size ≤ half_size
 
   abbrev pub IsTooLong : ℕ → Type 0
-  IsTooLong size = half_size < gate_of + 6 + size
+  IsTooLong size = half_size < gate_of + RECORD_OVERHEAD + size
 
   -- A device call failed, and the journal was not opened again since.
   abbrev pub IsHalted : Type 0
@@ -41,7 +42,8 @@ module _ {D : Type 0} {disk : Ghosts D} (journal : Journal D disk) where
   value_of = value_or_empty (meaning (disk.seen journal.disk))
 
 -- The journal runs and has this value, and each stop leaves it.
-pub record Stands {D : Type 0} {disk : Ghosts D} (journal : Journal D disk) (value : Value) : Type 0 where
+pub record Stands {D : Type 0} {disk : Ghosts D} (journal : Journal D disk)
+    (value : Value) : Type 0 where
   pub running : journal.halted ≡ false
   pub means : meaning (disk.seen journal.disk) ≡ Ok value
   pub durable : Only (disk.seen journal.disk) (disk.may_leave journal.disk)

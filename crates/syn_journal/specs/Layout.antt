@@ -1,11 +1,15 @@
 -- What the bytes of a disk stand for.
 --
--- A disk has two halves. A half holds a gate, which is open at the byte a5, a generation of 8 bytes, the image's length of 4, the image,
--- and then records: each a gate, a length of 4 bytes and a payload. Behind the last record stands a closed gate.
--- Numbers are big endian. The current half is the open one of the greatest generation.
-use Rattle.std.specs.Prelude.{◌≡◌, ◌⊎◌, ◌+◌, ◌-◌, ◌==◌, ℕ, zero, suc, nat_lt, nat_le, Bool, true, false, if◌then◌else◌, List, [], ◌∷◌, ◌++◌, length, take, drop, slice_index, Option, Some, None, Result, Ok, Err}
+-- A disk has two halves. A half holds a gate, which is open at the byte a5, a generation of 8
+-- bytes, the image's length of 4, the image, and then records: each a gate, a length of 4 bytes and
+-- a payload. Behind the last record stands a closed gate. Numbers are big endian. The current half
+-- is the open one of the greatest generation.
+use Rattle.std.specs.Prelude.{◌≡◌, ◌⊎◌, ◌+◌, ◌-◌, ◌==◌, ℕ, zero, suc, nat_lt, nat_le, Bool, true}
+use Rattle.std.specs.Prelude.{false, if◌then◌else◌, List, [], ◌∷◌, ◌++◌, length, take, drop}
+use Rattle.std.specs.Prelude.{slice_index, Option, Some, None, Result, Ok, Err}
 use Rattle.std.specs.Int.{w32, w64, from_be_bytes, to_be_bytes}
 use Rattle.syn_journal.specs.declared.half.Half.{Half}
+use Rattle.syn_journal.specs.declared.layout.TheConstants.{IMAGE_AT, IMAGE_LENGTH_AT}
 use Rattle.syn_journal.specs.declared.half.Half.TheVariants.{First, Second}
 
 abbrev pub half_size : ℕ
@@ -43,30 +47,36 @@ unfoldable pub generation_at : List ℕ → Half → ℕ
 generation_at disk half = from_be_bytes w64 (take 8 (drop (start_of half + 1) disk))
 
 unfoldable pub image_length_at : List ℕ → Half → ℕ
-image_length_at disk half = from_be_bytes w32 (take 4 (drop (start_of half + 9) disk))
+image_length_at disk half = from_be_bytes w32 (take 4 (drop (start_of half + IMAGE_LENGTH_AT) disk))
 
 -- by which halves are open, and their generations
 abbrev pub current_of : Bool → Bool → ℕ → ℕ → Result Half Fault
 current_of false false first second = Err no_image
 current_of true false first second = Ok First
 current_of false true first second = Ok Second
-current_of true true first second = if first == second then Err damaged else Ok (if nat_lt first second then Second else First)
+current_of true true first second =
+    if first == second then Err damaged else Ok (if nat_lt first second then Second else First)
 
 unfoldable pub current : List ℕ → Result Half Fault
-current disk = current_of (is_open disk First) (is_open disk Second) (generation_at disk First) (generation_at disk Second)
+current disk =
+    current_of (is_open disk First) (is_open disk Second) (generation_at disk First)
+    (generation_at disk Second)
 
 abbrev pub and_before : List ℕ → Option (List (List ℕ)) → Option (List (List ℕ))
 and_before payload None = None
 and_before payload (Some payloads) = Some (payload ∷ payloads)
 
--- the payloads up to the first closed gate, or None where an open record leaves no byte for the next gate;
--- `fuel` bounds the number of records, and one for each byte is enough
+-- the payloads up to the first closed gate, or None where an open record leaves no byte for the
+-- next gate; `fuel` bounds the number of records, and one for each byte is enough
 abbrev pub records : ℕ → List ℕ → Option (List (List ℕ))
 records zero bytes = None
 records (suc fuel) [] = None
 records (suc fuel) (gate ∷ rest) =
     let n = from_be_bytes w32 (take 4 rest) in
-    if gate == open_gate then (if nat_lt (4 + n) (length rest) then and_before (take n (drop 4 rest)) (records fuel (drop (4 + n) rest)) else None) else Some []
+    if gate == open_gate
+    then (if nat_lt (4 + n) (length rest)
+    then and_before (take n (drop 4 rest)) (records fuel (drop (4 + n) rest)) else None)
+    else Some []
 
 -- the bytes of a half from a gate on
 abbrev pub bytes_from : List ℕ → Half → ℕ → List ℕ
@@ -79,8 +89,10 @@ with_image image (Some payloads) = Ok (record { image = image; payloads = payloa
 unfoldable pub value_at : List ℕ → Half → Result Value Fault
 value_at disk half =
     let n = image_length_at disk half in
-    let behind = bytes_from disk half (13 + n) in
-    if nat_le n longest_image then with_image (take n (drop (start_of half + 13) disk)) (records (length behind) behind) else Err damaged
+    let behind = bytes_from disk half (IMAGE_AT + n) in
+    if nat_le n longest_image
+    then with_image (take n (drop (start_of half + IMAGE_AT) disk)) (records (length behind) behind)
+    else Err damaged
 
 abbrev pub value_in : List ℕ → Result Half Fault → Result Value Fault
 value_in disk (Ok half) = value_at disk half
@@ -102,7 +114,7 @@ spelled image payloads = to_be_bytes w32 (length image) ++ (image ++ records_of 
 
 -- where the next gate stands in its half
 abbrev pub size_of : Value → ℕ
-size_of value = 13 + length value.image + length (records_of value.payloads)
+size_of value = IMAGE_AT + length value.image + length (records_of value.payloads)
 
 abbrev pub with_payload : Value → List ℕ → Value
 with_payload value payload = record value { payloads = value.payloads ++ payload ∷ [] }
@@ -110,6 +122,11 @@ with_payload value payload = record value { payloads = value.payloads ++ payload
 -- an image, and no payload yet
 abbrev pub image_alone : List ℕ → Value
 image_alone image = record { image = image; payloads = [] }
+
+-- the value, or none where there is none
+abbrev pub value_or_empty : Result Value Fault → Value
+value_or_empty (Ok value) = value
+value_or_empty (Err fault) = image_alone []
 
 -- the disk has the value before a change, or the one after it
 abbrev pub IsBeforeOrAfter : Value → Value → List ℕ → Type 0

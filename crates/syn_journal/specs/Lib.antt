@@ -1,6 +1,5 @@
-pub mod Commit
 pub mod Layout
-pub mod Whole
+pub mod Opened
 pub mod Journal
 pub mod Refusals
-pub mod Opened
+pub mod inner

@@ -6,7 +6,9 @@ use Rattle.syn_model.specs.Refusal.{Refusal, number}
 use Rattle.syn_model.specs.Refusal as why
 use Rattle.syn_journal.specs.Layout.{Fault, no_image, damaged}
 use Rattle.syn_journal.specs.declared.error.JournalError.{JournalError}
-use Rattle.syn_journal.specs.declared.error.JournalError.TheVariants.{Full, JournalFull, Device, Halted, Memory, NoImage, Damaged}
+use Rattle.syn_journal.specs.declared.error.JournalError.TheVariants.{Full, JournalFull, Device}
+use Rattle.syn_journal.specs.declared.error.JournalError.TheVariants.{Halted, Memory, NoImage}
+use Rattle.syn_journal.specs.declared.error.JournalError.TheVariants.{Damaged}
 
 abbrev pub refusal_of : JournalError → Refusal
 refusal_of Full = why.Full
@@ -25,8 +27,8 @@ abbrev pub CountsFailures : JournalError → ℕ → ℕ → Type 0
 CountsFailures Device old new = old < new
 CountsFailures _ old new = new ≡ old
 
--- Where Device is answered, the last of at most so many device calls failed, and none was made where
--- any other refusal is.
+-- Where Device is answered, the last of at most so many device calls failed, and none was made
+-- where any other refusal is.
 abbrev pub MakesIfDevice : JournalError → ℕ → Arms → Arms → Type 0
 MakesIfDevice Device most old new = Breaks most old new
 MakesIfDevice _ most old new = new ≡ old
@@ -68,10 +70,3 @@ IsCheckpointRefusal Full = Unit {0}
 IsCheckpointRefusal Memory = Unit {0}
 IsCheckpointRefusal Device = Unit {0}
 IsCheckpointRefusal _ = ⊥
-
--- of reading a part of the disk, which is damaged where this holds
-abbrev pub IsReadRefusal : JournalError → Type 0 → Type 0
-IsReadRefusal Damaged cause = cause
-IsReadRefusal Memory cause = Unit {0}
-IsReadRefusal Device cause = Unit {0}
-IsReadRefusal _ cause = ⊥

@@ -1,13 +1,20 @@
 //! Finds out what a disk stands for.
-ghost use Rattle.std.specs.Prelude.{◌≡◌, ◌+◌, ◌-◌, ◌<◌, ◌≤◌, ◌≢◌, ◌⊎◌, ◌++◌, length, take, drop, slice_index, Ok, Err, None, IfOk, IfErr, OnOk, MatchResult};
+ghost use Rattle.std.specs.Prelude.{◌≡◌, ◌+◌, ◌-◌, ◌<◌, ◌≤◌, ◌≢◌, ◌⊎◌, ◌++◌, length, take, drop};
+ghost use Rattle.std.specs.Prelude.{slice_index, Ok, Err, None, IfOk, IfErr, OnOk, MatchResult};
 ghost use Rattle.std.specs.Int.{w32, from_be_bytes, to_be_bytes};
 ghost use Rattle.syn_disk.specs.Disk.{Only, CountsFailure};
-ghost use Rattle.syn_journal.specs.Layout.{half_size, damaged, longest_image, open_gate, start_of, other_half, is_open, generation_at, image_length_at, current, current_of, bytes_from, records, value_at, meaning, record_of, records_of};
+ghost use Rattle.syn_journal.specs.Layout.{half_size, damaged, longest_image, open_gate, start_of};
+ghost use Rattle.syn_journal.specs.Layout.{other_half, is_open, generation_at, image_length_at};
+ghost use Rattle.syn_journal.specs.Layout.{current, current_of, bytes_from, records, value_at};
+ghost use Rattle.syn_journal.specs.Layout.{meaning, record_of, records_of};
 ghost use Rattle.syn_journal.specs.Opened.{payloads_of, value_read};
-ghost use Rattle.syn_journal.specs.Refusals.{CountsFailures, ReadsAtLeast, IsOpenRefusal, IsReadRefusal};
+ghost use Rattle.syn_journal.specs.Refusals.{CountsFailures, ReadsAtLeast, IsOpenRefusal};
+ghost use Rattle.syn_journal.specs.inner.Reading.{IsReadRefusal};
 ghost use Rattle.syn_disk.specs.Calls.{MakesReads};
 ghost use Rattle.syn_disk.specs.Stops.{Untouched};
-ghost use Rattle.syn_journal.specs.Whole.{IsWhole};
+ghost use Rattle.syn_journal.specs.inner.Whole.{IsWhole};
+ghost use Rattle.syn_journal.specs.declared.layout.TheConstants.{IMAGE_LENGTH_AT, RECORD_HEADER};
+ghost use Rattle.syn_journal.specs.declared.layout.TheConstants.{RECORD_OVERHEAD};
 
 use crate::JournalError;
 use crate::half::{HALF_SIZE, Half};
@@ -31,8 +38,11 @@ pub struct Contents {
 
 /// Finds out what a disk stands for. It syncs first, so that a stop leaves what is read.
 pub fn read_contents<D: Disk>(alloc: Global, disk: &mut D) -> Result<Contents, JournalError>
-    ensures whole { IfOk result (λ found. IsWhole (D.seen disk.old) found.half found.generation found.gate (value_read found.image found.records)) }
-    ensures other { IfOk result (λ found. found.other_is_open ≡ is_open (D.seen disk.old) (other_half found.half)) }
+    ensures whole { IfOk result
+        (λ found. IsWhole (D.seen disk.old) found.half found.generation found.gate
+        (value_read found.image found.records)) }
+    ensures other { IfOk result
+        (λ found. found.other_is_open ≡ is_open (D.seen disk.old) (other_half found.half)) }
     ensures durable { OnOk result (Only (D.seen disk.new) (D.may_leave disk.new)) }
     ensures refusals { IfErr result (λ refusal. IsOpenRefusal refusal (meaning (D.seen disk.old))) }
     ensures untouched { Untouched D.seen D.may_leave D.moment D.left_since disk.old disk.new }
@@ -64,7 +74,8 @@ struct Header {
 #[tactic(auto, unfolding(crate::specs::Layout::generation_at))]
 fn read_header<D: Disk>(disk: &mut D, half: Half) -> Result<Header, DeviceFailed>
     ensures gate { IfOk result (λ header. header.is_open ≡ is_open (D.seen disk.old) half) }
-    ensures generation { IfOk result (λ header. header.generation ≡ generation_at (D.seen disk.old) half) }
+    ensures generation { IfOk result
+        (λ header. header.generation ≡ generation_at (D.seen disk.old) half) }
     ensures untouched { Untouched D.seen D.may_leave D.moment D.left_since disk.old disk.new }
     ensures count { CountsFailure result (D.failures disk.old) (D.failures disk.new) }
     ensures calls { MakesReads result (D.arms disk.old) (D.arms disk.new) }
@@ -82,7 +93,8 @@ fn read_header<D: Disk>(disk: &mut D, half: Half) -> Result<Header, DeviceFailed
 fn read_current<D: Disk>(disk: &mut D) -> Result<(Half, u64, bool), JournalError>
     ensures half { IfOk result (λ found. current (D.seen disk.old) ≡ Ok found.0) }
     ensures generation { IfOk result (λ found. found.1 ≡ generation_at (D.seen disk.old) found.0) }
-    ensures other { IfOk result (λ found. found.2 ≡ is_open (D.seen disk.old) (other_half found.0)) }
+    ensures other { IfOk result
+        (λ found. found.2 ≡ is_open (D.seen disk.old) (other_half found.0)) }
     ensures refusals { IfErr result (λ refusal. IsOpenRefusal refusal (current (D.seen disk.old))) }
     ensures untouched { Untouched D.seen D.may_leave D.moment D.left_since disk.old disk.new }
     ensures count { MatchResult result (λ _. D.failures disk.new ≡ D.failures disk.old)
@@ -100,9 +112,14 @@ fn read_current<D: Disk>(disk: &mut D) -> Result<(Half, u64, bool), JournalError
 
 // The open one of the greatest generation.
 fn choose(first: Header, second: Header) -> Result<Half, JournalError>
-    ensures half { IfOk result (λ half. current_of first.is_open second.is_open first.generation second.generation ≡ Ok half) }
-    ensures no_device { IfErr result (λ refusal. (refusal ≡ JournalError.NoImage) ⊎ (refusal ≡ JournalError.Damaged)) }
-    ensures refusals { IfErr result (λ refusal. IsOpenRefusal refusal (current_of first.is_open second.is_open first.generation second.generation)) }
+    ensures half { IfOk result
+        (λ half. current_of first.is_open second.is_open first.generation second.generation
+        ≡ Ok half) }
+    ensures no_device { IfErr result
+        (λ refusal. (refusal ≡ JournalError.NoImage) ⊎ (refusal ≡ JournalError.Damaged)) }
+    ensures refusals { IfErr result
+        (λ refusal. IsOpenRefusal refusal
+        (current_of first.is_open second.is_open first.generation second.generation)) }
 {
     match (first.is_open, second.is_open) {
         (false, false) => Err(JournalError::NoImage),
@@ -115,9 +132,13 @@ fn choose(first: Header, second: Header) -> Result<Half, JournalError>
 }
 
 fn read_image<D: Disk>(alloc: Global, disk: &mut D, half: Half) -> Result<Vec<u8>, JournalError>
-    ensures image { IfOk result (λ image. take (4 + length image.items) (drop (start_of half + 9) (D.seen disk.old)) ≡ to_be_bytes w32 (length image.items) ++ image.items) }
+    ensures image { IfOk result
+        (λ image. take (4 + length image.items)
+            (drop (start_of half + IMAGE_LENGTH_AT) (D.seen disk.old))
+        ≡ to_be_bytes w32 (length image.items) ++ image.items) }
     ensures fits { IfOk result (λ image. length image.items ≤ longest_image) }
-    ensures refusals { IfErr result (λ refusal. IsReadRefusal refusal (value_at (D.seen disk.old) half ≡ Err damaged)) }
+    ensures refusals { IfErr result
+        (λ refusal. IsReadRefusal refusal (value_at (D.seen disk.old) half ≡ Err damaged)) }
     ensures untouched { Untouched D.seen D.may_leave D.moment D.left_since disk.old disk.new }
     ensures count { MatchResult result (λ _. D.failures disk.new ≡ D.failures disk.old)
         (λ refusal. CountsFailures refusal (D.failures disk.old) (D.failures disk.new)) }
@@ -140,9 +161,15 @@ fn read_records<D: Disk>(
     requires { first < half_size }
     ensures ordered { IfOk result (λ found. first ≤ found.1) }
     ensures within { IfOk result (λ found. found.1 < half_size) }
-    ensures closed { IfOk result (λ found. slice_index (D.seen disk.old) (start_of half + found.1) ≢ open_gate) }
-    ensures payloads { IfOk result (λ found. take (found.1 - first) (drop (start_of half + first) (D.seen disk.old)) ≡ records_of (payloads_of found.0)) }
-    ensures refusals { IfErr result (λ refusal. IsReadRefusal refusal (let bytes = bytes_from (D.seen disk.old) half first in records (length bytes) bytes ≡ None)) }
+    ensures closed { IfOk result
+        (λ found. slice_index (D.seen disk.old) (start_of half + found.1) ≢ open_gate) }
+    ensures payloads { IfOk result
+        (λ found. take (found.1 - first) (drop (start_of half + first) (D.seen disk.old))
+        ≡ records_of (payloads_of found.0)) }
+    ensures refusals { IfErr result
+        (λ refusal. IsReadRefusal refusal
+        (let bytes = bytes_from (D.seen disk.old) half first in
+        records (length bytes) bytes ≡ None)) }
     ensures untouched { Untouched D.seen D.may_leave D.moment D.left_since disk.old disk.new }
     ensures count { MatchResult result (λ _. D.failures disk.new ≡ D.failures disk.old)
         (λ refusal. CountsFailures refusal (D.failures disk.old) (D.failures disk.new)) }
@@ -167,9 +194,17 @@ fn read_record<D: Disk>(
 ) -> Result<Vec<u8>, JournalError>
     requires within { gate < half_size }
     requires opened { slice_index (D.seen disk.old) (start_of half + gate) ≡ open_gate }
-    ensures fits { IfOk result (λ payload. gate + 6 + length payload.items ≤ half_size) }
-    ensures payload { IfOk result (λ payload. take (5 + length payload.items) (drop (start_of half + gate) (D.seen disk.old)) ≡ record_of payload.items) }
-    ensures refusals { IfErr result (λ refusal. IsReadRefusal refusal (half_size < gate + 6 + from_be_bytes w32 (take 4 (drop (start_of half + gate + 1) (D.seen disk.old))))) }
+    ensures fits { IfOk result
+        (λ payload. gate + RECORD_OVERHEAD + length payload.items ≤ half_size) }
+    ensures payload { IfOk result
+        (λ payload. take (RECORD_HEADER + length payload.items)
+            (drop (start_of half + gate) (D.seen disk.old))
+        ≡ record_of payload.items) }
+    ensures refusals { IfErr result
+        (λ refusal. IsReadRefusal refusal
+        (half_size
+        < gate + RECORD_OVERHEAD + from_be_bytes w32
+        (take 4 (drop (start_of half + gate + 1) (D.seen disk.old))))) }
     ensures untouched { Untouched D.seen D.may_leave D.moment D.left_since disk.old disk.new }
     ensures count { MatchResult result (λ _. D.failures disk.new ≡ D.failures disk.old)
         (λ refusal. CountsFailures refusal (D.failures disk.old) (D.failures disk.new)) }

@@ -1,6 +1,7 @@
 //! The journal, its appends and its checkpoints.
 //!
-//! The disk has two halves of 4 MiB. This is a half, with the offsets of its parts; numbers are big endian:
+//! The disk has two halves of 4 MiB. This is a half, with the offsets of its parts; numbers are big
+//! endian:
 //!
 //! ```text
 //! 0      gate of the half, open at a5
@@ -13,19 +14,24 @@
 //!        gate of the next record, and so on up to one that is closed
 //! ```
 //!
-//! The current half is the open one of the greatest generation. An append writes behind the closed gate and opens it
-//! last; a checkpoint does the same with the gate of the other half.
-ghost use Rattle.std.specs.Prelude.{◌≡◌, ◌↔◌, ◌⊎◌, ◌≤◌, ◌<◌, ◌+◌, ◌-◌, ◌++◌, ◌∷◌, [], ℕ, true, false, List, length, Ok, IfOk, IfErr, OnOk, OnErr, MatchResult, IsErrAnd};
+//! The current half is the open one of the greatest generation. An append writes behind the closed
+//! gate and opens it last; a checkpoint does the same with the gate of the other half.
+ghost use Rattle.std.specs.Prelude.{◌≡◌, ◌↔◌, ◌⊎◌, ◌≤◌, ◌<◌, ◌+◌, ◌-◌, ◌++◌, ◌∷◌, [], ℕ, true};
+ghost use Rattle.std.specs.Prelude.{false, List, length, Ok, IfOk, IfErr, OnOk, OnErr, MatchResult};
+ghost use Rattle.std.specs.Prelude.{IsErrAnd};
 ghost use Rattle.syn_disk.specs.Armed.{armed};
 ghost use Rattle.syn_disk.specs.Arms.{is_stopped};
 ghost use Rattle.syn_disk.specs.Calls.{Makes, MakesAtLeast, MakesUpTo};
 ghost use Rattle.syn_disk.specs.Disk.{CountsFailure, Only, SameOutcomes};
-ghost use Rattle.syn_journal.specs.Layout.{Value, half_size, is_open, longest_image, current, generation_at, meaning, image_alone, with_payload, IsBeforeOrAfter};
+ghost use Rattle.syn_journal.specs.Layout.{Value, half_size, is_open, longest_image, current};
+ghost use Rattle.syn_journal.specs.Layout.{generation_at, meaning, image_alone, with_payload};
+ghost use Rattle.syn_journal.specs.Layout.{IsBeforeOrAfter};
 ghost use Rattle.syn_disk.specs.Stops.{LeavesOnly, Untouched};
 ghost use Rattle.syn_journal.specs.Opened.{value_read};
-ghost use Rattle.syn_journal.specs.Whole.{IsInStep, IsWhole};
-ghost use Rattle.syn_journal.specs.Commit.{body_of_image, body_of_record};
+ghost use Rattle.syn_journal.specs.inner.Whole.{IsInStep, IsWhole};
+ghost use Rattle.syn_journal.specs.inner.Commit.{body_of_image, body_of_record};
 ghost use Rattle.syn_journal.specs.declared.half.Half.TheVariants.{First, Second};
+ghost use Rattle.syn_journal.specs.declared.layout.TheConstants.{IMAGE_AT, RECORD_HEADER};
 
 use crate::JournalError;
 use crate::commit::commit;
@@ -42,8 +48,8 @@ pub use reopen::Reopened;
 
 /// An image and the payloads that were appended since, on a disk.
 ///
-/// The value is kept on the disk alone. A journal that was refused `Device` is halted: each later change is
-/// refused `Halted`, until it is reopened.
+/// The value is kept on the disk alone. A journal that was refused `Device` is halted: each later
+/// change is refused `Halted`, until it is reopened.
 #[derive(Drop)]
 pub struct Journal<D: Disk> {
     disk: D,
@@ -57,7 +63,8 @@ pub struct Journal<D: Disk> {
     other_is_open: bool,
     halted: bool,
     ghost within: { gate < half_size },
-    ghost in_step: { halted ≡ false → IsInStep (D.seen disk) (D.may_leave disk) half generation gate other_is_open },
+    ghost in_step: { halted ≡ false
+        → IsInStep (D.seen disk) (D.may_leave disk) half generation gate other_is_open },
 }
 
 /// A journal that was opened, and what its disk stands for.
@@ -71,28 +78,38 @@ pub struct Opened<D: Disk> {
 }
 
 impl<D: Disk> Journal<D> {
-    ghost use Rattle.syn_journal.specs.Journal.{disk_of, half_of, generation_of, gate_of, room_of, value_of, IsTooLong, IsHalted, Stands};
-    ghost use Rattle.syn_journal.specs.Refusals.{CountsFailures, MakesIfDevice, AfterReads, IsFormatRefusal, IsOpenRefusal, IsAppendRefusal};
+    ghost use Rattle.syn_journal.specs.Journal.{disk_of, half_of, generation_of, gate_of, room_of};
+    ghost use Rattle.syn_journal.specs.Journal.{value_of, IsTooLong, IsHalted, Stands};
+    ghost use Rattle.syn_journal.specs.Refusals.{CountsFailures, MakesIfDevice, AfterReads};
+    ghost use Rattle.syn_journal.specs.Refusals.{IsFormatRefusal, IsOpenRefusal, IsAppendRefusal};
 
-    /// Makes a disk stand for this image and no payloads, whatever it held. A disk that is refused comes back.
+    /// Makes a disk stand for this image and no payloads, whatever it held. A disk that is refused
+    /// comes back.
     ///
-    /// A stop inside the call may leave what the disk stood for before, the image, or nothing: format it again.
-    /// It is refused `Full` where the image is longer than `MAX_IMAGE`, `Memory`, or `Device`.
+    /// A stop inside the call may leave what the disk stood for before, the image, or nothing:
+    /// format it again. It is refused `Full` where the image is longer than `MAX_IMAGE`, `Memory`,
+    /// or `Device`.
     pub fn format(alloc: Global, mut disk: D, image: &[u8]) -> Result<Journal<D>, (JournalError, D)>
         ensures formatted { IfOk result (λ journal. Stands journal (image_alone image.now)) }
         ensures half { IfOk result (λ journal. half_of journal ≡ First) }
         ensures generation { IfOk result (λ journal. generation_of journal ≡ 1) }
 
         // Full comes exactly where the image is too long.
-        ensures too_long { longest_image < length image.now → IsErrAnd result (λ refused. refused.0 ≡ JournalError.Full) }
-        ensures full { IfErr result (λ refused. refused.0 ≡ JournalError.Full → longest_image < length image.now) }
+        ensures too_long { longest_image < length image.now
+            → IsErrAnd result (λ refused. refused.0 ≡ JournalError.Full) }
+        ensures full { IfErr result
+            (λ refused. refused.0 ≡ JournalError.Full → longest_image < length image.now) }
 
         ensures refusals { IfErr result (λ refused. IsFormatRefusal refused.0) }
-        ensures unchanged { IfErr result (λ refused. (refused.0 ≡ JournalError.Device) ⊎ (refused.1 ≡ disk)) }
-        ensures failures { MatchResult result (λ journal. D.failures (disk_of journal) ≡ D.failures disk) (λ refused. CountsFailures refused.0 (D.failures disk) (D.failures refused.1)) }
+        ensures unchanged { IfErr result
+            (λ refused. (refused.0 ≡ JournalError.Device) ⊎ (refused.1 ≡ disk)) }
+        ensures failures { MatchResult result
+            (λ journal. D.failures (disk_of journal) ≡ D.failures disk)
+            (λ refused. CountsFailures refused.0 (D.failures disk) (D.failures refused.1)) }
 
         // Seven device calls where it succeeds. After Device the last that was made failed.
-        ensures calls { MatchResult result (λ journal. Makes 7 (D.arms disk) (D.arms (disk_of journal)))
+        ensures calls { MatchResult result
+            (λ journal. Makes 7 (D.arms disk) (D.arms (disk_of journal)))
             (λ refused. MakesIfDevice refused.0 7 (D.arms disk) (D.arms refused.1)) }
     {
         if image.len() > MAX_IMAGE {
@@ -114,27 +131,36 @@ impl<D: Disk> Journal<D> {
         }
     }
 
-    /// Finds out what a disk stands for. It syncs before it reads, so that each later stop leaves what is
-    /// handed out, and it writes nothing. A disk that is refused comes back.
+    /// Finds out what a disk stands for. It syncs before it reads, so that each later stop leaves
+    /// what is handed out, and it writes nothing. A disk that is refused comes back.
     ///
-    /// It is refused `Device`, `NoImage` where neither half is open, `Damaged` where both are open and of one
-    /// generation or the current one breaks the layout, and `Memory`.
+    /// It is refused `Device`, `NoImage` where neither half is open, `Damaged` where both are open
+    /// and of one generation or the current one breaks the layout, and `Memory`.
     pub fn open(alloc: Global, mut disk: D) -> Result<Opened<D>, (JournalError, D)>
-        ensures opened { IfOk result (λ opened. Stands opened.journal (value_read opened.image opened.records)) }
+        ensures opened { IfOk result
+            (λ opened. Stands opened.journal (value_read opened.image opened.records)) }
         ensures half { IfOk result (λ opened. current (D.seen disk) ≡ Ok (half_of opened.journal)) }
-        ensures generation { IfOk result (λ opened. generation_at (D.seen disk) (half_of opened.journal) ≡ generation_of opened.journal) }
+        ensures generation { IfOk result
+            (λ opened. generation_at (D.seen disk) (half_of opened.journal)
+            ≡ generation_of opened.journal) }
 
         // NoImage and Damaged come only where the disk stands for nothing.
-        ensures refusals { IfErr result (λ refused. IsOpenRefusal refused.0 (meaning (D.seen disk))) }
+        ensures refusals { IfErr result
+            (λ refused. IsOpenRefusal refused.0 (meaning (D.seen disk))) }
 
-        // Reads give the same, and a stop at any moment of the call leaves only what it might have left before.
+        // Reads give the same, and a stop at any moment of the call leaves only what it might have
+        // left before.
         ensures untouched { MatchResult result
-            (λ opened. Untouched D.seen D.may_leave D.moment D.left_since disk (disk_of opened.journal))
+            (λ opened. Untouched D.seen D.may_leave D.moment D.left_since disk
+            (disk_of opened.journal))
             (λ refused. Untouched D.seen D.may_leave D.moment D.left_since disk refused.1) }
-        ensures failures { MatchResult result (λ opened. D.failures (disk_of opened.journal) ≡ D.failures disk) (λ refused. CountsFailures refused.0 (D.failures disk) (D.failures refused.1)) }
+        ensures failures { MatchResult result
+            (λ opened. D.failures (disk_of opened.journal) ≡ D.failures disk)
+            (λ refused. CountsFailures refused.0 (D.failures disk) (D.failures refused.1)) }
 
         // A sync and then reads, whose number is not fixed; after Device the last of them failed.
-        ensures calls { MatchResult result (λ opened. MakesAtLeast 1 (D.arms disk) (D.arms (disk_of opened.journal)))
+        ensures calls { MatchResult result
+            (λ opened. MakesAtLeast 1 (D.arms disk) (D.arms (disk_of opened.journal)))
             (λ refused. AfterReads 1 refused.0 (D.arms disk) (D.arms refused.1)) }
     {
         match read_contents(alloc, &mut disk) {
@@ -184,34 +210,45 @@ impl<D: Disk> Journal<D> {
         self.halted
     }
 
-    /// Adds a payload. At `Ok` it is durable: from then on each stop leaves it. A record takes 5 bytes more than
-    /// its payload.
+    /// Adds a payload. At `Ok` it is durable: from then on each stop leaves it. A record takes 5
+    /// bytes more than its payload.
     ///
-    /// It is refused `Halted`, `JournalFull` where the record does not fit in the current half, `Memory`, and
-    /// `Device`, after which the journal is halted.
+    /// It is refused `Halted`, `JournalFull` where the record does not fit in the current half,
+    /// `Memory`, and `Device`, after which the journal is halted.
     pub fn append(&mut self, alloc: Global, payload: &[u8]) -> Result<(), JournalError>
-        ensures acknowledged { (value : Value) → Stands self.old value → OnOk result (Stands self.new (with_payload value payload.now)) }
+        ensures acknowledged { (value : Value) → Stands self.old value
+            → OnOk result (Stands self.new (with_payload value payload.now)) }
 
         // A stop at any moment of the call leaves the value before it, or that with the payload.
         ensures any_moment { (value : Value) → Stands self.old value
-            → LeavesOnly D.moment D.left_since (disk_of self.old) (disk_of self.new) (IsBeforeOrAfter value (with_payload value payload.now)) }
+            → LeavesOnly D.moment D.left_since (disk_of self.old) (disk_of self.new)
+            (IsBeforeOrAfter value (with_payload value payload.now)) }
 
         // When each refusal comes, and what it leaves.
         ensures halted { (result ≡ Err JournalError.Halted) ↔ IsHalted self.old }
-        ensures full { (result ≡ Err JournalError.JournalFull) ↔ (¬ IsHalted self.old × IsTooLong self.old (length payload.now)) }
+        ensures full { (result ≡ Err JournalError.JournalFull)
+            ↔ (¬ IsHalted self.old × IsTooLong self.old (length payload.now)) }
         ensures halts { result ≡ Err JournalError.Device → IsHalted self.new }
         ensures refusals { IfErr result IsAppendRefusal }
-        ensures unchanged { IfErr result (λ refusal. (refusal ≡ JournalError.Device) ⊎ (self.new ≡ self.old)) }
-        ensures failures { MatchResult result (λ _. D.failures (disk_of self.new) ≡ D.failures (disk_of self.old)) (λ refusal. CountsFailures refusal (D.failures (disk_of self.old)) (D.failures (disk_of self.new))) }
+        ensures unchanged { IfErr result
+            (λ refusal. (refusal ≡ JournalError.Device) ⊎ (self.new ≡ self.old)) }
+        ensures failures { MatchResult result
+            (λ _. D.failures (disk_of self.new) ≡ D.failures (disk_of self.old))
+            (λ refusal. CountsFailures refusal (D.failures (disk_of self.old))
+            (D.failures (disk_of self.new))) }
 
         // Four device calls where it succeeds. After Device the last that was made failed.
-        ensures calls { MatchResult result (λ _. Makes 4 (D.arms (disk_of self.old)) (D.arms (disk_of self.new)))
-            (λ refusal. MakesIfDevice refusal 4 (D.arms (disk_of self.old)) (D.arms (disk_of self.new))) }
+        ensures calls { MatchResult result
+            (λ _. Makes 4 (D.arms (disk_of self.old)) (D.arms (disk_of self.new)))
+            (λ refusal. MakesIfDevice refusal 4 (D.arms (disk_of self.old))
+            (D.arms (disk_of self.new))) }
 
         // The readings, also after a refusal.
         ensures half { half_of self.new ≡ half_of self.old }
         ensures generation { generation_of self.new ≡ generation_of self.old }
-        ensures gate { MatchResult result (λ _. gate_of self.new ≡ gate_of self.old + 5 + length payload.now) (λ _. gate_of self.new ≡ gate_of self.old) }
+        ensures gate { MatchResult result
+            (λ _. gate_of self.new ≡ gate_of self.old + RECORD_HEADER + length payload.now)
+            (λ _. gate_of self.new ≡ gate_of self.old) }
     {
         if self.halted {
             return Err(JournalError::Halted);
@@ -241,9 +278,12 @@ impl<D: Limit> Journal<D> {
 
         // It changes nothing that a read gives or a stop leaves.
         ensures seen { D.Disk.seen (disk_of self.new) ≡ D.Disk.seen (disk_of self.old) }
-        ensures stop { SameOutcomes (D.Disk.may_leave (disk_of self.old)) (D.Disk.may_leave (disk_of self.new)) }
+        ensures stop { SameOutcomes (D.Disk.may_leave (disk_of self.old))
+            (D.Disk.may_leave (disk_of self.new)) }
         ensures moment { D.Disk.moment (disk_of self.new) ≡ D.Disk.moment (disk_of self.old) }
-        ensures past { (t : ℕ) → SameOutcomes (D.Disk.left_since (disk_of self.old) t) (D.Disk.left_since (disk_of self.new) t) }
+        ensures past { (t : ℕ)
+            → SameOutcomes (D.Disk.left_since (disk_of self.old) t)
+            (D.Disk.left_since (disk_of self.new) t) }
         ensures failures { D.Disk.failures (disk_of self.new) ≡ D.Disk.failures (disk_of self.old) }
         ensures stands { (value : Value) → Stands self.old value → Stands self.new value }
         ensures readings { SameReadings self.old self.new }
@@ -296,8 +336,10 @@ fn close<D: Disk>(disk: &mut D, half: Half) -> Result<(), DeviceFailed>
 // Closes both halves, and commits the body of an image to the first.
 fn write_image<D: Disk>(disk: &mut D, body: &[u8]) -> Result<(), DeviceFailed>
     requires { length body.now < half_size }
-    ensures written { (image : List ℕ) → length image ≤ longest_image → body.now ≡ body_of_image 1 image
-        → OnOk result (IsWhole (D.seen disk.new) First 1 (13 + length image) (image_alone image)) }
+    ensures written { (image : List ℕ) → length image ≤ longest_image
+        → body.now ≡ body_of_image 1 image
+        → OnOk result
+            (IsWhole (D.seen disk.new) First 1 (IMAGE_AT + length image) (image_alone image)) }
     ensures other { OnOk result (is_open (D.seen disk.new) Second ≡ false) }
     ensures durable { OnOk result (Only (D.seen disk.new) (D.may_leave disk.new)) }
     ensures count { CountsFailure result (D.failures disk.old) (D.failures disk.new) }

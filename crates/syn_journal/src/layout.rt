@@ -16,6 +16,6 @@ pub const RECORD_HEADER: usize = 5;
 /// What a record takes beside its payload: its header, and the gate of the next record.
 pub const RECORD_OVERHEAD: usize = 6;
 
-/// The length of the longest image. With it the first gate of a record is the last byte of its half, and no record
-/// fits.
+/// The length of the longest image. With it the first gate of a record is the last byte of its
+/// half, and no record fits.
 pub const MAX_IMAGE: usize = HALF_SIZE - IMAGE_AT - 1;

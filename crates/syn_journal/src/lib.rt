@@ -1,4 +1,5 @@
-//! A journal on a disk: an image and the payloads appended since, each durable before its append answers Ok.
+//! A journal on a disk: an image and the payloads appended since, each durable before its append
+//! answers Ok.
 #![tactic(auto)]
 
 mod commit;

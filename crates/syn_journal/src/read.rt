@@ -1,10 +1,13 @@
-//! The reads of an opening. They write nothing, so a stop meanwhile leaves what it might have left before.
-ghost use Rattle.std.specs.Prelude.{◌≡◌, ◌+◌, ◌≤◌, length, take, drop, slice_index, IfOk, IfErr, MatchResult};
+//! The reads of an opening. They write nothing, so a stop meanwhile leaves what it might have left
+//! before.
+ghost use Rattle.std.specs.Prelude.{◌≡◌, ◌+◌, ◌≤◌, length, take, drop, slice_index, IfOk, IfErr};
+ghost use Rattle.std.specs.Prelude.{MatchResult};
 ghost use Rattle.std.specs.Int.{w32, w64, from_be_bytes, to_be_bytes};
 ghost use Rattle.syn_disk.specs.Disk.{CountsFailure};
 ghost use Rattle.syn_disk.specs.Calls.{MakesReads};
 ghost use Rattle.syn_disk.specs.Stops.{Untouched};
-ghost use Rattle.syn_journal.specs.Refusals.{CountsFailures, ReadsAtLeast, IsReadRefusal};
+ghost use Rattle.syn_journal.specs.Refusals.{CountsFailures, ReadsAtLeast};
+ghost use Rattle.syn_journal.specs.inner.Reading.{IsReadRefusal};
 
 use crate::JournalError;
 use std::alloc::Global;

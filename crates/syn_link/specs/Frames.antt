@@ -1,5 +1,6 @@
 -- Frames: a length of four bytes, the highest first, and a body of so many bytes.
-use Rattle.std.specs.Prelude.{◌≡◌, ◌≤◌, ◌<◌, ◌^◌, ℕ, List, ◌++◌, length, flat_map, Option, Some, None, All}
+use Rattle.std.specs.Prelude.{◌≡◌, ◌≤◌, ◌<◌, ◌^◌, ℕ, List, ◌++◌, length, flat_map, Option, Some}
+use Rattle.std.specs.Prelude.{None, All}
 use Rattle.std.specs.Int.{w32, to_be_bytes}
 use Rattle.std.specs.Io.KnownBytes.{Appends}
 use Rattle.syn_wire.specs.Reads.{BeginsWith}
@@ -35,10 +36,11 @@ IsFront bytes None rest =
 
 -- a writer has a beginning of the bytes more
 abbrev pub AppendsSome : Option Bytes → Option Bytes → Bytes → Type 0
-AppendsSome old new bytes = (done : Bytes) × (rest : Bytes) × (bytes ≡ done ++ rest) × Appends old new done
+AppendsSome old new bytes =
+    (done : Bytes) × (rest : Bytes) × (bytes ≡ done ++ rest) × Appends old new done
 
--- A stream is read in one way, wherever it is cut: the same bytes are the same bodies, and the same rest
--- in front of which no whole frame stands
+-- A stream is read in one way, wherever it is cut: the same bytes are the same bodies, and the same
+-- rest in front of which no whole frame stands
 abbrev pub AreBodies : List Bytes → Bytes → Bytes → Type 0
 AreBodies bodies rest bytes = All IsBody bodies × (bytes ≡ flat_map frame_of bodies ++ rest)
 
@@ -47,5 +49,6 @@ HasNoFrame rest = (body : Bytes) (more : Bytes) → ¬ BeginsWith IsBody frame_o
 
 abbrev pub CutsDoNotMatter : Type 0
 CutsDoNotMatter = (bodies others : List Bytes) (rest other bytes : Bytes) →
-    AreBodies bodies rest bytes → HasNoFrame rest → AreBodies others other bytes → HasNoFrame other →
+    AreBodies bodies rest bytes → HasNoFrame rest → AreBodies others other bytes
+    → HasNoFrame other →
     (bodies ≡ others) × (rest ≡ other)

@@ -1,5 +1,6 @@
 //! Bodies out of a stream that may be cut anywhere.
-ghost use Rattle.std.specs.Prelude.{◌≡◌, ◌≢◌, ◌↔◌, ◌⊎◌, ◌≤◌, ◌++◌, [], ℕ, List, Err, drop, IfOk, IfErr, OnOk, OnErr, MatchResult, option_map, vec_len};
+ghost use Rattle.std.specs.Prelude.{◌≡◌, ◌≢◌, ◌↔◌, ◌⊎◌, ◌≤◌, ◌++◌, [], ℕ, List, Err, drop, IfOk};
+ghost use Rattle.std.specs.Prelude.{IfErr, OnOk, OnErr, MatchResult, option_map, vec_len};
 ghost use Rattle.syn_link.specs.Frames.{IsFront, ClaimsNothing, ClaimsTooMuch};
 
 use crate::error::LinkError;
@@ -59,10 +60,12 @@ impl Framer {
 
     /// Hands out the body of the first frame; none where no whole frame came yet.
     ///
-    /// Refused 21 where the stream goes on with a length of 0, and 22 where with one above `MAX_BODY`: such a fault stays, and
-    /// is answered again each time. Refused 11 where memory is refused. It is then as it was.
+    /// Refused 21 where the stream goes on with a length of 0, and 22 where with one above
+    /// `MAX_BODY`: such a fault stays, and is answered again each time. Refused 11 where memory is
+    /// refused. It is then as it was.
     pub fn next(&mut self, alloc: Global) -> Result<Option<Vec<u8>>, LinkError>
-        ensures front { IfOk result (λ found. IsFront self.old (option_map (λ body. body.items) found) self.new) }
+        ensures front { IfOk result
+            (λ found. IsFront self.old (option_map (λ body. body.items) found) self.new) }
         ensures unchanged { OnErr result (self.new ≡ self.old) }
         ensures bad_frame { (result ≡ Err LinkError.BadFrame) ↔ ClaimsNothing self.old }
         ensures too_large { (result ≡ Err LinkError.TooLarge) ↔ ClaimsTooMuch self.old }

@@ -1,5 +1,6 @@
 //! One frame.
-ghost use Rattle.std.specs.Prelude.{◌≡◌, ◌≢◌, ◌↔◌, ◌⊎◌, ◌+◌, ◌<◌, ◌≤◌, Err, length, drop, IfOk, IfErr, IfSome, IfNone, OnOk, Some, None};
+ghost use Rattle.std.specs.Prelude.{◌≡◌, ◌≢◌, ◌↔◌, ◌⊎◌, ◌+◌, ◌<◌, ◌≤◌, Err, length, drop, IfOk};
+ghost use Rattle.std.specs.Prelude.{IfErr, IfSome, IfNone, OnOk, Some, None};
 ghost use Rattle.std.specs.Int.{w32, to_be_bytes};
 ghost use Rattle.syn_link.specs.declared.frames.TheConstants.{MAX_BODY};
 ghost use Rattle.syn_link.specs.Frames.{IsBody, IsFront, ClaimsNothing, ClaimsTooMuch, frame_of};
@@ -12,8 +13,8 @@ use syn_wire::read_u32;
 /// The most bytes of a body.
 pub const MAX_BODY: usize = 65_536;
 
-/// The body with its length before it. Refused 21 where it is empty, 22 where it has more than `MAX_BODY` bytes, and 11
-/// where memory is refused.
+/// The body with its length before it. Refused 21 where it is empty, 22 where it has more than
+/// `MAX_BODY` bytes, and 11 where memory is refused.
 pub fn frame(alloc: Global, body: &[u8]) -> Result<Vec<u8>, LinkError>
     ensures framed { IfOk result (λ framed. framed.items ≡ frame_of body.now) }
     ensures body { OnOk result (IsBody body.now) }
@@ -54,8 +55,8 @@ pub(crate) fn check_length(length: usize) -> Result<(), LinkError>
     Ok(())
 }
 
-/// The body of the frame that the bytes begin with; none where no whole frame is there yet. Refused 21 and 22 where they
-/// begin with a length that no body has.
+/// The body of the frame that the bytes begin with; none where no whole frame is there yet. Refused
+/// 21 and 22 where they begin with a length that no body has.
 pub(crate) fn first_body(bytes: &[u8]) -> Result<Option<&[u8]>, LinkError>
     ensures found { IfOk result (λ found. IfSome found (λ body.
         IsFront bytes.now (Some body.now) (drop (4 + length body.now) bytes.now))) }

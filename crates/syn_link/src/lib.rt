@@ -1,7 +1,8 @@
-//! Frames on a byte stream: what two machines say to each other comes in bodies, each behind its length.
+//! Frames on a byte stream: what two machines say to each other comes in bodies, each behind its
+//! length.
 //!
-//! A frame is a length of four bytes, the highest first, and a body of 1 to 65,536 bytes. A stream may be cut anywhere
-//! on its way: a `Framer` is fed whatever came, and hands out the whole bodies.
+//! A frame is a length of four bytes, the highest first, and a body of 1 to 65,536 bytes. A stream
+//! may be cut anywhere on its way: a `Framer` is fed whatever came, and hands out the whole bodies.
 #![tactic(auto)]
 
 ghost use Rattle.syn_link.specs.Frames.{CutsDoNotMatter};

@@ -1,5 +1,6 @@
 //! Frames over a reader and a writer.
-ghost use Rattle.std.specs.Prelude.{◌≡◌, ◌≢◌, ◌↔◌, ◌⊎◌, ◌<◌, ◌≤◌, ◌++◌, ℕ, List, Ok, Err, length, take, IfOk, IfErr, OnOk, OnErr};
+ghost use Rattle.std.specs.Prelude.{◌≡◌, ◌≢◌, ◌↔◌, ◌⊎◌, ◌<◌, ◌≤◌, ◌++◌, ℕ, List, Ok, Err, length};
+ghost use Rattle.std.specs.Prelude.{take, IfOk, IfErr, OnOk, OnErr};
 ghost use Rattle.std.specs.Io.KnownBytes.{Appends, Consumes, IsAtEnd, Keeps};
 ghost use Rattle.syn_link.specs.declared.frames.TheConstants.{MAX_BODY};
 ghost use Rattle.syn_link.specs.Frames.{IsBody, frame_of, AppendsSome};
@@ -12,11 +13,13 @@ use std::io::{ErrorKind, Read, Write};
 /// The most bytes that one call reads.
 const MOST_READ: usize = 16_384;
 
-/// Writes the body as a frame, and flushes. Refused 21 and 22 as `frame`, with nothing written, and 9 where a write
-/// fails: a beginning of the frame is then written. It takes no memory.
+/// Writes the body as a frame, and flushes. Refused 21 and 22 as `frame`, with nothing written, and
+/// 9 where a write fails: a beginning of the frame is then written. It takes no memory.
 pub fn write_frame<W: Write>(writer: &mut W, body: &[u8]) -> Result<(), LinkError>
-    ensures written { OnOk result (Appends (W.contents writer.old) (W.contents writer.new) (frame_of body.now)) }
-    ensures beginning { OnErr result (AppendsSome (W.contents writer.old) (W.contents writer.new) (frame_of body.now)) }
+    ensures written { OnOk result
+        (Appends (W.contents writer.old) (W.contents writer.new) (frame_of body.now)) }
+    ensures beginning { OnErr result
+        (AppendsSome (W.contents writer.old) (W.contents writer.new) (frame_of body.now)) }
     ensures nothing { IfErr result (λ e. (e ≡ LinkError.Device)
         ⊎ Keeps (W.contents writer.old) (W.contents writer.new)) }
     ensures bad_frame { (result ≡ Err LinkError.BadFrame) ↔ (length body.now ≡ 0) }
@@ -34,8 +37,10 @@ pub fn write_frame<W: Write>(writer: &mut W, body: &[u8]) -> Result<(), LinkErro
 
 /// Writes all of the bytes, as often as the writer takes some of them.
 fn write_whole<W: Write>(writer: &mut W, bytes: &[u8]) -> Result<(), LinkError>
-    ensures written { OnOk result (Appends (W.contents writer.old) (W.contents writer.new) bytes.now) }
-    ensures beginning { OnErr result (AppendsSome (W.contents writer.old) (W.contents writer.new) bytes.now) }
+    ensures written { OnOk result
+        (Appends (W.contents writer.old) (W.contents writer.new) bytes.now) }
+    ensures beginning { OnErr result
+        (AppendsSome (W.contents writer.old) (W.contents writer.new) bytes.now) }
     ensures refusals { IfErr result (λ e. e ≡ LinkError.Device) }
 {
     let mut rest = bytes;
@@ -49,10 +54,12 @@ fn write_whole<W: Write>(writer: &mut W, bytes: &[u8]) -> Result<(), LinkError>
     Err(LinkError::Device)
 }
 
-/// Writes as many of the bytes as the writer takes at once, and answers how many; none where it was interrupted.
+/// Writes as many of the bytes as the writer takes at once, and answers how many; none where it was
+/// interrupted.
 fn write_once<W: Write>(writer: &mut W, bytes: &[u8]) -> Result<usize, LinkError>
     ensures count { IfOk result (λ n. n ≤ length bytes.now) }
-    ensures written { IfOk result (λ n. Appends (W.contents writer.old) (W.contents writer.new) (take n bytes.now)) }
+    ensures written { IfOk result
+        (λ n. Appends (W.contents writer.old) (W.contents writer.new) (take n bytes.now)) }
     ensures kept { OnErr result (Keeps (W.contents writer.old) (W.contents writer.new)) }
     ensures refusals { IfErr result (λ e. e ≡ LinkError.Device) }
 {
@@ -64,10 +71,11 @@ fn write_once<W: Write>(writer: &mut W, bytes: &[u8]) -> Result<usize, LinkError
     }
 }
 
-/// Feeds what one read gives, and answers how many bytes these are: none only at the end of the stream.
-/// Refused 9 where the read fails, and 11 where memory is refused; nothing is fed then.
+/// Feeds what one read gives, and answers how many bytes these are: none only at the end of the
+/// stream. Refused 9 where the read fails, and 11 where memory is refused; nothing is fed then.
 pub fn read_some<R: Read>(reader: &mut R, framer: &mut Framer) -> Result<usize, LinkError>
-    ensures fed { IfOk result (λ count. (bytes : List ℕ) × (length bytes ≡ count) × (framer.new ≡ framer.old ++ bytes)
+    ensures fed { IfOk result
+        (λ count. (bytes : List ℕ) × (length bytes ≡ count) × (framer.new ≡ framer.old ++ bytes)
         × Consumes (R.remaining reader.old) (R.remaining reader.new) bytes) }
     ensures end { result ≡ Ok 0 → IsAtEnd (R.remaining reader.new) }
     ensures unchanged { OnErr result (framer.new ≡ framer.old) }

@@ -5,7 +5,7 @@ ghost use Rattle.syn_tree.specs.Lists.{FitsNowhere};
 ghost use Rattle.syn_tree.specs.Nodes.{node_tree};
 
 use crate::entries::Entries;
-use crate::list::LONGEST_FILE;
+use crate::measures::LONGEST_FILE;
 
 /// What can stand at a path: a file, or a directory with what is below it.
 #[derive(Debug, Drop)]

@@ -22,17 +22,20 @@ ghost use Rattle.syn_tree.specs.Refusals.{refusal_of, refusal_in};
 
 use crate::change::Change;
 use crate::content::{Content, Found};
-use crate::copies::{below, children, placed};
+use crate::copies::{below, children};
 use crate::edit::Edit;
 use crate::entries::Entries;
 use crate::entry::Entry;
 use crate::error::TreeError;
 use crate::lawful::are_bytes;
 use crate::list::{
-    LONGEST_FILE, LONGEST_SPELLING, MOST_CHILDREN, count_children, count_children_at, find,
-    is_directory, measured, name_spelled, parent_names, part_at, part_below, spelled, splice,
+    count_children, count_children_at, is_directory, parent_names, part_at, part_below,
+};
+use crate::measures::{
+    LONGEST_FILE, LONGEST_SPELLING, MOST_CHILDREN, find, measured, name_spelled, spelled, splice,
 };
 use crate::node::Node;
+use crate::placing::placed;
 use std::alloc::Global;
 use std::marker::Model;
 use syn_path::{Name, Path};

@@ -24,4 +24,11 @@ pub length-kept : (part : Part) → length (kept_of part) ≡ HALF_SIZE
 length-kept part = length-padded 0 part.kept.items HALF_SIZE part.fits
 
 pub length-bytes : (image : Image) → length (bytes_of image) ≡ DISK_SIZE
-length-bytes image = omega (arith, length-append (kept_of image.low) (kept_of image.high), length-kept image.low, length-kept image.high)
+length-bytes image =
+    omega (
+      arith,
+      length-append (kept_of image.low)
+          (kept_of image.high),
+      length-kept image.low,
+      length-kept image.high,
+    )

@@ -7,7 +7,12 @@ use Rattle.syn_disk.specs.Moments.{LeftSince}
 module _ {S : Type 0} (may_leave : S → List ℕ → Type 0) (past : List S) (now : S) (c : List ℕ) where
   -- this moment counts
   pub now_counts : (t : ℕ) → t ≤ length past → may_leave now c → LeftSince may_leave past now t c
-  now_counts t earlier left = (length past, earlier, subst (λ s. may_leave s c) (sym (get_or_past past (length past) now (omega arith))) left)
+  now_counts t earlier left = (
+    length past,
+    earlier,
+    subst
+        (λ s. may_leave s c) (sym (get_or_past past (length past) now (omega arith))) left,
+  )
 
   -- since this moment there is no other
   pub only_now : LeftSince may_leave past now (length past) c → may_leave now c

@@ -13,16 +13,17 @@ pub enum Access {
 
 /// An open file of the operating system.
 pub trait HostFile: FileExt + OpenFile + Drop {
-    /// Takes the system's lock on the file: to write it alone, and to read it beside others that read. It
-    /// does not wait. The lock is held until the file is closed.
+    /// Takes the system's lock on the file: to write it alone, and to read it beside others that
+    /// read. It does not wait. The lock is held until the file and each clone of it are closed;
+    /// taken again through the file, it is kept.
     fn try_lock(&self, access: Access) -> Result<(), TryLockError>;
 
-    /// Where the next bytes that the file keeps begin, from `from` on; none where it keeps no more. What it does not
-    /// keep reads as zeros.
+    /// Where the next bytes that the file keeps begin, from `from` on; none where it keeps no more.
+    /// What it does not keep reads as zeros.
     fn next_kept(&self, from: u64) -> io::Result<Option<u64>>;
 
-    /// Lets the system forget what it has in memory of the file and takes for synced. After a sync that failed
-    /// in an earlier process that may be other than what the device has.
+    /// Lets the system forget what it has in memory of the file and takes for synced. After a sync
+    /// that failed in an earlier process that may be other than what the device has.
     fn forget(&self);
 }
 

@@ -1,5 +1,6 @@
 //! A file of the operating system, with its bytes in memory.
-ghost use Rattle.std.specs.Prelude.{◌≡◌, ◌≤◌, ◌<◌, ◌+◌, [], ◌∷◌, true, false, not, refl, ℕ, List, length, IfOk, IsOk};
+ghost use Rattle.std.specs.Prelude.{◌≡◌, ◌≤◌, ◌<◌, ◌+◌, [], ◌∷◌, true, false, not, refl, ℕ, List};
+ghost use Rattle.std.specs.Prelude.{length, IfOk, IsOk};
 ghost use Rattle.syn_disk.specs.Moments.{MayLeave, LeftSince};
 ghost use Rattle.syn_disk.specs.inner.Extent.{is_in_some};
 ghost use Rattle.syn_disk.specs.inner.Mirror.{FileMayLeave, bytes_of, length-bytes};
@@ -20,9 +21,9 @@ const CHUNK: usize = 16_384;
 
 /// A file of the operating system, with its bytes in memory. A read takes them from there.
 ///
-/// No contract can say what the system's file holds. One sentence is taken as given: as long as no write and no sync
-/// failed, it holds what is in memory, a stop spoils no byte but those written since the last sync, and a sync that
-/// succeeds makes it durable.
+/// No contract can say what the system's file holds. One sentence is taken as given: as long as no
+/// write and no sync failed, it holds what is in memory, a stop spoils no byte but those written
+/// since the last sync, and a sync that succeeds makes it durable.
 #[derive(Drop)]
 pub struct MirroredFile<H> {
     file: H,
@@ -39,25 +40,25 @@ impl<H: HostFile> MirroredFile<H> {
 
     /// Takes the system's lock on a file that was opened, and reads what the file keeps.
     ///
-    /// It is refused 12 where another process has the lock, 9 where the file is of another length than a disk, or
-    /// cannot be locked or read, and 11 for want of memory.
+    /// It is refused 12 where another process has the lock, 9 where the file is of another length
+    /// than a disk, or cannot be locked or read, and 11 for want of memory.
     pub fn open(alloc: Global, file: H, access: Access) -> Result<MirroredFile<H>, OpenError>
         ensures sound { IfOk result (λ file. has_failed_of file ≡ false) }
     {
         match file.try_lock(access) {
             Ok(()) => {}
             Err(TryLockError::WouldBlock) => return Err(OpenError::Busy),
-            Err(TryLockError::Error(_)) => return Err(OpenError::Device),
+            Err(TryLockError::Error(error)) => return Err(OpenError::from(error)),
         }
-        match file.metadata() {
-            Ok(metadata) if metadata.len() == DISK_SIZE as u64 => {}
-            _ => return Err(OpenError::Device),
+        let length = file.metadata()?.len();
+        if length != DISK_SIZE as u64 {
+            return Err(OpenError::Length(length));
         }
         if access == Access::Write {
             file.forget();
         }
-        let mut image = Image::new(alloc).map_err(|_| OpenError::Memory)?;
-        load(&file, &mut image).map_err(|_| OpenError::Device)?;
+        let mut image = Image::new(alloc)?;
+        load(&file, &mut image)?;
         let mut unsynced = History::new();
         unsynced.note(&0, &DISK_SIZE);
         Ok(MirroredFile {

@@ -1,15 +1,19 @@
 //! A disk over another, which refuses calls when it is told to.
-ghost use Rattle.std.specs.Prelude.{◌≡◌, ◌+◌, ◌-◌, ◌<◌, ◌≤◌, ◌==◌, true, false, ℕ, Bool, IsErr, IsOk, OnOk, OnErr, MatchResult, Option, Some, None, List, length, take, drop};
+ghost use Rattle.std.specs.Prelude.{◌≡◌, ◌+◌, ◌-◌, ◌<◌, ◌≤◌, ◌==◌, true, false, ℕ, Bool, IsErr};
+ghost use Rattle.std.specs.Prelude.{IsOk, OnOk, OnErr, MatchResult, Option, Some, None, List};
+ghost use Rattle.std.specs.Prelude.{length, take, drop};
 ghost use Rattle.syn_disk.specs.Armed.{armed};
 ghost use Rattle.syn_disk.specs.Arms.{Arms, after_call, is_refused, is_stopped, no_arms};
-ghost use Rattle.syn_disk.specs.Disk.{overwritten, Torn, Follows, NothingNew, Only, Elapses, CountsFailure};
+ghost use Rattle.syn_disk.specs.Disk.{overwritten, Torn, Follows, NothingNew, Only, Elapses};
+ghost use Rattle.syn_disk.specs.Disk.{CountsFailure};
 
 use super::limit::{Arm, Limit};
 use super::restart::Restart;
 use crate::history::Tally;
 use crate::{DeviceFailed, Disk};
 
-/// Passes all calls on until it is armed. A call that it refuses is not made, and counts as a call and as a failure.
+/// Passes all calls on until it is armed. A call that it refuses is not made, and counts as a call
+/// and as a failure.
 #[derive(Drop)]
 pub struct Cut<D: Disk> {
     inner: D,
@@ -46,7 +50,8 @@ impl<D: Disk> Cut<D> {
     fn admit(&mut self) -> Result<(), DeviceFailed>
         ensures disk { disk_of self.new ≡ disk_of self.old }
         ensures count { MatchResult result
-            (λ _. refused_of self.new ≡ refused_of self.old) (λ _. refused_of self.new ≡ refused_of self.old + 1) }
+            (λ _. refused_of self.new ≡ refused_of self.old)
+            (λ _. refused_of self.new ≡ refused_of self.old + 1) }
         ensures refused { is_refused (arms_of self.old) ≡ true → IsErr result }
         ensures passed { is_refused (arms_of self.old) ≡ false → IsOk result }
         ensures allowed { OnOk result (is_refused (arms_of self.old) ≡ false) }
@@ -93,18 +98,24 @@ impl<D: Disk> Disk for Cut<D> {
 
     fn read(&mut self, at: usize, into: &mut [u8]) -> Result<(), DeviceFailed>
         requires { at + length into.old ≤ DISK_SIZE }
-        ensures bytes { OnOk result (into.new ≡ take (length into.old) (drop at (D.Disk.seen (disk_of self.old)))) }
+        ensures bytes { OnOk result
+            (into.new ≡ take (length into.old) (drop at (D.Disk.seen (disk_of self.old)))) }
         ensures seen { D.Disk.seen (disk_of self.new) ≡ D.Disk.seen (disk_of self.old) }
-        ensures stop { NothingNew (D.Disk.may_leave (disk_of self.old)) (D.Disk.may_leave (disk_of self.new)) }
+        ensures stop { NothingNew (D.Disk.may_leave (disk_of self.old))
+            (D.Disk.may_leave (disk_of self.new)) }
         ensures time { let old = disk_of self.old in let new = disk_of self.new in
-            Elapses (D.Disk.moment old) (D.Disk.moment new) (D.Disk.left_since old) (D.Disk.left_since new) (D.Disk.may_leave new) }
-        ensures count { CountsFailure result (failures_of D.Disk.failures self.old) (failures_of D.Disk.failures self.new) }
+            Elapses (D.Disk.moment old) (D.Disk.moment new) (D.Disk.left_since old)
+            (D.Disk.left_since new) (D.Disk.may_leave new) }
+        ensures count { CountsFailure result (failures_of D.Disk.failures self.old)
+            (failures_of D.Disk.failures self.new) }
 
         // The disk below is called exactly where the arms let it.
         ensures refused { is_refused (arms_of self.old) ≡ true
-            → IsErr result × (disk_of self.new ≡ disk_of self.old) × (refused_of self.new ≡ refused_of self.old + 1) }
+            → IsErr result × (disk_of self.new ≡ disk_of self.old)
+            × (refused_of self.new ≡ refused_of self.old + 1) }
         ensures passed { is_refused (arms_of self.old) ≡ false
-            → CountsFailure result (D.Disk.failures (disk_of self.old)) (D.Disk.failures (disk_of self.new)) }
+            → CountsFailure result (D.Disk.failures (disk_of self.old))
+            (D.Disk.failures (disk_of self.new)) }
         ensures arms { arms_of self.new ≡ after_call (arms_of self.old) }
         ensures allowed { OnOk result (is_refused (arms_of self.old) ≡ false) }
     {
@@ -115,20 +126,26 @@ impl<D: Disk> Disk for Cut<D> {
     fn write(&mut self, at: usize, bytes: &[u8]) -> Result<(), DeviceFailed>
         requires { at + length bytes.now ≤ DISK_SIZE }
         ensures written { OnOk result
-            (D.Disk.seen (disk_of self.new) ≡ overwritten (D.Disk.seen (disk_of self.old)) at bytes.now) }
+            (D.Disk.seen (disk_of self.new)
+            ≡ overwritten (D.Disk.seen (disk_of self.old)) at bytes.now) }
         ensures torn { OnErr result
-            (Torn at (length bytes.now) (D.Disk.seen (disk_of self.old)) (D.Disk.seen (disk_of self.new))) }
+            (Torn at (length bytes.now) (D.Disk.seen (disk_of self.old))
+            (D.Disk.seen (disk_of self.new))) }
         ensures stop { Follows (Torn at (length bytes.now))
             (D.Disk.may_leave (disk_of self.old)) (D.Disk.may_leave (disk_of self.new)) }
         ensures time { let old = disk_of self.old in let new = disk_of self.new in
-            Elapses (D.Disk.moment old) (D.Disk.moment new) (D.Disk.left_since old) (D.Disk.left_since new) (D.Disk.may_leave new) }
-        ensures count { CountsFailure result (failures_of D.Disk.failures self.old) (failures_of D.Disk.failures self.new) }
+            Elapses (D.Disk.moment old) (D.Disk.moment new) (D.Disk.left_since old)
+            (D.Disk.left_since new) (D.Disk.may_leave new) }
+        ensures count { CountsFailure result (failures_of D.Disk.failures self.old)
+            (failures_of D.Disk.failures self.new) }
 
         // The disk below is called exactly where the arms let it.
         ensures refused { is_refused (arms_of self.old) ≡ true
-            → IsErr result × (disk_of self.new ≡ disk_of self.old) × (refused_of self.new ≡ refused_of self.old + 1) }
+            → IsErr result × (disk_of self.new ≡ disk_of self.old)
+            × (refused_of self.new ≡ refused_of self.old + 1) }
         ensures passed { is_refused (arms_of self.old) ≡ false
-            → CountsFailure result (D.Disk.failures (disk_of self.old)) (D.Disk.failures (disk_of self.new)) }
+            → CountsFailure result (D.Disk.failures (disk_of self.old))
+            (D.Disk.failures (disk_of self.new)) }
         ensures arms { arms_of self.new ≡ after_call (arms_of self.old) }
         ensures allowed { OnOk result (is_refused (arms_of self.old) ≡ false) }
     {
@@ -137,18 +154,24 @@ impl<D: Disk> Disk for Cut<D> {
     }
 
     fn sync(&mut self) -> Result<(), DeviceFailed>
-        ensures durable { OnOk result (Only (D.Disk.seen (disk_of self.old)) (D.Disk.may_leave (disk_of self.new))) }
+        ensures durable { OnOk result
+            (Only (D.Disk.seen (disk_of self.old)) (D.Disk.may_leave (disk_of self.new))) }
         ensures seen { D.Disk.seen (disk_of self.new) ≡ D.Disk.seen (disk_of self.old) }
-        ensures stop { NothingNew (D.Disk.may_leave (disk_of self.old)) (D.Disk.may_leave (disk_of self.new)) }
+        ensures stop { NothingNew (D.Disk.may_leave (disk_of self.old))
+            (D.Disk.may_leave (disk_of self.new)) }
         ensures time { let old = disk_of self.old in let new = disk_of self.new in
-            Elapses (D.Disk.moment old) (D.Disk.moment new) (D.Disk.left_since old) (D.Disk.left_since new) (D.Disk.may_leave new) }
-        ensures count { CountsFailure result (failures_of D.Disk.failures self.old) (failures_of D.Disk.failures self.new) }
+            Elapses (D.Disk.moment old) (D.Disk.moment new) (D.Disk.left_since old)
+            (D.Disk.left_since new) (D.Disk.may_leave new) }
+        ensures count { CountsFailure result (failures_of D.Disk.failures self.old)
+            (failures_of D.Disk.failures self.new) }
 
         // The disk below is called exactly where the arms let it.
         ensures refused { is_refused (arms_of self.old) ≡ true
-            → IsErr result × (disk_of self.new ≡ disk_of self.old) × (refused_of self.new ≡ refused_of self.old + 1) }
+            → IsErr result × (disk_of self.new ≡ disk_of self.old)
+            × (refused_of self.new ≡ refused_of self.old + 1) }
         ensures passed { is_refused (arms_of self.old) ≡ false
-            → CountsFailure result (D.Disk.failures (disk_of self.old)) (D.Disk.failures (disk_of self.new)) }
+            → CountsFailure result (D.Disk.failures (disk_of self.old))
+            (D.Disk.failures (disk_of self.new)) }
         ensures arms { arms_of self.new ≡ after_call (arms_of self.old) }
         ensures allowed { OnOk result (is_refused (arms_of self.old) ≡ false) }
     {
@@ -190,7 +213,8 @@ impl<D: Restart> Restart for Cut<D> {
         ensures left { D.Disk.may_leave (disk_of self) (D.Disk.seen (disk_of result)) }
         ensures settled { Only (D.Disk.seen (disk_of result)) (D.Disk.may_leave (disk_of result)) }
         ensures time { let old = disk_of self in let new = disk_of result in
-            Elapses (D.Disk.moment old) (D.Disk.moment new) (D.Disk.left_since old) (D.Disk.left_since new) (D.Disk.may_leave new) }
+            Elapses (D.Disk.moment old) (D.Disk.moment new) (D.Disk.left_since old)
+            (D.Disk.left_since new) (D.Disk.may_leave new) }
         ensures count { failures_of D.Disk.failures result ≡ failures_of D.Disk.failures self }
         ensures arms { arms_of result ≡ no_arms }
     {

@@ -1,5 +1,7 @@
 //! A half of a disk in memory, of which only as much is kept as was touched.
-ghost use Rattle.std.specs.Prelude.{◌≡◌, ◌≤◌, ◌<◌, ◌+◌, ◌-◌, ◌++◌, ℕ, List, true, false, length, replicate, take, drop, slice_index, vec_capacity, if◌then◌else◌, IfOk};
+ghost use Rattle.std.specs.Prelude.{◌≡◌, ◌≤◌, ◌<◌, ◌+◌, ◌-◌, ◌++◌, ℕ, List, true, false, length};
+ghost use Rattle.std.specs.Prelude.{replicate, take, drop, slice_index, vec_capacity};
+ghost use Rattle.std.specs.Prelude.{if◌then◌else◌, IfOk};
 ghost use Rattle.syn_disk.specs.Disk.{overwritten};
 ghost use Rattle.syn_disk.specs.inner.Memory.{Tracks};
 ghost use Rattle.syn_disk.specs.Stop.{Left};
@@ -12,7 +14,8 @@ use crate::bytes::{copy_out, copy_range, extend, overwrite};
 use crate::disk::HALF_SIZE;
 use std::alloc::{AllocError, Global};
 
-/// Room for all bytes is taken at once. Behind those that are kept all are zero, synced and not written.
+/// Room for all bytes is taken at once. Behind those that are kept all are zero, synced and not
+/// written.
 #[derive(Drop)]
 pub struct Half {
     content: Vec<u8>,
@@ -73,7 +76,8 @@ impl Half {
         requires { at + length bytes.now ≤ HALF_SIZE }
         ensures content { content_of self.new ≡ overwritten (content_of self.old) at bytes.now }
         ensures synced { synced_of self.new ≡ synced_of self.old }
-        ensures written { written_of self.new ≡ overwritten (written_of self.old) at (replicate (length bytes.now) true) }
+        ensures written { written_of self.new
+            ≡ overwritten (written_of self.old) at (replicate (length bytes.now) true) }
     {
         if !bytes.is_empty() {
             self.reach(at + bytes.len());
@@ -92,7 +96,8 @@ impl Half {
     }
 
     pub fn stop(&mut self, leaves: Leaves)
-        ensures each { Left leaves (content_of self.old) (synced_of self.old) (written_of self.old) (content_of self.new) }
+        ensures each { Left leaves (content_of self.old) (synced_of self.old) (written_of self.old)
+            (content_of self.new) }
         ensures synced { synced_of self.new ≡ content_of self.new }
         ensures clean { IsClean self.new }
     {
@@ -121,7 +126,8 @@ fn complement(content: &mut [u8], written: &Written)
     ensures size { length content.new ≡ length content.old }
     ensures each { (i : ℕ) → i < length content.old
         → slice_index content.new i
-        ≡ (if is_written written.now i then 255 - slice_index content.old i else slice_index content.old i) }
+        ≡ (if is_written written.now i then 255 - slice_index content.old i
+        else slice_index content.old i) }
 {
     let (from, to) = written.hull();
     for i in from..to {

@@ -6,7 +6,8 @@ ghost use Rattle.syn_disk.specs.Disk.{SameOutcomes};
 
 use crate::Disk;
 
-/// What is to go wrong, by the device calls from now on, counted from 1. A call that is refused counts too.
+/// What is to go wrong, by the device calls from now on, counted from 1. A call that is refused
+/// counts too.
 #[derive(Clone, Copy, Debug, PartialEq, Eq)]
 pub enum Arm {
     /// This call fails, and is not made. At 0 none does.
@@ -23,7 +24,8 @@ pub trait Limit: Disk {
         ensures seen { Self.Disk.seen self.new ≡ Self.Disk.seen self.old }
         ensures stop { SameOutcomes (Self.Disk.may_leave self.old) (Self.Disk.may_leave self.new) }
         ensures moment { Self.Disk.moment self.new ≡ Self.Disk.moment self.old }
-        ensures past { (t : ℕ) → SameOutcomes (Self.Disk.left_since self.old t) (Self.Disk.left_since self.new t) }
+        ensures past { (t : ℕ)
+            → SameOutcomes (Self.Disk.left_since self.old t) (Self.Disk.left_since self.new t) }
         ensures count { Self.Disk.failures self.new ≡ Self.Disk.failures self.old };
 
     /// Whether all the calls before a stop are made, so that no more is.

@@ -1,5 +1,7 @@
 //! A disk in memory, whose stops lose, keep or spoil what was not synced.
-ghost use Rattle.std.specs.Prelude.{◌≡◌, ◌<◌, ◌≤◌, ◌+◌, ◌++◌, ◌∷◌, [], ℕ, true, List, length, replicate, refl, take, drop, slice_index, slice_index_or, IfOk, IsOk};
+ghost use Rattle.std.specs.Prelude.{◌≡◌, ◌<◌, ◌≤◌, ◌+◌, ◌++◌, ◌∷◌, [], ℕ, true, List, length};
+ghost use Rattle.std.specs.Prelude.{replicate, refl, take, drop, slice_index, slice_index_or, IfOk};
+ghost use Rattle.std.specs.Prelude.{IsOk};
 ghost use Rattle.syn_disk.specs.Arms.{no_arms};
 ghost use Rattle.syn_disk.specs.Disk.{overwritten, Torn, Follows, NothingNew, Only};
 ghost use Rattle.syn_disk.specs.Halves.{HalvesMayLeave, length-halves};
@@ -28,8 +30,8 @@ pub struct MemDisk {
 impl MemDisk {
     ghost use Rattle.syn_disk.specs.MemDisk.{bytes_of, synced_of, written_of, leaves_of, IsSettled};
 
-    /// A disk of zeros. Its i-th restart leaves what the i-th of `leaves` says, and after these `Lose`.
-    /// It is refused for want of memory only.
+    /// A disk of zeros. Its i-th restart leaves what the i-th of `leaves` says, and after these
+    /// `Lose`. It is refused for want of memory only.
     pub fn new(alloc: Global, leaves: Vec<Leaves>) -> Result<MemDisk, AllocError>
         ensures zeros { IfOk result (λ disk. (i : ℕ) → slice_index (bytes_of disk) i ≡ 0) }
         ensures settled { IfOk result (λ disk. IsSettled disk) }
@@ -64,7 +66,8 @@ impl MemDisk {
 // What the next restart leaves.
 fn next_leaves(leaves: &Vec<Leaves>, restarts: &mut usize) -> Leaves
     ensures now { result ≡ slice_index_or (drop restarts.old leaves.now.items) 0 Leaves.Lose }
-    ensures then { drop restarts.new leaves.now.items ≡ drop 1 (drop restarts.old leaves.now.items) }
+    ensures then { drop restarts.new leaves.now.items
+        ≡ drop 1 (drop restarts.old leaves.now.items) }
 {
     match leaves.get(*restarts) {
         Some(next) => {
@@ -76,7 +79,8 @@ fn next_leaves(leaves: &Vec<Leaves>, restarts: &mut usize) -> Leaves
 }
 
 impl Disk for MemDisk {
-    ghost use Rattle.syn_disk.specs.MemDisk.{bytes_of, synced_of, written_of, leaves_of, IsSettled, IsLeft, GoesOn};
+    ghost use Rattle.syn_disk.specs.MemDisk.{bytes_of, synced_of, written_of, leaves_of, IsSettled};
+    ghost use Rattle.syn_disk.specs.MemDisk.{IsLeft, GoesOn};
     ghost use Rattle.syn_disk.specs.declared.disk.TheConstants.{DISK_SIZE};
 
     ghost seen = { λ m. bytes_of m };
@@ -123,7 +127,8 @@ impl Disk for MemDisk {
         ensures ok { IsOk result }
         ensures written { bytes_of self.new ≡ overwritten (bytes_of self.old) at bytes.now }
         ensures synced { synced_of self.new ≡ synced_of self.old }
-        ensures flags { written_of self.new ≡ overwritten (written_of self.old) at (replicate (length bytes.now) true) }
+        ensures flags { written_of self.new
+            ≡ overwritten (written_of self.old) at (replicate (length bytes.now) true) }
         ensures leaves { leaves_of self.new ≡ leaves_of self.old }
         ensures stop { Follows (Torn at (length bytes.now)) (IsLeft self.old) (IsLeft self.new) }
         ensures time { GoesOn self.old self.new }
@@ -153,7 +158,8 @@ impl Disk for MemDisk {
 }
 
 impl Restart for MemDisk {
-    ghost use Rattle.syn_disk.specs.MemDisk.{bytes_of, synced_of, written_of, leaves_of, IsSettled, IsLeft, GoesOn};
+    ghost use Rattle.syn_disk.specs.MemDisk.{bytes_of, synced_of, written_of, leaves_of, IsSettled};
+    ghost use Rattle.syn_disk.specs.MemDisk.{IsLeft, GoesOn};
 
     /// What the list of leaves says next becomes of each byte that was not synced.
     fn restart(mut self) -> Self

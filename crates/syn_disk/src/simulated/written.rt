@@ -1,5 +1,6 @@
 //! Which bytes of a disk in memory were written since the last sync.
-ghost use Rattle.std.specs.Prelude.{◌≡◌, ◌⊎◌, ◌<◌, ◌≤◌, ◌+◌, ◌-◌, max, ◌++◌, [], vec_capacity, ℕ, Bool, true, false, List, length, replicate, IfOk};
+ghost use Rattle.std.specs.Prelude.{◌≡◌, ◌⊎◌, ◌<◌, ◌≤◌, ◌+◌, ◌-◌, max, ◌++◌, [], vec_capacity, ℕ};
+ghost use Rattle.std.specs.Prelude.{Bool, true, false, List, length, replicate, IfOk};
 ghost use Rattle.syn_disk.specs.Disk.{overwritten};
 ghost use Rattle.syn_disk.specs.Written.{is_written, IsHull};
 ghost use Rattle.syn_disk.specs.declared.disk.TheConstants.{HALF_SIZE};
@@ -8,7 +9,8 @@ use crate::disk::HALF_SIZE;
 use std::alloc::{AllocError, Global};
 use std::marker::Model;
 
-/// A flag for each byte, and a range in which all that are set lie, so that the rest need not be looked at.
+/// A flag for each byte, and a range in which all that are set lie, so that the rest need not be
+/// looked at.
 #[derive(Drop)]
 pub struct Written {
     flags: Vec<bool>,
@@ -21,7 +23,8 @@ impl Model for Written {
 
     ghost view = { λ written. written.flags.items };
 
-    ghost invariant = { λ written. IsHull written.flags.items written.from written.to × (HALF_SIZE ≤ vec_capacity written.flags) };
+    ghost invariant = { λ written. IsHull written.flags.items written.from written.to
+        × (HALF_SIZE ≤ vec_capacity written.flags) };
 }
 
 impl Written {

@@ -8,7 +8,7 @@ use Rattle.syn_replica.specs.Disks.{StandsBeforeOrAfter}
 use Rattle.syn_replica.specs.Replica.{Stands, room_shown}
 use Rattle.syn_tree.specs.Edits.{edit_of}
 use Rattle.syn.specs.Asked.{edit_asked}
-use Rattle.syn.proofs.EditLemmas.{known, same_edit, before_or_after, same_refusal}
+use Rattle.syn.proofs.EditLemmas.{same_edit, before_or_after, same_refusal}
 use Rattle.syn.proofs.edit.make_edit.Goals as goal
 
 pub returns-in_err-edit-clause-any_moment : goal.returns-in_err-edit-clause-any_moment
@@ -16,8 +16,8 @@ returns-in_err-edit-clause-any_moment g c history left stands e =
     let laws = c.history_laws.ensures in
     let line = c.args.line.now in
     let edit = edit_of c.in_ok-asked.asked in
-    let is = known _ left (λ l. edit ≡ edit_asked line.change c.args.path (take 16385 l)) e
-    c.in_ok-asked.ensures.edit in
+    let is : edit ≡ edit_asked line.change c.args.path (take 16385 left) =
+    c.in_ok-asked.ensures.edit left e in
     let asked = edit_asked line.change c.args.path left in
     leaves_weaker g.D.Disk.moment g.D.Disk.left_since _ _
     (StandsBeforeOrAfter c.args.replica.now.pair history (Edited line.user edit))
@@ -31,8 +31,8 @@ returns-in_err-edit-clause-refused g c history left why stands e refused =
     let laws = c.history_laws.ensures in
     let line = c.args.line.now in
     let edit = edit_of c.in_ok-asked.asked in
-    let is = known _ left (λ l. edit ≡ edit_asked line.change c.args.path (take 16385 l)) e
-    c.in_ok-asked.ensures.edit in
+    let is : edit ≡ edit_asked line.change c.args.path (take 16385 left) =
+    c.in_ok-asked.ensures.edit left e in
     let same = same_refusal laws.fits laws.put laws.steps history line.user line.change c.args.path left in
     let told = err_from_is_err_and c.from_residual-in_err-edit.result c.from_residual-in_err-edit.ensures.1 in
     let cause = c.in_err-edit.ensures.refused history why stands
@@ -45,8 +45,8 @@ returns-clause-acknowledged g c history left stands e =
     let laws = c.history_laws.ensures in
     let line = c.args.line.now in
     let edit = edit_of c.in_ok-asked.asked in
-    let is = known _ left (λ l. edit ≡ edit_asked line.change c.args.path (take 16385 l)) e
-    c.in_ok-asked.ensures.edit in
+    let is : edit ≡ edit_asked line.change c.args.path (take 16385 left) =
+    c.in_ok-asked.ensures.edit left e in
     let done = c.in_ok-edit.ensures.acknowledged history stands in
     let IsMade : Edit → Type 0 = λ x. IsHistory (history ++ Edited line.user x ∷ []) in
     let same = same_edit laws.fits laws.put laws.steps history line.user line.change c.args.path left
@@ -60,8 +60,8 @@ returns-clause-any_moment g c history left stands e =
     let laws = c.history_laws.ensures in
     let line = c.args.line.now in
     let edit = edit_of c.in_ok-asked.asked in
-    let is = known _ left (λ l. edit ≡ edit_asked line.change c.args.path (take 16385 l)) e
-    c.in_ok-asked.ensures.edit in
+    let is : edit ≡ edit_asked line.change c.args.path (take 16385 left) =
+    c.in_ok-asked.ensures.edit left e in
     let asked = edit_asked line.change c.args.path left in
     leaves_weaker g.D.Disk.moment g.D.Disk.left_since _ _
     (StandsBeforeOrAfter c.args.replica.now.pair history (Edited line.user edit))
@@ -75,8 +75,8 @@ returns-clause-refused g c history left why stands e refused =
     let laws = c.history_laws.ensures in
     let line = c.args.line.now in
     let edit = edit_of c.in_ok-asked.asked in
-    let is = known _ left (λ l. edit ≡ edit_asked line.change c.args.path (take 16385 l)) e
-    c.in_ok-asked.ensures.edit in
+    let is : edit ≡ edit_asked line.change c.args.path (take 16385 left) =
+    c.in_ok-asked.ensures.edit left e in
     let same = same_refusal laws.fits laws.put laws.steps history line.user line.change c.args.path left in
     absurd (c.in_ok-edit.ensures.refused history why stands
     (refused_at (room_shown c.args.replica.now) (standing_of history) (Edited line.user edit) why

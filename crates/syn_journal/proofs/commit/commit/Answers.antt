@@ -1,6 +1,6 @@
 use Rattle.std.proofs.Common.{◌≡◌, ◌+◌, arith}
 use Rattle.syn_disk.specs.Disk.{Only, overwritten}
-use Rattle.syn_journal.specs.Commit.{IsStagedOrOpened}
+use Rattle.syn_journal.specs.inner.Commit.{IsStagedOrOpened}
 use Rattle.syn_journal.proofs.Calls.{fewer, one_breaks, one_made, one_up_to, then_breaks, then_made, then_up_to, up_to_of_exit}
 use Rattle.syn_journal.proofs.Commits.{at_first, staged, opened}
 use Rattle.syn_journal.proofs.Moments.{started, goes_on}

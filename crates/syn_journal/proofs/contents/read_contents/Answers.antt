@@ -3,7 +3,8 @@ use Rattle.std.specs.Int.{w32, to_be_bytes}
 use Rattle.std.specs.Prelude.{Err}
 use Rattle.syn_journal.specs.Layout.{open_gate, start_of, damaged, current, generation_at, value_at, meaning, bytes_from, records, records_of}
 use Rattle.syn_journal.specs.Opened.{payloads_of}
-use Rattle.syn_journal.specs.Refusals.{IsOpenRefusal, IsReadRefusal}
+use Rattle.syn_journal.specs.Refusals.{IsOpenRefusal}
+use Rattle.syn_journal.specs.inner.Reading.{IsReadRefusal}
 use Rattle.syn_journal.proofs.Openings.{if_err_by, refused_by_halves, refused_by_value, refused_by_records, front_read}
 use Rattle.syn_journal.proofs.Calls.{one_broke, one_read, reads_of_exit, then_after, then_some}
 use Rattle.syn_journal.proofs.contents.read_contents.Goals as goal

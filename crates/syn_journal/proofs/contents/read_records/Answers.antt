@@ -4,7 +4,7 @@ use Rattle.std.specs.Int.{w32, from_be_bytes}
 use Rattle.syn_disk.specs.declared.disk.TheConstants.{DISK_SIZE}
 use Rattle.syn_journal.specs.Layout.{half_size, open_gate, start_of, bytes_from, records, record_of, records_of}
 use Rattle.syn_journal.specs.Opened.{payloads_of}
-use Rattle.syn_journal.specs.Refusals.{IsReadRefusal}
+use Rattle.syn_journal.specs.inner.Reading.{IsReadRefusal}
 use Rattle.syn_journal.proofs.Moments.{no_call, and_then}
 use Rattle.syn_journal.proofs.Openings.{read_more, read_damaged, if_err_by, read_refusal_weaker}
 use Rattle.syn_journal.proofs.Calls.{no_reads, reads_of_exit, then_after, then_broke, then_some}

@@ -4,7 +4,7 @@ use Rattle.syn_disk.specs.declared.disk.TheConstants.{DISK_SIZE}
 use Rattle.syn_journal.specs.declared.half.Half.TheVariants.{First, Second}
 use Rattle.syn_journal.specs.Layout.{is_open}
 use Rattle.syn_journal.proofs.Formats.{formatted}
-use Rattle.syn_journal.specs.Whole.{IsWhole}
+use Rattle.syn_journal.specs.inner.Whole.{IsWhole}
 use Rattle.syn_journal.proofs.Calls.{fewer, one_breaks, one_made, then_breaks, then_made, then_up_to, up_to_of_exit}
 use Rattle.syn_journal.proofs.journal.write_image.Goals as goal
 

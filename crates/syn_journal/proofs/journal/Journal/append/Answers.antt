@@ -1,8 +1,9 @@
 use Rattle.std.proofs.Common.{◌≡◌, ◌∙◌, ◌+◌, ◌≤◌, [], ◌∷◌, length, refl, subst, ap, arith}
 use Rattle.syn_disk.specs.Disk.{overwritten}
-use Rattle.syn_journal.specs.Commit.{IsStagedOrOpened, body_of_record}
+use Rattle.syn_journal.specs.inner.Commit.{IsStagedOrOpened, body_of_record}
 use Rattle.syn_journal.specs.Layout.{half_size, open_gate, start_of, other_half, is_open, IsBeforeOrAfter, with_payload, meaning}
-use Rattle.syn_journal.specs.Whole.{IsWhole, value_or_empty}
+use Rattle.syn_journal.specs.inner.Whole.{IsWhole}
+use Rattle.syn_journal.specs.Layout.{value_or_empty}
 use Rattle.syn_journal.proofs.Moments.{weakened}
 use Rattle.syn_journal.proofs.Appends.{before_or_after}
 use Rattle.syn_journal.proofs.Whole.{appended, other_kept}

@@ -1,7 +1,8 @@
 use Rattle.std.proofs.Common.{◌≡◌, ◌∙◌, ◌+◌, true, length, refl, ap, sym, subst, arith}
-use Rattle.syn_journal.specs.Commit.{IsNextImage}
+use Rattle.syn_journal.specs.inner.Commit.{IsNextImage}
 use Rattle.syn_journal.specs.Layout.{other_half, image_alone, meaning}
-use Rattle.syn_journal.specs.Whole.{IsWhole, value_or_empty}
+use Rattle.syn_journal.specs.inner.Whole.{IsWhole}
+use Rattle.syn_journal.specs.Layout.{value_or_empty}
 use Rattle.syn_journal.proofs.Checkpoints.{twice}
 use Rattle.syn_journal.proofs.Meanings.{in_step, means, sizes}
 use Rattle.syn_journal.proofs.journal.Journal.checkpoint.Goals as goal

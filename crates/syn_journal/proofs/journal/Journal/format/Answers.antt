@@ -1,5 +1,5 @@
 use Rattle.std.proofs.Common.{◌≡◌, ◌∙◌, ◌+◌, ◌≤◌, false, length, refl, arith}
-use Rattle.syn_journal.specs.Commit.{body_of_image}
+use Rattle.syn_journal.specs.inner.Commit.{body_of_image}
 use Rattle.syn_journal.specs.declared.half.Half.TheVariants.{First}
 use Rattle.syn_journal.specs.Layout.{longest_image}
 use Rattle.syn_journal.proofs.Meanings.{in_step, means, sizes}

@@ -1,7 +1,7 @@
 use Rattle.std.proofs.Common.{◌≡◌, ◌∙◌, refl, ap, subst, sym}
 use Rattle.syn_journal.specs.Layout.{other_half, is_open}
 use Rattle.syn_journal.specs.Opened.{value_read}
-use Rattle.syn_journal.specs.Whole.{IsWhole}
+use Rattle.syn_journal.specs.inner.Whole.{IsWhole}
 use Rattle.syn_journal.proofs.Meanings.{in_step, means, sizes}
 use Rattle.syn_journal.proofs.journal.Journal.open.Goals as goal
 

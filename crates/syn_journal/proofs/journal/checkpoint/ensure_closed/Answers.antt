@@ -2,7 +2,7 @@ use Rattle.std.proofs.Common.{◌≡◌, ◌∙◌, length, ap, sym, subst, arit
 use Rattle.std.proofs.lemmas.Result.{on_ok_weaker}
 use Rattle.syn_disk.specs.Disk.{overwritten}
 use Rattle.syn_disk.specs.declared.disk.TheConstants.{DISK_SIZE}
-use Rattle.syn_journal.specs.Commit.{IsClosing}
+use Rattle.syn_journal.specs.inner.Commit.{IsClosing}
 use Rattle.syn_journal.specs.Layout.{start_of, is_open}
 use Rattle.syn_journal.proofs.Checkpoints.{closing_bytes, at_first, follows, seen_closing, seen_closed}
 use Rattle.syn_journal.proofs.Moments.{started, goes_on}

@@ -1,8 +1,8 @@
 use Rattle.std.proofs.Common.{◌≡◌, ◌+◌, inl, true, length, subst, sym, arith}
 use Rattle.std.proofs.lemmas.Result.{on_ok_weaker}
-use Rattle.syn_journal.specs.Commit.{IsClosing, IsStagedOrOpened}
+use Rattle.syn_journal.specs.inner.Commit.{IsClosing, IsStagedOrOpened}
 use Rattle.syn_journal.specs.Layout.{start_of, other_half, is_open, image_alone, IsBeforeOrAfter}
-use Rattle.syn_journal.specs.Whole.{IsWhole}
+use Rattle.syn_journal.specs.inner.Whole.{IsWhole}
 use Rattle.syn_journal.proofs.Checkpoints.{while_closing, still_next, before_or_after, checkpointed}
 use Rattle.syn_journal.proofs.Meanings.{means}
 use Rattle.syn_journal.proofs.Moments.{weakened, in_turn}
