@@ -16,9 +16,10 @@ mod path;
 mod tree;
 mod tree_reading;
 
+pub use bytes::{read_file, write_file};
 pub use error::WireError;
 pub use event::{decode_event, edit_length, encode_edit, encode_event};
-pub use number::{read_u16, read_u32, read_u64};
+pub use number::{read_u16, read_u32, read_u64, write_u16, write_u32, write_u64};
 pub use path::{decode_path, encode_path, write_path};
 pub use tree::{encode_node, encode_tree, write_node, write_tree};
 pub use tree_reading::{decode_node, decode_tree};

@@ -1,0 +1,12 @@
+//! What two machines say to each other, in bytes: a body for each message.
+//!
+//! A body is a kind, the session, the number of the request in it, and what the message has.
+//! Numbers are big-endian, and nothing follows the last field. Each message has one body.
+#![tactic(auto)]
+
+mod kind;
+mod request;
+mod request_reading;
+
+pub use request::{Asked, Request, encode_request};
+pub use request_reading::decode_request;
