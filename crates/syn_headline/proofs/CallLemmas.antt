@@ -18,7 +18,7 @@ use Rattle.syn_headline.specs.Network.{Which, Left, Right, other, Message, Asks,
 use Rattle.syn_headline.specs.Acknowledged.{Ack, Kept_by, kept_in}
 use Rattle.syn_headline.specs.Planning.{Planned, SessionPlan, Log, WritesTo, HasBegun, IsPlanOf}
 use Rattle.syn_headline.specs.Report.{Report, Complete, Incomplete, is_kept, is_carrying, is_marking, conflict_at}
-use Rattle.syn_headline.specs.Coordinator.{Exchange, Running, CoordinatorMachine, Walk, Call, WasTaken, BothBegun, MakesPlan, MayAsk, AsksNext, IsExpected, asked_of, asked_count, numbered, messages_to, outstanding, hearing, advanced, asking, sent_now, plan_of, report_of, is_whole, is_unstable, IsDue, EndsFor}
+use Rattle.syn_headline.specs.Coordinator.{Exchange, Running, CoordinatorMachine, Walk, Call, WasTaken, BothBegun, IsShown, MakesPlan, MayAsk, AsksNext, IsExpected, asked_of, asked_count, numbered, messages_to, outstanding, hearing, advanced, asking, sent_now, plan_of, report_of, is_whole, is_unstable, IsDue, EndsFor}
 use Rattle.syn_headline.specs.Coordinator as fine
 use Rattle.syn_headline.specs.World as fine_world
 use Rattle.syn_headline.specs.World.{coordinator_goes}
@@ -31,6 +31,7 @@ use Rattle.syn_headline.proofs.View.{view, view_running, view_coordinator}
 use Rattle.syn_headline.proofs.Walks.{IsItems, of_item, IsLeft, AllSettled, advances_left, advances_settled, advances_due, last_stays, IsSettledBy, as_conflict, as_kept, as_refused, take_whole}
 use Rattle.syn_headline.proofs.Heard.{TakenWas}
 use Rattle.syn_headline.proofs.Remembers.{Remembers, hearing_remembers, advanced_remembers, asking_remembers, asking_tells, asking_once}
+use Rattle.syn_headline.proofs.InOrder.{ListsInOrder, plan_in_order, hearing_in_order, advanced_in_order, asking_in_order, for_side}
 use Rattle.syn_headline.proofs.ReportLemmas.{conflicts_to, filter_map-map}
 
 -- What was taken was answered
@@ -44,19 +45,19 @@ begun_of : (sent : Sent) (session : ℕ) (taken : List Exchange) → TakenWas se
 begun_of sent session taken was begun side = let b = begun side in record { pair = b.0; position = b.1; begun = was_answered sent session taken side _ _ was b.2 }
 
 -- a plan of the transcript is a plan of the messages
-plan_of_sent : (sent : Sent) (running : Running) (archive : Archive) (made : SessionPlan) → TakenWas sent running.session running.taken → MakesPlan running archive made → IsPlanOf sent made
-plan_of_sent sent running archive made was makes =
-    let at : TakenWas sent made.session running.taken = subst (λ n. TakenWas sent n running.taken) (sym makes.of_session) was in
+plan_of_sent : (sent : Sent) (running : Running) (archive : Archive) (made : SessionPlan) → Remembers sent running → ListsInOrder sent running → AsksNothingTwice sent → MakesPlan running archive made → IsPlanOf sent made
+plan_of_sent sent running archive made m in_order repeats makes =
+    let at : TakenWas sent made.session running.taken = subst (λ n. TakenWas sent n running.taken) (sym makes.of_session) m.taken in
     record {
       begun = begun_of sent made.session running.taken at makes.begun;
       scanned = λ side. let h = makes.scanned side in record {
         tree = h.tree;
         fits = h.fits;
         listed = λ path there stable. was_answered sent made.session running.taken side _ _ at (h.listed path there stable);
-        ordered = h.ordered;
         not_dir = λ path c. let n = h.not_dir path c in (n.0, was_answered sent made.session running.taken side _ _ at n.1);
         nothing_below = h.nothing_below;
       };
+      ordered = plan_in_order sent running in_order m repeats archive made makes;
       items = makes.items;
       seen = makes.seen;
     }
@@ -65,17 +66,17 @@ abbrev list_of : Option (List Planned) → List Planned
 list_of plan = option_map_or (λ plan. plan) plan []
 
 -- the plan stays or is made, in the coarser picture too
-has_plan : (sent : Sent) (archive : Archive) (log : Log) (running : Running) (plan : Option (List Planned)) (logged : Log) → TakenWas sent running.session running.taken →
+has_plan : (sent : Sent) (archive : Archive) (log : Log) (running : Running) (plan : Option (List Planned)) (logged : Log) → Remembers sent running → ListsInOrder sent running → AsksNothingTwice sent →
     (running.plan ≡ None → All (λ made. made.session ≢ running.session) log) → fine.HasPlan archive running plan logged → HasPlan sent archive log (Some (view_running running)) (list_of plan) logged
-has_plan sent archive log running _ _ was fresh fine.stays = inl (refl, refl)
-has_plan sent archive log running _ _ was fresh (fine.makes made none makes) = inr (
+has_plan sent archive log running _ _ m in_order repeats fresh fine.stays = inl (refl, refl)
+has_plan sent archive log running _ _ m in_order repeats fresh (fine.makes made none makes) = inr (
   made,
   record {
     of_session = makes.of_session;
     once = fresh none;
     prefers_none = makes.prefers_none;
     archive_is = makes.archive_is;
-    is = plan_of_sent sent running archive made was makes;
+    is = plan_of_sent sent running archive made m in_order repeats makes;
   },
   refl,
   refl,
@@ -197,12 +198,12 @@ all_asked P session side Q h from (request ∷ more) all = All-cons P (Asks side
 -- without a plan there is nowhere to go
 nowhere : (pair : ℕ) (taken : Exchange) (walk later : Walk) (kept : List Kept) → fine.Advances pair [] taken walk kept later → later.cursor ≡ walk.cursor
 nowhere pair taken walk _ _ (fine.stands _) = refl
-nowhere pair taken walk later kept (fine.conflicts _ _ _ planned path at is more) = absurd (none-some _ at)
-nowhere pair taken walk later kept (fine.side_refuses _ _ _ planned why at is for more) = absurd (none-some _ at)
-nowhere pair taken walk later kept (fine.archive_refuses _ _ _ planned what why at is may refused more) = absurd (none-some _ at)
-nowhere pair taken walk later kept (fine.no_checkpoint _ _ _ what full greatest more) = absurd (none-some _ full.to_keep.at)
-nowhere pair taken walk later kept (fine.checkpoints _ _ _ what journal full smaller compacts up more) = absurd (none-some _ full.to_keep.at)
-nowhere pair taken walk _ _ (fine.checkpoint_breaks _ what journal full smaller compacts down) = refl
+nowhere pair taken walk later kept (fine.conflicts _ _ _ planned path first at is more) = absurd (none-some _ at)
+nowhere pair taken walk later kept (fine.side_refuses _ _ _ planned why first at is for more) = absurd (none-some _ at)
+nowhere pair taken walk later kept (fine.archive_refuses _ _ _ planned what why first at is may refused more) = absurd (none-some _ at)
+nowhere pair taken walk later kept (fine.no_checkpoint _ _ _ what first full greatest more) = absurd (none-some _ full.to_keep.at)
+nowhere pair taken walk later kept (fine.checkpoints _ _ _ what journal first full smaller compacts up more) = absurd (none-some _ full.to_keep.at)
+nowhere pair taken walk _ _ (fine.checkpoint_breaks _ what journal first full smaller compacts down) = refl
 nowhere pair taken walk later _ (fine.keeps _ _ what kept journal to_keep room kept_so up more) = absurd (none-some _ to_keep.at)
 nowhere pair taken walk _ kept (fine.record_breaks _ what _ journal to_keep room kept_so down) = refl
 
@@ -236,6 +237,9 @@ module _ (plans : Plans) (old : fine_world.World) (k : IsKept plans (view old)) 
   pub remembers_then : Remembers old.sent (hearing r exchange)
   remembers_then = hearing_remembers old.sent r k.sound.numbers h.remembers from number request reply few asked heard
 
+  in_order_then : ListsInOrder old.sent (hearing r exchange)
+  in_order_then = hearing_in_order old.sent r h.in_order k.sound.numbers h.remembers from number request reply few asked heard
+
   coarse_asked : coarse.asked_of (view_running r) from number ≡ Some request
   coarse_asked = same_asked from ∙ asked
     where
@@ -263,7 +267,7 @@ module _ (plans : Plans) (old : fine_world.World) (k : IsKept plans (view old)) 
         let to_due : (what : Kept) → IsItems (list_of plan) exchange what → D what = λ what d.
         subst (λ o. IsDueAfter o (list_of plan) from number reply what) (sym runs) (due_of r (list_of plan) from number request reply coarse_asked what d) in
         coarse.takes_answer from r.session number reply (list_of plan) logged heard expected
-        (subst (λ o. HasPlan old.sent old.coordinator.journal.value old.log o (list_of plan) logged) (sym runs) (has_plan old.sent old.coordinator.journal.value old.log (hearing r exchange) plan logged remembers_then.taken (λ none. (h.unplanned none).0) has))
+        (subst (λ o. HasPlan old.sent old.coordinator.journal.value old.log o (list_of plan) logged) (sym runs) (has_plan old.sent old.coordinator.journal.value old.log (hearing r exchange) plan logged remembers_then in_order_then k.sound.repeats (λ none. (h.unplanned none).0) has))
         (record {
           machine = view_coordinator new;
           kept = kept;
@@ -433,9 +437,14 @@ module _ (plans : Plans) (old : fine_world.World) (k : IsKept plans (view old)) 
           (subst (All (λ made. made.session ≢ r.session)) (sym (append-nil old.log)) was.0, nowhere old.pair exchange (fine.start_of old.coordinator r) walk kept (subst (λ o. fine.Advances old.pair (list_of o) exchange (fine.start_of old.coordinator r) kept walk) none goes) ∙ was.1)
       unplanned_on _ _ (fine.makes made missing makes) goes none = absurd (none-some _ (sym none))
 
+      shown_on : (side : Which) (path : Path) → Contains (for_side asks_left asks_right side) (ListAt path) → IsShown (r.taken ++ exchange ∷ []) side path
+      shown_on Left path c = (All-contains (MayAsk walk.journal.value later Left) asks_left _ asks.may_left c).2
+      shown_on Right path c = (All-contains (MayAsk walk.journal.value later Right) asks_right _ asks.may_right c).2
+
       heard_on : IsHeard new_world on
       heard_on = record {
         remembers = remembers_on;
+        in_order = asking_in_order old.sent later (advanced_in_order old.sent (hearing r exchange) plan walk kept in_order_then) m k.sound.known asks_left asks_right shown_on;
         unplanned = unplanned_on plan logged has advances;
         planned = logged_then plan logged has;
         kept = kept_then;
@@ -447,5 +456,5 @@ module _ (plans : Plans) (old : fine_world.World) (k : IsKept plans (view old)) 
   takes_follow _ _ (fine.ends_at_once why fault) = (ends_now why, tt)
   takes_follow _ _ (fine.stops plan logged walk kept fault has advances down) = (stops_so plan logged walk kept has advances, tt)
   takes_follow _ _ (fine.ends plan logged walk kept why fault has advances ends) = (ends_so plan logged walk kept has advances why ends, tt)
-  takes_follow _ _ (fine.goes_on plan logged walk kept asks_left asks_right fault has advances stays past asks) =
+  takes_follow _ _ (fine.goes_on plan logged walk kept asks_left asks_right fault has advances rests stays past asks) =
       (goes_on_so plan logged walk kept has advances asks_left asks_right stays asks, heard_on plan logged walk kept has advances asks_left asks_right stays asks)

@@ -15,7 +15,7 @@ use Rattle.syn_model.specs.Standing.{place_causes, full_causes}
 use Rattle.syn_headline.specs.Network.{Left, Right, other}
 use Rattle.syn_headline.specs.Acknowledged.{history_of}
 use Rattle.syn_headline.specs.Headline.{UntouchedSince}
-use Rattle.syn_headline.proofs.CoarseRuns.{CarriedIsMarked, OfEachRun}
+use Rattle.syn_headline.proofs.CoarseRuns.{HeldIsMarked, OfEachRun}
 use Rattle.syn_model.proofs.PathLemmas.{strip_prefix-is}
 use Rattle.syn_model.proofs.TreeLemmas.{subtree-replace, beside}
 use Rattle.syn_model.proofs.HistoryLemmas.{first_cause-none, place-stands, tree_of-append}
@@ -98,8 +98,8 @@ source_is source fetched path untouched root directory =
     )
 
 -- so the next complete session without edits marks it
-pub runs_mark_carried : OfEachRun CarriedIsMarked
-runs_mark_carried old new s g side first rest token path since fetched u report found left is untouched directory held source_untouched q =
+pub runs_mark_held : OfEachRun HeldIsMarked
+runs_mark_held old new s g side first rest token path since fetched u report found left is untouched directory held source_untouched q =
     let lawful = found_lawful old new s g report found left q in
     let target = replaced_is first rest token path since u (subst IsHistory is (lawful side)) untouched in
     let source = source_is (history_of found (other side)) fetched path source_untouched target.0 directory in

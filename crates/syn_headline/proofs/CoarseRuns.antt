@@ -11,7 +11,7 @@ use Rattle.syn_headline.specs.Network.{Which, Left, Right, other, NumbersTell, A
 use Rattle.syn_headline.specs.Acknowledged.{Ack, Happened, Stores, history_of, stores_after, Grown, ArchiveGrown, IsLegal}
 use Rattle.syn_headline.specs.Planning.{IsPlanOf}
 use Rattle.syn_headline.specs.Report.{Report}
-use Rattle.syn_headline.specs.Headline.{IsPair, IsQuietSession, trees_of, HasCounts, IsOtherToken, UntouchedSince}
+use Rattle.syn_headline.specs.Headline.{IsPair, IsQuietSession, trees_of, HasCounts, IsOtherToken, UntouchedSince, IsFetched}
 use Rattle.syn_headline.proofs.Coarse.{World, FollowsAll, Waits, side_of}
 
 abbrev pub stores_of : World → Stores
@@ -64,10 +64,17 @@ EachTokenOnce before world =
     (side : Which) (earlier later : History) (token : Token) (path : Path) (since : ℕ) (new : Tree) →
     (side_of world side).side.history ≡ earlier ++ Replaced token path since new ∷ later → All (IsOtherToken token) later
 
--- What was carried and not recorded is marked by the next complete session without edits, where nothing touched it since:
--- `fetched` is the source's position at its last fetch, when the path stood in a directory
+-- What was carried is marked by the next complete session without edits, where nothing touched it since
 abbrev pub CarriedIsMarked : Stores → World → Type 0
 CarriedIsMarked before world =
+    (side : Which) (first rest : History) (token : Token) (path : Path) (since : ℕ) (new : Tree) (report : Report) (found left : Stores) →
+    history_of found side ≡ first ++ Replaced token path since new ∷ rest → All (λ event. touches event path ≡ false) rest →
+    IsFetched world.sent (other side) (history_of found (other side)) token.session path →
+    IsQuietSession before world.acknowledged world.reports report found left → subtree left.archive.marks path ≡ mark new
+
+-- It is where the source had it at a position, in a directory, and nothing touched it there since
+abbrev pub HeldIsMarked : Stores → World → Type 0
+HeldIsMarked before world =
     (side : Which) (first rest : History) (token : Token) (path : Path) (since fetched : ℕ) (new : Tree) (report : Report) (found left : Stores) →
     let source = history_of found (other side) in
     history_of found side ≡ first ++ Replaced token path since new ∷ rest → All (λ event. touches event path ≡ false) rest →

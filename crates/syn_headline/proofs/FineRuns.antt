@@ -14,7 +14,7 @@ use Rattle.syn_headline.proofs.WholeRuns.{no_plans, start_kept, runs_replace_leg
 use Rattle.syn_headline.proofs.LoggedRuns.{runs_log}
 use Rattle.syn_headline.proofs.ArchiveLemmas.{runs_hold_archive, runs_leave_pair}
 use Rattle.syn_headline.proofs.SessionRuns.{runs_synchronize, runs_reconcile, runs_report_conflicts, runs_count_items}
-use Rattle.syn_headline.proofs.CarriedLemmas.{runs_mark_carried}
+use Rattle.syn_headline.proofs.FetchedLemmas.{runs_mark_carried}
 
 pub start_view : (old : World) → IsStart old → picture.IsStart (view old)
 start_view old s = record {

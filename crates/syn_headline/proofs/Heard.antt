@@ -1,5 +1,5 @@
 -- Requests that are numbered on, and the messages that they are.
-use Rattle.std.proofs.Common.{◌≡◌, ◌≤◌, ◌<◌, ◌+◌, ℕ, zero, suc, List, [], ◌∷◌, length, refl, sym, ap, ◌∙◌, arith}
+use Rattle.std.proofs.Common.{◌≡◌, ◌⊎◌, inl, inr, ◌≤◌, ◌<◌, ◌+◌, ◌++◌, ℕ, zero, suc, List, [], ◌∷◌, length, refl, sym, ap, ap₂, ◌∙◌, arith}
 use Rattle.std.specs.Prelude.{Contains}
 use Rattle.syn_headline.specs.Side.{Request}
 use Rattle.syn_headline.specs.Network.{Which, Message, Asks, Answers, Sent}
@@ -45,3 +45,16 @@ pub waits_sent : (session : ℕ) (side : Which) (waiting : List Outstanding) (on
 waits_sent session side [] one c = absurd (omega (arith, c.1))
 waits_sent session side (first ∷ waiting) one (zero, h, e) = (0, omega arith, ap (λ o. Asks side session o.number o.request) e)
 waits_sent session side (first ∷ waiting) one (suc k, h, e) = let rest = waits_sent session side waiting one (k, omega (arith, h), e) in (suc rest.0, let w = rest.1 in omega (arith, w), rest.2)
+
+-- an element of two lists in a row is in one of them
+pub split_at : {X : Type 0} (xs ys earlier : List X) (x : X) (later : List X) → xs ++ ys ≡ earlier ++ x ∷ later →
+    ((rest : List X) × (xs ≡ earlier ++ x ∷ rest)) ⊎ ((rest : List X) × (earlier ≡ xs ++ rest) × (ys ≡ rest ++ x ∷ later))
+split_at {X = X} [] ys earlier x later e = inr (earlier, refl, e)
+split_at {X = X} (a ∷ xs) ys [] x later e = let h : a ≡ x = cc in inl (xs, ap (λ b. b ∷ xs) h)
+split_at {X = X} (a ∷ xs) ys (b ∷ earlier) x later e =
+    let h : a ≡ b = cc in
+    let t : xs ++ ys ≡ earlier ++ x ∷ later = cc in
+    elim (split_at xs ys earlier x later t) as (λ _. ((rest : List X) × (a ∷ xs ≡ b ∷ (earlier ++ x ∷ rest))) ⊎ ((rest : List X) × (b ∷ earlier ≡ a ∷ (xs ++ rest)) × (ys ≡ rest ++ x ∷ later))) [
+      | inl l ↦ inl (l.0, ap₂ (λ c cs. c ∷ cs) h l.1)
+      | inr r ↦ inr (r.0, ap₂ (λ c cs. c ∷ cs) (sym h) r.1, r.2)
+    ]

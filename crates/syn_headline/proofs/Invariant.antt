@@ -49,6 +49,7 @@ pub record IsTrueListing (history : History) (session : ℕ) (path : Path) (posi
   pub reached : position ≤ length history
   pub begun : session ≤ last_session (take position history)
   pub entries_there : entries ≡ children (mark (tree_at history position)) path
+  pub directory : is_directory (tree_at history position) path ≡ true
 
 pub record IsTruePiece (history : History) (path : Path) (since offset total : ℕ) (bytes : Bytes) : Type 0 where
   pub reached : since ≤ length history

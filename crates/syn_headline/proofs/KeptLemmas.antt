@@ -53,7 +53,7 @@ all_kept_depth a (k ∷ kept) depth can = all_kept_depth (after_kept a k) kept (
 
 -- A session's number is kept once
 
-sessions_grow : (a : Archive) (kept : List Kept) → AllCanKeep a kept → a.last_session ≤ (archive_of a kept).last_session
+pub sessions_grow : (a : Archive) (kept : List Kept) → AllCanKeep a kept → a.last_session ≤ (archive_of a kept).last_session
 sessions_grow a [] can = omega arith
 sessions_grow a (k ∷ kept) can =
     let one : a.last_session ≤ (after_kept a k).last_session = kept_session a k can.0 in

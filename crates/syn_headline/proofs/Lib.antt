@@ -30,6 +30,7 @@ pub mod KeptLemmas
 pub mod ReportLemmas
 pub mod CourseLemmas
 pub mod WatchLemmas
+pub mod EarlyLemmas
 pub mod ToldLemmas
 pub mod SessionRuns
 pub mod LoggedRuns
@@ -37,6 +38,7 @@ pub mod View
 pub mod Walks
 pub mod Heard
 pub mod Remembers
+pub mod InOrder
 pub mod Sessions
 pub mod CallLemmas
 pub mod StartLemmas
@@ -45,3 +47,4 @@ pub mod StandLemmas
 pub mod FineRuns
 pub mod AlikeLemmas
 pub mod CarriedLemmas
+pub mod FetchedLemmas

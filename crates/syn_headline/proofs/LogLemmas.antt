@@ -48,4 +48,4 @@ abbrev pub scans_of : SessionPlan → Scans
 scans_of made = record { scan = made.scan; since = made.since }
 
 pub plan_from : (sent : Sent) (made : SessionPlan) → IsPlanOf sent made → IsPlanFrom sent made.session made.archive (scans_of made) made.plan
-plan_from sent made is = record { begun = is.begun; scanned = is.scanned; items = is.items; seen = is.seen }
+plan_from sent made is = record { begun = is.begun; scanned = is.scanned; ordered = is.ordered; items = is.items; seen = is.seen }

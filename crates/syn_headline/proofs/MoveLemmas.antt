@@ -16,11 +16,11 @@ use Rattle.syn_model.specs.History.{History, IsHistory, AllAllowed, IsAllowed, t
 use Rattle.syn_model.specs.Standing.{token_after, place_causes, full_causes}
 use Rattle.syn_model.specs.Archive.{Archive}
 use Rattle.syn_headline.specs.Laws.{AddsAllowed}
-use Rattle.syn_headline.specs.Side.{Side, Served, Staging, Request, Begin, ListAt, Fetch, Stage, Replace, Begun, Piece, Refused, Reads, token_of, is_staged, staged_bytes}
+use Rattle.syn_headline.specs.Side.{Side, Served, Staging, Request, Begin, ListAt, Fetch, Stage, Replace, Begun, Piece, Refused, Reads, token_of, is_staged, staged_bytes, Listed}
 use Rattle.syn_headline.specs.Network.{Which, Left, Right, other, Sent, Asks}
 use Rattle.syn_model.specs.Decision.{path_of}
 use Rattle.syn_headline.specs.Planning.{Planned, seen_on, WritesTo}
-use Rattle.syn_headline.proofs.Invariant.{Plans, plan_in, Histories, IsSound, IsTrue, IsBorne, HadMarks, IsSpent, IsTruePiece, IsSoundStaging, IsSoundReplacement, IsSoundEvent, source_of, part_at}
+use Rattle.syn_headline.proofs.Invariant.{Plans, plan_in, Histories, IsSound, IsTrue, IsBorne, HadMarks, IsSpent, IsTruePiece, IsTrueListing, IsSoundStaging, IsSoundReplacement, IsSoundEvent, source_of, part_at}
 use Rattle.syn_model.proofs.PathLemmas.{strip_prefix-append}
 use Rattle.syn_headline.proofs.SpellingLemmas.{spellings_tell}
 use Rattle.syn_model.proofs.FitsLemmas.{history_fits}
@@ -276,7 +276,7 @@ module _ (plans : Plans) (archive : Archive) (sent : Sent) (histories : Historie
   outcome_moves request served asked (refuses r reason) = inl refl
   outcome_moves _ served asked (begins_again pair e) = inl refl
   outcome_moves _ served asked (begins pair a) = inr (Began session, a, (sound.asked which session number (Begin pair) asked).session_kept, refl)
-  outcome_moves _ served asked (lists path) = inl refl
+  outcome_moves _ served asked (lists path there) = inl refl
   outcome_moves _ served asked (lists_none path none) = inl refl
   outcome_moves _ served asked (fetches path since offset w q) = inl refl
   outcome_moves _ served asked (stages_first item offset bytes z) = inl refl
@@ -301,7 +301,7 @@ module _ (plans : Plans) (archive : Archive) (sent : Sent) (histories : Historie
   outcome_true request served asked (refuses r reason) = refused_true side.history session request reason
   outcome_true _ served asked (begins_again pair e) = subst (λ n. session ≤ n) e (omega arith)
   outcome_true _ served asked (begins pair a) = subst (λ n. session ≤ n) (sym (fold_one 0 side.history (Began session))) (omega arith)
-  outcome_true _ served asked (lists path) = record { reached = omega arith; begun = subst (λ w. session ≤ last_session w) (sym (take-length side.history)) (has_begun path asked); entries_there = ap (λ h. children (mark (tree_of h)) path) (sym (take-length side.history)) }
+  outcome_true _ served asked (lists path there) = record { reached = omega arith; begun = subst (λ w. session ≤ last_session w) (sym (take-length side.history)) (has_begun path asked); entries_there = ap (λ h. children (mark (tree_of h)) path) (sym (take-length side.history)); directory = ap (λ h. is_directory (tree_of h) path) (take-length side.history) ∙ there }
   outcome_true _ served asked (lists_none path none) = record { reached = omega arith; no_directory = ap (λ h. is_directory (tree_of h) path) (take-length side.history) ∙ none }
   outcome_true _ served asked (fetches path since offset w q) =
       let at = quiet_same side.history since path q in
@@ -326,7 +326,7 @@ module _ (plans : Plans) (archive : Archive) (sent : Sent) (histories : Historie
   outcome_borne request served asked (refuses r reason) = refused_borne (plan_in plans session) side.history which request reason
   outcome_borne _ served asked (begins_again pair e) = tt
   outcome_borne _ served asked (begins pair a) = tt
-  outcome_borne _ served asked (lists path) = tt
+  outcome_borne _ served asked (lists path there) = tt
   outcome_borne _ served asked (lists_none path none) = tt
   outcome_borne _ served asked (fetches path since offset w q) = λ item planned e writes since_is.
       let is = made plans histories archive sent sound session item planned e in
@@ -363,7 +363,7 @@ module _ (plans : Plans) (archive : Archive) (sent : Sent) (histories : Historie
   outcome_staging request served asked (refuses r reason) = staged
   outcome_staging _ served asked (begins_again pair e) = staged
   outcome_staging _ served asked (begins pair a) = staged
-  outcome_staging _ served asked (lists path) = staged
+  outcome_staging _ served asked (lists path there) = staged
   outcome_staging _ served asked (lists_none path none) = staged
   outcome_staging _ served asked (fetches path since offset w q) = staged
   outcome_staging _ served asked (stages_first item offset bytes z) =
@@ -405,21 +405,25 @@ legal plans histories archive sent sound side token path since new allowed h sto
     let above_is : parent path ≡ w.above = ap parent w.at ∙ parent-child w.above w.name in
     let listed = λ (s : Which). subst (λ k. WasListed sent s token.session (parent path) k) (sym (w.since_is s)) (subst (λ q. WasListed sent s token.session q (is.1.since s w.above)) (sym above_is)
     (children (is.1.scan s).marks w.above, (is.2.scanned s).listed w.above (w.above_is s).0 (w.above_is s).1)) in
+    let at_source = (listed (other side)).1 in
+    let true_listing : IsTrueListing (histories (other side)) token.session (parent path) (seen_on h.planned (other side)).since (listed (other side)).0 =
+    sound.answered (other side) token.session at_source.number (Listed (seen_on h.planned (other side)).since (listed (other side)).0) (ListAt (parent path)) at_source.answered at_source.asked in
+    let source_directory = ap (λ w. is_directory (tree_at w (seen_on h.planned (other side)).since) (parent path)) (at (other side)) ∙ true_listing.directory in
     record {
       listed = subst (λ k. WasListed sent side token.session (parent path) k) (sym h.listed) (listed side);
       reached = subst (λ w. since ≤ length w) (sym (at side)) h.within;
       untouched = ap (λ w. is_quiet w since (length w) path) (at side) ∙ h.quiet;
       made = entry.0;
       logged = (entry.1, entry.2);
-      planned = (h.planned, ap (λ plan. slice_get plan token.item) entry.3 ∙ h.item, h.writes);
+      planned = h.planned;
+      item = (ap (λ plan. slice_get plan token.item) entry.3 ∙ h.item, h.writes);
+      seen = h.listed;
       recorded = sym (mark-subtree (tree_of (history_of stores side)) path) ∙ (mark-subtree (tree_of (history_of stores side)) path ∙ (ap (λ w. subtree (mark (tree_of w)) path) (at side)
           ∙ (sound.recorded token.session token.item h.planned side path h.item h.writes (current (histories side) token path since new allowed) (ap (λ k. is_quiet (histories side) k (length (histories side)) path) (sym h.listed) ∙ h.quiet)
           ∙ ap (λ a. subtree a.marks path) (sym archive_is))));
       source = record {
-        listed = (seen_on h.planned (other side)).since;
-        was_listed = listed (other side);
-        position = (seen_on h.planned (other side)).since;
-        not_before = omega arith;
+        listed = listed (other side);
+        directory = source_directory;
         reached = subst (λ w. (seen_on h.planned (other side)).since ≤ length w) (sym (at (other side))) h.reached;
         held = h.whole ∙ (ap (λ p. part_at (histories (other side)) (seen_on h.planned (other side)).since p) (writes_path h.planned.item side path h.writes) ∙ ap (λ w. part_at w (seen_on h.planned (other side)).since path) (sym (at (other side))));
       };

@@ -8,12 +8,13 @@ use Rattle.syn_model.specs.Tree.{Tree, replace, subtree, is_directory}
 use Rattle.syn_model.specs.Limits.{children}
 use Rattle.syn_model.specs.Mark.{mark}
 use Rattle.syn_model.specs.Spelling.{spelling}
-use Rattle.syn_model.specs.Refusal.{Refusal, Cause, first_cause, OldSession, WrongPair, NotStaged, BadStage, BelowFloor, Touched}
+use Rattle.syn_model.specs.Refusal.{Refusal, Cause, first_cause, Memory, OldSession, WrongPair, NotStaged, BadStage, BelowFloor, Touched}
 use Rattle.syn_model.specs.Refusal as why
 use Rattle.syn_model.specs.Event.{IsLawfulToken, is_below, is_same_token, Event, Began, Replaced}
 use Rattle.syn_model.specs.History.{History, tree_of, IsAllowed, last_session, last_token, position_causes, is_quiet, floor}
 use Rattle.syn_model.specs.Standing.{place_causes, full_causes}
 use Rattle.syn_headline.specs.Side.{Side, Served, Staging, Request, Begin, ListAt, Fetch, Stage, Replace, Begun, Listed, NotDir, Piece, Staged, Done, Refused, IsLawfulRequest, answer, add_event, set_staging, unless_refused, stage, stage_first, replace_with, replace_causes, since_causes, room_causes, is_dead_token, serve, Serves, token_of, Reads, is_staged, staged_bytes}
+use Rattle.syn_headline.specs.Laws.{PiecesAreUntouched}
 use Rattle.syn_headline.specs.Machine.{Status, Up, Halted, Down}
 use Rattle.syn_headline.specs.SideMachine.{serve_halted, CannotStage, ServesAs}
 use Rattle.syn_model.proofs.HistoryLemmas.{first_cause-none, none-append}
@@ -23,7 +24,7 @@ pub data Outcome (side : Side) (session : ℕ) : Request → Served → Type 0 w
   refuses : (request : Request) (reason : Refusal) → Outcome side session request (answer side (Refused reason))
   begins_again : (pair : ℕ) → session ≡ last_session side.history → Outcome side session (Begin pair) (answer side (Begun (length side.history)))
   begins : (pair : ℕ) → IsAllowed side.history (Began session) → Outcome side session (Begin pair) (answer (add_event side (Began session)) (Begun (length side.history + 1)))
-  lists : (path : Path) → Outcome side session (ListAt path) (answer side (Listed (length side.history) (children (mark (tree_of side.history)) path)))
+  lists : (path : Path) → is_directory (tree_of side.history) path ≡ true → Outcome side session (ListAt path) (answer side (Listed (length side.history) (children (mark (tree_of side.history)) path)))
   lists_none : (path : Path) → is_directory (tree_of side.history) path ≡ false → Outcome side session (ListAt path) (answer side (NotDir (length side.history)))
   fetches : (path : Path) (since offset : ℕ) → since ≤ length side.history → is_quiet side.history since (length side.history) path ≡ true →
       Outcome side session (Fetch path since offset) (answer side (Piece (length (spelling (subtree (tree_of side.history) path))) (take 32768 (drop offset (spelling (subtree (tree_of side.history) path))))))
@@ -83,9 +84,16 @@ with_outcome has_room side session item path since size (Some new) lawful reads 
     let s = since_holds side.history path since (none-append (since_causes side.history path since) (place_causes tree path ++ (full_causes (replace tree path new) ++ (position_causes side.history ++ room_causes has_room (Replaced token path since new)))) e).0 in
     replaces item path since size new reads staged long s.0 s.1 (replaced_allowed has_room side token path since new lawful reads.0 fresh alive e))
 
+-- a piece comes from a path that nothing touched since
+pub pieces_are_untouched : PiecesAreUntouched
+pieces_are_untouched pair has_room side session path since offset served total bytes (inr none) is = absurd (let x : Refused Memory ≡ Piece total bytes = sym (ap (λ s. s.reply) none) ∙ is in cc)
+pieces_are_untouched pair has_room side session path since offset served total bytes (inl s) is =
+    unless (λ served. served.reply ≡ Piece total bytes → (since ≤ length side.history) × (is_quiet side.history since (length side.history) path ≡ true)) side (first_cause (since_causes side.history path since)) _
+    (λ why e. absurd (let x : Refused why ≡ Piece total bytes = e in cc)) (λ e _. since_holds side.history path since e) (sym (ap (λ s. s.reply) s.2) ∙ is)
+
 serve_outcome : (pair : ℕ) (has_room : Event → Bool) (side : Side) (session : ℕ) (request : Request) (read : Option Tree) → Reads (staged_bytes side.staging) read → IsLawfulRequest session request → Outcome side session request (serve pair has_room read side session request)
 serve_outcome pair has_room side session (ListAt path) read reads lawful =
-    elim (is_directory (tree_of side.history) path) as (λ b. is_directory (tree_of side.history) path ≡ b → Outcome side session (ListAt path) (answer side (if b then Listed (length side.history) (children (mark (tree_of side.history)) path) else NotDir (length side.history)))) [ true ↦ λ _. lists path | false ↦ λ none. lists_none path none ] refl
+    elim (is_directory (tree_of side.history) path) as (λ b. is_directory (tree_of side.history) path ≡ b → Outcome side session (ListAt path) (answer side (if b then Listed (length side.history) (children (mark (tree_of side.history)) path) else NotDir (length side.history)))) [ true ↦ λ there. lists path there | false ↦ λ none. lists_none path none ] refl
 serve_outcome pair has_room side session (Fetch path since offset) read reads lawful =
     unless (Outcome side session (Fetch path since offset)) side (first_cause (since_causes side.history path since)) _ (refuses _) (λ e. let s = since_holds side.history path since e in fetches path since offset s.0 s.1)
 serve_outcome pair has_room side session (Stage item offset bytes) read reads lawful = stage_outcome side side.staging session item offset bytes refl

@@ -11,7 +11,7 @@ use Rattle.syn_model.proofs.PlanOrder.{plan_is_decided}
 use Rattle.syn_model.specs.Path.{Name, Path, name_cmp, is_prefix, strip_prefix, parent, child}
 use Rattle.syn_model.specs.Tree.{Tree, IsTree, subtree, is_directory, is_directory_content}
 use Rattle.syn_model.specs.Limits.{children}
-use Rattle.syn_model.specs.Dirty.{Scan, dirty, is_same_tree, is_unstable}
+use Rattle.syn_model.specs.Dirty.{Scan, dirty, is_same_tree, is_unstable, IsListedInOrder}
 use Rattle.syn_model.specs.Mark.{mark}
 use Rattle.syn_model.specs.History.{tree_of, is_quiet, last_session}
 use Rattle.syn_model.specs.Reconcile.{is_directory_in_both}
@@ -51,7 +51,6 @@ scan_of-more sent more side session scan since h = record {
   tree = h.tree;
   fits = h.fits;
   listed = λ path d u. answered-more sent more _ _ _ _ (h.listed path d u);
-  ordered = h.ordered;
   not_dir = λ path c. ((h.not_dir path c).0, answered-more sent more _ _ _ _ (h.not_dir path c).1);
   nothing_below = h.nothing_below;
 }
@@ -60,6 +59,7 @@ pub plan_of-more : (sent more : Sent) (made : SessionPlan) → IsPlanOf sent mad
 plan_of-more sent more made h = record {
   begun = λ side. begun-more sent more side made.session (h.begun side);
   scanned = λ side. scan_of-more sent more side made.session (made.scan side) (made.since side) (h.scanned side);
+  ordered = h.ordered;
   items = h.items;
   seen = h.seen;
 }
@@ -240,14 +240,14 @@ found_unstable p (u ∷ us) e =
 
 module _ (plans : Plans) (histories : Histories) (archive : Archive) (sent : Sent) (sound : IsSound plans histories archive sent) where
   -- a scan of a session shows its side's history
-  pub scans : (side : Which) (session : ℕ) (scan : Scan) (since : Path → ℕ) → IsScanOf sent side session scan since → ScansHistory scan since (histories side)
-  scans side session scan since h = record {
+  pub scans : (side : Which) (session : ℕ) (scan : Scan) (since : Path → ℕ) → IsScanOf sent side session scan since → IsListedInOrder scan since → ScansHistory scan since (histories side)
+  scans side session scan since h ordered = record {
     tree = h.tree;
     history_tree = history-is_tree (histories side) (sound.lawful side);
     listed = λ path d u. let w = h.listed path d u in
         let true_one : IsTrueListing (histories side) session path (since path) (children scan.marks path) = sound.answered side session w.number (Listed (since path) (children scan.marks path)) (ListAt path) w.answered w.asked in
         true_one.entries_there;
-    ordered = h.ordered;
+    ordered = ordered;
     not_dir = λ path u. let w = (h.not_dir path (found_unstable path scan.unstable u)).1 in
         let true_one : IsTrueNotDir (histories side) path (since path) = sound.answered side session w.number (NotDir (since path)) (ListAt path) w.answered w.asked in
         true_one.no_directory;
@@ -282,7 +282,7 @@ module _ (plans : Plans) (histories : Histories) (archive : Archive) (sent : Sen
       pub seen_is : (s : Which) → is_quiet (histories s) (seen_on planned s).since (length (histories s)) path ≡ true → (seen_on planned s).marks ≡ subtree (mark (tree_of (histories s))) path
       seen_is s quiet =
           let at = writes_of in
-          let seen = scan_is (both.scan s) (both.since s) (histories s) (scans s session (both.scan s) (both.since s) (is.scanned s)) at.above at.name (at.above_is s).0 (at.above_is s).1
+          let seen = scan_is (both.scan s) (both.since s) (histories s) (scans s session (both.scan s) (both.since s) (is.scanned s) (is.ordered s)) at.above at.name (at.above_is s).0 (at.above_is s).1
           (ap₂ (λ k p. is_quiet (histories s) k (length (histories s)) p) (sym (at.since_is s)) (sym at.at) ∙ quiet) in
           at.marks_are s ∙ subst (λ p. subtree (both.scan s).marks p ≡ subtree (mark (tree_of (histories s))) p) (sym at.at) seen
 

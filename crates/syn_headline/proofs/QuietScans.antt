@@ -12,7 +12,7 @@ use Rattle.syn_model.specs.Path.{Name, Path, child}
 use Rattle.syn_model.specs.Tree.{Tree, HasParents, is_directory, is_directory_content}
 use Rattle.syn_model.specs.Limits.{children}
 use Rattle.syn_model.specs.Mark.{mark, mark_of}
-use Rattle.syn_model.specs.Dirty.{Scan, is_unstable}
+use Rattle.syn_model.specs.Dirty.{Scan, is_unstable, IsListedInOrder}
 use Rattle.syn_model.specs.Plan.{scan_of}
 use Rattle.syn_model.specs.Event.{Event, Edited, Began, Replaced}
 use Rattle.syn_model.specs.History.{History, IsHistory, AllAllowed, tree_of, tree_at, is_quiet, last_session}
@@ -92,13 +92,13 @@ nothing_listed : {X : Type 0} (xs : List X) → ((x : X) → Contains xs x → �
 nothing_listed [] none = refl
 nothing_listed (x ∷ xs) none = absurd (none x (0, omega arith, refl))
 
-module _ (plans : Plans) (histories : Histories) (archive : Archive) (sent : Sent) (sound : IsSound plans histories archive sent) (side : Which) (session : ℕ) (scan : Scan) (since : Path → ℕ) (is : IsScanOf sent side session scan since)
+module _ (plans : Plans) (histories : Histories) (archive : Archive) (sent : Sent) (sound : IsSound plans histories archive sent) (side : Which) (session : ℕ) (scan : Scan) (since : Path → ℕ) (is : IsScanOf sent side session scan since) (ordered : IsListedInOrder scan since)
     (before : History) (e : histories side ≡ before ++ Began session ∷ []) where
   long : length (histories side) ≡ length before + 1
   long = ap length e ∙ length-append before (Began session ∷ [])
 
   shows : ScansHistory scan since (histories side)
-  shows = scans plans histories archive sent sound side session scan since is
+  shows = scans plans histories archive sent sound side session scan since is ordered
 
   root_there : is_directory scan.marks [] ≡ true
   root_there = ap is_directory_content is.tree.rooted
@@ -130,7 +130,7 @@ module _ (plans : Plans) (histories : Histories) (archive : Archive) (sent : Sen
   after_from p (n ∷ r) late d =
       let at : child p n ++ r ≡ p ++ n ∷ r = append_assoc p (n ∷ []) r in
       let d' : is_directory scan.marks (child p n ++ r) ≡ true = ap (is_directory scan.marks) at ∙ d in
-      let next : since p ≤ since (child p n) = is.ordered p n (directory_above scan.marks (child p n) r is.tree.part.parents d') in
+      let next : since p ≤ since (child p n) = ordered p n (directory_above scan.marks (child p n) r is.tree.part.parents d') in
       subst (λ w. length before + 1 ≤ since w) at (after_from (child p n) r (omega (arith, late, next)) d')
 
   reached : (p : Path) → is_directory scan.marks p ≡ true → since p ≤ length (histories side)
@@ -174,10 +174,10 @@ module _ (plans : Plans) (histories : Histories) (archive : Archive) (sent : Sen
   scan_found = ap₂ (λ m u. record { marks = m; unstable = u }) marks_are (nothing_listed scan.unstable none_unstable)
 
 -- what the scans of a plan show as it is made
-pub plan_shows : (plans : Plans) (histories : Histories) (archive : Archive) (sent : Sent) → IsSound plans histories archive sent → (side : Which) (session : ℕ) (scan : Scan) (since : Path → ℕ) → IsScanOf sent side session scan since →
+pub plan_shows : (plans : Plans) (histories : Histories) (archive : Archive) (sent : Sent) → IsSound plans histories archive sent → (side : Which) (session : ℕ) (scan : Scan) (since : Path → ℕ) → IsScanOf sent side session scan since → IsListedInOrder scan since →
     ((before later : History) → histories side ≡ before ++ Began session ∷ later → All (IsPlannedEvent [] histories side) later) → ShowsFound (histories side) session scan since
-plan_shows plans histories archive sent sound side session scan since is events before later e quiet =
+plan_shows plans histories archive sent sound side session scan since is ordered events before later e quiet =
     let alone : histories side ≡ before ++ Began session ∷ [] = e ∙ ap (λ w. before ++ Began session ∷ w) (nothing_later histories side later (events before later e) quiet) in (
-      scan_found plans histories archive sent sound side session scan since is before alone,
-      listed_then plans histories archive sent sound side session scan since is before alone,
+      scan_found plans histories archive sent sound side session scan since is ordered before alone,
+      listed_then plans histories archive sent sound side session scan since is ordered before alone,
     )

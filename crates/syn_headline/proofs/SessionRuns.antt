@@ -1,9 +1,9 @@
 -- What the sessions of whole runs leave.
 use Rattle.std.proofs.Common.{true, ◌≡◌, ◌+◌, List, [], ◌∷◌, ◌++◌, filter_map, take, drop, refl, sym, ap, ◌∙◌, subst, Some, None, option_map, append_assoc, arith}
-use Rattle.std.specs.Prelude.{Contains, ◌↔◌}
+use Rattle.std.specs.Prelude.{IfSome, All, Contains, ◌↔◌, ◌<◌}
 use Rattle.std.specs.FinMap.{get}
 use Rattle.std.proofs.lemmas.List.{take-append-drop}
-use Rattle.std.proofs.lemmas.List.Elements.{filter_map-append}
+use Rattle.std.proofs.lemmas.List.Elements.{All-nil, filter_map-append}
 use Rattle.std.proofs.lemmas.Option.{none-some}
 use Rattle.syn_model.specs.Path.{Path}
 use Rattle.syn_model.specs.Tree.{IsTree, subtree}
@@ -28,6 +28,7 @@ use Rattle.syn_headline.proofs.AdvanceLemmas.{step_advances}
 use Rattle.syn_headline.proofs.WholeRuns.{no_plans, start_kept, start_stands, run_kept}
 use Rattle.syn_headline.proofs.KeptLemmas.{one_start}
 use Rattle.syn_headline.proofs.CourseLemmas.{course}
+use Rattle.syn_headline.proofs.EarlyLemmas.{IsEarly, early_then}
 use Rattle.syn_headline.proofs.WatchLemmas.{all_kept, RunsWell, runs_well, all_can}
 use Rattle.syn_headline.proofs.ToldLemmas.{IsTold, AllTold, all_told}
 
@@ -35,6 +36,7 @@ use Rattle.syn_headline.proofs.ToldLemmas.{IsTold, AllTold, all_told}
 pub record IsWatched (before : Stores) (world : World) : Type 0 where
   pub can : AllCanKeep before.archive (all_kept world)
   pub told : AllTold before world
+  pub early : IsEarly before world
 
 run_watched : (before : Stores) → IsTree before.archive.marks → HasDepth most_names before.archive.marks → (plans : Plans) (old new : World) → IsKept plans old → StandsFor before old → RunsWell before.archive old old.coordinator.running → IsWatched before old →
     FollowsAll old new → IsWatched before new
@@ -45,7 +47,7 @@ run_watched before whole shallow plans old _ k stands runs w (one_more _ between
     let stands_then = step_stands before old between stands g in
     let can = all_can before plans old between k stands runs w.can c in
     run_watched before whole shallow a.later between new a.kept stands_then (runs_well before plans old between k stands runs a c)
-    (record { can = can; told = all_told before whole shallow plans old between k stands stands_then runs can a w.told c }) more
+    (record { can = can; told = all_told before whole shallow plans old between k stands stands_then runs can a w.told c; early = early_then before plans old between k stands w.can a w.early c }) more
 
 -- what both sides held has no path that is longer than a path may be
 pair_depth : (stores : Stores) → IsPair stores → HasDepth most_names stores.archive.marks
@@ -61,17 +63,22 @@ start_watched : (old : World) → IsStart old → IsWatched (stores_of old) old
 start_watched old s = record {
   can = subst (λ acks. AllCanKeep old.coordinator.archive (filter_map kept_in acks)) (sym s.nothing_yet.1) tt;
   told = λ report acks c complete. let d : Contains [] (report, acks) = subst (λ w. Contains w (report, acks)) s.nothing_yet.2 c in absurd (omega (arith, d.1));
+  early = record {
+    running = subst (λ o. IfSome o (λ r. old.coordinator.archive.last_session < r.session)) (sym s.coordinator.0) tt;
+    logged = subst (All (λ made. old.coordinator.archive.last_session < made.session)) (sym s.nothing_yet.3) (All-nil (λ made. old.coordinator.archive.last_session < made.session));
+    seen = λ made c. absurd (let d : Contains [] made = subst (λ w. Contains w made) s.nothing_yet.3 c in omega (arith, d.1));
+  };
 }
 
 module _ (old new : World) (s : IsStart old) (g : FollowsAll old new) where
   abbrev before : Stores
   before = stores_of old
 
-  watched : IsWatched before new
+  pub watched : IsWatched before new
   watched = run_watched before s.pair.marks (pair_depth before s.pair) no_plans old new (start_kept old s) (start_stands old s.nothing_yet.1)
       (subst (RunsWell before.archive old) (sym s.coordinator.0) tt) (start_watched old s) g
 
-  stands : StandsFor before new
+  pub stands : StandsFor before new
   stands = run_stands before old new g (start_stands old s.nothing_yet.1)
 
   module _ (report : Report) (found left : Stores) (q : IsQuietSession before new.acknowledged new.reports report found left) where
@@ -101,15 +108,15 @@ module _ (old new : World) (s : IsStart old) (g : FollowsAll old new) where
     right_began = subst (λ w. BeganAfter report.session found.right w.right) q.at_end q.right_side
 
     -- a history of the run goes on from what it found
-    goes_on : (which : Which) (start first whole : History) → whole ≡ start ++ filter_map (event_at which) new.acknowledged → BeganAfter report.session first (start ++ filter_map (event_at which) acks) → (more : History) × (whole ≡ first ++ more)
+    goes_on : (which : Which) (start first whole : History) → whole ≡ start ++ filter_map (event_at which) new.acknowledged → BeganAfter report.session first (start ++ filter_map (event_at which) acks) → (more : History) × (whole ≡ first ++ Began report.session ∷ more)
     goes_on which start first whole is began =
         let more = filter_map (event_at which) (drop q.acks new.acknowledged) in (
-          (Began report.session ∷ began.later) ++ more,
+          began.later ++ more,
           is ∙ (ap (λ w. start ++ filter_map (event_at which) w) (sym (take-append-drop q.acks new.acknowledged)) ∙ (ap (λ w. start ++ w) (filter_map-append (event_at which) acks (drop q.acks new.acknowledged))
               ∙ (sym (append_assoc start (filter_map (event_at which) acks) more) ∙ (ap (λ w. w ++ more) began.begun ∙ append_assoc first (Began report.session ∷ began.later) more)))),
         )
 
-    pub found_then : (which : Which) → (more : History) × (histories_of new which ≡ history_of found which ++ more)
+    pub found_then : (which : Which) → (more : History) × (histories_of new which ≡ history_of found which ++ Began report.session ∷ more)
     found_then Left = goes_on Left before.left found.left new.left.side.history stands.left left_began
     found_then Right = goes_on Right before.right found.right new.right.side.history stands.right right_began
 
@@ -117,7 +124,7 @@ module _ (old new : World) (s : IsStart old) (g : FollowsAll old new) where
     pub found_lawful : (which : Which) → IsHistory (history_of found which)
     found_lawful which =
         let then = found_then which in
-        all_front [] (history_of found which) then.0 (subst IsHistory then.1 ((run_kept no_plans old new (start_kept old s) g).1.sound.lawful which))
+        all_front [] (history_of found which) (Began report.session ∷ then.0) (subst IsHistory then.1 ((run_kept no_plans old new (start_kept old s) g).1.sound.lawful which))
 
     synchronizes : AreApart (tree_of found.left) (tree_of found.right) → IsSynchronized (trees_of found) (trees_of left)
     synchronizes apart = subst (λ s. IsSynchronized (trees_of found) (trees_of s)) (sym q.at_end) ((told.worth found archive_is left_began right_began).0 apart)

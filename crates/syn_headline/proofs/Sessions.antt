@@ -10,9 +10,11 @@ use Rattle.syn_headline.specs.World.{World}
 use Rattle.syn_headline.proofs.Coarse.{kept_in_session, since_start}
 use Rattle.syn_headline.proofs.Walks.{IsSettledBy}
 use Rattle.syn_headline.proofs.Remembers.{Remembers}
+use Rattle.syn_headline.proofs.InOrder.{ListsInOrder, SaysAfter, beside_in_order}
 
 pub record IsHeard (world : World) (running : Running) : Type 0 where
   pub remembers : Remembers world.sent running
+  pub in_order : ListsInOrder world.sent running
   pub unplanned : running.plan ≡ None → All (λ made. made.session ≢ running.session) world.log × (running.cursor ≡ 0)
   pub planned : IsSome running.plan → Any (λ made. made.session ≡ running.session) world.log
   pub kept : kept_in_session world.acknowledged ≡ running.kept
@@ -29,6 +31,7 @@ pub record GoesBeside (old new : World) : Type 0 where
   pub acks : List Ack
   pub sent : new.sent ≡ old.sent ++ more
   pub no_request : (side : Which) (session n : ℕ) (request : Request) → Contains more (Asks side session n request) → ⊥
+  pub says : SaysAfter old.sent more
   pub log : new.log ≡ old.log
   pub acknowledged : new.acknowledged ≡ old.acknowledged ++ acks
   pub nothing_kept : filter_map kept_in acks ≡ []
@@ -44,6 +47,7 @@ heard_beside old new running g h = record {
     ];
     below = h.remembers.below;
   });
+  in_order = subst (λ sent. ListsInOrder sent running) (sym g.sent) (beside_in_order old.sent g.more running h.remembers g.says h.in_order);
   unplanned = λ none. let was = h.unplanned none in (subst (All (λ made. made.session ≢ running.session)) (sym g.log) was.0, was.1);
   planned = λ some. subst (Any (λ made. made.session ≡ running.session)) (sym g.log) (h.planned some);
   kept = ap kept_in_session g.acknowledged ∙ (ap (fold since_start []) (filter_map-append kept_in old.acknowledged g.acks ∙ (ap (λ ks. filter_map kept_in old.acknowledged ++ ks) g.nothing_kept ∙ append-nil (filter_map kept_in old.acknowledged))) ∙ h.kept);

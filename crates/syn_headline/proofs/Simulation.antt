@@ -10,8 +10,15 @@ use Rattle.syn_model.specs.Event.{Edit, Event, Edited}
 use Rattle.syn_model.specs.Archive.{Archive, Kept, Session, CanKeep}
 use Rattle.syn_model.proofs.HistoryLemmas.{first_cause-none}
 use Rattle.syn_headline.specs.Machine.{Status, Up, Halted, Down, Arms, Journaled, has_room, after_device, with_image, with_record, reopened, Compacts, compacted, not_compacted, Opens, opened, recovered}
-use Rattle.syn_headline.specs.Side.{Request, Reply}
-use Rattle.syn_headline.specs.SideMachine.{SideMachine, causes_of}
+use Rattle.std.specs.Prelude.{length, ◌≤◌}
+use Rattle.std.proofs.lemmas.Option.{same_Some}
+use Rattle.syn_model.specs.Path.{Path}
+use Rattle.syn_model.specs.Tree.{is_directory}
+use Rattle.syn_model.specs.Limits.{children}
+use Rattle.syn_model.specs.Mark.{mark}
+use Rattle.syn_model.specs.History.{tree_of}
+use Rattle.syn_headline.specs.Side.{Request, ListAt, Reply, Listed, NotDir, Side, Served, Serves}
+use Rattle.syn_headline.specs.SideMachine.{SideMachine, causes_of, side_now, has_room_for, ServesAs, SideTakes, answers, adds, said}
 use Rattle.syn_headline.specs.Network.{Which, Left, Right, Message, Asks, Answers, Sent}
 use Rattle.syn_headline.specs.Acknowledged.{Ack, Happened, Kept_by}
 use Rattle.syn_headline.specs.Planning.{Log}
@@ -21,11 +28,12 @@ use Rattle.syn_headline.specs.World.{World, Machine, At, Coordinator, Step, Edit
 use Rattle.syn_headline.specs.World as world
 use Rattle.syn_headline.proofs.Coarse.{Follows, FollowsAll, nothing_more, one_more}
 use Rattle.syn_headline.proofs.Coarse as coarse
-use Rattle.syn_headline.proofs.Invariant.{Plans, histories_of, IsHarmless, IsKept}
+use Rattle.syn_headline.proofs.Invariant.{Plans, histories_of, IsTrueListing, IsHarmless, IsKept}
 use Rattle.syn_headline.proofs.StepLemmas.{if_some}
 use Rattle.syn_headline.proofs.AdvanceLemmas.{step_advances}
 use Rattle.syn_headline.proofs.WorldLemmas.{kept_events}
 use Rattle.syn_headline.proofs.View.{view, view_running, view_coordinator, not_up, halted_not_up, down_not_up, neither, edits_follow, opens_follow, compacts_follow, request_follows, device_follows}
+use Rattle.syn_headline.proofs.InOrder.{SaysAfter, position_of}
 use Rattle.syn_headline.proofs.Sessions.{IsHeard, GoesBeside, heard_beside, no_asks}
 use Rattle.syn_headline.proofs.CallLemmas.{takes_follow}
 use Rattle.syn_headline.proofs.StartLemmas.{nothing_given, heard_still, starts_follow, ticks_follow}
@@ -45,28 +53,84 @@ same_beside old new sent log acks = record {
   acks = [];
   sent = sent ∙ sym (append-nil old.sent);
   no_request = λ side session n q c. absurd (omega (arith, c.1));
+  says = λ side session n reply path later above position entries c. absurd (omega (arith, c.1));
   log = log;
   acknowledged = acks ∙ sym (append-nil old.acknowledged);
   nothing_kept = refl;
 }
 
-goes_beside : (old : World) (side : Which) (machine : SideMachine) (messages : List Message) (events : List Event) → ((at : Which) (session n : ℕ) (q : Request) → Contains messages (Asks at session n q) → ⊥) → GoesBeside old (side_goes old side machine messages events)
-goes_beside old Left machine messages events none = record { more = messages; acks = map (λ event. Happened Left event) events; sent = refl; no_request = none; log = refl; acknowledged = refl; nothing_kept = kept_events Left events }
-goes_beside old Right machine messages events none = record { more = messages; acks = map (λ event. Happened Right event) events; sent = refl; no_request = none; log = refl; acknowledged = refl; nothing_kept = kept_events Right events }
+goes_beside : (old : World) (side : Which) (machine : SideMachine) (messages : List Message) (events : List Event) → ((at : Which) (session n : ℕ) (q : Request) → Contains messages (Asks at session n q) → ⊥) → SaysAfter old.sent messages → GoesBeside old (side_goes old side machine messages events)
+goes_beside old Left machine messages events none says = record { more = messages; acks = map (λ event. Happened Left event) events; sent = refl; no_request = none; says = says; log = refl; acknowledged = refl; nothing_kept = kept_events Left events }
+goes_beside old Right machine messages events none says = record { more = messages; acks = map (λ event. Happened Right event) events; sent = refl; no_request = none; says = says; log = refl; acknowledged = refl; nothing_kept = kept_events Right events }
 
 coordinator_stays : (old : World) (side : Which) (machine : SideMachine) (messages : List Message) (events : List Event) → (side_goes old side machine messages events).coordinator ≡ old.coordinator
 coordinator_stays old Left machine messages events = refl
 coordinator_stays old Right machine messages events = refl
 
 -- a side goes on
-side_heard : (old : World) (side : Which) (machine : SideMachine) (messages : List Message) (events : List Event) → ((at : Which) (session n : ℕ) (q : Request) → Contains messages (Asks at session n q) → ⊥) → IfSome old.coordinator.running (IsHeard old) →
+side_heard : (old : World) (side : Which) (machine : SideMachine) (messages : List Message) (events : List Event) → ((at : Which) (session n : ℕ) (q : Request) → Contains messages (Asks at session n q) → ⊥) → SaysAfter old.sent messages → IfSome old.coordinator.running (IsHeard old) →
     IfSome (side_goes old side machine messages events).coordinator.running (IsHeard (side_goes old side machine messages events))
-side_heard old side machine messages events none h =
+side_heard old side machine messages events none says h =
     subst (λ c. IfSome c.running (IsHeard (side_goes old side machine messages events))) (sym (coordinator_stays old side machine messages events))
-    (beside_heard old (side_goes old side machine messages events) (goes_beside old side machine messages events none) old.coordinator.running h)
+    (beside_heard old (side_goes old side machine messages events) (goes_beside old side machine messages events none says) old.coordinator.running h)
 
 nothing_asked : (at : Which) (session n : ℕ) (q : Request) → Contains [] (Asks at session n q) → ⊥
 nothing_asked at session n q c = omega (arith, c.1)
+
+nothing_said : (sent : Sent) → SaysAfter sent []
+nothing_said sent side session n reply path later above position entries c = absurd (omega (arith, c.1))
+
+-- what a side answers to a listing is at its position
+abbrev IsListing : ℕ → Option Reply → Type 0
+IsListing here said = (reply : Reply) (later : ℕ) → said ≡ Some reply → position_of reply ≡ Some later → later ≡ here
+
+served_listing : (pair : ℕ) (has_room : Event → Bool) (side : Side) (session : ℕ) (path : Path) (served : Served) → Serves pair has_room side session (ListAt path) served → (later : ℕ) → position_of served.reply ≡ Some later → later ≡ length side.history
+served_listing pair has_room side session path served (inl (read, reads, is)) later at = by (is_directory (tree_of side.history) path) (sym (ap (λ s. position_of s.reply) is) ∙ at)
+  where
+    by : (b : Bool) → position_of (if b then Listed (length side.history) (children (mark (tree_of side.history)) path) else NotDir (length side.history)) ≡ Some later → later ≡ length side.history
+    by true e = sym (same_Some _ _ e)
+    by false e = sym (same_Some _ _ e)
+served_listing pair has_room side session path served (inr none) later at = absurd (none-some _ (sym (ap (λ s. position_of s.reply) none) ∙ at))
+
+says_listing : (pair : ℕ) (machine : SideMachine) (session : ℕ) (path : Path) (new : SideMachine) (said : Option Reply) (events : List Event) → SideTakes pair machine session (ListAt path) new said events → IsListing (length machine.journal.value) said
+says_listing pair machine session path _ _ _ (answers served serves same) reply later is at = by machine.journal.status serves
+  where
+    now : position_of served.reply ≡ Some later
+    now = ap position_of (same_Some _ _ is) ∙ at
+
+    by : (status : Status) → ServesAs status pair (has_room_for pair machine) (side_now machine) session (ListAt path) served → later ≡ length machine.journal.value
+    by Up s = served_listing pair (has_room_for pair machine) (side_now machine) session path served s later now
+    by Halted (inl s) = absurd (none-some _ (sym (ap (λ x. position_of x.reply) s) ∙ now))
+    by Halted (inr s) = absurd s
+    by Down s = absurd s
+says_listing pair machine session path _ _ _ (adds served event journal events up serves same writes) reply later is at = by journal.status is
+  where
+    by : (status : Status) → said status served.reply ≡ Some reply → later ≡ length machine.journal.value
+    by Up e = served_listing pair (has_room_for pair machine) (side_now machine) session path served serves later (ap position_of (same_Some _ _ e) ∙ at)
+    by Halted e = absurd (none-some _ (ap position_of (same_Some _ _ e) ∙ at))
+    by Down e = absurd (none-some _ e)
+
+value_of : (world : World) (side : Which) → histories_of (view world) side ≡ (side_of world side).journal.value
+value_of world Left = refl
+value_of world Right = refl
+
+-- so it comes after each listing that the side answered before
+says_after : (plans : Plans) (old : World) → IsKept plans (view old) → (side : Which) (session number : ℕ) (request : Request) (machine : SideMachine) (reply : Option Reply) (events : List Event) → Contains old.sent (Asks side session number request) →
+    SideTakes old.pair (side_of old side) session request machine reply events → SaysAfter old.sent (says side session number reply)
+says_after plans old k side session number request machine None events asked t at s n said path later above position entries c = absurd (omega (arith, c.1))
+says_after plans old k side session number request machine (Some reply) events asked t at s n said path later above position entries (suc i, h, e) = absurd (omega (arith, h))
+says_after plans old k side session number request machine (Some reply) events asked t at s n said path later above position entries (zero, h, e) = λ asked_at is was.
+    let same : Answers side session number reply ≡ Answers at s n said = e in
+    let is_side : side ≡ at = cc in
+    let is_session : session ≡ s = cc in
+    let is_number : number ≡ n = cc in
+    let is_reply : reply ≡ said = cc in
+    let request_is : request ≡ ListAt path = k.sound.numbers side session number request (ListAt path) asked
+    (subst (λ a. Contains old.sent (Asks a session number (ListAt path))) (sym is_side) (subst (λ x. Contains old.sent (Asks at x number (ListAt path))) (sym is_session) (subst (λ x. Contains old.sent (Asks at s x (ListAt path))) (sym is_number) asked_at))) in
+    let here : later ≡ length (side_of old side).journal.value = says_listing old.pair (side_of old side) session path machine (Some reply) events (subst (λ q. SideTakes old.pair (side_of old side) session q machine (Some reply) events) request_is t) reply later refl (ap position_of is_reply ∙ is) in
+    let listing : IsTrueListing (histories_of (view old) at) s above position entries = k.sound.answered at s was.number (Listed position entries) (ListAt above) was.answered was.asked in
+    let reached : position ≤ length (side_of old side).journal.value = subst (λ h. position ≤ length h) (value_of old side) (subst (λ a. position ≤ length (histories_of (view old) a)) (sym is_side) listing.reached) in
+    subst (λ x. position ≤ x) (sym here) reached
 
 says_no_request : (side : Which) (session n : ℕ) (reply : Option Reply) (at : Which) (s m : ℕ) (q : Request) → Contains (says side session n reply) (Asks at s m q) → ⊥
 says_no_request side session n None at s m q c = omega (arith, c.1)
@@ -167,14 +231,14 @@ module _ (plans : Plans) (old : World) (k : IsKept plans (view old)) (h : IfSome
   edits_so side user edit made none up g = (edits_follow old side user edit made none up g, heard_of made g)
     where
       heard_of : (made : World) → EditsSide old side (Edited user edit) made → IfSome made.coordinator.running (IsHeard made)
-      heard_of _ (edits journal events lawful writes) = side_heard old side _ [] events nothing_asked h
+      heard_of _ (edits journal events lawful writes) = side_heard old side _ [] events nothing_asked (nothing_said old.sent) h
 
   compacts_so : (machine : Machine) (made : World) → CompactsMachine old machine made → IsFollowed old made
-  compacts_so _ _ (compacts_side side journal c) = (compacts_follow old side journal c, side_heard old side _ [] [] nothing_asked h)
+  compacts_so _ _ (compacts_side side journal c) = (compacts_follow old side journal c, side_heard old side _ [] [] nothing_asked (nothing_said old.sent) h)
   compacts_so _ _ (compacts_archive journal c) = (compacts_archive_follow old journal c, after_running old (archive_writes old journal []) journal.status old.coordinator.running (archive_beside old journal) h)
 
   opens_so : (calls : ℕ) (machine : Machine) (made : World) → OpensMachine old calls machine made → IsFollowed old made
-  opens_so calls _ _ (opens_side side journal events o) = (opens_follow old side calls journal events o, side_heard old side _ [] events nothing_asked h)
+  opens_so calls _ _ (opens_side side journal events o) = (opens_follow old side calls journal events o, side_heard old side _ [] events nothing_asked (nothing_said old.sent) h)
   opens_so calls _ _ (opens_archive journal kept o) = opens_archive_follow plans old k h calls journal kept o
 
   device_so : (machine : Machine) (status : Status) (arms : Arms) (failed : ℕ) → (status_of old machine ≢ Up → status ≢ Up) → IsFollowed old (set_device old machine status arms failed)
@@ -203,7 +267,7 @@ module _ (plans : Plans) (old : World) (k : IsKept plans (view old)) (h : IfSome
   delivers_so _ c _ (to_no_side side session number request down) = stays_so old refl
   delivers_so _ c _ (to_side side session number request machine reply events t) =
       let asked = c (Asks side session number request) refl in
-      (request_follows old side session number request machine reply events asked (k.sound.asked side session number request asked).lawful t, side_heard old side machine (says side session number reply) events (says_no_request side session number reply) h)
+      (request_follows old side session number request machine reply events asked (k.sound.asked side session number request asked).lawful t, side_heard old side machine (says side session number reply) events (says_no_request side session number reply) (says_after plans old k side session number request machine reply events asked t) h)
   delivers_so _ c _ (to_coordinator side session number reply machine call t) = answer_so side session number reply (c (Answers side session number reply) refl) machine call t
 
   was_sent : (n : ℕ) (m : Message) → slice_get old.sent n ≡ Some m → Contains old.sent m

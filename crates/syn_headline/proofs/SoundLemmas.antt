@@ -109,7 +109,7 @@ true-grow old new a session (Begin pair) (Begun position) t = let grows : last_s
 true-grow old new a session (ListAt path) (Listed position entries) t =
     let x = extends old new a in
     let grows : length old ≤ length new = length_grows old new x in
-    record { reached = omega (arith, t.reached, grows); begun = subst (λ w. session ≤ last_session (take position w)) (sym x.1) (subst (λ w. session ≤ last_session w) (sym (take-append-le position old x.0 t.reached)) t.begun); entries_there = t.entries_there ∙ ap (λ u. children (mark u) path) (sym (tree_at_stays old new x position t.reached)) }
+    record { reached = omega (arith, t.reached, grows); begun = subst (λ w. session ≤ last_session (take position w)) (sym x.1) (subst (λ w. session ≤ last_session w) (sym (take-append-le position old x.0 t.reached)) t.begun); entries_there = t.entries_there ∙ ap (λ u. children (mark u) path) (sym (tree_at_stays old new x position t.reached)); directory = ap (λ u. is_directory u path) (tree_at_stays old new x position t.reached) ∙ t.directory }
 true-grow old new a session (ListAt path) (NotDir position) t =
     let x = extends old new a in
     let grows : length old ≤ length new = length_grows old new x in

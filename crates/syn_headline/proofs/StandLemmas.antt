@@ -9,7 +9,7 @@ use Rattle.syn_headline.specs.Side.{Request, Reply}
 use Rattle.syn_headline.specs.SideMachine.{SideMachine, side_layout, SideTakes, answers, adds, causes_of}
 use Rattle.syn_headline.specs.Network.{Which, Left, Right, Message}
 use Rattle.syn_headline.specs.Acknowledged.{Stores}
-use Rattle.syn_headline.specs.Coordinator.{CoordinatorMachine, Call, Walk, Exchange, Running, archive_layout, past, refusing, Keeps, writes, cut_behind, Takes, CoordinatorTakes, CoordinatorStarts, CoordinatorTicks, Advances, start_of, start_causes}
+use Rattle.syn_headline.specs.Coordinator.{CoordinatorMachine, Call, Walk, Exchange, Running, archive_layout, past, refusing, making_room, Keeps, writes, cut_behind, Takes, CoordinatorTakes, CoordinatorStarts, CoordinatorTicks, Advances, start_of, start_causes}
 use Rattle.syn_headline.specs.Coordinator as fine
 use Rattle.syn_headline.specs.Planning.{Planned}
 use Rattle.syn_headline.specs.World.{World, Machine, At, Coordinator, Step, Edits, Start, Deliver, Tick, Checkpoint, Fail, Stop, Open, Reopen, side_of, side_goes, coordinator_goes, status_of, refuses_with, is_halted, answered_by, UnlessDown, Calls, EditsSide, edits, Starts, CompactsMachine, compacts_side, compacts_archive, Delivers, no_message, to_no_side, to_side, to_coordinator, Ticks, ticks, OpensMachine, opens_side, opens_archive, set_device, FailsDevice, fails_device, OpensDown, opens, open_fails, no_memory_to_open, Reopens, reopens, reopen_fails, reopen_is_cut, no_memory_to_reopen, full_generation, generation_of, Steps, Runs}
@@ -39,13 +39,13 @@ compacts_value layout old _ (not_compacted status arms failed down meets) = refl
 module _ (pair : ℕ) (plan : List Planned) (taken : Exchange) where
   advances_value : (walk later : Walk) (kept : List Kept) → Advances pair plan taken walk kept later → later.journal.value ≡ archive_of walk.journal.value kept
   advances_value walk _ _ (fine.stands _) = refl
-  advances_value walk later kept (fine.conflicts _ _ _ planned path at is more) = advances_value (past walk walk.journal) later kept more
-  advances_value walk later kept (fine.side_refuses _ _ _ planned why at is for more) = advances_value (refusing walk why planned) later kept more
-  advances_value walk later kept (fine.archive_refuses _ _ _ planned what why at is may refused more) = advances_value (refusing walk why planned) later kept more
-  advances_value walk later kept (fine.no_checkpoint _ _ _ what full greatest more) = advances_value (refusing walk Full full.to_keep.planned) later kept more
-  advances_value walk later kept (fine.checkpoints _ _ _ what journal full smaller compacts up more) =
-      advances_value (record walk { journal = journal }) later kept more ∙ ap (λ a. archive_of a kept) (compacts_value (archive_layout pair) walk.journal journal compacts)
-  advances_value walk _ _ (fine.checkpoint_breaks _ what journal full smaller compacts down) = compacts_value (archive_layout pair) walk.journal journal compacts
+  advances_value walk later kept (fine.conflicts _ _ _ planned path first at is more) = advances_value (past walk walk.journal) later kept more
+  advances_value walk later kept (fine.side_refuses _ _ _ planned why first at is for more) = advances_value (refusing walk why planned) later kept more
+  advances_value walk later kept (fine.archive_refuses _ _ _ planned what why first at is may refused more) = advances_value (refusing walk why planned) later kept more
+  advances_value walk later kept (fine.no_checkpoint _ _ _ what first full greatest more) = advances_value (refusing walk Full full.to_keep.planned) later kept more
+  advances_value walk later kept (fine.checkpoints _ _ _ what journal first full smaller compacts up more) =
+      advances_value (making_room walk journal) later kept more ∙ ap (λ a. archive_of a kept) (compacts_value (archive_layout pair) walk.journal journal compacts)
+  advances_value walk _ _ (fine.checkpoint_breaks _ what journal first full smaller compacts down) = compacts_value (archive_layout pair) walk.journal journal compacts
   advances_value walk later _ (fine.keeps _ _ what kept journal to_keep room kept_so up more) =
       advances_value (past walk journal) later kept more ∙ ap (λ a. archive_of a kept) (keeps_value pair walk.journal journal what (what ∷ []) kept_so)
   advances_value walk _ kept (fine.record_breaks _ what _ journal to_keep room kept_so down) = keeps_value pair walk.journal journal what kept kept_so
@@ -54,7 +54,7 @@ takes_value : (pair : ℕ) (old : CoordinatorMachine) (r : Running) (taken : Exc
 takes_value pair old r taken _ _ (fine.ends_at_once why fault) = refl
 takes_value pair old r taken _ _ (fine.stops plan logged walk kept fault has advances down) = advances_value pair _ taken (start_of old r) walk kept advances
 takes_value pair old r taken _ _ (fine.ends plan logged walk kept why fault has advances ends) = advances_value pair _ taken (start_of old r) walk kept advances
-takes_value pair old r taken _ _ (fine.goes_on plan logged walk kept left right fault has advances stays moves asks) = advances_value pair _ taken (start_of old r) walk kept advances
+takes_value pair old r taken _ _ (fine.goes_on plan logged walk kept left right fault has advances rests stays moves asks) = advances_value pair _ taken (start_of old r) walk kept advances
 
 answer_value : (pair : ℕ) (old : CoordinatorMachine) (from : Which) (session number : ℕ) (reply : Reply) (new : CoordinatorMachine) (call : Call) → CoordinatorTakes pair old from session number reply new call → new.journal.value ≡ archive_of old.journal.value call.kept
 answer_value pair old from session number reply _ _ (fine.takes r request new call expected t) = takes_value pair old r _ new call t

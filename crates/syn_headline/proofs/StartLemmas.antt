@@ -12,11 +12,12 @@ use Rattle.syn_model.specs.Archive.{Archive, Kept, Session, CanKeep}
 use Rattle.syn_model.specs.Decision.{Item}
 use Rattle.syn_headline.specs.Machine.{Up, Journaled}
 use Rattle.syn_headline.specs.Side.{Request, Begin, ListAt, Fetch, Stage, Replace, IsLawfulRequest}
-use Rattle.syn_headline.specs.Network.{Which, Left, Right, is_side, Message, Asks, Sent, NumbersTell, AsksNothingTwice}
+use Rattle.syn_model.specs.Path.{Path}
+use Rattle.syn_headline.specs.Network.{Answers, Which, Left, Right, is_side, Message, Asks, Sent, NumbersTell, AsksNothingTwice}
 use Rattle.syn_headline.specs.Acknowledged.{Ack, Kept_by, kept_in}
 use Rattle.syn_headline.specs.Planning.{Log}
 use Rattle.syn_headline.specs.Report.{Report, is_kept, is_carrying, is_marking}
-use Rattle.syn_headline.specs.Coordinator.{Outstanding, Running, CoordinatorMachine, Call, WasAsked, AsksOnce, IsExpected, Keeps, new_session, begins, asking, sent_now, numbered, messages_to, once_more, plan_of, report_of, asked_count, CoordinatorStarts, CoordinatorTicks, CoordinatorTakes}
+use Rattle.syn_headline.specs.Coordinator.{IsShown, Outstanding, Running, CoordinatorMachine, Call, WasAsked, AsksOnce, IsExpected, Keeps, new_session, begins, asking, sent_now, numbered, messages_to, once_more, plan_of, report_of, asked_count, CoordinatorStarts, CoordinatorTicks, CoordinatorTakes}
 use Rattle.syn_headline.specs.Coordinator as fine
 use Rattle.syn_headline.specs.World as fine_world
 use Rattle.syn_headline.specs.World.{coordinator_goes}
@@ -28,6 +29,7 @@ use Rattle.syn_headline.proofs.View.{view, view_running, view_coordinator}
 use Rattle.syn_headline.proofs.Walks.{IsLeft, writes_left, keeps_due, IsSettledBy}
 use Rattle.syn_headline.proofs.Heard.{sent_to}
 use Rattle.syn_headline.proofs.Remembers.{Remembers, asking_remembers, asking_tells, asking_once}
+use Rattle.syn_headline.proofs.InOrder.{IsSaid, asking_in_order, nothing_in_order, for_side, no_answer, after_less}
 use Rattle.syn_headline.proofs.Sessions.{IsHeard, GoesBeside, heard_beside}
 
 -- a call that gives nothing
@@ -38,7 +40,7 @@ nothing_given old =
     ap₂ one (append-nil old.sent) (append-nil old.acknowledged) ∙ ap₂ two (append-nil old.reports) (append-nil old.log)
 
 given_beside : (old : fine_world.World) → GoesBeside old (coordinator_goes old old.coordinator fine.no_call)
-given_beside old = record { more = []; acks = []; sent = refl; no_request = λ side session n q c. absurd (omega (arith, c.1)); log = append-nil old.log; acknowledged = refl; nothing_kept = refl }
+given_beside old = record { more = []; acks = []; sent = refl; no_request = λ side session n q c. absurd (omega (arith, c.1)); says = λ side session n reply path later above position entries c. absurd (omega (arith, c.1)); log = append-nil old.log; acknowledged = refl; nothing_kept = refl }
 
 pub heard_still : (old : fine_world.World) → IfSome old.coordinator.running (IsHeard old) → IfSome old.coordinator.running (IsHeard (coordinator_goes old old.coordinator fine.no_call))
 heard_still old h = if_some old.coordinator.running (IsHeard old) (IsHeard (coordinator_goes old old.coordinator fine.no_call)) h (λ r _ h. heard_beside old (coordinator_goes old old.coordinator fine.no_call) r (given_beside old) h)
@@ -54,6 +56,10 @@ up_unwritten plans old k up = by old.coordinator.journal.writing refl
         absurd (h.0 up)
 
 -- A start
+
+not_begin : {pair : ℕ} (path : Path) → Contains (Begin pair ∷ []) (ListAt path) → ⊥
+not_begin {pair} path (zero, h, e) = let x : Begin pair ≡ ListAt path = e in cc
+not_begin path (suc i, h, e) = omega (arith, h)
 
 next_can : (archive : Archive) (session : ℕ) → nat_le greatest archive.last_session ≡ false → session ≡ archive.last_session + 1 → CanKeep archive (Session session)
 next_can archive session smaller next = record { lawful = tt; not_refused = by (nat_le greatest archive.last_session) (session == archive.last_session + 1) smaller (same session (archive.last_session + 1) next) }
@@ -152,9 +158,14 @@ module _ (plans : Plans) (old : fine_world.World) (k : IsKept plans (view old)) 
           all_sent Left i d within = remembers_on.waiting Left _ (All-contains_itself on.left i d within)
           all_sent Right i d within = remembers_on.waiting Right _ (All-contains_itself on.right i d within)
 
+      only_begins : (side : Which) (path : Path) → Contains (for_side (begins old.pair) (begins old.pair) side) (ListAt path) → IsShown [] side path
+      only_begins Left path c = absurd (not_begin path c)
+      only_begins Right path c = absurd (not_begin path c)
+
       heard_on : IsHeard (coordinator_goes old (record { journal = journal; running = Some on }) (record fine.no_call { kept = Session session ∷ []; messages = sent_now (new_session session) (begins old.pair) (begins old.pair) })) on
       heard_on = record {
         remembers = remembers_on;
+        in_order = asking_in_order old.sent (new_session session) (nothing_in_order old.sent (new_session session) refl refl refl) (new_remembers session next) k.sound.known (begins old.pair) (begins old.pair) only_begins;
         unplanned = λ _. (subst (All (λ made. made.session ≢ session)) (sym (append-nil old.log ∙ k.logged)) (next_fresh plans (histories_of (view old)) old.coordinator.journal.value old.sent k.sound session next).0, refl);
         planned = λ some. absurd (true≢false (sym some));
         kept = ap (fold since_start []) (filter_map-append kept_in old.acknowledged (Kept_by (Session session) ∷ [])) ∙ fold-append since_start [] (filter_map kept_in old.acknowledged) (Session session ∷ []);
@@ -257,6 +268,16 @@ module _ (plans : Plans) (old : fine_world.World) (k : IsKept plans (view old)) 
   count_again : (side : Which) → asked_count again side ≡ asked_count r side
   count_again side = ap (λ n. count_by (λ e. is_side side e.side) r.taken + n) (ap length (waits_again side) ∙ same_length (fine.outstanding r side))
 
+  -- nothing is answered by it
+  said_again : (side : Which) (number position : ℕ) → IsSaid (old.sent ++ more) side r.session number position → IsSaid old.sent side r.session number position
+  said_again side number position (reply, c, at) = elim (Contains-append_cases old.sent more (Answers side r.session number reply) c) as (λ _. IsSaid old.sent side r.session number position) [
+    | inl was ↦ (reply, was, at)
+    | inr now ↦ absurd (elim (Contains-append_cases (messages_to r.session Left r.left) (messages_to r.session Right r.right) (Answers side r.session number reply) now) as (λ _. ⊥) [
+      | inl to ↦ no_answer r.session Left r.left side r.session number reply to
+      | inr to ↦ no_answer r.session Right r.right side r.session number reply to
+    ])
+  ]
+
   abbrev after : fine_world.World
   after = coordinator_goes old (record old.coordinator { running = Some again }) (record fine.no_call { messages = more })
 
@@ -270,6 +291,18 @@ module _ (plans : Plans) (old : fine_world.World) (k : IsKept plans (view old)) 
         | inr now ↦ asked_again side n q (h.remembers.asked side n q (was_sent (Asks side r.session n q) now))
       ];
       below = λ side n q w. subst (λ count. n < count) (sym (count_again side)) (h.remembers.below side n q (asked_before side n q w));
+    };
+    in_order = record {
+      apart = λ side one x c d at.
+          let was = more_was (fine.outstanding r side) one (subst (λ w. Contains w one) (waits_again side) c) in
+          subst (λ n. x.number ≢ n) was.2 (h.in_order.apart side was.0 x was.1 d at);
+      once = h.in_order.once;
+      took = h.in_order.took;
+      waits = λ side one path c is.
+          let was = more_was (fine.outstanding r side) one (subst (λ w. Contains w one) (waits_again side) c) in
+          let before = h.in_order.waits side was.0 path was.1 (was.3 ∙ is) in
+          after_less r.taken side path (IsSaid old.sent side r.session was.0.number) (IsSaid (old.sent ++ more) side r.session one.number)
+          (λ n said. subst (λ number. IsSaid old.sent side r.session number n) (sym was.2) (said_again side one.number n said)) before;
     };
     unplanned = λ none. let was = h.unplanned none in (subst (All (λ made. made.session ≢ r.session)) (sym (append-nil old.log)) was.0, was.1);
     planned = λ some. subst (Any (λ made. made.session ≡ r.session)) (sym (append-nil old.log)) (h.planned some);

@@ -206,7 +206,7 @@ quiet_plan log before plans histories archive sent sound kept archive_is session
     subst (λ marks. IsQuietPlan sent histories session marks plan) found_is (record {
       scans = scans;
       is = is;
-      shows = λ side. plan_shows plans histories archive sent sound side session (scans.scan side) (scans.since side) (is.scanned side)
+      shows = λ side. plan_shows plans histories archive sent sound side session (scans.scan side) (scans.since side) (is.scanned side) (is.ordered side)
           (λ first later e. subst (λ p. All (IsPlannedEvent p histories side) later) empty (h.events side first later e));
     })
 

@@ -195,7 +195,7 @@ adding_keeps : (side : Side) (session : ℕ) (request : Request) (served : Serve
 adding_keeps side session request _ event (refuses _ reason) e = refl
 adding_keeps side session request _ event (begins_again pair last) e = refl
 adding_keeps side session request _ event (begins pair allowed) e = refl
-adding_keeps side session request _ event (lists path) e = refl
+adding_keeps side session request _ event (lists path there) e = refl
 adding_keeps side session request _ event (lists_none path none) e = refl
 adding_keeps side session request _ event (fetches path since offset within quiet) e = refl
 adding_keeps side session request _ event (stages_first item offset bytes zero) e = absurd (longer side.history event e)

@@ -17,7 +17,7 @@ use Rattle.syn_headline.specs.Machine.{Up, Journaled, idle, written, unwritten, 
 use Rattle.syn_headline.specs.Network.{Which, Left, Right}
 use Rattle.syn_headline.specs.Planning.{Planned, WritesTo}
 use Rattle.syn_headline.specs.Report.{is_kept, is_record_of}
-use Rattle.syn_headline.specs.Coordinator.{Exchange, Walk, past, refusing, archive_layout, IsDue, done, same, directory, Keeps, writes, cut_behind}
+use Rattle.syn_headline.specs.Coordinator.{Exchange, Walk, past, refusing, making_room, archive_layout, IsDue, done, same, directory, Keeps, writes, cut_behind}
 use Rattle.syn_headline.specs.Coordinator.{Advances, stands, conflicts, side_refuses, archive_refuses, no_checkpoint, checkpoints, checkpoint_breaks, keeps, record_breaks}
 use Rattle.syn_headline.proofs.Coarse.{AllCanKeep}
 use Rattle.syn_headline.proofs.View.{not_up}
@@ -80,14 +80,14 @@ module _ (pair : ℕ) (plan : List Planned) (taken : Exchange) where
   -- what a call leaves of the archive's journal
   pub advances_left : (walk later : Walk) (kept : List Kept) → walk.journal.writing ≡ None → Advances pair plan taken walk kept later → IsLeft walk.journal later.journal kept (IsItems plan taken)
   advances_left walk _ _ none (stands _) = record { value = refl; can = tt; writing = subst (λ o. IfSome o (λ more. IsItems plan taken more × CanKeep walk.journal.value more)) (sym none) tt; whole = λ _. none; up = λ _. none }
-  advances_left walk later kept none (conflicts _ _ _ planned path at is more) = advances_left (past walk walk.journal) later kept none more
-  advances_left walk later kept none (side_refuses _ _ _ planned why at is for more) = advances_left (refusing walk why planned) later kept none more
-  advances_left walk later kept none (archive_refuses _ _ _ planned what why at is may refused more) = advances_left (refusing walk why planned) later kept none more
-  advances_left walk later kept none (no_checkpoint _ _ _ what full greatest more) = advances_left (refusing walk Full full.to_keep.planned) later kept none more
-  advances_left walk later kept none (checkpoints _ _ _ what journal full smaller compacts up more) =
+  advances_left walk later kept none (conflicts _ _ _ planned path first at is more) = advances_left (past walk walk.journal) later kept none more
+  advances_left walk later kept none (side_refuses _ _ _ planned why first at is for more) = advances_left (refusing walk why planned) later kept none more
+  advances_left walk later kept none (archive_refuses _ _ _ planned what why first at is may refused more) = advances_left (refusing walk why planned) later kept none more
+  advances_left walk later kept none (no_checkpoint _ _ _ what first full greatest more) = advances_left (refusing walk Full full.to_keep.planned) later kept none more
+  advances_left walk later kept none (checkpoints _ _ _ what journal first full smaller compacts up more) =
       let both = compacts_left pair walk.journal journal compacts in
-      after_none walk.journal journal later.journal kept (IsItems plan taken) both.0 (up ∙ sym full.to_keep.up) (advances_left (record walk { journal = journal }) later kept (both.1 ∙ none) more)
-  advances_left walk _ _ none (checkpoint_breaks _ what journal full smaller compacts down) =
+      after_none walk.journal journal later.journal kept (IsItems plan taken) both.0 (up ∙ sym full.to_keep.up) (advances_left (making_room walk journal) later kept (both.1 ∙ none) more)
+  advances_left walk _ _ none (checkpoint_breaks _ what journal first full smaller compacts down) =
       let both = compacts_left pair walk.journal journal compacts in
       let still = both.1 ∙ none in
       record { value = both.0; can = tt; writing = subst (λ o. IfSome o (λ more. IsItems plan taken more × CanKeep journal.value more)) (sym still) tt; whole = λ _. still; up = λ _. still }
@@ -166,14 +166,14 @@ module _ (pair : ℕ) (plan : List Planned) (taken : Exchange) where
   -- a call settles each item that it passes
   pub advances_settled : (walk later : Walk) (had kept : List Kept) → AllSettled plan had walk → Advances pair plan taken walk kept later → AllSettled plan (had ++ kept) later
   advances_settled walk _ had _ all (stands _) = keep_more had [] walk all
-  advances_settled walk later had kept all (conflicts _ _ _ planned path at is more) =
+  advances_settled walk later had kept all (conflicts _ _ _ planned path first at is more) =
       advances_settled (past walk walk.journal) later had kept (one_more had walk.cursor walk.refused planned at all (as_conflict path is)) more
-  advances_settled walk later had kept all (side_refuses _ _ _ planned why at is for more) = advances_settled (refusing walk why planned) later had kept (refuse_one had walk why planned at all) more
-  advances_settled walk later had kept all (archive_refuses _ _ _ planned what why at is may refused more) = advances_settled (refusing walk why planned) later had kept (refuse_one had walk why planned at all) more
-  advances_settled walk later had kept all (no_checkpoint _ _ _ what full greatest more) =
+  advances_settled walk later had kept all (side_refuses _ _ _ planned why first at is for more) = advances_settled (refusing walk why planned) later had kept (refuse_one had walk why planned at all) more
+  advances_settled walk later had kept all (archive_refuses _ _ _ planned what why first at is may refused more) = advances_settled (refusing walk why planned) later had kept (refuse_one had walk why planned at all) more
+  advances_settled walk later had kept all (no_checkpoint _ _ _ what first full greatest more) =
       advances_settled (refusing walk Full full.to_keep.planned) later had kept (refuse_one had walk Full full.to_keep.planned full.to_keep.at all) more
-  advances_settled walk later had kept all (checkpoints _ _ _ what journal full smaller compacts up more) = advances_settled (record walk { journal = journal }) later had kept all more
-  advances_settled walk _ had _ all (checkpoint_breaks _ what journal full smaller compacts down) = keep_more had [] walk all
+  advances_settled walk later had kept all (checkpoints _ _ _ what journal first full smaller compacts up more) = advances_settled (making_room walk journal) later had kept all more
+  advances_settled walk _ had _ all (checkpoint_breaks _ what journal first full smaller compacts down) = keep_more had [] walk all
   advances_settled walk later had _ all (keeps _ _ what kept journal to_keep room kept_so up more) =
       subst (λ ks. AllSettled plan ks later) (append_assoc had (what ∷ []) kept)
       (advances_settled (past walk journal) later (had ++ what ∷ []) kept
@@ -208,12 +208,12 @@ keeps_due pair old _ what _ P p (cut_behind is fail stop) = All-cons P what [] p
 -- what is kept is of items of the plan
 pub advances_due : (pair : ℕ) (plan : List Planned) (taken : Exchange) (walk later : Walk) (kept : List Kept) → Advances pair plan taken walk kept later → All (IsItems plan taken) kept
 advances_due pair plan taken walk _ _ (stands _) = All-nil (IsItems plan taken)
-advances_due pair plan taken walk later kept (conflicts _ _ _ planned path at is more) = advances_due pair plan taken (past walk walk.journal) later kept more
-advances_due pair plan taken walk later kept (side_refuses _ _ _ planned why at is for more) = advances_due pair plan taken (refusing walk why planned) later kept more
-advances_due pair plan taken walk later kept (archive_refuses _ _ _ planned what why at is may refused more) = advances_due pair plan taken (refusing walk why planned) later kept more
-advances_due pair plan taken walk later kept (no_checkpoint _ _ _ what full greatest more) = advances_due pair plan taken (refusing walk Full full.to_keep.planned) later kept more
-advances_due pair plan taken walk later kept (checkpoints _ _ _ what journal full smaller compacts up more) = advances_due pair plan taken (record walk { journal = journal }) later kept more
-advances_due pair plan taken walk _ _ (checkpoint_breaks _ what journal full smaller compacts down) = All-nil (IsItems plan taken)
+advances_due pair plan taken walk later kept (conflicts _ _ _ planned path first at is more) = advances_due pair plan taken (past walk walk.journal) later kept more
+advances_due pair plan taken walk later kept (side_refuses _ _ _ planned why first at is for more) = advances_due pair plan taken (refusing walk why planned) later kept more
+advances_due pair plan taken walk later kept (archive_refuses _ _ _ planned what why first at is may refused more) = advances_due pair plan taken (refusing walk why planned) later kept more
+advances_due pair plan taken walk later kept (no_checkpoint _ _ _ what first full greatest more) = advances_due pair plan taken (refusing walk Full full.to_keep.planned) later kept more
+advances_due pair plan taken walk later kept (checkpoints _ _ _ what journal first full smaller compacts up more) = advances_due pair plan taken (making_room walk journal) later kept more
+advances_due pair plan taken walk _ _ (checkpoint_breaks _ what journal first full smaller compacts down) = All-nil (IsItems plan taken)
 advances_due pair plan taken walk later _ (keeps _ _ what kept journal to_keep room kept_so up more) =
     All-cons (IsItems plan taken) what kept (of_item walk.cursor to_keep.planned to_keep.at to_keep.due) (advances_due pair plan taken (past walk journal) later kept more)
 advances_due pair plan taken walk _ kept (record_breaks _ what _ journal to_keep room kept_so down) =

@@ -1,5 +1,5 @@
 -- What holds of whole runs.
-use Rattle.std.proofs.Common.{◌≡◌, ◌≤◌, ℕ, List, [], ◌∷◌, ◌++◌, refl, sym, ap, ap₂, ◌∙◌, subst, Option, Some, None, append-nil, arith, inl, inr, ◌⊎◌, ◌≢◌}
+use Rattle.std.proofs.Common.{◌≡◌, ◌≤◌, ℕ, [], ◌++◌, refl, sym, ap, ap₂, ◌∙◌, subst, Option, Some, None, append-nil, arith, inl, inr, ◌≢◌}
 use Rattle.std.specs.Prelude.{Contains, IfSome}
 use Rattle.std.proofs.lemmas.List.Elements.{All-nil, Contains-append_left}
 use Rattle.std.proofs.lemmas.Option.{none-some}
@@ -9,7 +9,7 @@ use Rattle.syn_model.specs.Event.{Token, Replaced}
 use Rattle.syn_model.specs.History.{IsHistory, last_session}
 use Rattle.syn_model.specs.Archive.{CanKeep, Held}
 use Rattle.syn_headline.specs.Network.{Which, Left, Right, Sent, Message}
-use Rattle.syn_headline.specs.Acknowledged.{Ack, Happened, Stores, stores_after, IsLegal}
+use Rattle.syn_headline.specs.Acknowledged.{Happened, Stores, stores_after, IsLegal}
 use Rattle.syn_headline.specs.Planning.{Log, IsPlanOf}
 use Rattle.syn_headline.proofs.Coarse.{World, Running, side_of, Waits, RunsOver, FollowsAll, nothing_more, one_more}
 use Rattle.syn_headline.specs.Machine.{Up}
@@ -18,6 +18,7 @@ use Rattle.syn_headline.proofs.Invariant.{Plans, histories_of, IsHarmless, IsSou
 use Rattle.syn_headline.proofs.PlanLemmas.{answered-more}
 use Rattle.syn_headline.proofs.TokenLemmas.{token_once}
 use Rattle.syn_headline.proofs.WorldLemmas.{step_stands}
+use Rattle.syn_headline.proofs.Heard.{split_at}
 use Rattle.syn_headline.proofs.RunLemmas.{Advances, not_nothing, HasItsPlan}
 use Rattle.syn_headline.proofs.AdvanceLemmas.{step_advances}
 
@@ -29,28 +30,16 @@ legal-more sent more log logged side stores token path since u h = record {
   made = h.made;
   logged = (Contains-append_left log logged h.made h.logged.0, h.logged.1);
   planned = h.planned;
+  item = h.item;
+  seen = h.seen;
   recorded = h.recorded;
   source = record {
-    listed = h.source.listed;
-    was_listed = (h.source.was_listed.0, answered-more sent more _ _ _ _ h.source.was_listed.1);
-    position = h.source.position;
-    not_before = h.source.not_before;
+    listed = (h.source.listed.0, answered-more sent more _ _ _ _ h.source.listed.1);
+    directory = h.source.directory;
     reached = h.source.reached;
     held = h.source.held;
   };
 }
-
-split_at : (xs ys earlier : List Ack) (x : Ack) (later : List Ack) → xs ++ ys ≡ earlier ++ x ∷ later →
-    ((rest : List Ack) × (xs ≡ earlier ++ x ∷ rest)) ⊎ ((rest : List Ack) × (earlier ≡ xs ++ rest) × (ys ≡ rest ++ x ∷ later))
-split_at [] ys earlier x later e = inr (earlier, refl, e)
-split_at (a ∷ xs) ys [] x later e = let h : a ≡ x = cc in inl (xs, ap (λ b. b ∷ xs) h)
-split_at (a ∷ xs) ys (b ∷ earlier) x later e =
-    let h : a ≡ b = cc in
-    let t : xs ++ ys ≡ earlier ++ x ∷ later = cc in
-    elim (split_at xs ys earlier x later t) as (λ _. ((rest : List Ack) × (a ∷ xs ≡ b ∷ (earlier ++ x ∷ rest))) ⊎ ((rest : List Ack) × (b ∷ earlier ≡ a ∷ (xs ++ rest)) × (ys ≡ rest ++ x ∷ later))) [
-      | inl l ↦ inl (l.0, ap₂ (λ c cs. c ∷ cs) h l.1)
-      | inr r ↦ inr (r.0, ap₂ (λ c cs. c ∷ cs) (sym h) r.1, r.2)
-    ]
 
 stores_same : (a b : Stores) → a.left ≡ b.left → a.right ≡ b.right → a.archive ≡ b.archive → a ≡ b
 stores_same a b l r o = ap₂ (λ x y. record { left = x; right = y; archive = a.archive }) l r ∙ ap (λ x. record { left = b.left; right = b.right; archive = x }) o

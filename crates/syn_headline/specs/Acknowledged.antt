@@ -1,14 +1,14 @@
 -- What a run's calls answered, in order of time, and what may come of one more.
 use Rattle.std.specs.Prelude.{ℕ, ◌≡◌, ◌≤◌, ◌⊎◌, List, [], ◌∷◌, ◌++◌, length, true, slice_get, filter_map, Option, Some, None, Contains}
 use Rattle.syn_model.specs.Path.{Path, Name, parent}
-use Rattle.syn_model.specs.Tree.{Tree, Content, subtree}
+use Rattle.syn_model.specs.Tree.{Tree, Content, subtree, is_directory}
 use Rattle.syn_model.specs.Event.{Token, Event}
 use Rattle.syn_model.specs.History.{History, tree_of, tree_at, is_quiet, IsAllowed}
 use Rattle.syn_model.specs.Mark.{mark}
 use Rattle.syn_model.specs.Archive.{Archive, Kept, archive_of, CanKeep, after_kept}
 use Rattle.syn_headline.specs.Side.{ListAt, Listed}
 use Rattle.syn_headline.specs.Network.{Which, Left, Right, other, Sent, WasAnswered}
-use Rattle.syn_headline.specs.Planning.{Planned, WritesTo, SessionPlan, Log}
+use Rattle.syn_headline.specs.Planning.{Planned, seen_on, WritesTo, SessionPlan, Log}
 
 -- an event of a side, or what the archive kept: answered Ok, or recovered by an opening
 pub data Ack : Type 0 where
@@ -56,26 +56,29 @@ ArchiveGrown (Some writing) old new = (new ≡ old) ⊎ (CanKeep old writing × 
 abbrev pub WasListed : Sent → Which → ℕ → Path → ℕ → Type 0
 WasListed sent side session path position = (entries : List (Name × Content)) × WasAnswered sent side session (ListAt path) (Listed position entries)
 
--- what the replacement puts was in the other side's tree, no earlier than its listing
-pub record IsFrom (sent : Sent) (source : Which) (source_history : History) (session : ℕ) (path : Path) (new : Tree) : Type 0 where
-  pub listed : ℕ
-  pub was_listed : WasListed sent source session (parent path) listed
-  pub position : ℕ
-  pub not_before : listed ≤ position
+-- what the replacement puts is what the other side had at a position: there the session had it list the path's directory
+pub record IsFrom (sent : Sent) (source : Which) (source_history : History) (session : ℕ) (path : Path) (position : ℕ)
+    (new : Tree) : Type 0 where
+  pub listed : WasListed sent source session (parent path) position
   pub reached : position ≤ length source_history
+  pub directory : is_directory (tree_at source_history position) (parent path) ≡ true
   pub held : new ≡ subtree (tree_at source_history position) path
 
 -- what a replacement may overwrite, whichever side its session prefers: what the archive recorded
 abbrev pub MayOverwrite : SessionPlan → Stores → Which → Path → Type 0
 MayOverwrite made written side path = subtree (mark (tree_of (history_of written side))) path ≡ subtree written.archive.marks path
 
--- a replacement that follows a listing, is an item of its session's plan, puts what the other side held and takes what it may overwrite
-pub record IsLegal (sent : Sent) (log : Log) (side : Which) (written : Stores) (token : Token) (path : Path) (since : ℕ) (new : Tree) : Type 0 where
+-- a replacement that follows a listing, is an item of its session's plan, puts what the other side had where the plan saw it,
+-- and takes what it may overwrite
+pub record IsLegal (sent : Sent) (log : Log) (side : Which) (written : Stores) (token : Token) (path : Path) (since : ℕ)
+    (new : Tree) : Type 0 where
   pub listed : WasListed sent side token.session (parent path) since
   pub reached : since ≤ length (history_of written side)
   pub untouched : is_quiet (history_of written side) since (length (history_of written side)) path ≡ true
   pub made : SessionPlan
   pub logged : Contains log made × (made.session ≡ token.session)
-  pub planned : (planned : Planned) × (slice_get made.plan token.item ≡ Some planned) × WritesTo planned.item side path
+  pub planned : Planned
+  pub item : (slice_get made.plan token.item ≡ Some planned) × WritesTo planned.item side path
+  pub seen : since ≡ (seen_on planned side).since
   pub recorded : MayOverwrite made written side path
-  pub source : IsFrom sent (other side) (history_of written (other side)) token.session path new
+  pub source : IsFrom sent (other side) (history_of written (other side)) token.session path (seen_on planned (other side)).since new

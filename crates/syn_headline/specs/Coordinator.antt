@@ -9,10 +9,9 @@ use Rattle.syn_model.specs.Limits.{greatest}
 use Rattle.syn_model.specs.Refusal.{Refusal, Device, Memory, Full, JournalFull, Busy, TooLarge, BadMessage, NoAnswer, Cause, first_cause}
 use Rattle.syn_model.specs.Refusal as why_refused
 use Rattle.syn_model.specs.Archive.{Archive, Kept, Session, Recorded, RecordedDir, CanKeep, kept_refusal}
-use Rattle.syn_model.specs.MarkSpelling.{archive_spelling}
 use Rattle.syn_model.specs.Decision.{MarkSame, MarkDir, Conflict, path_of}
 use Rattle.syn_headline.specs.Machine.{Status, Up, Halted, Down, Journaled, IsBefore, unarmed}
-use Rattle.syn_headline.specs.Machine.{has_room, room_behind, cut, with_record, Writes, Compacts}
+use Rattle.syn_headline.specs.Machine.{has_room, cut, with_record, Writes, Compacts}
 use Rattle.syn_headline.specs.Side.{Request, Begin, Fetch, Stage, Replace, IsLawfulRequest}
 use Rattle.syn_headline.specs.Side.{Reply, Done, Refused}
 use Rattle.syn_headline.specs.Network.{Which, Left, Right, other, is_side, Message}
@@ -30,18 +29,28 @@ pub use Rattle.syn_headline.specs.Session.{AtCursor, IsStagedTo, MayAsk, AsksNex
 
 -- How a session goes through its plan
 
--- the archive, the item that the session has come to, and what it refused so far
+-- the archive, the item that the session has come to, what it refused so far, and whether the last that
+-- it did was a checkpoint for the record that is due
 pub record Walk : Type 0 where
   pub journal : Journaled Archive Kept
   pub cursor : ℕ
   pub refused : List (Refusal × Path)
+  pub made_room : Bool
 
 -- past an item: it is settled, or refused so
 abbrev pub past : Walk → Journaled Archive Kept → Walk
-past walk journal = record walk { journal = journal; cursor = suc walk.cursor }
+past walk journal = record walk { journal = journal; cursor = suc walk.cursor; made_room = false }
 
 abbrev pub refusing : Walk → Refusal → Planned → Walk
-refusing walk why planned = record walk { cursor = suc walk.cursor; refused = walk.refused ++ (why, path_of planned.item) ∷ [] }
+refusing walk why planned = record walk {
+  cursor = suc walk.cursor;
+  refused = walk.refused ++ (why, path_of planned.item) ∷ [];
+  made_room = false;
+}
+
+-- a checkpoint was made for the record that is due
+abbrev pub making_room : Walk → Journaled Archive Kept → Walk
+making_room walk journal = record walk { journal = journal; made_room = true }
 
 -- the request is for the item of that number
 abbrev pub IsFor : ℕ → Planned → Request → Type 0
@@ -79,29 +88,30 @@ pub data Keeps (pair : ℕ) (journal : Journaled Archive Kept) (kept : Kept) : J
       Keeps pair journal kept (cut (with_record (archive_layout pair) journal kept unarmed)) (kept ∷ [])
 
 -- A call goes on through the plan from item to item, as far as it can: it passes a conflict; it refuses an item as the side
--- did, or as the archive refuses its record; it keeps a record that is due. For one that does not fit it makes a checkpoint,
--- or refuses the item 7 where none can be made. A device that fails and a stop end it
+-- did, or as the archive refuses its record; it keeps a record that is due. For one that does not fit it makes a checkpoint
+-- first, once, and does nothing else before that record; or it refuses the item 7 where no checkpoint can be made. A device
+-- that fails and a stop end it
 pub data Advances (pair : ℕ) (plan : List Planned) (taken : Exchange) : Walk → List Kept → Walk → Type 0 where
   stands : (walk : Walk) → Advances pair plan taken walk [] walk
-  conflicts : (walk later : Walk) (kept : List Kept) (planned : Planned) (path : Path) →
+  conflicts : (walk later : Walk) (kept : List Kept) (planned : Planned) (path : Path) → walk.made_room ≡ false →
       slice_get plan walk.cursor ≡ Some planned → planned.item ≡ Conflict path →
       Advances pair plan taken (past walk walk.journal) kept later → Advances pair plan taken walk kept later
-  side_refuses : (walk later : Walk) (kept : List Kept) (planned : Planned) (why : Refusal) →
+  side_refuses : (walk later : Walk) (kept : List Kept) (planned : Planned) (why : Refusal) → walk.made_room ≡ false →
       slice_get plan walk.cursor ≡ Some planned → taken.reply ≡ Refused why → IsFor walk.cursor planned taken.request →
       Advances pair plan taken (refusing walk why planned) kept later → Advances pair plan taken walk kept later
   archive_refuses : (walk later : Walk) (kept : List Kept) (planned : Planned) (what : Kept) (why : Refusal) →
-      slice_get plan walk.cursor ≡ Some planned → record_for planned planned.item ≡ Some what →
+      walk.made_room ≡ false → slice_get plan walk.cursor ≡ Some planned → record_for planned planned.item ≡ Some what →
       (is_carrying planned.item ≡ true) ⊎ (walk.journal.status ≡ Up) → kept_refusal walk.journal.value what ≡ Some why →
       Advances pair plan taken (refusing walk why planned) kept later → Advances pair plan taken walk kept later
-  no_checkpoint : (walk later : Walk) (kept : List Kept) (what : Kept) (full : HasNoRoom pair plan taken walk what) →
-      nat_le greatest walk.journal.generation ≡ true →
+  no_checkpoint : (walk later : Walk) (kept : List Kept) (what : Kept) → walk.made_room ≡ false →
+      (full : HasNoRoom pair plan taken walk what) → nat_le greatest walk.journal.generation ≡ true →
       Advances pair plan taken (refusing walk Full full.to_keep.planned) kept later → Advances pair plan taken walk kept later
   checkpoints : (walk later : Walk) (kept : List Kept) (what : Kept) (journal : Journaled Archive Kept) →
-      HasNoRoom pair plan taken walk what → nat_le greatest walk.journal.generation ≡ false →
+      walk.made_room ≡ false → HasNoRoom pair plan taken walk what → nat_le greatest walk.journal.generation ≡ false →
       Compacts (archive_layout pair) walk.journal journal → journal.status ≡ Up →
-      Advances pair plan taken (record walk { journal = journal }) kept later → Advances pair plan taken walk kept later
+      Advances pair plan taken (making_room walk journal) kept later → Advances pair plan taken walk kept later
   checkpoint_breaks : (walk : Walk) (what : Kept) (journal : Journaled Archive Kept) →
-      HasNoRoom pair plan taken walk what → nat_le greatest walk.journal.generation ≡ false →
+      walk.made_room ≡ false → HasNoRoom pair plan taken walk what → nat_le greatest walk.journal.generation ≡ false →
       Compacts (archive_layout pair) walk.journal journal → journal.status ≢ Up →
       Advances pair plan taken walk [] (record walk { journal = journal })
   keeps : (walk later : Walk) (what : Kept) (kept : List Kept) (journal : Journaled Archive Kept) →
@@ -132,7 +142,7 @@ report_of running ended = record {
 }
 
 -- why a call that has come so far ends the session: each item is settled; or the archive's device failed in this call or
--- had failed before, or a checkpoint left no room for the record either, or memory is refused
+-- had failed before, or the checkpoint that was just made left no room for the record either, or memory is refused
 pub data EndsFor (pair : ℕ) (running : Running) (taken : Exchange) (was : Status) (walk : Walk) : Option Refusal → Type 0 where
   settled : IsSome running.plan → slice_get (plan_of running) walk.cursor ≡ None → walk.journal.status ≡ was →
       EndsFor pair running taken was walk None
@@ -141,8 +151,7 @@ pub data EndsFor (pair : ℕ) (running : Running) (taken : Exchange) (was : Stat
       IsDue walk.cursor planned taken kept → was ≡ Halted → walk.journal.status ≡ Halted →
       EndsFor pair running taken was walk (Some why_refused.Halted)
   no_room_left : (kept : Kept) → HasNoRoom pair (plan_of running) taken walk kept →
-      walk.journal.room ≡ room_behind (archive_spelling pair walk.journal.value) →
-      EndsFor pair running taken was walk (Some JournalFull)
+      walk.made_room ≡ true → EndsFor pair running taken was walk (Some JournalFull)
   no_memory : walk.journal.status ≡ was → EndsFor pair running taken was walk (Some Memory)
 
 -- the last answer to an item: its request was refused, or its replacement is done
@@ -193,7 +202,12 @@ advanced running plan walk kept = record running {
 }
 
 abbrev pub start_of : CoordinatorMachine → Running → Walk
-start_of machine running = record { journal = machine.journal; cursor = running.cursor; refused = running.refused }
+start_of machine running = record {
+  journal = machine.journal;
+  cursor = running.cursor;
+  refused = running.refused;
+  made_room = false;
+}
 
 -- how an answer is taken: it ends the session at once, or for want of memory; or the call goes through the plan, and then
 -- the machine is down, or the session ends, or it goes on, past an item that had its last answer, and asks for what comes next
@@ -219,7 +233,8 @@ pub data Takes (pair : ℕ) (machine : CoordinatorMachine) (running : Running) (
       fault_of running.taken taken.side taken.request taken.reply ≡ None →
       HasPlan machine.journal.value (hearing running taken) plan logged →
       Advances pair (option_map_or (λ plan. plan) plan []) taken (start_of machine running) kept walk →
-      walk.journal.status ≡ machine.journal.status → (is_last taken.reply ≡ true → walk.cursor ≢ running.cursor) →
+      walk.made_room ≡ false → walk.journal.status ≡ machine.journal.status →
+      (is_last taken.reply ≡ true → walk.cursor ≢ running.cursor) →
       AsksNext walk.journal.value (advanced (hearing running taken) plan walk kept) left right →
       Takes pair machine running taken
       (record { journal = walk.journal; running = Some (asking (advanced (hearing running taken) plan walk kept) left right) })

@@ -1,14 +1,15 @@
 -- What is proved of whole runs.
-use Rattle.std.specs.Prelude.{ℕ, true, ◌≡◌, ◌≢◌, ◌≤◌, ◌↔◌, ◌+◌, drop, false, List, [], ◌∷◌, ◌++◌, length, take, None, All, AllPairs, Contains, IfSome}
-use Rattle.syn_model.specs.Path.{Bytes, Path, parent}
-use Rattle.syn_model.specs.Tree.{Tree, IsTree, subtree, is_directory}
+use Rattle.std.specs.Prelude.{ℕ, ◌≡◌, ◌≢◌, ◌≤◌, ◌↔◌, ◌+◌, drop, false, List, [], ◌∷◌, ◌++◌, length, take, None, All, AllPairs, Contains, IfSome}
+use Rattle.syn_model.specs.Path.{Bytes, Path}
+use Rattle.syn_model.specs.Tree.{Tree, IsTree, subtree}
 use Rattle.syn_model.specs.Event.{Token, is_same_token, Event, Edited, Began, Replaced, touches}
-use Rattle.syn_model.specs.History.{History, IsHistory, tree_of, tree_at, last_session}
+use Rattle.syn_model.specs.History.{History, IsHistory, tree_of, last_session}
 use Rattle.syn_model.specs.Mark.{mark, AreApart}
 use Rattle.syn_model.specs.Archive.{Archive, new_archive, Session, BothHeld}
 use Rattle.std.specs.List.{count_by}
 use Rattle.syn_model.specs.Plan.{plan, scan_of, Trees, IsSynchronized, IsReconciled, IsConflict}
-use Rattle.syn_headline.specs.Network.{Which, Left, Right, other, NumbersTell, AsksNothingTwice}
+use Rattle.syn_headline.specs.Side.{Fetch, Piece}
+use Rattle.syn_headline.specs.Network.{Which, Left, Right, other, Sent, WasAnswered, NumbersTell, AsksNothingTwice}
 use Rattle.syn_headline.specs.Acknowledged.{Ack, Happened, Kept_by, Stores, history_of, stores_after, Grown, ArchiveGrown, IsLegal}
 use Rattle.syn_headline.specs.Planning.{IsPlanOf}
 use Rattle.syn_headline.specs.Report.{Report, Complete, is_carrying, is_marking}
@@ -124,14 +125,22 @@ EachTokenOnce before world =
 abbrev pub UntouchedSince : ℕ → History → Path → Type 0
 UntouchedSince position history path = All (λ event. touches event path ≡ false) (drop position history)
 
--- What was carried and not recorded is marked by the next complete session without edits, where nothing touched it since:
--- `fetched` is the source's position at its last fetch, when the path stood in a directory
+-- a fetch of the path from a position was answered with a piece in the session, and nothing touched the path there since
+pub record IsFetched (sent : Sent) (source : Which) (history : History) (session : ℕ) (path : Path) : Type 0 where
+  pub position : ℕ
+  pub offset : ℕ
+  pub total : ℕ
+  pub bytes : Bytes
+  pub answered : WasAnswered sent source session (Fetch path position offset) (Piece total bytes)
+  pub untouched : UntouchedSince position history path
+
+-- What was carried is marked by the next complete session without edits, recorded or not, where nothing touched it since:
+-- on the source since it was fetched, and on the target since it was replaced
 abbrev pub CarriedIsMarked : Stores → World → Type 0
 CarriedIsMarked before world =
-    (side : Which) (first rest : History) (token : Token) (path : Path) (since fetched : ℕ) (new : Tree) (report : Report) (found left : Stores) →
-    let source = history_of found (other side) in
+    (side : Which) (first rest : History) (token : Token) (path : Path) (since : ℕ) (new : Tree) (report : Report) (found left : Stores) →
     history_of found side ≡ first ++ Replaced token path since new ∷ rest → All (λ event. touches event path ≡ false) rest →
-    is_directory (tree_at source fetched) (parent path) ≡ true → new ≡ subtree (tree_at source fetched) path → UntouchedSince fetched source path →
+    IsFetched world.sent (other side) (history_of found (other side)) token.session path →
     IsQuietSession before world.acknowledged world.reports report found left → subtree left.archive.marks path ≡ mark new
 
 -- The machines stand for what was there before and then what was acknowledged, in order

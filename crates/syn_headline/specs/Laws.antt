@@ -1,12 +1,12 @@
 -- What follows from the definitions of a side's step, for the other crates to use.
-use Rattle.std.specs.Prelude.{ℕ, ◌≡◌, ◌⊎◌, Bool, true, false, [], ◌∷◌, ◌++◌, Some}
-use Rattle.syn_model.specs.History.{History, IsHistory, IsAllowed, last_token}
+use Rattle.std.specs.Prelude.{ℕ, ◌≤◌, ◌≡◌, ◌⊎◌, Bool, true, false, [], ◌∷◌, ◌++◌, length, Some}
+use Rattle.syn_model.specs.History.{History, IsHistory, IsAllowed, last_token, is_quiet}
 use Rattle.std.specs.Option.{option_map_or}
-use Rattle.syn_model.specs.Path.{Path}
+use Rattle.syn_model.specs.Path.{Bytes, Path}
 use Rattle.syn_model.specs.Tree.{Tree}
 use Rattle.syn_model.specs.Refusal.{OldSession}
 use Rattle.syn_model.specs.Event.{Token, is_same_token, Event, Replaced}
-use Rattle.syn_headline.specs.Side.{Side, Served, Request, Replace, Done, Refused, Serves, IsOutOfMemory, IsLawfulRequest, answer, token_of, is_dead_token}
+use Rattle.syn_headline.specs.Side.{Side, Served, Request, Fetch, Replace, Piece, Done, Refused, Serves, IsOutOfMemory, IsLawfulRequest, answer, token_of, is_dead_token}
 
 -- a step of a side leaves its history, or adds one event that is allowed after it
 abbrev pub AddsAllowed : History → History → Type 0
@@ -15,6 +15,12 @@ AddsAllowed old new = (new ≡ old) ⊎ ((event : Event) × IsAllowed old event 
 abbrev pub ServesAllowed : Type 0
 ServesAllowed = (pair : ℕ) (has_room : Event → Bool) (side : Side) (session : ℕ) (request : Request) (served : Served) →
     IsLawfulRequest session request → Serves pair has_room side session request served → AddsAllowed side.history served.side.history
+
+-- a fetch is answered with a piece only where nothing touched the path from its position up to now
+abbrev pub PiecesAreUntouched : Type 0
+PiecesAreUntouched = (pair : ℕ) (has_room : Event → Bool) (side : Side) (session : ℕ) (path : Path) (since offset : ℕ) (served : Served)
+    (total : ℕ) (bytes : Bytes) → Serves pair has_room side session (Fetch path since offset) served → served.reply ≡ Piece total bytes →
+    (since ≤ length side.history) × (is_quiet side.history since (length side.history) path ≡ true)
 
 -- a repeat of the last replacement is answered done, whatever was staged since
 abbrev pub RepeatsAreDone : Type 0

@@ -2,7 +2,7 @@
 use Rattle.std.specs.Prelude.{ℕ, ◌≡◌, List, map, Option, All}
 use Rattle.syn_model.specs.Path.{Path, parent}
 use Rattle.syn_model.specs.Tree.{Tree, subtree}
-use Rattle.syn_model.specs.Dirty.{Scan, IsScanBy}
+use Rattle.syn_model.specs.Dirty.{Scan, IsScanBy, IsListedInOrder}
 use Rattle.syn_headline.specs.Side.{Begin, ListAt, Begun, Listed, NotDir}
 use Rattle.syn_headline.specs.Network.{Which, Left, Right, Sent, WasAnswered}
 use Rattle.syn_model.specs.Decision.{Item, path_of, ToLeft, ToRight}
@@ -51,10 +51,12 @@ pub record SessionPlan : Type 0 where
 abbrev pub Log : Type 0
 Log = List SessionPlan
 
--- the plan is that of the scans and the archive, once both sides had begun the session
+-- the plan is that of the scans and the archive, once both sides had begun the session, and no directory was listed
+-- before the one above it
 pub record IsPlanOf (sent : Sent) (made : SessionPlan) : Type 0 where
   pub begun : (side : Which) → HasBegun sent side made.session
   pub scanned : (side : Which) → IsScanOf sent side made.session (made.scan side) (made.since side)
+  pub ordered : (side : Which) → IsListedInOrder (made.scan side) (made.since side)
   pub items : map (λ planned. planned.item) made.plan ≡ items_of (made.scan Left) (made.scan Right) made.archive
   pub seen : All (SeesBoth made.scan made.since) made.plan
 

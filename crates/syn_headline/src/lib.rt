@@ -1,12 +1,14 @@
 //! The definitions from a side's step to the headline, and what holds of every run.
 #![tactic(auto)]
 
-ghost use Rattle.syn_headline.specs.Laws.{ServesAllowed, RepeatsAreDone, LaterAreOld, DeadAreOld};
+ghost use Rattle.syn_headline.specs.Laws.{ServesAllowed, PiecesAreUntouched, RepeatsAreDone, LaterAreOld, DeadAreOld};
 ghost use Rattle.syn_headline.specs.Headline.{formatted, IsPair, RunsStand, OfEachRun, EachReplacementIsLegal, EachTokenOnce, EachEntryWasHeld, LeavesPair, LogsPlans, Owes, CompleteSessionsSynchronize, CompleteSessionsReconcile, ReportsItsConflicts, CountsItsItems, CarriedIsMarked};
 
-/// A step of a side leaves its history or adds one allowed event, and answers a repeat as done or as old.
+/// A step of a side leaves its history or adds one allowed event. It answers a fetch only where nothing touched the path since its
+/// position, and a repeat as done or as old.
 pub fn side_laws()
     ensures serves { ServesAllowed }
+    ensures pieces { PiecesAreUntouched }
     ensures repeats { RepeatsAreDone }
     ensures later { LaterAreOld }
     ensures dead { DeadAreOld }

@@ -1,2 +1,3 @@
 mod OpeningLemmas
 mod HeadlineLemmas
+pub mod CallLemmas

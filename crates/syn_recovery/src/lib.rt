@@ -1,8 +1,16 @@
 //! From the bytes of three disks to a run of the world, and back: what a disk may mean, and the headline.
 #![tactic(auto)]
 
+ghost use Rattle.syn_recovery.specs.Calls.{MadeCallsMeet, BrokenCallsMeet, MadeReadsMeet};
 ghost use Rattle.syn_recovery.specs.Machines.{SidesOpen, ArchivesOpen};
 ghost use Rattle.syn_recovery.specs.Headline.{DisksAreStart, Headline};
+
+/// The device calls that a journal's contract counts are what the world says that a machine met.
+pub fn device_laws()
+    ensures made { MadeCallsMeet }
+    ensures broken { BrokenCallsMeet }
+    ensures reads { MadeReadsMeet }
+{}
 
 /// Whatever the disk of a machine may mean, an opening gives it.
 pub fn opening_laws()

@@ -55,9 +55,15 @@ path_fits q h = ap₂ (λ a b. a && b) (deep (length q) h.not_deep) (long (lengt
     long : (n : ℕ) → n ≤ 255 → nat_le n 255 ≡ true
     long n k = grind (arith, nat_tests)
 
-pub one_fits : (content : Content) → fits_content content ≡ true → fits_part (at_root content) ≡ true
-one_fits content h =
+pub one_fits_as : (content : Content) (fits : Bool) → fits_content content ≡ fits → fits_part (at_root content) ≡ (fits && true) && true
+one_fits_as content fits h =
     part-pairs (at_root content) ∙ (ap (λ es. list_all (pair_fits es) es) (entries-one content) ∙ ap (λ b. (b && true) && true) h)
+
+pub one_fits : (content : Content) → fits_content content ≡ true → fits_part (at_root content) ≡ true
+one_fits content h = one_fits_as content true h
+
+pub one_path_fits : (content : Content) → fits_paths (at_root content) ≡ true
+one_path_fits content = ap (list_all (λ pair. fits_path pair.0)) (entries-one content)
 
 pub measured_one : (at : Path) (content : Content) (size : ℕ) → IsPath at → fits_content content ≡ true → size ≡ last_name_spelling_length at + content_spelling_length content → IsMeasured at (at_root content) 1 size
 measured_one at content size path fits e = record {

@@ -1,11 +1,11 @@
 -- What stands at a path, where the pairs before it are counted.
-use Rattle.std.proofs.Common.{◌≡◌, ◌≢◌, ◌<◌, suc, Bool, true, false, cond, [], ◌∷◌, length, slice_index_or, refl, sym, ap, ◌∙◌, Some, None, Ordering, Less, Equal, Greater, is_lt, is_eq, true≢false, arith}
+use Rattle.std.proofs.Common.{◌≡◌, ◌≢◌, ◌<◌, ◌≤◌, ◌==◌, ℕ, subst, suc, Bool, true, false, cond, [], ◌∷◌, length, slice_index_or, refl, sym, ap, ◌∙◌, Some, None, Ordering, Less, Equal, Greater, is_lt, is_eq, true≢false, arith}
 use Rattle.std.specs.Ordering.{eq_by_cmp, ordering_reverse}
 use Rattle.std.specs.FinMap.{find}
 use Rattle.syn_model.specs.Path.{Path, path_cmp}
-use Rattle.syn_model.specs.Tree.{Pair}
+use Rattle.syn_model.specs.Tree.{Pair, Directory}
 use Rattle.syn_model.proofs.PathLemmas.{path_total, same_path, path_itself}
-use Rattle.syn_tree.specs.Pairs.{Pairs, is_before, before}
+use Rattle.syn_tree.specs.Pairs.{Pairs, rooted, is_before, before}
 use Rattle.syn_tree.proofs.OrderLemmas.{less_of}
 use Rattle.syn_tree.proofs.RisingLemmas.{Rising, After, none_before, filter-drops, each-map}
 
@@ -55,3 +55,23 @@ missing q (x ∷ es) d h e =
     later Less less low other = after_more q x.0 es less h.0
     later Equal same low other = absurd (other (sym (same_path q x.0 (ap is_eq same))))
     later Greater more low other = absurd (true≢false (sym (ap is_lt (path_total.antisymm x.0 q ∙ ap ordering_reverse more)) ∙ low))
+
+-- ---- what the number of the pairs before a path tells
+
+-- below the root the root is not looked at
+pub below_root : (q : Path) (es : Pairs) → (length q == 0) ≡ false → find path_cmp q (rooted es) ≡ find path_cmp q es
+below_root [] es h = absurd (true≢false h)
+below_root (n ∷ q) es h = refl
+
+pub there : (q : Path) (es : Pairs) (at : ℕ) (x : Pair) → Rising es → at ≡ length (before q es) → at < length es → x ≡ slice_index_or es at x → eq_by_cmp path_cmp x.0 q ≡ true → Some x.1 ≡ find path_cmp q es
+there q es at x h count l is same =
+    let place = sym (is ∙ ap (λ n. slice_index_or es n x) count) in
+    ap (λ (y : Pair). Some y.1) (sym place) ∙ sym (found q es x h (subst (λ n. n < length es) count l) (ap (λ (y : Pair). y.0) place ∙ same_path x.0 q same))
+
+pub not_there : (q : Path) (es : Pairs) (at : ℕ) (x : Pair) → Rising es → at ≡ length (before q es) → x ≡ slice_index_or es at x → eq_by_cmp path_cmp x.0 q ≡ false → find path_cmp q es ≡ None
+not_there q es at x h count is other =
+    let place = sym (is ∙ ap (λ n. slice_index_or es n x) count) in
+    missing q es x h (λ l e. true≢false (sym (path_itself q) ∙ (ap (λ p. eq_by_cmp path_cmp p q) (sym e ∙ ap (λ (y : Pair). y.0) place) ∙ other)))
+
+pub ended : (q : Path) (es : Pairs) (at : ℕ) → Rising es → at ≡ length (before q es) → length es ≤ at → find path_cmp q es ≡ None
+ended q es at h count l = missing q es (q, Directory) h (λ k e. omega (arith, count, l, k))

@@ -22,7 +22,7 @@ use Rattle.syn_tree.proofs.PartLemmas.{kids_rooted}
 use Rattle.syn_tree.proofs.CheckLemmas.{path_fits}
 
 -- what holds of each pair holds of what is found
-each-find : (P : Path → Content → Type 0) (q : Path) (c : Content) (es : Pairs) → AllByRecursion (λ e. P e.0 e.1) es → find path_cmp q es ≡ Some c → P q c
+pub each-find : (P : Path → Content → Type 0) (q : Path) (c : Content) (es : Pairs) → AllByRecursion (λ e. P e.0 e.1) es → find path_cmp q es ≡ Some c → P q c
 each-find P q c [] h e = absurd (none-some _ e)
 each-find P q c (x ∷ es) h e = by_path (eq_by_cmp path_cmp q x.0) refl (each-find P q c es h.1) e
   where
@@ -44,7 +44,7 @@ length_parent m [] = refl
 length_parent m (n ∷ w) = ap suc (length_parent n w)
 
 -- each of the pairs is found at its path
-each_found : (es : Pairs) → Rising es → AllByRecursion (λ e. find path_cmp e.0 es ≡ Some e.1) es
+pub each_found : (es : Pairs) → Rising es → AllByRecursion (λ e. find path_cmp e.0 es ≡ Some e.1) es
 each_found [] h = tt
 each_found (x ∷ es) h = (
   ap (λ b. cond b (Some x.1) (find path_cmp x.0 es)) (path_itself x.0),
@@ -55,7 +55,7 @@ each_found (x ∷ es) h = (
 
 module _ (ds : Pairs) (rising : AreRising (rooted ds)) where
   -- each path but the root has its parent
-  Closed : Type 0
+  pub Closed : Type 0
   Closed = AllByRecursion (λ e. find path_cmp (parent e.0) (rooted ds) ≡ Some Directory) (rooted ds)
 
   parent_of : Closed → (q : Path) → IsSome (find path_cmp q (rooted ds)) → find path_cmp (parent q) (rooted ds) ≡ Some Directory
@@ -69,7 +69,7 @@ module _ (ds : Pairs) (rising : AreRising (rooted ds)) where
       let up : find path_cmp (p ++ n ∷ parent (m ∷ w)) (rooted ds) ≡ Some Directory = ap (λ q. find path_cmp q (rooted ds)) (sym (parent-append p n (m ∷ w))) ∙ parent_of h (p ++ n ∷ m ∷ w) is in
       climbs h k p n (parent (m ∷ w)) (let long = length_parent m w in omega (arith, long, e)) (ap is_some up)
 
-  lawful_tree : Closed → AreLawful ds → IsTree (tree_with ds)
+  pub lawful_tree : Closed → AreLawful ds → IsTree (tree_with ds)
   lawful_tree h lawful = record {
     rooted = get-with ds root rising;
     part = record {
@@ -79,14 +79,18 @@ module _ (ds : Pairs) (rising : AreRising (rooted ds)) where
     };
   }
 
-  closed_of : list_all (stands_in ds) ds ≡ true → Closed
+  pub closed_by : AllByRecursion (λ e. is_directory_content (find path_cmp (parent e.0) (rooted ds)) ≡ true) ds → Closed
   unfolding Closed
-  closed_of h = (
+  closed_by h = (
     refl,
-    each-map (λ e. stands_in ds e ≡ true) (λ e. find path_cmp (parent e.0) (rooted ds) ≡ Some Directory)
-        (λ e k. is_dir (find path_cmp (parent e.0) (rooted ds)) (and_parts (is_directory_content (find path_cmp (parent e.0) (rooted ds))) (fits_content e.1) (and_parts (is_directory_content (find path_cmp (parent e.0) (rooted ds)) && fits_content e.1) (has_few ds e) k).0).0)
-        ds (each_of (stands_in ds) ds h),
+    each-map (λ e. is_directory_content (find path_cmp (parent e.0) (rooted ds)) ≡ true) (λ e. find path_cmp (parent e.0) (rooted ds) ≡ Some Directory)
+        (λ e k. is_dir (find path_cmp (parent e.0) (rooted ds)) k) ds h,
   )
+
+  closed_of : list_all (stands_in ds) ds ≡ true → Closed
+  closed_of h = closed_by (each-map (λ e. stands_in ds e ≡ true) (λ e. is_directory_content (find path_cmp (parent e.0) (rooted ds)) ≡ true)
+      (λ e k. (and_parts (is_directory_content (find path_cmp (parent e.0) (rooted ds))) (fits_content e.1) (and_parts (is_directory_content (find path_cmp (parent e.0) (rooted ds)) && fits_content e.1) (has_few ds e) k).0).0)
+      ds (each_of (stands_in ds) ds h))
 
   -- nothing is in a file
   none_in : Closed → (e : Pair) → find path_cmp e.0 (rooted ds) ≡ Some e.1 → is_directory_content (Some e.1) ≡ false → kids e.0 ds ≡ 0
@@ -122,7 +126,7 @@ module _ (ds : Pairs) (rising : AreRising (rooted ds)) where
     paths = ap (list_all (λ pair. fits_path pair.0)) (entries-with ds rising) ∙ all_of (λ pair. fits_path pair.0) ds (each-map IsLawfulPair (λ e. fits_path e.0 ≡ true) (λ e k. path_fits e.0 k.0) ds lawful);
   }
 
-below_root : (q : Path) → path_cmp root q ≡ Less → is_root q ≡ false
+pub below_root : (q : Path) → path_cmp root q ≡ Less → is_root q ≡ false
 below_root [] h = absurd (true≢false (sym (ap is_lt h)))
 below_root (n ∷ q) h = refl
 

@@ -166,18 +166,23 @@ all_below [] h = refl
 all_below (([], c) ∷ es) h = absurd (true≢false (sym (ap is_lt h.0)))
 all_below ((n ∷ r, c) ∷ es) h = ap (λ xs. (n ∷ r, c) ∷ xs) (all_below es h.1)
 
-root_first : (es : Pairs) → Rising es → find path_cmp root es ≡ Some Directory → rooted (filter (λ e. not (is_root e.0)) es) ≡ es
-root_first [] h e = absurd (none-some _ e)
-root_first (([], c) ∷ es) h e = ap₂ (λ (d : Content) xs. (root, d) ∷ xs) (sym (same_Some _ _ e)) (all_below es h.0)
-root_first ((n ∷ r, c) ∷ es) h e = absurd (none-some _ (sym (no_root n r es h.0) ∙ e))
+root_first : (c : Content) (es : Pairs) → Rising es → find path_cmp root es ≡ Some c → (root, c) ∷ filter (λ e. not (is_root e.0)) es ≡ es
+root_first c [] h e = absurd (none-some _ e)
+root_first c (([], d) ∷ es) h e = ap₂ (λ (x : Content) xs. (root, x) ∷ xs) (sym (same_Some _ _ e)) (all_below es h.0)
+root_first c ((n ∷ r, d) ∷ es) h e = absurd (none-some _ (sym (no_root n r es h.0) ∙ e))
+
+-- what stands at a path, and the entries below it, are those of the part there
+pub stripped_part : (t : Tree) (at : Path) (c : Content) → get t at ≡ Some c → (root, c) ∷ stripped at (entries t) ≡ entries (subtree t at)
+stripped_part t at c here =
+    let es = entries t in
+    let found = ap (find path_cmp root) (sym (entries-subtree t at)) ∙ (sym (get-entries (subtree t at) root) ∙ (get-subtree t at root ∙ (ap (get t) (append-nil at) ∙ here))) in
+    ap (λ xs. (root, c) ∷ xs) (strip_taken at es)
+    ∙ (root_first c (taken at es) (rising-taken at es (rising-entries t)) found ∙ sym (entries-subtree t at))
 
 -- the entries below a directory are those of its subtree
 pub stripped_entries : (t : Tree) (at : Path) (ds copies : Pairs) → entries t ≡ rooted ds → get t at ≡ Some Directory → copies ≡ stripped at ds → rooted copies ≡ entries (subtree t at)
 stripped_entries t at ds copies all dir e =
-    let es = entries t in
-    let found = ap (find path_cmp root) (sym (entries-subtree t at)) ∙ (sym (get-entries (subtree t at) root) ∙ (get-subtree t at root ∙ (ap (get t) (append-nil at) ∙ dir))) in
-    ap rooted (e ∙ (sym (root_stripped at ds) ∙ (ap (stripped at) (sym all) ∙ strip_taken at es)))
-    ∙ (root_first (taken at es) (rising-taken at es (rising-entries t)) found ∙ sym (entries-subtree t at))
+    ap rooted (e ∙ (sym (root_stripped at ds) ∙ ap (stripped at) (sym all))) ∙ stripped_part t at Directory dir
   where
     root_stripped : (at : Path) (ds : Pairs) → stripped at (rooted ds) ≡ stripped at ds
     root_stripped [] ds = refl

@@ -6,7 +6,7 @@ use crate::content::Content;
 use crate::entry::Entry;
 use crate::error::TreeError;
 use crate::lawful::is_path;
-use crate::list::entry_spelled;
+use crate::measures::entry_spelled;
 use std::alloc::Global;
 use std::marker::Model;
 use syn_path::Path;

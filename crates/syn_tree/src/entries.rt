@@ -12,10 +12,8 @@ ghost use Rattle.syn_tree.specs.Entries.{AreEntries, has_few, stands_in, IsLawfu
 use crate::content::Found;
 use crate::entry::Entry;
 use crate::lawful::{are_bytes, is_path};
-use crate::list::{
-    LONGEST_FILE, MOST_CHILDREN, are_rising, count_children, count_children_at, is_directory,
-    parent_names,
-};
+use crate::list::{are_rising, count_children, count_children_at, is_directory, parent_names};
+use crate::measures::{LONGEST_FILE, MOST_CHILDREN};
 use std::alloc::Global;
 use std::marker::Model;
 use syn_path::Path;

@@ -1,35 +1,71 @@
-ghost use Rattle.std.specs.Prelude.{◌≡◌, ◌++◌, IfOk, IfErr};
+ghost use Rattle.std.specs.Prelude.{◌≡◌, ◌++◌, IfOk, IfErr, Some};
 ghost use Rattle.syn_model.specs.Path.{IsPath};
 ghost use Rattle.syn_model.specs.Limits.{last_name_spelling_length, content_spelling_length};
+ghost use Rattle.syn_model.specs.Tree.{is_directory_content};
 ghost use Rattle.syn_tree.specs.Contents.{content_of, found_content};
 
 use crate::content::{Content, Found};
+use std::alloc::{AllocError, Global};
 use std::marker::Model;
 use syn_path::Path;
 
-/// A path with what stands there. Contracts see it as the pair of the two.
-#[derive(Debug, Drop)]
-pub struct Entry {
-    path: Path,
-    content: Content,
+/// What may stand at a path: a file or a directory. Contracts see it as the model's content.
+pub trait Standing: Drop + Sized {
+    ghost use Rattle.syn_model.specs.Tree.{Content as Contained};
+
+    ghost content: { Self → Contained };
+
+    /// Whether it is a directory.
+    fn is_directory(&self) -> bool
+        ensures { result ≡ is_directory_content (Some (content self.now)) };
+
+    /// The same, on its own. Refused where memory is refused.
+    fn copy(&self, alloc: Global) -> Result<Self, AllocError>
+        ensures { IfOk result (λ copied. content copied ≡ content self.now) };
 }
 
-impl Model for Entry {
+impl Standing for Content {
+    ghost content = { content_of };
+
+    fn is_directory(&self) -> bool {
+        match self {
+            Content::File(_) => false,
+            Content::Dir => true,
+        }
+    }
+
+    fn copy(&self, alloc: Global) -> Result<Content, AllocError> {
+        match self {
+            Content::File(bytes) => Ok(Content::File(Vec::from_slice(alloc, bytes)?)),
+            Content::Dir => Ok(Content::Dir),
+        }
+    }
+}
+
+/// A path with what stands there. Contracts see it as the pair of the two.
+#[derive(Debug, Drop)]
+pub struct Placed<C: Standing> {
+    path: Path,
+    content: C,
+}
+
+/// An entry of a tree.
+pub type Entry = Placed<Content>;
+
+impl<C: Standing> Model for Placed<C> {
     ghost use Rattle.syn_model.specs.Tree.{Pair};
 
     ghost Value = { Pair };
 
-    ghost use Rattle.syn_tree.specs.Contents.{content_of};
-
-    ghost view = { λ e. (e.path, content_of e.content) };
+    ghost view = { λ e. (e.path, C.content e.content) };
 }
 
-impl Entry {
+impl<C: Standing> Placed<C> {
     /// What stands at the path.
-    pub fn new(path: Path, content: Content) -> Entry
-        ensures { result ≡ (path, content_of content) }
+    pub fn new(path: Path, content: C) -> Placed<C>
+        ensures { result ≡ (path, C.content content) }
     {
-        Entry { path, content }
+        Placed { path, content }
     }
 
     /// The path.
@@ -40,19 +76,28 @@ impl Entry {
     }
 
     /// What stands there.
-    pub fn content(&self) -> Found<'_>
-        ensures { found_content result ≡ self.now.1 }
+    pub fn standing(&self) -> &C
+        ensures { C.content result.now ≡ self.now.1 }
     {
-        match &self.content {
-            Content::File(bytes) => Found::File(bytes),
-            Content::Dir => Found::Dir,
-        }
+        &self.content
     }
 
     /// The path and what stands there.
-    pub fn into_parts(self) -> (Path, Content)
-        ensures { (result.0, content_of result.1) ≡ self }
+    pub fn into_parts(self) -> (Path, C)
+        ensures { (result.0, C.content result.1) ≡ self }
     {
         (self.path, self.content)
+    }
+}
+
+impl Placed<Content> {
+    /// What stands there, with a file's bytes.
+    pub fn content(&self) -> Found<'_>
+        ensures { found_content result ≡ self.now.1 }
+    {
+        match self.standing() {
+            Content::File(bytes) => Found::File(bytes),
+            Content::Dir => Found::Dir,
+        }
     }
 }

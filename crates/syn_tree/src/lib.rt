@@ -3,21 +3,23 @@
 
 mod change;
 mod content;
-mod copies;
+pub mod copies;
 mod edit;
 mod entries;
 mod entry;
 mod error;
 mod lawful;
-mod list;
+pub mod list;
+mod measures;
 mod node;
+mod placing;
 mod tree;
 
 pub use change::Change;
 pub use content::{Content, Found};
 pub use edit::Edit;
 pub use entries::Entries;
-pub use entry::Entry;
+pub use entry::{Entry, Placed, Standing};
 pub use error::TreeError;
 pub use node::Node;
 pub use tree::Tree;

@@ -1,33 +1,19 @@
-//! Entries in path order.
-ghost use Rattle.std.specs.Prelude.{◌≡◌, ◌≤◌, ◌<◌, ◌+◌, ◌^◌, ◌++◌, ◌∷◌, length, take, drop, filter};
-ghost use Rattle.std.specs.Prelude.{count_by, option_map, IfSome, IfNone, IsTrue, ◌↔◌, vec_len};
-ghost use Rattle.std.specs.Prelude.{vec_capacity};
+//! Entries in path order, of trees and of marks alike.
+ghost use Rattle.std.specs.Prelude.{◌≡◌, ◌≤◌, ◌<◌, ◌+◌, ◌++◌, ◌∷◌, length, take, drop, filter};
+ghost use Rattle.std.specs.Prelude.{count_by, option_map, IsTrue, ◌↔◌, vec_len, vec_capacity};
 ghost use Rattle.std.specs.Ordering.{eq_by_cmp, is_lt};
 ghost use Rattle.std.specs.FinMap.{find};
-ghost use Rattle.syn_model.specs.Path.{path_cmp, parent, IsPath};
+ghost use Rattle.syn_model.specs.Path.{path_cmp, parent};
 ghost use Rattle.syn_model.specs.Tree.{is_directory_content};
-ghost use Rattle.syn_model.specs.Limits.{last_name_spelling_length};
-ghost use Rattle.syn_tree.specs.Contents.{found_content};
 ghost use Rattle.syn_tree.specs.Pairs.{rooted, AreRising, is_before, is_within, before, within};
-ghost use Rattle.syn_tree.specs.Pairs.{behind, is_below, is_child, pair_spelling_length};
-ghost use Rattle.syn_tree.specs.Pairs.{spelling_length};
+ghost use Rattle.syn_tree.specs.Pairs.{behind, is_below, is_child};
 
-use crate::content::Found;
-use crate::entry::Entry;
+use crate::entry::{Placed, Standing};
 use std::cmp::Ordering;
 use syn_path::{Name, Path};
 
-/// The most bytes of the spelling of a replica's tree.
-pub(crate) const LONGEST_SPELLING: usize = 524_288;
-
-/// The most entries of a directory.
-pub(crate) const MOST_CHILDREN: usize = 256;
-
-/// The most bytes of a file.
-pub(crate) const LONGEST_FILE: usize = 16_384;
-
 /// The paths strictly rise, from the root's on.
-pub(crate) fn are_rising(list: &[Entry]) -> bool
+pub fn are_rising<C: Standing>(list: &[Placed<C>]) -> bool
     ensures { IsTrue result ↔ AreRising (rooted list.now) }
 {
     let mut last: &[Name] = &[];
@@ -48,28 +34,28 @@ fn comes_before(names: &[Name], path: &Path) -> bool
 }
 
 /// The entry stands before the path of these names.
-fn is_before(entry: &Entry, names: &[Name]) -> bool
+fn is_before<C: Standing>(entry: &Placed<C>, names: &[Name]) -> bool
     ensures { result ≡ is_before names.now entry.now }
 {
     entry.path().names().cmp(&names) == Ordering::Less
 }
 
 /// The entry stands at the path of these names.
-fn is_at(entry: &Entry, names: &[Name]) -> bool
+fn is_at<C: Standing>(entry: &Placed<C>, names: &[Name]) -> bool
     ensures { result ≡ eq_by_cmp path_cmp entry.now.0 names.now }
 {
     entry.path().names().cmp(&names) == Ordering::Equal
 }
 
 /// The entry stands at or below the path of these names.
-fn is_within(entry: &Entry, names: &[Name]) -> bool
+fn is_within<C: Standing>(entry: &Placed<C>, names: &[Name]) -> bool
     ensures { result ≡ is_within names.now entry.now }
 {
     entry.path().names().starts_with(names)
 }
 
 /// How many entries stand before the path of these names.
-pub(crate) fn count_before(list: &[Entry], names: &[Name]) -> usize
+pub fn count_before<C: Standing>(list: &[Placed<C>], names: &[Name]) -> usize
     requires { AreRising list.now }
     ensures { result ≡ length (before names.now list.now) }
 {
@@ -77,7 +63,7 @@ pub(crate) fn count_before(list: &[Entry], names: &[Name]) -> usize
 }
 
 /// Where the entries at and below the path of these names begin, and how many they are.
-fn place_of(list: &[Entry], names: &[Name]) -> (usize, usize)
+fn place_of<C: Standing>(list: &[Placed<C>], names: &[Name]) -> (usize, usize)
     requires { AreRising list.now }
     ensures start { result.0 ≡ length (before names.now list.now) }
     ensures count { result.1 ≡ length (within names.now list.now) }
@@ -89,7 +75,7 @@ fn place_of(list: &[Entry], names: &[Name]) -> (usize, usize)
 }
 
 /// The entries at and below the path of these names.
-pub(crate) fn part_at<'a>(list: &'a [Entry], names: &[Name]) -> &'a [Entry]
+pub fn part_at<'a, C: Standing>(list: &'a [Placed<C>], names: &[Name]) -> &'a [Placed<C>]
     requires { AreRising list.now }
     ensures { result.now ≡ within names.now list.now }
 {
@@ -98,7 +84,7 @@ pub(crate) fn part_at<'a>(list: &'a [Entry], names: &[Name]) -> &'a [Entry]
 }
 
 /// So many entries from the start on.
-fn run_of(list: &[Entry], start: usize, count: usize) -> &[Entry]
+fn run_of<C: Standing>(list: &[Placed<C>], start: usize, count: usize) -> &[Placed<C>]
     requires { start + count ≤ length list.now }
     ensures { result.now ≡ take count (drop start list.now) }
 {
@@ -108,7 +94,7 @@ fn run_of(list: &[Entry], start: usize, count: usize) -> &[Entry]
 }
 
 /// The entries below the path, without the one at it.
-pub(crate) fn part_below<'a>(list: &'a [Entry], at: &Path) -> &'a [Entry]
+pub fn part_below<'a, C: Standing>(list: &'a [Placed<C>], at: &Path) -> &'a [Placed<C>]
     requires { AreRising list.now }
     ensures { result.now ≡ filter (is_below at.now) list.now }
 {
@@ -120,40 +106,38 @@ pub(crate) fn part_below<'a>(list: &'a [Entry], at: &Path) -> &'a [Entry]
     if is_at(first, names) { rest } else { part }
 }
 
-/// What stands at the path of these names, of entries below a root directory.
-pub(crate) fn find<'a>(list: &'a [Entry], names: &[Name]) -> Option<Found<'a>>
-    requires { AreRising (rooted list.now) }
-    ensures { option_map (λ found. found_content found) result
-        ≡ find path_cmp names.now (rooted list.now) }
+/// The entry at the path of these names; none where nothing stands there.
+pub fn entry_at<'a, C: Standing>(list: &'a [Placed<C>], names: &[Name]) -> Option<&'a Placed<C>>
+    requires { AreRising list.now }
+    ensures { option_map (λ entry. entry.now.1) result ≡ find path_cmp names.now list.now }
 {
-    if names.is_empty() {
-        return Some(Found::Dir);
-    }
     let at = count_before(list, names);
     let Some(entry) = list.get(at) else {
         return None;
     };
     if is_at(entry, names) {
-        Some(entry.content())
+        Some(entry)
     } else {
         None
     }
 }
 
-/// A directory stands at the path of these names.
-pub(crate) fn is_directory(list: &[Entry], names: &[Name]) -> bool
+/// A directory stands at the path of these names, among entries below a root directory.
+pub fn is_directory<C: Standing>(list: &[Placed<C>], names: &[Name]) -> bool
     requires { AreRising (rooted list.now) }
     ensures { result ≡ is_directory_content (find path_cmp names.now (rooted list.now)) }
 {
-    match find(list, names) {
-        Some(Found::Dir) => true,
-        Some(Found::File(_)) => false,
+    if names.is_empty() {
+        return true;
+    }
+    match entry_at(list, names) {
+        Some(entry) => entry.standing().is_directory(),
         None => false,
     }
 }
 
 /// The path is one name longer than the names above it.
-pub(crate) fn is_child(above: &[Name], path: &Path) -> bool
+pub fn is_child(above: &[Name], path: &Path) -> bool
     ensures { result ≡ is_child above.now path.now }
 {
     match path.names() {
@@ -163,7 +147,7 @@ pub(crate) fn is_child(above: &[Name], path: &Path) -> bool
 }
 
 /// The names of the parent; of the root, none.
-pub(crate) fn parent_names(path: &Path) -> &[Name]
+pub fn parent_names(path: &Path) -> &[Name]
     ensures { result.now ≡ parent path.now }
 {
     match path.names() {
@@ -173,7 +157,7 @@ pub(crate) fn parent_names(path: &Path) -> &[Name]
 }
 
 /// How many entries stand in the directory of these names.
-pub(crate) fn count_children(list: &[Entry], above: &[Name]) -> usize
+pub fn count_children<C: Standing>(list: &[Placed<C>], above: &[Name]) -> usize
     ensures { result ≡ count_by (λ pair. is_child above.now pair.0) list.now }
 {
     list.iter()
@@ -182,7 +166,7 @@ pub(crate) fn count_children(list: &[Entry], above: &[Name]) -> usize
 }
 
 /// How many entries stand in the directory at the path, by a count in the part below it alone.
-pub(crate) fn count_children_at(list: &[Entry], at: &Path) -> usize
+pub fn count_children_at<C: Standing>(list: &[Placed<C>], at: &Path) -> usize
     requires { AreRising list.now }
     ensures { result ≡ count_by (λ pair. is_child at.now pair.0) list.now }
 {
@@ -190,77 +174,26 @@ pub(crate) fn count_children_at(list: &[Entry], at: &Path) -> usize
     count_children(part_at(list, names), names)
 }
 
-/// How many bytes spell the last name with its length; none for the root.
-pub(crate) fn name_spelled(path: &Path) -> usize
-    ensures length { result ≡ last_name_spelling_length path.now }
-    ensures short { result ≤ 65 }
-    ensures lawful { IsPath path.now }
-{
-    match path.names().last() {
-        Some(name) => 1 + name.as_str().len(),
-        None => 0,
-    }
-}
-
-/// How many bytes spell the entry, without what is below it.
-pub(crate) fn entry_spelled(entry: &Entry) -> usize
-    ensures length { result ≡ pair_spelling_length entry.now }
-    ensures fits { result < 2 ^ 63 + 128 }
-{
-    let name = name_spelled(entry.path());
-    match entry.content() {
-        Found::File(bytes) => name + 5 + bytes.len(),
-        Found::Dir => name + 3,
-    }
-}
-
-/// How many bytes spell the entries.
-pub(crate) fn spelled(list: &[Entry]) -> usize
-    requires { spelling_length list.now ≤ 524288 }
-    ensures { result ≡ spelling_length list.now }
-{
-    let mut size = 0;
-    for entry in list {
-        size += entry_spelled(entry);
-    }
-    size
-}
-
-/// How many bytes spell the entries; none where that is more than the longest spelling of a tree.
-pub(crate) fn measured(list: &[Entry]) -> Option<usize>
-    ensures some { IfSome result (λ size. (size ≡ spelling_length list.now) × (size ≤ 524288)) }
-    ensures none { IfNone result (524288 < spelling_length list.now) }
-{
-    let mut size = 0;
-    for entry in list {
-        size += entry_spelled(entry);
-        if size > LONGEST_SPELLING {
-            return None;
-        }
-    }
-    Some(size)
-}
-
-/// Puts these entries in the place of what is at and below the path, and answers how many bytes
-/// spelled that.
-pub(crate) fn splice(list: &mut Vec<Entry>, at: &Path, added: Vec<Entry>) -> usize
+/// Puts these entries in the place of what is at and below the path.
+pub fn replace_part<C: Standing>(list: &mut Vec<Placed<C>>, at: &Path, added: Vec<Placed<C>>)
     requires rising { AreRising list.old.items }
-    requires brief { spelling_length (within at.now list.old.items) ≤ 524288 }
     requires room { length (before at.now list.old.items) + length
         (behind at.now list.old.items) + vec_len added ≤ vec_capacity list.old }
     ensures items { list.new.items ≡ before at.now list.old.items
         ++ (added.items ++ behind at.now list.old.items) }
     ensures room { vec_capacity list.old ≤ vec_capacity list.new }
-    ensures removed { result ≡ spelling_length (within at.now list.old.items) }
 {
     let (start, count) = place_of(list, at.names());
-    let removed = spelled(run_of(list, start, count));
     replace_run(list, start, count, added);
-    removed
 }
 
 /// Puts these entries in the place of so many from the start on.
-fn replace_run(list: &mut Vec<Entry>, start: usize, count: usize, added: Vec<Entry>)
+fn replace_run<C: Standing>(
+    list: &mut Vec<Placed<C>>,
+    start: usize,
+    count: usize,
+    added: Vec<Placed<C>>,
+)
     requires bounds { start + count ≤ vec_len list.old }
     requires room { vec_len list.old + vec_len added ≤ vec_capacity list.old + count }
     ensures items { list.new.items ≡ take start list.old.items
@@ -276,7 +209,7 @@ fn replace_run(list: &mut Vec<Entry>, start: usize, count: usize, added: Vec<Ent
 }
 
 /// Puts the entries in the place of as many; no other entry moves.
-fn swap_run(list: &mut Vec<Entry>, start: usize, added: Vec<Entry>)
+fn swap_run<C: Standing>(list: &mut Vec<Placed<C>>, start: usize, added: Vec<Placed<C>>)
     requires { start + vec_len added ≤ vec_len list.old }
     ensures items { list.new.items ≡ take start list.old.items
         ++ (added.items ++ drop (start + vec_len added) list.old.items) }
@@ -289,7 +222,7 @@ fn swap_run(list: &mut Vec<Entry>, start: usize, added: Vec<Entry>)
 }
 
 /// Takes out so many entries from the start on.
-fn take_out(list: &mut Vec<Entry>, start: usize, count: usize)
+fn take_out<C: Standing>(list: &mut Vec<Placed<C>>, start: usize, count: usize)
     requires { start + count ≤ vec_len list.old }
     ensures items { list.new.items ≡ take start list.old.items
         ++ drop (start + count) list.old.items }
@@ -301,7 +234,7 @@ fn take_out(list: &mut Vec<Entry>, start: usize, count: usize)
 }
 
 /// Puts the entries in at the place.
-fn put_in(list: &mut Vec<Entry>, at: usize, added: Vec<Entry>)
+fn put_in<C: Standing>(list: &mut Vec<Placed<C>>, at: usize, added: Vec<Placed<C>>)
     requires bounds { at ≤ vec_len list.old }
     requires room { vec_len list.old + vec_len added ≤ vec_capacity list.old }
     ensures items { list.new.items ≡ take at list.old.items

@@ -1,4 +1,9 @@
+ghost use Rattle.std.specs.Prelude.{◌≡◌, true, false};
+ghost use Rattle.syn_model.specs.Limits.{fits_part, fits_paths};
+ghost use Rattle.syn_tree.specs.Nodes.{node_tree};
+
 use crate::entries::Entries;
+use crate::list::LONGEST_FILE;
 
 /// What can stand at a path: a file, or a directory with what is below it.
 #[derive(Debug, Drop)]
@@ -7,4 +12,21 @@ pub enum Node {
     File(Vec<u8>),
     /// A directory, with what is below it.
     Dir(Entries),
+}
+
+impl Node {
+    /// Whether it keeps the limit of a file's bytes, as a directory does by its type.
+    pub fn is_brief(&self) -> bool
+        ensures brief { result ≡ true → fits_part (node_tree self.now) ≡ true }
+        ensures long { result ≡ false → fits_part (node_tree self.now) ≡ false }
+        ensures paths { fits_paths (node_tree self.now) ≡ true }
+    {
+        match self {
+            Node::File(bytes) => bytes.len() <= LONGEST_FILE,
+            Node::Dir(entries) => {
+                let _ = entries.as_slice();
+                true
+            }
+        }
+    }
 }

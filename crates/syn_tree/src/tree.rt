@@ -19,17 +19,20 @@ ghost use Rattle.syn_tree.specs.Refusals.{refusal_of, refusal_in};
 
 use crate::change::Change;
 use crate::content::{Content, Found};
-use crate::copies::{below, children, placed};
+use crate::copies::{below, children};
 use crate::edit::Edit;
 use crate::entries::Entries;
 use crate::entry::Entry;
 use crate::error::TreeError;
 use crate::lawful::are_bytes;
 use crate::list::{
-    LONGEST_FILE, LONGEST_SPELLING, MOST_CHILDREN, count_children, count_children_at, find,
-    is_directory, measured, name_spelled, parent_names, part_at, part_below, spelled, splice,
+    count_children, count_children_at, is_directory, parent_names, part_at, part_below,
+};
+use crate::measures::{
+    LONGEST_FILE, LONGEST_SPELLING, MOST_CHILDREN, find, measured, name_spelled, spelled, splice,
 };
 use crate::node::Node;
+use crate::placing::placed;
 use std::alloc::Global;
 use std::marker::Model;
 use syn_path::{Name, Path};
@@ -123,7 +126,7 @@ impl Tree {
 
     /// Why nothing may be put at the path or taken from it: it is the root (6), or its parent is no
     /// directory (2).
-    fn check_place(&self, path: &Path) -> Result<(), TreeError>
+    pub fn check_place(&self, path: &Path) -> Result<(), TreeError>
         ensures { refusal_in result ≡ first_cause (place_causes self.now path.now) }
     {
         let [above @ .., _] = path.names() else {
@@ -233,6 +236,18 @@ impl Tree {
             → edit_refusal self.now (edit_of edit) ≡ Some (refusal_of e)) }
     {
         self.check(&edit)?;
+        self.prepare_allowed(alloc, edit)
+    }
+
+    /// The edit, ready to be made, with all memory for it, where `check` does not refuse it. The
+    /// tree stays as it is. Refused 11 where memory is refused.
+    pub fn prepare_allowed(&self, alloc: Global, edit: Edit) -> Result<Change, TreeError>
+        requires { edit_refusal self.now (edit_of edit) ≡ None }
+        ensures ready { IfOk result (λ change. IsPreparedFor self.now change) }
+        ensures gives { IfOk result (λ change. after_change self.now change
+            ≡ after_edit self.now (edit_of edit)) }
+        ensures memory { IfErr result (λ e. e ≡ TreeError.Memory) }
+    {
         match edit {
             Edit::Put(path, bytes) => {
                 are_bytes(&bytes);

@@ -11,3 +11,4 @@ pub mod PartsLemmas
 pub mod ReadingLemmas
 pub mod MadeLemmas
 pub mod ListedLemmas
+pub mod ImageLemmas

@@ -3,4 +3,5 @@ pub mod Reads
 pub mod Laws
 pub mod Events
 pub mod Trees
+pub mod Images
 pub mod inner

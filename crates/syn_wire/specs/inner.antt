@@ -1,3 +1,4 @@
 -- Definitions that no public clause reaches.
 pub mod Names
 pub mod Parts
+pub mod Pasts

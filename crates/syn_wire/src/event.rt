@@ -1,7 +1,7 @@
 //! Events.
 ghost use Rattle.std.specs.Prelude.{◌≡◌, ◌++◌, ◌∷◌, ℕ, length, IfOk, OnOk, option_map};
 ghost use Rattle.syn_model.specs.Path.{IsPath, path_spelling};
-ghost use Rattle.syn_model.specs.Event.{Edited, IsLawfulEdit, IsLawfulToken};
+ghost use Rattle.syn_model.specs.Event.{Edited, IsLawfulEdit, IsLawfulEvent, IsLawfulToken};
 ghost use Rattle.syn_model.specs.Spelling.{event_spelling, token_spelling};
 ghost use Rattle.syn_tree.specs.Edits.{edit_of};
 ghost use Rattle.syn_history.specs.Events.{event_of, token_of};
@@ -37,7 +37,8 @@ const REPLACED: u8 = 5;
 /// Refused 11 where memory is refused.
 pub fn encode_event(alloc: Global, event: &Event) -> Result<Vec<u8>, WireError>
     requires { IsShort (event_of event.now) }
-    ensures { IfOk result (λ bytes. bytes.items ≡ event_spelling (event_of event.now)) }
+    ensures spelling { IfOk result (λ bytes. bytes.items ≡ event_spelling (event_of event.now)) }
+    ensures lawful { OnOk result (IsLawfulEvent (event_of event.now)) }
 {
     match event {
         Event::Edited { user, edit } => encode_edit(alloc, *user, edit),
@@ -233,7 +234,7 @@ fn read_item(alloc: Global, bytes: &[u8]) -> Result<Option<(Token, Path, &[u8])>
 }
 
 // The number of a session, and that of its item.
-fn read_token(bytes: &[u8]) -> Option<(Token, &[u8])>
+pub(crate) fn read_token(bytes: &[u8]) -> Option<(Token, &[u8])>
     ensures { IsReading IsLawfulToken token_spelling bytes.now
         (option_map (λ found. (token_of found.0, found.1.now)) result) }
 {
@@ -243,8 +244,10 @@ fn read_token(bytes: &[u8]) -> Option<(Token, &[u8])>
 }
 
 // Adds the number of a session, and that of its item.
-fn write_token(out: &mut Vec<u8>, token: &Token) -> Result<(), WireError>
-    ensures { OnOk result (out.new.items ≡ out.old.items ++ token_spelling (token_of token.now)) }
+pub(crate) fn write_token(out: &mut Vec<u8>, token: &Token) -> Result<(), WireError>
+    ensures added { OnOk result (out.new.items ≡ out.old.items
+        ++ token_spelling (token_of token.now)) }
+    ensures lawful { OnOk result (IsLawfulToken (token_of token.now)) }
 {
     write_u64(out, token.session)?;
     write_u32(out, token.item)?;

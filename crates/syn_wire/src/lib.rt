@@ -6,11 +6,14 @@
 
 ghost use Rattle.syn_wire.specs.Laws.{NoU16BeginsAnother, NoU32BeginsAnother, NoU64BeginsAnother};
 ghost use Rattle.syn_wire.specs.Laws.{NoPathBeginsAnother, NoEventBeginsAnother};
+ghost use Rattle.syn_wire.specs.Images.{NoImageBeginsAnother};
 ghost use Rattle.syn_wire.specs.Trees.{NoTreeBeginsAnother, SpellingIsWalk, SpellingIsMeasured};
 
 mod bytes;
 mod error;
 mod event;
+mod image;
+mod image_reading;
 mod number;
 mod path;
 mod tree;
@@ -19,6 +22,8 @@ mod tree_reading;
 pub use bytes::{read_file, write_file};
 pub use error::WireError;
 pub use event::{decode_event, edit_length, encode_edit, encode_event};
+pub use image::{Image, encode_image};
+pub use image_reading::decode_image;
 pub use number::{read_u16, read_u32, read_u64, write_u16, write_u32, write_u64};
 pub use path::{decode_path, encode_path, write_path};
 pub use tree::{encode_node, encode_tree, write_node, write_tree};
@@ -32,6 +37,7 @@ pub fn spelling_laws()
     ensures path { NoPathBeginsAnother }
     ensures event { NoEventBeginsAnother }
     ensures tree { NoTreeBeginsAnother }
+    ensures image { NoImageBeginsAnother }
 
     // A tree is spelled in one walk over its entries, and as long as the model measures.
     ensures walk { SpellingIsWalk }

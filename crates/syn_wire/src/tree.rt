@@ -2,7 +2,7 @@
 ghost use Rattle.std.specs.Prelude.{◌≡◌, ◌++◌, ◌<◌, ◌^◌, ◌≤◌, length, true, IfOk, OnOk, option_map};
 ghost use Rattle.syn_model.specs.Limits.{children, fits_content, fits_part};
 ghost use Rattle.syn_model.specs.Spelling.{spelling};
-ghost use Rattle.syn_model.specs.Tree.{Directory};
+ghost use Rattle.syn_model.specs.Tree.{Directory, IsPart};
 ghost use Rattle.syn_tree.specs.Nodes.{part_of, node_tree};
 ghost use Rattle.syn_wire.specs.Reads.{IsBeginning};
 ghost use Rattle.syn_wire.specs.Trees.{last_name_spelling, standing_spelling};
@@ -66,6 +66,8 @@ pub fn write_node(out: &mut Vec<u8>, node: Option<&Node>) -> Result<(), WireErro
     ensures added { OnOk result (out.new.items ≡ out.old.items
         ++ spelling (part_of (option_map (λ there. there.now) node.entry))) }
     ensures kept { IsBeginning out.old.items out.new.items }
+    ensures lawful { OnOk result (IsPart
+        (part_of (option_map (λ there. there.now) node.entry))) }
 {
     match node {
         None => {
@@ -81,6 +83,7 @@ fn write_present(out: &mut Vec<u8>, node: &Node) -> Result<(), WireError>
     requires { fits_part (node_tree node.now) ≡ true }
     ensures added { OnOk result (out.new.items ≡ out.old.items ++ spelling (node_tree node.now)) }
     ensures kept { IsBeginning out.old.items out.new.items }
+    ensures lawful { OnOk result (IsPart (node_tree node.now)) }
 {
     match node {
         Node::File(bytes) => {
@@ -95,6 +98,7 @@ fn write_present(out: &mut Vec<u8>, node: &Node) -> Result<(), WireError>
 fn write_directory(out: &mut Vec<u8>, entries: &Entries) -> Result<(), WireError>
     ensures added { OnOk result (out.new.items ≡ out.old.items ++ spelling entries.now) }
     ensures kept { IsBeginning out.old.items out.new.items }
+    ensures lawful { IsPart entries.now }
 {
     let root = Path::root(*out.allocator());
     let list = entries.as_slice();

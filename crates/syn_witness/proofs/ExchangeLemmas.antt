@@ -47,7 +47,6 @@ both_scanned Left = record {
   tree = marked_whole (tree_of left_history) 97 (49 ∷ []) letter_a left-entries;
   fits = fits_archive_by left_scan.marks (with_file 97 (digest (49 ∷ []))) left_marks-entries;
   listed = λ path there stable. subst (λ at. WasTaken (take 4 transcript) Left (ListAt at) (Listed 2 (children left_scan.marks at))) (sym (root_only left_scan.marks 97 (sha256 (49 ∷ [])) left_marks-entries path there)) (1, (2, omega arith, refl));
-  ordered = λ path name there. omega arith;
   not_dir = λ path c. absurd (none_there path c);
   nothing_below = λ path c. absurd (none_there path c);
 }
@@ -55,7 +54,6 @@ both_scanned Right = record {
   tree = marked_whole (tree_of right_history) 98 (50 ∷ []) letter_b right-entries;
   fits = fits_archive_by right_scan.marks (with_file 98 (digest (50 ∷ []))) right_marks-entries;
   listed = λ path there stable. subst (λ at. WasTaken (take 4 transcript) Right (ListAt at) (Listed 2 (children right_scan.marks at))) (sym (root_only right_scan.marks 98 (sha256 (50 ∷ [])) right_marks-entries path there)) (1, (3, omega arith, refl));
-  ordered = λ path name there. omega arith;
   not_dir = λ path c. absurd (none_there path c);
   nothing_below = λ path c. absurd (none_there path c);
 }
@@ -84,11 +82,11 @@ begins_session : Steps both_edited Start started
 begins_session = starts_so both_edited 1 refl refl refl refl (omega arith, omega arith) started refl
 
 takes_left_begun : Steps both_begun (Deliver 2) right_awaited
-takes_left_begun = goes_on_so both_begun both_begin Left 0 (Begin 7) (Begun 2) None [] (start_of both_begun.coordinator both_begin) [] [] [] refl refl refl coordinator.stays (stands (start_of both_begun.coordinator both_begin)) refl not_last
+takes_left_begun = goes_on_so both_begun both_begin Left 0 (Begin 7) (Begun 2) None [] (start_of both_begun.coordinator both_begin) [] [] [] refl refl refl coordinator.stays (stands (start_of both_begun.coordinator both_begin)) refl refl not_last
     (asks_so number_of begun_archive right_begins [] [] tt tt tt (omega arith) (omega arith) ((refl, tt), tt, (refl, tt)) (omega arith, omega arith, omega arith))
 
 takes_right_begun : Steps right_awaited (Deliver 3) listing
-takes_right_begun = goes_on_so right_awaited right_begins Right 0 (Begin 7) (Begun 2) None [] (start_of right_awaited.coordinator right_begins) [] (ListAt root ∷ []) (ListAt root ∷ []) refl refl refl coordinator.stays (stands (start_of right_awaited.coordinator right_begins)) refl not_last
+takes_right_begun = goes_on_so right_awaited right_begins Right 0 (Begin 7) (Begun 2) None [] (start_of right_awaited.coordinator right_begins) [] (ListAt root ∷ []) (ListAt root ∷ []) refl refl refl coordinator.stays (stands (start_of right_awaited.coordinator right_begins)) refl refl not_last
     (asks_so number_of begun_archive (runs_with 1 (take 2 transcript) [] [] None 0 []) (ListAt root ∷ []) (ListAt root ∷ []) ((refl, two_begun, inl refl), tt) ((refl, two_begun, inl refl), tt) ((omega arith, root_lawful), ((omega arith, root_lawful), tt))
     (omega arith) (omega arith) ((refl, (refl, tt)), (refl, tt), (refl, tt)) (omega arith, omega arith, omega arith))
 
@@ -99,7 +97,7 @@ right_listing : fault_of (take 3 transcript) Right (ListAt root) (Listed 2 (chil
 right_listing = ap (λ entries. fault_of (take 3 transcript) Right (ListAt root) (Listed 2 entries)) (children_by right_scan.marks (with_file 98 (digest (50 ∷ []))) right_marks-entries)
 
 takes_left_listing : Steps both_listed (Deliver 6) right_list_awaited
-takes_left_listing = goes_on_so both_listed both_list Left 1 (ListAt root) (Listed 2 (children left_scan.marks root)) None [] (start_of both_listed.coordinator both_list) [] [] [] refl refl left_listing coordinator.stays (stands (start_of both_listed.coordinator both_list)) refl not_last
+takes_left_listing = goes_on_so both_listed both_list Left 1 (ListAt root) (Listed 2 (children left_scan.marks root)) None [] (start_of both_listed.coordinator both_list) [] [] [] refl refl left_listing coordinator.stays (stands (start_of both_listed.coordinator both_list)) refl refl not_last
     (asks_so number_of begun_archive right_lists [] [] tt tt tt (omega arith) (omega arith) ((refl, (refl, (refl, tt))), tt, (refl, tt)) (omega arith, omega arith, omega arith))
 
 first-entries : entries first_archive.marks ≡ with_file 97 (digest (49 ∷ []))
@@ -124,7 +122,7 @@ can_record_second =
 
 takes_right_listing : Steps right_list_awaited (Deliver 7) fetching
 takes_right_listing = goes_on_so right_list_awaited right_lists Right 1 (ListAt root) (Listed 2 (children right_scan.marks root)) (Some plan) (made ∷ []) (start_of right_list_awaited.coordinator right_lists) [] (Fetch a_path 2 0 ∷ []) [] refl refl right_listing (makes made refl makes_plan)
-    (stands (start_of right_list_awaited.coordinator right_lists)) refl not_last
+    (stands (start_of right_list_awaited.coordinator right_lists)) refl refl not_last
     (asks_so number_of begun_archive (runs_with 1 (take 4 transcript) [] [] (Some plan) 0 []) (Fetch a_path 2 0 ∷ []) [] ((first_planned, refl, (refl, refl, can_record_first.not_refused, inl refl, refl)), tt) tt ((omega arith, (path_of_letter 97 letter_a, omega arith, omega arith)), tt)
     (omega arith) (omega arith) ((refl, (refl, (refl, (refl, tt)))), (refl, tt), tt) (omega arith, omega arith, omega arith))
 
@@ -132,12 +130,12 @@ first_bytes_lawful : AreBytes file_bytes
 first_bytes_lawful = All-from_recursion (λ byte. byte < 256) file_bytes (omega arith, (omega arith, (omega arith, (omega arith, (omega arith, (omega arith, tt))))))
 
 takes_first_piece : Steps fetched (Deliver 9) staging
-takes_first_piece = goes_on_so fetched left_fetches Left 2 (Fetch a_path 2 0) (Piece 6 file_bytes) (Some plan) [] (start_of fetched.coordinator left_fetches) [] [] (Stage 0 0 file_bytes ∷ []) refl refl refl coordinator.stays (stands (start_of fetched.coordinator left_fetches)) refl not_last
+takes_first_piece = goes_on_so fetched left_fetches Left 2 (Fetch a_path 2 0) (Piece 6 file_bytes) (Some plan) [] (start_of fetched.coordinator left_fetches) [] [] (Stage 0 0 file_bytes ∷ []) refl refl refl coordinator.stays (stands (start_of fetched.coordinator left_fetches)) refl refl not_last
     (asks_so number_of begun_archive (runs_with 1 (take 5 transcript) [] [] (Some plan) 0 []) [] (Stage 0 0 file_bytes ∷ []) tt ((refl, (first_planned, refl, (refl, 6, (2, (4, omega arith, refl))))), tt) ((omega arith, (omega arith, omega arith, (omega arith, omega arith, first_bytes_lawful))), tt)
     (omega arith) (omega arith) ((refl, (refl, (refl, (refl, (refl, tt))))), tt, (refl, tt)) (omega arith, omega arith, omega arith))
 
 takes_first_staged : Steps staged (Deliver 11) replacing
-takes_first_staged = goes_on_so staged right_stages Right 2 (Stage 0 0 file_bytes) Staged (Some plan) [] (start_of staged.coordinator right_stages) [] [] (Replace 0 a_path 2 6 ∷ []) refl refl refl coordinator.stays (stands (start_of staged.coordinator right_stages)) refl not_last
+takes_first_staged = goes_on_so staged right_stages Right 2 (Stage 0 0 file_bytes) Staged (Some plan) [] (start_of staged.coordinator right_stages) [] [] (Replace 0 a_path 2 6 ∷ []) refl refl refl coordinator.stays (stands (start_of staged.coordinator right_stages)) refl refl not_last
     (asks_so number_of begun_archive (runs_with 1 (take 6 transcript) [] [] (Some plan) 0 []) [] (Replace 0 a_path 2 6 ∷ []) tt ((refl, (first_planned, refl, (refl, refl, 0, file_bytes, (2, (4, omega arith, refl)), inr (0, file_bytes, (2, (5, omega arith, refl)), refl)))), tt) ((omega arith, (omega arith, path_of_letter 97 letter_a, omega arith, omega arith)), tt)
     (omega arith) (omega arith) ((refl, (refl, (refl, (refl, (refl, (refl, tt)))))), tt, (refl, tt)) (omega arith, omega arith, omega arith))
 
@@ -145,7 +143,7 @@ takes_first_done : Steps replaced (Deliver 13) second_fetching
 takes_first_done =
     let walk = start_of replaced.coordinator right_replaces in
     goes_on_so replaced right_replaces Right 3 (Replace 0 a_path 2 6) Done (Some plan) [] (recorded 7 walk (Recorded a_path (mark one))) (Recorded a_path (mark one) ∷ []) [] (Fetch b_path 2 0 ∷ []) refl refl refl coordinator.stays
-    (keeps_so 7 plan (took Right 3 (Replace 0 a_path 2 6) Done) walk (Recorded a_path (mark one)) first_planned refl (done a_path 2 6 refl refl refl) can_record_first refl refl refl (ap (λ size. nat_le size 4194252) (letter_size 97 (49 ∷ [])))) refl (λ _ e. omega (arith, e))
+    (keeps_so 7 plan (took Right 3 (Replace 0 a_path 2 6) Done) walk (Recorded a_path (mark one)) first_planned refl (done a_path 2 6 refl refl refl) can_record_first refl refl refl (ap (λ size. nat_le size 4194252) (letter_size 97 (49 ∷ [])))) refl refl (λ _ e. omega (arith, e))
     (asks_so number_of first_archive (runs_with 1 (take 7 transcript) [] [] (Some plan) 1 (Recorded a_path (mark one) ∷ [])) [] (Fetch b_path 2 0 ∷ []) tt ((second_planned, refl, (refl, refl, can_record_second.not_refused, inl refl, refl)), tt) ((omega arith, (path_of_letter 98 letter_b, omega arith, omega arith)), tt)
     (omega arith) (omega arith) ((refl, (refl, (refl, (refl, (refl, (refl, (refl, tt))))))), tt, (refl, tt)) (omega arith, omega arith, omega arith))
 
@@ -153,12 +151,12 @@ second_bytes_lawful : AreBytes two_bytes
 second_bytes_lawful = All-from_recursion (λ byte. byte < 256) two_bytes (omega arith, (omega arith, (omega arith, (omega arith, (omega arith, (omega arith, tt))))))
 
 takes_second_piece : Steps second_fetched (Deliver 15) second_staging
-takes_second_piece = goes_on_so second_fetched right_fetches Right 4 (Fetch b_path 2 0) (Piece 6 two_bytes) (Some plan) [] (start_of second_fetched.coordinator right_fetches) [] (Stage 1 0 two_bytes ∷ []) [] refl refl refl coordinator.stays (stands (start_of second_fetched.coordinator right_fetches)) refl not_last
+takes_second_piece = goes_on_so second_fetched right_fetches Right 4 (Fetch b_path 2 0) (Piece 6 two_bytes) (Some plan) [] (start_of second_fetched.coordinator right_fetches) [] (Stage 1 0 two_bytes ∷ []) [] refl refl refl coordinator.stays (stands (start_of second_fetched.coordinator right_fetches)) refl refl not_last
     (asks_so number_of first_archive (runs_with 1 (take 8 transcript) [] [] (Some plan) 1 (Recorded a_path (mark one) ∷ [])) (Stage 1 0 two_bytes ∷ []) [] ((refl, (second_planned, refl, (refl, 6, (4, (7, omega arith, refl))))), tt) tt ((omega arith, (omega arith, omega arith, (omega arith, omega arith, second_bytes_lawful))), tt)
     (omega arith) (omega arith) ((refl, (refl, (refl, (refl, (refl, (refl, (refl, (refl, tt)))))))), (refl, tt), tt) (omega arith, omega arith, omega arith))
 
 takes_second_staged : Steps second_staged (Deliver 17) second_replacing
-takes_second_staged = goes_on_so second_staged left_stages Left 3 (Stage 1 0 two_bytes) Staged (Some plan) [] (start_of second_staged.coordinator left_stages) [] (Replace 1 b_path 2 6 ∷ []) [] refl refl refl coordinator.stays (stands (start_of second_staged.coordinator left_stages)) refl not_last
+takes_second_staged = goes_on_so second_staged left_stages Left 3 (Stage 1 0 two_bytes) Staged (Some plan) [] (start_of second_staged.coordinator left_stages) [] (Replace 1 b_path 2 6 ∷ []) [] refl refl refl coordinator.stays (stands (start_of second_staged.coordinator left_stages)) refl refl not_last
     (asks_so number_of first_archive (runs_with 1 (take 9 transcript) [] [] (Some plan) 1 (Recorded a_path (mark one) ∷ [])) (Replace 1 b_path 2 6 ∷ []) [] ((refl, (second_planned, refl, (refl, refl, 0, two_bytes, (4, (7, omega arith, refl)), inr (0, two_bytes, (3, (8, omega arith, refl)), refl)))), tt) tt ((omega arith, (omega arith, path_of_letter 98 letter_b, omega arith, omega arith)), tt)
     (omega arith) (omega arith) ((refl, (refl, (refl, (refl, (refl, (refl, (refl, (refl, (refl, tt))))))))), (refl, tt), tt) (omega arith, omega arith, omega arith))
 

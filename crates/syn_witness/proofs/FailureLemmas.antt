@@ -8,7 +8,7 @@ use Rattle.syn_headline.specs.Side.{Request, Reply}
 use Rattle.syn_headline.specs.SideMachine.{SideMachine, side_layout, SideTakes, answers, adds, causes_of}
 use Rattle.syn_headline.specs.Network.{Which, Left, Right, Message}
 use Rattle.syn_headline.specs.Planning.{Planned}
-use Rattle.syn_headline.specs.Coordinator.{CoordinatorMachine, Call, Walk, Exchange, Running, archive_layout, past, refusing, start_of, Keeps, writes, cut_behind, Takes, CoordinatorTakes, CoordinatorStarts, CoordinatorTicks, Advances, start_causes}
+use Rattle.syn_headline.specs.Coordinator.{CoordinatorMachine, Call, Walk, Exchange, Running, archive_layout, past, refusing, making_room, start_of, Keeps, writes, cut_behind, Takes, CoordinatorTakes, CoordinatorStarts, CoordinatorTicks, Advances, start_causes}
 use Rattle.syn_headline.specs.Coordinator as coordinator
 use Rattle.syn_headline.specs.World.{World, Machine, At, Coordinator, says, Step, Edits, Start, Deliver, Tick, Checkpoint, Fail, Stop, Open, Reopen, side_of, side_goes, side_writes, coordinator_goes, status_of, arms_of, refuses_with, is_halted, answered_by, UnlessDown, Calls, EditsSide, edits, Starts, CompactsMachine, compacts_side, compacts_archive, Delivers, no_message, to_no_side, to_side, to_coordinator, Ticks, ticks, OpensMachine, opens_side, opens_archive, set_device, FailsDevice, fails_device, Reopens, reopens, reopen_fails, reopen_is_cut, no_memory_to_reopen, full_generation, generation_of, Steps, Runs, failures_of, OpensDown, opens, open_fails, no_memory_to_open}
 use Rattle.syn_headline.specs.World as world
@@ -62,13 +62,13 @@ keeps_counted base pair old _ what _ h (cut_behind is fail stop) = (h.0, λ e. a
 module _ (base pair : ℕ) (plan : List Planned) (taken : Exchange) where
   advances_counted : (walk later : Walk) (kept : List Kept) → IsCountedJournal base walk.journal → Advances pair plan taken walk kept later → IsCountedJournal base later.journal
   advances_counted walk _ _ h (coordinator.stands _) = h
-  advances_counted walk later kept h (coordinator.conflicts _ _ _ planned path at is more) = advances_counted (past walk walk.journal) later kept h more
-  advances_counted walk later kept h (coordinator.side_refuses _ _ _ planned why at is for more) = advances_counted (refusing walk why planned) later kept h more
-  advances_counted walk later kept h (coordinator.archive_refuses _ _ _ planned what why at is may refused more) = advances_counted (refusing walk why planned) later kept h more
-  advances_counted walk later kept h (coordinator.no_checkpoint _ _ _ what full greatest more) = advances_counted (refusing walk Full full.to_keep.planned) later kept h more
-  advances_counted walk later kept h (coordinator.checkpoints _ _ _ what journal full smaller compacts up more) =
-      advances_counted (record walk { journal = journal }) later kept (compacts_counted base (archive_layout pair) walk.journal journal h compacts) more
-  advances_counted walk _ _ h (coordinator.checkpoint_breaks _ what journal full smaller compacts broken) = compacts_counted base (archive_layout pair) walk.journal journal h compacts
+  advances_counted walk later kept h (coordinator.conflicts _ _ _ planned path first at is more) = advances_counted (past walk walk.journal) later kept h more
+  advances_counted walk later kept h (coordinator.side_refuses _ _ _ planned why first at is for more) = advances_counted (refusing walk why planned) later kept h more
+  advances_counted walk later kept h (coordinator.archive_refuses _ _ _ planned what why first at is may refused more) = advances_counted (refusing walk why planned) later kept h more
+  advances_counted walk later kept h (coordinator.no_checkpoint _ _ _ what first full greatest more) = advances_counted (refusing walk Full full.to_keep.planned) later kept h more
+  advances_counted walk later kept h (coordinator.checkpoints _ _ _ what journal first full smaller compacts up more) =
+      advances_counted (making_room walk journal) later kept (compacts_counted base (archive_layout pair) walk.journal journal h compacts) more
+  advances_counted walk _ _ h (coordinator.checkpoint_breaks _ what journal first full smaller compacts broken) = compacts_counted base (archive_layout pair) walk.journal journal h compacts
   advances_counted walk later _ h (coordinator.keeps _ _ what kept journal to_keep room kept_so up more) =
       advances_counted (past walk journal) later kept (keeps_counted base pair walk.journal journal what (what ∷ []) h kept_so) more
   advances_counted walk _ kept h (coordinator.record_breaks _ what _ journal to_keep room kept_so broken) = keeps_counted base pair walk.journal journal what kept h kept_so
@@ -77,7 +77,7 @@ takes_counted : (base pair : ℕ) (old : CoordinatorMachine) (r : Running) (take
 takes_counted base pair old r taken _ _ h (coordinator.ends_at_once why fault) = h
 takes_counted base pair old r taken _ _ h (coordinator.stops plan logged walk kept fault has advances down) = advances_counted base pair _ taken (start_of old r) walk kept h advances
 takes_counted base pair old r taken _ _ h (coordinator.ends plan logged walk kept why fault has advances ends) = advances_counted base pair _ taken (start_of old r) walk kept h advances
-takes_counted base pair old r taken _ _ h (coordinator.goes_on plan logged walk kept left right fault has advances stays moves asks) = advances_counted base pair _ taken (start_of old r) walk kept h advances
+takes_counted base pair old r taken _ _ h (coordinator.goes_on plan logged walk kept left right fault has advances rests stays moves asks) = advances_counted base pair _ taken (start_of old r) walk kept h advances
 
 answer_counted : (base pair : ℕ) (old : CoordinatorMachine) (from : Which) (session number : ℕ) (reply : Reply) (new : CoordinatorMachine) (call : Call) → IsCountedJournal base old.journal → CoordinatorTakes pair old from session number reply new call → IsCountedJournal base new.journal
 answer_counted base pair old from session number reply _ _ h (coordinator.takes r request new call expected t) = takes_counted base pair old r _ new call h t

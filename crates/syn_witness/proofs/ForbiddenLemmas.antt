@@ -11,7 +11,7 @@ use Rattle.syn_headline.specs.Coordinator as coordinator
 use Rattle.syn_headline.proofs.FineRuns.{owe}
 use Rattle.syn_witness.specs.Forbidden.{StartsFresh, BeginsOnce, FaultsAlone, UnstableIsIncomplete, FailureEnds}
 
-one_report : (P : Report → Type 0) (report : Report) → P report → All P (report ∷ [])
+pub one_report : (P : Report → Type 0) (report : Report) → P report → All P (report ∷ [])
 one_report P report h = All-cons P report [] h (All-nil P)
 
 -- requests that were just sent were not resent
@@ -51,7 +51,7 @@ faults_alone pair old running taken _ _ (coordinator.ends_at_once why (inr memor
 faults_alone pair old running taken _ _ (coordinator.stops plan logged walk kept fault has advances down) none = All-nil (λ report. (report.ended ≢ Some TooLarge) × (report.ended ≢ Some BadMessage))
 faults_alone pair old running taken _ _ (coordinator.ends plan logged walk kept why fault has advances ends) none =
     one_report (λ report. (report.ended ≢ Some TooLarge) × (report.ended ≢ Some BadMessage)) (report_of (advanced (hearing running taken) plan walk kept) why) (ends_belong pair _ taken _ walk why ends)
-faults_alone pair old running taken _ _ (coordinator.goes_on plan logged walk kept left right fault has advances stays moves asks) none = All-nil (λ report. (report.ended ≢ Some TooLarge) × (report.ended ≢ Some BadMessage))
+faults_alone pair old running taken _ _ (coordinator.goes_on plan logged walk kept left right fault has advances rests stays moves asks) none = All-nil (λ report. (report.ended ≢ Some TooLarge) × (report.ended ≢ Some BadMessage))
 
 -- what has an unstable path is not whole
 not_whole : (running : Running) (ended : Option Refusal) → is_unstable running ≡ true → (report_of running ended).end ≢ Complete
@@ -75,10 +75,10 @@ unstable_is_incomplete pair old running taken _ _ (coordinator.ends_at_once why 
 unstable_is_incomplete pair old running taken _ _ (coordinator.stops plan logged walk kept fault has advances down) unstable = All-nil (λ report. report.end ≢ Complete)
 unstable_is_incomplete pair old running taken _ _ (coordinator.ends plan logged walk kept why fault has advances ends) unstable =
     one_report (λ report. report.end ≢ Complete) (report_of (advanced (hearing running taken) plan walk kept) why) (not_whole (advanced (hearing running taken) plan walk kept) why unstable)
-unstable_is_incomplete pair old running taken _ _ (coordinator.goes_on plan logged walk kept left right fault has advances stays moves asks) unstable = All-nil (λ report. report.end ≢ Complete)
+unstable_is_incomplete pair old running taken _ _ (coordinator.goes_on plan logged walk kept left right fault has advances rests stays moves asks) unstable = All-nil (λ report. report.end ≢ Complete)
 
 pub failure_ends : FailureEnds
 failure_ends pair old running taken _ _ (coordinator.ends_at_once why fault) changed = refl
 failure_ends pair old running taken _ _ (coordinator.stops plan logged walk kept fault has advances down) changed = refl
 failure_ends pair old running taken _ _ (coordinator.ends plan logged walk kept why fault has advances ends) changed = refl
-failure_ends pair old running taken _ _ (coordinator.goes_on plan logged walk kept left right fault has advances stays moves asks) changed = absurd (changed stays)
+failure_ends pair old running taken _ _ (coordinator.goes_on plan logged walk kept left right fault has advances rests stays moves asks) changed = absurd (changed stays)

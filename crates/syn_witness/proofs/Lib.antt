@@ -16,3 +16,4 @@ pub mod ExchangeLemmas
 pub mod MarkedScans
 pub mod MarkedLemmas
 pub mod RefusedLemmas
+pub mod RoomLemmas

@@ -171,7 +171,6 @@ both_scanned Left = record {
   tree = marked_whole (tree_of left_history) 97 (49 ∷ []) letter_a left-entries;
   fits = fits_archive_by left_scan.marks (with_file 97 (digest (49 ∷ []))) left_marks-entries;
   listed = λ path there stable. subst (λ at. WasTaken transcript Left (ListAt at) (Listed 3 (children left_scan.marks at))) (sym (root_only left_scan.marks 97 (sha256 (49 ∷ [])) left_marks-entries path there)) (1, (2, omega arith, refl));
-  ordered = λ path name there. omega arith;
   not_dir = λ path c. absurd (none_there path c);
   nothing_below = λ path c. absurd (none_there path c);
 }
@@ -179,7 +178,6 @@ both_scanned Right = record {
   tree = marked_whole (tree_of right_history) 97 (49 ∷ []) letter_a right-entries;
   fits = fits_archive_by right_scan.marks (with_file 97 (digest (49 ∷ []))) right_marks-entries;
   listed = λ path there stable. subst (λ at. WasTaken transcript Right (ListAt at) (Listed 3 (children right_scan.marks at))) (sym (root_only right_scan.marks 97 (sha256 (49 ∷ [])) right_marks-entries path there)) (1, (3, omega arith, refl));
-  ordered = λ path name there. omega arith;
   not_dir = λ path c. absurd (none_there path c);
   nothing_below = λ path c. absurd (none_there path c);
 }
@@ -201,11 +199,11 @@ makes_plan = record {
 
 -- The steps of the coordinator
 takes_left_begun : Steps both_begun (Deliver 16) right_awaited
-takes_left_begun = goes_on_so both_begun both_begin Left 0 (Begin 7) (Begun 3) None [] (start_of both_begun.coordinator both_begin) [] [] [] refl refl refl coordinator.stays (stands (start_of both_begun.coordinator both_begin)) refl not_last
+takes_left_begun = goes_on_so both_begun both_begin Left 0 (Begin 7) (Begun 3) None [] (start_of both_begun.coordinator both_begin) [] [] [] refl refl refl coordinator.stays (stands (start_of both_begun.coordinator both_begin)) refl refl not_last
     (asks_so number_of next_archive right_begins [] [] tt tt tt (omega arith) (omega arith) ((refl, tt), tt, (refl, tt)) (omega arith, omega arith, omega arith))
 
 takes_right_begun : Steps right_awaited (Deliver 17) listing
-takes_right_begun = goes_on_so right_awaited right_begins Right 0 (Begin 7) (Begun 3) None [] (start_of right_awaited.coordinator right_begins) [] (ListAt root ∷ []) (ListAt root ∷ []) refl refl refl coordinator.stays (stands (start_of right_awaited.coordinator right_begins)) refl not_last
+takes_right_begun = goes_on_so right_awaited right_begins Right 0 (Begin 7) (Begun 3) None [] (start_of right_awaited.coordinator right_begins) [] (ListAt root ∷ []) (ListAt root ∷ []) refl refl refl coordinator.stays (stands (start_of right_awaited.coordinator right_begins)) refl refl not_last
     (asks_so number_of next_archive (runs_with 2 (take 2 transcript) [] [] None 0 []) (ListAt root ∷ []) (ListAt root ∷ []) ((refl, two_begun, inl refl), tt) ((refl, two_begun, inl refl), tt) ((omega arith, root_lawful), ((omega arith, root_lawful), tt))
     (omega arith) (omega arith) ((refl, (refl, tt)), (refl, tt), (refl, tt)) (omega arith, omega arith, omega arith))
 
@@ -216,7 +214,7 @@ right_listing : fault_of (take 3 transcript) Right (ListAt root) (Listed 3 (chil
 right_listing = ap (λ entries. fault_of (take 3 transcript) Right (ListAt root) (Listed 3 entries)) (children_by right_scan.marks (with_file 97 (digest (49 ∷ []))) right_marks-entries)
 
 takes_left_listing : Steps both_listed (Deliver 20) right_list_awaited
-takes_left_listing = goes_on_so both_listed both_list Left 1 (ListAt root) (Listed 3 (children left_scan.marks root)) None [] (start_of both_listed.coordinator both_list) [] [] [] refl refl left_listing coordinator.stays (stands (start_of both_listed.coordinator both_list)) refl not_last
+takes_left_listing = goes_on_so both_listed both_list Left 1 (ListAt root) (Listed 3 (children left_scan.marks root)) None [] (start_of both_listed.coordinator both_list) [] [] [] refl refl left_listing coordinator.stays (stands (start_of both_listed.coordinator both_list)) refl refl not_last
     (asks_so number_of next_archive right_lists [] [] tt tt tt (omega arith) (omega arith) ((refl, (refl, (refl, tt))), tt, (refl, tt)) (omega arith, omega arith, omega arith))
 
 can_record : CanKeep next_archive (Recorded a_path (mark one))
@@ -251,8 +249,14 @@ quiet = record {
 is_marked : IsMarkedLater marked
 unfolding tree_of
 is_marked = record {
-  fetched = sym (subtree-replace empty_directory a_path one);
-  source = All-nil (λ event. touches event a_path ≡ false);
+  fetched = record {
+    position = 2;
+    offset = 0;
+    total = 6;
+    bytes = file_bytes;
+    answered = record { number = 2; asked = (8, omega arith, refl); answered = (9, omega arith, refl) };
+    untouched = All-nil (λ event. touches event a_path ≡ false);
+  };
   target = All-nil (λ event. touches event a_path ≡ false);
   quiet = quiet;
   archive = subtree-replace empty_directory a_path (mark one);

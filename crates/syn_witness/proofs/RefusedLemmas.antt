@@ -79,7 +79,7 @@ unfolding touched_side touched_world refused_world ended_world
 ends_it =
     let walk = start_of refused_world.coordinator right_replaces in
     ends_so refused_world right_replaces Right 3 (Replace 0 a_path 1 6) (Refused Touched) plan [] (refusing walk Touched planned) [] refl refl refl stays
-    (side_refuses walk (refusing walk Touched planned) [] planned Touched refl refl refl (stands (refusing walk Touched planned))) refl refl
+    (side_refuses walk (refusing walk Touched planned) [] planned Touched refl refl refl refl (stands (refusing walk Touched planned))) refl refl
 
 pub touched_is_refused : TouchedIsRefused
 unfolding touched_side touched_world refused_world ended_world
@@ -121,7 +121,7 @@ unfolding event_then halted_right failed_world
 ends_failed =
     let walk = start_of halted_right.coordinator right_replaces in
     ends_so halted_right right_replaces Right 3 (Replace 0 a_path 1 6) (Refused Device) plan [] (refusing walk Device planned) [] refl refl refl stays
-    (side_refuses walk (refusing walk Device planned) [] planned Device refl refl refl (stands (refusing walk Device planned))) refl refl
+    (side_refuses walk (refusing walk Device planned) [] planned Device refl refl refl refl (stands (refusing walk Device planned))) refl refl
 
 pub replacement_fails : ReplacementFails
 unfolding event_then armed_right halted_right failed_world

@@ -224,7 +224,6 @@ both_scanned Left = record {
   tree = marked_whole (tree_of left_history) 97 (49 ∷ []) letter_a left-entries;
   fits = fits_archive_by left_scan.marks (with_file 97 (digest (49 ∷ []))) left_marks-entries;
   listed = λ path there stable. subst (λ at. WasTaken (take 4 transcript) Left (ListAt at) (Listed 2 (children left_scan.marks at))) (sym (root_only left_scan.marks 97 (sha256 (49 ∷ [])) left_marks-entries path there)) (1, (2, omega arith, refl));
-  ordered = λ path name there. omega arith;
   not_dir = λ path c. absurd (none_there path c);
   nothing_below = λ path c. absurd (none_there path c);
 }
@@ -232,7 +231,6 @@ both_scanned Right = record {
   tree = alone_whole right_scan.marks right_marks-entries;
   fits = fits_archive_by right_scan.marks alone right_marks-entries;
   listed = λ path there stable. subst (λ at. WasTaken (take 4 transcript) Right (ListAt at) (Listed 1 (children right_scan.marks at))) (sym (root_alone right_scan.marks right_marks-entries path there)) (1, (3, omega arith, refl));
-  ordered = λ path name there. omega arith;
   not_dir = λ path c. absurd (none_there path c);
   nothing_below = λ path c. absurd (none_there path c);
 }
@@ -260,11 +258,11 @@ pub root_lawful : IsPath root
 root_lawful = record { names = All-nil IsName; not_deep = omega arith; not_long = omega arith }
 
 takes_left_begun : Steps both_begun (Deliver 2) right_awaited
-takes_left_begun = goes_on_so both_begun both_begin Left 0 (Begin 7) (Begun 2) None [] (start_of both_begun.coordinator both_begin) [] [] [] refl refl refl stays (stands (start_of both_begun.coordinator both_begin)) refl not_last
+takes_left_begun = goes_on_so both_begun both_begin Left 0 (Begin 7) (Begun 2) None [] (start_of both_begun.coordinator both_begin) [] [] [] refl refl refl stays (stands (start_of both_begun.coordinator both_begin)) refl refl not_last
     (asks_so number_of begun_archive right_begins [] [] tt tt tt (omega arith) (omega arith) ((refl, tt), tt, (refl, tt)) (omega arith, omega arith, omega arith))
 
 takes_right_begun : Steps right_awaited (Deliver 3) listing
-takes_right_begun = goes_on_so right_awaited right_begins Right 0 (Begin 7) (Begun 1) None [] (start_of right_awaited.coordinator right_begins) [] (ListAt root ∷ []) (ListAt root ∷ []) refl refl refl stays (stands (start_of right_awaited.coordinator right_begins)) refl not_last
+takes_right_begun = goes_on_so right_awaited right_begins Right 0 (Begin 7) (Begun 1) None [] (start_of right_awaited.coordinator right_begins) [] (ListAt root ∷ []) (ListAt root ∷ []) refl refl refl stays (stands (start_of right_awaited.coordinator right_begins)) refl refl not_last
     (asks_so number_of begun_archive (runs_with 1 (take 2 transcript) [] [] None 0 []) (ListAt root ∷ []) (ListAt root ∷ []) ((refl, two_begun, inl refl), tt) ((refl, two_begun, inl refl), tt) ((omega arith, root_lawful), ((omega arith, root_lawful), tt))
     (omega arith) (omega arith) ((refl, (refl, tt)), (refl, tt), (refl, tt)) (omega arith, omega arith, omega arith))
   where
@@ -280,7 +278,7 @@ right_listing : fault_of (take 3 transcript) Right (ListAt root) (Listed 1 (chil
 right_listing = ap (λ entries. fault_of (take 3 transcript) Right (ListAt root) (Listed 1 entries)) (children_by right_scan.marks alone right_marks-entries)
 
 takes_left_listing : Steps both_listed (Deliver 6) right_list_awaited
-takes_left_listing = goes_on_so both_listed both_list Left 1 (ListAt root) (Listed 2 (children left_scan.marks root)) None [] (start_of both_listed.coordinator both_list) [] [] [] refl refl left_listing stays (stands (start_of both_listed.coordinator both_list)) refl not_last
+takes_left_listing = goes_on_so both_listed both_list Left 1 (ListAt root) (Listed 2 (children left_scan.marks root)) None [] (start_of both_listed.coordinator both_list) [] [] [] refl refl left_listing stays (stands (start_of both_listed.coordinator both_list)) refl refl not_last
     (asks_so number_of begun_archive right_lists [] [] tt tt tt (omega arith) (omega arith) ((refl, (refl, (refl, tt))), tt, (refl, tt)) (omega arith, omega arith, omega arith))
 
 can_record : CanKeep begun_archive (Recorded a_path (mark one))
@@ -293,7 +291,7 @@ can_record =
 
 takes_right_listing : Steps right_list_awaited (Deliver 7) fetching
 takes_right_listing = goes_on_so right_list_awaited right_lists Right 1 (ListAt root) (Listed 1 (children right_scan.marks root)) (Some plan) (made ∷ []) (start_of right_list_awaited.coordinator right_lists) [] (Fetch a_path 2 0 ∷ []) [] refl refl right_listing (makes made refl makes_plan)
-    (stands (start_of right_list_awaited.coordinator right_lists)) refl not_last
+    (stands (start_of right_list_awaited.coordinator right_lists)) refl refl not_last
     (asks_so number_of begun_archive (runs_with 1 (take 4 transcript) [] [] (Some plan) 0 []) (Fetch a_path 2 0 ∷ []) [] ((planned, refl, (refl, refl, can_record.not_refused, inl refl, refl)), tt) tt ((omega arith, (path_of_letter 97 letter_a, omega arith, omega arith)), tt)
     (omega arith) (omega arith) ((refl, (refl, (refl, (refl, tt)))), (refl, tt), tt) (omega arith, omega arith, omega arith))
 
@@ -301,12 +299,12 @@ bytes_lawful : AreBytes file_bytes
 bytes_lawful = All-from_recursion (λ byte. byte < 256) file_bytes (omega arith, (omega arith, (omega arith, (omega arith, (omega arith, (omega arith, tt))))))
 
 takes_piece : Steps fetched (Deliver 9) staging
-takes_piece = goes_on_so fetched left_fetches Left 2 (Fetch a_path 2 0) (Piece 6 file_bytes) (Some plan) [] (start_of fetched.coordinator left_fetches) [] [] (Stage 0 0 file_bytes ∷ []) refl refl refl stays (stands (start_of fetched.coordinator left_fetches)) refl not_last
+takes_piece = goes_on_so fetched left_fetches Left 2 (Fetch a_path 2 0) (Piece 6 file_bytes) (Some plan) [] (start_of fetched.coordinator left_fetches) [] [] (Stage 0 0 file_bytes ∷ []) refl refl refl stays (stands (start_of fetched.coordinator left_fetches)) refl refl not_last
     (asks_so number_of begun_archive (runs_with 1 (take 5 transcript) [] [] (Some plan) 0 []) [] (Stage 0 0 file_bytes ∷ []) tt ((refl, (planned, refl, (refl, 6, (2, (4, omega arith, refl))))), tt) ((omega arith, (omega arith, omega arith, (omega arith, omega arith, bytes_lawful))), tt)
     (omega arith) (omega arith) ((refl, (refl, (refl, (refl, (refl, tt))))), tt, (refl, tt)) (omega arith, omega arith, omega arith))
 
 takes_staged : Steps staged (Deliver 11) replacing
-takes_staged = goes_on_so staged right_stages Right 2 (Stage 0 0 file_bytes) Staged (Some plan) [] (start_of staged.coordinator right_stages) [] [] (Replace 0 a_path 1 6 ∷ []) refl refl refl stays (stands (start_of staged.coordinator right_stages)) refl not_last
+takes_staged = goes_on_so staged right_stages Right 2 (Stage 0 0 file_bytes) Staged (Some plan) [] (start_of staged.coordinator right_stages) [] [] (Replace 0 a_path 1 6 ∷ []) refl refl refl stays (stands (start_of staged.coordinator right_stages)) refl refl not_last
     (asks_so number_of begun_archive (runs_with 1 (take 6 transcript) [] [] (Some plan) 0 []) [] (Replace 0 a_path 1 6 ∷ []) tt ((refl, (planned, refl, (refl, refl, 0, file_bytes, (2, (4, omega arith, refl)), inr (0, file_bytes, (2, (5, omega arith, refl)), refl)))), tt) ((omega arith, (omega arith, path_of_letter 97 letter_a, omega arith, omega arith)), tt)
     (omega arith) (omega arith) ((refl, (refl, (refl, (refl, (refl, (refl, tt)))))), tt, (refl, tt)) (omega arith, omega arith, omega arith))
 

@@ -174,12 +174,12 @@ not_last e = absurd (true≢false (sym e))
 -- the session goes on as an answer is taken
 pub goes_on_so : (old : World) (running : Running) (from : Which) (number : ℕ) (request : Request) (reply : Reply) (plan : Option (List Planned)) (logged : Log) (walk : Walk) (kept : List Kept) (left right : List Request) → old.coordinator.running ≡ Some running → asked_of running from number ≡ Some request →
     fault_of running.taken from request reply ≡ None → HasPlan old.coordinator.journal.value (hearing running (took from number request reply)) plan logged →
-    Advances old.pair (option_map_or (λ plan. plan) plan []) (took from number request reply) (start_of old.coordinator running) kept walk → walk.journal.status ≡ old.coordinator.journal.status → (is_last reply ≡ true → walk.cursor ≢ running.cursor) →
+    Advances old.pair (option_map_or (λ plan. plan) plan []) (took from number request reply) (start_of old.coordinator running) kept walk → walk.made_room ≡ false → walk.journal.status ≡ old.coordinator.journal.status → (is_last reply ≡ true → walk.cursor ≢ running.cursor) →
     AsksNext walk.journal.value (advanced (hearing running (took from number request reply)) plan walk kept) left right →
     Delivers old (Some (Answers from running.session number reply)) (coordinator_goes old (record { journal = walk.journal; running = Some (asking (advanced (hearing running (took from number request reply)) plan walk kept) left right) })
     (record { kept = kept; messages = sent_now (advanced (hearing running (took from number request reply)) plan walk kept) left right; reports = []; logged = logged }))
-goes_on_so old running from number request reply plan logged walk kept left right runs asked fault has advances stays moves asks =
-    to_coordinator from running.session number reply _ _ (takes running request _ _ (record { runs = runs; of_session = refl; asked = asked }) (goes_on plan logged walk kept left right fault has advances stays moves asks))
+goes_on_so old running from number request reply plan logged walk kept left right runs asked fault has advances rests stays moves asks =
+    to_coordinator from running.session number reply _ _ (takes running request _ _ (record { runs = runs; of_session = refl; asked = asked }) (goes_on plan logged walk kept left right fault has advances rests stays moves asks))
 
 -- or it ends, with each item settled
 pub ends_so : (old : World) (running : Running) (from : Which) (number : ℕ) (request : Request) (reply : Reply) (plan : List Planned) (logged : Log) (walk : Walk) (kept : List Kept) → old.coordinator.running ≡ Some running → asked_of running from number ≡ Some request →

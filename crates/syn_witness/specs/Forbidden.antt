@@ -1,12 +1,14 @@
 -- What no run does.
-use Rattle.std.specs.Prelude.{ℕ, ◌≤◌, ◌<◌, ◌≡◌, ◌≢◌, true, List, Some, None, All, Contains}
-use Rattle.syn_model.specs.Refusal.{NoAnswer, TooLarge, BadMessage}
+use Rattle.std.specs.Prelude.{ℕ, ◌+◌, ◌≤◌, ◌<◌, ◌≡◌, ◌≢◌, ◌⊎◌, true, List, length, slice_get, Some, None, IsSomeAnd, All, Contains}
+use Rattle.syn_model.specs.Refusal.{JournalFull, NoAnswer, TooLarge, BadMessage}
 use Rattle.syn_model.specs.Event.{Edit}
 use Rattle.syn_headline.specs.Side.{Begin}
 use Rattle.syn_headline.specs.Network.{Which, Asks}
 use Rattle.syn_headline.specs.Report.{Complete}
 use Rattle.syn_headline.specs.Coordinator.{CoordinatorMachine, Running, Exchange, Call, Takes, CoordinatorStarts, CoordinatorTicks}
-use Rattle.syn_headline.specs.Coordinator.{fault_of, is_unstable, hearing}
+use Rattle.syn_headline.specs.Coordinator.{fault_of, is_unstable, hearing, Walk, IsToKeep, Advances}
+use Rattle.syn_headline.specs.Planning.{Planned}
+use Rattle.syn_model.specs.Archive.{Kept}
 use Rattle.syn_headline.specs.Machine.{Halted, Down, IsBefore}
 use Rattle.syn_headline.specs.World.{World, Machine, Step, Edits, Stop, Steps, Runs, side_of, status_of, failures_of}
 use Rattle.syn_headline.specs.Headline.{IsStart}
@@ -49,6 +51,26 @@ UnstableIsIncomplete = (pair : ℕ) (old : CoordinatorMachine) (running : Runnin
 abbrev pub FailureEnds : Type 0
 FailureEnds = (pair : ℕ) (old : CoordinatorMachine) (running : Running) (taken : Exchange) (new : CoordinatorMachine) (call : Call) →
     Takes pair old running taken new call → new.journal.status ≢ old.journal.status → new.running ≡ None
+
+-- a checkpoint that an answer makes is followed by the record that it was made for, or by nothing more of that answer
+abbrev pub RecordsAfterRoom : Type 0
+RecordsAfterRoom = (pair : ℕ) (plan : List Planned) (taken : Exchange) (walk later : Walk) (kept : List Kept) →
+    Advances pair plan taken walk kept later → walk.made_room ≡ true →
+    ((later.cursor ≡ walk.cursor) × (later.journal.generation ≡ walk.journal.generation))
+    ⊎ IsSomeAnd (slice_get kept 0) (IsToKeep plan taken walk)
+
+-- so an answer makes at most one checkpoint more than it keeps records
+abbrev pub CheckpointsAreForRecords : Type 0
+CheckpointsAreForRecords = (pair : ℕ) (old : CoordinatorMachine) (running : Running) (taken : Exchange)
+    (new : CoordinatorMachine) (call : Call) → Takes pair old running taken new call →
+    new.journal.generation ≤ old.journal.generation + length call.kept + 1
+
+-- a session that no side refused 8 ends 8 only where a checkpoint in that answer left no room for the record that is due
+abbrev pub FullAfterCheckpoint : Type 0
+FullAfterCheckpoint = (pair : ℕ) (old : CoordinatorMachine) (running : Running) (taken : Exchange)
+    (new : CoordinatorMachine) (call : Call) → Takes pair old running taken new call →
+    fault_of running.taken taken.side taken.request taken.reply ≡ None →
+    All (λ report. report.ended ≡ Some JournalFull → old.journal.generation < new.journal.generation) call.reports
 
 -- a machine is halted only after one of its device calls failed, so where none fails in a run none is
 abbrev pub HaltedAfterFailure : Type 0

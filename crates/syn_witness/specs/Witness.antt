@@ -8,7 +8,7 @@ use Rattle.syn_model.specs.Tree.{Tree, file, subtree, empty_directory}
 use Rattle.syn_model.specs.Image.{image_spelling}
 use Rattle.syn_model.specs.Spelling.{event_spelling}
 use Rattle.syn_model.specs.MarkSpelling.{archive_spelling}
-use Rattle.syn_model.specs.History.{History, standing_of, tree_of, tree_at}
+use Rattle.syn_model.specs.History.{History, standing_of, tree_of}
 use Rattle.syn_model.specs.Mark.{mark}
 use Rattle.syn_model.specs.Archive.{Session, Recorded, new_archive}
 use Rattle.syn_headline.specs.Network.{Left, Right}
@@ -18,7 +18,7 @@ use Rattle.syn_headline.specs.Machine.{Up, Journaled, unarmed, record_size, room
 use Rattle.syn_headline.specs.Machine as status
 use Rattle.syn_headline.specs.SideMachine.{SideMachine}
 use Rattle.syn_headline.specs.World.{World, At, Step, Edits, Start, Deliver, Stop, Coordinator, Tick, Open, Fail, Checkpoint, Reopen, Runs, failures_of}
-use Rattle.syn_headline.specs.Headline.{IsStart, formatted, stores_of, IsQuietSession, UntouchedSince}
+use Rattle.syn_headline.specs.Headline.{IsStart, formatted, stores_of, IsQuietSession, UntouchedSince, IsFetched}
 use Rattle.syn_headline.specs.Side.{token_of}
 
 -- what the image of no events leaves of a half of the disk
@@ -178,10 +178,9 @@ found_later = record {
   archive = record { marks = empty_directory; last_session = 1 };
 }
 
--- nothing touched the source since it was fetched at 2, nor the target since it was replaced, and the session marks it
+-- nothing touched the source since it was fetched, nor the target since it was replaced, and the session marks it
 pub record IsMarkedLater (world : World) : Type 0 where
-  pub fetched : one ≡ subtree (tree_at found_later.left 2) a_path
-  pub source : UntouchedSince 2 found_later.left a_path
+  pub fetched : IsFetched world.sent Left found_later.left 1 a_path
   pub target : UntouchedSince 2 found_later.right a_path
   pub quiet : IsQuietSession formatted world.acknowledged world.reports marked_later found_later (stores_of world)
   pub archive : subtree world.coordinator.journal.value.marks a_path ≡ mark one

@@ -2,7 +2,7 @@
 #![tactic(auto)]
 
 ghost use Rattle.syn_witness.specs.Rows.{SideRows};
-ghost use Rattle.syn_witness.specs.Forbidden.{StaysWithoutStop, ArmedCallsCome, StartsFresh, BeginsOnce, FaultsAlone, UnstableIsIncomplete, FailureEnds, HaltedAfterFailure};
+ghost use Rattle.syn_witness.specs.Forbidden.{StaysWithoutStop, ArmedCallsCome, StartsFresh, BeginsOnce, FaultsAlone, UnstableIsIncomplete, FailureEnds, RecordsAfterRoom, CheckpointsAreForRecords, FullAfterCheckpoint, HaltedAfterFailure};
 ghost use Rattle.syn_witness.specs.Witness.{OpenedIsStart, NewRoomIs, StopIsRecovered, FailIsRefused, CheckpointIsCut, SilenceEnds, FileIsCarried, FilesAreExchanged, CarriedIsMarkedLater, RepeatIsDone, TouchedIsRefused, ReplacementFails};
 
 /// What a side answers in worked examples, which its definition gives.
@@ -32,7 +32,8 @@ pub fn witnesses()
 
 /// What no run does: without a stop among the steps no machine goes down, an edit is not acknowledged where one of its device
 /// calls is armed, a session is not given up at its first tick, begun twice on a side, ended 22 or 23 for an answer without a fault,
-/// called Complete with an unstable path, or gone on with once its archive's device failed; and no machine is halted before a device call of it failed.
+/// called Complete with an unstable path, or gone on with once its archive's device failed; no checkpoint is
+/// made within an answer but for the one record that is kept next, and no session ends 8 without it; and no machine is halted before a device call of it failed.
 pub fn forbidden()
     ensures up { StaysWithoutStop }
     ensures armed { ArmedCallsCome }
@@ -41,5 +42,8 @@ pub fn forbidden()
     ensures faults { FaultsAlone }
     ensures unstable { UnstableIsIncomplete }
     ensures fails { FailureEnds }
+    ensures room { RecordsAfterRoom }
+    ensures checkpoints { CheckpointsAreForRecords }
+    ensures full { FullAfterCheckpoint }
     ensures halted { HaltedAfterFailure }
 {}

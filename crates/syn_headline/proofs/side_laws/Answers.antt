@@ -1,5 +1,6 @@
 use Rattle.syn_headline.proofs.SideLemmas.{serves_allowed}
 use Rattle.syn_headline.proofs.RepeatLemmas.{repeats_are_done, later_are_old, dead_are_old}
+use Rattle.syn_headline.proofs.OutcomeLemmas.{pieces_are_untouched}
 use Rattle.syn_headline.proofs.side_laws.Goals as goal
 
 pub returns-clause-serves : goal.returns-clause-serves
@@ -13,3 +14,6 @@ returns-clause-later c = later_are_old
 
 pub returns-clause-dead : goal.returns-clause-dead
 returns-clause-dead c = dead_are_old
+
+pub returns-clause-pieces : goal.returns-clause-pieces
+returns-clause-pieces c = pieces_are_untouched

@@ -1,4 +1,5 @@
 use Rattle.syn_wire.proofs.EventLemmas.{event_tells}
+use Rattle.syn_wire.proofs.ImageLemmas.{images_tell}
 use Rattle.syn_wire.proofs.NameLemmas.{paths_tell}
 use Rattle.syn_wire.proofs.NumberLemmas.{u16_tells, u32_tells, u64_tells}
 use Rattle.syn_wire.proofs.WalkLemmas.{spelling_walks, spelling_measured}
@@ -27,3 +28,6 @@ returns-clause-walk c = spelling_walks
 
 pub returns-clause-measured : goal.returns-clause-measured
 returns-clause-measured c = spelling_measured
+
+pub returns-clause-image : goal.returns-clause-image
+returns-clause-image c = images_tell c.spelling_laws.ensures.tells

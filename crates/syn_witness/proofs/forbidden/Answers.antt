@@ -1,6 +1,7 @@
 use Rattle.syn_witness.proofs.FailureLemmas.{halted_after_failure}
 use Rattle.syn_witness.proofs.StopLemmas.{stay_without_stop, armed_calls_come}
 use Rattle.syn_witness.proofs.ForbiddenLemmas.{starts_fresh, begins_once, faults_alone, unstable_is_incomplete, failure_ends}
+use Rattle.syn_witness.proofs.RoomLemmas.{records_after_room, checkpoints_are_for_records, full_after_checkpoint}
 use Rattle.syn_witness.proofs.forbidden.Goals as goal
 
 pub returns-clause-up : goal.returns-clause-up
@@ -26,3 +27,12 @@ returns-clause-fails c = failure_ends
 
 pub returns-clause-halted : goal.returns-clause-halted
 returns-clause-halted c = halted_after_failure
+
+pub returns-clause-room : goal.returns-clause-room
+returns-clause-room c = records_after_room
+
+pub returns-clause-checkpoints : goal.returns-clause-checkpoints
+returns-clause-checkpoints c = checkpoints_are_for_records
+
+pub returns-clause-full : goal.returns-clause-full
+returns-clause-full c = full_after_checkpoint

@@ -5,15 +5,15 @@ use Rattle.syn_tree.proofs.ListingLemmas.{names-more}
 use Rattle.syn_tree.proofs.copies.children.Goals as goal
 
 pub loop-entry-init : goal.loop-entry-init
-loop-entry-init c = c.new-names.ensures.items
+loop-entry-init g c = c.new-names.ensures.items
 
 pub loop-entry-preserved : goal.loop-entry-preserved
-loop-entry-preserved c =
+loop-entry-preserved g c =
     let above = c.args.above.now in
     c.in_ok-push_child.ensures.ok ∙ (ap (λ xs. xs ++ child_names above (c.entry-item.result ∷ [])) c.loop-entry.invariant
     ∙ sym (names-more above c.args.list.now c.loop-entry.entry-index c.entry-item.result c.loop-entry-test.true c.entry-item.is))
 
 pub returns-clause-ok : goal.returns-clause-ok
-returns-clause-ok c =
+returns-clause-ok g c =
     let ended : c.loop-entry.entry-index ≡ length c.args.list.now = omega (arith, c.loop-entry-test.false, c.loop-entry.auto.entry-index-end) in
     c.loop-entry.invariant ∙ ap (child_names c.args.above.now) (ap (λ n. take n c.args.list.now) ended ∙ take-length c.args.list.now)

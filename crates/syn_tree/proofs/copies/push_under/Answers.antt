@@ -18,7 +18,7 @@ empty_of [] l = refl
 empty_of (x ∷ xs) l = absurd (omega arith)
 
 pub loop-entry-init : goal.loop-entry-init
-loop-entry-init c = record {
+loop-entry-init g c = record {
   whole = sym c.into_iter-entry-iterator.ensures.into_iter_gives.0;
   pushed = sym (append-nil c.args.list.now.items);
   paths = refl;
@@ -38,7 +38,7 @@ put_below : (at q a b : Path) (path : Path) (x : Pair) → a ≡ at → b ≡ q 
 put_below at q a b path x e f g h = h ∙ ap₂ (λ y z. y ++ z) e (f ∙ g)
 
 pub returns-in_err-path-clause-full : goal.returns-in_err-path-clause-full
-returns-in_err-path-clause-full c =
+returns-in_err-path-clause-full g c =
     let p = err_from_is_err_and c.from_residual.result c.from_residual.ensures.1 in
     let at = c.args.at.now in
     let x = c.in-Some.entry in
@@ -52,7 +52,7 @@ returns-in_err-path-clause-full c =
     (subst (λ q. ¬ IsPath q) (ap₂ (λ y z. y ++ z) c.names.ensures.names below) (c.in_err-path.ensures.bad bad)) _ refl)))
 
 pub loop-entry-preserved : goal.loop-entry-preserved
-loop-entry-preserved c =
+loop-entry-preserved g c =
     let at = c.args.at.now in
     let x = c.in-Some.entry in
     let moved : c.into_parts-path.result.0 ≡ x.0 = ap (λ (y : Pair). y.0) c.into_parts-path.ensures in
@@ -66,13 +66,13 @@ loop-entry-preserved c =
     }
 
 pub returns-clause-ok : goal.returns-clause-ok
-returns-clause-ok c =
+returns-clause-ok g c =
     let none : c.loop-entry.entry-iterator.rest.items ≡ [] = empty_of c.loop-entry.entry-iterator.rest.items (omega (arith, c.in-None.ensures.steps.0, c.loop-entry.entry-iterator.rest.ok)) in
     let all = c.loop-entry.invariant.whole ∙ (ap (λ xs. c.loop-entry.yielded ++ xs) none ∙ append-nil c.loop-entry.yielded) in
     c.loop-entry.invariant.pushed ∙ ap (λ xs. c.args.list.now.items ++ under c.args.at.now xs) (sym all)
 
 pub returns-clause-paths : goal.returns-clause-paths
-returns-clause-paths c =
+returns-clause-paths g c =
     let none : c.loop-entry.entry-iterator.rest.items ≡ [] = empty_of c.loop-entry.entry-iterator.rest.items (omega (arith, c.in-None.ensures.steps.0, c.loop-entry.entry-iterator.rest.ok)) in
     let all = c.loop-entry.invariant.whole ∙ (ap (λ xs. c.loop-entry.yielded ++ xs) none ∙ append-nil c.loop-entry.yielded) in
     ap (λ xs. paths_fit (under c.args.at.now xs)) all ∙ c.loop-entry.invariant.paths

@@ -5,7 +5,7 @@ use Rattle.syn_tree.specs.Pairs.{under}
 use Rattle.syn_tree.proofs.copies.push_under.Given as goal
 
 abbrev pub invariant-loop-entry : goal.invariant-loop-entry
-invariant-loop-entry l = record {
+invariant-loop-entry g l = record {
   whole : l.fn.source.items ≡ l.yielded ++ l.entry-iterator.rest.items;
   pushed : l.list.items ≡ l.fn.list.items ++ under l.at l.yielded;
   paths : list_all (λ pair. fits_path pair.0) (under l.at l.yielded) ≡ true;

@@ -10,16 +10,16 @@ use Rattle.syn_tree.proofs.LawfulLemmas.{rising-more, rising-next}
 use Rattle.syn_tree.proofs.list.are_rising.Goals as goal
 
 pub loop-entry-init : goal.loop-entry-init
-loop-entry-init c = (record { front = []; content = Directory; parts = refl }, (tt, tt))
+loop-entry-init g c = (record { front = []; content = Directory; parts = refl }, (tt, tt))
 
 pub returns-then-not-comes_before : goal.returns-then-not-comes_before
-returns-then-not-comes_before c =
+returns-then-not-comes_before g c =
     let x = c.entry-item.result in
     let other = ap (λ p. is_lt (path_cmp c.loop-entry.last.now p)) (sym c.path.ensures) ∙ (sym c.comes_before.ensures ∙ c.if-not-comes_before.true) in
     ((λ b. absurd (true≢false (sym b))), (λ rising. absurd (true≢false (sym (ap is_lt (rising-next c.args.list.now c.loop-entry.entry-index x c.loop-entry.last.now c.loop-entry-test.true c.entry-item.is c.loop-entry.invariant.0 rising)) ∙ other))))
 
 pub loop-entry-preserved : goal.loop-entry-preserved
-loop-entry-preserved c =
+loop-entry-preserved g c =
     let list = c.args.list.now in
     let x = c.entry-item.result in
     let less = less_of (path_cmp c.loop-entry.last.now x.0) (ap (λ p. is_lt (path_cmp c.loop-entry.last.now p)) (sym c.path.ensures) ∙ (sym c.comes_before.ensures ∙ c.if-not-comes_before.false)) in
@@ -30,7 +30,7 @@ loop-entry-preserved c =
     )
 
 pub returns : goal.returns
-returns c =
+returns g c =
     let list = c.args.list.now in
     let ended : c.loop-entry.entry-index ≡ length list = omega (arith, c.loop-entry-test.false, c.loop-entry.auto.entry-index-end) in
     let whole = ap (λ n. take n list) ended ∙ take-length list in

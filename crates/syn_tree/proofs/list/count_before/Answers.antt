@@ -7,7 +7,7 @@ use Rattle.syn_tree.proofs.PointLemmas.{partitioned, point}
 use Rattle.syn_tree.proofs.list.count_before.Goals as goal
 
 pub returns : goal.returns
-returns c =
+returns g c =
     let at = c.args.names.now in
     let es = c.args.list.now in
     let parts = three_parts at es (rising_of es c.requires) in

@@ -23,14 +23,14 @@ none_of [] l = refl
 none_of (x ∷ part) l = absurd (omega (arith, l))
 
 pub returns-in_default : goal.returns-in_default
-returns-in_default c =
+returns-in_default g c =
     let es = c.args.list.now in
     let part = c.part_at-part.ensures ∙ ap (λ p. within p es) c.names-names.ensures.names in
     let none = none_of c.part_at-part.result.now c.in_default.len_below in
     none ∙ without_any c.args.at.now es (sym part ∙ none)
 
 pub returns-then-is_at : goal.returns-then-is_at
-returns-then-is_at c =
+returns-then-is_at g c =
     let es = c.args.list.now in
     let part = c.part_at-part.ensures ∙ ap (λ p. within p es) c.names-names.ensures.names in
     let first = c.first-item.result in
@@ -39,7 +39,7 @@ returns-then-is_at c =
     rest_of c.part_at-part.result.now c.in-len1-up.len_at_least ∙ without_first c.args.at.now es first (drop 1 c.part_at-part.result.now) (rising_of es c.requires) (sym part ∙ whole) same
 
 pub returns-else-is_at : goal.returns-else-is_at
-returns-else-is_at c =
+returns-else-is_at g c =
     let es = c.args.list.now in
     let part = c.part_at-part.ensures ∙ ap (λ p. within p es) c.names-names.ensures.names in
     let first = c.first-item.result in

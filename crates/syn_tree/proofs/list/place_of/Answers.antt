@@ -7,10 +7,10 @@ use Rattle.syn_tree.proofs.PointLemmas.{partitioned, point}
 use Rattle.syn_tree.proofs.list.place_of.Goals as goal
 
 pub split_at-requires : goal.split_at-requires
-split_at-requires c = subst (λ n. n ≤ length c.args.list.now) (sym c.count_before-start.ensures) (few_before c.args.names.now c.args.list.now)
+split_at-requires g c = subst (λ n. n ≤ length c.args.list.now) (sym c.count_before-start.ensures) (few_before c.args.names.now c.args.list.now)
 
 pub returns-clause-count : goal.returns-clause-count
-returns-clause-count c =
+returns-clause-count g c =
     let at = c.args.names.now in
     let es = c.args.list.now in
     let rest = c.split_at.ensures.back ∙ (ap (λ n. drop n es) c.count_before-start.ensures ∙ after_before at es (rising_of es c.requires)) in

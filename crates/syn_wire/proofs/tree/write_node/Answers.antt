@@ -1,4 +1,6 @@
-use Rattle.std.proofs.Common.{◌++◌, option_map, sym, ap, ◌∙◌}
+use Rattle.std.proofs.Common.{◌++◌, option_map, sym, ap, ◌∙◌, subst}
+use Rattle.syn_model.specs.Tree.{IsPart}
+use Rattle.syn_wire.proofs.MadeLemmas.{absent_lawful}
 use Rattle.syn_model.specs.Spelling.{spelling}
 use Rattle.syn_tree.specs.Nodes.{part_of}
 use Rattle.syn_wire.proofs.NodeLemmas.{absent_spelled}
@@ -8,3 +10,7 @@ pub returns-in_ok-push-in-None-clause-added : goal.returns-in_ok-push-in-None-cl
 returns-in_ok-push-in-None-clause-added c =
     let none = ap (λ o. spelling (part_of (option_map (λ there. there.now) o))) c.in-None.is ∙ absent_spelled in
     c.in_ok-push-in-None.ensures.items ∙ ap (λ b. c.args.out.now.items ++ b) (sym none)
+
+pub returns-in_ok-push-in-None-clause-lawful : goal.returns-in_ok-push-in-None-clause-lawful
+returns-in_ok-push-in-None-clause-lawful c =
+    subst (λ o. IsPart (part_of (option_map (λ there. there.now) o))) (sym c.in-None.is) absent_lawful.part

@@ -1,4 +1,7 @@
-use Rattle.std.proofs.Common.{◌++◌, ◌∷◌, [], length, sym, ap, ap₂, ◌∙◌, append_assoc, arith}
+use Rattle.std.proofs.Common.{◌++◌, ◌∷◌, [], length, sym, ap, ap₂, ◌∙◌, subst, append_assoc, arith}
+use Rattle.syn_model.specs.Event.{AreBytes}
+use Rattle.syn_model.specs.Tree.{File, IsPart, contents_of}
+use Rattle.syn_tree.proofs.ChangeLemmas.{lawful_part}
 use Rattle.std.proofs.lemmas.Result.{on_ok_weaker}
 use Rattle.syn_model.specs.Spelling.{spelling}
 use Rattle.syn_model.specs.Limits.{fits_part}
@@ -21,3 +24,9 @@ returns-in_ok-push-in-File-clause-added c =
     on_ok_weaker c.write_file.result (λ e.
     e ∙ (ap₂ (λ x y. x ++ file_spelling y) c.in_ok-push-in-File.ensures.items c.deref.ensures.value
     ∙ (append_assoc out (1 ∷ []) (file_spelling bytes) ∙ ap (λ b. out ++ b) (sym spelled)))) c.write_file.ensures.added
+
+pub returns-in_ok-push-in-File-clause-lawful : goal.returns-in_ok-push-in-File-clause-lawful
+returns-in_ok-push-in-File-clause-lawful c =
+    let bytes = c.in-File.bytes.items in
+    let part = lawful_part (File (contents_of bytes)) (subst AreBytes c.deref.ensures.value c.write_file.ensures.lawful) in
+    on_ok_weaker c.write_file.result (λ _. subst (λ n. IsPart (node_tree n)) (sym c.in-File.is) part) c.write_file.ensures.added

@@ -1,0 +1,44 @@
+-- Marks as the model has them: contents whose files hold digests.
+use Rattle.std.specs.Prelude.{◌≡◌, true, length, Option, Some, None}
+use Rattle.std.specs.List.{AllByRecursion}
+use Rattle.std.specs.FinMap.{from_sorted}
+use Rattle.syn_model.specs.Path.{root, path_cmp, IsPath}
+use Rattle.syn_model.specs.Tree.{Tree, Pair, Directory, File, contents_of, absent, is_present}
+use Rattle.syn_model.specs.Tree as model
+use Rattle.syn_model.specs.Event.{AreBytes}
+use Rattle.syn_model.specs.Mark.{IsMarks}
+use Rattle.syn_model.specs.Limits.{fits_archive}
+use Rattle.syn_tree.specs.Pairs.{Pairs, AreRising}
+use Rattle.syn_mark.specs.declared.mark.Mark.{Mark}
+use Rattle.syn_mark.specs.declared.mark.Mark.TheVariants as mark
+
+abbrev pub content_of : Mark → model.Content
+content_of (mark.File digest) = File (contents_of digest)
+content_of mark.Dir = Directory
+
+-- nothing where there are no marks
+abbrev pub or_absent : Option Tree → Tree
+or_absent None = absent
+or_absent (Some marks) = marks
+
+-- a directory, or a file with a digest of 32 bytes
+abbrev pub IsDigestOrDirectory : model.Content → Type 0
+IsDigestOrDirectory Directory = Unit {0}
+IsDigestOrDirectory (File contents) = AreBytes contents.bytes × (length contents.bytes ≡ 32)
+
+-- a lawful path with a mark
+abbrev pub IsMarkPair : Pair → Type 0
+IsMarkPair pair = IsPath pair.0 × IsDigestOrDirectory pair.1
+
+abbrev pub AreMarkPairs : Pairs → Type 0
+AreMarkPairs pairs = AllByRecursion IsMarkPair pairs
+
+abbrev pub marks_with : Pairs → Tree
+marks_with pairs = from_sorted {R = path_cmp} pairs
+
+-- in path order they are the marks of a file or of a directory with all below it, within the limits
+pub record AreMarks (pairs : Pairs) : Type 0 where
+  pub rising : AreRising pairs
+  pub present : is_present (marks_with pairs) root ≡ true
+  pub marks : IsMarks (marks_with pairs)
+  pub fits : fits_archive (marks_with pairs) ≡ true

@@ -1,0 +1,15 @@
+//! Marks: what stands for the contents of a file tree, with the digest of each file in place of its
+//! bytes.
+#![tactic(auto)]
+
+mod change;
+mod lawful;
+mod mark;
+mod marking;
+mod placing;
+mod tree;
+
+pub use change::MarkChange;
+pub use mark::Mark;
+pub use marking::mark_of;
+pub use tree::{MarkEntry, MarkTree};
