@@ -3,7 +3,7 @@ ghost use Rattle.syn_model.specs.Limits.{fits_part, fits_paths};
 ghost use Rattle.syn_tree.specs.Nodes.{node_tree};
 
 use crate::entries::Entries;
-use crate::list::LONGEST_FILE;
+use crate::measures::LONGEST_FILE;
 
 /// What can stand at a path: a file, or a directory with what is below it.
 #[derive(Debug, Drop)]
