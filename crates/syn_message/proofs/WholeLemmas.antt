@@ -1,7 +1,19 @@
 -- A body that is read to its end: what stands in front, and that nothing follows.
+use Rattle.std.proofs.Common.{◌∷◌, ◌-◌, ap, arith, drop, length, take}
+use Rattle.std.proofs.Math.Seq.{take-length}
+use Rattle.syn_model.specs.Path.{Bytes}
 use Rattle.std.proofs.Common.{◌≡◌, ◌≢◌, ◌∙◌, [], ◌++◌, List, ℕ, None, sym, append-nil}
 use Rattle.syn_message.specs.Requests.{IsWholeReading}
 use Rattle.syn_wire.specs.Reads.{BeginsWith, IsReading, NoneBeginsAnother}
+
+-- what stands behind the first byte
+abbrev pub behind : Bytes → Bytes
+behind body = take (length body - 1) (drop 1 body)
+
+pub behind_first : (kind : ℕ) (rest : Bytes) → behind (kind ∷ rest) ≡ rest
+behind_first kind rest =
+    let one : length (kind ∷ rest) - 1 ≡ length rest = omega arith in
+    ap (λ n. take n rest) one ∙ take-length rest
 
 module _ {A : Type 0} (P : A → Type 0) (f : A → List ℕ) where
   -- there is no value in front

@@ -14,3 +14,9 @@ pub const STAGE: u8 = 0x04;
 
 /// What is staged goes to its path.
 pub const REPLACE: u8 = 0x05;
+
+/// A user edits.
+pub const EDIT: u8 = 0x11;
+
+/// A user reads what stands at a path.
+pub const GET: u8 = 0x12;

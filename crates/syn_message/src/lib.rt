@@ -7,6 +7,10 @@
 mod kind;
 mod request;
 mod request_reading;
+mod user;
+mod user_reading;
 
 pub use request::{Asked, Request, encode_request};
-pub use request_reading::decode_request;
+pub use request_reading::{MAX_PIECE, decode_request};
+pub use user::{AskedByUser, UserRequest, encode_user_request};
+pub use user_reading::decode_user_request;

@@ -3,6 +3,7 @@ use Rattle.std.specs.Prelude.{◌≡◌, ◌<◌, ◌^◌, ℕ, ◌++◌, Option
 use Rattle.std.specs.Int.{to_be_bytes, w32, w64}
 use Rattle.syn_model.specs.Path.{Bytes}
 use Rattle.syn_message.specs.Requests.{IsWholeReading}
+use Rattle.syn_message.specs.Users.{Wish, IsLawfulWish, wish_fields, wish_kind}
 
 -- a session, from 1, and a number in it
 pub record IsHead (head : ℕ × ℕ) : Type 0 where
@@ -19,3 +20,15 @@ IsLast last = (last.0 < 2 ^ 64) × (last.1 < 2 ^ 32)
 
 abbrev pub ReadsLast : Bytes → Option (ℕ × ℕ) → Type 0
 ReadsLast = IsWholeReading IsLast head_spelling
+
+-- the session 0, and a number
+pub record IsUserHead (head : ℕ × ℕ) : Type 0 where
+  pub none : head.0 ≡ 0
+  pub number : head.1 < 2 ^ 32
+
+-- what stands behind the number of a user's request
+abbrev pub IsWishOf : ℕ → Wish → Type 0
+IsWishOf kind wish = (wish_kind wish ≡ kind) × IsLawfulWish wish
+
+abbrev pub ReadsWish : ℕ → Bytes → Option Wish → Type 0
+ReadsWish kind = IsWholeReading (IsWishOf kind) wish_fields

@@ -1,21 +1,11 @@
-use Rattle.std.proofs.Common.{◌++◌, ◌-◌, ◌∙◌, ap, append_assoc, drop, length, option_map, subst}
-use Rattle.std.proofs.Common.{◌≡◌, ◌∷◌, ℕ, arith, sym, take}
-use Rattle.std.proofs.Math.Seq.{take-length}
-use Rattle.syn_model.specs.Path.{Bytes}
+use Rattle.std.proofs.Common.{◌++◌, ◌∙◌, ap, append_assoc, option_map, subst}
+use Rattle.std.proofs.Common.{sym}
 use Rattle.std.specs.Int.{to_be_bytes, w32, w64}
+use Rattle.syn_message.proofs.WholeLemmas.{behind, behind_first}
 use Rattle.syn_message.proofs.request_reading.decode_request.Goals as goal
 use Rattle.syn_message.specs.Requests.{fields_spelling, kind_of}
 use Rattle.syn_message.specs.inner.Heads.{IsHead, head_spelling}
 use Rattle.syn_wire.specs.Reads.{IsReading}
-
--- what stands behind the first byte
-abbrev behind : Bytes → Bytes
-behind body = take (length body - 1) (drop 1 body)
-
-behind_first : (kind : ℕ) (rest : Bytes) → behind (kind ∷ rest) ≡ rest
-behind_first kind rest =
-    let one : length (kind ∷ rest) - 1 ≡ length rest = omega arith in
-    ap (λ n. take n rest) one ∙ take-length rest
 
 pub returns-in_default-read_head : goal.returns-in_default-read_head
 returns-in_default-read_head c asking lawful is =

@@ -1,7 +1,5 @@
-use Rattle.std.proofs.Common.{None, subst}
 use Rattle.syn_message.proofs.WholeLemmas.{no_rest, no_value}
 use Rattle.syn_message.proofs.request_reading.read_last.Goals as goal
-use Rattle.syn_message.specs.inner.Heads.{ReadsLast}
 use Rattle.std.specs.Int.{to_be_bytes, w32, w64}
 use Rattle.syn_wire.specs.Events.{IsNumber32, IsNumber64}
 

@@ -1,4 +1,4 @@
-use Rattle.std.proofs.Common.{◌<◌, ◌≤◌, ◌^◌, arith, length, option_map, subst}
+use Rattle.std.proofs.Common.{arith, option_map, subst}
 use Rattle.syn_message.proofs.WholeLemmas.{no_value}
 use Rattle.syn_message.proofs.request_reading.read_piece.Goals as goal
 use Rattle.syn_wire.specs.Events.{IsFile, file_spelling}
