@@ -15,6 +15,15 @@ behind_first kind rest =
     let one : length (kind ∷ rest) - 1 ≡ length rest = omega arith in
     ap (λ n. take n rest) one ∙ take-length rest
 
+-- the first byte of a body, and what stands behind it
+abbrev pub first_of : Bytes → ℕ
+first_of [] = 0
+first_of (x ∷ xs) = x
+
+abbrev pub rest_of : Bytes → Bytes
+rest_of [] = []
+rest_of (x ∷ xs) = xs
+
 module _ {A : Type 0} (P : A → Type 0) (f : A → List ℕ) where
   -- there is no value in front
   pub no_value : (bytes : List ℕ) → IsReading P f bytes None → IsWholeReading P f bytes None

@@ -5,7 +5,8 @@
 #![tactic(auto)]
 
 ghost use Rattle.syn_wire.specs.Laws.{NoU16BeginsAnother, NoU32BeginsAnother, NoU64BeginsAnother};
-ghost use Rattle.syn_wire.specs.Laws.{NoPathBeginsAnother, NoEventBeginsAnother};
+ghost use Rattle.syn_wire.specs.Laws.{NoPathBeginsAnother, NoFileBeginsAnother};
+ghost use Rattle.syn_wire.specs.Laws.{NoEventBeginsAnother};
 ghost use Rattle.syn_wire.specs.Images.{NoImageBeginsAnother};
 ghost use Rattle.syn_wire.specs.Trees.{NoTreeBeginsAnother, SpellingIsWalk, SpellingIsMeasured};
 
@@ -35,6 +36,7 @@ pub fn spelling_laws()
     ensures u32 { NoU32BeginsAnother }
     ensures u64 { NoU64BeginsAnother }
     ensures path { NoPathBeginsAnother }
+    ensures file { NoFileBeginsAnother }
     ensures event { NoEventBeginsAnother }
     ensures tree { NoTreeBeginsAnother }
     ensures image { NoImageBeginsAnother }
