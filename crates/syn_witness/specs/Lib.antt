@@ -1,4 +1,5 @@
 pub mod Rows
 pub mod Witness
 pub mod Short
+pub mod Conflict
 pub mod Forbidden

@@ -4,6 +4,7 @@ use Rattle.syn_witness.proofs.WitnessLemmas.{opened_is_start, new_room_is, stop_
 use Rattle.syn_witness.proofs.WitnessSession.{file_is_carried}
 use Rattle.syn_witness.proofs.ExchangeLemmas.{files_are_exchanged}
 use Rattle.syn_witness.proofs.MarkedLemmas.{carried_is_marked_later}
+use Rattle.syn_witness.proofs.ConflictLemmas.{conflict_is_reported}
 use Rattle.syn_witness.proofs.witnesses.Goals as goal
 
 pub returns-clause-start : goal.returns-clause-start
@@ -41,3 +42,6 @@ returns-clause-touched c = touched_is_refused
 
 pub returns-clause-device : goal.returns-clause-device
 returns-clause-device c = replacement_fails
+
+pub returns-clause-conflict : goal.returns-clause-conflict
+returns-clause-conflict c = conflict_is_reported
