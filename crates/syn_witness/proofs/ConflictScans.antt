@@ -125,7 +125,7 @@ pub right_marks-entries : entries right_scan.marks ≡ right_pairs
 right_marks-entries = mark-entries (tree_of right_history) (with_below Directory) right-entries
 
 -- the marks of a tree are one
-marked_tree : (t : Tree) → IsTree t → IsTree (mark t)
+pub marked_tree : (t : Tree) → IsTree t → IsTree (mark t)
 marked_tree t is = record {
   rooted = get-mark t root ∙ ap (option_map mark_of) is.rooted;
   part = record {

@@ -20,3 +20,4 @@ pub mod RoomLemmas
 pub mod ShortLemmas
 pub mod ConflictScans
 pub mod ConflictLemmas
+pub mod UnstableLemmas
