@@ -1,5 +1,6 @@
 -- What a run's calls answered, in order of time, and what may come of one more.
-use Rattle.std.specs.Prelude.{ℕ, ◌≡◌, ◌≤◌, ◌⊎◌, List, [], ◌∷◌, ◌++◌, length, true, slice_get, filter_map, Option, Some, None, Contains}
+use Rattle.std.specs.Prelude.{ℕ, ◌≡◌, ◌≤◌, ◌⊎◌, List, [], ◌∷◌, ◌++◌, length, true, slice_get}
+use Rattle.std.specs.Prelude.{filter_map, Option, Some, None, Contains}
 use Rattle.syn_model.specs.Path.{Path, Name, parent}
 use Rattle.syn_model.specs.Tree.{Tree, Content, subtree, is_directory}
 use Rattle.syn_model.specs.Event.{Token, Event}
@@ -50,14 +51,18 @@ Grown (Some writing) old new = (new ≡ old) ⊎ (IsAllowed old writing × (new 
 -- an archive, or it and the one record that was being written
 abbrev pub ArchiveGrown : Option Kept → Archive → Archive → Type 0
 ArchiveGrown None old new = new ≡ old
-ArchiveGrown (Some writing) old new = (new ≡ old) ⊎ (CanKeep old writing × (new ≡ after_kept old writing))
+ArchiveGrown (Some writing) old new = (new ≡ old)
+    ⊎ (CanKeep old writing × (new ≡ after_kept old writing))
 
 -- the side listed the path at the position in the session
 abbrev pub WasListed : Sent → Which → ℕ → Path → ℕ → Type 0
-WasListed sent side session path position = (entries : List (Name × Content)) × WasAnswered sent side session (ListAt path) (Listed position entries)
+WasListed sent side session path position = (entries : List (Name × Content))
+    × WasAnswered sent side session (ListAt path) (Listed position entries)
 
--- what the replacement puts is what the other side had at a position: there the session had it list the path's directory
-pub record IsFrom (sent : Sent) (source : Which) (source_history : History) (session : ℕ) (path : Path) (position : ℕ)
+-- what the replacement puts is what the other side had at a position: there the session had it list
+-- the path's directory
+pub record IsFrom (sent : Sent) (source : Which) (source_history : History) (session : ℕ)
+    (path : Path) (position : ℕ)
     (new : Tree) : Type 0 where
   pub listed : WasListed sent source session (parent path) position
   pub reached : position ≤ length source_history
@@ -66,19 +71,22 @@ pub record IsFrom (sent : Sent) (source : Which) (source_history : History) (ses
 
 -- what a replacement may overwrite, whichever side its session prefers: what the archive recorded
 abbrev pub MayOverwrite : SessionPlan → Stores → Which → Path → Type 0
-MayOverwrite made written side path = subtree (mark (tree_of (history_of written side))) path ≡ subtree written.archive.marks path
+MayOverwrite made written side path = subtree (mark (tree_of (history_of written side))) path
+    ≡ subtree written.archive.marks path
 
--- a replacement that follows a listing, is an item of its session's plan, puts what the other side had where the plan saw it,
--- and takes what it may overwrite
-pub record IsLegal (sent : Sent) (log : Log) (side : Which) (written : Stores) (token : Token) (path : Path) (since : ℕ)
-    (new : Tree) : Type 0 where
+-- a replacement that follows a listing, is an item of its session's plan, puts what the other side
+-- had where the plan saw it, and takes what it may overwrite
+pub record IsLegal (sent : Sent) (log : Log) (side : Which) (written : Stores) (token : Token)
+    (path : Path) (since : ℕ) (new : Tree) : Type 0 where
   pub listed : WasListed sent side token.session (parent path) since
   pub reached : since ≤ length (history_of written side)
-  pub untouched : is_quiet (history_of written side) since (length (history_of written side)) path ≡ true
+  pub untouched :
+      is_quiet (history_of written side) since (length (history_of written side)) path ≡ true
   pub made : SessionPlan
   pub logged : Contains log made × (made.session ≡ token.session)
   pub planned : Planned
   pub item : (slice_get made.plan token.item ≡ Some planned) × WritesTo planned.item side path
   pub seen : since ≡ (seen_on planned side).since
   pub recorded : MayOverwrite made written side path
-  pub source : IsFrom sent (other side) (history_of written (other side)) token.session path (seen_on planned (other side)).since new
+  pub source : IsFrom sent (other side)
+      (history_of written (other side)) token.session path (seen_on planned (other side)).since new

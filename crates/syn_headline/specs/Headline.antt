@@ -1,5 +1,6 @@
 -- What is proved of whole runs.
-use Rattle.std.specs.Prelude.{ℕ, ◌≡◌, ◌≢◌, ◌≤◌, ◌↔◌, ◌+◌, drop, false, List, [], ◌∷◌, ◌++◌, length, take, None, All, AllPairs, Contains, IfSome}
+use Rattle.std.specs.Prelude.{ℕ, ◌≡◌, ◌≢◌, ◌≤◌, ◌↔◌, ◌+◌, drop, false, List, [], ◌∷◌, ◌++◌, length}
+use Rattle.std.specs.Prelude.{take, None, All, AllPairs, Contains, IfSome}
 use Rattle.syn_model.specs.Path.{Bytes, Path}
 use Rattle.syn_model.specs.Tree.{Tree, IsTree, subtree}
 use Rattle.syn_model.specs.Event.{Token, is_same_token, Event, Edited, Began, Replaced, touches}
@@ -9,8 +10,10 @@ use Rattle.syn_model.specs.Archive.{Archive, new_archive, Session, BothHeld}
 use Rattle.std.specs.List.{count_by}
 use Rattle.syn_model.specs.Plan.{plan, scan_of, Trees, IsSynchronized, IsReconciled, IsConflict}
 use Rattle.syn_headline.specs.Side.{Fetch, Piece}
-use Rattle.syn_headline.specs.Network.{Which, Left, Right, other, Sent, WasAnswered, NumbersTell, AsksNothingTwice}
-use Rattle.syn_headline.specs.Acknowledged.{Ack, Happened, Kept_by, Stores, history_of, stores_after, Grown, ArchiveGrown, IsLegal}
+use Rattle.syn_headline.specs.Network.{Which, Left, Right, other, Sent, WasAnswered, NumbersTell}
+use Rattle.syn_headline.specs.Network.{AsksNothingTwice}
+use Rattle.syn_headline.specs.Acknowledged.{Ack, Happened, Kept_by, Stores, history_of}
+use Rattle.syn_headline.specs.Acknowledged.{stores_after, Grown, ArchiveGrown, IsLegal}
 use Rattle.syn_headline.specs.Planning.{IsPlanOf}
 use Rattle.syn_headline.specs.Report.{Report, Complete, is_carrying, is_marking}
 use Rattle.syn_headline.specs.Machine.{Up, Journaled, unarmed}
@@ -36,7 +39,8 @@ pub record IsPair (stores : Stores) : Type 0 where
 -- a journal that has just been opened, with nothing armed at its device
 abbrev pub IsJustOpened : {V W : Type 0} → Journaled V W → Type 0
 IsJustOpened machine =
-    (machine.status ≡ Up) × (machine.writing ≡ None) × (machine.compacting ≡ false) × (machine.arms ≡ unarmed)
+    (machine.status ≡ Up) × (machine.writing ≡ None) × (machine.compacting ≡ false)
+    × (machine.arms ≡ unarmed)
 
 -- a world that has just been opened
 pub record IsStart (world : World) : Type 0 where
@@ -44,12 +48,15 @@ pub record IsStart (world : World) : Type 0 where
   pub left : IsJustOpened world.left.journal × (world.left.staging ≡ None)
   pub right : IsJustOpened world.right.journal × (world.right.staging ≡ None)
   pub coordinator : IsJustOpened world.coordinator.journal × (world.coordinator.running ≡ None)
-  pub nothing_yet : (world.sent ≡ []) × (world.acknowledged ≡ []) × (world.reports ≡ []) × (world.log ≡ [])
+  pub nothing_yet : (world.sent ≡ []) × (world.acknowledged ≡ []) × (world.reports ≡ [])
+      × (world.log ≡ [])
 
--- Each replacement of the run is of its session's plan, and puts what the other side held over what the archive recorded, untouched since its listing
+-- Each replacement of the run is of its session's plan, and puts what the other side held over what
+-- the archive recorded, untouched since its listing
 abbrev pub EachReplacementIsLegal : Stores → World → Type 0
 EachReplacementIsLegal before world =
-    (earlier later : List Ack) (side : Which) (token : Token) (path : Path) (since : ℕ) (new : Tree) →
+    (earlier later : List Ack) (side : Which) (token : Token) (path : Path) (since : ℕ)
+    (new : Tree) →
     world.acknowledged ≡ earlier ++ Happened side (Replaced token path since new) ∷ later →
     IsLegal world.sent world.log side (stores_after before earlier) token path since new
 
@@ -57,8 +64,10 @@ EachReplacementIsLegal before world =
 abbrev pub EachEntryWasHeld : Stores → World → Type 0
 EachEntryWasHeld before world =
     let now = stores_after before world.acknowledged in
-    (left right : History) (archive : Archive) → Grown world.left.journal.writing now.left left → Grown world.right.journal.writing now.right right →
-    ArchiveGrown world.coordinator.journal.writing now.archive archive → BothHeld left right archive.marks
+    (left right : History) (archive : Archive) → Grown world.left.journal.writing now.left left →
+    Grown world.right.journal.writing now.right right →
+    ArchiveGrown world.coordinator.journal.writing now.archive archive →
+    BothHeld left right archive.marks
 
 abbrev pub IsNoEdit : Event → Type 0
 IsNoEdit (Edited user edit) = ⊥
@@ -71,7 +80,8 @@ pub record BeganAfter (session : ℕ) (found : History) (ended : History) : Type
   pub no_edit : All IsNoEdit later
 
 -- a complete session without edits: what it found, and what it left
-pub record IsQuietSession (before : Stores) (acknowledged : List Ack) (reports : List (Report × ℕ)) (report : Report) (found left : Stores) : Type 0 where
+pub record IsQuietSession (before : Stores) (acknowledged : List Ack) (reports : List (Report × ℕ))
+    (report : Report) (found left : Stores) : Type 0 where
   pub acks : ℕ
   pub reported : Contains reports (report, acks)
   pub complete : report.end ≡ Complete
@@ -80,36 +90,51 @@ pub record IsQuietSession (before : Stores) (acknowledged : List Ack) (reports :
   pub right_side : BeganAfter report.session found.right left.right
   pub started : ℕ
   pub archive : found.archive ≡ (stores_after before (take started acknowledged)).archive
-  pub taken : take (started + 1) acknowledged ≡ take started acknowledged ++ Kept_by (Session report.session) ∷ []
+  pub taken : take (started + 1) acknowledged ≡ take started acknowledged
+      ++ Kept_by (Session report.session) ∷ []
 
 -- the trees of both sides, and the marks of the archive
 abbrev pub trees_of : Stores → Trees
-trees_of stores = record { left = tree_of stores.left; right = tree_of stores.right; archive = stores.archive.marks }
+trees_of stores = record {
+  left = tree_of stores.left;
+  right = tree_of stores.right;
+  archive = stores.archive.marks;
+}
 
 -- A complete session without edits leaves on both sides the synchronization of what it found,
 -- if no two files that it found at one path differ with one digest
 abbrev pub CompleteSessionsSynchronize : Stores → World → Type 0
-CompleteSessionsSynchronize before world = (report : Report) (found left : Stores) → IsQuietSession before world.acknowledged world.reports report found left →
-    AreApart (tree_of found.left) (tree_of found.right) → IsSynchronized (trees_of found) (trees_of left)
+CompleteSessionsSynchronize before world = (report : Report) (found left : Stores) →
+    IsQuietSession before world.acknowledged world.reports report found left →
+    AreApart (tree_of found.left) (tree_of found.right) →
+    IsSynchronized (trees_of found) (trees_of left)
 
 -- And it leaves the archive of that, without this premise
 abbrev pub CompleteSessionsReconcile : Stores → World → Type 0
-CompleteSessionsReconcile before world = (report : Report) (found left : Stores) → IsQuietSession before world.acknowledged world.reports report found left → IsReconciled (trees_of found) (trees_of left)
+CompleteSessionsReconcile before world = (report : Report) (found left : Stores) →
+    IsQuietSession before world.acknowledged world.reports report found left →
+    IsReconciled (trees_of found) (trees_of left)
 
--- Its conflicts are the relevant paths that are dirty on both sides, no directory on both and unequal
+-- Its conflicts are the relevant paths that are dirty on both sides, no directory on both and
+-- unequal
 abbrev pub ReportsItsConflicts : Stores → World → Type 0
-ReportsItsConflicts before world = (report : Report) (found left : Stores) → IsQuietSession before world.acknowledged world.reports report found left → (path : Path) →
-    Contains report.conflicts path ↔ IsConflict (tree_of found.left) (tree_of found.right) found.archive.marks path
+ReportsItsConflicts before world = (report : Report) (found left : Stores) →
+    IsQuietSession before world.acknowledged world.reports report found left → (path : Path) →
+    Contains report.conflicts path
+    ↔ IsConflict (tree_of found.left) (tree_of found.right) found.archive.marks path
 
 -- as many as the plan of what it found has to carry, and to mark
 abbrev pub HasCounts : Stores → Report → Type 0
 HasCounts found report =
-    let items = plan (scan_of (tree_of found.left)) (scan_of (tree_of found.right)) found.archive.marks in
+    let items = plan (scan_of (tree_of found.left))
+    (scan_of (tree_of found.right)) found.archive.marks in
     (report.done ≡ count_by is_carrying items) × (report.marked ≡ count_by is_marking items)
 
 -- Its counts are those
 abbrev pub CountsItsItems : Stores → World → Type 0
-CountsItsItems before world = (report : Report) (found left : Stores) → IsQuietSession before world.acknowledged world.reports report found left → HasCounts found report
+CountsItsItems before world = (report : Report) (found left : Stores) →
+    IsQuietSession before world.acknowledged world.reports report found left →
+    HasCounts found report
 
 abbrev pub IsOtherToken : Token → Event → Type 0
 IsOtherToken token (Replaced used path since new) = is_same_token used token ≡ false
@@ -118,15 +143,20 @@ IsOtherToken token _ = Unit {0}
 -- Each token has one replacement at most
 abbrev pub EachTokenOnce : Stores → World → Type 0
 EachTokenOnce before world =
-    (side : Which) (earlier later : History) (token : Token) (path : Path) (since : ℕ) (new : Tree) →
-    (side_of world side).journal.value ≡ earlier ++ Replaced token path since new ∷ later → All (IsOtherToken token) later
+    (side : Which) (earlier later : History) (token : Token) (path : Path) (since : ℕ)
+    (new : Tree) →
+    (side_of world side).journal.value ≡ earlier ++ Replaced token path since new ∷ later →
+    All (IsOtherToken token) later
 
 -- no event of a history after a position touches the path
 abbrev pub UntouchedSince : ℕ → History → Path → Type 0
-UntouchedSince position history path = All (λ event. touches event path ≡ false) (drop position history)
+UntouchedSince position history path =
+    All (λ event. touches event path ≡ false) (drop position history)
 
--- a fetch of the path from a position was answered with a piece in the session, and nothing touched the path there since
-pub record IsFetched (sent : Sent) (source : Which) (history : History) (session : ℕ) (path : Path) : Type 0 where
+-- a fetch of the path from a position was answered with a piece in the session, and nothing touched
+-- the path there since
+pub record IsFetched (sent : Sent) (source : Which) (history : History) (session : ℕ)
+    (path : Path) : Type 0 where
   pub position : ℕ
   pub offset : ℕ
   pub total : ℕ
@@ -134,14 +164,18 @@ pub record IsFetched (sent : Sent) (source : Which) (history : History) (session
   pub answered : WasAnswered sent source session (Fetch path position offset) (Piece total bytes)
   pub untouched : UntouchedSince position history path
 
--- What was carried is marked by the next complete session without edits, recorded or not, where nothing touched it since:
--- on the source since it was fetched, and on the target since it was replaced
+-- What was carried is marked by the next complete session without edits, recorded or not, where
+-- nothing touched it since: on the source since it was fetched, and on the target since it was
+-- replaced
 abbrev pub CarriedIsMarked : Stores → World → Type 0
 CarriedIsMarked before world =
-    (side : Which) (first rest : History) (token : Token) (path : Path) (since : ℕ) (new : Tree) (report : Report) (found left : Stores) →
-    history_of found side ≡ first ++ Replaced token path since new ∷ rest → All (λ event. touches event path ≡ false) rest →
+    (side : Which) (first rest : History) (token : Token) (path : Path) (since : ℕ) (new : Tree)
+    (report : Report) (found left : Stores) →
+    history_of found side ≡ first ++ Replaced token path since new ∷ rest →
+    All (λ event. touches event path ≡ false) rest →
     IsFetched world.sent (other side) (history_of found (other side)) token.session path →
-    IsQuietSession before world.acknowledged world.reports report found left → subtree left.archive.marks path ≡ mark new
+    IsQuietSession before world.acknowledged world.reports report found left →
+    subtree left.archive.marks path ≡ mark new
 
 -- The machines stand for what was there before and then what was acknowledged, in order
 pub record StandsFor (before : Stores) (world : World) : Type 0 where
@@ -151,7 +185,8 @@ pub record StandsFor (before : Stores) (world : World) : Type 0 where
 
 -- as every run leaves them
 abbrev pub RunsStand : Type 0
-RunsStand = (before : Stores) (old new : World) (steps : List Step) → Runs old steps new → StandsFor before old → StandsFor before new
+RunsStand = (before : Stores) (old new : World) (steps : List Step) → Runs old steps new →
+    StandsFor before old → StandsFor before new
 
 -- three disks that were just formatted
 abbrev pub formatted : Stores
@@ -159,23 +194,31 @@ formatted = record { left = []; right = []; archive = new_archive }
 
 -- the archive had these marks at some moment of the run
 abbrev pub HadArchive : Stores → World → Tree → Type 0
-HadArchive before world marks = (acks : ℕ) × (acks ≤ length world.acknowledged) × (marks ≡ (stores_after before (take acks world.acknowledged)).archive.marks)
+HadArchive before world marks = (acks : ℕ) × (acks ≤ length world.acknowledged)
+    × (marks ≡ (stores_after before (take acks world.acknowledged)).archive.marks)
 
 -- Each session makes one plan at most, and that is of its scans and the archive at some moment
 abbrev pub LogsPlans : Stores → World → Type 0
-LogsPlans before world = AllPairs (λ earlier later. earlier.session ≢ later.session) world.log × All (λ made. IsPlanOf world.sent made × HadArchive before world made.archive) world.log
+LogsPlans before world = AllPairs (λ earlier later. earlier.session ≢ later.session) world.log
+    × All (λ made. IsPlanOf world.sent made × HadArchive before world made.archive) world.log
 
--- what holds of every run from a world that has just been opened, with stops of any machine and failing devices
+-- what holds of every run from a world that has just been opened, with stops of any machine and
+-- failing devices
 abbrev pub OfEachRun : (Stores → World → Type 0) → Type 0
-OfEachRun Holds = (old new : World) (steps : List Step) → IsStart old → Runs old steps new → Holds (stores_of old) new
+OfEachRun Holds = (old new : World) (steps : List Step) → IsStart old → Runs old steps new →
+    Holds (stores_of old) new
 
 -- what an opening then gives is a pair again
 abbrev pub LeavesPair : Stores → World → Type 0
 LeavesPair before new =
     let now = stores_after before new.acknowledged in
-    (left right : History) (archive : Archive) → Grown new.left.journal.writing now.left left → Grown new.right.journal.writing now.right right →
-    ArchiveGrown new.coordinator.journal.writing now.archive archive → IsPair (record { left = left; right = right; archive = archive })
+    (left right : History) (archive : Archive) → Grown new.left.journal.writing now.left left →
+    Grown new.right.journal.writing now.right right →
+    ArchiveGrown new.coordinator.journal.writing now.archive archive →
+    IsPair (record { left = left; right = right; archive = archive })
 
--- a session that runs waits for an answer; a number tells its request, and nothing was asked twice in one session
+-- a session that runs waits for an answer; a number tells its request, and nothing was asked twice
+-- in one session
 abbrev pub Owes : Stores → World → Type 0
-Owes before new = IfSome new.coordinator.running Waits × NumbersTell new.sent × AsksNothingTwice new.sent
+Owes before new = IfSome new.coordinator.running Waits × NumbersTell new.sent
+    × AsksNothingTwice new.sent

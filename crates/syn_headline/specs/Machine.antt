@@ -1,5 +1,7 @@
--- A machine that keeps a value in a journal on its device: an opening, a record, a checkpoint, a stop and a failure.
-use Rattle.std.specs.Prelude.{ℕ, suc, Bool, true, false, nat_le, ◌||◌, ◌+◌, ◌-◌, ◌<◌, ◌≤◌, ◌≡◌, ◌⊎◌, List, [], ◌∷◌}
+-- A machine that keeps a value in a journal on its device: an opening, a record, a checkpoint, a
+-- stop and a failure.
+use Rattle.std.specs.Prelude.{ℕ, suc, Bool, true, false, nat_le, ◌||◌, ◌+◌, ◌-◌, ◌<◌, ◌≤◌, ◌≡◌, ◌⊎◌}
+use Rattle.std.specs.Prelude.{List, [], ◌∷◌}
 use Rattle.std.specs.Prelude.{length, Option, Some, None}
 use Rattle.syn_model.specs.Path.{Bytes}
 
@@ -26,7 +28,8 @@ abbrev pub after_calls : ℕ → Arms → Arms
 after_calls calls arms = record { fail = arms.fail - calls; stop = arms.stop - calls }
 
 -- So many device calls in a row: the status and the arms after them, and how many of them failed.
--- All are made, or one fails, by itself or as it was armed, or the machine is down after one, as a stop was armed
+-- All are made, or one fails, by itself or as it was armed, or the machine is down after one, as a
+-- stop was armed
 pub data Meets (arms : Arms) (calls : ℕ) : Status → Arms → ℕ → Type 0 where
   all_made : IsBefore calls arms.fail → IsBefore calls arms.stop →
       Meets arms calls Up (after_calls calls arms) 0
@@ -35,8 +38,9 @@ pub data Meets (arms : Arms) (calls : ℕ) : Status → Arms → ℕ → Type 0 
   one_stops : (made failed : ℕ) → made < calls → IsBefore made arms.fail → arms.stop ≡ suc made →
       failed ≤ 1 → (arms.fail ≡ suc made → failed ≡ 1) → Meets arms calls Down unarmed failed
 
--- What it stands for, how many bytes its journal has left, and its generation; where it stopped or its device
--- failed, whether a checkpoint and which record was being written; and how many of its device calls failed
+-- What it stands for, how many bytes its journal has left, and its generation; where it stopped or
+-- its device failed, whether a checkpoint and which record was being written; and how many of its
+-- device calls failed
 pub record Journaled (V W : Type 0) : Type 0 where
   pub status : Status
   pub value : V
@@ -94,29 +98,42 @@ with_image layout machine arms = record machine {
   arms = arms;
 }
 
--- A record is written by four device calls and acknowledged; or one of them fails, or a stop cuts it off.
--- One that changes nothing is acknowledged and not written
-pub data Writes {V W : Type 0} (layout : Layout V W) (machine : Journaled V W) (kept : W) : Journaled V W → List W → Type 0 where
+-- A record is written by four device calls and acknowledged; or one of them fails, or a stop cuts
+-- it off. One that changes nothing is acknowledged and not written
+pub data Writes {V W : Type 0} (layout : Layout V W) (machine : Journaled V W)
+    (kept : W) : Journaled V W → List W → Type 0 where
   idle : layout.is_idle machine.value kept ≡ true →
-      Writes layout machine kept (record machine { value = layout.after machine.value kept }) (kept ∷ [])
-  written : (arms : Arms) → layout.is_idle machine.value kept ≡ false → Meets machine.arms 4 Up arms 0 →
+      Writes layout machine kept (record machine { value = layout.after machine.value kept })
+      (kept ∷ [])
+  written : (arms : Arms) → layout.is_idle machine.value kept ≡ false →
+      Meets machine.arms 4 Up arms 0 →
       Writes layout machine kept (with_record layout machine kept arms) (kept ∷ [])
-  unwritten : (status : Status) (arms : Arms) (failed : ℕ) → layout.is_idle machine.value kept ≡ false →
+  unwritten : (status : Status) (arms : Arms) (failed : ℕ) →
+      layout.is_idle machine.value kept ≡ false →
       (status ≡ Halted) ⊎ (status ≡ Down) → Meets machine.arms 4 status arms failed →
-      Writes layout machine kept (after_device (record machine { writing = Some kept }) status arms failed) []
+      Writes layout machine kept (after_device (record machine {
+        writing = Some kept;
+      }) status arms failed) []
 
--- A checkpoint makes six device calls. One that fails or is cut off is under way until the next opening
-pub data Compacts {V W : Type 0} (layout : Layout V W) (machine : Journaled V W) : Journaled V W → Type 0 where
-  compacted : (arms : Arms) → Meets machine.arms 6 Up arms 0 → Compacts layout machine (with_image layout machine arms)
-  not_compacted : (status : Status) (arms : Arms) (failed : ℕ) → (status ≡ Halted) ⊎ (status ≡ Down) →
+-- A checkpoint makes six device calls. One that fails or is cut off is under way until the next
+-- opening
+pub data Compacts {V W : Type 0} (layout : Layout V W) (machine : Journaled V W) : Journaled V W →
+    Type 0 where
+  compacted : (arms : Arms) → Meets machine.arms 6 Up arms 0 →
+      Compacts layout machine (with_image layout machine arms)
+  not_compacted : (status : Status) (arms : Arms) (failed : ℕ) → (status ≡ Halted)
+      ⊎ (status ≡ Down) →
       Meets machine.arms 6 status arms failed →
-      Compacts layout machine (after_device (record machine { compacting = true }) status arms failed)
+      Compacts layout machine (after_device (record machine {
+        compacting = true;
+      }) status arms failed)
 
 -- the journal is as it was left, or as the checkpoint that was under way leaves it
 abbrev pub IsAsLeft : {V W : Type 0} → Layout V W → Journaled V W → ℕ → ℕ → Type 0
 IsAsLeft layout machine room generation =
     ((room ≡ machine.room) × (generation ≡ machine.generation))
-    ⊎ ((machine.compacting ≡ true) × (room ≡ room_behind (layout.image machine.value)) × (generation ≡ suc machine.generation))
+    ⊎ ((machine.compacting ≡ true) × (room ≡ room_behind (layout.image machine.value))
+    × (generation ≡ suc machine.generation))
 
 -- what an opening leaves of a machine, beside its value
 abbrev pub reopened : {V W : Type 0} → Journaled V W → ℕ → ℕ → Arms → Journaled V W
@@ -129,11 +146,16 @@ reopened machine room generation arms = record machine {
   arms = arms;
 }
 
--- An opening by so many device calls gives the value; or, with it, the record that was being written
-pub data Opens {V W : Type 0} (layout : Layout V W) (CanKeep : V → W → Type 0) (machine : Journaled V W) (calls : ℕ) :
+-- An opening by so many device calls gives the value; or, with it, the record that was being
+-- written
+pub data Opens {V W : Type 0} (layout : Layout V W) (CanKeep : V → W → Type 0)
+    (machine : Journaled V W) (calls : ℕ) :
     Journaled V W → List W → Type 0 where
-  opened : (room generation : ℕ) (arms : Arms) → Meets machine.arms calls Up arms 0 → IsAsLeft layout machine room generation →
+  opened : (room generation : ℕ) (arms : Arms) → Meets machine.arms calls Up arms 0 →
+      IsAsLeft layout machine room generation →
       Opens layout CanKeep machine calls (reopened machine room generation arms) []
-  recovered : (arms : Arms) (kept : W) → Meets machine.arms calls Up arms 0 → machine.writing ≡ Some kept →
+  recovered : (arms : Arms) (kept : W) → Meets machine.arms calls Up arms 0 →
+      machine.writing ≡ Some kept →
       CanKeep machine.value kept →
-      Opens layout CanKeep machine calls (with_record layout (reopened machine machine.room machine.generation arms) kept arms) (kept ∷ [])
+      Opens layout CanKeep machine calls (with_record layout (reopened machine machine.room
+      machine.generation arms) kept arms) (kept ∷ [])

@@ -1,4 +1,5 @@
--- Messages, each in the order in which it was sent. A delivery takes any of them, as often as the steps say.
+-- Messages, each in the order in which it was sent. A delivery takes any of them, as often as the
+-- steps say.
 use Rattle.std.specs.Prelude.{ℕ, Bool, true, false, ◌≡◌, List, Contains}
 use Rattle.syn_headline.specs.Side.{Request, Begin, ListAt, Fetch, Stage, Replace, Reply}
 
@@ -24,7 +25,8 @@ abbrev pub Sent : Type 0
 Sent = List Message
 
 -- a side replied so to a request of a session
-pub record WasAnswered (sent : Sent) (side : Which) (session : ℕ) (request : Request) (reply : Reply) : Type 0 where
+pub record WasAnswered (sent : Sent) (side : Which) (session : ℕ) (request : Request)
+    (reply : Reply) : Type 0 where
   pub number : ℕ
   pub asked : Contains sent (Asks side session number request)
   pub answered : Contains sent (Answers side session number reply)
@@ -46,4 +48,5 @@ IsRepeat _ _ = ⊥
 -- resends aside, nothing is asked twice of a side in one session
 abbrev pub AsksNothingTwice : Sent → Type 0
 AsksNothingTwice sent = (side : Which) (session m n : ℕ) (a b : Request) →
-    Contains sent (Asks side session m a) → Contains sent (Asks side session n b) → IsRepeat a b → m ≡ n
+    Contains sent (Asks side session m a) → Contains sent (Asks side session n b) → IsRepeat a b →
+    m ≡ n

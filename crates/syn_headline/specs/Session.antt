@@ -1,16 +1,20 @@
--- A session that runs, over its own transcript: what waits, what an answer brings, its plan, and what it may ask next.
+-- A session that runs, over its own transcript: what waits, what an answer brings, its plan, and
+-- what it may ask next.
 use Rattle.std.specs.Option.{option_map_or}
 use Rattle.std.specs.List.{list_any, list_all, count_by}
 use Rattle.std.specs.Ordering.{eq_by_cmp}
-use Rattle.std.specs.Prelude.{ℕ, suc, min, Bool, true, false, not, nat_le, nat_lt, if◌then◌else◌, ◌&&◌, ◌==◌}
-use Rattle.std.specs.Prelude.{◌+◌, ◌-◌, ◌^◌, ◌≤◌, ◌≡◌, ◌⊎◌, List, [], ◌∷◌, ◌++◌, map, filter, filter_map, length}
+use Rattle.std.specs.Prelude.{ℕ, suc, min, Bool, true, false, not, nat_le, nat_lt, if◌then◌else◌}
+use Rattle.std.specs.Prelude.{◌&&◌, ◌==◌}
+use Rattle.std.specs.Prelude.{◌+◌, ◌-◌, ◌^◌, ◌≤◌, ◌≡◌, ◌⊎◌, List, [], ◌∷◌, ◌++◌, map, filter}
+use Rattle.std.specs.Prelude.{filter_map, length}
 use Rattle.std.specs.Prelude.{slice_get, sum_by, Option, Some, None, All, Contains}
 use Rattle.syn_model.specs.Path.{Path, Name, root, child, path_cmp}
 use Rattle.syn_model.specs.Tree.{Content, Directory, is_directory}
 use Rattle.syn_model.specs.Limits.{fits_path}
 use Rattle.syn_model.specs.Dirty.{IsScanBy}
 use Rattle.syn_model.specs.Refusal.{Refusal, TooLarge, BadMessage, first_cause}
-use Rattle.syn_model.specs.Archive.{Archive, Kept, Session, Recorded, RecordedDir, after_kept, kept_refusal}
+use Rattle.syn_model.specs.Archive.{Archive, Kept, Session, Recorded, RecordedDir, after_kept}
+use Rattle.syn_model.specs.Archive.{kept_refusal}
 use Rattle.syn_model.specs.MarkSpelling.{kept_spelling, archive_spelling}
 use Rattle.syn_model.specs.Decision.{Item, ToLeft, ToRight, MarkSame, MarkDir, Conflict, path_of}
 use Rattle.syn_model.specs.Plan.{plan as items_of}
@@ -33,8 +37,8 @@ pub record Outstanding : Type 0 where
   pub request : Request
   pub resent : ℕ
 
--- A session that runs: its transcript, in order of time; what waits on each side; its plan, once it is made,
--- the item that it has come to, and what it recorded and refused so far
+-- A session that runs: its transcript, in order of time; what waits on each side; its plan, once it
+-- is made, the item that it has come to, and what it recorded and refused so far
 pub record Running : Type 0 where
   pub session : ℕ
   pub taken : List Exchange
@@ -72,7 +76,8 @@ outstanding running Right = running.right
 -- the request that waits under the number
 abbrev pub asked_in : List Outstanding → ℕ → Option Request
 asked_in [] number = None
-asked_in (waiting ∷ more) number = if waiting.number == number then Some waiting.request else asked_in more number
+asked_in (waiting ∷ more) number = if waiting.number == number then Some waiting.request
+    else asked_in more number
 
 abbrev pub asked_of : Running → Which → ℕ → Option Request
 asked_of running side number = asked_in (outstanding running side) number
@@ -82,7 +87,9 @@ without number waiting = filter (λ one. not (one.number == number)) waiting
 
 -- how many requests the session sent to a side, resends aside
 abbrev pub asked_count : Running → Which → ℕ
-asked_count running side = count_by (λ exchange. is_side side exchange.side) running.taken + length (outstanding running side)
+asked_count running side =
+    count_by (λ exchange. is_side side exchange.side) running.taken + length (outstanding running
+    side)
 
 -- requests that are sent now, numbered on from there
 abbrev pub numbered : ℕ → List Request → List Outstanding
@@ -113,13 +120,24 @@ Waits running =
 
 abbrev pub WasTaken : List Exchange → Which → Request → Reply → Type 0
 WasTaken taken side request reply =
-    (number : ℕ) × Contains taken (record { side = side; number = number; request = request; reply = reply })
+    (number : ℕ) × Contains taken (record {
+      side = side;
+      number = number;
+      request = request;
+      reply = reply;
+    })
 
 -- the request was sent to the side in this session
 abbrev pub WasAsked : Running → Which → ℕ → Request → Type 0
 WasAsked running side number request =
-    ((reply : Reply) × Contains running.taken (record { side = side; number = number; request = request; reply = reply }))
-    ⊎ ((resent : ℕ) × Contains (outstanding running side) (record { number = number; request = request; resent = resent }))
+    ((reply : Reply) × Contains running.taken (record {
+      side = side;
+      number = number;
+      request = request;
+      reply = reply;
+    }))
+    ⊎ ((resent : ℕ) × Contains (outstanding running side)
+    (record { number = number; request = request; resent = resent }))
 
 -- resends aside, nothing is asked twice of a side
 abbrev pub AsksOnce : Running → Type 0
@@ -127,14 +145,17 @@ AsksOnce running = (side : Which) (m n : ℕ) (a b : Request) →
     WasAsked running side m a → WasAsked running side n b → IsRepeat a b → m ≡ n
 
 abbrev pub BothBegun : List Exchange → Type 0
-BothBegun taken = (side : Which) → (pair : ℕ) × (position : ℕ) × WasTaken taken side (Begin pair) (Begun position)
+BothBegun taken = (side : Which) → (pair : ℕ) × (position : ℕ) × WasTaken taken side (Begin pair)
+    (Begun position)
 
 -- the path is the root, or a listing that was taken shows a directory there
 abbrev pub IsShown : List Exchange → Which → Path → Type 0
 IsShown taken side path =
     (path ≡ root)
-    ⊎ ((above : Path) × (name : Name) × (position : ℕ) × (entries : List (Name × Content)) × (path ≡ child above name)
-    × WasTaken taken side (ListAt above) (Listed position entries) × Contains entries (name, Directory))
+    ⊎ ((above : Path) × (name : Name) × (position : ℕ) × (entries : List (Name × Content))
+    × (path ≡ child above name)
+    × WasTaken taken side (ListAt above) (Listed position entries)
+    × Contains entries (name, Directory))
 
 -- a path was answered as no directory
 abbrev pub is_not_dir : Reply → Bool
@@ -158,27 +179,33 @@ entries_in _ = 0
 -- the nodes that the listings of a side show: the root, and each entry
 abbrev pub nodes_shown : List Exchange → Which → ℕ
 nodes_shown taken side =
-    1 + sum_by (λ exchange. if is_side side exchange.side then entries_in exchange.reply else 0) taken
+    1 + sum_by (λ exchange. if is_side side exchange.side then entries_in exchange.reply
+    else 0) taken
 
 -- the length of the whole that an answer gave first for a path
 abbrev pub piece_total : Path → Request → Reply → Option ℕ
-piece_total path (Fetch at since offset) (Piece total bytes) = if eq_by_cmp path_cmp at path then Some total else None
+piece_total path (Fetch at since offset) (Piece total bytes) = if eq_by_cmp path_cmp at path
+    then Some total else None
 piece_total path _ _ = None
 
 abbrev pub first_total : List Exchange → Path → Option ℕ
-first_total taken path = slice_get (filter_map (λ exchange. piece_total path exchange.request exchange.reply) taken) 0
+first_total taken path =
+    slice_get (filter_map (λ exchange. piece_total path exchange.request exchange.reply) taken) 0
 
 -- the most bytes of a piece
 abbrev pub most_piece : ℕ
 most_piece = 32768
 
--- a piece has the length that the item's first piece gave for the whole, and all the bytes that it can
+-- a piece has the length that the item's first piece gave for the whole, and all the bytes that it
+-- can
 abbrev pub fits_piece : Option ℕ → ℕ → ℕ → ℕ → Bool
 fits_piece first offset total count =
-    option_map_or (λ was. total == was) first true && nat_le offset total && count == min most_piece (total - offset)
+    option_map_or (λ was. total == was) first true && nat_le offset total
+    && count == min most_piece (total - offset)
 
--- The refusal with which an answer ends the session at once, if it does: a begin or a listing is refused, a scan grows
--- too large, or the answer does not belong. A refusal of another request refuses its item and ends nothing
+-- The refusal with which an answer ends the session at once, if it does: a begin or a listing is
+-- refused, a scan grows too large, or the answer does not belong. A refusal of another request
+-- refuses its item and ends nothing
 abbrev pub fault_of : List Exchange → Which → Request → Reply → Option Refusal
 fault_of taken from (Begin pair) (Refused why) = Some why
 fault_of taken from (Begin pair) (Begun position) = None
@@ -189,7 +216,8 @@ fault_of taken from (ListAt path) (Listed position entries) =
     ∷ (not (list_all (λ entry. fits_path (child path entry.0)) entries), BadMessage) ∷ [])
 fault_of taken from (Fetch path since offset) (Refused why) = None
 fault_of taken from (Fetch path since offset) (Piece total bytes) =
-    first_cause ((not (fits_piece (first_total taken path) offset total (length bytes)), BadMessage) ∷ [])
+    first_cause ((not (fits_piece (first_total taken path) offset total (length bytes)), BadMessage)
+    ∷ [])
 fault_of taken from (Stage item offset bytes) (Refused why) = None
 fault_of taken from (Stage item offset bytes) Staged = None
 fault_of taken from (Replace item path since size) (Refused why) = None
@@ -201,7 +229,8 @@ fault_of taken from request reply = Some BadMessage
 abbrev pub plan_of : Running → List Planned
 plan_of running = option_map_or (λ plan. plan) running.plan []
 
--- the plan is that of the scans that the transcript gives and of the archive; no session prefers a side yet
+-- the plan is that of the scans that the transcript gives and of the archive; no session prefers a
+-- side yet
 pub record MakesPlan (running : Running) (archive : Archive) (made : SessionPlan) : Type 0 where
   pub of_session : made.session ≡ running.session
   pub prefers_none : made.preference ≡ None
@@ -209,12 +238,15 @@ pub record MakesPlan (running : Running) (archive : Archive) (made : SessionPlan
   pub begun : BothBegun running.taken
   pub scanned : (side : Which) → IsScanBy
       (λ path position entries. WasTaken running.taken side (ListAt path) (Listed position entries))
-      (λ path position. WasTaken running.taken side (ListAt path) (NotDir position)) (made.scan side) (made.since side)
-  pub items : map (λ planned. planned.item) made.plan ≡ items_of (made.scan Left) (made.scan Right) made.archive
+      (λ path position. WasTaken running.taken side (ListAt path) (NotDir position))
+      (made.scan side) (made.since side)
+  pub items : map (λ planned. planned.item) made.plan ≡ items_of (made.scan Left)
+      (made.scan Right) made.archive
   pub seen : All (SeesBoth made.scan made.since) made.plan
 
 -- the plan stays, or it is made, once in a session
-pub data HasPlan (archive : Archive) (running : Running) : Option (List Planned) → Log → Type 0 where
+pub data HasPlan (archive : Archive) (running : Running) : Option (List Planned) → Log →
+    Type 0 where
   stays : HasPlan archive running running.plan []
   makes : (made : SessionPlan) → running.plan ≡ None → MakesPlan running archive made →
       HasPlan archive running (Some made.plan) (made ∷ [])
@@ -231,33 +263,47 @@ record_for planned (Conflict path) = None
 
 -- the item that the session has come to
 abbrev pub AtCursor : Running → (Planned → Type 0) → Type 0
-AtCursor running P = (planned : Planned) × (slice_get (plan_of running) running.cursor ≡ Some planned) × P planned
+AtCursor running P = (planned : Planned)
+    × (slice_get (plan_of running) running.cursor ≡ Some planned) × P planned
 
 -- so many bytes of the item are staged on the side
 abbrev pub IsStagedTo : Running → Which → ℕ → Type 0
 IsStagedTo running to count = (count ≡ 0) ⊎ ((before : ℕ) × (bytes : List ℕ)
-    × WasTaken running.taken to (Stage running.cursor before bytes) Staged × (count ≡ before + length bytes))
+    × WasTaken running.taken to (Stage running.cursor before bytes) Staged
+    × (count ≡ before + length bytes))
 
--- what a running session may ask of a side next: a listing, before it has its plan, of a path that is shown as a directory;
--- then the next piece of what the item is to carry, once its record fits the archive; a piece that was taken; and its
--- replacement, once the whole is staged
+-- more is to be fetched from the offset on, as far as the length of the whole is known
+abbrev pub is_wanted : ℕ → Option ℕ → Bool
+is_wanted offset total = option_map_or (λ total. nat_lt offset total) total (offset == 0)
+
+-- what a running session may ask of a side next: a listing, before it has its plan, of a path that
+-- is shown as a directory; then the next piece of what the item is to carry, once its record fits
+-- the archive; a piece that was taken; and its replacement, once the whole is staged
 abbrev pub MayAsk : Archive → Running → Which → Request → Type 0
 MayAsk archive running to (Begin pair) = ⊥
-MayAsk archive running to (ListAt path) = (running.plan ≡ None) × BothBegun running.taken × IsShown running.taken to path
+MayAsk archive running to (ListAt path) = (running.plan ≡ None) × BothBegun running.taken
+    × IsShown running.taken to path
 MayAsk archive running to (Fetch path since offset) = AtCursor running (λ planned.
     WritesTo planned.item (other to) path × (since ≡ (seen_on planned to).since)
-    × (kept_refusal archive (Recorded path (seen_on planned to).marks) ≡ None) × IsStagedTo running (other to) offset
-    × (option_map_or (λ total. nat_lt offset total) (first_total running.taken path) (offset == 0) ≡ true))
-MayAsk archive running to (Stage item offset bytes) = (item ≡ running.cursor) × AtCursor running (λ planned.
+    × (kept_refusal archive (Recorded path (seen_on planned to).marks) ≡ None)
+    × IsStagedTo running (other to) offset
+    × (is_wanted offset (first_total running.taken path) ≡ true))
+MayAsk archive running to (Stage item offset bytes) = (item ≡ running.cursor)
+    × AtCursor running (λ planned.
     WritesTo planned.item to (path_of planned.item) × (total : ℕ)
-    × WasTaken running.taken (other to) (Fetch (path_of planned.item) (seen_on planned (other to)).since offset) (Piece total bytes))
-MayAsk archive running to (Replace item path since size) = (item ≡ running.cursor) × AtCursor running (λ planned.
-    WritesTo planned.item to path × (since ≡ (seen_on planned to).since) × (offset : ℕ) × (bytes : List ℕ)
-    × WasTaken running.taken (other to) (Fetch (path_of planned.item) (seen_on planned (other to)).since offset) (Piece size bytes)
+    × WasTaken running.taken (other to)
+    (Fetch (path_of planned.item) (seen_on planned (other to)).since offset) (Piece total bytes))
+MayAsk archive running to (Replace item path since size) = (item ≡ running.cursor)
+    × AtCursor running (λ planned.
+    WritesTo planned.item to path × (since ≡ (seen_on planned to).since) × (offset : ℕ)
+    × (bytes : List ℕ)
+    × WasTaken running.taken (other to)
+    (Fetch (path_of planned.item) (seen_on planned (other to)).since offset) (Piece size bytes)
     × IsStagedTo running to size)
 
 -- and each request is lawful, with a number that four bytes can spell
-pub record AsksNext (archive : Archive) (running : Running) (left right : List Request) : Type 0 where
+pub record AsksNext (archive : Archive) (running : Running)
+    (left right : List Request) : Type 0 where
   pub may_left : All (MayAsk archive running Left) left
   pub may_right : All (MayAsk archive running Right) right
   pub lawful : All (IsLawfulRequest running.session) (left ++ right)

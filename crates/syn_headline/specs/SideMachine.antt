@@ -6,8 +6,10 @@ use Rattle.syn_model.specs.Event.{Event}
 use Rattle.syn_model.specs.History.{History, event_causes, standing_of}
 use Rattle.syn_model.specs.Spelling.{event_spelling}
 use Rattle.syn_model.specs.Image.{image_spelling}
-use Rattle.syn_headline.specs.Machine.{Status, Up, Halted, Down, Journaled, Layout, has_room, Writes}
-use Rattle.syn_headline.specs.Side.{Request, Stage, Reply, Refused, Staging, Side, Served, Serves, answer, stage, token_of, room_causes}
+use Rattle.syn_headline.specs.Machine.{Status, Up, Halted, Down, Journaled, Layout, has_room}
+use Rattle.syn_headline.specs.Machine.{Writes}
+use Rattle.syn_headline.specs.Side.{Request, Stage, Reply, Refused, Staging, Side, Served, Serves}
+use Rattle.syn_headline.specs.Side.{answer, stage, token_of, room_causes}
 
 -- what a side stands for is its history; its staging is in memory alone
 pub record SideMachine : Type 0 where
@@ -35,7 +37,10 @@ staging_after Halted staging = staging
 
 -- a call on the journal left it so
 abbrev pub with_journal : SideMachine → Journaled History Event → SideMachine
-with_journal machine journal = record { journal = journal; staging = staging_after journal.status machine.staging }
+with_journal machine journal = record {
+  journal = journal;
+  staging = staging_after journal.status machine.staging;
+}
 
 -- the record of the event fits into the journal
 abbrev pub has_room_for : ℕ → SideMachine → Event → Bool
@@ -48,7 +53,8 @@ causes_of pair machine event =
 
 -- a halted side still stages, and refuses all else
 abbrev pub serve_halted : Side → ℕ → Request → Served
-serve_halted side session (Stage item offset bytes) = stage side side.staging (token_of session item) offset bytes
+serve_halted side session (Stage item offset bytes) =
+    stage side side.staging (token_of session item) offset bytes
 serve_halted side session _ = answer side (Refused why.Halted)
 
 -- it has no memory to stage what it should
@@ -57,14 +63,17 @@ CannotStage side (Stage item offset bytes) served = served ≡ answer side (Refu
 CannotStage side _ served = ⊥
 
 abbrev pub ServesHalted : Side → ℕ → Request → Served → Type 0
-ServesHalted side session request served = (served ≡ serve_halted side session request) ⊎ CannotStage side request served
+ServesHalted side session request served = (served ≡ serve_halted side session request)
+    ⊎ CannotStage side request served
 
 abbrev pub ServesAs : Status → ℕ → (Event → Bool) → Side → ℕ → Request → Served → Type 0
-ServesAs Up pair has_room side session request served = Serves pair has_room side session request served
+ServesAs Up pair has_room side session request served =
+    Serves pair has_room side session request served
 ServesAs Halted pair has_room side session request served = ServesHalted side session request served
 ServesAs Down pair has_room side session request served = ⊥
 
--- what a side says once an event is written: what it answers, or that its device failed, or nothing where it stopped
+-- what a side says once an event is written: what it answers, or that its device failed, or nothing
+-- where it stopped
 abbrev pub said : Status → Reply → Option Reply
 said Up reply = Some reply
 said Halted reply = Some (Refused Device)
@@ -75,11 +84,16 @@ said Down reply = None
 pub data SideTakes (pair : ℕ) (machine : SideMachine) (session : ℕ) (request : Request) :
     SideMachine → Option Reply → List Event → Type 0 where
   answers : (served : Served) →
-      ServesAs machine.journal.status pair (has_room_for pair machine) (side_now machine) session request served →
+      ServesAs machine.journal.status pair (has_room_for pair machine)
+      (side_now machine) session request served →
       served.side.history ≡ machine.journal.value →
-      SideTakes pair machine session request (record machine { staging = served.side.staging }) (Some served.reply) []
-  adds : (served : Served) (event : Event) (journal : Journaled History Event) (events : List Event) →
-      machine.journal.status ≡ Up → Serves pair (has_room_for pair machine) (side_now machine) session request served →
+      SideTakes pair machine session request (record machine { staging = served.side.staging })
+      (Some served.reply) []
+  adds : (served : Served) (event : Event) (journal : Journaled History Event)
+      (events : List Event) →
+      machine.journal.status ≡ Up → Serves pair (has_room_for pair machine)
+      (side_now machine) session request served →
       served.side.history ≡ machine.journal.value ++ event ∷ [] →
       Writes (side_layout pair) machine.journal event journal events →
-      SideTakes pair machine session request (with_journal machine journal) (said journal.status served.reply) events
+      SideTakes pair machine session request (with_journal machine journal)
+      (said journal.status served.reply) events

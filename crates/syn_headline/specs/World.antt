@@ -1,5 +1,6 @@
 -- Three machines and the network between them, and what a step may do.
-use Rattle.std.specs.Prelude.{ℕ, zero, suc, Bool, true, false, nat_le, if◌then◌else◌, ◌≤◌, ◌≡◌, ◌≢◌, ◌⊎◌}
+use Rattle.std.specs.Prelude.{ℕ, zero, suc, Bool, true, false, nat_le, if◌then◌else◌, ◌≤◌, ◌≡◌, ◌≢◌}
+use Rattle.std.specs.Prelude.{◌⊎◌}
 use Rattle.std.specs.Prelude.{List, [], ◌∷◌, ◌++◌, slice_get, map, length, Option, Some, None}
 use Rattle.syn_model.specs.Refusal.{Refusal, Device, Full, Memory, Cause, first_cause}
 use Rattle.syn_model.specs.Refusal as why
@@ -7,16 +8,20 @@ use Rattle.syn_model.specs.Limits.{greatest}
 use Rattle.syn_model.specs.Event.{Edit, Event, Edited, IsLawfulEvent}
 use Rattle.syn_model.specs.History.{IsAllowed}
 use Rattle.syn_model.specs.Archive.{Archive, Kept, CanKeep}
-use Rattle.syn_headline.specs.Machine.{Status, Halted, Down, Arms, unarmed, Meets, Up, Journaled, after_device}
+use Rattle.syn_headline.specs.Machine.{Status, Halted, Down, Arms, unarmed, Meets, Up, Journaled}
+use Rattle.syn_headline.specs.Machine.{after_device}
 use Rattle.syn_headline.specs.Machine.{Writes, Compacts, Opens}
 use Rattle.syn_headline.specs.Side.{Request, Reply}
-use Rattle.syn_headline.specs.SideMachine.{SideMachine, side_layout, with_journal, causes_of, SideTakes}
+use Rattle.syn_headline.specs.SideMachine.{SideMachine, side_layout, with_journal, causes_of}
+use Rattle.syn_headline.specs.SideMachine.{SideTakes}
 use Rattle.syn_headline.specs.Network.{Which, Left, Right, Message, Asks, Answers, Sent}
 use Rattle.syn_headline.specs.Acknowledged.{Ack, Happened, Kept_by}
 use Rattle.syn_headline.specs.Planning.{Log}
 use Rattle.syn_headline.specs.Report.{Report}
-use Rattle.syn_headline.specs.Coordinator.{CoordinatorMachine, archive_layout, with_archive, Call, no_call}
-use Rattle.syn_headline.specs.Coordinator.{CoordinatorTakes, CoordinatorStarts, CoordinatorTicks, start_causes}
+use Rattle.syn_headline.specs.Coordinator.{CoordinatorMachine, archive_layout, with_archive, Call}
+use Rattle.syn_headline.specs.Coordinator.{no_call}
+use Rattle.syn_headline.specs.Coordinator.{CoordinatorTakes, CoordinatorStarts, CoordinatorTicks}
+use Rattle.syn_headline.specs.Coordinator.{start_causes}
 
 pub data Machine : Type 0 where
   At : (side : Which) → Machine
@@ -33,8 +38,9 @@ pub data Step : Type 0 where
   Open : (machine : Machine) → Step
   Reopen : (machine : Machine) → Step
 
--- `refusals` has what a user's edit, a start, a checkpoint or an opening was refused with, in order of time; each report
--- stands with the number of acknowledgements up to it; and `log` has each session's plan
+-- `refusals` has what a user's edit, a start, a checkpoint or an opening was refused with, in order
+-- of time; each report stands with the number of acknowledgements up to it; and `log` has each
+-- session's plan
 pub record World : Type 0 where
   pub pair : ℕ
   pub left : SideMachine
@@ -93,10 +99,12 @@ coordinator_goes old machine call =
 
 -- the call of a machine left its journal and acknowledged this
 abbrev pub side_writes : World → Which → Journaled (List Event) Event → List Event → World
-side_writes old side journal events = side_goes old side (with_journal (side_of old side) journal) [] events
+side_writes old side journal events =
+    side_goes old side (with_journal (side_of old side) journal) [] events
 
 abbrev pub archive_writes : World → Journaled Archive Kept → List Kept → World
-archive_writes old journal kept = coordinator_goes old (with_archive old.coordinator journal) (record no_call { kept = kept })
+archive_writes old journal kept = coordinator_goes old (with_archive old.coordinator journal)
+    (record no_call { kept = kept })
 
 -- How calls are refused
 
@@ -106,7 +114,8 @@ refuses_with world reason = record world { refusals = world.refusals ++ reason �
 -- the first of the causes refuses it, or want of memory where none stands
 abbrev pub IsRefused : World → List Cause → World → Type 0
 IsRefused old causes new =
-    (reason : Refusal) × (first_cause (causes ++ (true, Memory) ∷ []) ≡ Some reason) × (new ≡ refuses_with old reason)
+    (reason : Refusal) × (first_cause (causes ++ (true, Memory) ∷ []) ≡ Some reason)
+    × (new ≡ refuses_with old reason)
 
 abbrev pub is_halted : Status → Bool
 is_halted Halted = true
@@ -114,7 +123,8 @@ is_halted _ = false
 
 -- a call that leaves the machine halted is refused so
 abbrev pub answered_by : Machine → World → World
-answered_by machine world = if is_halted (status_of world machine) then refuses_with world Device else world
+answered_by machine world = if is_halted (status_of world machine) then refuses_with world Device
+    else world
 
 -- on a machine that is down nothing is done
 abbrev pub UnlessDown : World → Machine → Type 0 → World → Type 0
@@ -126,7 +136,9 @@ abbrev pub Calls : World → Machine → List Cause → (World → Type 0) → W
 Calls old machine causes Made new =
     let all = (is_halted (status_of old machine), why.Halted) ∷ causes in
     UnlessDown old machine
-    (IsRefused old all new ⊎ ((first_cause all ≡ None) × (made : World) × Made made × (new ≡ answered_by machine made))) new
+    (IsRefused old all new
+    ⊎ ((first_cause all ≡ None) × (made : World) × Made made
+    × (new ≡ answered_by machine made))) new
 
 -- The steps
 
@@ -137,7 +149,8 @@ pub data EditsSide (old : World) (side : Which) (event : Event) : World → Type
       EditsSide old side event (side_writes old side journal events)
 
 pub data Starts (old : World) : World → Type 0 where
-  starts : (machine : CoordinatorMachine) (call : Call) → CoordinatorStarts old.pair old.coordinator machine call →
+  starts : (machine : CoordinatorMachine) (call : Call) →
+      CoordinatorStarts old.pair old.coordinator machine call →
       Starts old (coordinator_goes old machine call)
 
 pub data CompactsMachine (old : World) : Machine → World → Type 0 where
@@ -151,18 +164,22 @@ pub data CompactsMachine (old : World) : Machine → World → Type 0 where
 -- a message is delivered; a machine that is down takes none
 pub data Delivers (old : World) : Option Message → World → Type 0 where
   no_message : Delivers old None old
-  to_no_side : (side : Which) (session number : ℕ) (request : Request) → (side_of old side).journal.status ≡ Down →
+  to_no_side : (side : Which) (session number : ℕ) (request : Request) →
+      (side_of old side).journal.status ≡ Down →
       Delivers old (Some (Asks side session number request)) old
   to_side : (side : Which) (session number : ℕ) (request : Request)
       (machine : SideMachine) (reply : Option Reply) (events : List Event) →
       SideTakes old.pair (side_of old side) session request machine reply events →
-      Delivers old (Some (Asks side session number request)) (side_goes old side machine (says side session number reply) events)
-  to_coordinator : (side : Which) (session number : ℕ) (reply : Reply) (machine : CoordinatorMachine) (call : Call) →
+      Delivers old (Some (Asks side session number request))
+      (side_goes old side machine (says side session number reply) events)
+  to_coordinator : (side : Which) (session number : ℕ) (reply : Reply)
+      (machine : CoordinatorMachine) (call : Call) →
       CoordinatorTakes old.pair old.coordinator side session number reply machine call →
       Delivers old (Some (Answers side session number reply)) (coordinator_goes old machine call)
 
 pub data Ticks (old : World) : World → Type 0 where
-  ticks : (machine : CoordinatorMachine) (call : Call) → CoordinatorTicks old.coordinator machine call →
+  ticks : (machine : CoordinatorMachine) (call : Call) →
+      CoordinatorTicks old.coordinator machine call →
       Ticks old (coordinator_goes old machine call)
 
 -- an opening by so many device calls gives this
@@ -177,12 +194,18 @@ pub data OpensMachine (old : World) (calls : ℕ) : Machine → World → Type 0
 -- the device of the machine is left so, and so many of its calls failed
 abbrev pub set_device : World → Machine → Status → Arms → ℕ → World
 set_device old (At side) status arms failed =
-    set_side old side (with_journal (side_of old side) (after_device (side_of old side).journal status arms failed))
+    set_side old side (with_journal (side_of old side)
+    (after_device (side_of old side).journal status arms failed))
 set_device old Coordinator status arms failed =
-    record old { coordinator = with_archive old.coordinator (after_device old.coordinator.journal status arms failed) }
+    record old {
+      coordinator =
+          with_archive old.coordinator (after_device old.coordinator.journal status arms failed);
+    }
 
--- device calls of an opening that gave nothing: one fails, or is followed by a stop, or all are made and memory is refused
-pub data FailsDevice (old : World) (machine : Machine) (calls : ℕ) (status left : Status) : World → Type 0 where
+-- device calls of an opening that gave nothing: one fails, or is followed by a stop, or all are
+-- made and memory is refused
+pub data FailsDevice (old : World) (machine : Machine) (calls : ℕ) (status left : Status) : World →
+    Type 0 where
   fails_device : (arms : Arms) (failed : ℕ) → Meets (arms_of old machine) calls status arms failed →
       FailsDevice old machine calls status left (set_device old machine left arms failed)
 
@@ -193,15 +216,21 @@ armed old machine arms = set_device old machine (status_of old machine) arms 0
 -- a machine that is down is opened, and stays down where that fails
 pub data OpensDown (old : World) (machine : Machine) : World → Type 0 where
   opens : (calls : ℕ) (new : World) → OpensMachine old calls machine new → OpensDown old machine new
-  open_fails : (calls : ℕ) (made : World) → FailsDevice old machine calls Halted Down made → OpensDown old machine (refuses_with made Device)
+  open_fails : (calls : ℕ) (made : World) → FailsDevice old machine calls Halted Down made →
+      OpensDown old machine (refuses_with made Device)
   no_memory_to_open : OpensDown old machine (refuses_with old Memory)
 
--- a machine that is not down opens its disk again by at least one device call; one that fails halts it
+-- a machine that is not down opens its disk again by at least one device call; one that fails halts
+-- it
 pub data Reopens (old : World) (machine : Machine) : World → Type 0 where
-  reopens : (calls : ℕ) (new : World) → 1 ≤ calls → OpensMachine old calls machine new → Reopens old machine new
-  reopen_fails : (calls : ℕ) (made : World) → FailsDevice old machine calls Halted Halted made → Reopens old machine (refuses_with made Device)
-  reopen_is_cut : (calls : ℕ) (made : World) → FailsDevice old machine calls Down Down made → Reopens old machine made
-  no_memory_to_reopen : (calls : ℕ) (made : World) → FailsDevice old machine calls Up (status_of old machine) made →
+  reopens : (calls : ℕ) (new : World) → 1 ≤ calls → OpensMachine old calls machine new →
+      Reopens old machine new
+  reopen_fails : (calls : ℕ) (made : World) → FailsDevice old machine calls Halted Halted made →
+      Reopens old machine (refuses_with made Device)
+  reopen_is_cut : (calls : ℕ) (made : World) → FailsDevice old machine calls Down Down made →
+      Reopens old machine made
+  no_memory_to_reopen : (calls : ℕ) (made : World) →
+      FailsDevice old machine calls Up (status_of old machine) made →
       Reopens old machine (refuses_with made Memory)
 
 abbrev pub full_generation : ℕ → List Cause
@@ -214,19 +243,25 @@ generation_of world Coordinator = world.coordinator.journal.generation
 -- One step
 abbrev pub Steps : World → Step → World → Type 0
 Steps old (Edits side user edit) new =
-    Calls old (At side) (causes_of old.pair (side_of old side) (Edited user edit)) (EditsSide old side (Edited user edit)) new
+    Calls old (At side) (causes_of old.pair (side_of old side) (Edited user edit))
+    (EditsSide old side (Edited user edit)) new
 Steps old Start new = Calls old Coordinator (start_causes old.pair old.coordinator) (Starts old) new
 Steps old (Deliver message) new = Delivers old (slice_get old.sent message) new
 Steps old Tick new = Ticks old new
 Steps old (Checkpoint machine) new =
-    Calls old machine (full_generation (generation_of old machine)) (CompactsMachine old machine) new
+    Calls old machine (full_generation (generation_of old machine))
+    (CompactsMachine old machine) new
 Steps old (Fail machine call) new =
-    UnlessDown old machine (new ≡ armed old machine (record (arms_of old machine) { fail = call })) new
-Steps old (Stop machine zero) new = UnlessDown old machine (new ≡ set_device old machine Down unarmed 0) new
+    UnlessDown old machine
+    (new ≡ armed old machine (record (arms_of old machine) { fail = call })) new
+Steps old (Stop machine zero) new =
+    UnlessDown old machine (new ≡ set_device old machine Down unarmed 0) new
 Steps old (Stop machine (suc calls)) new =
-    UnlessDown old machine (new ≡ armed old machine (record (arms_of old machine) { stop = suc calls })) new
+    UnlessDown old machine
+    (new ≡ armed old machine (record (arms_of old machine) { stop = suc calls })) new
 Steps old (Open machine) new =
-    ((status_of old machine ≢ Down) × (new ≡ old)) ⊎ ((status_of old machine ≡ Down) × OpensDown old machine new)
+    ((status_of old machine ≢ Down) × (new ≡ old))
+    ⊎ ((status_of old machine ≡ Down) × OpensDown old machine new)
 Steps old (Reopen machine) new = UnlessDown old machine (Reopens old machine new) new
 
 -- a list of steps, one after another

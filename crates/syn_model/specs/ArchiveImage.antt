@@ -1,4 +1,5 @@
--- What an archive's disk means: the image of an archive, and payloads that are records kept in turn.
+-- What an archive's disk means: the image of an archive, and payloads that are records kept in
+-- turn.
 use Rattle.std.specs.Prelude.{ℕ, ◌≡◌, ◌≤◌, true, List, [], ◌∷◌, ◌++◌, length, map}
 use Rattle.syn_model.specs.Path.{Bytes}
 use Rattle.syn_model.specs.Tree.{IsTree}
@@ -59,6 +60,7 @@ ArchiveImagesFit = (pair : ℕ) (archive : Archive) → IsArchive archive →
 
 -- and with the payload of a record that can be kept it stands for the archive with that record
 abbrev pub RecordGoesOn : Type 0
-RecordGoesOn = (pair : ℕ) (image : Bytes) (payloads : List Bytes) (archive : Archive) (kept : Kept) →
+RecordGoesOn = (pair : ℕ) (image : Bytes) (payloads : List Bytes) (archive : Archive)
+    (kept : Kept) →
     ArchiveStandsFor pair image payloads archive → CanKeep archive kept →
     ArchiveStandsFor pair image (payloads ++ kept_spelling kept ∷ []) (after_kept archive kept)

@@ -12,7 +12,8 @@ pub data Item : Type 0 where
   MarkDir : (path : Path) → Item
   Conflict : (path : Path) → Item
 
--- what is done at a relevant path: nothing there or below, an item, or one and the names of the directory
+-- what is done at a relevant path: nothing there or below, an item, or one and the names of the
+-- directory
 pub data Decision : Type 0 where
   Clean : Decision
   Do : (item : Item) → Decision
@@ -25,7 +26,8 @@ decision left right archive path =
     else if is_directory_in_both left.marks right.marks path then
     (if is_unstable left path || is_unstable right path then Do (Conflict path)
     else if is_directory archive path then GoOn else DoAndGoOn (MarkDir path))
-    else if is_same_tree (subtree left.marks path) (subtree right.marks path) then Do (MarkSame path)
+    else if is_same_tree (subtree left.marks path) (subtree right.marks path)
+    then Do (MarkSame path)
     else if not (dirty right archive path) then Do (ToRight path)
     else if not (dirty left archive path) then Do (ToLeft path)
     else Do (Conflict path)
@@ -46,4 +48,5 @@ GoesOn GoOn = Unit {0}
 
 -- by what is decided at each path, it goes on at each above
 abbrev pub IsReached : (Path → Decision) → Path → Type 0
-IsReached decide path = (above : Path) (name : Name) (rest : Path) → path ≡ above ++ name ∷ rest → GoesOn (decide above)
+IsReached decide path = (above : Path) (name : Name) (rest : Path) → path ≡ above ++ name ∷ rest →
+    GoesOn (decide above)

@@ -1,5 +1,6 @@
 -- What a replica disk means: the image of a standing, and payloads that are events allowed in turn.
-use Rattle.std.specs.Prelude.{ℕ, ◌≡◌, ◌≤◌, ◌<◌, true, List, [], ◌∷◌, ◌++◌, map, fold, flat_map, length, Option, Some, None, IfSome, All, AllPairs}
+use Rattle.std.specs.Prelude.{ℕ, ◌≡◌, ◌≤◌, ◌<◌, true, List, [], ◌∷◌, ◌++◌, map, fold, flat_map}
+use Rattle.std.specs.Prelude.{length, Option, Some, None, IfSome, All, AllPairs}
 use Rattle.std.specs.Int.{to_be_bytes, w16, w64}
 use Rattle.syn_model.specs.Path.{Bytes, IsPath, path_spelling}
 use Rattle.syn_model.specs.Tree.{IsTree}
@@ -23,9 +24,11 @@ replica_front = 83 ∷ 89 ∷ 78 ∷ 82 ∷ 1 ∷ []
 abbrev pub image_spelling : ℕ → Standing → Bytes
 image_spelling pair standing =
     replica_front ++ (to_be_bytes w64 pair
-    ++ (to_be_bytes w64 standing.position ++ (to_be_bytes w64 standing.floor ++ (to_be_bytes w64 standing.session
+    ++ (to_be_bytes w64 standing.position
+    ++ (to_be_bytes w64 standing.floor ++ (to_be_bytes w64 standing.session
     ++ (last_token_spelling standing.token
-    ++ (to_be_bytes w16 (length standing.touches) ++ (flat_map touch_spelling standing.touches ++ spelling standing.tree)))))))
+    ++ (to_be_bytes w16 (length standing.touches)
+    ++ (flat_map touch_spelling standing.touches ++ spelling standing.tree)))))))
 
 -- what an image may hold
 pub record IsStanding (standing : Standing) : Type 0 where
@@ -34,13 +37,17 @@ pub record IsStanding (standing : Standing) : Type 0 where
   pub position : standing.position ≤ greatest
   pub floor : standing.floor ≤ standing.position
   pub session : standing.session ≤ greatest
-  pub token : IfSome standing.token (λ token. (1 ≤ token.session) × (token.session ≤ standing.session) × IsLawfulToken token)
+  pub token : IfSome standing.token (λ token. (1 ≤ token.session)
+      × (token.session ≤ standing.session) × IsLawfulToken token)
   pub count : length standing.touches ≤ most_touches
-  pub touches : All (λ touch. (standing.floor ≤ touch.position) × (touch.position < standing.position) × IsPath touch.path) standing.touches
+  pub touches : All (λ touch. (standing.floor ≤ touch.position)
+      × (touch.position < standing.position) × IsPath touch.path) standing.touches
   pub rising : AllPairs (λ earlier later. earlier.position < later.position) standing.touches
 
--- The image is that of a standing, the payloads are events that are allowed in turn after it, and this is the standing after them.
-pub record Gives (pair : ℕ) (image : Bytes) (payloads : List Bytes) (standing : Standing) : Type 0 where
+-- The image is that of a standing, the payloads are events that are allowed in turn after it, and
+-- this is the standing after them.
+pub record Gives (pair : ℕ) (image : Bytes) (payloads : List Bytes)
+    (standing : Standing) : Type 0 where
   pub first : Standing
   pub events : List Event
   pub sound : IsStanding first
@@ -50,6 +57,7 @@ pub record Gives (pair : ℕ) (image : Bytes) (payloads : List Bytes) (standing 
   pub last : standing ≡ fold standing_after first events
 
 -- an image and payloads stand for a history
-pub record StandsFor (pair : ℕ) (image : Bytes) (payloads : List Bytes) (history : History) : Type 0 where
+pub record StandsFor (pair : ℕ) (image : Bytes) (payloads : List Bytes)
+    (history : History) : Type 0 where
   pub lawful : IsHistory history
   pub gives : Gives pair image payloads (standing_of history)

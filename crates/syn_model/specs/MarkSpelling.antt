@@ -8,11 +8,13 @@ use Rattle.syn_model.specs.Mark.{IsMarks}
 use Rattle.syn_model.specs.Spelling.{content_spelling}
 use Rattle.syn_model.specs.Archive.{Archive, Kept, Session, Recorded, RecordedDir}
 
--- of marks whose paths have fewer names than the depth: a file is its digest, with no length, and all else is as in trees
+-- of marks whose paths have fewer names than the depth: a file is its digest, with no length, and
+-- all else is as in trees
 unfoldable pub mark_spelling_within : ℕ → Tree → Option Content → Bytes
 mark_spelling_within zero marks content = []
 mark_spelling_within (suc depth) marks (Some (File digest)) = 1 ∷ digest.bytes
-mark_spelling_within (suc depth) marks content = content_spelling (λ part. mark_spelling_within depth part (get part root)) marks content
+mark_spelling_within (suc depth) marks content =
+    content_spelling (λ part. mark_spelling_within depth part (get part root)) marks content
 
 abbrev pub mark_spelling : Tree → Bytes
 mark_spelling marks = mark_spelling_within (suc (len marks)) marks (get marks root)
@@ -30,15 +32,18 @@ kept_spelling (RecordedDir path) = 3 ∷ path_spelling path
 
 -- "SYNA" and the version, the pair, the last session and the marks
 abbrev pub archive_spelling : ℕ → Archive → Bytes
-archive_spelling pair archive = 83 ∷ 89 ∷ 78 ∷ 65 ∷ 1 ∷ to_be_bytes w64 pair ++ (to_be_bytes w64 archive.last_session ++ mark_spelling archive.marks)
+archive_spelling pair archive = 83 ∷ 89 ∷ 78 ∷ 65 ∷ 1 ∷ to_be_bytes w64 pair
+    ++ (to_be_bytes w64 archive.last_session ++ mark_spelling archive.marks)
 
 -- What follows
 
 -- the spelling of marks is made of what stands at their root and the spellings of the marks below
 abbrev pub MarkSpellingUnfolds : Type 0
-MarkSpellingUnfolds = (marks : Tree) → mark_spelling marks ≡ mark_content_spelling mark_spelling marks (get marks root)
+MarkSpellingUnfolds = (marks : Tree) →
+    mark_spelling marks ≡ mark_content_spelling mark_spelling marks (get marks root)
 
 -- no spelling of marks begins that of others, so that a spelling tells its marks
 abbrev pub NoMarkSpellingBeginsAnother : Type 0
-NoMarkSpellingBeginsAnother = (t u : Tree) (r s : Bytes) → IsMarks t → IsMarks u → len t ≤ 4096 → len u ≤ 4096 →
+NoMarkSpellingBeginsAnother = (t u : Tree) (r s : Bytes) → IsMarks t → IsMarks u → len t ≤ 4096 →
+    len u ≤ 4096 →
     mark_spelling t ++ r ≡ mark_spelling u ++ s → (t ≡ u) × (r ≡ s)

@@ -2,20 +2,26 @@
 use Rattle.std.specs.Ordering.{eq_by_cmp}
 use Rattle.std.specs.List.{list_any}
 use Rattle.std.specs.List.Sorted.{IsStrictlySortedBy}
-use Rattle.std.specs.Prelude.{ℕ, ◌≢◌, ◌↔◌, Bool, map, ◌||◌, zero, suc, ◌≡◌, ◌⊎◌, ◌≤◌, true, false, if◌then◌else◌, List, [], ◌∷◌, ◌++◌, length, fold, flat_map, All, AllPairs, Contains, None}
+use Rattle.std.specs.Prelude.{ℕ, ◌≢◌, ◌↔◌, Bool, map, ◌||◌, zero, suc, ◌≡◌, ◌⊎◌, ◌≤◌, true, false}
+use Rattle.std.specs.Prelude.{if◌then◌else◌, List, [], ◌∷◌, ◌++◌, length, fold, flat_map, All}
+use Rattle.std.specs.Prelude.{AllPairs, Contains, None}
 use Rattle.std.specs.FinMap.{get, keys, from_entries}
 use Rattle.syn_model.specs.Path.{Path, Name, name_cmp, root, child, is_prefix, comparable}
-use Rattle.syn_model.specs.Tree.{Tree, Content, HasParents, subtree, replace, is_directory, empty_directory}
+use Rattle.syn_model.specs.Tree.{Tree, Content, HasParents, subtree, replace, is_directory}
+use Rattle.syn_model.specs.Tree.{empty_directory}
 use Rattle.syn_model.specs.Limits.{children}
 use Rattle.syn_model.specs.Mark.{mark, AreApart}
 use Rattle.syn_model.specs.Dirty.{Scan, dirty}
-use Rattle.syn_model.specs.Reconcile.{IsSynchronization, IsReconciledArchive, is_relevant, is_directory_in_both, is_alike}
-use Rattle.syn_model.specs.Decision.{Item, ToLeft, ToRight, MarkSame, MarkDir, Conflict, Decision, Clean, Do, DoAndGoOn, GoOn, decision, path_of, IsReached}
+use Rattle.syn_model.specs.Reconcile.{IsSynchronization, IsReconciledArchive, is_relevant}
+use Rattle.syn_model.specs.Reconcile.{is_directory_in_both, is_alike}
+use Rattle.syn_model.specs.Decision.{Item, ToLeft, ToRight, MarkSame, MarkDir, Conflict, Decision}
+use Rattle.syn_model.specs.Decision.{Clean, Do, DoAndGoOn, GoOn, decision, path_of, IsReached}
 
 -- the names below a path on the left, on the right or in the archive, in byte order
 abbrev pub names_below : Scan → Scan → Tree → Path → List Name
 names_below left right archive path =
-    keys (from_entries {X = Content} {R = name_cmp} (children left.marks path ++ (children right.marks path ++ children archive path)))
+    keys (from_entries {X = Content} {R = name_cmp}
+    (children left.marks path ++ (children right.marks path ++ children archive path)))
 
 -- what is decided at a path, before the items below it
 abbrev pub with_items_below : Decision → List Item → List Item
@@ -24,23 +30,28 @@ with_items_below (Do item) below = item ∷ []
 with_items_below (DoAndGoOn item) below = item ∷ below
 with_items_below GoOn below = below
 
--- the items at and below a path, down so many levels, by what is decided at each path and which names are below each
+-- the items at and below a path, down so many levels, by what is decided at each path and which
+-- names are below each
 abbrev pub items_from : (Path → Decision) → (Path → List Name) → ℕ → Path → List Item
 items_from decide names zero path = []
 items_from decide names (suc levels) path =
-    with_items_below (decide path) (flat_map (λ name. items_from decide names levels (child path name)) (names path))
+    with_items_below (decide path)
+    (flat_map (λ name. items_from decide names levels (child path name)) (names path))
 
 -- a path has 16 names at most
 abbrev pub most_names : ℕ
 most_names = 16
 
 abbrev pub plan : Scan → Scan → Tree → List Item
-plan left right archive = items_from (decision left right archive) (names_below left right archive) (suc most_names) root
+plan left right archive = items_from (decision left right archive) (names_below left right archive)
+    (suc most_names) root
 
--- an item that is carried out later is neither at nor above the path of an earlier one, and below it only where that marks a directory
+-- an item that is carried out later is neither at nor above the path of an earlier one, and below
+-- it only where that marks a directory
 pub record StandsBefore (earlier later : Item) : Type 0 where
   pub not_above : is_prefix (path_of later) (path_of earlier) ≡ false
-  pub below_directory : is_prefix (path_of earlier) (path_of later) ≡ true → earlier ≡ MarkDir (path_of earlier)
+  pub below_directory : is_prefix (path_of earlier) (path_of later) ≡ true →
+      earlier ≡ MarkDir (path_of earlier)
 
 -- each item is reached from the root and decided at its path
 pub record IsDecided (decide : Path → Decision) (item : Item) : Type 0 where
@@ -54,15 +65,23 @@ pub record Trees : Type 0 where
   pub archive : Tree
 
 abbrev pub with_directory : Tree → Path → Tree
-with_directory archive path = if is_directory archive path then archive else replace archive path empty_directory
+with_directory archive path = if is_directory archive path then archive
+    else replace archive path empty_directory
 
 -- what an item changes: a side and the archive, or the archive alone, or nothing
 abbrev pub after_item : Trees → Item → Trees
 after_item trees (ToLeft path) =
-    record trees { left = replace trees.left path (subtree trees.right path); archive = replace trees.archive path (mark (subtree trees.right path)) }
+    record trees {
+      left = replace trees.left path (subtree trees.right path);
+      archive = replace trees.archive path (mark (subtree trees.right path));
+    }
 after_item trees (ToRight path) =
-    record trees { right = replace trees.right path (subtree trees.left path); archive = replace trees.archive path (mark (subtree trees.left path)) }
-after_item trees (MarkSame path) = record trees { archive = replace trees.archive path (mark (subtree trees.left path)) }
+    record trees {
+      right = replace trees.right path (subtree trees.left path);
+      archive = replace trees.archive path (mark (subtree trees.left path));
+    }
+after_item trees (MarkSame path) =
+    record trees { archive = replace trees.archive path (mark (subtree trees.left path)) }
 after_item trees (MarkDir path) = record trees { archive = with_directory trees.archive path }
 after_item trees (Conflict path) = trees
 
@@ -71,15 +90,19 @@ carried_out trees items = fold after_item trees items
 
 -- an archive after an item may have its record, with some marks, or be as it was
 abbrev pub IsRecordedFor : Item → Tree → Tree → Type 0
-IsRecordedFor (ToLeft path) old new = (new ≡ old) ⊎ ((marks : Tree) × (new ≡ replace old path marks))
-IsRecordedFor (ToRight path) old new = (new ≡ old) ⊎ ((marks : Tree) × (new ≡ replace old path marks))
-IsRecordedFor (MarkSame path) old new = (new ≡ old) ⊎ ((marks : Tree) × (new ≡ replace old path marks))
+IsRecordedFor (ToLeft path) old new = (new ≡ old)
+    ⊎ ((marks : Tree) × (new ≡ replace old path marks))
+IsRecordedFor (ToRight path) old new = (new ≡ old)
+    ⊎ ((marks : Tree) × (new ≡ replace old path marks))
+IsRecordedFor (MarkSame path) old new = (new ≡ old)
+    ⊎ ((marks : Tree) × (new ≡ replace old path marks))
 IsRecordedFor (MarkDir path) old new = (new ≡ old) ⊎ (new ≡ with_directory old path)
 IsRecordedFor (Conflict path) old new = new ≡ old
 
 abbrev pub IsRecordedForEach : List Item → Tree → Tree → Type 0
 IsRecordedForEach [] old new = new ≡ old
-IsRecordedForEach (item ∷ items) old new = (next : Tree) × IsRecordedFor item old next × IsRecordedForEach items next new
+IsRecordedForEach (item ∷ items) old new = (next : Tree) × IsRecordedFor item old next
+    × IsRecordedForEach items next new
 
 -- a side is written only where it was clean
 abbrev pub OverwritesClean : Scan → Scan → Tree → Item → Type 0
@@ -105,25 +128,31 @@ pub record CanBePlanned (tree : Tree) : Type 0 where
 -- the sides are a synchronization of what was found, by what was dirty
 abbrev pub IsSynchronized : Trees → Trees → Type 0
 IsSynchronized found after =
-    IsSynchronization found.left found.right (dirty (scan_of found.left) found.archive) (dirty (scan_of found.right) found.archive) after.left after.right
+    IsSynchronization found.left found.right (dirty (scan_of found.left) found.archive)
+    (dirty (scan_of found.right) found.archive) after.left after.right
 
 -- and the archive is the archive of that
 abbrev pub IsReconciled : Trees → Trees → Type 0
 IsReconciled found after =
-    IsReconciledArchive found.left found.right (dirty (scan_of found.left) found.archive) (dirty (scan_of found.right) found.archive) after.left after.right found.archive after.archive
+    IsReconciledArchive found.left found.right (dirty (scan_of found.left) found.archive)
+    (dirty (scan_of found.right) found.archive) after.left after.right found.archive after.archive
 
 abbrev pub stands_among : Name → List (Name × Content) → Bool
 stands_among name entries = list_any (eq_by_cmp name_cmp name) (map (λ entry. entry.0) entries)
 
 -- a list in byte order with the names of the three is that of the names below a path
 abbrev pub NamesAreOnly : Type 0
-NamesAreOnly = (left right : Scan) (archive : Tree) (path : Path) (names : List Name) → IsStrictlySortedBy name_cmp names →
+NamesAreOnly = (left right : Scan) (archive : Tree) (path : Path) (names : List Name) →
+    IsStrictlySortedBy name_cmp names →
     ((name : Name) → list_any (eq_by_cmp name_cmp name) names ≡
-    (stands_among name (children left.marks path) || (stands_among name (children right.marks path) || stands_among name (children archive path)))) →
+    (stands_among name (children left.marks path)
+    || (stands_among name (children right.marks path)
+    || stands_among name (children archive path)))) →
     names ≡ names_below left right archive path
 
 abbrev pub PlanIsInOrder : Type 0
-PlanIsInOrder = (left right : Scan) (archive : Tree) → AllPairs StandsBefore (plan left right archive)
+PlanIsInOrder = (left right : Scan) (archive : Tree) →
+    AllPairs StandsBefore (plan left right archive)
 
 abbrev pub is_mark_dir : Item → Bool
 is_mark_dir (ToLeft path) = false
@@ -132,44 +161,59 @@ is_mark_dir (MarkSame path) = false
 is_mark_dir (MarkDir path) = true
 is_mark_dir (Conflict path) = false
 
--- that is, no path is named twice, items other than directories are not comparable, and none comes after one below it
+-- that is, no path is named twice, items other than directories are not comparable, and none comes
+-- after one below it
 pub record IsOrderly (items : List Item) : Type 0 where
   pub named_once : AllPairs (λ earlier later. path_of earlier ≢ path_of later) items
-  pub incomparable : AllPairs (λ earlier later. is_mark_dir earlier ≡ false → comparable (path_of earlier) (path_of later) ≡ false) items
-  pub above_first : AllPairs (λ earlier later. is_prefix (path_of later) (path_of earlier) ≡ false) items
+  pub incomparable : AllPairs (λ earlier later. is_mark_dir earlier ≡ false →
+      comparable (path_of earlier) (path_of later) ≡ false) items
+  pub above_first : AllPairs
+      (λ earlier later. is_prefix (path_of later) (path_of earlier) ≡ false) items
 
 abbrev pub PlanIsOrderly : Type 0
 PlanIsOrderly = (left right : Scan) (archive : Tree) → IsOrderly (plan left right archive)
 
 abbrev pub PlanIsDecided : Type 0
-PlanIsDecided = (left right : Scan) (archive : Tree) → All (IsDecided (decision left right archive)) (plan left right archive)
+PlanIsDecided = (left right : Scan) (archive : Tree) → All (IsDecided (decision left right archive))
+    (plan left right archive)
 
 abbrev pub PlanOverwritesClean : Type 0
-PlanOverwritesClean = (left right : Scan) (archive : Tree) → All (OverwritesClean left right archive) (plan left right archive)
+PlanOverwritesClean = (left right : Scan) (archive : Tree) →
+    All (OverwritesClean left right archive) (plan left right archive)
 
--- an item finds in the archive at its path what was there when it was planned, whatever was recorded for items before it
+-- an item finds in the archive at its path what was there when it was planned, whatever was
+-- recorded for items before it
 abbrev pub ItemFindsArchive : Type 0
-ItemFindsArchive = (left right : Scan) (archive : Tree) (before after : List Item) (item : Item) (now : Tree) → HasParents archive →
-    plan left right archive ≡ before ++ item ∷ after → IsRecordedForEach before archive now → subtree now (path_of item) ≡ subtree archive (path_of item)
+ItemFindsArchive = (left right : Scan) (archive : Tree) (before after : List Item) (item : Item)
+    (now : Tree) → HasParents archive →
+    plan left right archive ≡ before ++ item ∷ after → IsRecordedForEach before archive now →
+    subtree now (path_of item) ≡ subtree archive (path_of item)
 
 -- at a path and above it both sides have what they had
 pub record SidesStay (old new : Trees) (path : Path) : Type 0 where
   pub left : subtree new.left path ≡ subtree old.left path
   pub right : subtree new.right path ≡ subtree old.right path
-  pub left_above : (above rest : Path) → path ≡ above ++ rest → get new.left above ≡ get old.left above
-  pub right_above : (above rest : Path) → path ≡ above ++ rest → get new.right above ≡ get old.right above
+  pub left_above : (above rest : Path) → path ≡ above ++ rest →
+      get new.left above ≡ get old.left above
+  pub right_above : (above rest : Path) → path ≡ above ++ rest →
+      get new.right above ≡ get old.right above
 
 -- and what the sides had at its path and above it, which no item before it changes
 abbrev pub ItemFindsSides : Type 0
-ItemFindsSides = (left right : Scan) (archive : Tree) (before after : List Item) (item : Item) (trees : Trees) →
-    plan left right archive ≡ before ++ item ∷ after → SidesStay trees (carried_out trees before) (path_of item)
+ItemFindsSides = (left right : Scan) (archive : Tree) (before after : List Item) (item : Item)
+    (trees : Trees) →
+    plan left right archive ≡ before ++ item ∷ after → SidesStay trees (carried_out trees before)
+    (path_of item)
 
 -- what is reached and decided is in the plan
 abbrev pub PlanHasDecided : Type 0
-PlanHasDecided = (left right archive : Tree) → CanBePlanned left → CanBePlanned right → CanBePlanned archive →
-    (item : Item) → IsDecided (decision (scan_of left) (scan_of right) archive) item → Contains (plan (scan_of left) (scan_of right) archive) item
+PlanHasDecided = (left right archive : Tree) → CanBePlanned left → CanBePlanned right →
+    CanBePlanned archive →
+    (item : Item) → IsDecided (decision (scan_of left) (scan_of right) archive) item →
+    Contains (plan (scan_of left) (scan_of right) archive) item
 
--- a relevant path is in conflict: dirty on both sides, not a directory in both, and not equal by mark
+-- a relevant path is in conflict: dirty on both sides, not a directory in both, and not equal by
+-- mark
 pub record IsConflict (left right archive : Tree) (path : Path) : Type 0 where
   pub relevant : is_relevant left right path ≡ true
   pub left_dirty : dirty (scan_of left) archive path ≡ true
@@ -178,8 +222,10 @@ pub record IsConflict (left right archive : Tree) (path : Path) : Type 0 where
   pub unlike : is_alike left right path ≡ false
 
 abbrev pub ConflictsArePlanned : Type 0
-ConflictsArePlanned = (left right archive : Tree) → CanBePlanned left → CanBePlanned right → CanBePlanned archive → (path : Path) →
-    Contains (plan (scan_of left) (scan_of right) archive) (Conflict path) ↔ IsConflict left right archive path
+ConflictsArePlanned = (left right archive : Tree) → CanBePlanned left → CanBePlanned right →
+    CanBePlanned archive → (path : Path) →
+    Contains (plan (scan_of left) (scan_of right) archive) (Conflict path)
+    ↔ IsConflict left right archive path
 
 -- what the plan of the three leaves
 abbrev pub after_plan : Trees → Trees
@@ -187,9 +233,11 @@ after_plan found = carried_out found (plan (scan_of found.left) (scan_of found.r
 
 -- the sides are synchronized, if no two files that they have at one path differ with one digest
 abbrev pub PlanSynchronizes : Type 0
-PlanSynchronizes = (found : Trees) → CanBePlanned found.left → CanBePlanned found.right → CanBePlanned found.archive →
+PlanSynchronizes = (found : Trees) → CanBePlanned found.left → CanBePlanned found.right →
+    CanBePlanned found.archive →
     AreApart found.left found.right → IsSynchronized found (after_plan found)
 
 -- and the archive is that of it, without this premise, since it speaks of marks alone
 abbrev pub PlanReconciles : Type 0
-PlanReconciles = (found : Trees) → CanBePlanned found.left → CanBePlanned found.right → CanBePlanned found.archive → IsReconciled found (after_plan found)
+PlanReconciles = (found : Trees) → CanBePlanned found.left → CanBePlanned found.right →
+    CanBePlanned found.archive → IsReconciled found (after_plan found)

@@ -2,14 +2,16 @@
 use Rattle.std.specs.Prelude.{◌≡◌, ◌≢◌, true, false, [], ◌∷◌, replicate, Some, None}
 use Rattle.std.specs.FinMap.{get}
 use Rattle.syn_model.specs.Path.{Bytes, Name, root}
-use Rattle.syn_model.specs.Tree.{Tree, Contents, File, Directory, file, empty_directory, absent, replace}
+use Rattle.syn_model.specs.Tree.{Tree, Contents, File, Directory, file, empty_directory, absent}
+use Rattle.syn_model.specs.Tree.{replace}
 use Rattle.syn_model.specs.Refusal.{NoParent, IsDirectory, Exists, Absent, Root}
 use Rattle.syn_model.specs.Event.{Event, Edited, Began, Put, MakeDir, Remove}
 use Rattle.syn_model.specs.History.{floor, floor_within, is_quiet}
 use Rattle.syn_model.specs.Standing.{edit_refusal}
 use Rattle.syn_model.specs.Dirty.{Scan}
 use Rattle.syn_model.specs.Spelling.{spelling}
-use Rattle.syn_model.specs.Decision.{Decision, Clean, Do, DoAndGoOn, ToLeft, ToRight, MarkSame, MarkDir, Conflict, decision}
+use Rattle.syn_model.specs.Decision.{Decision, Clean, Do, DoAndGoOn, ToLeft, ToRight, MarkSame}
+use Rattle.syn_model.specs.Decision.{MarkDir, Conflict, decision}
 
 -- a scan that found these marks, with nothing unstable
 abbrev pub found : Tree → Scan
@@ -66,8 +68,10 @@ pub record RefusedEdits (tree : Tree) (bytes : Bytes) : Type 0 where
   pub root_itself : edit_refusal tree (Remove root) ≡ Some Root
 
 abbrev pub RefusedEditsHold : Type 0
-RefusedEditsHold = (tree : Tree) (bytes : Bytes) (has : Contents) → get tree root ≡ Some Directory → get tree (a_name ∷ []) ≡ Some (File has) →
-    get tree ((100 ∷ []) ∷ []) ≡ Some Directory → get tree ((122 ∷ []) ∷ []) ≡ None → RefusedEdits tree bytes
+RefusedEditsHold = (tree : Tree) (bytes : Bytes) (has : Contents) → get tree root ≡ Some Directory →
+    get tree (a_name ∷ []) ≡ Some (File has) →
+    get tree ((100 ∷ []) ∷ []) ≡ Some Directory → get tree ((122 ∷ []) ∷ []) ≡ None →
+    RefusedEdits tree bytes
 
 pub record Spellings : Type 0 where
   pub nothing : spelling absent ≡ 0 ∷ []

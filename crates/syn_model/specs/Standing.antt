@@ -1,18 +1,22 @@
 -- What of a replica's history its image keeps, and why an event is refused there.
-use Rattle.std.specs.Prelude.{ℕ, ◌+◌, ◌-◌, ◌≡◌, Bool, false, not, ◌||◌, ◌==◌, nat_le, List, [], ◌∷◌, ◌++◌, length, take, drop, fold, Option, Some, None}
+use Rattle.std.specs.Prelude.{ℕ, ◌+◌, ◌-◌, ◌≡◌, Bool, false, not, ◌||◌, ◌==◌, nat_le, List, [], ◌∷◌}
+use Rattle.std.specs.Prelude.{◌++◌, length, take, drop, fold, Option, Some, None}
 use Rattle.std.specs.Option.{option_map_or}
 use Rattle.syn_model.specs.Path.{Path, is_root, parent}
 use Rattle.syn_model.specs.Tree.{Tree, empty_directory, is_directory, is_present, replace}
-use Rattle.syn_model.specs.Refusal.{Refusal, NoParent, IsDirectory, Exists, Absent, Root, Full, OldSession, Cause, first_cause}
+use Rattle.syn_model.specs.Refusal.{Refusal, NoParent, IsDirectory, Exists, Absent, Root, Full}
+use Rattle.syn_model.specs.Refusal.{OldSession, Cause, first_cause}
 use Rattle.syn_model.specs.Limits.{greatest, fits_replica}
-use Rattle.syn_model.specs.Event.{Token, is_below, Edit, Put, MakeDir, Remove, Event, Edited, Began, Replaced, after_edit, after_event, changed_path, IsLawfulEvent}
+use Rattle.syn_model.specs.Event.{Token, is_below, Edit, Put, MakeDir, Remove, Event, Edited, Began}
+use Rattle.syn_model.specs.Event.{Replaced, after_edit, after_event, changed_path, IsLawfulEvent}
 
 -- an event other than the begin of a session: its position and the path that it changed
 pub record Touch : Type 0 where
   pub position : ℕ
   pub path : Path
 
--- the tree, the number of events, the last touches with the position from which on they are whole, and the fences of sessions
+-- the tree, the number of events, the last touches with the position from which on they are whole,
+-- and the fences of sessions
 pub record Standing : Type 0 where
   pub tree : Tree
   pub position : ℕ
@@ -22,7 +26,14 @@ pub record Standing : Type 0 where
   pub token : Option Token
 
 abbrev pub new_standing : Standing
-new_standing = record { tree = empty_directory; position = 0; floor = 0; touches = []; session = 0; token = None }
+new_standing = record {
+  tree = empty_directory;
+  position = 0;
+  floor = 0;
+  touches = [];
+  session = 0;
+  token = None;
+}
 
 -- so many touches are kept
 abbrev pub most_touches : ℕ
@@ -37,7 +48,8 @@ abbrev pub above_last : ℕ → List Touch → ℕ
 above_last floor touches = fold (λ above touch. touch.position + 1) floor touches
 
 abbrev pub touches_at : ℕ → Event → List Touch
-touches_at position event = option_map_or (λ path. record { position = position; path = path } ∷ []) (changed_path event) []
+touches_at position event = option_map_or (λ path. record { position = position; path = path } ∷ [])
+    (changed_path event) []
 
 abbrev pub session_after : ℕ → Event → ℕ
 session_after last (Edited user edit) = last
@@ -65,10 +77,12 @@ standing_after standing event =
 -- The causes to refuse an event, in their order
 
 abbrev pub place_causes : Tree → Path → List Cause
-place_causes tree path = (is_root path, Root) ∷ (not (is_directory tree (parent path)), NoParent) ∷ []
+place_causes tree path = (is_root path, Root) ∷ (not (is_directory tree (parent path)), NoParent)
+    ∷ []
 
 abbrev pub edit_causes : Tree → Edit → List Cause
-edit_causes tree (Put path bytes) = place_causes tree path ++ (is_directory tree path, IsDirectory) ∷ []
+edit_causes tree (Put path bytes) = place_causes tree path ++ (is_directory tree path, IsDirectory)
+    ∷ []
 edit_causes tree (MakeDir path) = place_causes tree path ++ (is_present tree path, Exists) ∷ []
 edit_causes tree (Remove path) = place_causes tree path ++ (not (is_present tree path), Absent) ∷ []
 
@@ -82,7 +96,8 @@ edit_refusal tree edit = first_cause (edit_causes tree edit ++ full_causes (afte
 -- the token is not of the session begun last, or not above the last token
 abbrev pub is_old : ℕ → Option Token → Token → Bool
 is_old session last token =
-    token.session == 0 || not (token.session == session) || option_map_or (λ last. not (is_below last token)) last false
+    token.session == 0 || not (token.session == session)
+    || option_map_or (λ last. not (is_below last token)) last false
 
 abbrev pub full_position : ℕ → List Cause
 full_position position = (nat_le greatest position, Full) ∷ []
@@ -90,11 +105,14 @@ full_position position = (nat_le greatest position, Full) ∷ []
 -- why an event is refused in a standing
 abbrev pub causes_at : Standing → Event → List Cause
 causes_at standing (Edited user edit) =
-    edit_causes standing.tree edit ++ (full_causes (after_edit standing.tree edit) ++ full_position standing.position)
-causes_at standing (Began session) = (nat_le session standing.session, OldSession) ∷ full_position standing.position
+    edit_causes standing.tree edit
+    ++ (full_causes (after_edit standing.tree edit) ++ full_position standing.position)
+causes_at standing (Began session) = (nat_le session standing.session, OldSession)
+    ∷ full_position standing.position
 causes_at standing (Replaced token path since new) =
     (is_old standing.session standing.token token, OldSession)
-    ∷ place_causes standing.tree path ++ (full_causes (replace standing.tree path new) ++ full_position standing.position)
+    ∷ place_causes standing.tree path
+    ++ (full_causes (replace standing.tree path new) ++ full_position standing.position)
 
 abbrev pub refusal_at : Standing → Event → Option Refusal
 refusal_at standing event = first_cause (causes_at standing event)
@@ -106,4 +124,5 @@ pub record IsAllowedAt (standing : Standing) (event : Event) : Type 0 where
 -- each of the events is allowed in turn
 abbrev pub AllAllowedAt : Standing → List Event → Type 0
 AllAllowedAt standing [] = Unit {0}
-AllAllowedAt standing (event ∷ events) = IsAllowedAt standing event × AllAllowedAt (standing_after standing event) events
+AllAllowedAt standing (event ∷ events) = IsAllowedAt standing event
+    × AllAllowedAt (standing_after standing event) events

@@ -9,8 +9,8 @@ use Rattle.syn_headline.specs.Machine.{Status, Up, Halted, Down, Arms, unarmed, 
 abbrev pub armed_at : DiskArms → Arms
 armed_at arms = record { fail = arms.failure; stop = option_map_or (λ calls. calls) arms.stop 0 }
 
--- So many device calls of a disk that was not stopped before them: its machine met this, or it went down among them,
--- which is where the disk is stopped now
+-- So many device calls of a disk that was not stopped before them: its machine met this, or it went
+-- down among them, which is where the disk is stopped now
 pub data CallsMeet (old new : DiskArms) (calls : ℕ) (status : Status) (failed : ℕ) : Type 0 where
   goes_on : is_stopped new ≡ false → Meets (armed_at old) calls status (armed_at new) failed →
       CallsMeet old new calls status failed
@@ -22,12 +22,14 @@ abbrev pub MadeCallsMeet : Type 0
 MadeCallsMeet = (calls : ℕ) (old new : DiskArms) → is_stopped old ≡ false → Makes calls old new →
     CallsMeet old new calls Up 0
 
--- a call that is refused 9: one device call of the machine failed, by itself or as it was armed, and halts it
+-- a call that is refused 9: one device call of the machine failed, by itself or as it was armed,
+-- and halts it
 abbrev pub BrokenCallsMeet : Type 0
 BrokenCallsMeet = (most : ℕ) (old new : DiskArms) → is_stopped old ≡ false → Breaks most old new →
     CallsMeet old new most Halted 1
 
 -- an opening that gives a value, or is refused otherwise, by as many device calls as it makes
 abbrev pub MadeReadsMeet : Type 0
-MadeReadsMeet = (least : ℕ) (old new : DiskArms) → is_stopped old ≡ false → MakesAtLeast least old new →
+MadeReadsMeet = (least : ℕ) (old new : DiskArms) → is_stopped old ≡ false →
+    MakesAtLeast least old new →
     (calls : ℕ) × (least ≤ calls) × CallsMeet old new calls Up 0

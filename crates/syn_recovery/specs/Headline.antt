@@ -24,7 +24,8 @@ disk_of disks Right = disks.right
 
 -- the disks are of one pair, and stand for two histories and their archive
 pub record DisksStand (pair : ℕ) (disks : Disks) (stores : Stores) : Type 0 where
-  pub side : (which : Which) → IsDiskOf (of_side pair) (disk_of disks which) (history_of stores which)
+  pub side : (which : Which) → IsDiskOf (of_side pair) (disk_of disks which)
+      (history_of stores which)
   pub archive : IsDiskOf (of_archive pair) disks.archive stores.archive
   pub is_pair : IsPair stores
 
@@ -32,7 +33,8 @@ pub record DisksStand (pair : ℕ) (disks : Disks) (stores : Stores) : Type 0 wh
 pub record IsOpenedFrom (pair : ℕ) (disks : Disks) (world : World) : Type 0 where
   pub pair_is : world.pair ≡ pair
   pub start : IsStart world
-  pub side : (which : Which) → IsOf (of_side pair) (side_of world which).journal (disk_of disks which)
+  pub side : (which : Which) → IsOf (of_side pair)
+      (side_of world which).journal (disk_of disks which)
   pub archive : IsOf (of_archive pair) world.coordinator.journal disks.archive
 
 -- three such disks are a start of a run
@@ -42,15 +44,17 @@ DisksAreStart = (pair : ℕ) (disks : Disks) (stores : Stores) → DisksStand pa
 
 -- After the run
 
--- Each of the disks may be of its machine. This is the one invariant that a world's code owes beside its steps:
--- at each moment it holds of whatever a stop may then leave on the three disks
+-- Each of the disks may be of its machine. This is the one invariant that a world's code owes
+-- beside its steps: at each moment it holds of whatever a stop may then leave on the three disks
 pub record MayBeLeft (disks : Disks) (world : World) : Type 0 where
-  pub side : (which : Which) → MayBeOf (of_side world.pair) (side_of world which).journal (disk_of disks which)
+  pub side : (which : Which) → MayBeOf (of_side world.pair)
+      (side_of world which).journal (disk_of disks which)
   pub archive : MayBeOf (of_archive world.pair) world.coordinator.journal disks.archive
 
--- What the disks then stand for: on each side the acknowledged events in order, with at most the one that was being
--- written; in the archive its records so; and all three are a pair again
-pub record IsRecovered (before : Stores) (world : World) (disks : Disks) (now : Stores) : Type 0 where
+-- What the disks then stand for: on each side the acknowledged events in order, with at most the
+-- one that was being written; in the archive its records so; and all three are a pair again
+pub record IsRecovered (before : Stores) (world : World) (disks : Disks)
+    (now : Stores) : Type 0 where
   pub stand : DisksStand world.pair disks now
   pub side : (which : Which) → Grown (side_of world which).journal.writing
       (history_of (stores_after before world.acknowledged) which) (history_of now which)
@@ -66,7 +70,9 @@ pub record IsCrashSafe (before : Stores) (world : World) (disks : Disks) : Type 
   pub synchronized : CompleteSessionsSynchronize before world
   pub reconciled : CompleteSessionsReconcile before world
 
--- For every list of steps from three disks, with stops and failing devices at any call of any machine
+-- For every list of steps from three disks, with stops and failing devices at any call of any
+-- machine
 abbrev pub Headline : Type 0
 Headline = (pair : ℕ) (disks later : Disks) (old new : World) (steps : List Step) →
-    IsOpenedFrom pair disks old → Runs old steps new → MayBeLeft later new → IsCrashSafe (stores_of old) new later
+    IsOpenedFrom pair disks old → Runs old steps new → MayBeLeft later new →
+    IsCrashSafe (stores_of old) new later

@@ -27,13 +27,14 @@ SidesOpen = (pair : ℕ) (machine : Journaled History Event) (calls : ℕ) (arms
 
 -- and so of an archive
 abbrev pub ArchivesOpen : Type 0
-ArchivesOpen = (pair : ℕ) (machine : Journaled Archive Kept) (calls : ℕ) (arms : Arms) (value : Value)
+ArchivesOpen = (pair : ℕ) (machine : Journaled Archive Kept) (calls : ℕ) (arms : Arms)
+    (value : Value)
     (generation : ℕ) → Meets machine.arms calls Up arms 0 →
     MayMean (of_archive pair) machine value generation →
     OpensTo (of_archive pair) machine calls arms value generation
 
--- What a machine keeps has an image that is never too long for its journal. So its checkpoint is refused 7 at the
--- greatest generation alone
+-- What a machine keeps has an image that is never too long for its journal. So its checkpoint is
+-- refused 7 at the greatest generation alone
 abbrev pub SideImagesFit : Type 0
 SideImagesFit = (pair : ℕ) (history : History) → IsHistory history →
     length ((side_layout pair).image history) ≤ longest_image

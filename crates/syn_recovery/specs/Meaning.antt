@@ -1,4 +1,5 @@
--- What a machine's disk may mean: what the machine keeps, or that with the one change that it was making.
+-- What a machine's disk may mean: what the machine keeps, or that with the one change that it was
+-- making.
 use Rattle.std.specs.Prelude.{ℕ, suc, true, false, None, Some, ◌-◌, ◌≡◌, List, sum_by, Ok}
 use Rattle.syn_model.specs.Path.{Bytes}
 use Rattle.syn_journal.specs.Layout.{Value, image_alone, meaning, current, generation_at}
@@ -32,14 +33,17 @@ pub record IsDiskOf {V W : Type 0} (keeping : Keeping V W) (bytes : Bytes) (kept
 
 -- The journal stands for the value that the machine keeps, and has as much room and the generation
 -- that the machine knows
-pub record MeansAsKept {V W : Type 0} (keeping : Keeping V W) (machine : Journaled V W) (value : Value)
+pub record MeansAsKept {V W : Type 0} (keeping : Keeping V W) (machine : Journaled V W)
+    (value : Value)
     (generation : ℕ) : Type 0 where
   pub stands : keeping.Stands value.image value.payloads machine.value
   pub room : machine.room ≡ room_left value
   pub numbered : machine.generation ≡ generation
 
--- The journal also has the record that was being written as the machine stopped or its device failed
-pub record MeansWithRecord {V W : Type 0} (keeping : Keeping V W) (machine : Journaled V W) (value : Value)
+-- The journal also has the record that was being written as the machine stopped or its device
+-- failed
+pub record MeansWithRecord {V W : Type 0} (keeping : Keeping V W) (machine : Journaled V W)
+    (value : Value)
     (generation : ℕ) : Type 0 where
   pub added : W
   pub writing : machine.writing ≡ Some added
@@ -49,7 +53,8 @@ pub record MeansWithRecord {V W : Type 0} (keeping : Keeping V W) (machine : Jou
   pub numbered : machine.generation ≡ generation
 
 -- The journal has the image alone, as the checkpoint that was under way leaves it
-pub record MeansCompacted {V W : Type 0} (keeping : Keeping V W) (machine : Journaled V W) (value : Value)
+pub record MeansCompacted {V W : Type 0} (keeping : Keeping V W) (machine : Journaled V W)
+    (value : Value)
     (generation : ℕ) : Type 0 where
   pub compacting : machine.compacting ≡ true
   pub stands : keeping.Stands value.image value.payloads machine.value
@@ -59,11 +64,14 @@ pub record MeansCompacted {V W : Type 0} (keeping : Keeping V W) (machine : Jour
 pub data MayMean {V W : Type 0} (keeping : Keeping V W) (machine : Journaled V W) (value : Value)
     (generation : ℕ) : Type 0 where
   as_kept : MeansAsKept keeping machine value generation → MayMean keeping machine value generation
-  with_record : MeansWithRecord keeping machine value generation → MayMean keeping machine value generation
-  compacted : MeansCompacted keeping machine value generation → MayMean keeping machine value generation
+  with_record : MeansWithRecord keeping machine value generation →
+      MayMean keeping machine value generation
+  compacted : MeansCompacted keeping machine value generation →
+      MayMean keeping machine value generation
 
 -- the bytes of a disk may be those of the machine
-pub record MayBeOf {V W : Type 0} (keeping : Keeping V W) (machine : Journaled V W) (bytes : Bytes) :
+pub record MayBeOf {V W : Type 0} (keeping : Keeping V W) (machine : Journaled V W)
+    (bytes : Bytes) :
     Type 0 where
   pub value : Value
   pub generation : ℕ
@@ -71,7 +79,8 @@ pub record MayBeOf {V W : Type 0} (keeping : Keeping V W) (machine : Journaled V
   pub means : MayMean keeping machine value generation
 
 -- the bytes of a disk are those of the machine, with no change under way
-pub record IsOf {V W : Type 0} (keeping : Keeping V W) (machine : Journaled V W) (bytes : Bytes) : Type 0 where
+pub record IsOf {V W : Type 0} (keeping : Keeping V W) (machine : Journaled V W)
+    (bytes : Bytes) : Type 0 where
   pub value : Value
   pub generation : ℕ
   pub journal : HasJournal bytes value generation
@@ -83,9 +92,11 @@ pub record IsOpened {V W : Type 0} (machine : Journaled V W) : Type 0 where
   pub idle : machine.writing ≡ None
   pub settled : machine.compacting ≡ false
 
--- What an opening by so many device calls gives: the model's opening allows it, and the machine that it gives
--- knows what the journal on the disk has. These are the arms that are then still to come
-pub record OpensTo {V W : Type 0} (keeping : Keeping V W) (machine : Journaled V W) (calls : ℕ) (arms : Arms)
+-- What an opening by so many device calls gives: the model's opening allows it, and the machine
+-- that it gives knows what the journal on the disk has. These are the arms that are then still to
+-- come
+pub record OpensTo {V W : Type 0} (keeping : Keeping V W) (machine : Journaled V W) (calls : ℕ)
+    (arms : Arms)
     (value : Value) (generation : ℕ) : Type 0 where
   pub new : Journaled V W
   pub added : List W

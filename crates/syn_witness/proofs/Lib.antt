@@ -18,3 +18,6 @@ pub mod MarkedLemmas
 pub mod RefusedLemmas
 pub mod RoomLemmas
 pub mod ShortLemmas
+pub mod ConflictScans
+pub mod ConflictLemmas
+pub mod UnstableLemmas

@@ -78,7 +78,7 @@ unfolding digest_bytes
 words_bytes h zero = All-nil (λ byte. byte < 256)
 words_bytes h (suc n) = All-append (λ byte. byte < 256) (digest_bytes h n) (to_be_bytes w32 _) (words_bytes h n) (high_bytes 4 _)
 
-digest_is_bytes : (bytes : List ℕ) → AreBytes (sha256 bytes)
+pub digest_is_bytes : (bytes : List ℕ) → AreBytes (sha256 bytes)
 unfolding sha256
 digest_is_bytes bytes = words_bytes _ 8
 

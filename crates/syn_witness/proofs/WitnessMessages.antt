@@ -1,5 +1,6 @@
--- The requests of the witness runs: on each side every kind of request has its own number.
-use Rattle.std.proofs.Common.{◌≡◌, ℕ, zero, suc, refl, sym, ap, ◌∙◌, inl, inr}
+-- The requests of the witness runs: on each side every kind of request has its own number, and so has each
+-- depth of a listing.
+use Rattle.std.proofs.Common.{[], ◌∷◌, length, ◌+◌, ◌-◌, nat_le, if◌then◌else◌, ◌≡◌, ℕ, zero, suc, refl, sym, ap, ◌∙◌, inl, inr}
 use Rattle.std.specs.List.{AllByRecursion}
 use Rattle.std.proofs.lemmas.List.Elements.{All-contains, All-from_recursion}
 use Rattle.syn_headline.specs.Side.{Request, Begin, ListAt, Fetch, Stage, Replace}
@@ -8,7 +9,8 @@ use Rattle.syn_headline.specs.Coordinator.{Running, WasAsked, AsksOnce}
 
 abbrev pub kind : Request → ℕ
 kind (Begin pair) = 0
-kind (ListAt path) = 1
+kind (ListAt []) = 1
+kind (ListAt (name ∷ path)) = 5 + length path
 kind (Fetch path since offset) = 2
 kind (Stage item offset bytes) = 3
 kind (Replace item path since size) = 4
@@ -20,7 +22,7 @@ same_kind (Begin p) (Fetch q l n) r = absurd r
 same_kind (Begin p) (Stage j n y) r = absurd r
 same_kind (Begin p) (Replace j q l y) r = absurd r
 same_kind (ListAt p) (Begin q) r = absurd r
-same_kind (ListAt p) (ListAt q) r = refl
+same_kind (ListAt p) (ListAt q) r = ap (λ path. kind (ListAt path)) r
 same_kind (ListAt p) (Fetch q l n) r = absurd r
 same_kind (ListAt p) (Stage j n y) r = absurd r
 same_kind (ListAt p) (Replace j q l y) r = absurd r
@@ -65,6 +67,10 @@ right_number (suc zero) = 1
 right_number (suc (suc zero)) = 4
 right_number (suc (suc (suc zero))) = 2
 right_number (suc (suc (suc (suc request)))) = 3
+
+-- and in one that lists three levels of directories
+abbrev pub deep_number_of : Which → ℕ → ℕ
+deep_number_of side request = if nat_le request 1 then request else request - 3
 
 abbrev pub number_of : Which → ℕ → ℕ
 number_of Left request = request

@@ -2,7 +2,7 @@
 use Rattle.std.proofs.Common.{◌≡◌, ℕ, suc, true, false, List, [], ◌∷◌, ◌++◌, map, flat_map, length, refl, sym, ap, ap₂, ◌∙◌, arith}
 use Rattle.std.specs.FinMap.{entries, empty, from_entries, keys, put, entries-insert, len-entries, len-empty, same_entries_map}
 use Rattle.syn_model.specs.Path.{Bytes, Path, Name, root, child, name_cmp}
-use Rattle.syn_model.specs.Tree.{Content, empty_directory, subtree, is_directory}
+use Rattle.syn_model.specs.Tree.{Tree, Pair, Content, empty_directory, subtree, is_directory}
 use Rattle.syn_model.specs.Event.{Edited, Began}
 use Rattle.syn_model.specs.History.{History, tree_of}
 use Rattle.syn_model.specs.Mark.{mark}
@@ -13,7 +13,7 @@ use Rattle.syn_model.specs.Plan.{plan as items_of}
 use Rattle.syn_model.specs.Rows.{a_name}
 use Rattle.syn_model.proofs.PathLemmas.{name_total}
 use Rattle.syn_witness.specs.Witness.{a_path, put_one, one}
-use Rattle.syn_witness.proofs.WitnessTrees.{mark-entries, same_by, part-entries, directory_by, children_by}
+use Rattle.syn_witness.proofs.WitnessTrees.{children_in, mark-entries, same_by, part-entries, directory_by, children_by}
 use Rattle.syn_witness.proofs.WitnessFiles.{content, digest, alone, with_file, alone-entries, file-entries, file_mark-entries, marked-entries, put-entries}
 
 -- what each side has as it is listed
@@ -95,6 +95,13 @@ no_names = no_entries (entries (empty {X = Content} {R = name_cmp})) (sym (len-e
 
 one_name_of : (content : Content) → names_of ((a_name, content) ∷ []) ≡ a_name ∷ []
 one_name_of content = ap (map (λ e. e.0)) (entries-insert name_total empty a_name content ∙ ap (put name_cmp a_name content) no_names)
+
+-- where one of three trees alone has a name in its root
+pub one_name_at : (left right : Scan) (archive : Tree) (ls rs os : List Pair) (name : Name) (content : Content) → entries left.marks ≡ ls → entries right.marks ≡ rs → entries archive ≡ os →
+    children_in ls root ++ (children_in rs root ++ children_in os root) ≡ (name, content) ∷ [] → names_below left right archive root ≡ name ∷ []
+one_name_at left right archive ls rs os name content l r o is =
+    ap names_of (ap₂ (λ xs ys. xs ++ ys) (children_by left.marks ls l) (ap₂ (λ xs ys. xs ++ ys) (children_by right.marks rs r) (children_by archive os o)) ∙ is)
+    ∙ ap (map (λ e. e.0)) (entries-insert name_total empty name content ∙ ap (put name_cmp name content) no_names)
 
 one_name : names_below left_scan right_scan empty_directory root ≡ a_name ∷ []
 one_name =

@@ -1,27 +1,33 @@
 -- What no run does.
-use Rattle.std.specs.Prelude.{ℕ, ◌+◌, ◌≤◌, ◌<◌, ◌≡◌, ◌≢◌, ◌⊎◌, true, List, length, slice_get, Some, None, IsSomeAnd, All, Contains}
+use Rattle.std.specs.Prelude.{ℕ, ◌+◌, ◌≤◌, ◌<◌, ◌≡◌, ◌≢◌, ◌⊎◌, true, List, length, slice_get, Some}
+use Rattle.std.specs.Prelude.{None, IsSomeAnd, All, Contains}
 use Rattle.syn_model.specs.Refusal.{JournalFull, NoAnswer, TooLarge, BadMessage}
 use Rattle.syn_model.specs.Event.{Edit}
 use Rattle.syn_headline.specs.Side.{Begin}
 use Rattle.syn_headline.specs.Network.{Which, Asks}
 use Rattle.syn_headline.specs.Report.{Complete}
-use Rattle.syn_headline.specs.Coordinator.{CoordinatorMachine, Running, Exchange, Call, Takes, CoordinatorStarts, CoordinatorTicks}
+use Rattle.syn_headline.specs.Coordinator.{CoordinatorMachine, Running, Exchange, Call, Takes}
+use Rattle.syn_headline.specs.Coordinator.{CoordinatorStarts, CoordinatorTicks}
 use Rattle.syn_headline.specs.Coordinator.{fault_of, is_unstable, hearing, Walk, IsToKeep, Advances}
 use Rattle.syn_headline.specs.Planning.{Planned}
 use Rattle.syn_model.specs.Archive.{Kept}
 use Rattle.syn_headline.specs.Machine.{Halted, Down, IsBefore}
-use Rattle.syn_headline.specs.World.{World, Machine, Step, Edits, Stop, Steps, Runs, side_of, status_of, failures_of}
+use Rattle.syn_headline.specs.World.{World, Machine, Step, Edits, Stop, Steps, Runs, side_of}
+use Rattle.syn_headline.specs.World.{status_of, failures_of}
 use Rattle.syn_headline.specs.Headline.{IsStart}
 
 -- without a stop among the steps no machine goes down
 abbrev pub StaysWithoutStop : Type 0
 StaysWithoutStop = (old new : World) (steps : List Step) → IsStart old → Runs old steps new →
-    ((machine : Machine) (call : ℕ) → Contains steps (Stop machine call) → ⊥) → (machine : Machine) → status_of new machine ≢ Down
+    ((machine : Machine) (call : ℕ) → Contains steps (Stop machine call) → ⊥) →
+    (machine : Machine) → status_of new machine ≢ Down
 
 -- an edit is not acknowledged where one of its four device calls is armed
 abbrev pub ArmedCallsCome : Type 0
-ArmedCallsCome = (old new : World) (side : Which) (user : ℕ) (edit : Edit) → let arms = (side_of old side).journal.arms in
-    (IsBefore 4 arms.fail × IsBefore 4 arms.stop → ⊥) → Steps old (Edits side user edit) new → new.acknowledged ≡ old.acknowledged
+ArmedCallsCome = (old new : World) (side : Which) (user : ℕ) (edit : Edit) → let arms =
+    (side_of old side).journal.arms in
+    (IsBefore 4 arms.fail × IsBefore 4 arms.stop → ⊥) → Steps old (Edits side user edit) new →
+    new.acknowledged ≡ old.acknowledged
 
 -- a session that has just started is not given up at its first tick
 abbrev pub StartsFresh : Type 0
@@ -32,48 +38,61 @@ StartsFresh = (pair : ℕ) (old started new : CoordinatorMachine) (call ticked :
 -- no side is asked twice to begin a session, but by a resend
 abbrev pub BeginsOnce : Type 0
 BeginsOnce = (old new : World) (steps : List Step) → IsStart old → Runs old steps new →
-    (side : Which) (session m n pair again : ℕ) → Contains new.sent (Asks side session m (Begin pair)) →
+    (side : Which) (session m n pair again : ℕ) →
+    Contains new.sent (Asks side session m (Begin pair)) →
     Contains new.sent (Asks side session n (Begin again)) → m ≡ n
 
 -- an answer with no fault in it ends no session 22 or 23
 abbrev pub FaultsAlone : Type 0
-FaultsAlone = (pair : ℕ) (old : CoordinatorMachine) (running : Running) (taken : Exchange) (new : CoordinatorMachine) (call : Call) →
-    Takes pair old running taken new call → fault_of running.taken taken.side taken.request taken.reply ≡ None →
+FaultsAlone = (pair : ℕ) (old : CoordinatorMachine) (running : Running) (taken : Exchange)
+    (new : CoordinatorMachine) (call : Call) →
+    Takes pair old running taken new call →
+    fault_of running.taken taken.side taken.request taken.reply ≡ None →
     All (λ report. (report.ended ≢ Some TooLarge) × (report.ended ≢ Some BadMessage)) call.reports
 
 -- a session that took an answer of a path as no directory does not report Complete
 abbrev pub UnstableIsIncomplete : Type 0
-UnstableIsIncomplete = (pair : ℕ) (old : CoordinatorMachine) (running : Running) (taken : Exchange) (new : CoordinatorMachine) (call : Call) →
+UnstableIsIncomplete = (pair : ℕ) (old : CoordinatorMachine) (running : Running) (taken : Exchange)
+    (new : CoordinatorMachine) (call : Call) →
     Takes pair old running taken new call → is_unstable (hearing running taken) ≡ true →
     All (λ report. report.end ≢ Complete) call.reports
 
 -- a session whose archive's device fails in a call does not go on
 abbrev pub FailureEnds : Type 0
-FailureEnds = (pair : ℕ) (old : CoordinatorMachine) (running : Running) (taken : Exchange) (new : CoordinatorMachine) (call : Call) →
-    Takes pair old running taken new call → new.journal.status ≢ old.journal.status → new.running ≡ None
+FailureEnds = (pair : ℕ) (old : CoordinatorMachine) (running : Running) (taken : Exchange)
+    (new : CoordinatorMachine) (call : Call) →
+    Takes pair old running taken new call → new.journal.status ≢ old.journal.status →
+    new.running ≡ None
 
--- a checkpoint that an answer makes is followed by the record that it was made for, or by nothing more of that answer
+-- a checkpoint that an answer makes is followed by the record that it was made for, or by nothing
+-- more of that answer
 abbrev pub RecordsAfterRoom : Type 0
-RecordsAfterRoom = (pair : ℕ) (plan : List Planned) (taken : Exchange) (walk later : Walk) (kept : List Kept) →
+RecordsAfterRoom = (pair : ℕ) (plan : List Planned) (taken : Exchange) (walk later : Walk)
+    (kept : List Kept) →
     Advances pair plan taken walk kept later → walk.made_room ≡ true →
     ((later.cursor ≡ walk.cursor) × (later.journal.generation ≡ walk.journal.generation))
     ⊎ IsSomeAnd (slice_get kept 0) (IsToKeep plan taken walk)
 
 -- so an answer makes at most one checkpoint more than it keeps records
 abbrev pub CheckpointsAreForRecords : Type 0
-CheckpointsAreForRecords = (pair : ℕ) (old : CoordinatorMachine) (running : Running) (taken : Exchange)
+CheckpointsAreForRecords = (pair : ℕ) (old : CoordinatorMachine) (running : Running)
+    (taken : Exchange)
     (new : CoordinatorMachine) (call : Call) → Takes pair old running taken new call →
     new.journal.generation ≤ old.journal.generation + length call.kept + 1
 
--- a session that no side refused 8 ends 8 only where a checkpoint in that answer left no room for the record that is due
+-- a session that no side refused 8 ends 8 only where a checkpoint in that answer left no room for
+-- the record that is due
 abbrev pub FullAfterCheckpoint : Type 0
 FullAfterCheckpoint = (pair : ℕ) (old : CoordinatorMachine) (running : Running) (taken : Exchange)
     (new : CoordinatorMachine) (call : Call) → Takes pair old running taken new call →
     fault_of running.taken taken.side taken.request taken.reply ≡ None →
-    All (λ report. report.ended ≡ Some JournalFull → old.journal.generation < new.journal.generation) call.reports
+    All (λ report. report.ended ≡ Some JournalFull →
+    old.journal.generation < new.journal.generation) call.reports
 
--- a machine is halted only after one of its device calls failed, so where none fails in a run none is
+-- a machine is halted only after one of its device calls failed, so where none fails in a run none
+-- is
 abbrev pub HaltedAfterFailure : Type 0
-HaltedAfterFailure = (old new : World) (steps : List Step) → IsStart old → Runs old steps new → (machine : Machine) →
+HaltedAfterFailure = (old new : World) (steps : List Step) → IsStart old → Runs old steps new →
+    (machine : Machine) →
     (failures_of old machine ≤ failures_of new machine)
     × (status_of new machine ≡ Halted → failures_of old machine < failures_of new machine)

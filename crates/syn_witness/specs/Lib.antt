@@ -1,4 +1,6 @@
 pub mod Rows
 pub mod Witness
 pub mod Short
+pub mod Conflict
+pub mod Unstable
 pub mod Forbidden

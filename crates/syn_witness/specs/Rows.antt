@@ -4,7 +4,8 @@ use Rattle.syn_model.specs.Path.{Bytes}
 use Rattle.syn_model.specs.Rows.{a_name}
 use Rattle.syn_model.specs.Refusal.{OldSession, NotStaged, BadStage, WrongPair}
 use Rattle.syn_model.specs.Event.{Event, Began}
-use Rattle.syn_headline.specs.Side.{Side, Request, Begin, Stage, Replace, Served, Begun, Staged, Refused, answer, serve}
+use Rattle.syn_headline.specs.Side.{Side, Request, Begin, Stage, Replace, Served, Begun, Staged}
+use Rattle.syn_headline.specs.Side.{Refused, answer, serve}
 
 -- a side of pair 7 that was just formatted, with room for all
 abbrev pub new_side : Side
@@ -30,7 +31,8 @@ abbrev pub staged_next : Side
 staged_next = (asked staged (Stage 1 0 file_bytes)).side
 
 pub record SideRows : Type 0 where
-  pub begins : asked new_side (Begin 7) ≡ answer (record { history = Began 1 ∷ []; staging = None }) (Begun 1)
+  pub begins : asked new_side (Begin 7) ≡ answer (record { history = Began 1 ∷ []; staging = None })
+      (Begun 1)
   pub begins_again : asked begun (Begin 7) ≡ answer begun (Begun 1)
   pub wrong_pair : asked begun (Begin 8) ≡ answer begun (Refused WrongPair)
   pub earlier : serve 7 has_room None begun 0 (Begin 7) ≡ answer begun (Refused OldSession)

@@ -4,6 +4,8 @@
 ghost use Rattle.syn_witness.specs.Rows.{SideRows};
 ghost use Rattle.syn_witness.specs.Forbidden.{StaysWithoutStop, ArmedCallsCome, StartsFresh, BeginsOnce, FaultsAlone, UnstableIsIncomplete, FailureEnds, RecordsAfterRoom, CheckpointsAreForRecords, FullAfterCheckpoint, HaltedAfterFailure};
 ghost use Rattle.syn_witness.specs.Short.{StartIsRecovered, ReplacementIsRecovered, CheckpointIsMade, ArchiveIsReopened, ResendIsAnswered, LateIsOld};
+ghost use Rattle.syn_witness.specs.Conflict.{ConflictIsReported};
+ghost use Rattle.syn_witness.specs.Unstable.{VanishedIsUnstable};
 ghost use Rattle.syn_witness.specs.Witness.{OpenedIsStart, NewRoomIs, StopIsRecovered, FailIsRefused, CheckpointIsCut, SilenceEnds, FileIsCarried, FilesAreExchanged, CarriedIsMarkedLater, RepeatIsDone, TouchedIsRefused, ReplacementFails};
 
 /// What a side answers in worked examples, which its definition gives.
@@ -15,7 +17,8 @@ pub fn examples()
 /// recovery, an edit whose device call fails and what a reopening gives, a checkpoint that is cut
 /// off, a session that nobody answers, a whole session over one file, one that carries a file each way, and one that marks
 /// what an earlier session carried and did not record; a replacement that comes twice, one that comes after an edit,
-/// and one whose device call fails.
+/// and one whose device call fails; a session that marks a directory of both sides and reports a conflict below it;
+/// and one that a directory vanishes in.
 pub fn witnesses()
     ensures start { OpenedIsStart }
     ensures room { NewRoomIs }
@@ -29,6 +32,8 @@ pub fn witnesses()
     ensures repeated { RepeatIsDone }
     ensures touched { TouchedIsRefused }
     ensures device { ReplacementFails }
+    ensures conflict { ConflictIsReported }
+    ensures unstable { VanishedIsUnstable }
 {}
 
 /// Short runs of the same: a start and a replacement that a stop cuts off and an opening recovers, checkpoints of a side and of the

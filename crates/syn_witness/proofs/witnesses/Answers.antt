@@ -4,6 +4,8 @@ use Rattle.syn_witness.proofs.WitnessLemmas.{opened_is_start, new_room_is, stop_
 use Rattle.syn_witness.proofs.WitnessSession.{file_is_carried}
 use Rattle.syn_witness.proofs.ExchangeLemmas.{files_are_exchanged}
 use Rattle.syn_witness.proofs.MarkedLemmas.{carried_is_marked_later}
+use Rattle.syn_witness.proofs.ConflictLemmas.{conflict_is_reported}
+use Rattle.syn_witness.proofs.UnstableLemmas.{vanished_is_unstable}
 use Rattle.syn_witness.proofs.witnesses.Goals as goal
 
 pub returns-clause-start : goal.returns-clause-start
@@ -41,3 +43,9 @@ returns-clause-touched c = touched_is_refused
 
 pub returns-clause-device : goal.returns-clause-device
 returns-clause-device c = replacement_fails
+
+pub returns-clause-conflict : goal.returns-clause-conflict
+returns-clause-conflict c = conflict_is_reported
+
+pub returns-clause-unstable : goal.returns-clause-unstable
+returns-clause-unstable c = vanished_is_unstable
