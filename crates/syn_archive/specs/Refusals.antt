@@ -1,5 +1,5 @@
 -- Why a call of an archive is refused, as a refusal of the product.
-use Rattle.std.specs.Prelude.{◌≡◌, ◌<◌, ℕ}
+use Rattle.std.specs.Prelude.{◌≡◌, ◌<◌, ℕ, Result, Ok, Err, Option, Some, None}
 use Rattle.syn_disk.specs.Arms.{Arms}
 use Rattle.syn_disk.specs.Calls.{MakesAtLeast, Breaks, BreaksSometime}
 use Rattle.syn_model.specs.Refusal.{Refusal}
@@ -22,6 +22,11 @@ refusal_of Memory = why.Memory
 refusal_of NoImage = why.NoImage
 refusal_of Damaged = why.Damaged
 refusal_of WrongPair = why.WrongPair
+
+-- why a call was refused, if it was
+abbrev pub refusal_in : {X : Type 0} → Result X ArchiveError → Option Refusal
+refusal_in (Ok x) = None
+refusal_in (Err e) = Some (refusal_of e)
 
 abbrev pub of_tree : TreeError → ArchiveError
 of_tree tree.NoParent = NoParent

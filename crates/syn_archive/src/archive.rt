@@ -1,14 +1,14 @@
 //! An archive over a journal.
 ghost use Rattle.std.specs.Prelude.{◌≡◌, ◌⊎◌, ◌↔◌, ◌+◌, ◌<◌, ◌≤◌, [], ℕ, length, OnOk, IfOk, IfErr, IsErrAnd, MatchResult, Err, Some, true, option_map};
-ghost use Rattle.syn_model.specs.Archive.{Archive as Kept_marks, Session, new_archive, after_kept, kept_refusal};
+ghost use Rattle.syn_model.specs.Archive.{Archive as Kept_marks, Session, Recorded, new_archive, after_kept, kept_refusal};
 ghost use Rattle.syn_model.specs.Refusal.{Refusal};
 ghost use Rattle.syn_model.specs.Tree.{empty_directory, subtree};
-ghost use Rattle.syn_model.specs.MarkSpelling.{archive_spelling};
+ghost use Rattle.syn_model.specs.MarkSpelling.{archive_spelling, kept_spelling};
 ghost use Rattle.syn_mark.specs.Marks.{or_absent};
 ghost use Rattle.syn_disk.specs.Calls.{Makes};
 ghost use Rattle.syn_disk.specs.Stops.{LeavesOnly};
 ghost use Rattle.syn_archive.specs.Disks.{StandsBeforeOrAfter};
-ghost use Rattle.syn_archive.specs.Refusals.{refusal_of, CountsFailures, MakesIfDevice, IsOfFormat, IsOfSession};
+ghost use Rattle.syn_archive.specs.Refusals.{refusal_of, refusal_in, CountsFailures, MakesIfDevice, IsOfFormat, IsOfSession, IsOfRecord};
 
 use crate::error::ArchiveError;
 use std::alloc::Global;
@@ -17,7 +17,7 @@ use syn_journal::Journal;
 use syn_mark::{Mark, MarkTree};
 use syn_model::archive_laws;
 use syn_path::Path;
-use syn_wire::{encode_archive, encode_session};
+use syn_wire::{encode_archive, encode_record, encode_session};
 
 /// How many bytes spell a session that begins.
 const SESSION_LENGTH: usize = 9;
@@ -182,6 +182,72 @@ impl<D: Disk> Archive<D> {
         self.journal.append(alloc, &payload)?;
         self.last_session = session;
         Ok(session)
+    }
+
+    /// Why the marks, or that nothing is there, cannot be recorded at the path; it takes no memory.
+    ///
+    /// Refused 6 at the root, 2 where the parent is no directory, and 7 where the archive would pass
+    /// a limit.
+    pub fn fits(&self, path: &Path, marks: Option<&MarkTree>) -> Result<(), ArchiveError>
+        ensures { refusal_in result ≡ kept_refusal (shown self.now)
+            (Recorded path.now (or_absent (option_map (λ there. there.now) marks.entry))) }
+    {
+        Ok(self.marks.check_replace(path, marks)?)
+    }
+
+    /// Records the marks at and below the path, or that nothing is there.
+    ///
+    /// Refused 10 while the archive is halted; 6 at the root, 2 where the parent is no directory,
+    /// and 7 where the archive would pass a limit; 8 where the record does not fit in the journal,
+    /// 11 where memory is refused, and 9 where a device call fails. After 9 the archive is halted
+    /// and shows what it had; after any other refusal it is as it was.
+    pub fn record(
+        &mut self,
+        alloc: Global,
+        path: &Path,
+        marks: Option<MarkTree>,
+    ) -> Result<(), ArchiveError>
+        ensures acknowledged { (kept : Kept_marks) → Stands self.old kept
+            → OnOk result (Stands self.new
+            (after_kept kept (Recorded path.now (or_absent marks)))) }
+        ensures any_moment { (kept : Kept_marks) → Stands self.old kept
+            → LeavesOnly D.moment D.left_since (disk_of self.old) (disk_of self.new)
+            (StandsBeforeOrAfter (pair_of self.old) kept (Recorded path.now (or_absent marks))) }
+
+        // Each refusal has its cause.
+        ensures refused { (why : Refusal) → ¬ IsHalted self.old
+            → kept_refusal (shown self.old) (Recorded path.now (or_absent marks)) ≡ Some why
+            → IsErrAnd result (λ e. refusal_of e ≡ why) }
+        ensures no_room { result ≡ Err ArchiveError.JournalFull
+            → room_shown self.old < length (kept_spelling (Recorded path.now (or_absent marks))) }
+        ensures refusals { IfErr result IsOfRecord }
+        ensures halted { (result ≡ Err ArchiveError.Halted) ↔ IsHalted self.old }
+        ensures halts { result ≡ Err ArchiveError.Device → IsHalted self.new }
+        ensures failures { MatchResult result
+            (λ _. D.failures (disk_of self.new) ≡ D.failures (disk_of self.old))
+            (λ e. CountsFailures e (D.failures (disk_of self.old))
+            (D.failures (disk_of self.new))) }
+
+        // Four device calls where it succeeds. After 9 the last that was made failed.
+        ensures calls { MatchResult result
+            (λ _. Makes 4 (D.arms (disk_of self.old)) (D.arms (disk_of self.new)))
+            (λ e. MakesIfDevice e 4 (D.arms (disk_of self.old)) (D.arms (disk_of self.new))) }
+
+        // What stays after a refusal.
+        ensures remembers { IfErr result (λ _. SameMemory self.old self.new) }
+        ensures unchanged { IfErr result
+            (λ e. (e ≡ ArchiveError.Device) ⊎ (journal_of self.new ≡ journal_of self.old)) }
+    {
+        archive_laws();
+        if self.journal.is_halted() {
+            return Err(ArchiveError::Halted);
+        }
+        self.fits(path, marks.as_ref())?;
+        let payload = encode_record(alloc, path, marks.as_ref())?;
+        let change = self.marks.prepare_replace(alloc, path, marks)?;
+        self.journal.append(alloc, &payload)?;
+        self.marks.make(change);
+        Ok(())
     }
 }
 

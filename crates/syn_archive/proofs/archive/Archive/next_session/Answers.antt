@@ -23,8 +23,7 @@ returns-clause-acknowledged g c kept stands =
     let last = ap (λ a. a.last_session) stands.remembers in
     let sound = c.archive_laws.ensures.sound c.args.self.now.pair stands.value.image stands.value.payloads kept stands.means in
     let can = can_begin kept (omega (arith, c.if-self.false, sound.session, last)) in
-    let payload : c.deref.result.now ≡ kept_spelling (Session (kept.last_session + 1)) = c.deref.ensures.value ∙ (c.in_ok-payload.ensures ∙ ap (λ n. kept_spelling (Session (n + 1))) last) in
-    (
+    let payload : c.deref.result.now ≡ kept_spelling (Session (kept.last_session + 1)) = c.deref.ensures.value ∙ (c.in_ok-payload.ensures ∙ ap (λ n. kept_spelling (Session (n + 1))) last) in (
       ap (λ n. n + 1) last,
       record {
         remembers = ap (λ a. after_kept a (Session (c.args.self.now.last_session + 1))) stands.remembers;
