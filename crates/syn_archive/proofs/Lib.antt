@@ -1,2 +1,3 @@
 pub mod StandLemmas
 pub mod FormatLemmas
+pub mod DirLemmas

@@ -1,8 +1,13 @@
 //! An archive over a journal.
-ghost use Rattle.std.specs.Prelude.{◌≡◌, ◌⊎◌, ◌↔◌, ◌+◌, ◌<◌, ◌≤◌, [], ℕ, length, OnOk, IfOk, IfErr, IsErrAnd, MatchResult, Err, Some, true, option_map};
-ghost use Rattle.syn_model.specs.Archive.{Archive as Kept_marks, Session, Recorded, new_archive, after_kept, kept_refusal};
+ghost use Rattle.std.specs.Prelude.{◌≡◌, ◌⊎◌, ◌↔◌, ◌+◌, ◌<◌, ◌≤◌, [], ℕ, length, OnOk, IfOk, IfErr, IsErrAnd, MatchResult, Err, Some, true, false, option_map};
+ghost use Rattle.syn_model.specs.Archive.{Archive as Kept_marks, Session, Recorded, RecordedDir, new_archive, after_kept, kept_refusal};
 ghost use Rattle.syn_model.specs.Refusal.{Refusal};
-ghost use Rattle.syn_model.specs.Tree.{empty_directory, subtree};
+ghost use Rattle.syn_model.specs.Tree.{empty_directory, is_directory, subtree};
+ghost use Rattle.syn_model.specs.Path.{is_root};
+ghost use Rattle.syn_journal.specs.Journal.{SameReadings};
+ghost use Rattle.syn_disk.specs.Armed.{armed};
+ghost use Rattle.syn_disk.specs.Arms.{is_stopped};
+ghost use Rattle.syn_disk.specs.Disk.{SameOutcomes};
 ghost use Rattle.syn_model.specs.MarkSpelling.{archive_spelling, kept_spelling};
 ghost use Rattle.syn_mark.specs.Marks.{or_absent};
 ghost use Rattle.syn_disk.specs.Calls.{Makes};
@@ -12,12 +17,12 @@ ghost use Rattle.syn_archive.specs.Refusals.{refusal_of, refusal_in, CountsFailu
 
 use crate::error::ArchiveError;
 use std::alloc::Global;
-use syn_disk::Disk;
+use syn_disk::{Arm, Disk, Limit};
 use syn_journal::Journal;
 use syn_mark::{Mark, MarkTree};
 use syn_model::archive_laws;
 use syn_path::Path;
-use syn_wire::{encode_archive, encode_record, encode_session};
+use syn_wire::{encode_archive, encode_dir, encode_record, encode_session};
 
 /// How many bytes spell a session that begins.
 const SESSION_LENGTH: usize = 9;
@@ -248,6 +253,113 @@ impl<D: Disk> Archive<D> {
         self.journal.append(alloc, &payload)?;
         self.marks.make(change);
         Ok(())
+    }
+
+    /// Records a directory at the path, with what the archive has below it; nothing where a directory
+    /// is recorded there.
+    ///
+    /// Refused 10 while the archive is halted; 6 at the root, 2 where the parent is no directory,
+    /// and 7 where the archive would pass a limit; 8 where the record does not fit in the journal,
+    /// 11 where memory is refused, and 9 where a device call fails. After 9 the archive is halted
+    /// and shows what it had; after any other refusal it is as it was.
+    pub fn record_dir(&mut self, alloc: Global, path: &Path) -> Result<(), ArchiveError>
+        ensures acknowledged { (kept : Kept_marks) → Stands self.old kept
+            → OnOk result (Stands self.new (after_kept kept (RecordedDir path.now))) }
+        ensures any_moment { (kept : Kept_marks) → Stands self.old kept
+            → LeavesOnly D.moment D.left_since (disk_of self.old) (disk_of self.new)
+            (StandsBeforeOrAfter (pair_of self.old) kept (RecordedDir path.now)) }
+
+        // Where a directory is recorded, nothing happens, and no device call is made.
+        ensures recorded { is_directory (marks_shown self.old) path.now ≡ true
+            → self.new ≡ self.old }
+        ensures root { is_root path.now ≡ true → IfErr result
+            (λ e. (e ≡ ArchiveError.Root) ⊎ IsHalted self.old) }
+        ensures refusals { IfErr result IsOfRecord }
+        ensures halted { (result ≡ Err ArchiveError.Halted) ↔ IsHalted self.old }
+        ensures halts { result ≡ Err ArchiveError.Device → IsHalted self.new }
+        ensures failures { MatchResult result
+            (λ _. D.failures (disk_of self.new) ≡ D.failures (disk_of self.old))
+            (λ e. CountsFailures e (D.failures (disk_of self.old))
+            (D.failures (disk_of self.new))) }
+        ensures remembers { IfErr result (λ _. SameMemory self.old self.new) }
+        ensures unchanged { IfErr result
+            (λ e. (e ≡ ArchiveError.Device) ⊎ (journal_of self.new ≡ journal_of self.old)) }
+    {
+        archive_laws();
+        if self.journal.is_halted() {
+            return Err(ArchiveError::Halted);
+        }
+        if path.names().is_empty() {
+            return Err(ArchiveError::Root);
+        }
+        match self.marks.get(path) {
+            Some(Mark::Dir) => Ok(()),
+            _ => self.record_new_dir(alloc, path),
+        }
+    }
+
+    // Records a directory where none is.
+    fn record_new_dir(&mut self, alloc: Global, path: &Path) -> Result<(), ArchiveError>
+        requires { is_directory (marks_shown self.old) path.now ≡ false }
+        ensures acknowledged { (kept : Kept_marks) → Stands self.old kept
+            → OnOk result (Stands self.new (after_kept kept (RecordedDir path.now))) }
+        ensures any_moment { (kept : Kept_marks) → Stands self.old kept
+            → LeavesOnly D.moment D.left_since (disk_of self.old) (disk_of self.new)
+            (StandsBeforeOrAfter (pair_of self.old) kept (RecordedDir path.now)) }
+        ensures refusals { IfErr result IsOfRecord }
+        ensures halted { result ≡ Err ArchiveError.Halted → IsHalted self.old }
+        ensures halts { result ≡ Err ArchiveError.Device → IsHalted self.new }
+        ensures failures { MatchResult result
+            (λ _. D.failures (disk_of self.new) ≡ D.failures (disk_of self.old))
+            (λ e. CountsFailures e (D.failures (disk_of self.old))
+            (D.failures (disk_of self.new))) }
+
+        // Four device calls where it succeeds. After 9 the last that was made failed.
+        ensures calls { MatchResult result
+            (λ _. Makes 4 (D.arms (disk_of self.old)) (D.arms (disk_of self.new)))
+            (λ e. MakesIfDevice e 4 (D.arms (disk_of self.old)) (D.arms (disk_of self.new))) }
+        ensures remembers { IfErr result (λ _. SameMemory self.old self.new) }
+        ensures unchanged { IfErr result
+            (λ e. (e ≡ ArchiveError.Device) ⊎ (journal_of self.new ≡ journal_of self.old)) }
+    {
+        archive_laws();
+        let directory = MarkTree::of_mark(alloc, Mark::Dir)?;
+        self.fits(path, Some(&directory))?;
+        let payload = encode_dir(alloc, path)?;
+        let change = self.marks.prepare_replace(alloc, path, Some(directory))?;
+        self.journal.append(alloc, &payload)?;
+        self.marks.make(change);
+        Ok(())
+    }
+}
+
+impl<D: Limit> Archive<D> {
+    ghost use Rattle.syn_archive.specs.Archive.{disk_of, journal_of, SameMemory, Stands};
+
+    /// Arms the archive's disk. It takes the place of an arm of its kind that is still to come.
+    pub fn arm(&mut self, arm: Arm)
+        ensures arms { D.Disk.arms (disk_of self.new) ≡ armed (D.Disk.arms (disk_of self.old)) arm }
+
+        // It changes nothing that a read gives or a stop leaves.
+        ensures seen { D.Disk.seen (disk_of self.new) ≡ D.Disk.seen (disk_of self.old) }
+        ensures stop { SameOutcomes (D.Disk.may_leave (disk_of self.old))
+            (D.Disk.may_leave (disk_of self.new)) }
+        ensures moment { D.Disk.moment (disk_of self.new) ≡ D.Disk.moment (disk_of self.old) }
+        ensures past { (t : ℕ) → SameOutcomes (D.Disk.left_since (disk_of self.old) t)
+            (D.Disk.left_since (disk_of self.new) t) }
+        ensures failures { D.Disk.failures (disk_of self.new) ≡ D.Disk.failures (disk_of self.old) }
+        ensures stands { (kept : Kept_marks) → Stands self.old kept → Stands self.new kept }
+        ensures memory { SameMemory self.old self.new }
+        ensures readings { SameReadings (journal_of self.old) (journal_of self.new) }
+    {
+        self.journal.arm(arm);
+    }
+
+    /// Whether all the device calls before a stop are made.
+    pub fn is_cut(&self) -> bool
+        ensures { result ≡ is_stopped (D.Disk.arms (disk_of self.now)) }
+    {
+        self.journal.is_cut()
     }
 }
 
