@@ -1,6 +1,6 @@
 ghost use Rattle.std.specs.Prelude.{◌≡◌, ◌≢◌, ◌↔◌, IsTrue, true, length, Some, None, filter, option_map, IfOk, IfErr, IfSome, IfNone};
 ghost use Rattle.std.specs.FinMap.{entries, get, len};
-ghost use Rattle.syn_model.specs.Path.{root};
+ghost use Rattle.syn_model.specs.Path.{root, IsPath};
 ghost use Rattle.syn_model.specs.Tree.{Tree as Pairs, at_root, is_directory, is_present, replace};
 ghost use Rattle.syn_model.specs.Tree.{subtree};
 ghost use Rattle.syn_model.specs.Mark.{IsMarks};
@@ -266,6 +266,8 @@ impl MarkTree {
         ensures new { IfOk result (λ change. change.new ≡ or_absent new) }
         ensures allowed { IfOk result (λ _.
             replace_refusal self.now path.now (or_absent new) ≡ None) }
+        ensures path { IfOk result (λ _. IsPath path.now) }
+        ensures marks { IfOk result (λ _. IsMarks (or_absent new)) }
         ensures refused { IfErr result (λ e. e ≢ TreeError.Memory
             → replace_refusal self.now path.now (or_absent new) ≡ Some (refusal_of e)) }
     {

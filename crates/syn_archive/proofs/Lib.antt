@@ -1,0 +1,3 @@
+pub mod StandLemmas
+pub mod FormatLemmas
+pub mod DirLemmas

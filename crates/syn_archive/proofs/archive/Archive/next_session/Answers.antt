@@ -1,0 +1,45 @@
+use Rattle.std.proofs.Common.{◌≡◌, ◌<◌, ◌+◌, [], ◌∷◌, ◌++◌, refl, sym, ap, ◌∙◌, subst, arith}
+use Rattle.syn_journal.specs.Layout.{with_payload, IsBeforeOrAfter}
+use Rattle.syn_model.specs.Limits.{greatest}
+use Rattle.syn_model.specs.Archive.{Session, CanKeep, after_kept}
+use Rattle.syn_model.specs.ArchiveImage.{ArchiveStandsFor}
+use Rattle.syn_model.specs.MarkSpelling.{kept_spelling}
+use Rattle.syn_archive.specs.Disks.{StandsBeforeOrAfter}
+use Rattle.syn_archive.proofs.StandLemmas.{payload_keeps, stop_keeps, leaves_weaker, can_begin}
+use Rattle.syn_archive.proofs.archive.Archive.next_session.Goals as goal
+
+pub returns-in_err-append-clause-any_moment : goal.returns-in_err-append-clause-any_moment
+returns-in_err-append-clause-any_moment g c kept stands =
+    let last = ap (λ a. a.last_session) stands.remembers in
+    let sound = c.archive_laws.ensures.sound c.args.self.now.pair stands.value.image stands.value.payloads kept stands.means in
+    let can = can_begin kept (omega (arith, c.if-self.false, sound.session, last)) in
+    let payload : c.deref.result.now ≡ kept_spelling (Session (kept.last_session + 1)) = c.deref.ensures.value ∙ (c.in_ok-payload.ensures ∙ ap (λ n. kept_spelling (Session (n + 1))) last) in
+    leaves_weaker g.D.Disk.moment g.D.Disk.left_since _ _ (IsBeforeOrAfter stands.value (with_payload stands.value c.deref.result.now)) (StandsBeforeOrAfter c.args.self.now.pair kept (Session (kept.last_session + 1)))
+    (stop_keeps c.archive_laws.ensures.record c.args.self.now.pair stands.value c.deref.result.now kept (Session (kept.last_session + 1)) stands.means can payload)
+    (c.in_err-append.ensures.any_moment stands.value stands.runs)
+
+pub returns-clause-acknowledged : goal.returns-clause-acknowledged
+returns-clause-acknowledged g c kept stands =
+    let last = ap (λ a. a.last_session) stands.remembers in
+    let sound = c.archive_laws.ensures.sound c.args.self.now.pair stands.value.image stands.value.payloads kept stands.means in
+    let can = can_begin kept (omega (arith, c.if-self.false, sound.session, last)) in
+    let payload : c.deref.result.now ≡ kept_spelling (Session (kept.last_session + 1)) = c.deref.ensures.value ∙ (c.in_ok-payload.ensures ∙ ap (λ n. kept_spelling (Session (n + 1))) last) in (
+      ap (λ n. n + 1) last,
+      record {
+        remembers = ap (λ a. after_kept a (Session (c.args.self.now.last_session + 1))) stands.remembers;
+        value = with_payload stands.value c.deref.result.now;
+        runs = c.in_ok-append.ensures.acknowledged stands.value stands.runs;
+        means = subst (λ n. ArchiveStandsFor c.args.self.now.pair stands.value.image (stands.value.payloads ++ c.deref.result.now ∷ []) (after_kept kept (Session (n + 1)))) (sym last)
+            (payload_keeps c.archive_laws.ensures.record c.args.self.now.pair stands.value c.deref.result.now kept (Session (kept.last_session + 1)) stands.means can payload);
+      },
+    )
+
+pub returns-clause-any_moment : goal.returns-clause-any_moment
+returns-clause-any_moment g c kept stands =
+    let last = ap (λ a. a.last_session) stands.remembers in
+    let sound = c.archive_laws.ensures.sound c.args.self.now.pair stands.value.image stands.value.payloads kept stands.means in
+    let can = can_begin kept (omega (arith, c.if-self.false, sound.session, last)) in
+    let payload : c.deref.result.now ≡ kept_spelling (Session (kept.last_session + 1)) = c.deref.ensures.value ∙ (c.in_ok-payload.ensures ∙ ap (λ n. kept_spelling (Session (n + 1))) last) in
+    leaves_weaker g.D.Disk.moment g.D.Disk.left_since _ _ (IsBeforeOrAfter stands.value (with_payload stands.value c.deref.result.now)) (StandsBeforeOrAfter c.args.self.now.pair kept (Session (kept.last_session + 1)))
+    (stop_keeps c.archive_laws.ensures.record c.args.self.now.pair stands.value c.deref.result.now kept (Session (kept.last_session + 1)) stands.means can payload)
+    (c.in_ok-append.ensures.any_moment stands.value stands.runs)

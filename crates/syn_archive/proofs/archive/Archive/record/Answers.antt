@@ -1,0 +1,50 @@
+use Rattle.std.proofs.Common.{◌≡◌, ℕ, ◌++◌, ◌∷◌, [], Option, Some, None, Bor, option_map, refl, sym, ap, ap₂, ◌∙◌, subst}
+use Rattle.std.specs.Option.{option_copied}
+use Rattle.syn_journal.specs.Layout.{with_payload, IsBeforeOrAfter}
+use Rattle.syn_model.specs.Tree.{Tree, replace}
+use Rattle.syn_model.specs.Archive.{Archive, Recorded, CanKeep, after_kept, kept_refusal}
+use Rattle.syn_model.specs.MarkSpelling.{kept_spelling}
+use Rattle.syn_mark.specs.Marks.{or_absent}
+use Rattle.syn_mark.specs.declared.tree.MarkTree.{MarkTree}
+use Rattle.syn_archive.specs.Archive.{shown}
+use Rattle.syn_archive.specs.Disks.{StandsBeforeOrAfter}
+use Rattle.syn_archive.proofs.StandLemmas.{payload_keeps, stop_keeps, leaves_weaker}
+use Rattle.syn_archive.proofs.archive.Archive.record.Goals as goal
+
+copied : (o : Option (Bor MarkTree)) → option_map (λ m. m.now) o ≡ option_copied o
+copied None = refl
+copied (Some m) = refl
+
+abbrev with_marks : ℕ → Tree → Archive
+with_marks session marks = record { marks = marks; last_session = session }
+
+pub returns-in_err-append-clause-any_moment : goal.returns-in_err-append-clause-any_moment
+returns-in_err-append-clause-any_moment g c kept stands =
+    let what = Recorded c.args.path.now (or_absent c.args.marks) in
+    let can : CanKeep kept what = record { lawful = (c.in_ok-change.ensures.path, c.in_ok-change.ensures.marks); not_refused = ap (λ a. kept_refusal a what) (sym stands.remembers) ∙ c.in_ok-change.ensures.allowed } in
+    let payload : c.deref.result.now ≡ kept_spelling what = c.deref.ensures.value ∙ (c.in_ok-payload.ensures ∙ ap (λ o. kept_spelling (Recorded c.args.path.now (or_absent o))) (copied c.as_ref-2.result ∙ c.as_ref-2.ensures.value)) in
+    leaves_weaker g.D.Disk.moment g.D.Disk.left_since _ _ (IsBeforeOrAfter stands.value (with_payload stands.value c.deref.result.now)) (StandsBeforeOrAfter c.args.self.now.pair kept what)
+    (stop_keeps c.archive_laws.ensures.record c.args.self.now.pair stands.value c.deref.result.now kept what stands.means can payload)
+    (c.in_err-append.ensures.any_moment stands.value stands.runs)
+
+pub returns-clause-acknowledged : goal.returns-clause-acknowledged
+returns-clause-acknowledged g c kept stands =
+    let what = Recorded c.args.path.now (or_absent c.args.marks) in
+    let can : CanKeep kept what = record { lawful = (c.in_ok-change.ensures.path, c.in_ok-change.ensures.marks); not_refused = ap (λ a. kept_refusal a what) (sym stands.remembers) ∙ c.in_ok-change.ensures.allowed } in
+    let payload : c.deref.result.now ≡ kept_spelling what = c.deref.ensures.value ∙ (c.in_ok-payload.ensures ∙ ap (λ o. kept_spelling (Recorded c.args.path.now (or_absent o))) (copied c.as_ref-2.result ∙ c.as_ref-2.ensures.value)) in
+    let made = c.make.ensures ∙ ap₂ (λ p u. replace c.args.self.now.marks p u) c.in_ok-change.ensures.at c.in_ok-change.ensures.new in
+    record {
+      remembers = ap (with_marks c.args.self.now.last_session) made ∙ ap (λ a. after_kept a what) stands.remembers;
+      value = with_payload stands.value c.deref.result.now;
+      runs = c.in_ok-append.ensures.acknowledged stands.value stands.runs;
+      means = payload_keeps c.archive_laws.ensures.record c.args.self.now.pair stands.value c.deref.result.now kept what stands.means can payload;
+    }
+
+pub returns-clause-any_moment : goal.returns-clause-any_moment
+returns-clause-any_moment g c kept stands =
+    let what = Recorded c.args.path.now (or_absent c.args.marks) in
+    let can : CanKeep kept what = record { lawful = (c.in_ok-change.ensures.path, c.in_ok-change.ensures.marks); not_refused = ap (λ a. kept_refusal a what) (sym stands.remembers) ∙ c.in_ok-change.ensures.allowed } in
+    let payload : c.deref.result.now ≡ kept_spelling what = c.deref.ensures.value ∙ (c.in_ok-payload.ensures ∙ ap (λ o. kept_spelling (Recorded c.args.path.now (or_absent o))) (copied c.as_ref-2.result ∙ c.as_ref-2.ensures.value)) in
+    leaves_weaker g.D.Disk.moment g.D.Disk.left_since _ _ (IsBeforeOrAfter stands.value (with_payload stands.value c.deref.result.now)) (StandsBeforeOrAfter c.args.self.now.pair kept what)
+    (stop_keeps c.archive_laws.ensures.record c.args.self.now.pair stands.value c.deref.result.now kept what stands.means can payload)
+    (c.in_ok-append.ensures.any_moment stands.value stands.runs)

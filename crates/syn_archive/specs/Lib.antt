@@ -1,0 +1,3 @@
+pub mod Archive
+pub mod Disks
+pub mod Refusals

@@ -1,0 +1,87 @@
+-- Why a call of an archive is refused, as a refusal of the product.
+use Rattle.std.specs.Prelude.{◌≡◌, ◌<◌, ℕ, Result, Ok, Err, Option, Some, None}
+use Rattle.syn_disk.specs.Arms.{Arms}
+use Rattle.syn_disk.specs.Calls.{MakesAtLeast, Breaks, BreaksSometime}
+use Rattle.syn_model.specs.Refusal.{Refusal}
+use Rattle.syn_model.specs.Refusal as why
+use Rattle.syn_tree.specs.declared.error.TreeError.{TreeError}
+use Rattle.syn_tree.specs.declared.error.TreeError.TheVariants as tree
+use Rattle.syn_journal.specs.declared.error.JournalError.{JournalError}
+use Rattle.syn_journal.specs.declared.error.JournalError.TheVariants as journal
+use Rattle.syn_archive.specs.declared.error.ArchiveError.{ArchiveError}
+use Rattle.syn_archive.specs.declared.error.ArchiveError.TheVariants.{NoParent, Root, Full, JournalFull, Device, Halted, Memory, NoImage, Damaged, WrongPair}
+
+abbrev pub refusal_of : ArchiveError → Refusal
+refusal_of NoParent = why.NoParent
+refusal_of Root = why.Root
+refusal_of Full = why.Full
+refusal_of JournalFull = why.JournalFull
+refusal_of Device = why.Device
+refusal_of Halted = why.Halted
+refusal_of Memory = why.Memory
+refusal_of NoImage = why.NoImage
+refusal_of Damaged = why.Damaged
+refusal_of WrongPair = why.WrongPair
+
+-- why a call was refused, if it was
+abbrev pub refusal_in : {X : Type 0} → Result X ArchiveError → Option Refusal
+refusal_in (Ok x) = None
+refusal_in (Err e) = Some (refusal_of e)
+
+abbrev pub of_tree : TreeError → ArchiveError
+of_tree tree.NoParent = NoParent
+of_tree tree.IsDirectory = Full
+of_tree tree.Exists = Full
+of_tree tree.Absent = Full
+of_tree tree.Root = Root
+of_tree tree.Full = Full
+of_tree tree.Memory = Memory
+
+abbrev pub of_journal : JournalError → ArchiveError
+of_journal journal.Full = Full
+of_journal journal.JournalFull = JournalFull
+of_journal journal.Device = Device
+of_journal journal.Halted = Halted
+of_journal journal.Memory = Memory
+of_journal journal.NoImage = NoImage
+of_journal journal.Damaged = Damaged
+
+-- Device is answered where the count of failed calls grew, and any other refusal where it did not
+abbrev pub CountsFailures : ArchiveError → ℕ → ℕ → Type 0
+CountsFailures Device old new = old < new
+CountsFailures _ old new = new ≡ old
+
+-- Where Device is answered, the last of at most so many device calls failed, and none was made where
+-- any other refusal is.
+abbrev pub MakesIfDevice : ArchiveError → ℕ → Arms → Arms → Type 0
+MakesIfDevice Device most old new = Breaks most old new
+MakesIfDevice _ most old new = new ≡ old
+
+-- Where Device is answered, the last device call failed, and none where any other refusal is.
+abbrev pub AfterReads : ℕ → ArchiveError → Arms → Arms → Type 0
+AfterReads least Device old new = BreaksSometime old new
+AfterReads least _ old new = MakesAtLeast least old new
+
+-- the refusals of each call
+abbrev pub IsOfFormat : ArchiveError → Type 0
+IsOfFormat Device = Unit {0}
+IsOfFormat Memory = Unit {0}
+IsOfFormat _ = ⊥
+
+abbrev pub IsOfSession : ArchiveError → Type 0
+IsOfSession Full = Unit {0}
+IsOfSession JournalFull = Unit {0}
+IsOfSession Device = Unit {0}
+IsOfSession Halted = Unit {0}
+IsOfSession Memory = Unit {0}
+IsOfSession _ = ⊥
+
+abbrev pub IsOfRecord : ArchiveError → Type 0
+IsOfRecord NoParent = Unit {0}
+IsOfRecord Root = Unit {0}
+IsOfRecord Full = Unit {0}
+IsOfRecord JournalFull = Unit {0}
+IsOfRecord Device = Unit {0}
+IsOfRecord Halted = Unit {0}
+IsOfRecord Memory = Unit {0}
+IsOfRecord _ = ⊥

@@ -1,0 +1,375 @@
+//! An archive over a journal.
+ghost use Rattle.std.specs.Prelude.{◌≡◌, ◌⊎◌, ◌↔◌, ◌+◌, ◌<◌, ◌≤◌, [], ℕ, length, OnOk, IfOk, IfErr, IsErrAnd, MatchResult, Err, Some, true, false, option_map};
+ghost use Rattle.syn_model.specs.Archive.{Archive as Kept_marks, Session, Recorded, RecordedDir, new_archive, after_kept, kept_refusal};
+ghost use Rattle.syn_model.specs.Refusal.{Refusal};
+ghost use Rattle.syn_model.specs.Tree.{empty_directory, is_directory, subtree};
+ghost use Rattle.syn_model.specs.Path.{is_root};
+ghost use Rattle.syn_journal.specs.Journal.{SameReadings};
+ghost use Rattle.syn_disk.specs.Armed.{armed};
+ghost use Rattle.syn_disk.specs.Arms.{is_stopped};
+ghost use Rattle.syn_disk.specs.Disk.{SameOutcomes};
+ghost use Rattle.syn_model.specs.MarkSpelling.{archive_spelling, kept_spelling};
+ghost use Rattle.syn_mark.specs.Marks.{or_absent};
+ghost use Rattle.syn_disk.specs.Calls.{Makes};
+ghost use Rattle.syn_disk.specs.Stops.{LeavesOnly};
+ghost use Rattle.syn_archive.specs.Disks.{StandsBeforeOrAfter};
+ghost use Rattle.syn_archive.specs.Refusals.{refusal_of, refusal_in, CountsFailures, MakesIfDevice, IsOfFormat, IsOfSession, IsOfRecord};
+
+use crate::error::ArchiveError;
+use std::alloc::Global;
+use syn_disk::{Arm, Disk, Limit};
+use syn_journal::Journal;
+use syn_mark::{Mark, MarkTree};
+use syn_model::archive_laws;
+use syn_path::Path;
+use syn_wire::{encode_archive, encode_dir, encode_record, encode_session};
+
+/// How many bytes spell a session that begins.
+const SESSION_LENGTH: usize = 9;
+
+/// The marks that both sides last agreed on, and the number of the last session. It outlives stops
+/// of its machine.
+#[derive(Drop)]
+pub struct Archive<D: Disk> {
+    journal: Journal<D>,
+    pair: u64,
+    last_session: u64,
+    marks: MarkTree,
+}
+
+impl<D: Disk> Archive<D> {
+    ghost use Rattle.syn_archive.specs.Archive.{pair_of, marks_shown, session_shown, shown, disk_of, journal_of, room_shown, generation_shown, IsHalted, Stands, SameMemory};
+
+    /// Formats the disk as an archive of the pair, whose root is an empty directory, with no session.
+    ///
+    /// Refused 11 where memory is refused, and 9 where a device call fails; the disk comes back. A
+    /// stop during the call may leave a disk that opens to what it held before, to the new archive,
+    /// or to none.
+    pub fn format(alloc: Global, disk: D, pair: u64) -> Result<Archive<D>, (ArchiveError, D)>
+        ensures formatted { IfOk result (λ archive. Stands archive new_archive) }
+        ensures pair { IfOk result (λ archive. pair_of archive ≡ pair) }
+        ensures generation { IfOk result (λ archive. generation_shown archive ≡ 1) }
+        ensures refusals { IfErr result (λ refused. IsOfFormat refused.0) }
+        ensures unchanged { IfErr result
+            (λ refused. (refused.0 ≡ ArchiveError.Device) ⊎ (refused.1 ≡ disk)) }
+        ensures failures { MatchResult result
+            (λ archive. D.failures (disk_of archive) ≡ D.failures disk)
+            (λ refused. CountsFailures refused.0 (D.failures disk) (D.failures refused.1)) }
+
+        // Seven device calls where it succeeds. After 9 the last that was made failed.
+        ensures calls { MatchResult result
+            (λ archive. Makes 7 (D.arms disk) (D.arms (disk_of archive)))
+            (λ refused. MakesIfDevice refused.0 7 (D.arms disk) (D.arms refused.1)) }
+    {
+        archive_laws();
+        let (image, marks) = match blank(alloc, pair) {
+            Ok(made) => made,
+            Err(error) => return Err((error, disk)),
+        };
+        match Journal::format(alloc, disk, &image) {
+            Ok(journal) => Ok(Archive {
+                journal,
+                pair,
+                last_session: 0,
+                marks,
+            }),
+            Err((error, disk)) => Err((ArchiveError::from(error), disk)),
+        }
+    }
+
+    /// The number of the pair.
+    pub fn pair(&self) -> u64
+        ensures { result ≡ pair_of self.now }
+    {
+        self.pair
+    }
+
+    /// The number of the last session; 0 before the first.
+    pub fn last_session(&self) -> u64
+        ensures { result ≡ session_shown self.now }
+    {
+        self.last_session
+    }
+
+    /// The marks, as they stand in memory.
+    pub fn tree(&self) -> &MarkTree
+        ensures { result.now ≡ marks_shown self.now }
+    {
+        &self.marks
+    }
+
+    /// The generation of the journal's current half: 1 after `format`.
+    pub fn generation(&self) -> u64
+        ensures { result ≡ generation_shown self.now }
+    {
+        self.journal.generation()
+    }
+
+    /// The length of the longest payload that still fits in the journal, or 0 where none does.
+    pub fn room(&self) -> usize
+        ensures { result ≡ room_shown self.now }
+    {
+        self.journal.room()
+    }
+
+    /// Whether a call was refused 9 since the archive was formatted or opened.
+    pub fn is_halted(&self) -> bool
+        ensures { (result ≡ true) ↔ IsHalted self.now }
+    {
+        self.journal.is_halted()
+    }
+
+    /// The disk, as the last call left it.
+    pub fn into_disk(self) -> D
+        ensures { result ≡ disk_of self }
+    {
+        self.journal.into_disk()
+    }
+
+    /// The marks at and below the path; none where nothing is. Refused 11 where memory is refused.
+    pub fn subtree(&self, alloc: Global, path: &Path) -> Result<Option<MarkTree>, ArchiveError>
+        ensures ok { IfOk result
+            (λ marks. or_absent marks ≡ subtree (marks_shown self.now) path.now) }
+        ensures memory { IfErr result (λ e. e ≡ ArchiveError.Memory) }
+    {
+        Ok(self.marks.subtree(alloc, path)?)
+    }
+
+    /// Takes the next number of a session, and answers it; the first is 1.
+    ///
+    /// Refused 10 while the archive is halted, 7 where the last number is the greatest, 8 where the
+    /// record does not fit in the journal, 11 where memory is refused, and 9 where a device call
+    /// fails. After 9 the archive is halted and shows what it had; after any other refusal it is as
+    /// it was.
+    pub fn next_session(&mut self, alloc: Global) -> Result<u64, ArchiveError>
+        ensures acknowledged { (kept : Kept_marks) → Stands self.old kept
+            → IfOk result (λ session. (session ≡ kept.last_session + 1)
+            × Stands self.new (after_kept kept (Session session))) }
+        ensures any_moment { (kept : Kept_marks) → Stands self.old kept
+            → LeavesOnly D.moment D.left_since (disk_of self.old) (disk_of self.new)
+            (StandsBeforeOrAfter (pair_of self.old) kept (Session (kept.last_session + 1))) }
+
+        // Each refusal has its cause.
+        ensures refused { (kept : Kept_marks) (why : Refusal) → Stands self.old kept
+            → kept_refusal kept (Session (kept.last_session + 1)) ≡ Some why
+            → IsErrAnd result (λ e. refusal_of e ≡ why) }
+        ensures no_room { result ≡ Err ArchiveError.JournalFull → room_shown self.old < 9 }
+        ensures refusals { IfErr result IsOfSession }
+        ensures halted { (result ≡ Err ArchiveError.Halted) ↔ IsHalted self.old }
+        ensures halts { result ≡ Err ArchiveError.Device → IsHalted self.new }
+        ensures failures { MatchResult result
+            (λ _. D.failures (disk_of self.new) ≡ D.failures (disk_of self.old))
+            (λ e. CountsFailures e (D.failures (disk_of self.old))
+            (D.failures (disk_of self.new))) }
+
+        // Four device calls where it succeeds. After 9 the last that was made failed.
+        ensures calls { MatchResult result
+            (λ _. Makes 4 (D.arms (disk_of self.old)) (D.arms (disk_of self.new)))
+            (λ e. MakesIfDevice e 4 (D.arms (disk_of self.old)) (D.arms (disk_of self.new))) }
+
+        // What stays after a refusal.
+        ensures remembers { IfErr result (λ _. SameMemory self.old self.new) }
+        ensures unchanged { IfErr result
+            (λ e. (e ≡ ArchiveError.Device) ⊎ (journal_of self.new ≡ journal_of self.old)) }
+    {
+        archive_laws();
+        if self.journal.is_halted() {
+            return Err(ArchiveError::Halted);
+        }
+        if self.last_session == u64::MAX {
+            return Err(ArchiveError::Full);
+        }
+        if SESSION_LENGTH > self.journal.room() {
+            return Err(ArchiveError::JournalFull);
+        }
+        let session = self.last_session + 1;
+        let payload = encode_session(alloc, session)?;
+        self.journal.append(alloc, &payload)?;
+        self.last_session = session;
+        Ok(session)
+    }
+
+    /// Why the marks, or that nothing is there, cannot be recorded at the path; it takes no memory.
+    ///
+    /// Refused 6 at the root, 2 where the parent is no directory, and 7 where the archive would pass
+    /// a limit.
+    pub fn fits(&self, path: &Path, marks: Option<&MarkTree>) -> Result<(), ArchiveError>
+        ensures { refusal_in result ≡ kept_refusal (shown self.now)
+            (Recorded path.now (or_absent (option_map (λ there. there.now) marks.entry))) }
+    {
+        Ok(self.marks.check_replace(path, marks)?)
+    }
+
+    /// Records the marks at and below the path, or that nothing is there.
+    ///
+    /// Refused 10 while the archive is halted; 6 at the root, 2 where the parent is no directory,
+    /// and 7 where the archive would pass a limit; 8 where the record does not fit in the journal,
+    /// 11 where memory is refused, and 9 where a device call fails. After 9 the archive is halted
+    /// and shows what it had; after any other refusal it is as it was.
+    pub fn record(
+        &mut self,
+        alloc: Global,
+        path: &Path,
+        marks: Option<MarkTree>,
+    ) -> Result<(), ArchiveError>
+        ensures acknowledged { (kept : Kept_marks) → Stands self.old kept
+            → OnOk result (Stands self.new
+            (after_kept kept (Recorded path.now (or_absent marks)))) }
+        ensures any_moment { (kept : Kept_marks) → Stands self.old kept
+            → LeavesOnly D.moment D.left_since (disk_of self.old) (disk_of self.new)
+            (StandsBeforeOrAfter (pair_of self.old) kept (Recorded path.now (or_absent marks))) }
+
+        // Each refusal has its cause.
+        ensures refused { (why : Refusal) → ¬ IsHalted self.old
+            → kept_refusal (shown self.old) (Recorded path.now (or_absent marks)) ≡ Some why
+            → IsErrAnd result (λ e. refusal_of e ≡ why) }
+        ensures no_room { result ≡ Err ArchiveError.JournalFull
+            → room_shown self.old < length (kept_spelling (Recorded path.now (or_absent marks))) }
+        ensures refusals { IfErr result IsOfRecord }
+        ensures halted { (result ≡ Err ArchiveError.Halted) ↔ IsHalted self.old }
+        ensures halts { result ≡ Err ArchiveError.Device → IsHalted self.new }
+        ensures failures { MatchResult result
+            (λ _. D.failures (disk_of self.new) ≡ D.failures (disk_of self.old))
+            (λ e. CountsFailures e (D.failures (disk_of self.old))
+            (D.failures (disk_of self.new))) }
+
+        // Four device calls where it succeeds. After 9 the last that was made failed.
+        ensures calls { MatchResult result
+            (λ _. Makes 4 (D.arms (disk_of self.old)) (D.arms (disk_of self.new)))
+            (λ e. MakesIfDevice e 4 (D.arms (disk_of self.old)) (D.arms (disk_of self.new))) }
+
+        // What stays after a refusal.
+        ensures remembers { IfErr result (λ _. SameMemory self.old self.new) }
+        ensures unchanged { IfErr result
+            (λ e. (e ≡ ArchiveError.Device) ⊎ (journal_of self.new ≡ journal_of self.old)) }
+    {
+        archive_laws();
+        if self.journal.is_halted() {
+            return Err(ArchiveError::Halted);
+        }
+        self.fits(path, marks.as_ref())?;
+        let payload = encode_record(alloc, path, marks.as_ref())?;
+        let change = self.marks.prepare_replace(alloc, path, marks)?;
+        self.journal.append(alloc, &payload)?;
+        self.marks.make(change);
+        Ok(())
+    }
+
+    /// Records a directory at the path, with what the archive has below it; nothing where a directory
+    /// is recorded there.
+    ///
+    /// Refused 10 while the archive is halted; 6 at the root, 2 where the parent is no directory,
+    /// and 7 where the archive would pass a limit; 8 where the record does not fit in the journal,
+    /// 11 where memory is refused, and 9 where a device call fails. After 9 the archive is halted
+    /// and shows what it had; after any other refusal it is as it was.
+    pub fn record_dir(&mut self, alloc: Global, path: &Path) -> Result<(), ArchiveError>
+        ensures acknowledged { (kept : Kept_marks) → Stands self.old kept
+            → OnOk result (Stands self.new (after_kept kept (RecordedDir path.now))) }
+        ensures any_moment { (kept : Kept_marks) → Stands self.old kept
+            → LeavesOnly D.moment D.left_since (disk_of self.old) (disk_of self.new)
+            (StandsBeforeOrAfter (pair_of self.old) kept (RecordedDir path.now)) }
+
+        // Where a directory is recorded, nothing happens, and no device call is made.
+        ensures recorded { is_directory (marks_shown self.old) path.now ≡ true
+            → self.new ≡ self.old }
+        ensures root { is_root path.now ≡ true → IfErr result
+            (λ e. (e ≡ ArchiveError.Root) ⊎ IsHalted self.old) }
+        ensures refusals { IfErr result IsOfRecord }
+        ensures halted { (result ≡ Err ArchiveError.Halted) ↔ IsHalted self.old }
+        ensures halts { result ≡ Err ArchiveError.Device → IsHalted self.new }
+        ensures failures { MatchResult result
+            (λ _. D.failures (disk_of self.new) ≡ D.failures (disk_of self.old))
+            (λ e. CountsFailures e (D.failures (disk_of self.old))
+            (D.failures (disk_of self.new))) }
+        ensures remembers { IfErr result (λ _. SameMemory self.old self.new) }
+        ensures unchanged { IfErr result
+            (λ e. (e ≡ ArchiveError.Device) ⊎ (journal_of self.new ≡ journal_of self.old)) }
+    {
+        archive_laws();
+        if self.journal.is_halted() {
+            return Err(ArchiveError::Halted);
+        }
+        if path.names().is_empty() {
+            return Err(ArchiveError::Root);
+        }
+        match self.marks.get(path) {
+            Some(Mark::Dir) => Ok(()),
+            _ => self.record_new_dir(alloc, path),
+        }
+    }
+
+    // Records a directory where none is.
+    fn record_new_dir(&mut self, alloc: Global, path: &Path) -> Result<(), ArchiveError>
+        requires { is_directory (marks_shown self.old) path.now ≡ false }
+        ensures acknowledged { (kept : Kept_marks) → Stands self.old kept
+            → OnOk result (Stands self.new (after_kept kept (RecordedDir path.now))) }
+        ensures any_moment { (kept : Kept_marks) → Stands self.old kept
+            → LeavesOnly D.moment D.left_since (disk_of self.old) (disk_of self.new)
+            (StandsBeforeOrAfter (pair_of self.old) kept (RecordedDir path.now)) }
+        ensures refusals { IfErr result IsOfRecord }
+        ensures halted { result ≡ Err ArchiveError.Halted → IsHalted self.old }
+        ensures halts { result ≡ Err ArchiveError.Device → IsHalted self.new }
+        ensures failures { MatchResult result
+            (λ _. D.failures (disk_of self.new) ≡ D.failures (disk_of self.old))
+            (λ e. CountsFailures e (D.failures (disk_of self.old))
+            (D.failures (disk_of self.new))) }
+
+        // Four device calls where it succeeds. After 9 the last that was made failed.
+        ensures calls { MatchResult result
+            (λ _. Makes 4 (D.arms (disk_of self.old)) (D.arms (disk_of self.new)))
+            (λ e. MakesIfDevice e 4 (D.arms (disk_of self.old)) (D.arms (disk_of self.new))) }
+        ensures remembers { IfErr result (λ _. SameMemory self.old self.new) }
+        ensures unchanged { IfErr result
+            (λ e. (e ≡ ArchiveError.Device) ⊎ (journal_of self.new ≡ journal_of self.old)) }
+    {
+        archive_laws();
+        let directory = MarkTree::of_mark(alloc, Mark::Dir)?;
+        self.fits(path, Some(&directory))?;
+        let payload = encode_dir(alloc, path)?;
+        let change = self.marks.prepare_replace(alloc, path, Some(directory))?;
+        self.journal.append(alloc, &payload)?;
+        self.marks.make(change);
+        Ok(())
+    }
+}
+
+impl<D: Limit> Archive<D> {
+    ghost use Rattle.syn_archive.specs.Archive.{disk_of, journal_of, SameMemory, Stands};
+
+    /// Arms the archive's disk. It takes the place of an arm of its kind that is still to come.
+    pub fn arm(&mut self, arm: Arm)
+        ensures arms { D.Disk.arms (disk_of self.new) ≡ armed (D.Disk.arms (disk_of self.old)) arm }
+
+        // It changes nothing that a read gives or a stop leaves.
+        ensures seen { D.Disk.seen (disk_of self.new) ≡ D.Disk.seen (disk_of self.old) }
+        ensures stop { SameOutcomes (D.Disk.may_leave (disk_of self.old))
+            (D.Disk.may_leave (disk_of self.new)) }
+        ensures moment { D.Disk.moment (disk_of self.new) ≡ D.Disk.moment (disk_of self.old) }
+        ensures past { (t : ℕ) → SameOutcomes (D.Disk.left_since (disk_of self.old) t)
+            (D.Disk.left_since (disk_of self.new) t) }
+        ensures failures { D.Disk.failures (disk_of self.new) ≡ D.Disk.failures (disk_of self.old) }
+        ensures stands { (kept : Kept_marks) → Stands self.old kept → Stands self.new kept }
+        ensures memory { SameMemory self.old self.new }
+        ensures readings { SameReadings (journal_of self.old) (journal_of self.new) }
+    {
+        self.journal.arm(arm);
+    }
+
+    /// Whether all the device calls before a stop are made.
+    pub fn is_cut(&self) -> bool
+        ensures { result ≡ is_stopped (D.Disk.arms (disk_of self.now)) }
+    {
+        self.journal.is_cut()
+    }
+}
+
+// The image of an archive whose root is an empty directory, with no session, and its marks.
+fn blank(alloc: Global, pair: u64) -> Result<(Vec<u8>, MarkTree), ArchiveError>
+    ensures image { IfOk result (λ made. made.0.items ≡ archive_spelling pair new_archive) }
+    ensures marks { IfOk result (λ made. made.1 ≡ empty_directory) }
+    ensures memory { IfErr result (λ e. e ≡ ArchiveError.Memory) }
+{
+    let marks = MarkTree::of_mark(alloc, Mark::Dir)?;
+    let image = encode_archive(alloc, pair, 0, &marks)?;
+    Ok((image, marks))
+}

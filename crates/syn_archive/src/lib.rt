@@ -1,0 +1,8 @@
+//! The archive: the marks that both sides last agreed on, on a disk.
+#![tactic(auto)]
+
+mod archive;
+mod error;
+
+pub use archive::Archive;
+pub use error::ArchiveError;
