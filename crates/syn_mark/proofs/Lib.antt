@@ -1,2 +1,4 @@
 pub mod MarkLemmas
 pub mod PlacingLemmas
+pub mod ChangeLemmas
+pub mod SameLemmas

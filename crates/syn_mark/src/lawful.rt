@@ -1,10 +1,12 @@
 //! What the types of paths and marks say of them.
 ghost use Rattle.std.specs.Prelude.{◌≡◌, length};
 ghost use Rattle.syn_model.specs.Event.{AreBytes};
+ghost use Rattle.syn_model.specs.Path.{IsPath};
 ghost use Rattle.syn_mark.specs.Marks.{content_of, IsMarkPair, IsDigestOrDirectory};
 
 use crate::mark::Mark;
 use crate::tree::MarkEntry;
+use syn_path::Path;
 
 /// The digest of a file has 32 bytes.
 pub(crate) fn is_mark(mark: Mark)
@@ -37,4 +39,11 @@ pub(crate) fn is_entry(entry: &MarkEntry)
 {
     let _ = entry.path().names();
     is_mark(*entry.standing());
+}
+
+/// The path is a lawful one.
+pub(crate) fn is_path(path: &Path)
+    ensures { IsPath path.now }
+{
+    let _ = path.names();
 }

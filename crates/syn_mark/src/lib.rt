@@ -7,6 +7,7 @@ mod lawful;
 mod mark;
 mod marking;
 mod placing;
+mod same;
 mod tree;
 
 pub use change::MarkChange;

@@ -1,21 +1,26 @@
-ghost use Rattle.std.specs.Prelude.{◌≡◌, ◌≢◌, true, Some, filter, option_map, IfOk, IfErr, IfSome, IfNone};
+ghost use Rattle.std.specs.Prelude.{◌≡◌, ◌≢◌, ◌↔◌, IsTrue, true, length, Some, None, filter, option_map, IfOk, IfErr, IfSome, IfNone};
 ghost use Rattle.std.specs.FinMap.{entries, get, len};
 ghost use Rattle.syn_model.specs.Path.{root};
-ghost use Rattle.syn_model.specs.Tree.{Tree as Pairs, at_root, is_directory, is_present, subtree};
+ghost use Rattle.syn_model.specs.Tree.{Tree as Pairs, at_root, is_directory, is_present, replace};
+ghost use Rattle.syn_model.specs.Tree.{subtree};
 ghost use Rattle.syn_model.specs.Mark.{IsMarks};
-ghost use Rattle.syn_model.specs.Limits.{fits_archive};
+ghost use Rattle.syn_model.specs.Limits.{children, fits_archive};
 ghost use Rattle.syn_tree.specs.Pairs.{is_below};
 ghost use Rattle.syn_tree.specs.Refusals.{refusal_of, refusal_in};
+ghost use Rattle.syn_model.specs.Refusal.{first_cause};
+ghost use Rattle.syn_model.specs.Standing.{place_causes};
 ghost use Rattle.syn_mark.specs.Marks.{content_of, or_absent, AreMarks, marks_with};
+ghost use Rattle.syn_mark.specs.Changes.{IsPreparedFor, after_change, replace_refusal};
 
-use crate::lawful::{is_entry, is_mark};
+use crate::change::MarkChange;
+use crate::lawful::{is_entry, is_mark, is_path};
 use crate::mark::Mark;
-use crate::placing::{all_placed, is_root};
+use crate::placing::{all_fit_below, all_placed, copy_part, is_root, placed, stands_directory};
+use crate::same::same_entries;
 use std::alloc::Global;
 use std::marker::Model;
 use syn_path::Path;
-use syn_tree::copies::below;
-use syn_tree::list::{are_rising, entry_at, part_at, part_below};
+use syn_tree::list::{are_rising, count_children_at, entry_at, part_at, part_below, replace_part};
 use syn_tree::{Placed, Standing, TreeError};
 
 /// A path with its mark. Contracts see it as the pair of the two.
@@ -108,6 +113,15 @@ impl MarkTree {
         self.list.as_slice()
     }
 
+    /// The entries in path order, the root's first.
+    pub fn into_vec(self) -> Vec<MarkEntry>
+        ensures all { result.items ≡ entries self }
+        ensures marks { IsMarks self }
+        ensures fits { fits_archive self ≡ true }
+    {
+        self.list
+    }
+
     /// The mark at the path; none where nothing is.
     pub fn get(&self, path: &Path) -> Option<Mark>
         ensures { option_map (λ mark. content_of mark) result ≡ get self.now path.now }
@@ -133,6 +147,33 @@ impl MarkTree {
         self.list.len()
     }
 
+    /// How many names are in the directory; none where no directory is there.
+    /// The work grows with what is below the path, and not with the whole tree.
+    pub fn child_count(&self, path: &Path) -> usize
+        ensures { result ≡ length (children self.now path.now) }
+    {
+        count_children_at(&self.list, path)
+    }
+
+    /// The mark of the root.
+    pub fn root(&self) -> Mark
+        ensures { get self.now root ≡ Some (content_of result) }
+    {
+        match entry_at(&self.list, &[]) {
+            Some(entry) => *entry.standing(),
+            None => Mark::Dir,
+        }
+    }
+
+    /// The same marks, on their own. Refused 11 where memory is refused.
+    pub fn copy(&self, alloc: Global) -> Result<MarkTree, TreeError>
+        ensures ok { IfOk result (λ marks. marks ≡ self.now) }
+        ensures memory { IfErr result (λ e. e ≡ TreeError.Memory) }
+    {
+        let list = copy_part(alloc, self.root(), &self.list, &Path::root(alloc))?;
+        Ok(MarkTree { list })
+    }
+
     /// The marks at and below the path; none where nothing is. Refused 11 where memory is refused.
     pub fn subtree(&self, alloc: Global, path: &Path) -> Result<Option<MarkTree>, TreeError>
         ensures ok { IfOk result (λ marks. or_absent marks ≡ subtree self.now path.now) }
@@ -142,10 +183,109 @@ impl MarkTree {
         let Some(mark) = self.get(path) else {
             return Ok(None);
         };
-        let mut list = Vec::with_capacity(alloc, 1)?;
-        list.push(MarkEntry::new(Path::root(alloc), mark))?;
-        let mut copies = below(alloc, part, path)?;
-        list.append(&mut copies)?;
+        let list = copy_part(alloc, mark, part, path)?;
         Ok(Some(MarkTree { list }))
+    }
+
+    /// Whether the same marks stand at and below the path in both, or none in either. It takes no
+    /// memory.
+    pub fn is_same_at(&self, other: &MarkTree, path: &Path) -> bool
+        ensures { IsTrue result ↔ (subtree self.now path.now ≡ subtree other.now path.now) }
+    {
+        let left = part_at(&self.list, path.names());
+        let right = part_at(&other.list, path.names());
+        same_entries(left, right)
+    }
+
+    /// Whether both are the same marks. It takes no memory.
+    pub fn is_same(&self, other: &MarkTree) -> bool
+        ensures { IsTrue result ↔ (self.now ≡ other.now) }
+    {
+        same_entries(&self.list, &other.list)
+    }
+
+    /// Why nothing may be put at the path or taken from it: it is the root (6), or its parent is no
+    /// directory (2).
+    fn check_place(&self, path: &Path) -> Result<(), TreeError>
+        ensures { refusal_in result ≡ first_cause (place_causes self.now path.now) }
+    {
+        let [above @ .., _] = path.names() else {
+            return Err(TreeError::Root);
+        };
+        if stands_directory(&self.list, above) {
+            Ok(())
+        } else {
+            Err(TreeError::NoParent)
+        }
+    }
+
+    /// Whether the limits are kept where these marks, or none, take the place of what is at the
+    /// path.
+    fn fits(&self, path: &Path, new: Option<&MarkTree>) -> bool
+        ensures { result ≡ fits_archive (replace self.now path.now
+            (or_absent (option_map (λ marks. marks.now) new.entry))) }
+    {
+        let others = self.list.len() - part_at(&self.list, path.names()).len();
+        match new {
+            None => others <= MOST_NODES,
+            Some(marks) => {
+                others + marks.list.len() <= MOST_NODES && all_fit_below(path, &marks.list)
+            }
+        }
+    }
+
+    /// Why the replacement of all that is at and below the path is refused, with no change and no
+    /// memory taken.
+    ///
+    /// Refused 6 at the root, 2 where the parent is no directory, and 7 where the marks would pass a
+    /// limit.
+    pub fn check_replace(&self, path: &Path, new: Option<&MarkTree>) -> Result<(), TreeError>
+        ensures { refusal_in result ≡ replace_refusal self.now path.now
+            (or_absent (option_map (λ marks. marks.now) new.entry)) }
+    {
+        self.check_place(path)?;
+        if self.fits(path, new) {
+            Ok(())
+        } else {
+            Err(TreeError::Full)
+        }
+    }
+
+    /// The replacement of all that is at and below the path, ready to be made, with all memory for
+    /// it. The marks stay as they are.
+    ///
+    /// Refused as `check_replace` refuses it, and 11 where memory is refused.
+    pub fn prepare_replace(
+        &self,
+        alloc: Global,
+        path: &Path,
+        new: Option<MarkTree>,
+    ) -> Result<MarkChange, TreeError>
+        ensures ready { IfOk result (λ change. IsPreparedFor self.now change) }
+        ensures at { IfOk result (λ change. change.at ≡ path.now) }
+        ensures new { IfOk result (λ change. change.new ≡ or_absent new) }
+        ensures allowed { IfOk result (λ _.
+            replace_refusal self.now path.now (or_absent new) ≡ None) }
+        ensures refused { IfErr result (λ e. e ≢ TreeError.Memory
+            → replace_refusal self.now path.now (or_absent new) ≡ Some (refusal_of e)) }
+    {
+        let nodes = self.list.len();
+        self.check_replace(path, new.as_ref())?;
+        is_path(path);
+        let at = path.copy(alloc)?;
+        let added = placed(alloc, path, new)?;
+        let space = Vec::with_capacity(alloc, nodes + added.len())?;
+        Ok(MarkChange::placed(at, added, space))
+    }
+
+    /// Makes a change that was prepared for the marks as they are. It takes no memory.
+    pub fn make(&mut self, change: MarkChange)
+        requires { IsPreparedFor self.old change }
+        ensures { self.new ≡ after_change self.old change }
+    {
+        let (at, added, mut space) = change.into_parts();
+        let _ = space.append(&mut self.list);
+        replace_part(&mut space, &at, added);
+        self.list = space;
     }
 }

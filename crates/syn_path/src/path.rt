@@ -81,6 +81,13 @@ impl Path {
         self.names.as_slice()
     }
 
+    /// How many bytes spell the path: a count, and each name with its length.
+    pub fn spelling_length(&self) -> usize
+        ensures { result ≡ length (path_spelling self.now) }
+    {
+        spelled_len(self.names.as_slice())
+    }
+
     /// The path of the name below this one.
     ///
     /// Refused 1 where that path would pass the limits, and 11 where memory is refused.

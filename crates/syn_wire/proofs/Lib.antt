@@ -5,6 +5,7 @@ pub mod EventLemmas
 pub mod ByteLemmas
 pub mod GroupLemmas
 pub mod WalkLemmas
+pub mod MarkLemmas
 pub mod WritingLemmas
 pub mod NodeLemmas
 pub mod PartsLemmas

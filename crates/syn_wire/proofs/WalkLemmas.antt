@@ -8,10 +8,10 @@ use Rattle.std.specs.FinMap.{find, entries, get, len}
 use Rattle.std.proofs.lemmas.Grind.{flat_map-append}
 use Rattle.std.proofs.lemmas.List.Concat.{length-flat_map}
 use Rattle.std.proofs.lemmas.Option.{same_Some}
-use Rattle.syn_model.specs.Path.{Name, Path, name_cmp, root}
+use Rattle.syn_model.specs.Path.{Bytes, Name, Path, name_cmp, root}
 use Rattle.syn_model.specs.Tree.{Tree, Content, Pair, Directory, File, HasParents, is_present, subtree}
 use Rattle.syn_model.specs.Limits.{children, last_name_spelling_length, content_spelling_length}
-use Rattle.syn_model.specs.Spelling.{spelling, content_spelling}
+use Rattle.syn_model.specs.Spelling.{spelling, content_spelling, entries_spelling}
 use Rattle.syn_model.proofs.PathLemmas.{name_itself}
 use Rattle.syn_model.proofs.TreeLemmas.{get-subtree}
 use Rattle.syn_model.proofs.HistoryLemmas.{no_file}
@@ -22,7 +22,8 @@ use Rattle.syn_tree.specs.Pairs.{Pairs, under}
 use Rattle.syn_tree.proofs.PartLemmas.{subtree-parents}
 use Rattle.syn_tree.proofs.RisingLemmas.{Rising, After, each-map}
 use Rattle.syn_tree.proofs.TreeLemmas.{rising-entries}
-use Rattle.syn_wire.specs.Trees.{last_name_spelling, standing_spelling, pair_spelling, SpellingIsWalk, SpellingIsMeasured}
+use Rattle.syn_wire.specs.Events.{file_spelling}
+use Rattle.syn_wire.specs.Trees.{last_name_spelling, standing_by, standing_spelling, pair_by, pair_spelling, SpellingIsWalk, SpellingIsMeasured}
 use Rattle.syn_wire.proofs.GroupLemmas.{IsRooted, is_rooted, file_alone, directory_grouped}
 
 -- ---- the names in a directory
@@ -53,66 +54,85 @@ some_rooted t is = by_content (get t root) refl
 
 -- ---- walks
 
-abbrev Walked : Tree → Type 0
-Walked t = spelling t ≡ flat_map (pair_spelling t) (entries t)
+-- what stands at the root with all below it, by a spelling of files and one of parts
+abbrev pub content_by : (Bytes → Bytes) → (Tree → Bytes) → Tree → Option Content → Bytes
+content_by file spell t None = 0 ∷ []
+content_by file spell t (Some (File contents)) = 1 ∷ file contents.bytes
+content_by file spell t (Some Directory) = 2 ∷ to_be_bytes w16 (length (children t root)) ++ entries_spelling spell t
 
--- the pairs below a name are spelled as in the part there
-later_pairs : (t : Tree) (n : Name) (ds : Pairs) → After root ds → flat_map (pair_spelling t) (under (n ∷ []) ds) ≡ flat_map (pair_spelling (subtree t (n ∷ []))) ds
-later_pairs t n [] h = refl
-later_pairs t n (([], c) ∷ ds) h = absurd (true≢false (sym (ap is_lt h.0)))
-later_pairs t n ((m ∷ q, c) ∷ ds) h =
-    ap₂ (λ k ys. (last_name_spelling (m ∷ q) ++ standing_spelling k c) ++ ys) (ap length (sym (subtree_children t (n ∷ []) (m ∷ q)))) (later_pairs t n ds h.1)
+module _ (file : Bytes → Bytes) (spell : Tree → Bytes) (unfolds : (t : Tree) → spell t ≡ content_by file spell t (get t root)) where
+  abbrev pub Walked : Tree → Type 0
+  Walked t = spell t ≡ flat_map (pair_by file t) (entries t)
 
--- and the name stands before the part's root
-named_part : (t : Tree) (n : Name) → is_present (subtree t (n ∷ [])) root ≡ true → Walked (subtree t (n ∷ [])) →
-    length n ∷ n ++ spelling (subtree t (n ∷ [])) ≡ flat_map (pair_spelling t) (under (n ∷ []) (entries (subtree t (n ∷ []))))
-named_part t n is walked =
-    let s = subtree t (n ∷ []) in
-    let some = some_rooted s is in
-    let c = some.0 in
-    let r = some.1 in
-    let after = (subst Rising r.whole (rising-entries s)).0 in
-    ap (λ b. length n ∷ n ++ b) (walked ∙ ap (flat_map (pair_spelling s)) r.whole)
-    ∙ (sym (append_assoc (length n ∷ n) (standing_spelling (length (children s root)) c) (flat_map (pair_spelling s) r.below))
-    ∙ (ap₂ (λ k ys. ((length n ∷ n) ++ standing_spelling k c) ++ ys) (ap length (subtree_children t (n ∷ []) root)) (sym (later_pairs t n r.below after))
-    ∙ sym (ap (λ es. flat_map (pair_spelling t) (under (n ∷ []) es)) r.whole)))
+  -- the pairs below a name are spelled as in the part there
+  later_pairs : (t : Tree) (n : Name) (ds : Pairs) → After root ds → flat_map (pair_by file t) (under (n ∷ []) ds) ≡ flat_map (pair_by file (subtree t (n ∷ []))) ds
+  later_pairs t n [] h = refl
+  later_pairs t n (([], c) ∷ ds) h = absurd (true≢false (sym (ap is_lt h.0)))
+  later_pairs t n ((m ∷ q, c) ∷ ds) h =
+      ap₂ (λ k ys. (last_name_spelling (m ∷ q) ++ standing_by file k c) ++ ys) (ap length (sym (subtree_children t (n ∷ []) (m ∷ q)))) (later_pairs t n ds h.1)
 
-abbrev below_names : Tree → List (Name × Content) → Pairs
-below_names t names = flat_map (λ x. under (x.0 ∷ []) (entries (subtree t (x.0 ∷ [])))) names
+  -- and the name stands before the part's root
+  named_part : (t : Tree) (n : Name) → is_present (subtree t (n ∷ [])) root ≡ true → Walked (subtree t (n ∷ [])) →
+      length n ∷ n ++ spell (subtree t (n ∷ [])) ≡ flat_map (pair_by file t) (under (n ∷ []) (entries (subtree t (n ∷ []))))
+  named_part t n is walked =
+      let s = subtree t (n ∷ []) in
+      let some = some_rooted s is in
+      let c = some.0 in
+      let r = some.1 in
+      let after = (subst Rising r.whole (rising-entries s)).0 in
+      ap (λ b. length n ∷ n ++ b) (walked ∙ ap (flat_map (pair_by file s)) r.whole)
+      ∙ (sym (append_assoc (length n ∷ n) (standing_by file (length (children s root)) c) (flat_map (pair_by file s) r.below))
+      ∙ (ap₂ (λ k ys. ((length n ∷ n) ++ standing_by file k c) ++ ys) (ap length (subtree_children t (n ∷ []) root)) (sym (later_pairs t n r.below after))
+      ∙ sym (ap (λ es. flat_map (pair_by file t) (under (n ∷ []) es)) r.whole)))
 
-walked_names : (t : Tree) (names : List (Name × Content)) →
-    AllByRecursion (λ x. length x.0 ∷ x.0 ++ spelling (subtree t (x.0 ∷ [])) ≡ flat_map (pair_spelling t) (under (x.0 ∷ []) (entries (subtree t (x.0 ∷ []))))) names →
-    flat_map (λ x. length x.0 ∷ x.0 ++ spelling (subtree t (x.0 ∷ []))) names ≡ flat_map (pair_spelling t) (below_names t names)
-walked_names t [] h = refl
-walked_names t (x ∷ names) h =
-    ap₂ (λ a b. a ++ b) h.0 (walked_names t names h.1)
-    ∙ sym (flat_map-append (pair_spelling t) (under (x.0 ∷ []) (entries (subtree t (x.0 ∷ [])))) (below_names t names))
+  abbrev below_names : Tree → List (Name × Content) → Pairs
+  below_names t names = flat_map (λ x. under (x.0 ∷ []) (entries (subtree t (x.0 ∷ [])))) names
 
--- one level, where the parts at the names are walks
-one_level : (t : Tree) → HasParents t → is_present t root ≡ true → ((n : Name) → is_present (subtree t (n ∷ [])) root ≡ true → Walked (subtree t (n ∷ []))) → Walked t
-one_level t h is below = by_content (get t root) refl
-  where
-    by_content : (o : Option Content) → get t root ≡ o → Walked t
-    by_content None e = absurd (true≢false (sym is ∙ ap is_some e))
-    by_content (Some (File c)) e =
-        spelling_unfolds t ∙ (ap (content_spelling spelling t) e
-        ∙ sym (ap (flat_map (pair_spelling t)) (file_alone t (File c) h e (λ k. no_file c (same_Some _ _ (sym k ∙ e)))) ∙ append-nil (standing_spelling (length (children t root)) (File c))))
-    by_content (Some Directory) e =
-        spelling_unfolds t ∙ (ap (content_spelling spelling t) e
-        ∙ (ap (λ b. 2 ∷ to_be_bytes w16 (length (children t root)) ++ b)
-        (walked_names t (children t root) (each-map (λ x. is_present (subtree t (x.0 ∷ [])) root ≡ true)
-        (λ x. length x.0 ∷ x.0 ++ spelling (subtree t (x.0 ∷ [])) ≡ flat_map (pair_spelling t) (under (x.0 ∷ []) (entries (subtree t (x.0 ∷ [])))))
-        (λ x there. named_part t x.0 there (below x.0 there)) (children t root) (children_present t)))
-        ∙ sym (ap (flat_map (pair_spelling t)) (directory_grouped t h e))))
+  walked_names : (t : Tree) (names : List (Name × Content)) →
+      AllByRecursion (λ x. length x.0 ∷ x.0 ++ spell (subtree t (x.0 ∷ [])) ≡ flat_map (pair_by file t) (under (x.0 ∷ []) (entries (subtree t (x.0 ∷ []))))) names →
+      flat_map (λ x. length x.0 ∷ x.0 ++ spell (subtree t (x.0 ∷ []))) names ≡ flat_map (pair_by file t) (below_names t names)
+  walked_names t [] h = refl
+  walked_names t (x ∷ names) h =
+      ap₂ (λ a b. a ++ b) h.0 (walked_names t names h.1)
+      ∙ sym (flat_map-append (pair_by file t) (under (x.0 ∷ []) (entries (subtree t (x.0 ∷ [])))) (below_names t names))
 
-walked_within : (d : ℕ) (t : Tree) → len t < d → HasParents t → is_present t root ≡ true → Walked t
-walked_within zero t l h is = absurd (omega (arith, l))
-walked_within (suc d) t l h is = one_level t h is (λ n there.
-    let small = subtree_smaller t n [] is in
-    walked_within d (subtree t (n ∷ [])) (omega (arith, small, l)) (subtree-parents t (n ∷ []) h) there)
+  -- one level, where the parts at the names are walks
+  one_level : (t : Tree) → HasParents t → is_present t root ≡ true → ((n : Name) → is_present (subtree t (n ∷ [])) root ≡ true → Walked (subtree t (n ∷ []))) → Walked t
+  one_level t h is below = by_content (get t root) refl
+    where
+      by_content : (o : Option Content) → get t root ≡ o → Walked t
+      by_content None e = absurd (true≢false (sym is ∙ ap is_some e))
+      by_content (Some (File c)) e =
+          unfolds t ∙ (ap (content_by file spell t) e
+          ∙ sym (ap (flat_map (pair_by file t)) (file_alone t (File c) h e (λ k. no_file c (same_Some _ _ (sym k ∙ e)))) ∙ append-nil (standing_by file (length (children t root)) (File c))))
+      by_content (Some Directory) e =
+          unfolds t ∙ (ap (content_by file spell t) e
+          ∙ (ap (λ b. 2 ∷ to_be_bytes w16 (length (children t root)) ++ b)
+          (walked_names t (children t root) (each-map (λ x. is_present (subtree t (x.0 ∷ [])) root ≡ true)
+          (λ x. length x.0 ∷ x.0 ++ spell (subtree t (x.0 ∷ [])) ≡ flat_map (pair_by file t) (under (x.0 ∷ []) (entries (subtree t (x.0 ∷ [])))))
+          (λ x there. named_part t x.0 there (below x.0 there)) (children t root) (children_present t)))
+          ∙ sym (ap (flat_map (pair_by file t)) (directory_grouped t h e))))
+
+  pub walked_within : (d : ℕ) (t : Tree) → len t < d → HasParents t → is_present t root ≡ true → Walked t
+  walked_within zero t l h is = absurd (omega (arith, l))
+  walked_within (suc d) t l h is = one_level t h is (λ n there.
+      let small = subtree_smaller t n [] is in
+      walked_within d (subtree t (n ∷ [])) (omega (arith, small, l)) (subtree-parents t (n ∷ []) h) there)
+
+pub walks_by : (file : Bytes → Bytes) (spell : Tree → Bytes) → ((t : Tree) → spell t ≡ content_by file spell t (get t root)) → (t : Tree) → HasParents t → is_present t root ≡ true → spell t ≡ flat_map (pair_by file t) (entries t)
+walks_by file spell unfolds t h is = walked_within file spell unfolds (suc (len t)) t (omega arith) h is
+
+-- a tree's parts unfold so
+tree_content : (t : Tree) (o : Option Content) → content_spelling spelling t o ≡ content_by file_spelling spelling t o
+tree_content t None = refl
+tree_content t (Some (File c)) = refl
+tree_content t (Some Directory) = refl
+
+pub tree_unfolds : (t : Tree) → spelling t ≡ content_by file_spelling spelling t (get t root)
+tree_unfolds t = spelling_unfolds t ∙ tree_content t (get t root)
 
 pub spelling_walks : SpellingIsWalk
-spelling_walks t h is = walked_within (suc (len t)) t (omega arith) h is
+spelling_walks t h is = walks_by file_spelling spelling tree_unfolds t h is
 
 -- ---- lengths
 

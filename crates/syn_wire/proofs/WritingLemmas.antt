@@ -1,7 +1,7 @@
 -- What is written of a tree, entry by entry.
 use Rattle.std.proofs.Common.{◌≡◌, ◌<◌, ◌^◌, ◌+◌, ℕ, zero, suc, Bool, true, false, ◌&&◌, nat_le, [], ◌∷◌, ◌++◌, length, take, flat_map, slice_get, ◌-◌, Some, refl, sym, ap, ap₂, ◌∙◌, slice_index_or, append_assoc, append-nil, is_some, true≢false, arith}
 use Rattle.std.specs.List.{list_all}
-use Rattle.std.specs.FinMap.{entries}
+use Rattle.std.specs.FinMap.{entries, get}
 use Rattle.std.proofs.Math.Seq.{take-length}
 use Rattle.std.proofs.lemmas.Bool.{and_parts, leb-true}
 use Rattle.std.proofs.lemmas.Grind.{flat_map-append}
@@ -14,8 +14,9 @@ use Rattle.std.specs.FinMap.{len}
 use Rattle.std.proofs.lemmas.Option.{none-some, same_Some}
 use Rattle.syn_model.specs.Spelling.{spelling}
 use Rattle.syn_tree.specs.Pairs.{Pairs, rooted}
-use Rattle.syn_wire.specs.Trees.{last_name_spelling, standing_spelling, pair_spelling}
-use Rattle.syn_wire.proofs.WalkLemmas.{spelling_walks}
+use Rattle.syn_wire.specs.Events.{file_spelling}
+use Rattle.syn_wire.specs.Trees.{last_name_spelling, standing_by, standing_spelling, pair_by, pair_spelling}
+use Rattle.syn_wire.proofs.WalkLemmas.{content_by, walks_by, tree_unfolds}
 
 pub whole_fits_part : (t : Tree) → fits_replica t ≡ true → fits_part t ≡ true
 whole_fits_part t h =
@@ -48,25 +49,30 @@ module _ (t : Tree) (ds : Pairs) (all : rooted ds ≡ entries t) (fits : fits_pa
       (parts.0, few (length (children t x.0)) parts.1)
 
 -- one pair more
-pub pairs_more : (t : Tree) (ds : Pairs) (i : ℕ) (x : Pair) (count : ℕ) (base old new : Bytes) → i < length ds → x ≡ slice_index_or ds i x → standing_spelling count x.1 ≡ standing_spelling (length (children t x.0)) x.1 →
-    old ≡ base ++ flat_map (pair_spelling t) (take i ds) → new ≡ old ++ (last_name_spelling x.0 ++ standing_spelling count x.1) → new ≡ base ++ flat_map (pair_spelling t) (take (i + 1) ds)
-pairs_more t ds i x count base old new l is counted so_far added =
+pub pairs_more : (file : Bytes → Bytes) (t : Tree) (ds : Pairs) (i : ℕ) (x : Pair) (count : ℕ) (base old new : Bytes) → i < length ds → x ≡ slice_index_or ds i x → standing_by file count x.1 ≡ standing_by file (length (children t x.0)) x.1 →
+    old ≡ base ++ flat_map (pair_by file t) (take i ds) → new ≡ old ++ (last_name_spelling x.0 ++ standing_by file count x.1) → new ≡ base ++ flat_map (pair_by file t) (take (i + 1) ds)
+pairs_more file t ds i x count base old new l is counted so_far added =
     added ∙ (ap₂ (λ b s. b ++ (last_name_spelling x.0 ++ s)) so_far counted
-    ∙ (append_assoc base (flat_map (pair_spelling t) (take i ds)) (pair_spelling t x) ∙ ap (λ b. base ++ b) (sym more)))
+    ∙ (append_assoc base (flat_map (pair_by file t) (take i ds)) (pair_by file t x) ∙ ap (λ b. base ++ b) (sym more)))
   where
-    more : flat_map (pair_spelling t) (take (i + 1) ds) ≡ flat_map (pair_spelling t) (take i ds) ++ pair_spelling t x
+    more : flat_map (pair_by file t) (take (i + 1) ds) ≡ flat_map (pair_by file t) (take i ds) ++ pair_by file t x
     more =
-        ap (flat_map (pair_spelling t)) (take_more ds i x l ∙ ap (λ y. take i ds ++ y ∷ []) (sym is))
-        ∙ (flat_map-append (pair_spelling t) (take i ds) (x ∷ []) ∙ ap (λ b. flat_map (pair_spelling t) (take i ds) ++ b) (append-nil (pair_spelling t x)))
+        ap (flat_map (pair_by file t)) (take_more ds i x l ∙ ap (λ y. take i ds ++ y ∷ []) (sym is))
+        ∙ (flat_map-append (pair_by file t) (take i ds) (x ∷ []) ∙ ap (λ b. flat_map (pair_by file t) (take i ds) ++ b) (append-nil (pair_by file t x)))
 
 -- the root and what is below it are the whole
+pub written_by : (file : Bytes → Bytes) (spell : Tree → Bytes) → ((t : Tree) → spell t ≡ content_by file spell t (get t root)) →
+    (t : Tree) (ds : Pairs) (i count : ℕ) (base first out : Bytes) → IsTree t → rooted ds ≡ entries t → i ≡ length ds → count ≡ length (children t root) →
+    first ≡ base ++ standing_by file count Directory → out ≡ first ++ flat_map (pair_by file t) (take i ds) → out ≡ base ++ spell t
+written_by file spell unfolds t ds i count base first out h all ended counted begun written =
+    let walked : standing_by file (length (children t root)) Directory ++ flat_map (pair_by file t) ds ≡ spell t =
+    ap (flat_map (pair_by file t)) all ∙ sym (walks_by file spell unfolds t h.part.parents (ap is_some h.rooted)) in
+    written ∙ (ap₂ (λ b es. b ++ flat_map (pair_by file t) es) (begun ∙ ap (λ n. base ++ standing_by file n Directory) counted) (ap (λ n. take n ds) ended ∙ take-length ds)
+    ∙ (append_assoc base (standing_by file (length (children t root)) Directory) (flat_map (pair_by file t) ds) ∙ ap (λ b. base ++ b) walked))
+
 pub whole_written : (t : Tree) (ds : Pairs) (i count : ℕ) (base first out : Bytes) → IsTree t → rooted ds ≡ entries t → i ≡ length ds → count ≡ length (children t root) →
     first ≡ base ++ standing_spelling count Directory → out ≡ first ++ flat_map (pair_spelling t) (take i ds) → out ≡ base ++ spelling t
-whole_written t ds i count base first out h all ended counted begun written =
-    let walked : standing_spelling (length (children t root)) Directory ++ flat_map (pair_spelling t) ds ≡ spelling t =
-    ap (flat_map (pair_spelling t)) all ∙ sym (spelling_walks t h.part.parents (ap is_some h.rooted)) in
-    written ∙ (ap₂ (λ b es. b ++ flat_map (pair_spelling t) es) (begun ∙ ap (λ n. base ++ standing_spelling n Directory) counted) (ap (λ n. take n ds) ended ∙ take-length ds)
-    ∙ (append_assoc base (standing_spelling (length (children t root)) Directory) (flat_map (pair_spelling t) ds) ∙ ap (λ b. base ++ b) walked))
+whole_written t ds i count base first out h all ended counted begun written = written_by file_spelling spelling tree_unfolds t ds i count base first out h all ended counted begun written
 
 last_at : (path : Path) (name : Name) (k : ℕ) → k + 1 ≡ length path → slice_get path k ≡ Some name → last_name_spelling path ≡ length name ∷ name
 last_at [] name k e is = absurd (omega (arith, e))

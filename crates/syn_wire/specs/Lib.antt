@@ -3,5 +3,6 @@ pub mod Reads
 pub mod Laws
 pub mod Events
 pub mod Trees
+pub mod Marks
 pub mod Images
 pub mod inner

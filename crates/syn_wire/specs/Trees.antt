@@ -8,6 +8,7 @@ use Rattle.syn_model.specs.Tree.{is_present}
 use Rattle.syn_model.specs.Limits.{children, fits_part, fits_paths, fits_replica}
 use Rattle.syn_model.specs.Limits.{tree_spelling_length}
 use Rattle.syn_model.specs.Spelling.{spelling}
+use Rattle.syn_wire.specs.Events.{file_spelling}
 use Rattle.syn_wire.specs.Reads.{NoneBeginsAnother}
 
 -- the last name with its length; the root has none
@@ -16,16 +17,22 @@ last_name_spelling [] = []
 last_name_spelling (name ∷ []) = length name ∷ name
 last_name_spelling (name ∷ next ∷ path) = last_name_spelling (next ∷ path)
 
--- a file with its bytes, or a directory with so many names
-abbrev pub standing_spelling : ℕ → Content → Bytes
-standing_spelling count (File contents) = 1 ∷ to_be_bytes w32 (length contents.bytes)
-    ++ contents.bytes
-standing_spelling count Directory = 2 ∷ to_be_bytes w16 count
+-- a file, by a spelling of its bytes, or a directory with so many names
+abbrev pub standing_by : (Bytes → Bytes) → ℕ → Content → Bytes
+standing_by file count (File contents) = 1 ∷ file contents.bytes
+standing_by file count Directory = 2 ∷ to_be_bytes w16 count
 
 -- a pair of the tree, without what is below it
+abbrev pub pair_by : (Bytes → Bytes) → Tree → Pair → Bytes
+pair_by file tree pair = last_name_spelling pair.0
+    ++ standing_by file (length (children tree pair.0)) pair.1
+
+-- in a tree a file is spelled with its length and its bytes
+abbrev pub standing_spelling : ℕ → Content → Bytes
+standing_spelling count content = standing_by file_spelling count content
+
 abbrev pub pair_spelling : Tree → Pair → Bytes
-pair_spelling tree pair = last_name_spelling pair.0
-    ++ standing_spelling (length (children tree pair.0)) pair.1
+pair_spelling tree pair = pair_by file_spelling tree pair
 
 -- the spelling of what is there is that of one pair after the other
 abbrev pub SpellingIsWalk : Type 0

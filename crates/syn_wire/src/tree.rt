@@ -152,7 +152,7 @@ fn write_entry(out: &mut Vec<u8>, entry: &Entry, count: usize) -> Result<(), Wir
 }
 
 // Adds the last name with its length; of the root nothing.
-fn write_last_name(out: &mut Vec<u8>, path: &Path) -> Result<(), WireError>
+pub(crate) fn write_last_name(out: &mut Vec<u8>, path: &Path) -> Result<(), WireError>
     ensures added { OnOk result (out.new.items ≡ out.old.items ++ last_name_spelling path.now) }
     ensures kept { IsBeginning out.old.items out.new.items }
 {
@@ -165,7 +165,7 @@ fn write_last_name(out: &mut Vec<u8>, path: &Path) -> Result<(), WireError>
 }
 
 // Adds the kind of a directory, and how many names are in it.
-fn write_count(out: &mut Vec<u8>, count: usize) -> Result<(), WireError>
+pub(crate) fn write_count(out: &mut Vec<u8>, count: usize) -> Result<(), WireError>
     requires { count < 2 ^ 16 }
     ensures added { OnOk result (out.new.items
         ≡ out.old.items ++ standing_spelling count Directory) }

@@ -1,5 +1,6 @@
 use Rattle.std.proofs.Common.{◌≡◌, length, sym, ap, ◌∙◌, append-nil, arith}
 use Rattle.syn_model.specs.Limits.{children}
+use Rattle.syn_wire.specs.Events.{file_spelling}
 use Rattle.syn_wire.proofs.WritingLemmas.{pairs_more, whole_written}
 use Rattle.syn_wire.proofs.tree.write_directory.Goals as goal
 
@@ -9,7 +10,7 @@ loop-entry-init c = sym (append-nil c.write_count.new.out.items)
 pub loop-entry-preserved : goal.loop-entry-preserved
 loop-entry-preserved c =
     let t = c.args.entries.now in
-    pairs_more t c.as_slice-list.result.now c.loop-entry.entry-index c.entry-item.result c.count_in_entries.result c.write_count.new.out.items c.loop-entry.out.items c.write_entry.new.out.items
+    pairs_more file_spelling t c.as_slice-list.result.now c.loop-entry.entry-index c.entry-item.result c.count_in_entries.result c.write_count.new.out.items c.loop-entry.out.items c.write_entry.new.out.items
     c.loop-entry-test.true c.entry-item.is c.count_in_entries.ensures.spelled c.loop-entry.invariant c.in_ok-write_entry.ensures.added
 
 pub returns-clause-added : goal.returns-clause-added

@@ -1,8 +1,8 @@
-use Rattle.std.proofs.Common.{◌≡◌, [], ◌∷◌, ◌++◌, Some, None, sym, ap, ap₂, ◌∙◌, subst}
+use Rattle.std.proofs.Common.{◌≡◌, ◌∷◌, Some, None, sym, ap, ap₂, ◌∙◌, subst}
 use Rattle.std.specs.FinMap.{entries, get}
 use Rattle.std.specs.Prelude.{option_map}
-use Rattle.syn_model.specs.Path.{root, Path}
-use Rattle.syn_model.specs.Tree.{Content, subtree}
+use Rattle.syn_model.specs.Path.{root}
+use Rattle.syn_model.specs.Tree.{subtree}
 use Rattle.syn_model.specs.Mark.{IsMarks}
 use Rattle.syn_model.specs.Limits.{fits_archive}
 use Rattle.syn_tree.specs.Pairs.{within}
@@ -19,20 +19,16 @@ returns-in_default-clause-ok c =
     let none : get t c.args.path.now ≡ None = sym c.get.ensures ∙ ap (option_map (λ m. content_of m)) c.in_default.is in
     subtree_none t c.args.path.now (subst IsMarks c.self.view_is c.self.invariant.marks).part.parents none
 
-abbrev Copied : goal.In_ok-append → Type 0
-Copied c = c.append.new.self.items ≡ entries (subtree c.args.self.now c.args.path.now)
-
-copied : (c : goal.In_ok-append) → Copied c
+copied : (c : goal.In_ok-list) → c.in_ok-list.list.items ≡ entries (subtree c.args.self.now c.args.path.now)
 copied c =
     let t = c.args.self.now in
     let at = c.args.path.now in
     let ds = c.self.inside.list.items in
     let mark = content_of c.in-Some.mark in
     let here : get t at ≡ Some mark = sym c.get.ensures ∙ ap (option_map (λ m. content_of m)) c.in-Some.is in
-    let first = c.in_ok-push.ensures.items ∙ ap₂ (λ xs x. xs ++ x ∷ []) c.in_ok-list.ensures.items (c.new.ensures ∙ ap (λ (p : Path). (p, mark)) c.root.ensures) in
     let all : ds ≡ entries t = sym (entries_of ds c.self.invariant) ∙ ap entries c.self.view_is in
-    let below = c.in_ok-copies.ensures.ok ∙ (ap (stripped at) (c.part_at-part.ensures ∙ ap₂ within c.names.ensures.names c.deref.ensures.value) ∙ (stripped-within at ds ∙ ap (stripped at) all)) in
-    c.in_ok-append.ensures.items ∙ (ap₂ (λ xs ys. xs ++ ys) first below ∙ stripped_part t at mark here)
+    let part = c.part_at-part.ensures ∙ ap₂ within c.names.ensures.names c.deref.ensures.value in
+    c.in_ok-list.ensures.ok ∙ (ap (λ es. (root, mark) ∷ es) (ap (stripped at) part ∙ (stripped-within at ds ∙ ap (stripped at) all)) ∙ stripped_part t at mark here)
 
 pub invariant_of-result : goal.invariant_of-result
 invariant_of-result c =
@@ -40,7 +36,7 @@ invariant_of-result c =
     let at = c.args.path.now in
     let mark = content_of c.in-Some.mark in
     let here : get t at ≡ Some mark = sym c.get.ensures ∙ ap (option_map (λ m. content_of m)) c.in-Some.is in
-    are_marks (subtree t at) c.append.new.self.items (copied c) (part_present t at mark here) (part_marks t at (subst IsMarks c.self.view_is c.self.invariant.marks)) (part_fits t at (ap fits_archive (sym c.self.view_is) ∙ c.self.invariant.fits))
+    are_marks (subtree t at) c.in_ok-list.list.items (copied c) (part_present t at mark here) (part_marks t at (subst IsMarks c.self.view_is c.self.invariant.marks)) (part_fits t at (ap fits_archive (sym c.self.view_is) ∙ c.self.invariant.fits))
 
 pub returns-clause-ok : goal.returns-clause-ok
-returns-clause-ok c = marks_same (subtree c.args.self.now c.args.path.now) c.append.new.self.items (copied c.before)
+returns-clause-ok c = marks_same (subtree c.args.self.now c.args.path.now) c.in_ok-list.list.items (copied c)
