@@ -67,7 +67,7 @@ at_root-is_part x lawful = record {
   bytes = λ p contents h. lawful contents (only x p contents h);
 }
 
-absent-is_part : IsPart absent
+pub absent-is_part : IsPart absent
 absent-is_part = record {
   parents = λ p n r h. absurd (true≢false (sym h ∙ ap is_some (get-empty path_cmp (p ++ n ∷ r))));
   names = λ p h. absurd (true≢false (sym h ∙ ap is_some (get-empty path_cmp p)));

@@ -13,7 +13,7 @@ use Rattle.syn_model.proofs.LengthLemmas.{top}
 use Rattle.syn_model.proofs.SpellingLemmas.{IsCounted, Tells, level, split, rest_of, no_directory, heads_differ, alike_content}
 
 -- what is below a path of marks are marks
-marks_below : (t : Tree) (p : Path) → IsMarks t → IsMarks (subtree t p)
+pub marks_below : (t : Tree) (p : Path) → IsMarks t → IsMarks (subtree t p)
 marks_below t p is = record {
   part = subtree-is_part t p is.part;
   digests = λ q contents e. is.digests (p ++ q) contents (sym (get-subtree t p q) ∙ e);

@@ -220,7 +220,7 @@ sides_differ = same_by _ _ ((root, digest one_bytes) ∷ []) ((root, Directory) 
 conflicts_below : decision left_scan right_scan empty_directory below_path ≡ Do (Conflict below_path)
 conflicts_below = rw (left_below_differs, right_below_differs, sides_differ, directory_by left_scan.marks left_pairs below_path left_marks-entries) refl
 
-both_names : (n : ℕ) (c e : Content) → names_of ((n ∷ [], c) ∷ (n ∷ [], e) ∷ []) ≡ map (λ x. x.0) (put name_cmp (n ∷ []) c (put name_cmp (n ∷ []) e []))
+pub both_names : (n : ℕ) (c e : Content) → names_of ((n ∷ [], c) ∷ (n ∷ [], e) ∷ []) ≡ map (λ x. x.0) (put name_cmp (n ∷ []) c (put name_cmp (n ∷ []) e []))
 both_names n c e = ap (map (λ x. x.0)) (entries-insert name_total (from_entries ((n ∷ [], e) ∷ [])) (n ∷ []) c
     ∙ ap (put name_cmp (n ∷ []) c) (entries-insert name_total empty (n ∷ []) e ∙ ap (put name_cmp (n ∷ []) e) no_names))
 

@@ -21,3 +21,4 @@ pub mod ShortLemmas
 pub mod ConflictScans
 pub mod ConflictLemmas
 pub mod UnstableLemmas
+pub mod RemovalLemmas

@@ -70,15 +70,20 @@ opened_world = record {
 abbrev pub OpenedIsStart : Type 0
 OpenedIsStart = IsStart opened_world
 
--- a run from there that sends so many messages, acknowledges and reports this, and ends well
-pub record IsWitness (steps : List Step) (messages : ℕ) (acknowledged : List Ack)
+-- a run from a world that sends so many messages, acknowledges and reports this, and ends well
+pub record IsWitnessFrom (start : World) (steps : List Step) (messages : ℕ)
+    (acknowledged : List Ack)
     (reports : List (Report × ℕ)) (EndsWell : World → Type 0) : Type 0 where
   pub new : World
-  pub runs : Runs opened_world steps new
+  pub runs : Runs start steps new
   pub sent : length new.sent ≡ messages
   pub acknowledged_then : new.acknowledged ≡ acknowledged
   pub reported : new.reports ≡ reports
   pub ends_well : EndsWell new
+
+-- and one from the formatted disks
+abbrev pub IsWitness : List Step → ℕ → List Ack → List (Report × ℕ) → (World → Type 0) → Type 0
+IsWitness = IsWitnessFrom opened_world
 
 -- the file `a` with the byte `1`
 abbrev pub a_path : Path

@@ -5,6 +5,7 @@ ghost use Rattle.syn_witness.specs.Rows.{SideRows};
 ghost use Rattle.syn_witness.specs.Forbidden.{StaysWithoutStop, ArmedCallsCome, StartsFresh, BeginsOnce, FaultsAlone, UnstableIsIncomplete, FailureEnds, RecordsAfterRoom, CheckpointsAreForRecords, FullAfterCheckpoint, HaltedAfterFailure};
 ghost use Rattle.syn_witness.specs.Short.{StartIsRecovered, ReplacementIsRecovered, CheckpointIsMade, ArchiveIsReopened, ResendIsAnswered, LateIsOld};
 ghost use Rattle.syn_witness.specs.Conflict.{ConflictIsReported};
+ghost use Rattle.syn_witness.specs.Removal.{RemovalIsCarried};
 ghost use Rattle.syn_witness.specs.Unstable.{VanishedIsUnstable};
 ghost use Rattle.syn_witness.specs.Witness.{OpenedIsStart, NewRoomIs, StopIsRecovered, FailIsRefused, CheckpointIsCut, SilenceEnds, FileIsCarried, FilesAreExchanged, CarriedIsMarkedLater, RepeatIsDone, TouchedIsRefused, ReplacementFails};
 
@@ -18,7 +19,7 @@ pub fn examples()
 /// off, a session that nobody answers, a whole session over one file, one that carries a file each way, and one that marks
 /// what an earlier session carried and did not record; a replacement that comes twice, one that comes after an edit,
 /// and one whose device call fails; a session that marks a directory of both sides and reports a conflict below it;
-/// and one that a directory vanishes in.
+/// one that a directory vanishes in; and, from disks that are not new, one that carries a removal.
 pub fn witnesses()
     ensures start { OpenedIsStart }
     ensures room { NewRoomIs }
@@ -34,6 +35,7 @@ pub fn witnesses()
     ensures device { ReplacementFails }
     ensures conflict { ConflictIsReported }
     ensures unstable { VanishedIsUnstable }
+    ensures removal { RemovalIsCarried }
 {}
 
 /// Short runs of the same: a start and a replacement that a stop cuts off and an opening recovers, checkpoints of a side and of the

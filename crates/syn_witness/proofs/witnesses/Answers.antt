@@ -6,6 +6,7 @@ use Rattle.syn_witness.proofs.ExchangeLemmas.{files_are_exchanged}
 use Rattle.syn_witness.proofs.MarkedLemmas.{carried_is_marked_later}
 use Rattle.syn_witness.proofs.ConflictLemmas.{conflict_is_reported}
 use Rattle.syn_witness.proofs.UnstableLemmas.{vanished_is_unstable}
+use Rattle.syn_witness.proofs.RemovalLemmas.{removal_is_carried}
 use Rattle.syn_witness.proofs.witnesses.Goals as goal
 
 pub returns-clause-start : goal.returns-clause-start
@@ -49,3 +50,6 @@ returns-clause-conflict c = conflict_is_reported
 
 pub returns-clause-unstable : goal.returns-clause-unstable
 returns-clause-unstable c = vanished_is_unstable
+
+pub returns-clause-removal : goal.returns-clause-removal
+returns-clause-removal c = removal_is_carried
