@@ -1,14 +1,14 @@
 -- What an archive and its disk stand for goes on.
 use Rattle.std.proofs.Common.{◌≡◌, ◌⊎◌, ◌≤◌, ◌<◌, ℕ, ◌-◌, ◌+◌, ◌==◌, ◌^◌, Bool, true, false, not, nat_le, if◌then◌else◌, List, [], ◌∷◌, ◌++◌, Some, None, refl, sym, ap, ap₂, ◌∙◌, subst, inl, inr, arith}
 use Rattle.std.proofs.lemmas.Bool.Decides.{nat_tests}
-use Rattle.syn_journal.specs.Layout.{Value, with_payload, IsBeforeOrAfter}
+use Rattle.syn_journal.specs.Layout.{Value, image_alone, with_payload, IsBeforeOrAfter}
 use Rattle.syn_disk.specs.Stops.{LeavesOnly}
 use Rattle.syn_model.specs.Path.{Bytes}
 use Rattle.syn_model.specs.Limits.{greatest}
 use Rattle.syn_model.specs.Refusal.{Full, BadMessage}
 use Rattle.syn_model.specs.Archive.{Archive, Kept, Session, CanKeep, after_kept, kept_refusal}
-use Rattle.syn_model.specs.MarkSpelling.{kept_spelling}
-use Rattle.syn_model.specs.ArchiveImage.{ArchiveStandsFor, RecordGoesOn}
+use Rattle.syn_model.specs.MarkSpelling.{archive_spelling, kept_spelling}
+use Rattle.syn_model.specs.ArchiveImage.{ArchiveStandsFor, RecordGoesOn, StandsForSound, ArchiveImageStands}
 use Rattle.syn_archive.specs.Disks.{DiskStands, StandsBeforeOrAfter}
 
 -- the payload of what can be kept takes the value one record on
@@ -44,3 +44,14 @@ can_begin archive h = record {
       ap (λ b. if b then Some Full else (if not (archive.last_session + 1 == archive.last_session + 1) then Some BadMessage else None)) (below archive.last_session h)
       ∙ ap (λ b. if not b then Some BadMessage else None) (same (archive.last_session + 1));
 }
+
+-- the image of what an archive shows stands for it
+pub image_keeps : StandsForSound → ArchiveImageStands → (pair : ℕ) (value : Value) (image : Bytes) (archive : Archive) → ArchiveStandsFor pair value.image value.payloads archive → image ≡ archive_spelling pair archive →
+    ArchiveStandsFor pair image [] archive
+image_keeps sound stands pair value image archive means e =
+    subst (λ bytes. ArchiveStandsFor pair bytes [] archive) (sym e) (stands pair archive (sound pair value.image value.payloads archive means))
+
+pub stop_checkpoint : StandsForSound → ArchiveImageStands → (pair : ℕ) (value : Value) (image : Bytes) (archive : Archive) → ArchiveStandsFor pair value.image value.payloads archive → image ≡ archive_spelling pair archive →
+    (bytes : Bytes) → IsBeforeOrAfter value (image_alone image) bytes → DiskStands pair bytes archive
+stop_checkpoint sound stands pair value image archive means e bytes (inl m) = record { value = value; means = m; stands = means }
+stop_checkpoint sound stands pair value image archive means e bytes (inr m) = record { value = image_alone image; means = m; stands = image_keeps sound stands pair value image archive means e }

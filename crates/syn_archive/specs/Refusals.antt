@@ -85,3 +85,10 @@ IsOfRecord Device = Unit {0}
 IsOfRecord Halted = Unit {0}
 IsOfRecord Memory = Unit {0}
 IsOfRecord _ = ⊥
+
+abbrev pub IsOfCheckpoint : ArchiveError → Type 0
+IsOfCheckpoint Full = Unit {0}
+IsOfCheckpoint Device = Unit {0}
+IsOfCheckpoint Halted = Unit {0}
+IsOfCheckpoint Memory = Unit {0}
+IsOfCheckpoint _ = ⊥

@@ -12,8 +12,8 @@ ghost use Rattle.syn_model.specs.MarkSpelling.{archive_spelling, kept_spelling};
 ghost use Rattle.syn_mark.specs.Marks.{or_absent};
 ghost use Rattle.syn_disk.specs.Calls.{Makes};
 ghost use Rattle.syn_disk.specs.Stops.{LeavesOnly};
-ghost use Rattle.syn_archive.specs.Disks.{StandsBeforeOrAfter};
-ghost use Rattle.syn_archive.specs.Refusals.{refusal_of, refusal_in, CountsFailures, MakesIfDevice, IsOfFormat, IsOfSession, IsOfRecord};
+ghost use Rattle.syn_archive.specs.Disks.{DiskStands, StandsBeforeOrAfter};
+ghost use Rattle.syn_archive.specs.Refusals.{refusal_of, refusal_in, CountsFailures, MakesIfDevice, IsOfFormat, IsOfSession, IsOfRecord, IsOfCheckpoint};
 
 use crate::error::ArchiveError;
 use std::alloc::Global;
@@ -274,6 +274,13 @@ impl<D: Disk> Archive<D> {
             → self.new ≡ self.old }
         ensures root { is_root path.now ≡ true → IfErr result
             (λ e. (e ≡ ArchiveError.Root) ⊎ IsHalted self.old) }
+        ensures refused { (why : Refusal) → ¬ IsHalted self.old
+            → kept_refusal (shown self.old) (RecordedDir path.now) ≡ Some why
+            → IsErrAnd result (λ e. (e ≡ ArchiveError.Memory) ⊎ (refusal_of e ≡ why)) }
+        ensures calls { MatchResult result
+            (λ _. (D.arms (disk_of self.new) ≡ D.arms (disk_of self.old))
+            ⊎ Makes 4 (D.arms (disk_of self.old)) (D.arms (disk_of self.new)))
+            (λ e. MakesIfDevice e 4 (D.arms (disk_of self.old)) (D.arms (disk_of self.new))) }
         ensures refusals { IfErr result IsOfRecord }
         ensures halted { (result ≡ Err ArchiveError.Halted) ↔ IsHalted self.old }
         ensures halts { result ≡ Err ArchiveError.Device → IsHalted self.new }
@@ -306,6 +313,9 @@ impl<D: Disk> Archive<D> {
         ensures any_moment { (kept : Kept_marks) → Stands self.old kept
             → LeavesOnly D.moment D.left_since (disk_of self.old) (disk_of self.new)
             (StandsBeforeOrAfter (pair_of self.old) kept (RecordedDir path.now)) }
+        ensures refused { (why : Refusal) → ¬ IsHalted self.old
+            → kept_refusal (shown self.old) (RecordedDir path.now) ≡ Some why
+            → IsErrAnd result (λ e. (e ≡ ArchiveError.Memory) ⊎ (refusal_of e ≡ why)) }
         ensures refusals { IfErr result IsOfRecord }
         ensures halted { result ≡ Err ArchiveError.Halted → IsHalted self.old }
         ensures halts { result ≡ Err ArchiveError.Device → IsHalted self.new }
@@ -329,6 +339,44 @@ impl<D: Disk> Archive<D> {
         let change = self.marks.prepare_replace(alloc, path, Some(directory))?;
         self.journal.append(alloc, &payload)?;
         self.marks.make(change);
+        Ok(())
+    }
+
+    /// Writes the marks and the last session as one image, so that the journal has room again.
+    ///
+    /// Refused 10 while the archive is halted, 7 where the image is too long or the generation is
+    /// the greatest, 11 where memory is refused, and 9 where a device call fails. After 9 the
+    /// archive is halted; it shows the same in each case.
+    pub fn checkpoint(&mut self, alloc: Global) -> Result<(), ArchiveError>
+        ensures acknowledged { (kept : Kept_marks) → Stands self.old kept
+            → OnOk result (Stands self.new kept) }
+        ensures any_moment { (kept : Kept_marks) → Stands self.old kept
+            → LeavesOnly D.moment D.left_since (disk_of self.old) (disk_of self.new)
+            (λ bytes. DiskStands (pair_of self.old) bytes kept) }
+        ensures memory { SameMemory self.old self.new }
+        ensures refusals { IfErr result IsOfCheckpoint }
+        ensures halted { (result ≡ Err ArchiveError.Halted) ↔ IsHalted self.old }
+        ensures halts { result ≡ Err ArchiveError.Device → IsHalted self.new }
+        ensures failures { MatchResult result
+            (λ _. D.failures (disk_of self.new) ≡ D.failures (disk_of self.old))
+            (λ e. CountsFailures e (D.failures (disk_of self.old))
+            (D.failures (disk_of self.new))) }
+
+        // Six device calls where it succeeds. After 9 the last that was made failed.
+        ensures calls { MatchResult result
+            (λ _. Makes 6 (D.arms (disk_of self.old)) (D.arms (disk_of self.new)))
+            (λ e. MakesIfDevice e 6 (D.arms (disk_of self.old)) (D.arms (disk_of self.new))) }
+        ensures generation { OnOk result
+            (generation_shown self.new ≡ generation_shown self.old + 1) }
+        ensures unchanged { IfErr result
+            (λ e. (e ≡ ArchiveError.Device) ⊎ (journal_of self.new ≡ journal_of self.old)) }
+    {
+        archive_laws();
+        if self.journal.is_halted() {
+            return Err(ArchiveError::Halted);
+        }
+        let image = encode_archive(alloc, self.pair, self.last_session, &self.marks)?;
+        self.journal.checkpoint(alloc, &image)?;
         Ok(())
     }
 }
