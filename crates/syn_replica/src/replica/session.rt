@@ -12,7 +12,7 @@ ghost use Rattle.syn_history.specs.Events.{token_of};
 ghost use Rattle.syn_tree.specs.Nodes.{part_of};
 ghost use Rattle.syn_replica.specs.Disks.{StandsBeforeOrAfter};
 ghost use Rattle.syn_replica.specs.Refusals.{refusal_of, IsOneOf, outside_refusals};
-ghost use Rattle.syn_replica.specs.Refusals.{begin_refusals, fetch_refusals, replace_refusals};
+ghost use Rattle.syn_replica.specs.Refusals.{begin_refusals, fetch_refusals};
 ghost use Rattle.syn_replica.specs.Refusals.{CountsFailures, MakesIfDevice};
 ghost use Rattle.syn_replica.specs.Steps.{begun, begin_refusal, is_done, piece, since_causes};
 ghost use Rattle.syn_replica.specs.Steps.{replaced, replace_refusal, how_stands, MakesIfNew};
@@ -169,7 +169,8 @@ impl<D: Disk> Replica<D> {
         ensures { (history : History) → Stands self.now history
             → result ≡ how_stands history (token_of token) }
     {
-        if self.standing.is_done(&token) {
+        let done = self.standing.is_done(&token);
+        if done {
             TokenStanding::Done
         } else if self.standing.is_old(&token) {
             TokenStanding::Old

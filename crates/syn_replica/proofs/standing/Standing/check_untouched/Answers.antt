@@ -22,8 +22,8 @@ returns-then-touched-clause-cause c history same =
     let since = c.args.since in
     let past = ap past_in (c.self.view_is ∙ same) in
     let no : (since < floor history) ⊎ (length history < since) → ⊥ = λ h.
-        let refused = c.touched.ensures.below.1 (subst (λ (p : Past). (since < p.floor) ⊎ (p.position < since)) (sym past) h) in
-        let met = sym c.in_ok-touched.was ∙ refused in cc met in
+    let refused = c.touched.ensures.below.1 (subst (λ (p : Past). (since < p.floor) ⊎ (p.position < since)) (sym past) h) in
+    let met = sym c.in_ok-touched.was ∙ refused in cc met in
     let quiet = c.in_ok-touched.ensures.quiet history past in
     sym (since_told history c.args.path.now since no ∙ ap (λ b. if b then Some Touched else None) (sym quiet ∙ c.if-touched.true))
 
@@ -32,7 +32,7 @@ returns-else-touched-clause-cause c history same =
     let since = c.args.since in
     let past = ap past_in (c.self.view_is ∙ same) in
     let no : (since < floor history) ⊎ (length history < since) → ⊥ = λ h.
-        let refused = c.touched.ensures.below.1 (subst (λ (p : Past). (since < p.floor) ⊎ (p.position < since)) (sym past) h) in
-        let met = sym c.in_ok-touched.was ∙ refused in cc met in
+    let refused = c.touched.ensures.below.1 (subst (λ (p : Past). (since < p.floor) ⊎ (p.position < since)) (sym past) h) in
+    let met = sym c.in_ok-touched.was ∙ refused in cc met in
     let quiet = c.in_ok-touched.ensures.quiet history past in
     sym (since_told history c.args.path.now since no ∙ ap (λ b. if b then Some Touched else None) (sym quiet ∙ c.if-touched.false))
