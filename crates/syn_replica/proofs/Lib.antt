@@ -6,3 +6,4 @@ pub mod StandLemmas
 pub mod RefusalLemmas
 pub mod MeaningLemmas
 pub mod FormattedLemmas
+pub mod SessionLemmas

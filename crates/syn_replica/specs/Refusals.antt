@@ -51,9 +51,6 @@ IsOneOf refusals error = list_any (λ why. number why == number (refusal_of erro
 abbrev pub format_refusals : List Refusal
 format_refusals = why.Memory ∷ why.Device ∷ []
 
-abbrev pub open_refusals : List Refusal
-open_refusals = why.Device ∷ why.NoImage ∷ why.Damaged ∷ why.WrongPair ∷ why.Memory ∷ []
-
 abbrev pub reading_refusals : List Refusal
 reading_refusals = why.Halted ∷ why.Absent ∷ why.Memory ∷ []
 
@@ -68,11 +65,6 @@ begin_refusals = why.Halted ∷ why.WrongPair ∷ why.OldSession ∷ why.Full �
 
 abbrev pub fetch_refusals : List Refusal
 fetch_refusals = why.Halted ∷ why.BelowFloor ∷ why.Touched ∷ why.Memory ∷ []
-
-abbrev pub replace_refusals : List Refusal
-replace_refusals =
-    why.Halted ∷ why.OldSession ∷ why.BelowFloor ∷ why.Touched ∷ why.Root ∷ why.NoParent ∷ why.Full
-    ∷ why.JournalFull ∷ why.Memory ∷ why.Device ∷ []
 
 abbrev pub checkpoint_refusals : List Refusal
 checkpoint_refusals = why.Halted ∷ why.Full ∷ why.Memory ∷ why.Device ∷ []

@@ -2,7 +2,8 @@
 ghost use Rattle.std.specs.Prelude.{◌≡◌, ◌≢◌, ◌⊎◌, not, false, None, Some, IfOk, IfErr, IfSome};
 ghost use Rattle.std.specs.Prelude.{OnOk, OnErr};
 ghost use Rattle.std.specs.Option.{option_map_or};
-ghost use Rattle.syn_model.specs.Event.{is_below};
+ghost use Rattle.syn_model.specs.Event.{is_below, is_same_token};
+ghost use Rattle.syn_model.specs.History.{History, standing_of};
 ghost use Rattle.syn_model.specs.Event as model;
 ghost use Rattle.syn_model.specs.Refusal.{Memory, first_cause};
 ghost use Rattle.syn_model.specs.Standing.{new_standing, standing_after, refusal_at};
@@ -11,6 +12,7 @@ ghost use Rattle.syn_history.specs.Events.{event_of, token_of};
 ghost use Rattle.syn_history.specs.Past.{past_in, standing_with};
 ghost use Rattle.syn_tree.specs.Change.{IsPreparedFor};
 ghost use Rattle.syn_replica.specs.Refusals.{refusal_in, refusal_of};
+ghost use Rattle.syn_replica.specs.Steps.{since_causes};
 ghost use Rattle.syn_replica.specs.inner.Updates.{early_causes, tree_refusal, tree_after};
 ghost use Rattle.syn_replica.specs.inner.Updates.{IsReady, IsOf};
 ghost use Rattle.syn_tree.specs.Refusals.{refusal_of as of_tree};
@@ -19,6 +21,7 @@ use crate::error::ReplicaError;
 use std::alloc::Global;
 use std::marker::Model;
 use syn_history::{Event, HistoryError, Step, Token, Trail, trail_laws};
+use syn_path::Path;
 use syn_tree::{Change, Tree, TreeError};
 
 /// What is kept of a history in memory: the tree that it leaves, and the trail. Contracts see it as
@@ -124,6 +127,34 @@ impl Standing {
         match self.trail.last_token() {
             Some(last) => !last.is_below(token),
             None => false,
+        }
+    }
+
+    /// Whether the token is that of the last replacement.
+    pub(crate) fn is_done(&self, token: &Token) -> bool
+        ensures { result ≡ option_map_or (λ last. is_same_token last (token_of token.now))
+            self.now.token false }
+    {
+        match self.trail.last_token() {
+            Some(last) => last.is_same(token),
+            None => false,
+        }
+    }
+
+    /// Why what was listed at the position `since` may be another now: the position is below the
+    /// floor or above the present one (15), or an event touched the path since (13). It takes no
+    /// memory.
+    pub(crate) fn check_untouched(&self, path: &Path, since: u64) -> Result<(), ReplicaError>
+        ensures cause { (history : History) → self.now ≡ standing_of history
+            → refusal_in result ≡ first_cause (since_causes history path.now since) }
+        ensures refusals { IfErr result (λ e. (e ≡ ReplicaError.Touched)
+            ⊎ (e ≡ ReplicaError.History HistoryError.BelowFloor)) }
+    {
+        let touched = self.trail.touched(path, since)?;
+        if touched {
+            Err(ReplicaError::Touched)
+        } else {
+            Ok(())
         }
     }
 

@@ -1,6 +1,6 @@
 //! What sessions ask of a replica.
 ghost use Rattle.std.specs.Prelude.{◌≡◌, ◌≢◌, ◌⊎◌, ◌↔◌, ◌+◌, ◌≤◌, ℕ, length, IfOk, IfErr, OnOk};
-ghost use Rattle.std.specs.Prelude.{IsErrAnd, MatchResult, Err, Ok, Some, None, true, false};
+ghost use Rattle.std.specs.Prelude.{IsErrAnd, MatchResult, Err, Ok, Some, true, false, take, drop};
 ghost use Rattle.syn_disk.specs.Calls.{Makes};
 ghost use Rattle.syn_disk.specs.Stops.{LeavesOnly};
 ghost use Rattle.syn_model.specs.Event.{Began, Replaced};
@@ -12,7 +12,7 @@ ghost use Rattle.syn_history.specs.Events.{token_of};
 ghost use Rattle.syn_tree.specs.Nodes.{part_of};
 ghost use Rattle.syn_replica.specs.Disks.{StandsBeforeOrAfter};
 ghost use Rattle.syn_replica.specs.Refusals.{refusal_of, IsOneOf, outside_refusals};
-ghost use Rattle.syn_replica.specs.Refusals.{begin_refusals, fetch_refusals, replace_refusals};
+ghost use Rattle.syn_replica.specs.Refusals.{begin_refusals, fetch_refusals};
 ghost use Rattle.syn_replica.specs.Refusals.{CountsFailures, MakesIfDevice};
 ghost use Rattle.syn_replica.specs.Steps.{begun, begin_refusal, is_done, piece, since_causes};
 ghost use Rattle.syn_replica.specs.Steps.{replaced, replace_refusal, how_stands, MakesIfNew};
@@ -25,9 +25,9 @@ use std::alloc::Global;
 use syn_disk::Disk;
 use syn_history::{Event, Token};
 use syn_journal::JournalError;
-use syn_model::history_laws;
+use syn_model::tree_laws;
 use syn_path::Path;
-use syn_tree::{Node, TreeError};
+use syn_tree::{Node, Tree};
 use syn_wire::encode_node;
 
 /// The most bytes of a piece.
@@ -124,20 +124,169 @@ impl<D: Disk> Replica<D> {
         self.add(alloc, event)
     }
 
+    /// A part of what stands at the path with all below it: its spelling from the offset on, the
+    /// first 32,768 bytes of it where there are more; past the end no bytes. The work grows with
+    /// what is at and below the path, and not with the whole tree.
+    ///
+    /// Refused 10 while the replica is halted; 15 where `since` is below the floor or above the
+    /// position, 13 where an event touched the path since, and 11 where memory is refused.
+    pub fn fetch(
+        &self,
+        alloc: Global,
+        path: &Path,
+        since: u64,
+        offset: usize,
+    ) -> Result<Piece, ReplicaError>
+        ensures piece { (history : History) → Stands self.now history
+            → IfOk result (λ found. (found.bytes.items ≡ piece history path.now offset)
+            × (found.total ≡ length (spelling (subtree (tree_of history) path.now)))) }
+
+        // Each refusal has its cause, and each cause its refusal: the first of them is answered.
+        ensures cause { (history : History) → Stands self.now history
+            → IfErr result (λ e. (refusal_of e ≡ Memory)
+            ⊎ (first_cause (since_causes history path.now since) ≡ Some (refusal_of e))) }
+        ensures refused { (history : History) (why : Refusal) → Stands self.now history
+            → first_cause (since_causes history path.now since) ≡ Some why
+            → IsErrAnd result (λ e. refusal_of e ≡ why) }
+        ensures refusals { IfErr result (IsOneOf fetch_refusals) }
+        ensures halted { (result ≡ Err (ReplicaError.Journal JournalError.Halted))
+            ↔ IsHalted self.now }
+    {
+        if self.journal.is_halted() {
+            return Err(ReplicaError::Journal(JournalError::Halted));
+        }
+        self.standing.check_untouched(path, since)?;
+        let spelled = spelled_at(alloc, self.standing.tree(), path)?;
+        let bytes = cut(&spelled, offset).to_vec(alloc)?;
+        Ok(Piece {
+            total: spelled.len(),
+            bytes,
+        })
+    }
+
     /// How the token stands.
     pub fn standing(&self, token: Token) -> TokenStanding
         ensures { (history : History) → Stands self.now history
             → result ≡ how_stands history (token_of token) }
     {
-        match self.standing.trail().last_token() {
-            Some(last) if last.is_same(&token) => TokenStanding::Done,
-            _ => {
-                if self.standing.is_old(&token) {
-                    TokenStanding::Old
-                } else {
-                    TokenStanding::Open
-                }
-            }
+        let done = self.standing.is_done(&token);
+        if done {
+            TokenStanding::Done
+        } else if self.standing.is_old(&token) {
+            TokenStanding::Old
+        } else {
+            TokenStanding::Open
         }
     }
+
+    /// Puts what is given in the place of all that is at and below the path, or takes it out, under
+    /// the token, and answers the position. What is checked and what is written are one call: no
+    /// event comes between. A replacement under the last token again changes nothing.
+    ///
+    /// Refused 10 while the replica is halted; 14 where the session of the token is not the last, or
+    /// the token is below the last; 15 where `since` is below the floor or above the position, 13
+    /// where an event touched the path since; 6 for the root, 2 where the parent is not a directory,
+    /// 7 where the result would pass a limit; 8 where the record does not fit in the journal, 11
+    /// where memory is refused, and 9 where a device call fails. After 9 the replica is halted and
+    /// remembers what it had; after any other refusal it is as it was.
+    pub fn replace(
+        &mut self,
+        alloc: Global,
+        token: Token,
+        path: &Path,
+        since: u64,
+        new: Option<Node>,
+    ) -> Result<u64, ReplicaError>
+        ensures acknowledged { (history : History) → Stands self.old history
+            → let after = replaced history (token_of token) path.now since (part_of new) in
+            IfOk result (λ position. (position ≡ length after) × Stands self.new after) }
+        ensures any_moment { (history : History) → Stands self.old history
+            → LeavesOnly D.moment D.left_since (disk_of self.old) (disk_of self.new)
+            (StandsBeforeOrAfter (pair_of self.old) history
+            (Replaced (token_of token) path.now since (part_of new))) }
+
+        // A token that is done stays done, and nothing changes.
+        ensures again { (history : History) → Stands self.old history
+            → is_done history (token_of token) ≡ true
+            → (result ≡ Ok (length history)) × (self.new ≡ self.old) }
+
+        // Each refusal has its cause, and each cause its refusal: the first of them is answered, or
+        // Memory in the place of it.
+        ensures cause { (history : History) → Stands self.old history
+            → IfErr result (λ e. IsOneOf outside_refusals e
+            ⊎ (replace_refusal (room_shown self.old) history (token_of token) path.now since
+            (part_of new) ≡ Some (refusal_of e))) }
+        ensures refused { (history : History) (why : Refusal) → Stands self.old history
+            → is_done history (token_of token) ≡ false
+            → replace_refusal (room_shown self.old) history (token_of token) path.now since
+            (part_of new) ≡ Some why
+            → IsErrAnd result (λ e. (refusal_of e ≡ why) ⊎ IsOneOf outside_refusals e) }
+        ensures halted { (result ≡ Err (ReplicaError.Journal JournalError.Halted))
+            ↔ IsHalted self.old }
+        ensures halts { IfErr result (λ e. refusal_of e ≡ Device → IsHalted self.new) }
+        ensures failures { MatchResult result
+            (λ _. D.failures (disk_of self.new) ≡ D.failures (disk_of self.old))
+            (λ e. CountsFailures e (D.failures (disk_of self.old)) (D.failures (disk_of self.new))) }
+
+        // Four device calls where the event is written, and none where the token is done. After
+        // Device the last that was made failed.
+        ensures calls { (history : History) → Stands self.old history → MatchResult result
+            (λ _. MakesIfNew (is_done history (token_of token)) (D.arms (disk_of self.old))
+            (D.arms (disk_of self.new)))
+            (λ e. MakesIfDevice e 4 (D.arms (disk_of self.old)) (D.arms (disk_of self.new))) }
+
+        // What stays after a refusal.
+        ensures memory { IfErr result (λ _. SameMemory self.old self.new) }
+        ensures unchanged { IfErr result (λ e. (refusal_of e ≡ Device)
+            ⊎ (journal_of self.new ≡ journal_of self.old)) }
+    {
+        opening_laws();
+        if self.journal.is_halted() {
+            return Err(ReplicaError::Journal(JournalError::Halted));
+        }
+        if self.standing.is_done(&token) {
+            return Ok(self.position());
+        }
+        if self.standing.is_old(&token) {
+            return Err(ReplicaError::OldSession);
+        }
+        self.standing.check_untouched(path, since)?;
+        self.standing.tree().check_part(path, new.as_ref())?;
+        let path = path.copy(alloc)?;
+        self.add(
+            alloc,
+            Event::Replaced {
+                token,
+                path,
+                since,
+                new,
+            },
+        )
+    }
+}
+
+/// The spelling of what stands at the path with all below it. Refused 11 where memory is refused.
+fn spelled_at(alloc: Global, tree: &Tree, path: &Path) -> Result<Vec<u8>, ReplicaError>
+    ensures spelled { IfOk result (λ bytes. bytes.items ≡ spelling (subtree tree.now path.now)) }
+    ensures memory { IfErr result (λ e. refusal_of e ≡ Memory) }
+{
+    tree_laws();
+    let _whole = tree.entries();
+    let node = tree.subtree(alloc, path)?;
+    Ok(encode_node(alloc, node.as_ref())?)
+}
+
+/// The bytes from the offset on, the first of them where there are more than a piece has.
+fn cut(bytes: &[u8], offset: usize) -> &[u8]
+    ensures { result.now ≡ take LONGEST_PIECE (drop offset bytes.now) }
+{
+    if offset >= bytes.len() {
+        return &[];
+    }
+    let (_, rest) = bytes.split_at(offset);
+    if rest.len() <= LONGEST_PIECE {
+        return rest;
+    }
+    let (piece, _) = rest.split_at(LONGEST_PIECE);
+    piece
 }

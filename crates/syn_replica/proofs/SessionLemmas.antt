@@ -1,0 +1,116 @@
+-- Why a replacement is refused, as it is found out step by step.
+use Rattle.std.proofs.Common.{◌≡◌, ◌⊎◌, ◌<◌, ◌≤◌, ℕ, Bool, true, false, not, ◌||◌, if◌then◌else◌, nat_lt, List, [], ◌∷◌, ◌++◌, length, refl, sym, ap, ap₂, ◌∙◌, Option, Some, None, inl, inr, append_assoc, arith, ◌+◌, Result, Ok, Err}
+use Rattle.std.specs.Prelude.{IfOk, IfErr, OnOk, IsErrAnd}
+use Rattle.std.proofs.lemmas.List.{length-append}
+use Rattle.std.proofs.lemmas.Option.{none-some}
+use Rattle.std.proofs.lemmas.Bool.Decides.{nat_tests}
+use Rattle.syn_model.specs.Path.{Path}
+use Rattle.syn_model.specs.Tree.{Tree, replace}
+use Rattle.syn_model.specs.Event.{Token, Event, Replaced}
+use Rattle.syn_model.specs.Refusal.{Refusal, OldSession, BelowFloor, Touched, Cause, first_cause}
+use Rattle.syn_model.specs.Standing.{place_causes, full_causes}
+use Rattle.syn_model.specs.History.{History, tree_of, floor, is_quiet, is_old_token, position_causes}
+use Rattle.syn_replica.specs.Steps.{add_refusal, room_causes, since_causes, replace_refusal, is_done, replaced}
+use Rattle.syn_replica.specs.Refusals.{IsOneOf, outside_refusals, refusal_of}
+use Rattle.syn_replica.specs.declared.error.ReplicaError.{ReplicaError}
+use Rattle.syn_replica.proofs.RefusalLemmas.{same_refusal}
+use Rattle.syn_replica.proofs.CauseLemmas.{first_stays, first_skips}
+
+first_true : (b : Bool) (why : Refusal) (rest : List Cause) → b ≡ true → first_cause ((b, why) ∷ rest) ≡ Some why
+first_true b why rest e = ap (λ b. first_cause ((b, why) ∷ rest)) e
+
+first_false : (b : Bool) (why : Refusal) (rest : List Cause) → b ≡ false → first_cause ((b, why) ∷ rest) ≡ first_cause rest
+first_false b why rest e = ap (λ b. first_cause ((b, why) ∷ rest)) e
+
+-- ---- whether the path was touched since
+
+module _ (history : History) (path : Path) (since : ℕ) where
+  is_below : Bool
+  is_below = nat_lt since (floor history) || nat_lt (length history) since
+
+  below_test : (a b c : ℕ) → (a < b) ⊎ (c < a) → (nat_lt a b || nat_lt c a) ≡ true
+  below_test a b c (inl h) = ap (λ x. x || nat_lt c a) (lt a b h)
+    where
+      lt : (m n : ℕ) → m < n → nat_lt m n ≡ true
+      lt m n h = grind (arith, nat_tests)
+  below_test a b c (inr h) = by_first (nat_lt a b) (nat_lt c a) (lt c a h)
+    where
+      lt : (m n : ℕ) → m < n → nat_lt m n ≡ true
+      lt m n h = grind (arith, nat_tests)
+
+      by_first : (x y : Bool) → y ≡ true → (x || y) ≡ true
+      by_first true y e = refl
+      by_first false y e = e
+
+  above_test : (a b c : ℕ) → ((a < b) ⊎ (c < a) → ⊥) → (nat_lt a b || nat_lt c a) ≡ false
+  above_test a b c h = ap₂ (λ x y. x || y) (not_lt a b (λ l. h (inl l))) (not_lt c a (λ l. h (inr l)))
+    where
+      not_lt : (m n : ℕ) → (m < n → ⊥) → nat_lt m n ≡ false
+      not_lt m n h = grind (arith, nat_tests)
+
+  pub since_below : (since < floor history) ⊎ (length history < since) → first_cause (since_causes history path since) ≡ Some BelowFloor
+  since_below h = first_true (nat_lt since (floor history) || nat_lt (length history) since) BelowFloor ((not (is_quiet history since (length history) path), Touched) ∷ []) (below_test since (floor history) (length history) h)
+
+  pub since_told : ((since < floor history) ⊎ (length history < since) → ⊥) → first_cause (since_causes history path since) ≡ (if not (is_quiet history since (length history) path) then Some Touched else None)
+  since_told h = first_false (nat_lt since (floor history) || nat_lt (length history) since) BelowFloor ((not (is_quiet history since (length history) path), Touched) ∷ []) (above_test since (floor history) (length history) h)
+
+-- ---- the causes of a replacement in a row
+
+module _ (room : ℕ) (history : History) (token : Token) (path : Path) (since : ℕ) (new : Tree) where
+  rest_causes : List Cause
+  rest_causes = place_causes (tree_of history) path ++ (full_causes (replace (tree_of history) path new)
+      ++ (position_causes history ++ room_causes room (Replaced token path since new)))
+
+  pub replaced_old : is_old_token history token ≡ true → replace_refusal room history token path since new ≡ Some OldSession
+  unfolding rest_causes
+  replaced_old old = first_true (is_old_token history token) OldSession (since_causes history path since ++ rest_causes) old
+
+  not_old : is_old_token history token ≡ false → replace_refusal room history token path since new ≡ first_cause (since_causes history path since ++ rest_causes)
+  unfolding rest_causes
+  not_old current = first_false (is_old_token history token) OldSession (since_causes history path since ++ rest_causes) current
+
+  pub replaced_since : (refusal : Refusal) → is_old_token history token ≡ false → first_cause (since_causes history path since) ≡ Some refusal → replace_refusal room history token path since new ≡ Some refusal
+  replaced_since refusal current e = not_old current ∙ first_stays (since_causes history path since) rest_causes refusal e
+
+  untouched : is_old_token history token ≡ false → first_cause (since_causes history path since) ≡ None → replace_refusal room history token path since new ≡ first_cause rest_causes
+  untouched current none = not_old current ∙ first_skips (since_causes history path since) rest_causes none
+
+  tree_causes : List Cause
+  tree_causes = place_causes (tree_of history) path ++ full_causes (replace (tree_of history) path new)
+
+  in_row : rest_causes ≡ tree_causes ++ (position_causes history ++ room_causes room (Replaced token path since new))
+  unfolding rest_causes tree_causes
+  in_row = sym (append_assoc (place_causes (tree_of history) path) (full_causes (replace (tree_of history) path new)) (position_causes history ++ room_causes room (Replaced token path since new)))
+
+  pub replaced_part : (refusal : Refusal) → is_old_token history token ≡ false → first_cause (since_causes history path since) ≡ None →
+      first_cause (place_causes (tree_of history) path ++ full_causes (replace (tree_of history) path new)) ≡ Some refusal → replace_refusal room history token path since new ≡ Some refusal
+  unfolding tree_causes
+  replaced_part refusal current none e =
+      untouched current none ∙ (ap first_cause in_row ∙ first_stays tree_causes (position_causes history ++ room_causes room (Replaced token path since new)) refusal e)
+
+  -- where the token and the path stand as they should, what is left is why the event is not added
+  pub replaced_rest : is_old_token history token ≡ false → first_cause (since_causes history path since) ≡ None → replace_refusal room history token path since new ≡ add_refusal room history (Replaced token path since new)
+  unfolding rest_causes
+  replaced_rest current none =
+      let place = place_causes (tree_of history) path in
+      let full = full_causes (replace (tree_of history) path new) in
+      let position = position_causes history in
+      let last = room_causes room (Replaced token path since new) in
+      untouched current none
+      ∙ (ap first_cause (sym (append_assoc place full (position ++ last)) ∙ (sym (append_assoc (place ++ full) position last) ∙ ap (λ xs. xs ++ last) (append_assoc place full position)))
+      ∙ sym (first_false (is_old_token history token) OldSession ((place ++ (full ++ position)) ++ last) current))
+
+-- ---- what is answered
+
+pub refused_by : (r : Result ℕ ReplicaError) (answered : Option Refusal) (why : Refusal) → answered ≡ Some why → OnOk r (answered ≡ None) → IfErr r (λ e. IsOneOf outside_refusals e ⊎ (answered ≡ Some (refusal_of e))) →
+    IsErrAnd r (λ e. (refusal_of e ≡ why) ⊎ IsOneOf outside_refusals e)
+refused_by (Ok x) answered why e none cause = none-some _ (sym none ∙ e)
+refused_by (Err x) answered why e none cause = elim cause as (λ _. (refusal_of x ≡ why) ⊎ IsOneOf outside_refusals x) [ inl outside ↦ inr outside | inr is ↦ inl (same_refusal x why answered is e) ]
+
+pub one_longer : (r : Result ℕ ReplicaError) (history : History) (event : Event) (P : Type 0) → IfOk r (λ position. (position ≡ length history + 1) × P) → IfOk r (λ position. (position ≡ length (history ++ event ∷ [])) × P)
+one_longer (Ok x) history event P h = (h.0 ∙ sym (length-append history (event ∷ [])), h.1)
+one_longer (Err x) history event P h = h
+
+-- a token that is not done goes on by its event
+pub not_done : (history : History) (token : Token) (path : Path) (since : ℕ) (new : Tree) → is_done history token ≡ false → replaced history token path since new ≡ history ++ Replaced token path since new ∷ []
+not_done history token path since new e = ap (λ b. if b then history else history ++ Replaced token path since new ∷ []) e
