@@ -1,11 +1,17 @@
 //! The definitions from a side's step to the headline, and what holds of every run.
 #![tactic(auto)]
 
-ghost use Rattle.syn_headline.specs.Laws.{ServesAllowed, PiecesAreUntouched, RepeatsAreDone, LaterAreOld, DeadAreOld};
-ghost use Rattle.syn_headline.specs.Headline.{formatted, IsPair, RunsStand, OfEachRun, EachReplacementIsLegal, EachTokenOnce, EachEntryWasHeld, LeavesPair, LogsPlans, Owes, CompleteSessionsSynchronize, CompleteSessionsReconcile, ReportsItsConflicts, CountsItsItems, CarriedIsMarked};
+ghost use Rattle.syn_headline.specs.Laws.{ServesAllowed, PiecesAreUntouched, RepeatsAreDone};
+ghost use Rattle.syn_headline.specs.Laws.{LaterAreOld, DeadAreOld};
+ghost use Rattle.syn_headline.specs.Headline.{formatted, IsPair, RunsStand, OfEachRun};
+ghost use Rattle.syn_headline.specs.Headline.{EachReplacementIsLegal, EachTokenOnce};
+ghost use Rattle.syn_headline.specs.Headline.{EachEntryWasHeld, LeavesPair, LogsPlans, Owes};
+ghost use Rattle.syn_headline.specs.Headline.{CompleteSessionsSynchronize};
+ghost use Rattle.syn_headline.specs.Headline.{CompleteSessionsReconcile, ReportsItsConflicts};
+ghost use Rattle.syn_headline.specs.Headline.{CountsItsItems, CarriedIsMarked};
 
-/// A step of a side leaves its history or adds one allowed event. It answers a fetch only where nothing touched the path since its
-/// position, and a repeat as done or as old.
+/// A step of a side leaves its history or adds one allowed event. It answers a fetch only where
+/// nothing touched the path since its position, and a repeat as done or as old.
 pub fn side_laws()
     ensures serves { ServesAllowed }
     ensures pieces { PiecesAreUntouched }
@@ -14,7 +20,8 @@ pub fn side_laws()
     ensures dead { DeadAreOld }
 {}
 
-/// In every run, with stops and failing devices, the machines stand for what was acknowledged, each replacement is legal, and each plan is logged.
+/// In every run, with stops and failing devices, the machines stand for what was acknowledged, each
+/// replacement is legal, and each plan is logged.
 pub fn run_laws()
     ensures formatted { IsPair formatted }
     ensures stands { RunsStand }
@@ -26,7 +33,9 @@ pub fn run_laws()
     ensures owe { OfEachRun Owes }
 {}
 
-/// In every run a complete session without edits leaves the synchronization of what it found and the archive of it, reports its conflicts, counts its items, and marks what was carried before it.
+/// In every run a complete session without edits leaves the synchronization of what it found and
+/// the archive of it, reports its conflicts, counts its items, and marks what was carried before
+/// it.
 pub fn session_laws()
     ensures synchronized { OfEachRun CompleteSessionsSynchronize }
     ensures reconciled { OfEachRun CompleteSessionsReconcile }

@@ -1,9 +1,21 @@
 //! The definitions from path to plan that the other crates cite, and the laws that hold of them.
 #![tactic(auto)]
 
-ghost use Rattle.syn_model.specs.Laws.{SameAtEachPath, SubtreeHas, ReplacedHas, ReplacedIsThere, OthersStay, ReplacedIsPart, SubtreeIsPart, SubtreeFits, SubtreeFitsPaths, SpellingUnfolds, NoSpellingBeginsAnother, DirtyIsClosed, DirtyIsSafe, OneSynchronization, NothingToDo, HistoryIsTree, HistoryFits, PutFits, AllowedGoesOn, StandingSteps, StandingAllows, TouchesTell, FormattedStands, PayloadGoesOn, ImageStands, ImagesFit, HistoryImagesFit, PathsGoByKey, MarkHas, MarkOfSubtree, MarkIsDigests};
-ghost use Rattle.syn_model.specs.Plan.{NamesAreOnly, PlanIsInOrder, PlanIsOrderly, PlanIsDecided, PlanSynchronizes, PlanReconciles, PlanHasDecided, PlanOverwritesClean, ConflictsArePlanned, ItemFindsArchive, ItemFindsSides};
-ghost use Rattle.syn_model.specs.ArchiveImage.{KeepingStaysSound, StandsForSound, ArchiveImageStands, ArchiveImagesFit, NewArchiveStands, RecordGoesOn};
+ghost use Rattle.syn_model.specs.Laws.{SameAtEachPath, SubtreeHas, ReplacedHas, ReplacedIsThere};
+ghost use Rattle.syn_model.specs.Laws.{OthersStay, ReplacedIsPart, SubtreeIsPart, SubtreeFits};
+ghost use Rattle.syn_model.specs.Laws.{SubtreeFitsPaths, SpellingUnfolds, NoSpellingBeginsAnother};
+ghost use Rattle.syn_model.specs.Laws.{DirtyIsClosed, DirtyIsSafe, OneSynchronization, NothingToDo};
+ghost use Rattle.syn_model.specs.Laws.{HistoryIsTree, HistoryFits, PutFits, AllowedGoesOn};
+ghost use Rattle.syn_model.specs.Laws.{StandingSteps, StandingAllows, TouchesTell, FormattedStands};
+ghost use Rattle.syn_model.specs.Laws.{PayloadGoesOn, ImageStands, ImagesFit, HistoryImagesFit};
+ghost use Rattle.syn_model.specs.Laws.{PathsGoByKey, MarkHas, MarkOfSubtree, MarkIsDigests};
+ghost use Rattle.syn_model.specs.Plan.{NamesAreOnly, PlanIsInOrder, PlanIsOrderly, PlanIsDecided};
+ghost use Rattle.syn_model.specs.Plan.{PlanSynchronizes, PlanReconciles, PlanHasDecided};
+ghost use Rattle.syn_model.specs.Plan.{PlanOverwritesClean, ConflictsArePlanned, ItemFindsArchive};
+ghost use Rattle.syn_model.specs.Plan.{ItemFindsSides};
+ghost use Rattle.syn_model.specs.ArchiveImage.{KeepingStaysSound, StandsForSound};
+ghost use Rattle.syn_model.specs.ArchiveImage.{ArchiveImageStands, ArchiveImagesFit};
+ghost use Rattle.syn_model.specs.ArchiveImage.{NewArchiveStands, RecordGoesOn};
 ghost use Rattle.syn_model.specs.MarkSpelling.{MarkSpellingUnfolds, NoMarkSpellingBeginsAnother};
 ghost use Rattle.syn_model.specs.Rows.{ItemsOfOneNameHold, Floors, RefusedEditsHold, Spellings};
 
@@ -54,7 +66,8 @@ pub fn synchronization_laws()
     ensures nothing { NothingToDo }
 {}
 
-/// The items of a plan stand in order, and carrying them out gives a synchronization, and the archive of it.
+/// The items of a plan stand in order, and carrying them out gives a synchronization, and the
+/// archive of it.
 pub fn plan_laws()
     ensures names { NamesAreOnly }
     ensures order { PlanIsInOrder }
@@ -69,7 +82,8 @@ pub fn plan_laws()
     ensures reconciles { PlanReconciles }
 {}
 
-/// What a history of allowed events leaves is a tree within the limits, and an allowed event goes on it.
+/// What a history of allowed events leaves is a tree within the limits, and an allowed event goes
+/// on it.
 pub fn history_laws()
     ensures tree { HistoryIsTree }
     ensures fits { HistoryFits }

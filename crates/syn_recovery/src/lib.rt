@@ -1,8 +1,10 @@
-//! From the bytes of three disks to a run of the world, and back: what a disk may mean, and the headline.
+//! From the bytes of three disks to a run of the world, and back: what a disk may mean, and the
+//! headline.
 #![tactic(auto)]
 
 ghost use Rattle.syn_recovery.specs.Calls.{MadeCallsMeet, BrokenCallsMeet, MadeReadsMeet};
-ghost use Rattle.syn_recovery.specs.Machines.{SidesOpen, ArchivesOpen, SideImagesFit, ArchiveImagesFit};
+ghost use Rattle.syn_recovery.specs.Machines.{SidesOpen, ArchivesOpen, SideImagesFit};
+ghost use Rattle.syn_recovery.specs.Machines.{ArchiveImagesFit};
 ghost use Rattle.syn_recovery.specs.Headline.{DisksAreStart, Headline};
 
 /// The device calls that a journal's contract counts are what the world says that a machine met.
@@ -18,7 +20,8 @@ pub fn opening_laws()
     ensures archives { ArchivesOpen }
 {}
 
-/// What a machine keeps fits its journal, so a checkpoint is refused 7 at the greatest generation alone.
+/// What a machine keeps fits its journal, so a checkpoint is refused 7 at the greatest generation
+/// alone.
 pub fn image_laws()
     ensures sides { SideImagesFit }
     ensures archives { ArchiveImagesFit }
@@ -27,7 +30,8 @@ pub fn image_laws()
     syn_model::archive_laws();
 }
 
-/// Three disks of a pair are a start, and a run from them is crash safe, whatever the disks then hold.
+/// Three disks of a pair are a start, and a run from them is crash safe, whatever the disks then
+/// hold.
 pub fn headline()
     ensures start { DisksAreStart }
     ensures crash_safe { Headline }

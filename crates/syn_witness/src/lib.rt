@@ -1,25 +1,36 @@
-//! Runs of the world that the definitions allow, step by step: what no run meets proves nothing. And what they do not allow.
+//! Runs of the world that the definitions allow, step by step: what no run meets proves nothing.
+//! And what they do not allow.
 #![tactic(auto)]
 
 ghost use Rattle.syn_witness.specs.Rows.{SideRows};
-ghost use Rattle.syn_witness.specs.Forbidden.{StaysWithoutStop, ArmedCallsCome, StartsFresh, BeginsOnce, FaultsAlone, UnstableIsIncomplete, FailureEnds, RecordsAfterRoom, CheckpointsAreForRecords, FullAfterCheckpoint, HaltedAfterFailure};
-ghost use Rattle.syn_witness.specs.Short.{StartIsRecovered, ReplacementIsRecovered, CheckpointIsMade, ArchiveIsReopened, ResendIsAnswered, LateIsOld};
+ghost use Rattle.syn_witness.specs.Forbidden.{StaysWithoutStop, ArmedCallsCome, StartsFresh};
+ghost use Rattle.syn_witness.specs.Forbidden.{BeginsOnce, FaultsAlone, UnstableIsIncomplete};
+ghost use Rattle.syn_witness.specs.Forbidden.{FailureEnds, RecordsAfterRoom};
+ghost use Rattle.syn_witness.specs.Forbidden.{CheckpointsAreForRecords, FullAfterCheckpoint};
+ghost use Rattle.syn_witness.specs.Forbidden.{HaltedAfterFailure};
+ghost use Rattle.syn_witness.specs.Short.{StartIsRecovered, ReplacementIsRecovered};
+ghost use Rattle.syn_witness.specs.Short.{CheckpointIsMade, ArchiveIsReopened, ResendIsAnswered};
+ghost use Rattle.syn_witness.specs.Short.{LateIsOld};
 ghost use Rattle.syn_witness.specs.Conflict.{ConflictIsReported};
 ghost use Rattle.syn_witness.specs.Removal.{RemovalIsCarried};
 ghost use Rattle.syn_witness.specs.Unstable.{VanishedIsUnstable};
-ghost use Rattle.syn_witness.specs.Witness.{OpenedIsStart, NewRoomIs, StopIsRecovered, FailIsRefused, CheckpointIsCut, SilenceEnds, FileIsCarried, FilesAreExchanged, CarriedIsMarkedLater, RepeatIsDone, TouchedIsRefused, ReplacementFails};
+ghost use Rattle.syn_witness.specs.Witness.{OpenedIsStart, NewRoomIs, StopIsRecovered};
+ghost use Rattle.syn_witness.specs.Witness.{FailIsRefused, CheckpointIsCut, SilenceEnds};
+ghost use Rattle.syn_witness.specs.Witness.{FileIsCarried, FilesAreExchanged, CarriedIsMarkedLater};
+ghost use Rattle.syn_witness.specs.Witness.{RepeatIsDone, TouchedIsRefused, ReplacementFails};
 
 /// What a side answers in worked examples, which its definition gives.
 pub fn examples()
     ensures sides { SideRows }
 {}
 
-/// Runs from three formatted disks, step by step, that the definitions of a run allow: a stop while an edit is written and its
-/// recovery, an edit whose device call fails and what a reopening gives, a checkpoint that is cut
-/// off, a session that nobody answers, a whole session over one file, one that carries a file each way, and one that marks
-/// what an earlier session carried and did not record; a replacement that comes twice, one that comes after an edit,
-/// and one whose device call fails; a session that marks a directory of both sides and reports a conflict below it;
-/// one that a directory vanishes in; and, from disks that are not new, one that carries a removal.
+/// Runs from three formatted disks, step by step, that the definitions of a run allow: a stop while
+/// an edit is written and its recovery, an edit whose device call fails and what a reopening gives,
+/// a checkpoint that is cut off, a session that nobody answers, a whole session over one file, one
+/// that carries a file each way, and one that marks what an earlier session carried and did not
+/// record; a replacement that comes twice, one that comes after an edit, and one whose device call
+/// fails; a session that marks a directory of both sides and reports a conflict below it; one that
+/// a directory vanishes in; and, from disks that are not new, one that carries a removal.
 pub fn witnesses()
     ensures start { OpenedIsStart }
     ensures room { NewRoomIs }
@@ -38,8 +49,9 @@ pub fn witnesses()
     ensures removal { RemovalIsCarried }
 {}
 
-/// Short runs of the same: a start and a replacement that a stop cuts off and an opening recovers, checkpoints of a side and of the
-/// archive with a reopening, a request that is sent again and answered twice, and a replacement of a session that is over.
+/// Short runs of the same: a start and a replacement that a stop cuts off and an opening recovers,
+/// checkpoints of a side and of the archive with a reopening, a request that is sent again and
+/// answered twice, and a replacement of a session that is over.
 pub fn short_witnesses()
     ensures start { StartIsRecovered }
     ensures replacement { ReplacementIsRecovered }
@@ -49,10 +61,12 @@ pub fn short_witnesses()
     ensures late { LateIsOld }
 {}
 
-/// What no run does: without a stop among the steps no machine goes down, an edit is not acknowledged where one of its device
-/// calls is armed, a session is not given up at its first tick, begun twice on a side, ended 22 or 23 for an answer without a fault,
-/// called Complete with an unstable path, or gone on with once its archive's device failed; no checkpoint is
-/// made within an answer but for the one record that is kept next, and no session ends 8 without it; and no machine is halted before a device call of it failed.
+/// What no run does: without a stop among the steps no machine goes down, an edit is not
+/// acknowledged where one of its device calls is armed, a session is not given up at its first
+/// tick, begun twice on a side, ended 22 or 23 for an answer without a fault, called Complete with
+/// an unstable path, or gone on with once its archive's device failed; no checkpoint is made within
+/// an answer but for the one record that is kept next, and no session ends 8 without it; and no
+/// machine is halted before a device call of it failed.
 pub fn forbidden()
     ensures up { StaysWithoutStop }
     ensures armed { ArmedCallsCome }
