@@ -17,7 +17,7 @@ use std::io::Write;
 use syn_disk::Disk;
 use syn_path::Path;
 use syn_replica::{Replica, ReplicaError};
-use syn_tree::{Entry, Found, Tree};
+use syn_tree::{Entry, Found, Tree, TreeError};
 
 /// Prints the whole image: a line with its numbers, and a line for each path but the root, in path
 /// order.
@@ -59,7 +59,7 @@ pub fn show_path<D: Disk, W: Write>(
     match tree.get(path) {
         Some(Found::File(bytes)) => Ok(output.write_all(bytes)?),
         Some(Found::Dir) => show_below(alloc, tree, path, output),
-        None => Err(CommandError::Replica(ReplicaError::Absent)),
+        None => Err(CommandError::Replica(ReplicaError::Tree(TreeError::Absent))),
     }
 }
 

@@ -1,12 +1,12 @@
 -- Images and records stand for archives.
-use Rattle.std.proofs.Common.{◌≡◌, ◌≤◌, ℕ, ◌+◌, Bool, true, false, not, ◌==◌, nat_le, if◌then◌else◌, fold, map}
+use Rattle.std.proofs.Common.{◌≡◌, ◌+◌, true, false, not, ◌==◌, nat_le, if◌then◌else◌}
 use Rattle.std.proofs.Common.{List, [], ◌∷◌, ◌++◌, Some, None, length, refl, sym, ap, ◌∙◌, subst, arith}
 use Rattle.std.specs.FinMap.{len-entries}
 use Rattle.std.proofs.lemmas.Bool.{leb-false, eqb-true, not-false}
 use Rattle.std.proofs.lemmas.List.{map-append}
 use Rattle.std.proofs.lemmas.List.Sums.{fold-append}
 use Rattle.syn_model.specs.Path.{Path, is_root, strip_prefix, IsPath}
-use Rattle.syn_model.specs.Tree.{Tree, IsTree, IsPart, Directory, File, empty_directory, is_directory, replace}
+use Rattle.syn_model.specs.Tree.{Tree, IsPart, Directory, File, empty_directory, is_directory, replace}
 use Rattle.std.specs.FinMap.{get}
 use Rattle.std.specs.Option.{option_map_or}
 use Rattle.syn_model.specs.Mark.{IsMarks}
@@ -18,7 +18,7 @@ use Rattle.syn_model.specs.History.{tree_of}
 use Rattle.syn_model.specs.Archive.{Archive, Kept, Session, Recorded, RecordedDir, CanKeep, after_kept, archive_of}
 use Rattle.syn_model.specs.Archive.{new_archive, record_causes}
 use Rattle.syn_model.specs.MarkSpelling.{kept_spelling}
-use Rattle.syn_model.specs.ArchiveImage.{IsArchive, AllKept, ArchiveStandsFor, KeepingStaysSound, StandsForSound}
+use Rattle.syn_model.specs.ArchiveImage.{IsArchive, AllKept, KeepingStaysSound, StandsForSound}
 use Rattle.syn_model.specs.ArchiveImage.{ArchiveImageStands, NewArchiveStands, RecordGoesOn}
 use Rattle.syn_model.proofs.HistoryLemmas.{first_cause-none, none-append, place-stands, replace-is_tree, at_root-is_part}
 use Rattle.syn_model.proofs.HistoryLemmas.{no_file, only, empty-is_tree}

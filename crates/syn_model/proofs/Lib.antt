@@ -23,3 +23,6 @@ pub mod ResultLemmas
 pub mod PlanSteps
 pub mod PlanCover
 pub mod PlanNames
+pub mod LengthLemmas
+pub mod ImageLengths
+pub mod MarkSpellings

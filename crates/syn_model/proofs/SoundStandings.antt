@@ -1,6 +1,6 @@
 -- What an image keeps of a history is what an image may hold.
-use Rattle.std.proofs.Common.{◌≡◌, ◌≤◌, ◌<◌, ℕ, zero, suc, Bool, true, false, ◌||◌, ◌==◌, not, nat_le, ◌+◌, ◌-◌}
-use Rattle.std.proofs.Common.{List, [], ◌∷◌, ◌++◌, length, take, drop, fold, Option, Some, None, IfSome, All, refl, sym, ap, ◌∙◌}
+use Rattle.std.proofs.Common.{◌≡◌, ◌≤◌, ◌<◌, ℕ, zero, suc, false, ◌||◌, ◌==◌, not, nat_le, ◌+◌, ◌-◌}
+use Rattle.std.proofs.Common.{List, [], ◌∷◌, ◌++◌, length, take, drop, Option, Some, None, IfSome, All, refl, sym}
 use Rattle.std.proofs.Common.{subst, append_assoc, append-nil, arith, true≢false}
 use Rattle.std.specs.List.{AllPairs}
 use Rattle.std.specs.Option.{option_map_or}
@@ -9,13 +9,13 @@ use Rattle.std.proofs.lemmas.List.{length-append, length-drop}
 use Rattle.std.proofs.lemmas.List.Sums.{fold-append}
 use Rattle.std.proofs.lemmas.List.Elements.{All-nil, All-cons}
 use Rattle.std.proofs.lemmas.List.Kept.{AllPairs-cons}
-use Rattle.syn_model.specs.Path.{Path, IsPath}
+use Rattle.syn_model.specs.Path.{IsPath}
 use Rattle.syn_model.specs.Limits.{greatest}
-use Rattle.syn_model.specs.Refusal.{Cause, first_cause, Full, OldSession}
+use Rattle.syn_model.specs.Refusal.{first_cause, Full, OldSession}
 use Rattle.syn_model.specs.Event.{Token, is_below, IsLawfulToken, Event, Edited, Began, Replaced, after_edit, IsLawfulEvent}
 use Rattle.syn_model.specs.Event as event
 use Rattle.syn_model.specs.Standing.{Touch, most_touches, surplus, above_last, touches_at, session_after, token_after}
-use Rattle.syn_model.specs.Standing.{edit_causes, place_causes, full_causes, full_position, is_old}
+use Rattle.syn_model.specs.Standing.{edit_causes, place_causes, full_causes, full_position}
 use Rattle.syn_model.specs.History.{History, IsHistory, AllAllowed, IsAllowed, tree_of, last_session, last_token, touches_from, standing_of}
 use Rattle.syn_model.specs.History.{is_old_token}
 use Rattle.syn_model.specs.Tree.{replace}

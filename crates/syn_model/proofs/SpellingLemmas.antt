@@ -25,17 +25,17 @@ use Rattle.syn_model.proofs.DirectoryLemmas.{not_child, absent_below}
 -- ---- bytes
 
 -- lists of one length that go on to one list are one, and so is what follows
-split : (a b r s : Bytes) → length a ≡ length b → a ++ r ≡ b ++ s → (a ≡ b) × (r ≡ s)
+pub split : (a b r s : Bytes) → length a ≡ length b → a ++ r ≡ b ++ s → (a ≡ b) × (r ≡ s)
 split a b r s l e = (
   sym (take-append_seam a r) ∙ (ap₂ take l e ∙ take-append_seam b s),
   sym (drop-append_seam a r) ∙ (ap₂ drop l e ∙ drop-append_seam b s),
 )
 
-abbrev first_or : Bytes → ℕ → ℕ
+abbrev pub first_or : Bytes → ℕ → ℕ
 first_or [] d = d
 first_or (x ∷ xs) d = x
 
-abbrev rest_of : Bytes → Bytes
+abbrev pub rest_of : Bytes → Bytes
 rest_of [] = []
 rest_of (x ∷ xs) = xs
 
@@ -76,7 +76,7 @@ same_part t u h each = same_tree t u (λ q. at q)
     at [] = h
     at (n ∷ q) = each n q
 
-no_directory : (t u : Tree) → IsPart t → IsPart u → get t root ≡ get u root → get t root ≢ Some Directory → t ≡ u
+pub no_directory : (t u : Tree) → IsPart t → IsPart u → get t root ≡ get u root → get t root ≢ Some Directory → t ≡ u
 no_directory t u ht hu same denied =
     let none : (w : Tree) → get t root ≡ get w root → is_directory w root ≡ false = λ w e. false_from_ne_true (is_directory w root) (λ is. denied (e ∙ directory_is (get w root) is)) in
     same_part t u same (λ n p. nothing_below t root n p ht.parents (none t refl) ∙ sym (nothing_below u root n p hu.parents (none u same)))
@@ -92,7 +92,7 @@ pub record SameEntries (t u : Tree) (xs ys : List (Name × Content)) (r s : Byte
   rest : r ≡ s
 
 -- the spellings of parts tell them, whatever follows
-abbrev Tells : (Tree → Bytes) → (Tree → Bytes) → Tree → Tree → Type 0
+abbrev pub Tells : (Tree → Bytes) → (Tree → Bytes) → Tree → Tree → Type 0
 Tells f g t u = (n m : Name) (r s : Bytes) → f (subtree t (n ∷ [])) ++ r ≡ g (subtree u (m ∷ [])) ++ s → (subtree t (n ∷ []) ≡ subtree u (m ∷ [])) × (r ≡ s)
 
 same_entries : (f g : Tree → Bytes) (t u : Tree) → Tells f g t u → (xs ys : List (Name × Content)) (r s : Bytes) → length xs ≡ length ys →
@@ -155,11 +155,19 @@ same_directory t u r s ht hu at_root same =
 abbrev At : (Tree → Bytes) → Tree → Bytes → Bytes
 At f t r = content_spelling f t (get t root) ++ r
 
-heads_differ : {X : Type 0} (a b : ℕ) (x y : Bytes) → a ≢ b → a ∷ x ≡ b ∷ y → X
+pub heads_differ : {X : Type 0} (a b : ℕ) (x y : Bytes) → a ≢ b → a ∷ x ≡ b ∷ y → X
 heads_differ a b x y denied e = absurd (denied (ap (λ z. first_or z 0) e))
 
+-- what the counts in a spelling can tell of a tree: how long a file at its root is, and how many names are in it
+pub record IsCounted (t : Tree) : Type 0 where
+  pub brief : (contents : Contents) → get t root ≡ Some (File contents) → length contents.bytes < 2 ^ 32
+  pub few : get t root ≡ Some Directory → length (children t root) < 2 ^ 16
+
+counted : (t : Tree) → fits_part t ≡ true → IsCounted t
+counted t h = record { brief = brief t h; few = few t h }
+
 -- one level, where the parts below tell themselves
-level : (f g : Tree → Bytes) (t u : Tree) (r s : Bytes) → IsPart t → IsPart u → fits_part t ≡ true → fits_part u ≡ true →
+pub level : (f g : Tree → Bytes) (t u : Tree) (r s : Bytes) → IsPart t → IsPart u → IsCounted t → IsCounted u →
     (get t root ≡ Some Directory → get u root ≡ Some Directory → Tells f g t u) →
     (a b : Option Content) → get t root ≡ a → get u root ≡ b → content_spelling f t a ++ r ≡ content_spelling g u b ++ s → (t ≡ u) × (r ≡ s)
 level f g t u r s ht hu ft fu tells None None a b e = (no_directory t u ht hu (a ∙ sym b) (λ d. none-some _ (sym a ∙ d)), ap rest_of e)
@@ -172,7 +180,7 @@ level f g t u r s ht hu ft fu tells (Some Directory) (Some (File d)) a b e = hea
 level f g t u r s ht hu ft fu tells (Some (File c)) (Some (File d)) a b e =
     let whole = sym (append_assoc (1 ∷ to_be_bytes w32 (length c.bytes)) c.bytes r) ∙ (e ∙ append_assoc (1 ∷ to_be_bytes w32 (length d.bytes)) d.bytes s) in
     let count = split (to_be_bytes w32 (length c.bytes)) (to_be_bytes w32 (length d.bytes)) _ _ refl (ap rest_of whole) in
-    let long = sym (from_be_bytes-to_be_bytes_4 (length c.bytes) (brief t ft c a)) ∙ (ap (from_be_bytes w32) count.0 ∙ from_be_bytes-to_be_bytes_4 (length d.bytes) (brief u fu d b)) in
+    let long = sym (from_be_bytes-to_be_bytes_4 (length c.bytes) (ft.brief c a)) ∙ (ap (from_be_bytes w32) count.0 ∙ from_be_bytes-to_be_bytes_4 (length d.bytes) (fu.brief d b)) in
     let text = split c.bytes d.bytes r s long count.1 in
     let alike : Some (File c) ≡ Some (File d) = ap (λ x. Some (File (contents_of x))) text.0 in
     (no_directory t u ht hu (a ∙ (alike ∙ sym b)) (λ k. no_file c (same_Some _ _ (sym k ∙ a))), text.1)
@@ -180,7 +188,7 @@ level f g t u r s ht hu ft fu tells (Some Directory) (Some Directory) a b e =
     let all = λ (h : Tree → Bytes) (w : Tree). flat_map (named_spelling h w) (children w root) in
     let whole = sym (append_assoc (2 ∷ to_be_bytes w16 (length (children t root))) (all f t) r) ∙ (e ∙ append_assoc (2 ∷ to_be_bytes w16 (length (children u root))) (all g u) s) in
     let count = split (to_be_bytes w16 (length (children t root))) (to_be_bytes w16 (length (children u root))) _ _ refl (ap rest_of whole) in
-    let long = sym (from_be_bytes-to_be_bytes_2 (length (children t root)) (few t ft a)) ∙ (ap (from_be_bytes w16) count.0 ∙ from_be_bytes-to_be_bytes_2 (length (children u root)) (few u fu b)) in
+    let long = sym (from_be_bytes-to_be_bytes_2 (length (children t root)) (ft.few a)) ∙ (ap (from_be_bytes w16) count.0 ∙ from_be_bytes-to_be_bytes_2 (length (children u root)) (fu.few b)) in
     let same = same_entries f g t u (tells a b) (children t root) (children u root) r s long count.1 in
     (same_directory t u r s ht hu (a ∙ sym b) same, same.rest)
 
@@ -190,7 +198,7 @@ unfolding spelling_within
 spelled_within zero k t u r s lt lu ht hu ft fu e = absurd (omega (arith, lt))
 spelled_within (suc d) zero t u r s lt lu ht hu ft fu e = absurd (omega (arith, lu))
 spelled_within (suc d) (suc k) t u r s lt lu ht hu ft fu e =
-    level (spelling_within d) (spelling_within k) t u r s ht hu ft fu (λ dt du n m r' s' e'.
+    level (spelling_within d) (spelling_within k) t u r s ht hu (counted t ft) (counted u fu) (λ dt du n m r' s' e'.
     let st = subtree_smaller t n [] (ap is_some dt) in
     let su = subtree_smaller u m [] (ap is_some du) in
     spelled_within d k (subtree t (n ∷ [])) (subtree u (m ∷ [])) r' s' (omega (arith, st, lt)) (omega (arith, su, lu))
@@ -209,7 +217,7 @@ alike_entries : (f g : Tree → Bytes) (t : Tree) → ((n : Name) → f (subtree
 alike_entries f g t same [] = refl
 alike_entries f g t same (x ∷ xs) = ap₂ (λ b more. (length x.0 ∷ x.0 ++ b) ++ more) (same x.0) (alike_entries f g t same xs)
 
-alike_content : (f g : Tree → Bytes) (t : Tree) → (get t root ≡ Some Directory → (n : Name) → f (subtree t (n ∷ [])) ≡ g (subtree t (n ∷ []))) →
+pub alike_content : (f g : Tree → Bytes) (t : Tree) → (get t root ≡ Some Directory → (n : Name) → f (subtree t (n ∷ [])) ≡ g (subtree t (n ∷ []))) →
     (o : Option Content) → get t root ≡ o → content_spelling f t o ≡ content_spelling g t o
 alike_content f g t same None e = refl
 alike_content f g t same (Some (File c)) e = refl

@@ -1,9 +1,9 @@
 -- What an archive's disk means: the image of an archive, and payloads that are records kept in turn.
-use Rattle.std.specs.Prelude.{ℕ, ◌≡◌, ◌≤◌, true, List, [], ◌∷◌, ◌++◌, map}
+use Rattle.std.specs.Prelude.{ℕ, ◌≡◌, ◌≤◌, true, List, [], ◌∷◌, ◌++◌, length, map}
 use Rattle.syn_model.specs.Path.{Bytes}
 use Rattle.syn_model.specs.Tree.{IsTree}
 use Rattle.syn_model.specs.Mark.{IsMarks}
-use Rattle.syn_model.specs.Limits.{greatest, fits_archive}
+use Rattle.syn_model.specs.Limits.{greatest, greatest_image, fits_archive}
 use Rattle.syn_model.specs.Archive.{Archive, Kept, CanKeep, after_kept, archive_of, new_archive}
 use Rattle.syn_model.specs.MarkSpelling.{kept_spelling, archive_spelling}
 
@@ -51,6 +51,11 @@ ArchiveImageStands = (pair : ℕ) (archive : Archive) → IsArchive archive →
 abbrev pub NewArchiveStands : Type 0
 NewArchiveStands = (pair : ℕ) →
     ArchiveStandsFor pair (archive_spelling pair new_archive) [] new_archive
+
+-- each lawful image fits a half of a journal's disk
+abbrev pub ArchiveImagesFit : Type 0
+ArchiveImagesFit = (pair : ℕ) (archive : Archive) → IsArchive archive →
+    length (archive_spelling pair archive) ≤ greatest_image
 
 -- and with the payload of a record that can be kept it stands for the archive with that record
 abbrev pub RecordGoesOn : Type 0

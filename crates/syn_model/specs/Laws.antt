@@ -6,12 +6,12 @@ use Rattle.syn_model.specs.Mark.{mark, mark_of}
 use Rattle.std.specs.FinMap.{get}
 use Rattle.syn_model.specs.Path.{Bytes, Path, path_cmp, path_key, key_cmp, root, comparable, strip_prefix, IsName, IsPath}
 use Rattle.syn_model.specs.Tree.{Tree, Contents, File, IsPart, IsTree, StandsIn, subtree, replace}
-use Rattle.syn_model.specs.Limits.{fits_part, fits_paths, fits_replica}
-use Rattle.syn_model.specs.Standing.{new_standing, standing_after, AllAllowedAt}
+use Rattle.syn_model.specs.Limits.{greatest_image, fits_part, fits_paths, fits_replica}
+use Rattle.syn_model.specs.Standing.{Standing, new_standing, standing_after, AllAllowedAt}
 use Rattle.syn_model.specs.History.{History, IsHistory, IsAllowed, AllAllowed, tree_of, standing_of, floor, last_touches, is_quiet}
 use Rattle.syn_model.specs.Event.{Event, Put, after_edit}
 use Rattle.syn_model.specs.Spelling.{content_spelling, spelling, event_spelling}
-use Rattle.syn_model.specs.Image.{image_spelling, StandsFor}
+use Rattle.syn_model.specs.Image.{image_spelling, IsStanding, StandsFor}
 use Rattle.syn_model.specs.Dirty.{Scan, Paths, dirty, IsClosedUpward, IsSafeEstimate}
 use Rattle.syn_model.specs.Reconcile.{IsSynchronization}
 
@@ -128,6 +128,15 @@ PayloadGoesOn = (pair : ℕ) (image : Bytes) (payloads : List Bytes) (history : 
 -- and the image of what is kept of a history, with no payload, stands for it
 abbrev pub ImageStands : Type 0
 ImageStands = (pair : ℕ) (history : History) → IsHistory history → StandsFor pair (image_spelling pair (standing_of history)) [] history
+
+-- each lawful image fits, so a replica's
+abbrev pub ImagesFit : Type 0
+ImagesFit = (pair : ℕ) (standing : Standing) → IsStanding standing → length (image_spelling pair standing) ≤ greatest_image
+
+-- of whatever history
+abbrev pub HistoryImagesFit : Type 0
+HistoryImagesFit = (pair : ℕ) (history : History) → IsHistory history →
+    length (image_spelling pair (standing_of history)) ≤ greatest_image
 
 -- the order of lawful paths is a byte order
 abbrev pub PathsGoByKey : Type 0

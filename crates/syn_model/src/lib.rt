@@ -1,9 +1,10 @@
 //! The definitions from path to plan that the other crates cite, and the laws that hold of them.
 #![tactic(auto)]
 
-ghost use Rattle.syn_model.specs.Laws.{SameAtEachPath, SubtreeHas, ReplacedHas, ReplacedIsThere, OthersStay, ReplacedIsPart, SubtreeIsPart, SubtreeFits, SubtreeFitsPaths, SpellingUnfolds, NoSpellingBeginsAnother, DirtyIsClosed, DirtyIsSafe, OneSynchronization, NothingToDo, HistoryIsTree, HistoryFits, PutFits, AllowedGoesOn, StandingSteps, StandingAllows, TouchesTell, FormattedStands, PayloadGoesOn, ImageStands, PathsGoByKey, MarkHas, MarkOfSubtree, MarkIsDigests};
+ghost use Rattle.syn_model.specs.Laws.{SameAtEachPath, SubtreeHas, ReplacedHas, ReplacedIsThere, OthersStay, ReplacedIsPart, SubtreeIsPart, SubtreeFits, SubtreeFitsPaths, SpellingUnfolds, NoSpellingBeginsAnother, DirtyIsClosed, DirtyIsSafe, OneSynchronization, NothingToDo, HistoryIsTree, HistoryFits, PutFits, AllowedGoesOn, StandingSteps, StandingAllows, TouchesTell, FormattedStands, PayloadGoesOn, ImageStands, ImagesFit, HistoryImagesFit, PathsGoByKey, MarkHas, MarkOfSubtree, MarkIsDigests};
 ghost use Rattle.syn_model.specs.Plan.{NamesAreOnly, PlanIsInOrder, PlanIsOrderly, PlanIsDecided, PlanSynchronizes, PlanReconciles, PlanHasDecided, PlanOverwritesClean, ConflictsArePlanned, ItemFindsArchive, ItemFindsSides};
-ghost use Rattle.syn_model.specs.ArchiveImage.{KeepingStaysSound, StandsForSound, ArchiveImageStands, NewArchiveStands, RecordGoesOn};
+ghost use Rattle.syn_model.specs.ArchiveImage.{KeepingStaysSound, StandsForSound, ArchiveImageStands, ArchiveImagesFit, NewArchiveStands, RecordGoesOn};
+ghost use Rattle.syn_model.specs.MarkSpelling.{MarkSpellingUnfolds, NoMarkSpellingBeginsAnother};
 ghost use Rattle.syn_model.specs.Rows.{ItemsOfOneNameHold, Floors, RefusedEditsHold, Spellings};
 
 /// Paths compare as bytes: by their names, each followed by one zero byte.
@@ -35,6 +36,10 @@ pub fn mark_laws()
     ensures has { MarkHas }
     ensures subtree { MarkOfSubtree }
     ensures digests { MarkIsDigests }
+
+    // Their spelling tells them, as long as they are no more than an archive holds.
+    ensures unfolds { MarkSpellingUnfolds }
+    ensures tells { NoMarkSpellingBeginsAnother }
 {}
 
 /// A scan's dirty paths are closed upward, and none is missed.
@@ -80,6 +85,8 @@ pub fn history_laws()
     ensures formatted { FormattedStands }
     ensures payload { PayloadGoesOn }
     ensures image { ImageStands }
+    ensures standing_fits { ImagesFit }
+    ensures image_fits { HistoryImagesFit }
 {}
 
 /// An archive's image with the payloads of records stands for the archive that they leave.
@@ -87,6 +94,7 @@ pub fn archive_laws()
     ensures keeping { KeepingStaysSound }
     ensures sound { StandsForSound }
     ensures image { ArchiveImageStands }
+    ensures image_fits { ArchiveImagesFit }
     ensures formatted { NewArchiveStands }
     ensures record { RecordGoesOn }
 {}

@@ -1,11 +1,11 @@
 -- How a side and a coordinator keep their values, and what follows for each of their disks.
-use Rattle.std.specs.Prelude.{ℕ}
+use Rattle.std.specs.Prelude.{ℕ, ◌≤◌, length}
 use Rattle.syn_model.specs.Event.{Event}
-use Rattle.syn_model.specs.History.{History, IsAllowed}
+use Rattle.syn_model.specs.History.{History, IsHistory, IsAllowed}
 use Rattle.syn_model.specs.Image.{StandsFor}
 use Rattle.syn_model.specs.Archive.{Archive, Kept, CanKeep}
-use Rattle.syn_model.specs.ArchiveImage.{ArchiveStandsFor}
-use Rattle.syn_journal.specs.Layout.{Value}
+use Rattle.syn_model.specs.ArchiveImage.{IsArchive, ArchiveStandsFor}
+use Rattle.syn_journal.specs.Layout.{Value, longest_image}
 use Rattle.syn_headline.specs.Machine.{Journaled, Arms, Meets, Up}
 use Rattle.syn_headline.specs.SideMachine.{side_layout}
 use Rattle.syn_headline.specs.Coordinator.{archive_layout}
@@ -31,3 +31,13 @@ ArchivesOpen = (pair : ℕ) (machine : Journaled Archive Kept) (calls : ℕ) (ar
     (generation : ℕ) → Meets machine.arms calls Up arms 0 →
     MayMean (of_archive pair) machine value generation →
     OpensTo (of_archive pair) machine calls arms value generation
+
+-- What a machine keeps has an image that is never too long for its journal. So its checkpoint is refused 7 at the
+-- greatest generation alone
+abbrev pub SideImagesFit : Type 0
+SideImagesFit = (pair : ℕ) (history : History) → IsHistory history →
+    length ((side_layout pair).image history) ≤ longest_image
+
+abbrev pub ArchiveImagesFit : Type 0
+ArchiveImagesFit = (pair : ℕ) (archive : Archive) → IsArchive archive →
+    length ((archive_layout pair).image archive) ≤ longest_image

@@ -2,7 +2,7 @@
 #![tactic(auto)]
 
 ghost use Rattle.syn_recovery.specs.Calls.{MadeCallsMeet, BrokenCallsMeet, MadeReadsMeet};
-ghost use Rattle.syn_recovery.specs.Machines.{SidesOpen, ArchivesOpen};
+ghost use Rattle.syn_recovery.specs.Machines.{SidesOpen, ArchivesOpen, SideImagesFit, ArchiveImagesFit};
 ghost use Rattle.syn_recovery.specs.Headline.{DisksAreStart, Headline};
 
 /// The device calls that a journal's contract counts are what the world says that a machine met.
@@ -17,6 +17,15 @@ pub fn opening_laws()
     ensures sides { SidesOpen }
     ensures archives { ArchivesOpen }
 {}
+
+/// What a machine keeps fits its journal, so a checkpoint is refused 7 at the greatest generation alone.
+pub fn image_laws()
+    ensures sides { SideImagesFit }
+    ensures archives { ArchiveImagesFit }
+{
+    syn_model::history_laws();
+    syn_model::archive_laws();
+}
 
 /// Three disks of a pair are a start, and a run from them is crash safe, whatever the disks then hold.
 pub fn headline()

@@ -9,9 +9,7 @@ use Rattle.syn_model.specs.Tree.{Tree, replace}
 use Rattle.syn_model.specs.Limits.{fits_replica, fits_part, fits_paths, tree_spelling_length, greatest, greatest_spelling}
 use Rattle.syn_model.specs.Event.{Put, MakeDir, Remove, Edit, Event, Edited, Began, Replaced, after_edit}
 use Rattle.syn_model.specs.Refusal.{Refusal, Full, OldSession, Cause, first_cause}
-use Rattle.syn_model.specs.Standing.{Standing, standing_after, edit_causes, place_causes, full_causes, full_position, is_old, IsAllowedAt, AllAllowedAt}
-use Rattle.syn_model.specs.History.{History, IsAllowed, AllAllowed, standing_of}
-use Rattle.std.specs.List.{AllByRecursion}
+use Rattle.syn_model.specs.Standing.{Standing, edit_causes, place_causes, full_causes, full_position, is_old, refusal_at, IsAllowedAt}
 use Rattle.syn_wire.specs.Events.{IsShort, IsSpelledEvent}
 
 -- of causes in a row none holds just where none of each part does
@@ -24,6 +22,12 @@ pub no_causes : (a b : List Cause) → first_cause a ≡ None → first_cause b 
 no_causes [] b e f = f
 no_causes ((true, why) ∷ a) b e f = absurd (none-some _ (sym e))
 no_causes ((false, why) ∷ a) b e f = no_causes a b e f
+
+-- causes that do not hold are passed over
+pub first_skips : (a b : List Cause) → first_cause a ≡ None → first_cause (a ++ b) ≡ first_cause b
+first_skips [] b e = refl
+first_skips ((true, why) ∷ a) b e = absurd (none-some _ (sym e))
+first_skips ((false, why) ∷ a) b e = first_skips a b e
 
 -- and the first of some causes is the first of them with others behind
 pub first_stays : (a b : List Cause) (why : Refusal) → first_cause a ≡ Some why → first_cause (a ++ b) ≡ Some why
@@ -61,27 +65,18 @@ module _ (put : PutFits) (there : ReplacedIsThere) (below : SubtreeFits) (paths 
   short_edit tree user (MakeDir path) e = tt
   short_edit tree user (Remove path) e = tt
 
-  pub short_at : (standing : Standing) (event : Event) → IsAllowedAt standing event → IsShort event
-  short_at s (Edited user edit) allowed =
-      let full = no_cause (edit_causes s.tree edit) (full_causes (after_edit s.tree edit) ++ full_position s.position) allowed.not_refused in
+  pub short_at : (standing : Standing) (event : Event) → refusal_at standing event ≡ None → IsShort event
+  short_at s (Edited user edit) none =
+      let full = no_cause (edit_causes s.tree edit) (full_causes (after_edit s.tree edit) ++ full_position s.position) none in
       short_edit s.tree user edit (no_cause (full_causes (after_edit s.tree edit)) (full_position s.position) full.1).0
-  short_at s (Began session) allowed = tt
-  short_at s (Replaced token path since new) allowed =
+  short_at s (Began session) none = tt
+  short_at s (Replaced token path since new) none =
       let after = replace s.tree path new in
-      let full = no_cause ((is_old s.session s.token token, OldSession) ∷ place_causes s.tree path) (full_causes after ++ full_position s.position) allowed.not_refused in
+      let full = no_cause ((is_old s.session s.token token, OldSession) ∷ place_causes s.tree path) (full_causes after ++ full_position s.position) none in
       let fits = fits_where after (no_cause (full_causes after) (full_position s.position) full.1).0 in
       let limits = limits_of after fits in
       (subst (λ t. fits_part t ≡ true) (there s.tree path new) (below after path limits.0), subst (λ t. fits_paths t ≡ true) (there s.tree path new) (paths after path limits.1))
 
-  -- each event that is allowed in turn is spelled
-  pub spelled_at : (standing : Standing) (events : List Event) → AllAllowedAt standing events → AllByRecursion IsSpelledEvent events
-  spelled_at standing [] all = tt
-  spelled_at standing (event ∷ events) all = ((all.0.lawful, short_at standing event all.0), spelled_at (standing_after standing event) events all.1)
-
-  pub short_in : (history : History) (event : Event) → IsAllowed history event → IsSpelledEvent event
-  short_in history event allowed = (allowed.lawful, short_at (standing_of history) event (record { lawful = allowed.lawful; not_refused = allowed.not_refused }))
-
-  pub spelled_in : (done events : History) → AllAllowed done events → AllByRecursion IsSpelledEvent events
-  spelled_in done [] all = tt
-  spelled_in done (event ∷ events) all =
-      (short_in done event all.0, spelled_in (done ++ event ∷ []) events all.1)
+  -- each event that is allowed is spelled
+  pub spelled_one : (standing : Standing) (event : Event) → IsAllowedAt standing event → IsSpelledEvent event
+  spelled_one standing event allowed = (allowed.lawful, short_at standing event allowed.not_refused)

@@ -1,8 +1,8 @@
-pub mod ImageLemmas
 pub mod CauseLemmas
-pub mod StandLemmas
-pub mod EditLemmas
+pub mod StandingLemmas
 pub mod AlikeLemmas
-pub mod FormattedLemmas
 pub mod OpeningLemmas
-pub mod ShownLemmas
+pub mod StandLemmas
+pub mod RefusalLemmas
+pub mod MeaningLemmas
+pub mod FormattedLemmas

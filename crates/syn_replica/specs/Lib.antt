@@ -1,8 +1,6 @@
-pub mod Formatted
-pub mod OfEdits
-pub mod Opening
-pub mod Admission
-pub mod Edits
 pub mod Disks
+pub mod Edits
+pub mod Steps
 pub mod Replica
 pub mod Refusals
+pub mod inner

@@ -1,93 +1,86 @@
 -- Why a call of a replica is refused, as a refusal of the product.
-use Rattle.std.specs.Prelude.{◌≡◌, ◌<◌, ℕ}
+use Rattle.std.specs.Prelude.{◌≡◌, ℕ, Bool, ◌==◌, true, List, [], ◌∷◌, Option, Some, None, Result, Ok, Err}
+use Rattle.std.specs.List.{list_any}
 use Rattle.syn_disk.specs.Arms.{Arms}
-use Rattle.syn_disk.specs.Calls.{MakesAtLeast, Breaks, BreaksSometime}
-use Rattle.syn_model.specs.Refusal.{Refusal}
+use Rattle.syn_disk.specs.Calls.{MakesAtLeast}
+use Rattle.syn_model.specs.Refusal.{Refusal, number}
 use Rattle.syn_model.specs.Refusal as why
-use Rattle.syn_tree.specs.declared.error.TreeError.{TreeError}
-use Rattle.syn_tree.specs.declared.error.TreeError.TheVariants as tree
-use Rattle.syn_journal.specs.declared.error.JournalError.{JournalError}
-use Rattle.syn_journal.specs.declared.error.JournalError.TheVariants as journal
+use Rattle.syn_tree.specs.Refusals.{refusal_of as of_tree}
+use Rattle.syn_history.specs.Refusals.{refusal_of as of_history}
+use Rattle.syn_journal.specs.Refusals.{refusal_of as of_journal}
+use Rattle.syn_journal.specs.Refusals as journal
 use Rattle.syn_replica.specs.declared.error.ReplicaError.{ReplicaError}
-use Rattle.syn_replica.specs.declared.error.ReplicaError.TheVariants.{NoParent, IsDirectory, Exists, Absent, Root, Full, JournalFull, Device, Halted, Memory, NoImage, Damaged, WrongPair}
+use Rattle.syn_replica.specs.declared.error.ReplicaError.TheVariants.{Tree, History, Journal, Memory, Touched, OldSession, Damaged, WrongPair}
 
 abbrev pub refusal_of : ReplicaError → Refusal
-refusal_of NoParent = why.NoParent
-refusal_of IsDirectory = why.IsDirectory
-refusal_of Exists = why.Exists
-refusal_of Absent = why.Absent
-refusal_of Root = why.Root
-refusal_of Full = why.Full
-refusal_of JournalFull = why.JournalFull
-refusal_of Device = why.Device
-refusal_of Halted = why.Halted
+refusal_of (Tree error) = of_tree error
+refusal_of (History error) = of_history error
+refusal_of (Journal error) = of_journal error
 refusal_of Memory = why.Memory
-refusal_of NoImage = why.NoImage
+refusal_of Touched = why.Touched
+refusal_of OldSession = why.OldSession
 refusal_of Damaged = why.Damaged
 refusal_of WrongPair = why.WrongPair
 
-abbrev pub of_tree : TreeError → ReplicaError
-of_tree tree.NoParent = NoParent
-of_tree tree.IsDirectory = IsDirectory
-of_tree tree.Exists = Exists
-of_tree tree.Absent = Absent
-of_tree tree.Root = Root
-of_tree tree.Full = Full
-of_tree tree.Memory = Memory
-
-abbrev pub of_journal : JournalError → ReplicaError
-of_journal journal.Full = Full
-of_journal journal.JournalFull = JournalFull
-of_journal journal.Device = Device
-of_journal journal.Halted = Halted
-of_journal journal.Memory = Memory
-of_journal journal.NoImage = NoImage
-of_journal journal.Damaged = Damaged
+-- why a call was refused, if it was
+abbrev pub refusal_in : {X : Type 0} → Result X ReplicaError → Option Refusal
+refusal_in (Ok x) = None
+refusal_in (Err e) = Some (refusal_of e)
 
 -- Device is answered where the count of failed calls grew, and any other refusal where it did not
 abbrev pub CountsFailures : ReplicaError → ℕ → ℕ → Type 0
-CountsFailures Device old new = old < new
+CountsFailures (Journal error) old new = journal.CountsFailures error old new
 CountsFailures _ old new = new ≡ old
 
 -- Where Device is answered, the last of at most so many device calls failed, and none was made where
 -- any other refusal is.
 abbrev pub MakesIfDevice : ReplicaError → ℕ → Arms → Arms → Type 0
-MakesIfDevice Device most old new = Breaks most old new
+MakesIfDevice (Journal error) most old new = journal.MakesIfDevice error most old new
 MakesIfDevice _ most old new = new ≡ old
 
 -- Where Device is answered, the last device call failed, and none where any other refusal is.
 abbrev pub AfterReads : ℕ → ReplicaError → Arms → Arms → Type 0
-AfterReads least Device old new = BreaksSometime old new
+AfterReads least (Journal error) old new = journal.AfterReads least error old new
 AfterReads least _ old new = MakesAtLeast least old new
 
+-- the refusal is one of these
+abbrev pub IsOneOf : List Refusal → ReplicaError → Type 0
+IsOneOf refusals error = list_any (λ why. number why == number (refusal_of error)) refusals ≡ true
+
 -- the refusals of each call
-abbrev pub IsOfFormat : ReplicaError → Type 0
-IsOfFormat Device = Unit {0}
-IsOfFormat Memory = Unit {0}
-IsOfFormat _ = ⊥
+abbrev pub format_refusals : List Refusal
+format_refusals = why.Memory ∷ why.Device ∷ []
 
-abbrev pub IsOfEdit : ReplicaError → Type 0
-IsOfEdit NoParent = Unit {0}
-IsOfEdit IsDirectory = Unit {0}
-IsOfEdit Exists = Unit {0}
-IsOfEdit Absent = Unit {0}
-IsOfEdit Root = Unit {0}
-IsOfEdit Full = Unit {0}
-IsOfEdit JournalFull = Unit {0}
-IsOfEdit Device = Unit {0}
-IsOfEdit Halted = Unit {0}
-IsOfEdit Memory = Unit {0}
-IsOfEdit _ = ⊥
+abbrev pub open_refusals : List Refusal
+open_refusals = why.Device ∷ why.NoImage ∷ why.Damaged ∷ why.WrongPair ∷ why.Memory ∷ []
 
-abbrev pub IsOfReading : ReplicaError → Type 0
-IsOfReading Halted = Unit {0}
-IsOfReading Absent = Unit {0}
-IsOfReading Memory = Unit {0}
-IsOfReading _ = ⊥
+abbrev pub reading_refusals : List Refusal
+reading_refusals = why.Halted ∷ why.Absent ∷ why.Memory ∷ []
+
+abbrev pub edit_refusals : List Refusal
+edit_refusals =
+    why.Halted ∷ why.Root ∷ why.NoParent ∷ why.IsDirectory ∷ why.Exists ∷ why.Absent ∷ why.Full
+    ∷ why.JournalFull ∷ why.Memory ∷ why.Device ∷ []
+
+abbrev pub begin_refusals : List Refusal
+begin_refusals = why.Halted ∷ why.WrongPair ∷ why.OldSession ∷ why.Full ∷ why.JournalFull
+    ∷ why.Memory ∷ why.Device ∷ []
+
+abbrev pub fetch_refusals : List Refusal
+fetch_refusals = why.Halted ∷ why.BelowFloor ∷ why.Touched ∷ why.Memory ∷ []
+
+abbrev pub replace_refusals : List Refusal
+replace_refusals =
+    why.Halted ∷ why.OldSession ∷ why.BelowFloor ∷ why.Touched ∷ why.Root ∷ why.NoParent ∷ why.Full
+    ∷ why.JournalFull ∷ why.Memory ∷ why.Device ∷ []
+
+abbrev pub checkpoint_refusals : List Refusal
+checkpoint_refusals = why.Halted ∷ why.Full ∷ why.Memory ∷ why.Device ∷ []
 
 -- the refusals of an opening of a disk of another pair: its own, and those that come first
-abbrev pub MayHideOtherPair : ReplicaError → Type 0
-MayHideOtherPair Device = Unit {0}
-MayHideOtherPair Memory = Unit {0}
-MayHideOtherPair WrongPair = Unit {0}
-MayHideOtherPair _ = ⊥
+abbrev pub hiding_refusals : List Refusal
+hiding_refusals = why.WrongPair ∷ why.Device ∷ why.Memory ∷ []
+
+-- what no history is the cause of: want of memory, and a device call that failed
+abbrev pub outside_refusals : List Refusal
+outside_refusals = why.Memory ∷ why.Device ∷ []

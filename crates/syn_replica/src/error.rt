@@ -2,11 +2,13 @@
 ghost use Rattle.std.specs.Prelude.{◌≡◌, Some};
 ghost use Rattle.syn_model.specs.Refusal.{number, name_of};
 ghost use Rattle.syn_refusal.specs.Refusals.{cause_of};
-ghost use Rattle.syn_replica.specs.Refusals.{refusal_of, of_journal};
+ghost use Rattle.syn_replica.specs.Refusals.{refusal_of};
 
 use std::alloc::{AllocError, AllocFailed};
 use std::fmt;
+use syn_history::HistoryError;
 use syn_journal::JournalError;
+use syn_path::PathError;
 use syn_refusal::Refusal;
 use syn_tree::TreeError;
 use syn_wire::WireError;
@@ -15,31 +17,21 @@ use thiserror::Error;
 /// Why a call of a replica is refused.
 #[derive(Clone, Copy, Debug, PartialEq, Eq, Error)]
 pub enum ReplicaError {
-    /// 2: the parent is not a directory.
-    NoParent,
-    /// 3: a directory is there, where a file is put.
-    IsDirectory,
-    /// 4: something is there, where a directory is made.
-    Exists,
-    /// 5: nothing is there, or no directory where one is listed.
-    Absent,
-    /// 6: the root cannot be edited.
-    Root,
-    /// 7: the result would pass a limit.
-    Full,
-    /// 8: the record does not fit in the current half of the journal.
-    JournalFull,
-    /// 9: a device call failed.
-    Device,
-    /// 10: a device call failed earlier, and the replica was not opened again since.
-    Halted,
+    /// The tree refuses it: 2, 3, 4, 5, 6, 7 or 11.
+    Tree(TreeError),
+    /// The trail refuses it: 7, 11 or 15.
+    History(HistoryError),
+    /// The journal refuses it: 7, 8, 9, 10, 11, 18 or 19.
+    Journal(JournalError),
     /// 11: memory was refused.
     Memory,
-    /// 18: neither half of the disk is open.
-    NoImage,
+    /// 13: an event touched the path since the given position.
+    Touched,
+    /// 14: the session is below the last, or the token is not above the last of the last session.
+    OldSession,
     /// 19: the disk means nothing that a replica holds.
     Damaged,
-    /// 20: the disk is of another pair.
+    /// 20: the pair is another one.
     WrongPair,
 }
 
@@ -49,17 +41,12 @@ impl ReplicaError {
         ensures { cause_of result ≡ refusal_of self.now }
     {
         match self {
-            ReplicaError::NoParent => Refusal::NoParent,
-            ReplicaError::IsDirectory => Refusal::IsDirectory,
-            ReplicaError::Exists => Refusal::Exists,
-            ReplicaError::Absent => Refusal::Absent,
-            ReplicaError::Root => Refusal::Root,
-            ReplicaError::Full => Refusal::Full,
-            ReplicaError::JournalFull => Refusal::JournalFull,
-            ReplicaError::Device => Refusal::Device,
-            ReplicaError::Halted => Refusal::Halted,
+            ReplicaError::Tree(error) => error.refusal(),
+            ReplicaError::History(error) => error.refusal(),
+            ReplicaError::Journal(error) => error.refusal(),
             ReplicaError::Memory => Refusal::Memory,
-            ReplicaError::NoImage => Refusal::NoImage,
+            ReplicaError::Touched => Refusal::Touched,
+            ReplicaError::OldSession => Refusal::OldSession,
             ReplicaError::Damaged => Refusal::Damaged,
             ReplicaError::WrongPair => Refusal::WrongPair,
         }
@@ -83,45 +70,47 @@ impl fmt::Display for ReplicaError {
 }
 
 impl From<JournalError> for ReplicaError {
-    ghost use Rattle.std.specs.Prelude.{◌≡◌};
-    ghost use Rattle.syn_replica.specs.Refusals.{of_journal};
+    ghost use Rattle.syn_replica.specs.declared.error.ReplicaError.TheVariants.{Journal};
 
-    ghost from_gives = { λ refused e. e ≡ of_journal refused };
+    ghost from_gives = { λ refused e. e ≡ Journal refused };
 
     fn from(error: JournalError) -> ReplicaError {
-        match error {
-            JournalError::Full => ReplicaError::Full,
-            JournalError::JournalFull => ReplicaError::JournalFull,
-            JournalError::Device => ReplicaError::Device,
-            JournalError::Halted => ReplicaError::Halted,
-            JournalError::Memory => ReplicaError::Memory,
-            JournalError::NoImage => ReplicaError::NoImage,
-            JournalError::Damaged => ReplicaError::Damaged,
-        }
+        ReplicaError::Journal(error)
     }
 }
 
 impl From<TreeError> for ReplicaError {
-    ghost use Rattle.std.specs.Prelude.{◌≡◌};
-    ghost use Rattle.syn_replica.specs.Refusals.{of_tree};
+    ghost use Rattle.syn_replica.specs.declared.error.ReplicaError.TheVariants.{Tree};
 
-    ghost from_gives = { λ refused e. e ≡ of_tree refused };
+    ghost from_gives = { λ refused e. e ≡ Tree refused };
 
     fn from(error: TreeError) -> ReplicaError {
-        match error {
-            TreeError::NoParent => ReplicaError::NoParent,
-            TreeError::IsDirectory => ReplicaError::IsDirectory,
-            TreeError::Exists => ReplicaError::Exists,
-            TreeError::Absent => ReplicaError::Absent,
-            TreeError::Root => ReplicaError::Root,
-            TreeError::Full => ReplicaError::Full,
-            TreeError::Memory => ReplicaError::Memory,
-        }
+        ReplicaError::Tree(error)
+    }
+}
+
+impl From<HistoryError> for ReplicaError {
+    ghost use Rattle.syn_replica.specs.declared.error.ReplicaError.TheVariants.{History};
+
+    ghost from_gives = { λ refused e. e ≡ History refused };
+
+    fn from(error: HistoryError) -> ReplicaError {
+        ReplicaError::History(error)
+    }
+}
+
+/// A path is copied here, and never made, so that memory is the only cause.
+impl From<PathError> for ReplicaError {
+    ghost use Rattle.syn_replica.specs.declared.error.ReplicaError.TheVariants.{Memory};
+
+    ghost from_gives = { λ _ e. e ≡ Memory };
+
+    fn from(_error: PathError) -> ReplicaError {
+        ReplicaError::Memory
     }
 }
 
 impl From<WireError> for ReplicaError {
-    ghost use Rattle.std.specs.Prelude.{◌≡◌};
     ghost use Rattle.syn_replica.specs.declared.error.ReplicaError.TheVariants.{Memory};
 
     ghost from_gives = { λ _ e. e ≡ Memory };
@@ -132,7 +121,6 @@ impl From<WireError> for ReplicaError {
 }
 
 impl From<AllocError> for ReplicaError {
-    ghost use Rattle.std.specs.Prelude.{◌≡◌};
     ghost use Rattle.syn_replica.specs.declared.error.ReplicaError.TheVariants.{Memory};
 
     ghost from_gives = { λ _ e. e ≡ Memory };
@@ -143,7 +131,6 @@ impl From<AllocError> for ReplicaError {
 }
 
 impl<T: Drop> From<AllocFailed<T>> for ReplicaError {
-    ghost use Rattle.std.specs.Prelude.{◌≡◌};
     ghost use Rattle.syn_replica.specs.declared.error.ReplicaError.TheVariants.{Memory};
 
     ghost from_gives = { λ _ e. e ≡ Memory };

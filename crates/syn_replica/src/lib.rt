@@ -1,11 +1,12 @@
-//! A replica: a history of edits of a file tree that outlives stops of its machine.
+//! A replica: the history of a file tree, that of its users' edits and of the sessions that change
+//! it, which outlives stops of its machine.
 #![tactic(auto)]
 
 mod error;
-mod image;
+mod laws;
 mod opening;
-mod prepare;
 mod replica;
+mod standing;
 
 pub use error::ReplicaError;
-pub use replica::Replica;
+pub use replica::{Piece, Replica, TokenStanding};

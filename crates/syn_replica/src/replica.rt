@@ -1,71 +1,90 @@
 //! A replica over a journal.
-ghost use Rattle.std.specs.Prelude.{◌≡◌, ◌≢◌, ◌⊎◌, ◌↔◌, ◌+◌, ◌-◌, ◌^◌, ◌<◌, ◌≤◌, ◌++◌, ◌∷◌, [], ℕ, length, OnOk, OnErr, IfOk, IfErr, IsErrAnd, MatchResult, Err, Some, None, true, false};
+ghost use Rattle.std.specs.Prelude.{◌≡◌, ◌≢◌, ◌⊎◌, ◌↔◌, ◌≤◌, ◌+◌, ◌^◌, ◌<◌, ◌++◌, ◌∷◌, [], ℕ, length, OnOk};
+ghost use Rattle.std.specs.Prelude.{IfOk, IfErr, IsErrAnd, MatchResult, Err, Some, None, true, false};
 ghost use Rattle.std.specs.FinMap.{get};
-ghost use Rattle.syn_model.specs.Tree.{is_directory, empty_directory};
-ghost use Rattle.syn_model.specs.Event.{Event, after_event};
-ghost use Rattle.syn_model.specs.History.{History, IsAllowed, tree_of, event_refusal};
-ghost use Rattle.syn_model.specs.Refusal.{Refusal};
+ghost use Rattle.syn_model.specs.Tree.{is_directory};
+ghost use Rattle.syn_model.specs.Event as model;
+ghost use Rattle.syn_model.specs.History.{History, IsAllowed};
+ghost use Rattle.syn_model.specs.Image.{image_spelling};
+ghost use Rattle.syn_model.specs.Refusal.{Refusal, Device, Full, Halted, Memory, first_cause};
 ghost use Rattle.syn_model.specs.Spelling.{event_spelling};
-ghost use Rattle.syn_model.specs.Standing.{edit_refusal};
-ghost use Rattle.syn_tree.specs.Change.{IsPreparedFor, after_change};
+ghost use Rattle.syn_model.specs.Standing.{new_standing};
 ghost use Rattle.syn_tree.specs.Contents.{content_of};
-ghost use Rattle.syn_tree.specs.Edits.{edit_of};
 ghost use Rattle.syn_tree.specs.Lists.{listing};
+ghost use Rattle.syn_history.specs.Events.{event_of};
 ghost use Rattle.syn_journal.specs.Journal.{SameReadings, Takes};
 ghost use Rattle.syn_disk.specs.Armed.{armed};
 ghost use Rattle.syn_disk.specs.Arms.{is_stopped};
 ghost use Rattle.syn_disk.specs.Calls.{Makes, MakesAtLeast};
 ghost use Rattle.syn_disk.specs.Disk.{SameOutcomes};
 ghost use Rattle.syn_disk.specs.Stops.{LeavesOnly, Untouched};
-ghost use Rattle.syn_replica.specs.Refusals.{refusal_of, CountsFailures, MakesIfDevice, AfterReads, IsOfFormat, IsOfEdit, IsOfReading, MayHideOtherPair};
-ghost use Rattle.syn_replica.specs.Admission.{refusal_by, IsAdmission, IsOfTree, IsOfCommit, IsTooLong};
-ghost use Rattle.syn_replica.specs.Disks.{DiskStands, StandsBeforeOrAfter, IsOfOtherPair, IsOpenRefusal};
+ghost use Rattle.syn_replica.specs.Refusals.{refusal_of, IsOneOf, format_refusals, reading_refusals};
+ghost use Rattle.syn_replica.specs.Refusals.{edit_refusals, outside_refusals, hiding_refusals};
+ghost use Rattle.syn_replica.specs.Refusals.{checkpoint_refusals};
+ghost use Rattle.syn_replica.specs.Refusals.{CountsFailures, MakesIfDevice, AfterReads};
+ghost use Rattle.syn_replica.specs.Disks.{DiskGives, DiskStands, StandsBeforeOrAfter};
+ghost use Rattle.syn_replica.specs.Disks.{IsOfOtherPair, IsOpenRefusal};
 ghost use Rattle.syn_replica.specs.Edits.{event_by};
-ghost use Rattle.syn_replica.specs.Formatted.{formatted_image};
+ghost use Rattle.syn_replica.specs.Steps.{add_refusal};
+ghost use Rattle.syn_replica.specs.inner.Updates.{IsReady, IsOf, early_causes, add_refusal_at};
+ghost use Rattle.syn_wire.specs.Events.{IsShort};
+ghost use Rattle.syn_journal.specs.Journal as journal;
+ghost use Rattle.syn_journal.specs.Layout.{image_alone, longest_image};
 
 use crate::error::ReplicaError;
-use crate::image::encode_image;
+use crate::laws::opening_laws;
 use crate::opening::read_replica;
-use crate::prepare::prepare;
+use crate::standing::{Standing, Update};
 use std::alloc::Global;
 use syn_disk::{Arm, Disk, Limit};
-use syn_journal::{Journal, Opened};
+use syn_history::Event;
+use syn_journal::{Journal, JournalError, Opened};
 use syn_model::{history_laws, worked_rows};
 use syn_path::{Name, Path};
-use syn_tree::{Change, Content, Edit, Found, Tree};
-use syn_wire::edit_length;
+use syn_tree::{Content, Edit, Found, Tree, TreeError};
+use syn_wire::{edit_length, encode_event, encode_image};
 
-/// A replica of a file tree: a history of edits that outlives stops of its machine.
+mod session;
+
+pub use session::{Piece, TokenStanding};
+
+/// A replica of a file tree: a history of edits and of what sessions do, which outlives stops of its
+/// machine.
 #[derive(Drop)]
 pub struct Replica<D: Disk> {
     journal: Journal<D>,
     pair: u64,
-    tree: Tree,
-    position: u64,
+    standing: Standing,
 }
 
 impl<D: Disk> Replica<D> {
-    ghost use Rattle.syn_replica.specs.Replica.{pair_of, tree_shown, position_shown, disk_of, journal_of, room_shown, IsHalted, Remembers, Stands, SameMemory};
+    ghost use Rattle.syn_replica.specs.Replica.{pair_of, standing_shown, tree_shown, position_shown};
+    ghost use Rattle.syn_replica.specs.Replica.{disk_of, journal_of, room_shown, generation_shown};
+    ghost use Rattle.syn_replica.specs.Replica.{IsHalted, Remembers, Stands, SameMemory};
 
     /// Formats the disk as a replica of the pair, with no events.
     ///
-    /// Refused 11 where memory is refused, and 9 where a device call fails; the disk comes back. A stop during the call
-    /// may leave a disk that opens to what it held before, to the new replica, or to none.
+    /// Refused 11 where memory is refused, and 9 where a device call fails; the disk comes back. A
+    /// stop during the call may leave a disk that opens to what it held before, to the new replica,
+    /// or to none.
     pub fn format(alloc: Global, disk: D, pair: u64) -> Result<Replica<D>, (ReplicaError, D)>
         ensures formatted { IfOk result (λ replica. Stands replica []) }
         ensures pair { IfOk result (λ replica. pair_of replica ≡ pair) }
-        ensures refusals { IfErr result (λ refused. IsOfFormat refused.0) }
-        ensures unchanged { IfErr result (λ refused. (refused.0 ≡ ReplicaError.Device) ⊎ (refused.1 ≡ disk)) }
-        ensures failures { MatchResult result (λ replica. D.failures (disk_of replica) ≡ D.failures disk)
+        ensures refusals { IfErr result (λ refused. IsOneOf format_refusals refused.0) }
+        ensures unchanged { IfErr result (λ refused. (refusal_of refused.0 ≡ Device)
+            ⊎ (refused.1 ≡ disk)) }
+        ensures failures { MatchResult result
+            (λ replica. D.failures (disk_of replica) ≡ D.failures disk)
             (λ refused. CountsFailures refused.0 (D.failures disk) (D.failures refused.1)) }
 
         // Seven device calls where it succeeds. After Device the last that was made failed.
-        ensures calls { MatchResult result (λ replica. Makes 7 (D.arms disk) (D.arms (disk_of replica)))
+        ensures calls { MatchResult result
+            (λ replica. Makes 7 (D.arms disk) (D.arms (disk_of replica)))
             (λ refused. MakesIfDevice refused.0 7 (D.arms disk) (D.arms refused.1)) }
     {
         history_laws();
         worked_rows();
-        let (image, tree) = match blank(alloc, pair) {
+        let (image, standing) = match blank(alloc, pair) {
             Ok(made) => made,
             Err(error) => return Err((error, disk)),
         };
@@ -73,8 +92,7 @@ impl<D: Disk> Replica<D> {
             Ok(journal) => Ok(Replica {
                 journal,
                 pair,
-                tree,
-                position: 0,
+                standing,
             }),
             Err((error, disk)) => Err((ReplicaError::from(error), disk)),
         }
@@ -82,30 +100,37 @@ impl<D: Disk> Replica<D> {
 
     /// Opens what the disk holds.
     ///
-    /// Refused 9 where a device call fails, 18 where the disk holds no image, 19 where it means no history of edits, 20 where it is of another pair than the one given, and 11 where memory is refused;
-    /// the disk comes back. Nothing is written.
+    /// Refused 9 where a device call fails, 18 where the disk holds no image, 19 where it means
+    /// nothing that a replica holds, 20 where it is of another pair than the one given, and 11 where
+    /// memory is refused; the disk comes back. Nothing is written.
     pub fn open(alloc: Global, disk: D, pair: Option<u64>) -> Result<Replica<D>, (ReplicaError, D)>
-        ensures opened { IfOk result (λ replica. (history : History) × Stands replica history) }
-
-        // It stands for each history that the disk stands for.
-        ensures each { IfOk result (λ replica. (number : ℕ) (history : History) → number < 2 ^ 64 → DiskStands number (D.seen disk) history
+        // It shows what the disk gives, and stands for each history that the disk stands for.
+        ensures given { IfOk result (λ replica.
+            DiskGives (pair_of replica) (D.seen disk) (standing_shown replica)) }
+        ensures each { IfOk result (λ replica. (number : ℕ) (history : History) → number < 2 ^ 64
+            → DiskStands number (D.seen disk) history
             → (number ≡ pair_of replica) × Stands replica history) }
-        ensures wanted { IfOk result (λ replica. (asked : ℕ) → pair ≡ Some asked → asked ≡ pair_of replica) }
+        ensures wanted { IfOk result (λ replica. (asked : ℕ) → pair ≡ Some asked
+            → asked ≡ pair_of replica) }
 
         // Each refusal has its cause.
         ensures refusals { IfErr result (λ refused. IsOpenRefusal refused.0 pair (D.seen disk)) }
-        ensures wrong_pair { IsOfOtherPair pair (D.seen disk) → IsErrAnd result (λ refused. MayHideOtherPair refused.0) }
+        ensures wrong_pair { IsOfOtherPair pair (D.seen disk)
+            → IsErrAnd result (λ refused. IsOneOf hiding_refusals refused.0) }
 
         ensures untouched { MatchResult result
             (λ replica. Untouched D.seen D.may_leave D.moment D.left_since disk (disk_of replica))
             (λ refused. Untouched D.seen D.may_leave D.moment D.left_since disk refused.1) }
-        ensures failures { MatchResult result (λ replica. D.failures (disk_of replica) ≡ D.failures disk)
+        ensures failures { MatchResult result
+            (λ replica. D.failures (disk_of replica) ≡ D.failures disk)
             (λ refused. CountsFailures refused.0 (D.failures disk) (D.failures refused.1)) }
 
         // A sync and then reads, whose number is not fixed; after Device the last of them failed.
-        ensures calls { MatchResult result (λ replica. MakesAtLeast 1 (D.arms disk) (D.arms (disk_of replica)))
+        ensures calls { MatchResult result
+            (λ replica. MakesAtLeast 1 (D.arms disk) (D.arms (disk_of replica)))
             (λ refused. AfterReads 1 refused.0 (D.arms disk) (D.arms refused.1)) }
     {
+        opening_laws();
         let opened = match Journal::open(alloc, disk) {
             Ok(opened) => opened,
             Err((error, disk)) => return Err((ReplicaError::from(error), disk)),
@@ -115,13 +140,11 @@ impl<D: Disk> Replica<D> {
             image,
             records,
         } = opened;
-        let position = records.len() as u64;
         match read_replica(alloc, &image, pair, &records) {
-            Ok((pair, tree)) => Ok(Replica {
+            Ok((pair, standing)) => Ok(Replica {
                 journal,
                 pair,
-                tree,
-                position,
+                standing,
             }),
             Err(error) => Err((error, journal.into_disk())),
         }
@@ -131,14 +154,28 @@ impl<D: Disk> Replica<D> {
     pub fn position(&self) -> u64
         ensures { result ≡ position_shown self.now }
     {
-        self.position
+        self.standing.trail().position()
+    }
+
+    /// The position from which on it is told what was touched.
+    pub fn floor(&self) -> u64
+        ensures { result ≡ (standing_shown self.now).floor }
+    {
+        self.standing.trail().floor()
+    }
+
+    /// The session begun last, and 0 while there is none.
+    pub fn last_session(&self) -> u64
+        ensures { result ≡ (standing_shown self.now).session }
+    {
+        self.standing.trail().last_session()
     }
 
     /// The tree, as it stands in memory.
     pub fn tree(&self) -> &Tree
         ensures { result.now ≡ tree_shown self.now }
     {
-        &self.tree
+        self.standing.tree()
     }
 
     /// The number of the pair.
@@ -153,6 +190,13 @@ impl<D: Disk> Replica<D> {
         ensures { result ≡ room_shown self.now }
     {
         self.journal.room()
+    }
+
+    /// The generation of the current image: 1 after `format`.
+    pub fn generation(&self) -> u64
+        ensures { result ≡ generation_shown self.now }
+    {
+        self.journal.generation()
     }
 
     /// Whether a call was refused 9 since the replica was formatted or opened.
@@ -171,130 +215,229 @@ impl<D: Disk> Replica<D> {
 
     /// What stands at the path.
     ///
-    /// Refused 10 while the replica is halted, 5 where nothing is there, and 11 where memory is refused.
+    /// Refused 10 while the replica is halted, 5 where nothing is there, and 11 where memory is
+    /// refused.
     pub fn get(&self, alloc: Global, path: &Path) -> Result<Content, ReplicaError>
-        ensures found { IfOk result (λ content. get (tree_shown self.now) path.now ≡ Some (content_of content)) }
-        ensures absent { (result ≡ Err ReplicaError.Absent) ↔ (¬ IsHalted self.now × (get (tree_shown self.now) path.now ≡ None)) }
-        ensures halted { (result ≡ Err ReplicaError.Halted) ↔ IsHalted self.now }
-        ensures refusals { IfErr result IsOfReading }
+        ensures found { IfOk result (λ content. get (tree_shown self.now) path.now
+            ≡ Some (content_of content)) }
+        ensures absent { (result ≡ Err (ReplicaError.Tree TreeError.Absent))
+            ↔ (¬ IsHalted self.now × (get (tree_shown self.now) path.now ≡ None)) }
+        ensures halted { (result ≡ Err (ReplicaError.Journal JournalError.Halted))
+            ↔ IsHalted self.now }
+        ensures refusals { IfErr result (IsOneOf reading_refusals) }
     {
         if self.journal.is_halted() {
-            return Err(ReplicaError::Halted);
+            return Err(ReplicaError::Journal(JournalError::Halted));
         }
-        match self.tree.get(path) {
+        match self.standing.tree().get(path) {
             Some(Found::File(bytes)) => Ok(Content::File(bytes.to_vec(alloc)?)),
             Some(Found::Dir) => Ok(Content::Dir),
-            None => Err(ReplicaError::Absent),
+            None => Err(ReplicaError::Tree(TreeError::Absent)),
         }
     }
 
     /// The names of the directory in byte order, with true for a directory.
     ///
-    /// Refused 10 while the replica is halted, 5 where no directory is there, and 11 where memory is refused.
+    /// Refused 10 while the replica is halted, 5 where no directory is there, and 11 where memory is
+    /// refused.
     pub fn list(&self, alloc: Global, path: &Path) -> Result<Vec<(Name, bool)>, ReplicaError>
         ensures names { IfOk result (λ names. names.items ≡ listing (tree_shown self.now) path.now) }
-        ensures absent { (result ≡ Err ReplicaError.Absent) ↔ (¬ IsHalted self.now × (is_directory (tree_shown self.now) path.now ≡ false)) }
-        ensures halted { (result ≡ Err ReplicaError.Halted) ↔ IsHalted self.now }
-        ensures refusals { IfErr result IsOfReading }
+        ensures absent { (result ≡ Err (ReplicaError.Tree TreeError.Absent))
+            ↔ (¬ IsHalted self.now × (is_directory (tree_shown self.now) path.now ≡ false)) }
+        ensures halted { (result ≡ Err (ReplicaError.Journal JournalError.Halted))
+            ↔ IsHalted self.now }
+        ensures refusals { IfErr result (IsOneOf reading_refusals) }
     {
         if self.journal.is_halted() {
-            return Err(ReplicaError::Halted);
+            return Err(ReplicaError::Journal(JournalError::Halted));
         }
-        Ok(self.tree.list(alloc, path)?)
+        Ok(self.standing.tree().list(alloc, path)?)
     }
 
     /// Makes the edit, and answers the new position.
     ///
-    /// Refused 10 while the replica is halted; 6 for the root, 2 where the parent is not a directory, 3 where a file
-    /// would take the place of a directory, 4 where a directory would be made where something is, 5 where nothing is
-    /// there to remove, 7 where the result would pass a limit; 8 where the record does not fit in the journal, 11 where
-    /// memory is refused, and 9 where a device call fails. After 9 the replica is halted and remembers what it had;
-    /// after any other refusal it is as it was. Whenever the machine stops, the disk has the events before the call, or
-    /// those and this one.
+    /// Refused 10 while the replica is halted; 6 for the root, 2 where the parent is not a
+    /// directory, 3 where a file would take the place of a directory, 4 where a directory would be
+    /// made where something is, 5 where nothing is there to remove, 7 where the result would pass a
+    /// limit; 8 where the record does not fit in the journal, 11 where memory is refused, and 9
+    /// where a device call fails. After 9 the replica is halted and remembers what it had; after any
+    /// other refusal it is as it was. Whenever the machine stops, the disk has the events before the
+    /// call, or those and this one.
     pub fn edit(&mut self, alloc: Global, user: u32, edit: Edit) -> Result<u64, ReplicaError>
         ensures acknowledged { (history : History) → Stands self.old history
-            → IfOk result (λ position. (position ≡ length history + 1) × Stands self.new (history ++ event_by user edit ∷ [])) }
+            → IfOk result (λ position. (position ≡ length history + 1)
+            × Stands self.new (history ++ event_by user edit ∷ [])) }
         ensures any_moment { (history : History) → Stands self.old history
-            → LeavesOnly D.moment D.left_since (disk_of self.old) (disk_of self.new) (StandsBeforeOrAfter (pair_of self.old) history (event_by user edit)) }
+            → LeavesOnly D.moment D.left_since (disk_of self.old) (disk_of self.new)
+            (StandsBeforeOrAfter (pair_of self.old) history (event_by user edit)) }
 
-        // Each refusal has its cause, and the causes of the tree come first.
-        ensures by_tree { (history : History) → Stands self.old history
-            → IfErr result (λ e. IsOfTree e → event_refusal history (event_by user edit) ≡ Some (refusal_of e)) }
-        ensures refused { (history : History) (why : Refusal) → Stands self.old history → event_refusal history (event_by user edit) ≡ Some why
+        // Each refusal has its cause, and each cause its refusal: the first of them is answered.
+        ensures cause { (history : History) → Stands self.old history
+            → IfErr result (λ e. IsOneOf outside_refusals e
+            ⊎ (add_refusal (room_shown self.old) history (event_by user edit)
+            ≡ Some (refusal_of e))) }
+        ensures refused { (history : History) (why : Refusal) → Stands self.old history
+            → add_refusal (room_shown self.old) history (event_by user edit) ≡ Some why
             → IsErrAnd result (λ e. refusal_of e ≡ why) }
-
-        // Then comes JournalFull, exactly where the journal has no room for the event.
-        ensures full { (history : History) → Stands self.old history
-            → (result ≡ Err ReplicaError.JournalFull) ↔ IsTooLong history (event_by user edit) (room_shown self.old) }
-        ensures refusals { IfErr result IsOfEdit }
-        ensures halted { (result ≡ Err ReplicaError.Halted) ↔ IsHalted self.old }
-        ensures halts { result ≡ Err ReplicaError.Device → IsHalted self.new }
-        ensures failures { MatchResult result (λ _. D.failures (disk_of self.new) ≡ D.failures (disk_of self.old))
+        ensures refusals { IfErr result (IsOneOf edit_refusals) }
+        ensures halted { (result ≡ Err (ReplicaError.Journal JournalError.Halted))
+            ↔ IsHalted self.old }
+        ensures halts { IfErr result (λ e. refusal_of e ≡ Device → IsHalted self.new) }
+        ensures failures { MatchResult result
+            (λ _. D.failures (disk_of self.new) ≡ D.failures (disk_of self.old))
             (λ e. CountsFailures e (D.failures (disk_of self.old)) (D.failures (disk_of self.new))) }
 
         // Four device calls where it succeeds. After Device the last that was made failed.
-        ensures calls { MatchResult result (λ _. Makes 4 (D.arms (disk_of self.old)) (D.arms (disk_of self.new)))
+        ensures calls { MatchResult result
+            (λ _. Makes 4 (D.arms (disk_of self.old)) (D.arms (disk_of self.new)))
             (λ e. MakesIfDevice e 4 (D.arms (disk_of self.old)) (D.arms (disk_of self.new))) }
 
         // What stays after a refusal.
-        ensures remembers { (history : History) → Remembers self.old history → IfErr result (λ _. Remembers self.new history) }
+        ensures memory { IfErr result (λ _. SameMemory self.old self.new) }
         ensures unchanged { (history : History) → Stands self.old history
-            → IfErr result (λ e. (e ≡ ReplicaError.Device) ⊎ Stands self.new history) }
+            → IfErr result (λ e. (refusal_of e ≡ Device) ⊎ Stands self.new history) }
     {
-        history_laws();
+        opening_laws();
         if self.journal.is_halted() {
-            return Err(ReplicaError::Halted);
+            return Err(ReplicaError::Journal(JournalError::Halted));
         }
-        self.admit(&edit)?;
-        let (payload, change) = prepare(alloc, &self.tree, user, edit)?;
-        self.commit(alloc, &payload, change)
+        let length = edit_length(&edit);
+        let event = Event::Edited { user, edit };
+        self.standing.check(&event)?;
+        self.check_room(length)?;
+        self.add(alloc, event)
     }
 
-    // Why an edit is refused before anything is made for it.
-    fn admit(&self, edit: &Edit) -> Result<(), ReplicaError>
-        ensures answer { IsAdmission (refusal_by (tree_shown self.now) (position_shown self.now) (edit_of edit.now)) result }
-        ensures allowed { OnOk result (edit_refusal (tree_shown self.now) (edit_of edit.now) ≡ None) }
-        ensures below { OnOk result (position_shown self.now < 2 ^ 64 - 1) }
-        ensures room { (user : ℕ) → OnOk result (length (event_spelling (event_by user edit.now)) ≤ room_shown self.now) }
-        ensures no_room { (user : ℕ) → IfErr result (λ e. e ≡ ReplicaError.JournalFull → room_shown self.now < length (event_spelling (event_by user edit.now))) }
-        ensures cause { IfErr result (λ e. (IsOfTree e) ⊎ (e ≡ ReplicaError.JournalFull)) }
+    /// Why a payload of this length is not written: there is no room for it (8).
+    fn check_room(&self, length: usize) -> Result<(), ReplicaError>
+        ensures room { OnOk result (length ≤ room_shown self.now) }
+        ensures refused { IfErr result (λ e. (e ≡ ReplicaError.Journal JournalError.JournalFull)
+            × (room_shown self.now < length)) }
     {
-        self.tree.check(edit)?;
-        if self.position == u64::MAX {
-            return Err(ReplicaError::Full);
+        if length > self.journal.room() {
+            Err(ReplicaError::Journal(JournalError::JournalFull))
+        } else {
+            Ok(())
         }
-        if edit_length(edit) > self.journal.room() {
-            return Err(ReplicaError::JournalFull);
-        }
-        Ok(())
     }
 
-    // Writes a prepared edit, and makes its change of the tree.
-    fn commit(&mut self, alloc: Global, payload: &[u8], change: Change) -> Result<u64, ReplicaError>
-        requires ready { IsPreparedFor (tree_shown self.old) change }
-        requires below { position_shown self.old < 2 ^ 64 - 1 }
-        requires takes { Takes (journal_of self.old) (length payload.now) }
-        ensures acknowledged { (history : History) (event : Event) → Stands self.old history → IsAllowed history event → payload.now ≡ event_spelling event
-            → after_change (tree_shown self.old) change ≡ after_event (tree_of history) event
-            → IfOk result (λ position. (position ≡ length history + 1) × Stands self.new (history ++ event ∷ [])) }
-        ensures any_moment { (history : History) (event : Event) → Stands self.old history → IsAllowed history event → payload.now ≡ event_spelling event
-            → LeavesOnly D.moment D.left_since (disk_of self.old) (disk_of self.new) (StandsBeforeOrAfter (pair_of self.old) history event) }
-        ensures refusals { IfErr result (λ e. IsOfCommit e ⊎ ((e ≡ ReplicaError.Halted) × IsHalted self.old)) }
-        ensures halts { result ≡ Err ReplicaError.Device → IsHalted self.new }
-        ensures failures { MatchResult result (λ _. D.failures (disk_of self.new) ≡ D.failures (disk_of self.old))
+    /// Adds an event that `check` does not refuse, and answers the new position.
+    fn add(&mut self, alloc: Global, event: Event) -> Result<u64, ReplicaError>
+        requires checked { first_cause (early_causes (standing_shown self.old) (event_of event))
+            ≡ None }
+        requires brief { IsShort (event_of event) }
+        requires running { ¬ IsHalted self.old }
+        ensures acknowledged { (history : History) → Stands self.old history
+            → IfOk result (λ position. (position ≡ length history + 1)
+            × Stands self.new (history ++ event_of event ∷ [])) }
+        ensures any_moment { (history : History) → Stands self.old history
+            → LeavesOnly D.moment D.left_since (disk_of self.old) (disk_of self.new)
+            (StandsBeforeOrAfter (pair_of self.old) history (event_of event)) }
+        ensures cause { IfErr result (λ e. IsOneOf outside_refusals e
+            ⊎ (add_refusal_at (room_shown self.old) (standing_shown self.old) (event_of event)
+            ≡ Some (refusal_of e))) }
+        ensures allowed { OnOk result
+            (add_refusal_at (room_shown self.old) (standing_shown self.old) (event_of event) ≡ None) }
+        ensures running { IfErr result (λ e. refusal_of e ≢ Halted) }
+        ensures halts { IfErr result (λ e. refusal_of e ≡ Device → IsHalted self.new) }
+        ensures failures { MatchResult result
+            (λ _. D.failures (disk_of self.new) ≡ D.failures (disk_of self.old))
             (λ e. CountsFailures e (D.failures (disk_of self.old)) (D.failures (disk_of self.new))) }
-
-        // Four device calls where it succeeds. After Device the last that was made failed.
-        ensures calls { MatchResult result (λ _. Makes 4 (D.arms (disk_of self.old)) (D.arms (disk_of self.new)))
+        ensures calls { MatchResult result
+            (λ _. Makes 4 (D.arms (disk_of self.old)) (D.arms (disk_of self.new)))
             (λ e. MakesIfDevice e 4 (D.arms (disk_of self.old)) (D.arms (disk_of self.new))) }
-        ensures remembers { IfErr result (λ _. SameMemory self.old self.new) }
-        ensures unchanged { IfErr result (λ e. (e ≡ ReplicaError.Device) ⊎ (journal_of self.new ≡ journal_of self.old)) }
+        ensures memory { IfErr result (λ _. SameMemory self.old self.new) }
+        ensures unchanged { IfErr result (λ e. (refusal_of e ≡ Device)
+            ⊎ (journal_of self.new ≡ journal_of self.old)) }
+    {
+        let payload = encode_event(alloc, &event)?;
+        let update = self.standing.prepare(alloc, event)?;
+        self.check_room(payload.len())?;
+        self.commit(alloc, &payload, update)
+    }
+
+    /// Writes the payload of an event, and makes its update of what is in memory.
+    fn commit(&mut self, alloc: Global, payload: &[u8], update: Update) -> Result<u64, ReplicaError>
+        requires ready { IsReady (standing_shown self.old) update }
+        requires takes { Takes (journal_of self.old) (length payload.now) }
+        requires running { ¬ IsHalted self.old }
+        ensures acknowledged { (history : History) (event : model.Event) → Stands self.old history
+            → IsAllowed history event → payload.now ≡ event_spelling event
+            → IsOf (standing_shown self.old) event update
+            → IfOk result (λ position. (position ≡ length history + 1)
+            × Stands self.new (history ++ event ∷ [])) }
+        ensures any_moment { (history : History) (event : model.Event) → Stands self.old history
+            → IsAllowed history event → payload.now ≡ event_spelling event
+            → LeavesOnly D.moment D.left_since (disk_of self.old) (disk_of self.new)
+            (StandsBeforeOrAfter (pair_of self.old) history event) }
+        ensures refusals { IfErr result (IsOneOf outside_refusals) }
+        ensures halts { IfErr result (λ e. refusal_of e ≡ Device → IsHalted self.new) }
+        ensures failures { MatchResult result
+            (λ _. D.failures (disk_of self.new) ≡ D.failures (disk_of self.old))
+            (λ e. CountsFailures e (D.failures (disk_of self.old)) (D.failures (disk_of self.new))) }
+        ensures calls { MatchResult result
+            (λ _. Makes 4 (D.arms (disk_of self.old)) (D.arms (disk_of self.new)))
+            (λ e. MakesIfDevice e 4 (D.arms (disk_of self.old)) (D.arms (disk_of self.new))) }
+        ensures memory { IfErr result (λ _. SameMemory self.old self.new) }
+        ensures unchanged { IfErr result (λ e. (refusal_of e ≡ Device)
+            ⊎ (journal_of self.new ≡ journal_of self.old)) }
     {
         history_laws();
         self.journal.append(alloc, payload)?;
-        self.tree.make(change);
-        self.position += 1;
-        Ok(self.position)
+        self.standing.make(update);
+        Ok(self.position())
+    }
+
+    /// Takes an image of what the history leaves in the place of the journal's records, so that
+    /// there is room again. No answer of another call changes, but those that tell of the journal:
+    /// its room and its generation, and whether a call is refused 8.
+    ///
+    /// Refused 10 while the replica is halted, 7 where the generation is the greatest, 11 where
+    /// memory is refused, and 9 where a device call fails. Whenever the machine stops, the disk
+    /// stands for the history.
+    pub fn checkpoint(&mut self, alloc: Global) -> Result<(), ReplicaError>
+        ensures acknowledged { (history : History) → Stands self.old history
+            → OnOk result (Stands self.new history) }
+        ensures any_moment { (history : History) → Stands self.old history
+            → LeavesOnly D.moment D.left_since (disk_of self.old) (disk_of self.new)
+            (λ bytes. DiskStands (pair_of self.old) bytes history) }
+        ensures image { OnOk result (journal.Stands (journal_of self.new)
+            (image_alone (image_spelling (pair_of self.old) (standing_shown self.old)))) }
+        ensures generation { OnOk result (generation_shown self.new ≡ generation_shown self.old + 1) }
+        ensures full { IfErr result (λ e. refusal_of e ≡ Full
+            → (generation_shown self.old + 1 ≡ 2 ^ 64) ⊎ (longest_image
+            < length (image_spelling (pair_of self.old) (standing_shown self.old)))) }
+        ensures refusals { IfErr result (IsOneOf checkpoint_refusals) }
+        ensures halted { (result ≡ Err (ReplicaError.Journal JournalError.Halted))
+            ↔ IsHalted self.old }
+        ensures halts { IfErr result (λ e. refusal_of e ≡ Device → IsHalted self.new) }
+        ensures failures { MatchResult result
+            (λ _. D.failures (disk_of self.new) ≡ D.failures (disk_of self.old))
+            (λ e. CountsFailures e (D.failures (disk_of self.old)) (D.failures (disk_of self.new))) }
+
+        // Six device calls where it succeeds. After Device the last that was made failed.
+        ensures calls { MatchResult result
+            (λ _. Makes 6 (D.arms (disk_of self.old)) (D.arms (disk_of self.new)))
+            (λ e. MakesIfDevice e 6 (D.arms (disk_of self.old)) (D.arms (disk_of self.new))) }
+
+        // What is in memory stays, also after a refusal.
+        ensures memory { SameMemory self.old self.new }
+        ensures unchanged { IfErr result (λ e. (refusal_of e ≡ Device)
+            ⊎ (journal_of self.new ≡ journal_of self.old)) }
+    {
+        opening_laws();
+        history_laws();
+        if self.journal.is_halted() {
+            return Err(ReplicaError::Journal(JournalError::Halted));
+        }
+        let image = encode_image(
+            alloc,
+            self.pair,
+            self.standing.tree(),
+            self.standing.trail(),
+        )?;
+        self.journal.checkpoint(alloc, &image)?;
+        Ok(())
     }
 }
 
@@ -307,9 +450,11 @@ impl<D: Limit> Replica<D> {
 
         // It changes nothing that a read gives or a stop leaves.
         ensures seen { D.Disk.seen (disk_of self.new) ≡ D.Disk.seen (disk_of self.old) }
-        ensures stop { SameOutcomes (D.Disk.may_leave (disk_of self.old)) (D.Disk.may_leave (disk_of self.new)) }
+        ensures stop { SameOutcomes (D.Disk.may_leave (disk_of self.old))
+            (D.Disk.may_leave (disk_of self.new)) }
         ensures moment { D.Disk.moment (disk_of self.new) ≡ D.Disk.moment (disk_of self.old) }
-        ensures past { (t : ℕ) → SameOutcomes (D.Disk.left_since (disk_of self.old) t) (D.Disk.left_since (disk_of self.new) t) }
+        ensures past { (t : ℕ) → SameOutcomes (D.Disk.left_since (disk_of self.old) t)
+            (D.Disk.left_since (disk_of self.new) t) }
         ensures failures { D.Disk.failures (disk_of self.new) ≡ D.Disk.failures (disk_of self.old) }
         ensures stands { (history : History) → Stands self.old history → Stands self.new history }
         ensures memory { SameMemory self.old self.new }
@@ -326,13 +471,13 @@ impl<D: Limit> Replica<D> {
     }
 }
 
-// The image of a replica with no events, and its tree.
-fn blank(alloc: Global, pair: u64) -> Result<(Vec<u8>, Tree), ReplicaError>
-    ensures image { IfOk result (λ made. made.0.items ≡ formatted_image pair) }
-    ensures tree { IfOk result (λ made. made.1 ≡ empty_directory) }
-    ensures memory { IfErr result (λ e. e ≡ ReplicaError.Memory) }
+/// The image of a replica with no events, and what it keeps.
+fn blank(alloc: Global, pair: u64) -> Result<(Vec<u8>, Standing), ReplicaError>
+    ensures image { IfOk result (λ made. made.0.items ≡ image_spelling pair new_standing) }
+    ensures standing { IfOk result (λ made. made.1 ≡ new_standing) }
+    ensures memory { IfErr result (λ e. refusal_of e ≡ Memory) }
 {
-    let image = encode_image(alloc, pair)?;
-    let tree = Tree::new(alloc)?;
-    Ok((image, tree))
+    let standing = Standing::new(alloc)?;
+    let image = encode_image(alloc, pair, standing.tree(), standing.trail())?;
+    Ok((image, standing))
 }

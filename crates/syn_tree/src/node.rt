@@ -1,5 +1,7 @@
 ghost use Rattle.std.specs.Prelude.{◌≡◌, true, false};
 ghost use Rattle.syn_model.specs.Limits.{fits_part, fits_paths};
+ghost use Rattle.syn_model.specs.Path.{Path};
+ghost use Rattle.syn_tree.specs.Lists.{FitsNowhere};
 ghost use Rattle.syn_tree.specs.Nodes.{node_tree};
 
 use crate::entries::Entries;
@@ -18,7 +20,7 @@ impl Node {
     /// Whether it keeps the limit of a file's bytes, as a directory does by its type.
     pub fn is_brief(&self) -> bool
         ensures brief { result ≡ true → fits_part (node_tree self.now) ≡ true }
-        ensures long { result ≡ false → fits_part (node_tree self.now) ≡ false }
+        ensures long { result ≡ false → (at : Path) → FitsNowhere at (node_tree self.now) }
         ensures paths { fits_paths (node_tree self.now) ≡ true }
     {
         match self {

@@ -5,7 +5,10 @@ ghost use Rattle.std.specs.FinMap.{entries, get, len};
 ghost use Rattle.syn_model.specs.Tree.{Tree as Pairs, IsTree, empty_directory, is_directory};
 ghost use Rattle.syn_model.specs.Tree.{is_present, subtree, replace};
 ghost use Rattle.syn_model.specs.Event.{Put, MakeDir, Remove, after_edit};
-ghost use Rattle.syn_model.specs.Limits.{children, fits_replica, tree_spelling_length};
+ghost use Rattle.syn_model.specs.Limits.{children, fits_part, fits_paths, fits_replica};
+ghost use Rattle.syn_model.specs.Limits.{tree_spelling_length};
+ghost use Rattle.syn_model.specs.Path.{Path as Where};
+ghost use Rattle.syn_tree.specs.Lists.{FitsNowhere};
 ghost use Rattle.syn_model.specs.Refusal.{first_cause};
 ghost use Rattle.syn_model.specs.Standing.{edit_refusal, place_causes};
 ghost use Rattle.syn_tree.specs.Contents.{found_content};
@@ -290,6 +293,24 @@ impl Tree {
         }
     }
 
+    /// Why a replacement is refused, as far as that is seen without memory: 6 at the root, 2 where
+    /// the parent is no directory, and 7 where a file is longer than a file may be.
+    pub fn check_part(&self, path: &Path, new: Option<&Node>) -> Result<(), TreeError>
+        ensures brief { OnOk result (fits_part
+            (part_of (option_map (λ there. there.now) new.entry)) ≡ true) }
+        ensures paths { OnOk result (fits_paths
+            (part_of (option_map (λ there. there.now) new.entry)) ≡ true) }
+        ensures refused { IfErr result (λ e. replace_refusal self.now path.now
+            (part_of (option_map (λ there. there.now) new.entry)) ≡ Some (refusal_of e)) }
+    {
+        self.check_place(path)?;
+        if is_brief(new) {
+            Ok(())
+        } else {
+            Err(TreeError::Full)
+        }
+    }
+
     /// Makes a change that was prepared for the tree as it is. It takes no memory.
     pub fn make(&mut self, change: Change)
         requires { IsPreparedFor self.old change }
@@ -396,6 +417,20 @@ impl Tree {
         }
         list.reserve(MOST_BELOW - list.len())?;
         Ok(Tree { list, spelled })
+    }
+}
+
+/// A part keeps the limit of a file's bytes.
+fn is_brief(part: Option<&Node>) -> bool
+    ensures brief { result ≡ true
+        → fits_part (part_of (option_map (λ there. there.now) part.entry)) ≡ true }
+    ensures long { result ≡ false
+        → (at : Where) → FitsNowhere at (part_of (option_map (λ there. there.now) part.entry)) }
+    ensures paths { fits_paths (part_of (option_map (λ there. there.now) part.entry)) ≡ true }
+{
+    match part {
+        None => true,
+        Some(node) => node.is_brief(),
     }
 }
 

@@ -3,7 +3,7 @@ use Rattle.std.specs.Prelude.{◌<◌, ◌^◌}
 use Rattle.std.specs.Int.{to_be_bytes, w16, w32, w64}
 use Rattle.syn_model.specs.Path.{IsPath, path_spelling}
 use Rattle.syn_model.specs.Spelling.{event_spelling}
-use Rattle.syn_wire.specs.Events.{IsSpelledEvent}
+use Rattle.syn_wire.specs.Events.{IsFile, IsSpelledEvent, file_spelling}
 use Rattle.syn_wire.specs.Reads.{NoneBeginsAnother}
 
 abbrev pub NoU16BeginsAnother : Type 0
@@ -17,6 +17,10 @@ NoU64BeginsAnother = NoneBeginsAnother (λ n. n < 2 ^ 64) (to_be_bytes w64)
 
 abbrev pub NoPathBeginsAnother : Type 0
 NoPathBeginsAnother = NoneBeginsAnother IsPath path_spelling
+
+-- nor bytes behind their length others
+abbrev pub NoFileBeginsAnother : Type 0
+NoFileBeginsAnother = NoneBeginsAnother IsFile file_spelling
 
 -- nor does the spelling of an event begin that of another
 abbrev pub NoEventBeginsAnother : Type 0

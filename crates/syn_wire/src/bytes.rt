@@ -24,8 +24,11 @@ pub(crate) fn split_file(bytes: &[u8]) -> Option<(&[u8], &[u8])>
     Some(after.split_at(length))
 }
 
-// The same, copied. Refused 11 only where the bytes are there.
-pub(crate) fn read_file(alloc: Global, bytes: &[u8]) -> Result<Option<(Vec<u8>, &[u8])>, WireError>
+/// The bytes that stand behind their length of four bytes, and the rest; none where no front of the
+/// bytes is that.
+///
+/// Refused 11 where memory is refused, and only where the bytes are there.
+pub fn read_file(alloc: Global, bytes: &[u8]) -> Result<Option<(Vec<u8>, &[u8])>, WireError>
     ensures read { IfOk result (λ read. IsReading IsFile file_spelling bytes.now
         (option_map (λ found. (found.0.items, found.1.now)) read)) }
     ensures memory { IfErr result (λ _. (file : _) × (rest : _)
@@ -37,8 +40,9 @@ pub(crate) fn read_file(alloc: Global, bytes: &[u8]) -> Result<Option<(Vec<u8>, 
     Ok(Some((file.to_vec(alloc)?, rest)))
 }
 
-// Adds the bytes behind their length.
-pub(crate) fn write_file(out: &mut Vec<u8>, file: &[u8]) -> Result<(), WireError>
+/// Adds the bytes behind their length of four bytes. Refused 11 where memory is refused; a beginning
+/// of it may then have been added.
+pub fn write_file(out: &mut Vec<u8>, file: &[u8]) -> Result<(), WireError>
     requires { length file.now < 2 ^ 32 }
     ensures added { OnOk result (out.new.items ≡ out.old.items ++ file_spelling file.now) }
     ensures kept { IsBeginning out.old.items out.new.items }

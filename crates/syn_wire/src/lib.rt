@@ -5,7 +5,8 @@
 #![tactic(auto)]
 
 ghost use Rattle.syn_wire.specs.Laws.{NoU16BeginsAnother, NoU32BeginsAnother, NoU64BeginsAnother};
-ghost use Rattle.syn_wire.specs.Laws.{NoPathBeginsAnother, NoEventBeginsAnother};
+ghost use Rattle.syn_wire.specs.Laws.{NoPathBeginsAnother, NoFileBeginsAnother};
+ghost use Rattle.syn_wire.specs.Laws.{NoEventBeginsAnother};
 ghost use Rattle.syn_wire.specs.Images.{NoImageBeginsAnother};
 ghost use Rattle.syn_wire.specs.Trees.{NoTreeBeginsAnother, SpellingIsWalk, SpellingIsMeasured};
 
@@ -21,13 +22,14 @@ mod path;
 mod tree;
 mod tree_reading;
 
+pub use bytes::{read_file, write_file};
 pub use error::WireError;
 pub use event::{decode_event, edit_length, encode_edit, encode_event};
 pub use image::{Image, encode_image};
 pub use image_reading::decode_image;
 pub use kept::{Kept, encode_archive, encode_dir, encode_kept, encode_record, encode_session};
 pub use marks::{encode_marks, write_marks, write_optional_marks};
-pub use number::{read_u16, read_u32, read_u64};
+pub use number::{read_u16, read_u32, read_u64, write_u16, write_u32, write_u64};
 pub use path::{decode_path, encode_path, write_path};
 pub use tree::{encode_node, encode_tree, write_node, write_tree};
 pub use tree_reading::{decode_node, decode_tree};
@@ -38,6 +40,7 @@ pub fn spelling_laws()
     ensures u32 { NoU32BeginsAnother }
     ensures u64 { NoU64BeginsAnother }
     ensures path { NoPathBeginsAnother }
+    ensures file { NoFileBeginsAnother }
     ensures event { NoEventBeginsAnother }
     ensures tree { NoTreeBeginsAnother }
     ensures image { NoImageBeginsAnother }

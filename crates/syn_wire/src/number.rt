@@ -44,7 +44,7 @@ pub fn read_u64(bytes: &[u8]) -> Option<(u64, &[u8])>
 }
 
 /// Adds the number. Refused 11 where memory is refused; the bytes are then as they were.
-pub(crate) fn write_u16(out: &mut Vec<u8>, number: u16) -> Result<(), WireError>
+pub fn write_u16(out: &mut Vec<u8>, number: u16) -> Result<(), WireError>
     ensures added { OnOk result (out.new.items ≡ out.old.items ++ to_be_bytes w16 number) }
     ensures kept { IsBeginning out.old.items out.new.items }
 {
@@ -55,7 +55,7 @@ pub(crate) fn write_u16(out: &mut Vec<u8>, number: u16) -> Result<(), WireError>
 }
 
 /// Adds the number. Refused 11 where memory is refused; the bytes are then as they were.
-pub(crate) fn write_u32(out: &mut Vec<u8>, number: u32) -> Result<(), WireError>
+pub fn write_u32(out: &mut Vec<u8>, number: u32) -> Result<(), WireError>
     ensures added { OnOk result (out.new.items ≡ out.old.items ++ to_be_bytes w32 number) }
     ensures kept { IsBeginning out.old.items out.new.items }
 {
@@ -66,7 +66,7 @@ pub(crate) fn write_u32(out: &mut Vec<u8>, number: u32) -> Result<(), WireError>
 }
 
 /// Adds the number. Refused 11 where memory is refused; the bytes are then as they were.
-pub(crate) fn write_u64(out: &mut Vec<u8>, number: u64) -> Result<(), WireError>
+pub fn write_u64(out: &mut Vec<u8>, number: u64) -> Result<(), WireError>
     ensures added { OnOk result (out.new.items ≡ out.old.items ++ to_be_bytes w64 number) }
     ensures kept { IsBeginning out.old.items out.new.items }
 {

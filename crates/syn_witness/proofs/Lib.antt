@@ -17,3 +17,4 @@ pub mod MarkedScans
 pub mod MarkedLemmas
 pub mod RefusedLemmas
 pub mod RoomLemmas
+pub mod ShortLemmas

@@ -20,7 +20,7 @@ use Rattle.syn_witness.proofs.WitnessLemmas.{letter_a}
 use Rattle.syn_witness.proofs.WitnessSession.{replacing, replaced, replaces, right_done, right_staged, right_replaces, planned, plan, done_is, run_to_replacement}
 use Rattle.syn_witness.specs.Rows.{file_bytes}
 
-reads_one : Reads file_bytes (Some one)
+pub reads_one : Reads file_bytes (Some one)
 reads_one = (file_is_part (49 ∷ []) (one_byte 49 (omega arith)), file_fits_part 49, file_fits_paths 49, file_spelling (49 ∷ []))
 
 -- The same message again

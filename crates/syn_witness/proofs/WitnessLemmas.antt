@@ -73,28 +73,28 @@ stop_is_recovered = record {
 }
 
 -- Begin to both sides, so many times
-begins_sent : ℕ → Sent
+unfoldable pub begins_sent : ℕ → Sent
 begins_sent zero = []
 begins_sent (suc times) = begins_sent times ++ Asks Left 1 0 (Begin 7) ∷ Asks Right 1 0 (Begin 7) ∷ []
 
-abbrev begin_again : ℕ → Outstanding
+abbrev pub begin_again : ℕ → Outstanding
 begin_again resent = record { number = 0; request = Begin 7; resent = resent }
 
-abbrev waiting_for : ℕ → Running
+abbrev pub waiting_for : ℕ → Running
 waiting_for resent = runs_with 1 [] (begin_again resent ∷ []) (begin_again resent ∷ []) None 0 []
 
-abbrev waiting : ℕ → World
+abbrev pub waiting : ℕ → World
 waiting resent = record opened_world {
   coordinator = record { journal = new_journal (record { marks = empty_directory; last_session = 1 }) (archive_left new_archive_room (Session 1 ∷ [])); running = Some (waiting_for resent) };
   sent = begins_sent (suc resent);
   acknowledged = Kept_by (Session 1) ∷ [];
 }
 
-start_waits : Steps opened_world Start (waiting 0)
+pub start_waits : Steps opened_world Start (waiting 0)
 unfolding begins_sent
 start_waits = starts_so opened_world 1 refl refl refl refl (omega arith, omega arith) (waiting 0) refl
 
-sends_again : (resent : ℕ) → nat_le most_resends resent ≡ false → Steps (waiting resent) Tick (waiting (suc resent))
+pub sends_again : (resent : ℕ) → nat_le most_resends resent ≡ false → Steps (waiting resent) Tick (waiting (suc resent))
 unfolding begins_sent
 sends_again resent early = ticks _ _ (resends (waiting_for resent) refl (ap (λ b. b || (b || false)) early))
 

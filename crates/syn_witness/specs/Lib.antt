@@ -1,3 +1,4 @@
 pub mod Rows
 pub mod Witness
+pub mod Short
 pub mod Forbidden

@@ -3,6 +3,7 @@
 
 ghost use Rattle.syn_witness.specs.Rows.{SideRows};
 ghost use Rattle.syn_witness.specs.Forbidden.{StaysWithoutStop, ArmedCallsCome, StartsFresh, BeginsOnce, FaultsAlone, UnstableIsIncomplete, FailureEnds, RecordsAfterRoom, CheckpointsAreForRecords, FullAfterCheckpoint, HaltedAfterFailure};
+ghost use Rattle.syn_witness.specs.Short.{StartIsRecovered, ReplacementIsRecovered, CheckpointIsMade, ArchiveIsReopened, ResendIsAnswered, LateIsOld};
 ghost use Rattle.syn_witness.specs.Witness.{OpenedIsStart, NewRoomIs, StopIsRecovered, FailIsRefused, CheckpointIsCut, SilenceEnds, FileIsCarried, FilesAreExchanged, CarriedIsMarkedLater, RepeatIsDone, TouchedIsRefused, ReplacementFails};
 
 /// What a side answers in worked examples, which its definition gives.
@@ -28,6 +29,17 @@ pub fn witnesses()
     ensures repeated { RepeatIsDone }
     ensures touched { TouchedIsRefused }
     ensures device { ReplacementFails }
+{}
+
+/// Short runs of the same: a start and a replacement that a stop cuts off and an opening recovers, checkpoints of a side and of the
+/// archive with a reopening, a request that is sent again and answered twice, and a replacement of a session that is over.
+pub fn short_witnesses()
+    ensures start { StartIsRecovered }
+    ensures replacement { ReplacementIsRecovered }
+    ensures checkpoint { CheckpointIsMade }
+    ensures archive { ArchiveIsReopened }
+    ensures resent { ResendIsAnswered }
+    ensures late { LateIsOld }
 {}
 
 /// What no run does: without a stop among the steps no machine goes down, an edit is not acknowledged where one of its device

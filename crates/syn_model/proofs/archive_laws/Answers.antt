@@ -1,4 +1,5 @@
 use Rattle.syn_model.proofs.ArchiveImageLemmas.{keeping_stays_sound, stands_for_sound, archive_image_stands, new_archive_stands, record_goes_on}
+use Rattle.syn_model.proofs.ImageLengths.{archive_images_fit}
 use Rattle.syn_model.proofs.archive_laws.Goals as goal
 
 pub returns-clause-keeping : goal.returns-clause-keeping
@@ -15,3 +16,6 @@ returns-clause-formatted c = new_archive_stands
 
 pub returns-clause-record : goal.returns-clause-record
 returns-clause-record c = record_goes_on
+
+pub returns-clause-image_fits : goal.returns-clause-image_fits
+returns-clause-image_fits c = archive_images_fit

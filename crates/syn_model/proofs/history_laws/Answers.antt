@@ -4,6 +4,7 @@ use Rattle.syn_model.proofs.StandingLemmas.{standing_steps, standing_allows}
 use Rattle.syn_model.proofs.TouchLemmas.{touches_tell}
 use Rattle.syn_model.proofs.ImageLemmas.{formatted_stands, payload_goes_on}
 use Rattle.syn_model.proofs.SoundStandings.{image_stands}
+use Rattle.syn_model.proofs.ImageLengths.{images_fit, history_images_fit}
 use Rattle.syn_model.proofs.history_laws.Goals as goal
 
 pub returns-clause-tree : goal.returns-clause-tree
@@ -35,3 +36,9 @@ returns-clause-payload c = payload_goes_on
 
 pub returns-clause-image : goal.returns-clause-image
 returns-clause-image c = image_stands
+
+pub returns-clause-standing_fits : goal.returns-clause-standing_fits
+returns-clause-standing_fits c = images_fit
+
+pub returns-clause-image_fits : goal.returns-clause-image_fits
+returns-clause-image_fits c = history_images_fit

@@ -1,4 +1,4 @@
-use Rattle.syn_wire.proofs.EventLemmas.{event_tells}
+use Rattle.syn_wire.proofs.EventLemmas.{event_tells, file_tells}
 use Rattle.syn_wire.proofs.ImageLemmas.{images_tell}
 use Rattle.syn_wire.proofs.NameLemmas.{paths_tell}
 use Rattle.syn_wire.proofs.NumberLemmas.{u16_tells, u32_tells, u64_tells}
@@ -16,6 +16,9 @@ returns-clause-u64 c = u64_tells
 
 pub returns-clause-path : goal.returns-clause-path
 returns-clause-path c = paths_tell
+
+pub returns-clause-file : goal.returns-clause-file
+returns-clause-file c = file_tells
 
 pub returns-clause-event : goal.returns-clause-event
 returns-clause-event c = event_tells c.spelling_laws.ensures.tells

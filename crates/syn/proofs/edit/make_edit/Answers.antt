@@ -1,10 +1,11 @@
 use Rattle.std.proofs.Common.{◌≡◌, ◌++◌, ◌∷◌, ◌∙◌, [], inl, take, ap, sym, subst, ℕ}
 use Rattle.std.proofs.lemmas.Result.{err_from_is_err_and}
 use Rattle.syn_replica.proofs.StandLemmas.{leaves_weaker}
+use Rattle.syn_replica.proofs.StandingLemmas.{refused_at}
 use Rattle.syn_model.specs.Event.{Edit, Edited}
-use Rattle.syn_model.specs.History.{IsHistory, event_refusal}
+use Rattle.syn_model.specs.History.{IsHistory, event_refusal, standing_of}
 use Rattle.syn_replica.specs.Disks.{StandsBeforeOrAfter}
-use Rattle.syn_replica.specs.Replica.{Stands}
+use Rattle.syn_replica.specs.Replica.{Stands, room_shown}
 use Rattle.syn_tree.specs.Edits.{edit_of}
 use Rattle.syn.specs.Asked.{edit_asked}
 use Rattle.syn.proofs.EditLemmas.{same_edit, before_or_after, same_refusal}
@@ -35,7 +36,8 @@ returns-in_err-edit-clause-refused g c history left why stands e refused =
     let same = same_refusal laws.fits laws.put laws.steps history line.user line.change c.args.path left in
     let told = err_from_is_err_and c.from_residual-in_err-edit.result c.from_residual-in_err-edit.ensures.1 in
     let cause = c.in_err-edit.ensures.refused history why stands
-    (ap (λ (x : Edit). event_refusal history (Edited line.user x)) is ∙ (same ∙ refused)) in
+    (refused_at (room_shown c.args.replica.now) (standing_of history) (Edited line.user edit) why
+    (ap (λ (x : Edit). event_refusal history (Edited line.user x)) is ∙ (same ∙ refused))) in
     rw (told.1, told.2) (inl cause)
 
 pub returns-clause-acknowledged : goal.returns-clause-acknowledged
@@ -77,4 +79,5 @@ returns-clause-refused g c history left why stands e refused =
     c.in_ok-asked.ensures.edit left e in
     let same = same_refusal laws.fits laws.put laws.steps history line.user line.change c.args.path left in
     absurd (c.in_ok-edit.ensures.refused history why stands
-    (ap (λ (x : Edit). event_refusal history (Edited line.user x)) is ∙ (same ∙ refused)))
+    (refused_at (room_shown c.args.replica.now) (standing_of history) (Edited line.user edit) why
+    (ap (λ (x : Edit). event_refusal history (Edited line.user x)) is ∙ (same ∙ refused))))

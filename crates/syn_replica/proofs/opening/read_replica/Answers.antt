@@ -1,7 +1,29 @@
+use Rattle.std.proofs.Common.{◌≡◌, subst}
+use Rattle.std.proofs.lemmas.Result.{err_from_is_err_and}
+use Rattle.syn_model.specs.Standing.{AllAllowedAt}
+use Rattle.syn_replica.proofs.OpeningLemmas.{same_image}
 use Rattle.syn_replica.proofs.opening.read_replica.Goals as goal
 
-pub returns-clause-each : goal.returns-clause-each
-returns-clause-each c pair history fits stands =
-    let read = c.in_ok-tree.ensures.tree in
-    let image = c.in_ok-pair.ensures.pair in
-    c.opening_laws.ensures c.args.image.now c.in_ok-tree.tree c.args.payloads.now read.0 read.1 pair c.in_ok-pair.pair history fits image.0 image.1 stands
+pub returns-then-is_other-clause-other : goal.returns-then-is_other-clause-other
+returns-then-is_other-clause-other c other =
+    let is = c.in_ok-pair.ensures.read in
+    let asked = c.is_other.ensures.other c.if-is_other.true in
+    record {
+      pair = c.in_ok-pair.pair;
+      fits = is.fits;
+      first = c.in_ok-pair.first;
+      sound = is.sound;
+      image_is = is.spelled;
+      asked = asked.0;
+      wanted_is = asked.1;
+      differ = asked.2;
+    }
+
+pub returns-in_err-standing-clause-damaged : goal.returns-in_err-standing-clause-damaged
+returns-in_err-standing-clause-damaged c =
+    let p = err_from_is_err_and c.from_residual-in_err-standing.result c.from_residual-in_err-standing.ensures.1 in
+    let is = c.in_ok-pair.ensures.read in
+    let image = c.args.image.now in
+    rw (p.1, p.2) (λ damaged pair standing fits gives.
+    let same = same_image c.opening_laws.ensures.one image pair c.in_ok-pair.pair gives.first c.in_ok-pair.first (record { fits = fits; sound = gives.sound; spelled = gives.image_is }) is in
+    c.in_err-standing.ensures.damaged damaged gives.events (subst (λ s. AllAllowedAt s gives.events) same gives.allowed) gives.payloads_are)

@@ -1,46 +1,54 @@
-use Rattle.std.proofs.Common.{◌<◌, ◌^◌, sym, ap, ◌∙◌, Err, arith}
-use Rattle.std.proofs.lemmas.Result.{err_from_is_err_and}
-use Rattle.syn_model.specs.Event.{after_edit}
+use Rattle.std.proofs.Common.{◌≡◌, ◌<◌, ◌≤◌, Some, length, sym, ap, ◌∙◌, subst, inl, inr}
+use Rattle.std.specs.Prelude.{IfErr}
+use Rattle.std.specs.Result.{MatchResult}
+use Rattle.std.proofs.lemmas.Option.{none-some}
+use Rattle.std.proofs.lemmas.Result.{err_from_is_err_and, MatchResult-weaker}
+use Rattle.syn_model.specs.Event.{Edited}
+use Rattle.syn_model.specs.Spelling.{event_spelling}
 use Rattle.syn_tree.specs.Edits.{edit_of}
 use Rattle.syn_replica.specs.Edits.{event_by}
-use Rattle.syn_replica.proofs.EditLemmas.{same_error, admission_tree, admission_refused, admission_full, admission_none, same_refusal, allowed_by}
+use Rattle.syn_replica.specs.Refusals.{IsOneOf, edit_refusals, outside_refusals, refusal_of, refusal_in}
+use Rattle.syn_replica.specs.Replica.{room_shown, standing_shown}
+use Rattle.syn_replica.specs.Steps.{add_refusal}
+use Rattle.syn_replica.specs.inner.Updates.{add_refusal_at}
+use Rattle.syn_replica.proofs.RefusalLemmas.{edit_among, outside_among, same_refusal}
+use Rattle.syn_replica.proofs.StandingLemmas.{early_at, refused_at, room_at, room_passed}
 use Rattle.syn_replica.proofs.replica.Replica.edit.Goals as goal
 
-pub returns-in_err-admit-clause-by_tree : goal.returns-in_err-admit-clause-by_tree
-returns-in_err-admit-clause-by_tree g c history stands =
+pub returns-in_err-check-clause-cause : goal.returns-in_err-check-clause-cause
+returns-in_err-check-clause-cause g c history stands =
     let p = err_from_is_err_and c.from_residual.result c.from_residual.ensures.1 in
-    rw (p.1, p.2) (λ of_tree. sym (same_refusal c.args.self.now history stands.remembers c.args.user (edit_of c.args.edit)) ∙ admission_tree _ _ c.in_err-admit.ensures.answer of_tree)
-
-pub returns-in_err-admit-clause-refused : goal.returns-in_err-admit-clause-refused
-returns-in_err-admit-clause-refused g c history why stands e =
-    let p = err_from_is_err_and c.from_residual.result c.from_residual.ensures.1 in
-    rw (p.1, p.2) (admission_refused _ _ why c.in_err-admit.ensures.answer (same_refusal c.args.self.now history stands.remembers c.args.user (edit_of c.args.edit) ∙ e))
-
-pub returns-in_err-admit-clause-full : goal.returns-in_err-admit-clause-full
-returns-in_err-admit-clause-full g c history stands =
-    let p = err_from_is_err_and c.from_residual.result c.from_residual.ensures.1 in
-    let refusal = same_refusal c.args.self.now history stands.remembers c.args.user (edit_of c.args.edit) in
-    rw (p.1, p.2) (
-      λ same.
-          let full = same_error _ _ same in
-          record { not_refused = sym refusal ∙ admission_none _ _ c.in_err-admit.ensures.answer full; long = c.in_err-admit.ensures.no_room c.args.user full },
-      λ long. ap (λ e. Err e) (admission_full _ _ c.in_err-admit.ensures.answer (refusal ∙ long.not_refused)),
-    )
-
-pub returns-clause-acknowledged : goal.returns-clause-acknowledged
-returns-clause-acknowledged g c history stands =
-    let r = stands.remembers in
+    let old = c.args.self.now in
     let event = event_by c.args.user c.args.edit in
-    let user : c.args.user < 2 ^ 32 = omega (arith, c.ranges.user.fits) in
-    let allowed = allowed_by c.args.self.now history r c.args.user (edit_of c.args.edit) user c.in_ok-payload.ensures.lawful c.in_ok-admit.ensures.answer in
-    let payload = c.deref.ensures.value ∙ c.in_ok-payload.ensures.payload in
-    c.commit.ensures.acknowledged history event stands allowed payload (c.in_ok-payload.ensures.gives ∙ ap (λ tree. after_edit tree (edit_of c.args.edit)) r.tree)
+    rw (p.1, p.2) (inr (ap (λ s. add_refusal_at (room_shown old) s event) (sym stands.remembers.standing)
+    ∙ refused_at (room_shown old) (standing_shown old) event _ (early_at (standing_shown old) event _ (sym c.in_err-check.ensures))))
 
-pub returns-clause-any_moment : goal.returns-clause-any_moment
-returns-clause-any_moment g c history stands =
-    let r = stands.remembers in
+pub returns-in_err-check-clause-refused : goal.returns-in_err-check-clause-refused
+returns-in_err-check-clause-refused g c history why stands e =
+    let p = err_from_is_err_and c.from_residual.result c.from_residual.ensures.1 in
+    let old = c.args.self.now in
     let event = event_by c.args.user c.args.edit in
-    let user : c.args.user < 2 ^ 32 = omega (arith, c.ranges.user.fits) in
-    let allowed = allowed_by c.args.self.now history r c.args.user (edit_of c.args.edit) user c.in_ok-payload.ensures.lawful c.in_ok-admit.ensures.answer in
-    let payload = c.deref.ensures.value ∙ c.in_ok-payload.ensures.payload in
-    c.commit.ensures.any_moment history event stands allowed payload
+    rw (p.1, p.2) (same_refusal c.in_err-check.field-0.0 why (add_refusal (room_shown old) history event)
+    (ap (λ s. add_refusal_at (room_shown old) s event) (sym stands.remembers.standing)
+    ∙ refused_at (room_shown old) (standing_shown old) event _ (early_at (standing_shown old) event _ (sym c.in_err-check.ensures))) e)
+
+pub returns-in_err-check-clause-refusals : goal.returns-in_err-check-clause-refusals
+returns-in_err-check-clause-refusals g c =
+    let p = err_from_is_err_and c.from_residual.result c.from_residual.ensures.1 in
+    rw (p.1, p.2) (edit_among (standing_shown c.args.self.now) c.args.user (edit_of c.args.edit) _ (sym c.in_err-check.ensures))
+
+pub returns-in_err-check_room-clause-refused : goal.returns-in_err-check_room-clause-refused
+returns-in_err-check_room-clause-refused g c history why stands e =
+    let p = err_from_is_err_and c.from_residual-in_err-check_room.result c.from_residual-in_err-check_room.ensures.1 in
+    let old = c.args.self.now in
+    let event = event_by c.args.user c.args.edit in
+    let none = sym c.check.ensures ∙ ap refusal_in c.in_ok-check.was in
+    let long = subst (λ n. room_shown old < n) (c.edit_length-length.ensures c.args.user) c.in_err-check_room.ensures.refused.1 in
+    let full = room_at (room_shown old) (standing_shown old) event none long in
+    rw (p.1, p.2) (same_refusal c.in_err-check_room.field-0.0 why (add_refusal (room_shown old) history event)
+    (ap (λ s. add_refusal_at (room_shown old) s event) (sym stands.remembers.standing) ∙ (full ∙ sym (ap (λ e. Some (refusal_of e)) c.in_err-check_room.ensures.refused.0))) e)
+
+pub add-requires-clause-brief : goal.add-requires-clause-brief
+add-requires-clause-brief g c =
+    let none = sym c.check.ensures ∙ ap refusal_in c.in_ok-check.was in
+    c.opening_laws.ensures.short (standing_shown c.args.self.now) (event_by c.args.user c.args.edit) none

@@ -1,16 +1,28 @@
-use Rattle.std.proofs.Common.{◌≡◌, length, sym, ap, subst, refl, arith}
-use Rattle.syn_model.specs.Image.{StandsFor}
+use Rattle.std.proofs.Common.{◌≡◌, length, sym, ap, ap₂, ◌∙◌, subst, refl}
+use Rattle.syn_journal.specs.Layout.{meaning}
 use Rattle.syn_journal.specs.Opened.{value_read}
-use Rattle.syn_replica.specs.Opening.{IsShownBy, bytes_of_each}
+use Rattle.syn_model.specs.Image.{Gives}
+use Rattle.syn_replica.specs.inner.Openings.{bytes_of_each}
+use Rattle.syn_replica.specs.Disks.{IsOtherPair}
+use Rattle.syn_replica.proofs.MeaningLemmas.{meaning_refusal}
 use Rattle.syn_replica.proofs.StandLemmas.{stands_for_each}
 use Rattle.syn_replica.proofs.replica.Replica.open.Goals as goal
 
 pub returns-in-Ok-read_replica-clause-each : goal.returns-in-Ok-read_replica-clause-each
 returns-in-Ok-read_replica-clause-each g c number history fits stands =
     let opened = c.in-Ok.opened in
+    let read = c.in-Ok-read_replica in
     let value = value_read opened.image opened.records in
-    let count : length c.deref-2.result.now ≡ c.len-position.result = (let items = ap length c.deref-2.ensures.value in omega (arith, items, c.len-position.ensures, opened.records.ok)) in
-    stands_for_each _ value (g.D.Disk.seen c.args.disk) number c.in-Ok-read_replica.pair history c.in-Ok.ensures.opened c.in-Ok.ensures.untouched.same refl stands (λ s.
-    subst (λ n. IsShownBy number c.in-Ok-read_replica.pair c.in-Ok-read_replica.tree n history) count
-    (c.in-Ok-read_replica.ensures.each number history fits
-    (subst (λ p. StandsFor number c.deref.result.now p history) (ap bytes_of_each (sym c.deref-2.ensures.value)) (subst (λ i. StandsFor number i value.payloads history) (sym c.deref.ensures.value) s))))
+    let gives = subst (λ p. Gives read.pair opened.image.items p read.standing) (ap bytes_of_each c.deref-2.ensures.value)
+    (subst (λ i. Gives read.pair i (bytes_of_each c.deref-2.result.now) read.standing) c.deref.ensures.value read.ensures.gives) in
+    stands_for_each c.opening_laws.ensures.one _ value (g.D.Disk.seen c.args.disk) number history c.in-Ok.ensures.opened c.in-Ok.ensures.untouched.same read.ensures.fits gives fits stands
+
+pub returns-clause-refusals : goal.returns-clause-refusals
+returns-clause-refusals g c =
+    let opened = c.in-Ok.opened in
+    let value = value_read opened.image opened.records in
+    let refused = c.in-Err-read_replica in
+    meaning_refusal refused.error c.args.pair (g.D.Disk.seen c.args.disk) value (ap meaning (sym c.in-Ok.ensures.untouched.same) ∙ c.in-Ok.ensures.opened.means) refused.ensures.refusals
+    (λ damaged pair standing fits gives. refused.ensures.damaged damaged pair standing fits
+    (subst (λ p. Gives pair c.deref.result.now p standing) (ap bytes_of_each (sym c.deref-2.ensures.value)) (subst (λ i. Gives pair i value.payloads standing) (sym c.deref.ensures.value) gives)))
+    (λ other. subst (λ i. IsOtherPair i c.args.pair) c.deref.ensures.value (refused.ensures.other other))

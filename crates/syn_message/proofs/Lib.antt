@@ -1,0 +1,5 @@
+mod AskingLemmas
+mod KindLemmas
+mod WholeLemmas
+mod WishLemmas
+mod WishedLemmas

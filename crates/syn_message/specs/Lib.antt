@@ -1,0 +1,4 @@
+pub mod Requests
+pub mod Users
+pub mod Laws
+pub mod inner

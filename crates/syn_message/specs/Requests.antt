@@ -1,0 +1,73 @@
+-- How a request of a coordinator is spelled.
+use Rattle.std.specs.Prelude.{◌≡◌, ◌≢◌, ◌<◌, ◌^◌, ℕ, ◌∷◌, ◌++◌, Option, Some, None}
+use Rattle.std.specs.Int.{to_be_bytes, w32, w64}
+use Rattle.syn_headline.specs.Side.{IsLawfulBody}
+use Rattle.syn_headline.specs.Side as model
+use Rattle.syn_model.specs.Path.{Bytes, path_spelling}
+use Rattle.syn_message.specs.declared.kind.TheConstants.{BEGIN, LIST, FETCH, STAGE, REPLACE}
+use Rattle.syn_message.specs.declared.request.Asked.{Asked}
+use Rattle.syn_message.specs.declared.request.Request.{Request}
+use Rattle.syn_message.specs.declared.request.Request.TheVariants as has
+use Rattle.syn_wire.specs.Events.{file_spelling}
+
+-- a request as the model has it
+abbrev pub request_of : Request → model.Request
+request_of (has.Begin pair) = model.Begin pair
+request_of (has.List path) = model.ListAt path
+request_of (has.Fetch path since offset) = model.Fetch path since offset
+request_of (has.Stage item offset bytes) = model.Stage item offset bytes.items
+request_of (has.Replace item path since size) = model.Replace item path since size
+
+-- a request with its session and its number in it
+pub record Asking : Type 0 where
+  pub session : ℕ
+  pub number : ℕ
+  pub request : model.Request
+
+abbrev pub asking_of : Asked → Asking
+asking_of asked =
+    record { session = asked.session; number = asked.number; request = request_of asked.request }
+
+abbrev pub kind_of : model.Request → ℕ
+kind_of (model.Begin pair) = BEGIN
+kind_of (model.ListAt path) = LIST
+kind_of (model.Fetch path since offset) = FETCH
+kind_of (model.Stage item offset bytes) = STAGE
+kind_of (model.Replace item path since size) = REPLACE
+
+-- what stands behind the number
+abbrev pub fields_spelling : model.Request → Bytes
+fields_spelling (model.Begin pair) = to_be_bytes w64 pair
+fields_spelling (model.ListAt path) = path_spelling path
+fields_spelling (model.Fetch path since offset) =
+    path_spelling path ++ (to_be_bytes w64 since ++ to_be_bytes w32 offset)
+fields_spelling (model.Stage item offset bytes) =
+    to_be_bytes w32 item ++ (to_be_bytes w32 offset ++ file_spelling bytes)
+fields_spelling (model.Replace item path since size) =
+    to_be_bytes w32 item ++ (path_spelling path ++ (to_be_bytes w64 since ++ to_be_bytes w32 size))
+
+-- a kind, a session, a number, and what the request has
+abbrev pub asking_spelling : Asking → Bytes
+asking_spelling asking =
+    kind_of asking.request ∷ to_be_bytes w64 asking.session
+    ++ (to_be_bytes w32 asking.number ++ fields_spelling asking.request)
+
+-- Sessions count from 1: a user's request has the session 0.
+pub record IsLawfulAsking (asking : Asking) : Type 0 where
+  pub session : asking.session < 2 ^ 64
+  pub begun : 0 < asking.session
+  pub number : asking.number < 2 ^ 32
+  pub body : IsLawfulBody asking.request
+
+-- What was found in a whole body: a lawful value that it spells, or nothing where it spells none.
+abbrev pub IsWholeReading : {V : Type 0} → (V → Type 0) → (V → Bytes) → Bytes → Option V → Type 0
+IsWholeReading IsLawful spelling body (Some value) = IsLawful value × (body ≡ spelling value)
+IsWholeReading {V} IsLawful spelling body None =
+    (value : V) → IsLawful value → body ≢ spelling value
+
+-- the same of the fields of a kind
+abbrev pub IsOfKind : ℕ → model.Request → Type 0
+IsOfKind kind request = (kind_of request ≡ kind) × IsLawfulBody request
+
+abbrev pub ReadsFields : ℕ → Bytes → Option model.Request → Type 0
+ReadsFields kind = IsWholeReading (IsOfKind kind) fields_spelling

@@ -1,0 +1,34 @@
+-- Parts of a body that have no contract of their own.
+use Rattle.std.specs.Prelude.{◌≡◌, ◌<◌, ◌^◌, ℕ, ◌++◌, Option}
+use Rattle.std.specs.Int.{to_be_bytes, w32, w64}
+use Rattle.syn_model.specs.Path.{Bytes}
+use Rattle.syn_message.specs.Requests.{IsWholeReading}
+use Rattle.syn_message.specs.Users.{Wish, IsLawfulWish, wish_fields, wish_kind}
+
+-- a session, from 1, and a number in it
+pub record IsHead (head : ℕ × ℕ) : Type 0 where
+  pub session : head.0 < 2 ^ 64
+  pub begun : 0 < head.0
+  pub number : head.1 < 2 ^ 32
+
+abbrev pub head_spelling : ℕ × ℕ → Bytes
+head_spelling head = to_be_bytes w64 head.0 ++ to_be_bytes w32 head.1
+
+-- a position, and a number
+abbrev pub IsLast : ℕ × ℕ → Type 0
+IsLast last = (last.0 < 2 ^ 64) × (last.1 < 2 ^ 32)
+
+abbrev pub ReadsLast : Bytes → Option (ℕ × ℕ) → Type 0
+ReadsLast = IsWholeReading IsLast head_spelling
+
+-- the session 0, and a number
+pub record IsUserHead (head : ℕ × ℕ) : Type 0 where
+  pub none : head.0 ≡ 0
+  pub number : head.1 < 2 ^ 32
+
+-- what stands behind the number of a user's request
+abbrev pub IsWishOf : ℕ → Wish → Type 0
+IsWishOf kind wish = (wish_kind wish ≡ kind) × IsLawfulWish wish
+
+abbrev pub ReadsWish : ℕ → Bytes → Option Wish → Type 0
+ReadsWish kind = IsWholeReading (IsWishOf kind) wish_fields

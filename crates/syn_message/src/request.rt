@@ -1,0 +1,123 @@
+//! What a coordinator asks of a side.
+ghost use Rattle.std.specs.Prelude.{◌≡◌, ◌++◌, IfOk, OnOk};
+ghost use Rattle.syn_headline.specs.Side.{IsLawfulBody};
+ghost use Rattle.syn_message.specs.Requests.{IsLawfulAsking, asking_of, asking_spelling};
+ghost use Rattle.syn_message.specs.Requests.{fields_spelling, kind_of, request_of};
+
+use crate::kind::{BEGIN, FETCH, LIST, REPLACE, STAGE};
+use std::alloc::Global;
+use syn_path::Path;
+use syn_wire::{WireError, write_file, write_path, write_u32, write_u64};
+
+/// What a coordinator asks of a side, in a session.
+#[derive(Debug, Drop)]
+pub enum Request {
+    /// The session begins on the side, which has to be a replica of the pair.
+    Begin {
+        pair: u64,
+    },
+    /// The names in the directory, with the mark of what stands there.
+    List {
+        path: Path,
+    },
+    /// What is spelled at the path, from that byte on, unless an event touched the path at the
+    /// position `since` or later.
+    Fetch {
+        path: Path,
+        since: u64,
+        offset: u32,
+    },
+    /// From 1 to 32,768 bytes of what the item is to put, from that byte on.
+    Stage {
+        item: u32,
+        offset: u32,
+        bytes: Vec<u8>,
+    },
+    /// What is staged for the item, of so many bytes, goes to the path, unless an event touched the
+    /// path at the position `since` or later.
+    Replace {
+        item: u32,
+        path: Path,
+        since: u64,
+        length: u32,
+    },
+}
+
+impl Request {
+    /// The first byte of its body.
+    fn kind(&self) -> u8
+        ensures { result ≡ kind_of (request_of self.now) }
+    {
+        match self {
+            Request::Begin { .. } => BEGIN,
+            Request::List { .. } => LIST,
+            Request::Fetch { .. } => FETCH,
+            Request::Stage { .. } => STAGE,
+            Request::Replace { .. } => REPLACE,
+        }
+    }
+}
+
+/// A request with its session, from 1, and its number in it.
+#[derive(Debug, Drop)]
+pub struct Asked {
+    pub session: u64,
+    pub number: u32,
+    pub request: Request,
+}
+
+/// The body of the request.
+///
+/// Refused 11 where memory is refused.
+pub fn encode_request(alloc: Global, asked: &Asked) -> Result<Vec<u8>, WireError>
+    requires { IsLawfulAsking (asking_of asked.now) }
+    ensures { IfOk result (λ body. body.items ≡ asking_spelling (asking_of asked.now)) }
+{
+    let mut body = Vec::new(alloc);
+    body.push(asked.request.kind())?;
+    write_u64(&mut body, asked.session)?;
+    write_u32(&mut body, asked.number)?;
+    write_fields(&mut body, &asked.request)?;
+    Ok(body)
+}
+
+/// Adds what the request has.
+fn write_fields(body: &mut Vec<u8>, request: &Request) -> Result<(), WireError>
+    requires { IsLawfulBody (request_of request.now) }
+    ensures { OnOk result (body.new.items
+        ≡ body.old.items ++ fields_spelling (request_of request.now)) }
+{
+    match request {
+        Request::Begin { pair } => write_u64(body, *pair),
+        Request::List { path } => write_path(body, path),
+        Request::Fetch {
+            path,
+            since,
+            offset,
+        } => {
+            write_path(body, path)?;
+            write_u64(body, *since)?;
+            write_u32(body, *offset)
+        }
+        Request::Stage {
+            item,
+            offset,
+            bytes,
+        } => {
+            write_u32(body, *item)?;
+            write_u32(body, *offset)?;
+            write_file(body, bytes)
+        }
+        Request::Replace {
+            item,
+            path,
+            since,
+            length,
+        } => {
+            write_u32(body, *item)?;
+            write_path(body, path)?;
+            write_u64(body, *since)?;
+            write_u32(body, *length)
+        }
+    }
+}

@@ -1,0 +1,180 @@
+//! Reads the body of a request.
+ghost use Rattle.std.specs.Prelude.{◌≡◌, ◌<◌, ◌^◌, IfOk, option_map};
+ghost use Rattle.syn_message.specs.Requests.{IsLawfulAsking, IsWholeReading, ReadsFields};
+ghost use Rattle.syn_message.specs.Requests.{asking_of, asking_spelling, request_of};
+ghost use Rattle.syn_message.specs.inner.Heads.{IsHead, ReadsLast, head_spelling};
+ghost use Rattle.syn_headline.specs.Side.{IsPieceBytes};
+ghost use Rattle.syn_wire.specs.Events.{file_spelling};
+ghost use Rattle.syn_wire.specs.Reads.{IsReading};
+
+use crate::kind::{BEGIN, FETCH, LIST, REPLACE, STAGE};
+use crate::request::{Asked, Request};
+use std::alloc::Global;
+use syn_wire::{WireError, decode_path, read_file, read_u32, read_u64, spelling_laws};
+
+/// How many bytes are staged at most at a time.
+pub const MAX_PIECE: usize = 32_768;
+
+/// The request that the body spells; none where it spells no request.
+///
+/// Refused 11 where memory is refused.
+pub fn decode_request(alloc: Global, body: &[u8]) -> Result<Option<Asked>, WireError>
+    ensures { IfOk result (λ read. IsWholeReading IsLawfulAsking asking_spelling body.now
+        (option_map asking_of read)) }
+{
+    let [kind, after @ ..] = body else {
+        return Ok(None);
+    };
+    let Some((session, number, fields)) = read_head(after) else {
+        return Ok(None);
+    };
+    match read_fields(alloc, *kind, fields)? {
+        Some(request) => Ok(Some(Asked {
+            session,
+            number,
+            request,
+        })),
+        None => Ok(None),
+    }
+}
+
+/// The number of a session, which is not 0, that of the request in it, and the rest.
+fn read_head(bytes: &[u8]) -> Option<(u64, u32, &[u8])>
+    ensures { IsReading IsHead head_spelling bytes.now
+        (option_map (λ found. ((found.0, found.1), found.2.now)) result) }
+{
+    spelling_laws();
+    let (session, after) = read_u64(bytes)?;
+    let (number, rest) = read_u32(after)?;
+    if session == 0 {
+        return None;
+    }
+    Some((session, number, rest))
+}
+
+/// What stands behind the number, in a request of the kind.
+fn read_fields(alloc: Global, kind: u8, fields: &[u8]) -> Result<Option<Request>, WireError>
+    ensures { IfOk result (λ read. ReadsFields kind fields.now (option_map request_of read)) }
+{
+    match kind {
+        BEGIN => Ok(read_begin(fields)),
+        LIST => read_list(alloc, fields),
+        FETCH => read_fetch(alloc, fields),
+        STAGE => read_stage(alloc, fields),
+        REPLACE => read_replace(alloc, fields),
+        _ => Ok(None),
+    }
+}
+
+fn read_begin(fields: &[u8]) -> Option<Request>
+    ensures { ReadsFields BEGIN fields.now (option_map request_of result) }
+{
+    spelling_laws();
+    let (pair, rest) = read_u64(fields)?;
+    if !rest.is_empty() {
+        return None;
+    }
+    Some(Request::Begin { pair })
+}
+
+fn read_list(alloc: Global, fields: &[u8]) -> Result<Option<Request>, WireError>
+    ensures { IfOk result (λ read. ReadsFields LIST fields.now (option_map request_of read)) }
+{
+    spelling_laws();
+    let Some((path, rest)) = decode_path(alloc, fields)? else {
+        return Ok(None);
+    };
+    if !rest.is_empty() {
+        return Ok(None);
+    }
+    Ok(Some(Request::List { path }))
+}
+
+fn read_fetch(alloc: Global, fields: &[u8]) -> Result<Option<Request>, WireError>
+    ensures { IfOk result (λ read. ReadsFields FETCH fields.now (option_map request_of read)) }
+{
+    spelling_laws();
+    let Some((path, after)) = decode_path(alloc, fields)? else {
+        return Ok(None);
+    };
+    let Some((since, offset)) = read_last(after) else {
+        return Ok(None);
+    };
+    Ok(Some(Request::Fetch {
+        path,
+        since,
+        offset,
+    }))
+}
+
+fn read_stage(alloc: Global, fields: &[u8]) -> Result<Option<Request>, WireError>
+    ensures { IfOk result (λ read. ReadsFields STAGE fields.now (option_map request_of read)) }
+{
+    spelling_laws();
+    let Some((item, after)) = read_u32(fields) else {
+        return Ok(None);
+    };
+    let Some((offset, after)) = read_u32(after) else {
+        return Ok(None);
+    };
+    let Some(bytes) = read_piece(alloc, after)? else {
+        return Ok(None);
+    };
+    Ok(Some(Request::Stage {
+        item,
+        offset,
+        bytes,
+    }))
+}
+
+/// From 1 to `MAX_PIECE` bytes behind their length, with nothing behind them.
+fn read_piece(alloc: Global, bytes: &[u8]) -> Result<Option<Vec<u8>>, WireError>
+    ensures { IfOk result (λ read. IsWholeReading IsPieceBytes file_spelling bytes.now
+        (option_map (λ piece. piece.items) read)) }
+{
+    spelling_laws();
+    let Some((piece, rest)) = read_file(alloc, bytes)? else {
+        return Ok(None);
+    };
+    if !rest.is_empty() {
+        return Ok(None);
+    }
+    if piece.is_empty() || piece.len() > MAX_PIECE {
+        return Ok(None);
+    }
+    Ok(Some(piece))
+}
+
+fn read_replace(alloc: Global, fields: &[u8]) -> Result<Option<Request>, WireError>
+    ensures { IfOk result (λ read. ReadsFields REPLACE fields.now (option_map request_of read)) }
+{
+    spelling_laws();
+    let Some((item, after)) = read_u32(fields) else {
+        return Ok(None);
+    };
+    let Some((path, after)) = decode_path(alloc, after)? else {
+        return Ok(None);
+    };
+    let Some((since, length)) = read_last(after) else {
+        return Ok(None);
+    };
+    Ok(Some(Request::Replace {
+        item,
+        path,
+        since,
+        length,
+    }))
+}
+
+/// A position and a number, with nothing behind them.
+fn read_last(bytes: &[u8]) -> Option<(u64, u32)>
+    ensures { ReadsLast bytes.now result }
+{
+    spelling_laws();
+    let (position, after) = read_u64(bytes)?;
+    let (number, rest) = read_u32(after)?;
+    if !rest.is_empty() {
+        return None;
+    }
+    Some((position, number))
+}

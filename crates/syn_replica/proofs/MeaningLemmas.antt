@@ -1,0 +1,89 @@
+-- Why a disk is not opened.
+use Rattle.std.proofs.Common.{◌≡◌, ◌<◌, ◌≤◌, ◌⊎◌, ◌^◌, ℕ, List, refl, sym, ap, ◌∙◌, subst, Option, Result, Ok, Err, inl, inr, true≢false, Bool, true, false}
+use Rattle.syn_disk.specs.Arms.{Arms}
+use Rattle.syn_disk.specs.Calls.{MakesAtLeast}
+use Rattle.syn_model.specs.Path.{Bytes}
+use Rattle.syn_model.specs.Standing.{Standing}
+use Rattle.syn_model.specs.Image.{Gives}
+use Rattle.syn_journal.specs.Layout.{Value, Fault, meaning}
+use Rattle.syn_journal.specs.Refusals as journal
+use Rattle.syn_journal.specs.declared.error.JournalError.{JournalError}
+use Rattle.syn_journal.specs.declared.error.JournalError.TheVariants as refused
+use Rattle.syn_replica.specs.Disks.{DiskGives, IsOfOtherPair, IsOtherPair, IsOpenRefusal}
+use Rattle.syn_replica.specs.Refusals.{CountsFailures, AfterReads, IsOneOf, hiding_refusals}
+use Rattle.syn_replica.specs.inner.Openings.{IsOfMeaning}
+use Rattle.syn_replica.specs.declared.error.ReplicaError.{ReplicaError}
+use Rattle.syn_replica.specs.declared.error.ReplicaError.TheVariants.{Tree, History, Journal, Memory, Touched, OldSession, Damaged, WrongPair}
+
+is_ok : Result Value Fault → Bool
+is_ok (Ok value) = true
+is_ok (Err fault) = false
+
+no_value : (d : Result Value Fault) (value : Value) (fault : Fault) → d ≡ Ok value → d ≡ Err fault → ⊥
+unfolding is_ok
+no_value d value fault a b = true≢false (ap is_ok (sym a ∙ b))
+
+one_value : (d : Result Value Fault) (a b : Value) → d ≡ Ok a → d ≡ Ok b → a ≡ b
+one_value d a b x y = ap (λ r. value_or r a) (sym x ∙ y)
+  where
+    value_or : Result Value Fault → Value → Value
+    value_or (Ok value) other = value
+    value_or (Err fault) other = other
+
+-- what a journal refuses, a replica does
+pub journal_refusal : (e : JournalError) (wanted : Option ℕ) (bytes : List ℕ) → journal.IsOpenRefusal e (meaning bytes) → IsOpenRefusal (Journal e) wanted bytes
+journal_refusal refused.Full wanted bytes h = absurd h
+journal_refusal refused.JournalFull wanted bytes h = absurd h
+journal_refusal refused.Device wanted bytes h = tt
+journal_refusal refused.Halted wanted bytes h = absurd h
+journal_refusal refused.Memory wanted bytes h = tt
+journal_refusal refused.NoImage wanted bytes h = h
+journal_refusal refused.Damaged wanted bytes h = λ pair standing fits gives. no_value (meaning bytes) gives.value _ gives.means h
+
+-- of a disk that means something only for want of memory, or where a device call failed
+pub journal_hides : (e : JournalError) (wanted : Option ℕ) (bytes : List ℕ) → journal.IsOpenRefusal e (meaning bytes) → IsOfOtherPair wanted bytes → IsOneOf hiding_refusals (Journal e)
+journal_hides refused.Full wanted bytes h other = absurd h
+journal_hides refused.JournalFull wanted bytes h other = absurd h
+journal_hides refused.Device wanted bytes h other = refl
+journal_hides refused.Halted wanted bytes h other = absurd h
+journal_hides refused.Memory wanted bytes h other = refl
+journal_hides refused.NoImage wanted bytes h other = absurd (no_value (meaning bytes) other.value _ other.means h)
+journal_hides refused.Damaged wanted bytes h other = absurd (no_value (meaning bytes) other.value _ other.means h)
+
+-- and what its image and its payloads refuse
+pub meaning_refusal : (e : ReplicaError) (wanted : Option ℕ) (bytes : List ℕ) (value : Value) → meaning bytes ≡ Ok value → IsOfMeaning e →
+    (e ≡ Damaged → (pair : ℕ) (standing : Standing) → pair < 2 ^ 64 → ¬ Gives pair value.image value.payloads standing) → (e ≡ WrongPair → IsOtherPair value.image wanted) → IsOpenRefusal e wanted bytes
+meaning_refusal (Tree e) wanted bytes value means h damaged other = absurd h
+meaning_refusal (History e) wanted bytes value means h damaged other = absurd h
+meaning_refusal (Journal e) wanted bytes value means h damaged other = absurd h
+meaning_refusal Memory wanted bytes value means h damaged other = tt
+meaning_refusal Touched wanted bytes value means h damaged other = absurd h
+meaning_refusal OldSession wanted bytes value means h damaged other = absurd h
+meaning_refusal Damaged wanted bytes value means h damaged other =
+    λ pair standing fits gives. damaged refl pair standing fits (subst (λ v. Gives pair v.image v.payloads standing) (one_value (meaning bytes) gives.value value gives.means means) gives.gives)
+meaning_refusal WrongPair wanted bytes value means h damaged other = record { value = value; means = means; other = other refl }
+
+-- the disk is of another pair as its value is
+pub other_value : (wanted : Option ℕ) (bytes : List ℕ) (value : Value) → meaning bytes ≡ Ok value → IsOfOtherPair wanted bytes → IsOtherPair value.image wanted
+other_value wanted bytes value means other = subst (λ v. IsOtherPair v.image wanted) (one_value (meaning bytes) other.value value other.means means) other.other
+
+-- these make no device call that fails
+pub quiet : (e : ReplicaError) (old new : ℕ) → IsOfMeaning e → new ≡ old → CountsFailures e old new
+quiet (Tree e) old new h same = absurd h
+quiet (History e) old new h same = absurd h
+quiet (Journal e) old new h same = absurd h
+quiet Memory old new h same = same
+quiet Touched old new h same = absurd h
+quiet OldSession old new h same = absurd h
+quiet Damaged old new h same = same
+quiet WrongPair old new h same = same
+
+pub after_reads : (e : ReplicaError) (least : ℕ) (old new : Arms) → IsOfMeaning e → MakesAtLeast least old new → AfterReads least e old new
+after_reads (Tree e) least old new h made = absurd h
+after_reads (History e) least old new h made = absurd h
+after_reads (Journal e) least old new h made = absurd h
+after_reads Memory least old new h made = made
+after_reads Touched least old new h made = absurd h
+after_reads OldSession least old new h made = absurd h
+after_reads Damaged least old new h made = made
+after_reads WrongPair least old new h made = made

@@ -1,0 +1,54 @@
+-- Which refusals a call may answer.
+use Rattle.std.proofs.Common.{◌≡◌, ◌⊎◌, ◌<◌, ℕ, Bool, true, false, ◌||◌, ◌==◌, List, [], ◌∷◌, ◌++◌, refl, sym, ap, ap₂, ◌∙◌, subst, Option, Some, None, Result, Ok, Err, inl, inr, true≢false, arith}
+use Rattle.std.specs.Prelude.{IsErrAnd}
+use Rattle.std.specs.List.{list_any, AllByRecursion}
+use Rattle.std.proofs.lemmas.Bool.Decides.{nat_tests}
+use Rattle.std.proofs.lemmas.Option.{none-some, same_Some}
+use Rattle.syn_model.specs.Refusal.{Refusal, number, Cause, first_cause}
+use Rattle.syn_model.specs.Refusal as why
+use Rattle.syn_model.specs.Event.{Edit, Put, MakeDir, Remove, Edited}
+use Rattle.syn_model.specs.Standing.{Standing, causes_at, refusal_at}
+use Rattle.syn_replica.specs.Refusals.{IsOneOf, refusal_of, edit_refusals, outside_refusals}
+use Rattle.syn_replica.specs.declared.error.ReplicaError.{ReplicaError}
+
+abbrev pub is_among : List Refusal → Refusal → Bool
+is_among refusals refusal = list_any (λ why. number why == number refusal) refusals
+
+-- the first of some causes has a refusal that one of them has
+pub first_among : (refusals : List Refusal) (causes : List Cause) (refusal : Refusal) → AllByRecursion (λ cause. is_among refusals cause.1 ≡ true) causes → first_cause causes ≡ Some refusal → is_among refusals refusal ≡ true
+first_among refusals [] refusal all e = absurd (none-some _ e)
+first_among refusals ((true, cause) ∷ causes) refusal all e = subst (λ w. is_among refusals w ≡ true) (same_Some _ _ e) all.0
+first_among refusals ((false, cause) ∷ causes) refusal all e = first_among refusals causes refusal all.1 e
+
+-- one of two numbers
+two_numbers : (n : ℕ) → (11 == n || (9 == n || false)) ≡ true → (11 ≡ n) ⊎ (9 ≡ n)
+two_numbers n h = by_test (11 == n) refl
+  where
+    same : (m n : ℕ) → (m == n) ≡ true → m ≡ n
+    same m n e = grind (arith, nat_tests)
+
+    second : (b : Bool) → (9 == n) ≡ b → (11 == n) ≡ false → (11 ≡ n) ⊎ (9 ≡ n)
+    second true e f = inr (same 9 n e)
+    second false e f = absurd (true≢false (sym h ∙ ap₂ (λ a b. a || (b || false)) f e))
+
+    by_test : (b : Bool) → (11 == n) ≡ b → (11 ≡ n) ⊎ (9 ≡ n)
+    by_test true e = inl (same 11 n e)
+    by_test false e = second (9 == n) refl e
+
+-- want of memory and a failed device call are among the refusals of a call where both are listed
+pub outside_among : (refusals : List Refusal) → is_among refusals why.Memory ≡ true → is_among refusals why.Device ≡ true → (e : ReplicaError) → IsOneOf outside_refusals e → IsOneOf refusals e
+outside_among refusals memory device e h =
+    elim (two_numbers (number (refusal_of e)) h) as (λ _. IsOneOf refusals e) [
+      | inl same ↦ subst (λ n. list_any (λ why. number why == n) refusals ≡ true) same memory
+      | inr same ↦ subst (λ n. list_any (λ why. number why == n) refusals ≡ true) same device
+    ]
+
+-- a refusal that is answered is the one
+pub same_refusal : (e : ReplicaError) (refusal : Refusal) (answered : Option Refusal) → answered ≡ Some (refusal_of e) → answered ≡ Some refusal → refusal_of e ≡ refusal
+same_refusal e refusal answered a b = same_Some _ _ (sym a ∙ b)
+
+-- an edit is refused for what an edit may be refused
+pub edit_among : (standing : Standing) (user : ℕ) (edit : Edit) (refusal : Refusal) → refusal_at standing (Edited user edit) ≡ Some refusal → is_among edit_refusals refusal ≡ true
+edit_among s user (Put path bytes) refusal e = first_among edit_refusals (causes_at s (Edited user (Put path bytes))) refusal (refl, (refl, (refl, (refl, (refl, tt))))) e
+edit_among s user (MakeDir path) refusal e = first_among edit_refusals (causes_at s (Edited user (MakeDir path))) refusal (refl, (refl, (refl, (refl, (refl, tt))))) e
+edit_among s user (Remove path) refusal e = first_among edit_refusals (causes_at s (Edited user (Remove path))) refusal (refl, (refl, (refl, (refl, (refl, tt))))) e

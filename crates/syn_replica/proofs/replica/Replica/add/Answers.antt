@@ -1,0 +1,27 @@
+use Rattle.std.proofs.Common.{◌≡◌, ◌<◌, length, sym, ap, ◌∙◌, subst, inl, inr, Some}
+use Rattle.std.proofs.lemmas.Result.{err_from_is_err_and}
+use Rattle.syn_model.specs.Spelling.{event_spelling}
+use Rattle.syn_history.specs.Events.{event_of}
+use Rattle.syn_replica.specs.Refusals.{outside_refusals, refusal_of}
+use Rattle.syn_replica.specs.Replica.{room_shown, standing_shown}
+use Rattle.syn_replica.proofs.RefusalLemmas.{is_among}
+use Rattle.syn_replica.proofs.StandingLemmas.{refused_at, room_at}
+use Rattle.syn_replica.proofs.replica.Replica.add.Goals as goal
+
+pub returns-in_err-update-clause-cause : goal.returns-in_err-update-clause-cause
+returns-in_err-update-clause-cause g c =
+    let p = err_from_is_err_and c.from_residual-in_err-update.result c.from_residual-in_err-update.ensures.1 in
+    let old = c.args.self.now in
+    rw (p.1, p.2) (elim c.in_err-update.ensures.refused [
+      | inl memory ↦ inl (ap (is_among outside_refusals) memory)
+      | inr cause ↦ inr (refused_at (room_shown old) (standing_shown old) (event_of c.args.event) _ cause)
+    ])
+
+pub returns-in_err-check_room-clause-cause : goal.returns-in_err-check_room-clause-cause
+returns-in_err-check_room-clause-cause g c =
+    let p = err_from_is_err_and c.from_residual-in_err-check_room.result c.from_residual-in_err-check_room.ensures.1 in
+    let old = c.args.self.now in
+    let event = event_of c.args.event in
+    let spelled : c.len.result ≡ length (event_spelling event) = c.len.ensures ∙ (c.in_ok-payload.payload.ok.0 ∙ ap length c.in_ok-payload.ensures.spelling) in
+    let long = subst (λ n. room_shown old < n) spelled c.in_err-check_room.ensures.refused.1 in
+    rw (p.1, p.2) (inr (room_at (room_shown old) (standing_shown old) event c.in_ok-update.ensures.allowed long ∙ sym (ap (λ e. Some (refusal_of e)) c.in_err-check_room.ensures.refused.0)))

@@ -1,0 +1,78 @@
+-- The steps of a side: what they leave, and why they are refused, the first cause first.
+use Rattle.std.specs.Prelude.{◌≡◌, ℕ, ◌+◌, ◌<◌, Bool, true, false, not, ◌||◌, ◌==◌, nat_lt, nat_le, if◌then◌else◌}
+use Rattle.std.specs.Prelude.{List, [], ◌∷◌, ◌++◌, length, take, drop, Option, Some, None}
+use Rattle.std.specs.Option.{option_map_or}
+use Rattle.syn_model.specs.Path.{Bytes, Path}
+use Rattle.syn_model.specs.Tree.{Tree, subtree, replace}
+use Rattle.syn_model.specs.Refusal.{Refusal, JournalFull, OldSession, WrongPair, BelowFloor, Touched, Cause, first_cause}
+use Rattle.syn_model.specs.Event.{Token, Event, Began, Replaced, is_same_token}
+use Rattle.syn_model.specs.Standing.{place_causes, full_causes}
+use Rattle.syn_model.specs.History.{History, tree_of, event_causes, position_causes, is_old_token, is_quiet, last_session, last_token, floor}
+use Rattle.syn_model.specs.Spelling.{event_spelling, spelling}
+use Rattle.syn_disk.specs.Arms.{Arms}
+use Rattle.syn_disk.specs.Calls.{Makes}
+use Rattle.syn_replica.specs.declared.replica.session.TokenStanding.{TokenStanding}
+use Rattle.syn_replica.specs.declared.replica.session.TokenStanding.TheVariants.{Done, Old, Open}
+
+-- the journal has no room for the record of the event
+abbrev pub room_causes : ℕ → Event → List Cause
+room_causes room event = (nat_lt room (length (event_spelling event)), JournalFull) ∷ []
+
+-- why the event is not added
+abbrev pub add_refusal : ℕ → History → Event → Option Refusal
+add_refusal room history event = first_cause (event_causes history event ++ room_causes room event)
+
+-- the session begun last begins again without an event
+abbrev pub begun : History → ℕ → History
+begun history session =
+    if session == last_session history then history else history ++ Began session ∷ []
+
+-- why a session is not begun: the pair is another, or the session is below the last; a session that
+-- was not begun yet needs its event
+abbrev pub begin_refusal : ℕ → ℕ → History → ℕ → ℕ → Option Refusal
+begin_refusal room own history pair session =
+    first_cause ((not (pair == own), WrongPair) ∷ (nat_lt session (last_session history), OldSession)
+    ∷ (if session == last_session history then []
+    else position_causes history ++ room_causes room (Began session)))
+
+-- the token is that of the last replacement
+abbrev pub is_done : History → Token → Bool
+is_done history token =
+    option_map_or (λ last. is_same_token last token) (last_token history) false
+
+-- the path was touched since, or the position does not tell
+abbrev pub since_causes : History → Path → ℕ → List Cause
+since_causes history path since =
+    (nat_lt since (floor history) || nat_lt (length history) since, BelowFloor)
+    ∷ (not (is_quiet history since (length history) path), Touched) ∷ []
+
+-- what is fetched at a time
+abbrev pub longest_piece : ℕ
+longest_piece = 32768
+
+-- the bytes of a subtree's spelling from the offset on, the first of them where there are more
+abbrev pub piece : History → Path → ℕ → Bytes
+piece history path offset =
+    take longest_piece (drop offset (spelling (subtree (tree_of history) path)))
+
+-- a token that is done stays done, and nothing changes
+abbrev pub replaced : History → Token → Path → ℕ → Tree → History
+replaced history token path since new =
+    if is_done history token then history else history ++ Replaced token path since new ∷ []
+
+-- why a replacement under a token that is not done is not made
+abbrev pub replace_refusal : ℕ → History → Token → Path → ℕ → Tree → Option Refusal
+replace_refusal room history token path since new =
+    first_cause ((is_old_token history token, OldSession) ∷ since_causes history path since
+    ++ (place_causes (tree_of history) path ++ (full_causes (replace (tree_of history) path new)
+    ++ (position_causes history ++ room_causes room (Replaced token path since new)))))
+
+-- how a token stands
+abbrev pub how_stands : History → Token → TokenStanding
+how_stands history token =
+    if is_done history token then Done else if is_old_token history token then Old else Open
+
+-- four device calls for a session that was not begun before, and none for one that was
+abbrev pub MakesIfNew : Bool → Arms → Arms → Type 0
+MakesIfNew true old new = new ≡ old
+MakesIfNew false old new = Makes 4 old new
