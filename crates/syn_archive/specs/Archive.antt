@@ -41,7 +41,8 @@ module _ {D : Type 0} {disk : Ghosts D} (archive : Archive D disk) where
   IsHalted = journal.IsHalted archive.journal
 
 -- what it has in memory is the archive, and so is its disk, whatever stop comes
-pub record Stands {D : Type 0} {disk : Ghosts D} (archive : Archive D disk) (kept : model.Archive) : Type 0 where
+pub record Stands {D : Type 0} {disk : Ghosts D} (archive : Archive D disk)
+    (kept : model.Archive) : Type 0 where
   pub remembers : shown archive ≡ kept
   pub value : Value
   pub runs : journal.Stands (journal_of archive) value

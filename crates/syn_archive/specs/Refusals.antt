@@ -1,7 +1,7 @@
 -- Why a call of an archive is refused, as a refusal of the product.
 use Rattle.std.specs.Prelude.{◌≡◌, ◌<◌, ℕ, Result, Ok, Err, Option, Some, None}
 use Rattle.syn_disk.specs.Arms.{Arms}
-use Rattle.syn_disk.specs.Calls.{MakesAtLeast, Breaks, BreaksSometime}
+use Rattle.syn_disk.specs.Calls.{Breaks}
 use Rattle.syn_model.specs.Refusal.{Refusal}
 use Rattle.syn_model.specs.Refusal as why
 use Rattle.syn_tree.specs.declared.error.TreeError.{TreeError}
@@ -9,7 +9,10 @@ use Rattle.syn_tree.specs.declared.error.TreeError.TheVariants as tree
 use Rattle.syn_journal.specs.declared.error.JournalError.{JournalError}
 use Rattle.syn_journal.specs.declared.error.JournalError.TheVariants as journal
 use Rattle.syn_archive.specs.declared.error.ArchiveError.{ArchiveError}
-use Rattle.syn_archive.specs.declared.error.ArchiveError.TheVariants.{NoParent, Root, Full, JournalFull, Device, Halted, Memory, NoImage, Damaged, WrongPair}
+use Rattle.syn_archive.specs.declared.error.ArchiveError.TheVariants.{NoParent, Root, Full}
+use Rattle.syn_archive.specs.declared.error.ArchiveError.TheVariants.{JournalFull, Device, Halted}
+use Rattle.syn_archive.specs.declared.error.ArchiveError.TheVariants.{Memory, NoImage, Damaged}
+use Rattle.syn_archive.specs.declared.error.ArchiveError.TheVariants.{WrongPair}
 
 abbrev pub refusal_of : ArchiveError → Refusal
 refusal_of NoParent = why.NoParent
@@ -51,16 +54,11 @@ abbrev pub CountsFailures : ArchiveError → ℕ → ℕ → Type 0
 CountsFailures Device old new = old < new
 CountsFailures _ old new = new ≡ old
 
--- Where Device is answered, the last of at most so many device calls failed, and none was made where
--- any other refusal is.
+-- Where Device is answered, the last of at most so many device calls failed, and none was made
+-- where any other refusal is.
 abbrev pub MakesIfDevice : ArchiveError → ℕ → Arms → Arms → Type 0
 MakesIfDevice Device most old new = Breaks most old new
 MakesIfDevice _ most old new = new ≡ old
-
--- Where Device is answered, the last device call failed, and none where any other refusal is.
-abbrev pub AfterReads : ℕ → ArchiveError → Arms → Arms → Type 0
-AfterReads least Device old new = BreaksSometime old new
-AfterReads least _ old new = MakesAtLeast least old new
 
 -- the refusals of each call
 abbrev pub IsOfFormat : ArchiveError → Type 0

@@ -1,6 +1,8 @@
 //! An archive over a journal.
-ghost use Rattle.std.specs.Prelude.{◌≡◌, ◌⊎◌, ◌↔◌, ◌+◌, ◌<◌, ◌≤◌, [], ℕ, length, OnOk, IfOk, IfErr, IsErrAnd, MatchResult, Err, Some, true, false, option_map};
-ghost use Rattle.syn_model.specs.Archive.{Archive as Kept_marks, Session, Recorded, RecordedDir, new_archive, after_kept, kept_refusal};
+ghost use Rattle.std.specs.Prelude.{◌≡◌, ◌⊎◌, ◌↔◌, ◌+◌, ◌<◌, ◌≤◌, [], ℕ, length, OnOk, IfOk, IfErr};
+ghost use Rattle.std.specs.Prelude.{IsErrAnd, MatchResult, Err, Some, true, false, option_map};
+ghost use Rattle.syn_model.specs.Archive.{Archive as KeptArchive, Session, Recorded, RecordedDir};
+ghost use Rattle.syn_model.specs.Archive.{new_archive, after_kept, kept_refusal};
 ghost use Rattle.syn_model.specs.Refusal.{Refusal};
 ghost use Rattle.syn_model.specs.Tree.{empty_directory, is_directory, subtree};
 ghost use Rattle.syn_model.specs.Path.{is_root};
@@ -13,7 +15,8 @@ ghost use Rattle.syn_mark.specs.Marks.{or_absent};
 ghost use Rattle.syn_disk.specs.Calls.{Makes};
 ghost use Rattle.syn_disk.specs.Stops.{LeavesOnly};
 ghost use Rattle.syn_archive.specs.Disks.{DiskStands, StandsBeforeOrAfter};
-ghost use Rattle.syn_archive.specs.Refusals.{refusal_of, refusal_in, CountsFailures, MakesIfDevice, IsOfFormat, IsOfSession, IsOfRecord, IsOfCheckpoint};
+ghost use Rattle.syn_archive.specs.Refusals.{refusal_of, refusal_in, CountsFailures, MakesIfDevice};
+ghost use Rattle.syn_archive.specs.Refusals.{IsOfFormat, IsOfSession, IsOfRecord, IsOfCheckpoint};
 
 use crate::error::ArchiveError;
 use std::alloc::Global;
@@ -38,9 +41,12 @@ pub struct Archive<D: Disk> {
 }
 
 impl<D: Disk> Archive<D> {
-    ghost use Rattle.syn_archive.specs.Archive.{pair_of, marks_shown, session_shown, shown, disk_of, journal_of, room_shown, generation_shown, IsHalted, Stands, SameMemory};
+    ghost use Rattle.syn_archive.specs.Archive.{pair_of, marks_shown, session_shown, shown};
+    ghost use Rattle.syn_archive.specs.Archive.{disk_of, journal_of, room_shown, generation_shown};
+    ghost use Rattle.syn_archive.specs.Archive.{IsHalted, Stands, SameMemory};
 
-    /// Formats the disk as an archive of the pair, whose root is an empty directory, with no session.
+    /// Formats the disk as an archive of the pair, whose root is an empty directory, with no
+    /// session.
     ///
     /// Refused 11 where memory is refused, and 9 where a device call fails; the disk comes back. A
     /// stop during the call may leave a disk that opens to what it held before, to the new archive,
@@ -142,15 +148,15 @@ impl<D: Disk> Archive<D> {
     /// fails. After 9 the archive is halted and shows what it had; after any other refusal it is as
     /// it was.
     pub fn next_session(&mut self, alloc: Global) -> Result<u64, ArchiveError>
-        ensures acknowledged { (kept : Kept_marks) → Stands self.old kept
+        ensures acknowledged { (kept : KeptArchive) → Stands self.old kept
             → IfOk result (λ session. (session ≡ kept.last_session + 1)
             × Stands self.new (after_kept kept (Session session))) }
-        ensures any_moment { (kept : Kept_marks) → Stands self.old kept
+        ensures any_moment { (kept : KeptArchive) → Stands self.old kept
             → LeavesOnly D.moment D.left_since (disk_of self.old) (disk_of self.new)
             (StandsBeforeOrAfter (pair_of self.old) kept (Session (kept.last_session + 1))) }
 
         // Each refusal has its cause.
-        ensures refused { (kept : Kept_marks) (why : Refusal) → Stands self.old kept
+        ensures refused { (kept : KeptArchive) (why : Refusal) → Stands self.old kept
             → kept_refusal kept (Session (kept.last_session + 1)) ≡ Some why
             → IsErrAnd result (λ e. refusal_of e ≡ why) }
         ensures no_room { result ≡ Err ArchiveError.JournalFull → room_shown self.old < 9 }
@@ -191,8 +197,8 @@ impl<D: Disk> Archive<D> {
 
     /// Why the marks, or that nothing is there, cannot be recorded at the path; it takes no memory.
     ///
-    /// Refused 6 at the root, 2 where the parent is no directory, and 7 where the archive would pass
-    /// a limit.
+    /// Refused 6 at the root, 2 where the parent is no directory, and 7 where the archive would
+    /// pass a limit.
     pub fn fits(&self, path: &Path, marks: Option<&MarkTree>) -> Result<(), ArchiveError>
         ensures { refusal_in result ≡ kept_refusal (shown self.now)
             (Recorded path.now (or_absent (option_map (λ there. there.now) marks.entry))) }
@@ -212,10 +218,10 @@ impl<D: Disk> Archive<D> {
         path: &Path,
         marks: Option<MarkTree>,
     ) -> Result<(), ArchiveError>
-        ensures acknowledged { (kept : Kept_marks) → Stands self.old kept
+        ensures acknowledged { (kept : KeptArchive) → Stands self.old kept
             → OnOk result (Stands self.new
             (after_kept kept (Recorded path.now (or_absent marks)))) }
-        ensures any_moment { (kept : Kept_marks) → Stands self.old kept
+        ensures any_moment { (kept : KeptArchive) → Stands self.old kept
             → LeavesOnly D.moment D.left_since (disk_of self.old) (disk_of self.new)
             (StandsBeforeOrAfter (pair_of self.old) kept (Recorded path.now (or_absent marks))) }
 
@@ -255,17 +261,17 @@ impl<D: Disk> Archive<D> {
         Ok(())
     }
 
-    /// Records a directory at the path, with what the archive has below it; nothing where a directory
-    /// is recorded there.
+    /// Records a directory at the path, with what the archive has below it; nothing where a
+    /// directory is recorded there.
     ///
     /// Refused 10 while the archive is halted; 6 at the root, 2 where the parent is no directory,
     /// and 7 where the archive would pass a limit; 8 where the record does not fit in the journal,
     /// 11 where memory is refused, and 9 where a device call fails. After 9 the archive is halted
     /// and shows what it had; after any other refusal it is as it was.
     pub fn record_dir(&mut self, alloc: Global, path: &Path) -> Result<(), ArchiveError>
-        ensures acknowledged { (kept : Kept_marks) → Stands self.old kept
+        ensures acknowledged { (kept : KeptArchive) → Stands self.old kept
             → OnOk result (Stands self.new (after_kept kept (RecordedDir path.now))) }
-        ensures any_moment { (kept : Kept_marks) → Stands self.old kept
+        ensures any_moment { (kept : KeptArchive) → Stands self.old kept
             → LeavesOnly D.moment D.left_since (disk_of self.old) (disk_of self.new)
             (StandsBeforeOrAfter (pair_of self.old) kept (RecordedDir path.now)) }
 
@@ -308,9 +314,9 @@ impl<D: Disk> Archive<D> {
     // Records a directory where none is.
     fn record_new_dir(&mut self, alloc: Global, path: &Path) -> Result<(), ArchiveError>
         requires { is_directory (marks_shown self.old) path.now ≡ false }
-        ensures acknowledged { (kept : Kept_marks) → Stands self.old kept
+        ensures acknowledged { (kept : KeptArchive) → Stands self.old kept
             → OnOk result (Stands self.new (after_kept kept (RecordedDir path.now))) }
-        ensures any_moment { (kept : Kept_marks) → Stands self.old kept
+        ensures any_moment { (kept : KeptArchive) → Stands self.old kept
             → LeavesOnly D.moment D.left_since (disk_of self.old) (disk_of self.new)
             (StandsBeforeOrAfter (pair_of self.old) kept (RecordedDir path.now)) }
         ensures refused { (why : Refusal) → ¬ IsHalted self.old
@@ -348,9 +354,9 @@ impl<D: Disk> Archive<D> {
     /// the greatest, 11 where memory is refused, and 9 where a device call fails. After 9 the
     /// archive is halted; it shows the same in each case.
     pub fn checkpoint(&mut self, alloc: Global) -> Result<(), ArchiveError>
-        ensures acknowledged { (kept : Kept_marks) → Stands self.old kept
+        ensures acknowledged { (kept : KeptArchive) → Stands self.old kept
             → OnOk result (Stands self.new kept) }
-        ensures any_moment { (kept : Kept_marks) → Stands self.old kept
+        ensures any_moment { (kept : KeptArchive) → Stands self.old kept
             → LeavesOnly D.moment D.left_since (disk_of self.old) (disk_of self.new)
             (λ bytes. DiskStands (pair_of self.old) bytes kept) }
         ensures memory { SameMemory self.old self.new }
@@ -396,7 +402,7 @@ impl<D: Limit> Archive<D> {
         ensures past { (t : ℕ) → SameOutcomes (D.Disk.left_since (disk_of self.old) t)
             (D.Disk.left_since (disk_of self.new) t) }
         ensures failures { D.Disk.failures (disk_of self.new) ≡ D.Disk.failures (disk_of self.old) }
-        ensures stands { (kept : Kept_marks) → Stands self.old kept → Stands self.new kept }
+        ensures stands { (kept : KeptArchive) → Stands self.old kept → Stands self.new kept }
         ensures memory { SameMemory self.old self.new }
         ensures readings { SameReadings (journal_of self.old) (journal_of self.new) }
     {

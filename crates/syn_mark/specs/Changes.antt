@@ -37,5 +37,6 @@ replace_refusal marks path new = first_cause (record_causes marks path new)
 
 -- a replacement is stored as its fields
 abbrev pub coded_replacement : Coded Replacement
-coded_replacement = code_by (Path × (Tree × ℕ)) (coded× (coded_list (coded_list coded_ℕ)) (coded× coded_tree coded_ℕ))
+coded_replacement = code_by (Path × (Tree × ℕ))
+    (coded× (coded_list (coded_list coded_ℕ)) (coded× coded_tree coded_ℕ))
     (λ c. (c.at, (c.new, c.room))) (λ p. record { at = p.0; new = p.1.0; room = p.1.1 }) (λ _. refl)

@@ -28,7 +28,11 @@ impl Model for MarkChange {
     ghost use Rattle.syn_tree.specs.Change.{taken_from};
     ghost use Rattle.syn_mark.specs.inner.Spaces.{IsSpaced};
 
-    ghost view = { λ c. record { at = c.at; new = taken_from c.at c.added.items; room = vec_capacity c.space } };
+    ghost view = { λ c. record {
+      at = c.at;
+      new = taken_from c.at c.added.items;
+      room = vec_capacity c.space;
+    } };
 
     ghost invariant = { λ c. IsSpaced c.at c.added.items c.space.items };
 }

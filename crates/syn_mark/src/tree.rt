@@ -1,4 +1,5 @@
-ghost use Rattle.std.specs.Prelude.{◌≡◌, ◌≢◌, ◌↔◌, IsTrue, true, length, Some, None, filter, option_map, IfOk, IfErr, IfSome, IfNone};
+ghost use Rattle.std.specs.Prelude.{◌≡◌, ◌≢◌, ◌↔◌, IsTrue, true, length, Some, None, filter};
+ghost use Rattle.std.specs.Prelude.{option_map, IfOk, IfErr, IfSome, IfNone};
 ghost use Rattle.std.specs.FinMap.{entries, get, len};
 ghost use Rattle.syn_model.specs.Path.{root, IsPath};
 ghost use Rattle.syn_model.specs.Tree.{Tree as Pairs, at_root, is_directory, is_present, replace};
@@ -237,8 +238,8 @@ impl MarkTree {
     /// Why the replacement of all that is at and below the path is refused, with no change and no
     /// memory taken.
     ///
-    /// Refused 6 at the root, 2 where the parent is no directory, and 7 where the marks would pass a
-    /// limit.
+    /// Refused 6 at the root, 2 where the parent is no directory, and 7 where the marks would pass
+    /// a limit.
     pub fn check_replace(&self, path: &Path, new: Option<&MarkTree>) -> Result<(), TreeError>
         ensures { refusal_in result ≡ replace_refusal self.now path.now
             (or_absent (option_map (λ marks. marks.now) new.entry)) }

@@ -40,8 +40,8 @@ pub fn write_optional_marks(out: &mut Vec<u8>, marks: Option<&MarkTree>) -> Resu
     }
 }
 
-/// Adds the spelling of the marks, entry by entry in path order. Refused 11 where memory is refused;
-/// a beginning of it may then have been added.
+/// Adds the spelling of the marks, entry by entry in path order. Refused 11 where memory is
+/// refused; a beginning of it may then have been added.
 pub fn write_marks(out: &mut Vec<u8>, marks: &MarkTree) -> Result<(), WireError>
     ensures added { OnOk result (out.new.items ≡ out.old.items ++ mark_spelling marks.now) }
     ensures kept { IsBeginning out.old.items out.new.items }
