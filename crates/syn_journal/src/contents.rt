@@ -134,7 +134,7 @@ fn choose(first: Header, second: Header) -> Result<Half, JournalError>
 fn read_image<D: Disk>(alloc: Global, disk: &mut D, half: Half) -> Result<Vec<u8>, JournalError>
     ensures image { IfOk result
         (λ image. take (4 + length image.items)
-            (drop (start_of half + IMAGE_LENGTH_AT) (D.seen disk.old))
+        (drop (start_of half + IMAGE_LENGTH_AT) (D.seen disk.old))
         ≡ to_be_bytes w32 (length image.items) ++ image.items) }
     ensures fits { IfOk result (λ image. length image.items ≤ longest_image) }
     ensures refusals { IfErr result
@@ -198,7 +198,7 @@ fn read_record<D: Disk>(
         (λ payload. gate + RECORD_OVERHEAD + length payload.items ≤ half_size) }
     ensures payload { IfOk result
         (λ payload. take (RECORD_HEADER + length payload.items)
-            (drop (start_of half + gate) (D.seen disk.old))
+        (drop (start_of half + gate) (D.seen disk.old))
         ≡ record_of payload.items) }
     ensures refusals { IfErr result
         (λ refusal. IsReadRefusal refusal

@@ -210,6 +210,18 @@ impl<D: Disk> Journal<D> {
         self.halted
     }
 
+    /// Halts the journal: each later change is refused `Halted`, until it is reopened. It serves a layer above that
+    /// could not take what a reopening handed out.
+    pub fn halt(&mut self)
+        ensures halted { IsHalted self.new }
+        ensures disk { disk_of self.new ≡ disk_of self.old }
+        ensures half { half_of self.new ≡ half_of self.old }
+        ensures generation { generation_of self.new ≡ generation_of self.old }
+        ensures gate { gate_of self.new ≡ gate_of self.old }
+    {
+        self.halted = true;
+    }
+
     /// Adds a payload. At `Ok` it is durable: from then on each stop leaves it. A record takes 5
     /// bytes more than its payload.
     ///
@@ -339,7 +351,7 @@ fn write_image<D: Disk>(disk: &mut D, body: &[u8]) -> Result<(), DeviceFailed>
     ensures written { (image : List ℕ) → length image ≤ longest_image
         → body.now ≡ body_of_image 1 image
         → OnOk result
-            (IsWhole (D.seen disk.new) First 1 (IMAGE_AT + length image) (image_alone image)) }
+        (IsWhole (D.seen disk.new) First 1 (IMAGE_AT + length image) (image_alone image)) }
     ensures other { OnOk result (is_open (D.seen disk.new) Second ≡ false) }
     ensures durable { OnOk result (Only (D.seen disk.new) (D.may_leave disk.new)) }
     ensures count { CountsFailure result (D.failures disk.old) (D.failures disk.new) }

@@ -84,3 +84,33 @@ stands_for_each one replica value bytes number history runs seen fits gives h d 
         means = subst (λ n. StandsFor n value.image value.payloads history) both.0 stands;
       },
     )
+
+-- what a replica shows of what its disk gives is kept of each history that it stands for
+pub shown_of_each : {D : Type 0} {disk : Ghosts D} (replica : Replica D disk) (value : Value) (bytes : List ℕ) (number : ℕ) (history : History) →
+    journal.Stands (journal_of replica) value → disk.seen (disk_of replica) ≡ bytes → DiskStands number bytes history →
+    (Gives number value.image value.payloads (standing_of history) → (number ≡ pair_of replica) × (standing_of history ≡ standing_shown replica)) →
+    (number ≡ pair_of replica) × Stands replica history
+shown_of_each replica value bytes number history runs seen d one =
+    let same = same_value _ d.value value d.means (ap meaning (sym seen) ∙ runs.means) in
+    let stands = subst (λ v. StandsFor number v.image v.payloads history) same d.stands in
+    let both = one stands.gives in (
+      both.0,
+      record {
+        remembers = record { lawful = stands.lawful; standing = sym both.1 };
+        value = value;
+        runs = runs;
+        means = subst (λ n. StandsFor n value.image value.payloads history) both.0 stands;
+      },
+    )
+
+-- a replica whose journal was read anew stands as it did
+pub stands_as_before : {D : Type 0} {disk : Ghosts D} (old new : Replica D disk) (value : Value) (history : History) → Stands old history → journal.Stands (journal_of new) value → disk.seen (disk_of new) ≡ disk.seen (disk_of old) →
+    pair_of new ≡ pair_of old → standing_shown new ≡ standing_shown old → Stands new history
+stands_as_before old new value history stands runs seen pair standing =
+    let same = same_value _ value stands.value (ap meaning (sym seen) ∙ runs.means) stands.runs.means in
+    record {
+      remembers = record { lawful = stands.remembers.lawful; standing = standing ∙ stands.remembers.standing };
+      value = value;
+      runs = runs;
+      means = subst (λ n. StandsFor n value.image value.payloads history) (sym pair) (subst (λ v. StandsFor (pair_of old) v.image v.payloads history) (sym same) stands.means);
+    }

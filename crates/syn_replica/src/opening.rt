@@ -33,6 +33,9 @@ pub(crate) fn read_replica(
 ) -> Result<(u64, Standing), ReplicaError>
     ensures fits { IfOk result (λ read. read.0 < 2 ^ 64) }
     ensures gives { IfOk result (λ read. Gives read.0 image.now (bytes_of_each payloads.now) read.1) }
+    ensures one { IfOk result (λ read. (pair : ℕ) (standing : model_standing.Standing)
+        → pair < 2 ^ 64 → Gives pair image.now (bytes_of_each payloads.now) standing
+        → (pair ≡ read.0) × (standing ≡ read.1)) }
     ensures wanted { IfOk result (λ read. (asked : ℕ) → wanted ≡ Some asked → asked ≡ read.0) }
     ensures refusals { IfErr result IsOfMeaning }
     ensures damaged { IfErr result (λ e. e ≡ ReplicaError.Damaged

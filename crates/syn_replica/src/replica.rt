@@ -44,6 +44,7 @@ use syn_path::{Name, Path};
 use syn_tree::{Content, Edit, Found, Tree, TreeError};
 use syn_wire::{edit_length, encode_event, encode_image};
 
+mod reopen;
 mod session;
 
 pub use session::{Piece, TokenStanding};

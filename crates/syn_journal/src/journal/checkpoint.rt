@@ -107,7 +107,7 @@ fn replace<D: Disk>(
         → IsNextImage (D.seen disk.old) half generation gate value image body.now
         → OnOk result
         (IsWhole (D.seen disk.new) half (generation + 1) (IMAGE_AT + length image)
-            (image_alone image)
+        (image_alone image)
         × (is_open (D.seen disk.new) (other_half half) ≡ true)) }
     ensures durable { OnOk result (Only (D.seen disk.new) (D.may_leave disk.new)) }
     ensures any_moment { (generation gate : ℕ) (value : Value) (image : List ℕ)

@@ -1,7 +1,8 @@
 use Rattle.std.proofs.Common.{◌≡◌, subst}
 use Rattle.std.proofs.lemmas.Result.{err_from_is_err_and}
 use Rattle.syn_model.specs.Standing.{AllAllowedAt}
-use Rattle.syn_replica.proofs.OpeningLemmas.{same_image}
+use Rattle.syn_replica.specs.inner.Openings.{bytes_of_each}
+use Rattle.syn_replica.proofs.OpeningLemmas.{gives_of, same_image}
 use Rattle.syn_replica.proofs.opening.read_replica.Goals as goal
 
 pub returns-then-is_other-clause-other : goal.returns-then-is_other-clause-other
@@ -27,3 +28,10 @@ returns-in_err-standing-clause-damaged c =
     rw (p.1, p.2) (λ damaged pair standing fits gives.
     let same = same_image c.opening_laws.ensures.one image pair c.in_ok-pair.pair gives.first c.in_ok-pair.first (record { fits = fits; sound = gives.sound; spelled = gives.image_is }) is in
     c.in_err-standing.ensures.damaged damaged gives.events (subst (λ s. AllAllowedAt s gives.events) same gives.allowed) gives.payloads_are)
+
+pub returns-clause-one : goal.returns-clause-one
+returns-clause-one c pair standing fits gives =
+    let is = c.in_ok-pair.ensures.read in
+    let payloads = bytes_of_each c.args.payloads.now in
+    c.opening_laws.ensures.one c.args.image.now payloads pair c.in_ok-pair.pair standing c.in_ok-standing.standing fits is.fits gives
+    (gives_of c.args.image.now payloads c.in_ok-pair.pair c.in_ok-pair.first c.in_ok-standing.standing is c.in_ok-standing.ensures.replays)
