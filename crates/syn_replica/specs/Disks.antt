@@ -1,5 +1,6 @@
 -- What the bytes of a disk stand for.
-use Rattle.std.specs.Prelude.{◌≡◌, ◌≢◌, ◌⊎◌, ◌<◌, ◌^◌, ℕ, List, [], ◌∷◌, ◌++◌, Ok, Err, Option, Some}
+use Rattle.std.specs.Prelude.{◌≡◌, ◌≢◌, ◌⊎◌, ◌<◌, ◌^◌, ℕ, List, [], ◌∷◌, ◌++◌, Ok, Err, Option}
+use Rattle.std.specs.Prelude.{Some}
 use Rattle.syn_journal.specs.Layout.{Value, meaning, no_image}
 use Rattle.syn_journal.specs.declared.error.JournalError.TheVariants as journal
 use Rattle.syn_model.specs.Path.{Bytes}
@@ -8,7 +9,8 @@ use Rattle.syn_model.specs.Standing.{Standing}
 use Rattle.syn_model.specs.History.{History}
 use Rattle.syn_model.specs.Image.{Gives, IsStanding, StandsFor, image_spelling}
 use Rattle.syn_replica.specs.declared.error.ReplicaError.{ReplicaError}
-use Rattle.syn_replica.specs.declared.error.ReplicaError.TheVariants.{Journal, Memory, Damaged, WrongPair}
+use Rattle.syn_replica.specs.declared.error.ReplicaError.TheVariants.{Journal, Memory, Damaged}
+use Rattle.syn_replica.specs.declared.error.ReplicaError.TheVariants.{WrongPair}
 
 -- a replica disk of the pair stands for the history
 pub record DiskStands (pair : ℕ) (bytes : List ℕ) (history : History) : Type 0 where

@@ -1,5 +1,6 @@
 -- Why a call of a replica is refused, as a refusal of the product.
-use Rattle.std.specs.Prelude.{◌≡◌, ℕ, Bool, ◌==◌, true, List, [], ◌∷◌, Option, Some, None, Result, Ok, Err}
+use Rattle.std.specs.Prelude.{◌≡◌, ℕ, Bool, ◌==◌, true, List, [], ◌∷◌, Option, Some, None, Result}
+use Rattle.std.specs.Prelude.{Ok, Err}
 use Rattle.std.specs.List.{list_any}
 use Rattle.syn_disk.specs.Arms.{Arms}
 use Rattle.syn_disk.specs.Calls.{MakesAtLeast}
@@ -10,7 +11,9 @@ use Rattle.syn_history.specs.Refusals.{refusal_of as of_history}
 use Rattle.syn_journal.specs.Refusals.{refusal_of as of_journal}
 use Rattle.syn_journal.specs.Refusals as journal
 use Rattle.syn_replica.specs.declared.error.ReplicaError.{ReplicaError}
-use Rattle.syn_replica.specs.declared.error.ReplicaError.TheVariants.{Tree, History, Journal, Memory, Touched, OldSession, Damaged, WrongPair}
+use Rattle.syn_replica.specs.declared.error.ReplicaError.TheVariants.{Tree, History, Journal}
+use Rattle.syn_replica.specs.declared.error.ReplicaError.TheVariants.{Memory, Touched, OldSession}
+use Rattle.syn_replica.specs.declared.error.ReplicaError.TheVariants.{Damaged, WrongPair}
 
 abbrev pub refusal_of : ReplicaError → Refusal
 refusal_of (Tree error) = of_tree error
@@ -32,8 +35,8 @@ abbrev pub CountsFailures : ReplicaError → ℕ → ℕ → Type 0
 CountsFailures (Journal error) old new = journal.CountsFailures error old new
 CountsFailures _ old new = new ≡ old
 
--- Where Device is answered, the last of at most so many device calls failed, and none was made where
--- any other refusal is.
+-- Where Device is answered, the last of at most so many device calls failed, and none was made
+-- where any other refusal is.
 abbrev pub MakesIfDevice : ReplicaError → ℕ → Arms → Arms → Type 0
 MakesIfDevice (Journal error) most old new = journal.MakesIfDevice error most old new
 MakesIfDevice _ most old new = new ≡ old

@@ -1,13 +1,16 @@
 -- The steps of a side: what they leave, and why they are refused, the first cause first.
-use Rattle.std.specs.Prelude.{◌≡◌, ℕ, ◌+◌, ◌<◌, Bool, true, false, not, ◌||◌, ◌==◌, nat_lt, nat_le, if◌then◌else◌}
+use Rattle.std.specs.Prelude.{◌≡◌, ℕ, ◌+◌, ◌<◌, Bool, true, false, not, ◌||◌, ◌==◌, nat_lt, nat_le}
+use Rattle.std.specs.Prelude.{if◌then◌else◌}
 use Rattle.std.specs.Prelude.{List, [], ◌∷◌, ◌++◌, length, take, drop, Option, Some, None}
 use Rattle.std.specs.Option.{option_map_or}
 use Rattle.syn_model.specs.Path.{Bytes, Path}
 use Rattle.syn_model.specs.Tree.{Tree, subtree, replace}
-use Rattle.syn_model.specs.Refusal.{Refusal, JournalFull, OldSession, WrongPair, BelowFloor, Touched, Cause, first_cause}
+use Rattle.syn_model.specs.Refusal.{Refusal, JournalFull, OldSession, WrongPair, BelowFloor}
+use Rattle.syn_model.specs.Refusal.{Touched, Cause, first_cause}
 use Rattle.syn_model.specs.Event.{Token, Event, Began, Replaced, is_same_token}
 use Rattle.syn_model.specs.Standing.{place_causes, full_causes}
-use Rattle.syn_model.specs.History.{History, tree_of, event_causes, position_causes, is_old_token, is_quiet, last_session, last_token, floor}
+use Rattle.syn_model.specs.History.{History, tree_of, event_causes, position_causes, is_old_token}
+use Rattle.syn_model.specs.History.{is_quiet, last_session, last_token, floor}
 use Rattle.syn_model.specs.Spelling.{event_spelling, spelling}
 use Rattle.syn_disk.specs.Arms.{Arms}
 use Rattle.syn_disk.specs.Calls.{Makes}
@@ -31,7 +34,8 @@ begun history session =
 -- was not begun yet needs its event
 abbrev pub begin_refusal : ℕ → ℕ → History → ℕ → ℕ → Option Refusal
 begin_refusal room own history pair session =
-    first_cause ((not (pair == own), WrongPair) ∷ (nat_lt session (last_session history), OldSession)
+    first_cause
+    ((not (pair == own), WrongPair) ∷ (nat_lt session (last_session history), OldSession)
     ∷ (if session == last_session history then []
     else position_causes history ++ room_causes room (Began session)))
 

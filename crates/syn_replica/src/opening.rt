@@ -32,7 +32,8 @@ pub(crate) fn read_replica(
     payloads: &[Vec<u8>],
 ) -> Result<(u64, Standing), ReplicaError>
     ensures fits { IfOk result (λ read. read.0 < 2 ^ 64) }
-    ensures gives { IfOk result (λ read. Gives read.0 image.now (bytes_of_each payloads.now) read.1) }
+    ensures gives { IfOk result
+        (λ read. Gives read.0 image.now (bytes_of_each payloads.now) read.1) }
     ensures one { IfOk result (λ read. (pair : ℕ) (standing : model_standing.Standing)
         → pair < 2 ^ 64 → Gives pair image.now (bytes_of_each payloads.now) standing
         → (pair ≡ read.0) × (standing ≡ read.1)) }
@@ -89,7 +90,8 @@ fn read_image(alloc: Global, image: &[u8]) -> Result<(u64, Standing), ReplicaErr
 ///
 /// Refused 19 where one is not, and 11 where memory is refused.
 fn replayed(alloc: Global, first: Standing, payloads: &[Vec<u8>]) -> Result<Standing, ReplicaError>
-    ensures replays { IfOk result (λ standing. Replays first (bytes_of_each payloads.now) standing) }
+    ensures replays { IfOk result
+        (λ standing. Replays first (bytes_of_each payloads.now) standing) }
     ensures refusals { IfErr result IsOfPayload }
     ensures damaged { IfErr result (λ e. e ≡ ReplicaError.Damaged → (events : List model.Event)
         → AllAllowedAt first events → bytes_of_each payloads.now ≢ map event_spelling events) }

@@ -1,6 +1,8 @@
 //! A replica over a journal.
-ghost use Rattle.std.specs.Prelude.{◌≡◌, ◌≢◌, ◌⊎◌, ◌↔◌, ◌≤◌, ◌+◌, ◌^◌, ◌<◌, ◌++◌, ◌∷◌, [], ℕ, length, OnOk};
-ghost use Rattle.std.specs.Prelude.{IfOk, IfErr, IsErrAnd, MatchResult, Err, Some, None, true, false};
+ghost use Rattle.std.specs.Prelude.{◌≡◌, ◌≢◌, ◌⊎◌, ◌↔◌, ◌≤◌, ◌+◌, ◌^◌, ◌<◌, ◌++◌, ◌∷◌, [], ℕ};
+ghost use Rattle.std.specs.Prelude.{length, OnOk};
+ghost use Rattle.std.specs.Prelude.{IfOk, IfErr, IsErrAnd, MatchResult, Err, Some, None, true};
+ghost use Rattle.std.specs.Prelude.{false};
 ghost use Rattle.std.specs.FinMap.{get};
 ghost use Rattle.syn_model.specs.Tree.{is_directory};
 ghost use Rattle.syn_model.specs.Event as model;
@@ -18,7 +20,8 @@ ghost use Rattle.syn_disk.specs.Arms.{is_stopped};
 ghost use Rattle.syn_disk.specs.Calls.{Makes, MakesAtLeast};
 ghost use Rattle.syn_disk.specs.Disk.{SameOutcomes};
 ghost use Rattle.syn_disk.specs.Stops.{LeavesOnly, Untouched};
-ghost use Rattle.syn_replica.specs.Refusals.{refusal_of, IsOneOf, format_refusals, reading_refusals};
+ghost use Rattle.syn_replica.specs.Refusals.{refusal_of, IsOneOf, format_refusals};
+ghost use Rattle.syn_replica.specs.Refusals.{reading_refusals};
 ghost use Rattle.syn_replica.specs.Refusals.{edit_refusals, outside_refusals, hiding_refusals};
 ghost use Rattle.syn_replica.specs.Refusals.{checkpoint_refusals};
 ghost use Rattle.syn_replica.specs.Refusals.{CountsFailures, MakesIfDevice, AfterReads};
@@ -49,8 +52,8 @@ mod session;
 
 pub use session::{Piece, TokenStanding};
 
-/// A replica of a file tree: a history of edits and of what sessions do, which outlives stops of its
-/// machine.
+/// A replica of a file tree: a history of edits and of what sessions do, which outlives stops of
+/// its machine.
 #[derive(Drop)]
 pub struct Replica<D: Disk> {
     journal: Journal<D>,
@@ -59,7 +62,8 @@ pub struct Replica<D: Disk> {
 }
 
 impl<D: Disk> Replica<D> {
-    ghost use Rattle.syn_replica.specs.Replica.{pair_of, standing_shown, tree_shown, position_shown};
+    ghost use Rattle.syn_replica.specs.Replica.{pair_of, standing_shown, tree_shown};
+    ghost use Rattle.syn_replica.specs.Replica.{position_shown};
     ghost use Rattle.syn_replica.specs.Replica.{disk_of, journal_of, room_shown, generation_shown};
     ghost use Rattle.syn_replica.specs.Replica.{IsHalted, Remembers, Stands, SameMemory};
 
@@ -102,8 +106,8 @@ impl<D: Disk> Replica<D> {
     /// Opens what the disk holds.
     ///
     /// Refused 9 where a device call fails, 18 where the disk holds no image, 19 where it means
-    /// nothing that a replica holds, 20 where it is of another pair than the one given, and 11 where
-    /// memory is refused; the disk comes back. Nothing is written.
+    /// nothing that a replica holds, 20 where it is of another pair than the one given, and 11
+    /// where memory is refused; the disk comes back. Nothing is written.
     pub fn open(alloc: Global, disk: D, pair: Option<u64>) -> Result<Replica<D>, (ReplicaError, D)>
         // It shows what the disk gives, and stands for each history that the disk stands for.
         ensures given { IfOk result (λ replica.
@@ -239,10 +243,11 @@ impl<D: Disk> Replica<D> {
 
     /// The names of the directory in byte order, with true for a directory.
     ///
-    /// Refused 10 while the replica is halted, 5 where no directory is there, and 11 where memory is
-    /// refused.
+    /// Refused 10 while the replica is halted, 5 where no directory is there, and 11 where memory
+    /// is refused.
     pub fn list(&self, alloc: Global, path: &Path) -> Result<Vec<(Name, bool)>, ReplicaError>
-        ensures names { IfOk result (λ names. names.items ≡ listing (tree_shown self.now) path.now) }
+        ensures names { IfOk result
+            (λ names. names.items ≡ listing (tree_shown self.now) path.now) }
         ensures absent { (result ≡ Err (ReplicaError.Tree TreeError.Absent))
             ↔ (¬ IsHalted self.now × (is_directory (tree_shown self.now) path.now ≡ false)) }
         ensures halted { (result ≡ Err (ReplicaError.Journal JournalError.Halted))
@@ -261,9 +266,9 @@ impl<D: Disk> Replica<D> {
     /// directory, 3 where a file would take the place of a directory, 4 where a directory would be
     /// made where something is, 5 where nothing is there to remove, 7 where the result would pass a
     /// limit; 8 where the record does not fit in the journal, 11 where memory is refused, and 9
-    /// where a device call fails. After 9 the replica is halted and remembers what it had; after any
-    /// other refusal it is as it was. Whenever the machine stops, the disk has the events before the
-    /// call, or those and this one.
+    /// where a device call fails. After 9 the replica is halted and remembers what it had; after
+    /// any other refusal it is as it was. Whenever the machine stops, the disk has the events
+    /// before the call, or those and this one.
     pub fn edit(&mut self, alloc: Global, user: u32, edit: Edit) -> Result<u64, ReplicaError>
         ensures acknowledged { (history : History) → Stands self.old history
             → IfOk result (λ position. (position ≡ length history + 1)
@@ -286,7 +291,8 @@ impl<D: Disk> Replica<D> {
         ensures halts { IfErr result (λ e. refusal_of e ≡ Device → IsHalted self.new) }
         ensures failures { MatchResult result
             (λ _. D.failures (disk_of self.new) ≡ D.failures (disk_of self.old))
-            (λ e. CountsFailures e (D.failures (disk_of self.old)) (D.failures (disk_of self.new))) }
+            (λ e. CountsFailures e (D.failures (disk_of self.old))
+            (D.failures (disk_of self.new))) }
 
         // Four device calls where it succeeds. After Device the last that was made failed.
         ensures calls { MatchResult result
@@ -338,12 +344,14 @@ impl<D: Disk> Replica<D> {
             ⊎ (add_refusal_at (room_shown self.old) (standing_shown self.old) (event_of event)
             ≡ Some (refusal_of e))) }
         ensures allowed { OnOk result
-            (add_refusal_at (room_shown self.old) (standing_shown self.old) (event_of event) ≡ None) }
+            (add_refusal_at (room_shown self.old) (standing_shown self.old) (event_of event)
+            ≡ None) }
         ensures running { IfErr result (λ e. refusal_of e ≢ Halted) }
         ensures halts { IfErr result (λ e. refusal_of e ≡ Device → IsHalted self.new) }
         ensures failures { MatchResult result
             (λ _. D.failures (disk_of self.new) ≡ D.failures (disk_of self.old))
-            (λ e. CountsFailures e (D.failures (disk_of self.old)) (D.failures (disk_of self.new))) }
+            (λ e. CountsFailures e (D.failures (disk_of self.old))
+            (D.failures (disk_of self.new))) }
         ensures calls { MatchResult result
             (λ _. Makes 4 (D.arms (disk_of self.old)) (D.arms (disk_of self.new)))
             (λ e. MakesIfDevice e 4 (D.arms (disk_of self.old)) (D.arms (disk_of self.new))) }
@@ -375,7 +383,8 @@ impl<D: Disk> Replica<D> {
         ensures halts { IfErr result (λ e. refusal_of e ≡ Device → IsHalted self.new) }
         ensures failures { MatchResult result
             (λ _. D.failures (disk_of self.new) ≡ D.failures (disk_of self.old))
-            (λ e. CountsFailures e (D.failures (disk_of self.old)) (D.failures (disk_of self.new))) }
+            (λ e. CountsFailures e (D.failures (disk_of self.old))
+            (D.failures (disk_of self.new))) }
         ensures calls { MatchResult result
             (λ _. Makes 4 (D.arms (disk_of self.old)) (D.arms (disk_of self.new)))
             (λ e. MakesIfDevice e 4 (D.arms (disk_of self.old)) (D.arms (disk_of self.new))) }
@@ -404,7 +413,8 @@ impl<D: Disk> Replica<D> {
             (λ bytes. DiskStands (pair_of self.old) bytes history) }
         ensures image { OnOk result (journal.Stands (journal_of self.new)
             (image_alone (image_spelling (pair_of self.old) (standing_shown self.old)))) }
-        ensures generation { OnOk result (generation_shown self.new ≡ generation_shown self.old + 1) }
+        ensures generation { OnOk result
+            (generation_shown self.new ≡ generation_shown self.old + 1) }
         ensures full { IfErr result (λ e. refusal_of e ≡ Full
             → (generation_shown self.old + 1 ≡ 2 ^ 64) ⊎ (longest_image
             < length (image_spelling (pair_of self.old) (standing_shown self.old)))) }
@@ -414,7 +424,8 @@ impl<D: Disk> Replica<D> {
         ensures halts { IfErr result (λ e. refusal_of e ≡ Device → IsHalted self.new) }
         ensures failures { MatchResult result
             (λ _. D.failures (disk_of self.new) ≡ D.failures (disk_of self.old))
-            (λ e. CountsFailures e (D.failures (disk_of self.old)) (D.failures (disk_of self.new))) }
+            (λ e. CountsFailures e (D.failures (disk_of self.old))
+            (D.failures (disk_of self.new))) }
 
         // Six device calls where it succeeds. After Device the last that was made failed.
         ensures calls { MatchResult result

@@ -224,7 +224,8 @@ impl Standing {
 
     /// Adds the event.
     ///
-    /// Refused where the event is not allowed, and 11 where memory is refused; then nothing changes.
+    /// Refused where the event is not allowed, and 11 where memory is refused; then nothing
+    /// changes.
     pub(crate) fn add(&mut self, alloc: Global, event: Event) -> Result<(), ReplicaError>
         ensures done { OnOk result (self.new ≡ standing_after self.old (event_of event)) }
         ensures same { OnErr result (self.new ≡ self.old) }

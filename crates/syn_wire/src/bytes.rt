@@ -40,8 +40,8 @@ pub fn read_file(alloc: Global, bytes: &[u8]) -> Result<Option<(Vec<u8>, &[u8])>
     Ok(Some((file.to_vec(alloc)?, rest)))
 }
 
-/// Adds the bytes behind their length of four bytes. Refused 11 where memory is refused; a beginning
-/// of it may then have been added.
+/// Adds the bytes behind their length of four bytes. Refused 11 where memory is refused; a
+/// beginning of it may then have been added.
 pub fn write_file(out: &mut Vec<u8>, file: &[u8]) -> Result<(), WireError>
     requires { length file.now < 2 ^ 32 }
     ensures added { OnOk result (out.new.items ≡ out.old.items ++ file_spelling file.now) }

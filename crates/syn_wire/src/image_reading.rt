@@ -22,8 +22,9 @@ use std::alloc::Global;
 use syn_history::{Parts, Token, Touch, Trail};
 
 /// The image that the bytes begin with, and the rest; none where no front of them is the spelling
-/// of what an image may hold: another version, a tree beyond its limits, a floor above the position,
-/// touches that do not rise from the floor on and before the position, or a token of no session.
+/// of what an image may hold: another version, a tree beyond its limits, a floor above the
+/// position, touches that do not rise from the floor on and before the position, or a token of no
+/// session.
 ///
 /// Refused 11 where memory is refused.
 pub fn decode_image(alloc: Global, bytes: &[u8]) -> Result<Option<(Image, &[u8])>, WireError>

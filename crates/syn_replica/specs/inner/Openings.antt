@@ -3,7 +3,8 @@ use Rattle.std.specs.Prelude.{◌≡◌, ◌≢◌, ◌<◌, ◌^◌, ℕ, List,
 use Rattle.std.specs.Global.{Vec}
 use Rattle.syn_model.specs.Path.{Bytes}
 use Rattle.syn_model.specs.Event.{Event}
-use Rattle.syn_model.specs.Standing.{Standing, standing_after, refusal_at, IsAllowedAt, AllAllowedAt}
+use Rattle.syn_model.specs.Standing.{Standing, standing_after, refusal_at, IsAllowedAt}
+use Rattle.syn_model.specs.Standing.{AllAllowedAt}
 use Rattle.syn_model.specs.Spelling.{event_spelling}
 use Rattle.syn_model.specs.Image.{Gives, IsStanding, image_spelling}
 use Rattle.syn_wire.specs.Events.{IsShort, IsSpelledEvent}

@@ -42,7 +42,8 @@ pub record IsOf (standing : Standing) (event : Event) (update : Update) : Type 0
 
 -- why the event is not added there, with so much room in the journal
 abbrev pub add_refusal_at : ℕ → Standing → Event → Option Refusal
-add_refusal_at room standing event = first_cause (causes_at standing event ++ room_causes room event)
+add_refusal_at room standing event =
+    first_cause (causes_at standing event ++ room_causes room event)
 
 -- a standing is stored as its tree and its past
 abbrev pub coded_standing : Coded Standing

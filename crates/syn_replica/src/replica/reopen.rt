@@ -19,8 +19,8 @@ impl<D: Disk> Replica<D> {
 
     /// Opens the replica's own disk again. A replica that was halted runs again.
     ///
-    /// Refused as `open` is. After 9 the replica is halted; after any other refusal it is as it was,
-    /// halted or not. Nothing is written.
+    /// Refused as `open` is. After 9 the replica is halted; after any other refusal it is as it
+    /// was, halted or not. Nothing is written.
     pub fn reopen(&mut self, alloc: Global) -> Result<(), ReplicaError>
         // It shows what the disk gives, and stands for each history that the disk stands for.
         ensures given { OnOk result
@@ -45,7 +45,8 @@ impl<D: Disk> Replica<D> {
             (disk_of self.old) (disk_of self.new) }
         ensures failures { MatchResult result
             (λ _. D.failures (disk_of self.new) ≡ D.failures (disk_of self.old))
-            (λ e. CountsFailures e (D.failures (disk_of self.old)) (D.failures (disk_of self.new))) }
+            (λ e. CountsFailures e (D.failures (disk_of self.old))
+            (D.failures (disk_of self.new))) }
 
         // A sync and then reads, whose number is not fixed; after Device the last of them failed.
         ensures calls { MatchResult result

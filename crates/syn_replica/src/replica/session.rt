@@ -63,10 +63,10 @@ impl<D: Disk> Replica<D> {
     /// Begins the session, and answers the position. The session that was begun last begins again
     /// without an event.
     ///
-    /// Refused 10 while the replica is halted; 20 where the pair is another, 14 where the session is
-    /// below the last; 7 where the position is the greatest, 8 where the record does not fit in the
-    /// journal, 11 where memory is refused, and 9 where a device call fails. After 9 the replica is
-    /// halted and remembers what it had; after any other refusal it is as it was.
+    /// Refused 10 while the replica is halted; 20 where the pair is another, 14 where the session
+    /// is below the last; 7 where the position is the greatest, 8 where the record does not fit in
+    /// the journal, 11 where memory is refused, and 9 where a device call fails. After 9 the
+    /// replica is halted and remembers what it had; after any other refusal it is as it was.
     pub fn begin(&mut self, alloc: Global, pair: u64, session: u64) -> Result<u64, ReplicaError>
         ensures acknowledged { (history : History) → Stands self.old history
             → IfOk result (λ position. (position ≡ length (begun history session))
@@ -94,7 +94,8 @@ impl<D: Disk> Replica<D> {
         ensures halts { IfErr result (λ e. refusal_of e ≡ Device → IsHalted self.new) }
         ensures failures { MatchResult result
             (λ _. D.failures (disk_of self.new) ≡ D.failures (disk_of self.old))
-            (λ e. CountsFailures e (D.failures (disk_of self.old)) (D.failures (disk_of self.new))) }
+            (λ e. CountsFailures e (D.failures (disk_of self.old))
+            (D.failures (disk_of self.new))) }
 
         // Four device calls where a session is begun, and none where it was begun before. After
         // Device the last that was made failed.
@@ -183,12 +184,12 @@ impl<D: Disk> Replica<D> {
     /// the token, and answers the position. What is checked and what is written are one call: no
     /// event comes between. A replacement under the last token again changes nothing.
     ///
-    /// Refused 10 while the replica is halted; 14 where the session of the token is not the last, or
-    /// the token is below the last; 15 where `since` is below the floor or above the position, 13
-    /// where an event touched the path since; 6 for the root, 2 where the parent is not a directory,
-    /// 7 where the result would pass a limit; 8 where the record does not fit in the journal, 11
-    /// where memory is refused, and 9 where a device call fails. After 9 the replica is halted and
-    /// remembers what it had; after any other refusal it is as it was.
+    /// Refused 10 while the replica is halted; 14 where the session of the token is not the last,
+    /// or the token is below the last; 15 where `since` is below the floor or above the position,
+    /// 13 where an event touched the path since; 6 for the root, 2 where the parent is not a
+    /// directory, 7 where the result would pass a limit; 8 where the record does not fit in the
+    /// journal, 11 where memory is refused, and 9 where a device call fails. After 9 the replica is
+    /// halted and remembers what it had; after any other refusal it is as it was.
     pub fn replace(
         &mut self,
         alloc: Global,
@@ -226,7 +227,8 @@ impl<D: Disk> Replica<D> {
         ensures halts { IfErr result (λ e. refusal_of e ≡ Device → IsHalted self.new) }
         ensures failures { MatchResult result
             (λ _. D.failures (disk_of self.new) ≡ D.failures (disk_of self.old))
-            (λ e. CountsFailures e (D.failures (disk_of self.old)) (D.failures (disk_of self.new))) }
+            (λ e. CountsFailures e (D.failures (disk_of self.old))
+            (D.failures (disk_of self.new))) }
 
         // Four device calls where the event is written, and none where the token is done. After
         // Device the last that was made failed.
