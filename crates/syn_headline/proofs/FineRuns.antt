@@ -15,6 +15,8 @@ use Rattle.syn_headline.proofs.LoggedRuns.{runs_log}
 use Rattle.syn_headline.proofs.ArchiveLemmas.{runs_hold_archive, runs_leave_pair}
 use Rattle.syn_headline.proofs.SessionRuns.{runs_synchronize, runs_reconcile, runs_report_conflicts, runs_count_items}
 use Rattle.syn_headline.proofs.FetchedLemmas.{runs_mark_carried}
+use Rattle.syn_headline.proofs.CarriedLemmas.{runs_mark_held}
+use Rattle.syn_headline.specs.Headline.{HeldIsMarked}
 
 pub start_view : (old : World) → IsStart old → picture.IsStart (view old)
 start_view old s = record {
@@ -66,3 +68,6 @@ count_items old new steps s g = runs_count_items (view old) (view new) (start_vi
 
 pub mark_carried : OfEachRun CarriedIsMarked
 mark_carried old new steps s g = runs_mark_carried (view old) (view new) (start_view old s) (follows old new steps s g).0
+
+pub mark_held : OfEachRun HeldIsMarked
+mark_held old new steps s g = runs_mark_held (view old) (view new) (start_view old s) (follows old new steps s g).0

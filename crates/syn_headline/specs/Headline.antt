@@ -1,10 +1,10 @@
 -- What is proved of whole runs.
-use Rattle.std.specs.Prelude.{ℕ, ◌≡◌, ◌≢◌, ◌≤◌, ◌↔◌, ◌+◌, drop, false, List, [], ◌∷◌, ◌++◌, length}
+use Rattle.std.specs.Prelude.{ℕ, ◌≡◌, ◌≢◌, ◌≤◌, ◌↔◌, ◌+◌, drop, true, false, List, [], ◌∷◌, ◌++◌, length}
 use Rattle.std.specs.Prelude.{take, None, All, AllPairs, Contains, IfSome}
-use Rattle.syn_model.specs.Path.{Bytes, Path}
-use Rattle.syn_model.specs.Tree.{Tree, IsTree, subtree}
+use Rattle.syn_model.specs.Path.{Bytes, Path, parent}
+use Rattle.syn_model.specs.Tree.{Tree, IsTree, is_directory, subtree}
 use Rattle.syn_model.specs.Event.{Token, is_same_token, Event, Edited, Began, Replaced, touches}
-use Rattle.syn_model.specs.History.{History, IsHistory, tree_of, last_session}
+use Rattle.syn_model.specs.History.{History, IsHistory, tree_at, tree_of, last_session}
 use Rattle.syn_model.specs.Mark.{mark, AreApart}
 use Rattle.syn_model.specs.Archive.{Archive, new_archive, Session, BothHeld}
 use Rattle.std.specs.List.{count_by}
@@ -174,6 +174,20 @@ CarriedIsMarked before world =
     history_of found side ≡ first ++ Replaced token path since new ∷ rest →
     All (λ event. touches event path ≡ false) rest →
     IsFetched world.sent (other side) (history_of found (other side)) token.session path →
+    IsQuietSession before world.acknowledged world.reports report found left →
+    subtree left.archive.marks path ≡ mark new
+
+-- It is marked too where the source had it at a position, in a directory, and nothing touched it
+-- there since: so also what an earlier run carried, of whose messages nothing is left
+abbrev pub HeldIsMarked : Stores → World → Type 0
+HeldIsMarked before world =
+    (side : Which) (first rest : History) (token : Token) (path : Path) (since fetched : ℕ)
+    (new : Tree) (report : Report) (found left : Stores) →
+    let source = history_of found (other side) in
+    history_of found side ≡ first ++ Replaced token path since new ∷ rest →
+    All (λ event. touches event path ≡ false) rest →
+    is_directory (tree_at source fetched) (parent path) ≡ true →
+    new ≡ subtree (tree_at source fetched) path → UntouchedSince fetched source path →
     IsQuietSession before world.acknowledged world.reports report found left →
     subtree left.archive.marks path ≡ mark new
 

@@ -8,7 +8,7 @@ ghost use Rattle.syn_headline.specs.Headline.{EachReplacementIsLegal, EachTokenO
 ghost use Rattle.syn_headline.specs.Headline.{EachEntryWasHeld, LeavesPair, LogsPlans, Owes};
 ghost use Rattle.syn_headline.specs.Headline.{CompleteSessionsSynchronize};
 ghost use Rattle.syn_headline.specs.Headline.{CompleteSessionsReconcile, ReportsItsConflicts};
-ghost use Rattle.syn_headline.specs.Headline.{CountsItsItems, CarriedIsMarked};
+ghost use Rattle.syn_headline.specs.Headline.{CountsItsItems, CarriedIsMarked, HeldIsMarked};
 
 /// A step of a side leaves its history or adds one allowed event. It answers a fetch only where
 /// nothing touched the path since its position, and a repeat as done or as old.
@@ -42,4 +42,5 @@ pub fn session_laws()
     ensures conflicts { OfEachRun ReportsItsConflicts }
     ensures counts { OfEachRun CountsItsItems }
     ensures marked { OfEachRun CarriedIsMarked }
+    ensures held { OfEachRun HeldIsMarked }
 {}

@@ -1,4 +1,4 @@
-use Rattle.syn_headline.proofs.FineRuns.{synchronize, reconcile, report_conflicts, count_items, mark_carried}
+use Rattle.syn_headline.proofs.FineRuns.{synchronize, reconcile, report_conflicts, count_items, mark_carried, mark_held}
 use Rattle.syn_headline.proofs.session_laws.Goals as goal
 
 pub returns-clause-synchronized : goal.returns-clause-synchronized
@@ -15,3 +15,6 @@ returns-clause-counts c = count_items
 
 pub returns-clause-marked : goal.returns-clause-marked
 returns-clause-marked c = mark_carried
+
+pub returns-clause-held : goal.returns-clause-held
+returns-clause-held c = mark_held
