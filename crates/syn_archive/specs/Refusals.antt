@@ -60,6 +60,15 @@ abbrev pub MakesIfDevice : ArchiveError → ℕ → Arms → Arms → Type 0
 MakesIfDevice Device most old new = Breaks most old new
 MakesIfDevice _ most old new = new ≡ old
 
+-- what the marks are no cause of: a journal that is full or halted, want of memory, and a device
+-- call that failed
+abbrev pub IsOutside : ArchiveError → Type 0
+IsOutside JournalFull = Unit {0}
+IsOutside Device = Unit {0}
+IsOutside Halted = Unit {0}
+IsOutside Memory = Unit {0}
+IsOutside _ = ⊥
+
 -- the refusals of each call
 abbrev pub IsOfFormat : ArchiveError → Type 0
 IsOfFormat Device = Unit {0}

@@ -17,6 +17,7 @@ ghost use Rattle.syn_disk.specs.Stops.{LeavesOnly};
 ghost use Rattle.syn_archive.specs.Disks.{DiskStands, StandsBeforeOrAfter};
 ghost use Rattle.syn_archive.specs.Refusals.{refusal_of, refusal_in, CountsFailures, MakesIfDevice};
 ghost use Rattle.syn_archive.specs.Refusals.{IsOfFormat, IsOfSession, IsOfRecord, IsOfCheckpoint};
+ghost use Rattle.syn_archive.specs.Refusals.{IsOutside};
 
 use crate::error::ArchiveError;
 use std::alloc::Global;
@@ -155,10 +156,13 @@ impl<D: Disk> Archive<D> {
             → LeavesOnly D.moment D.left_since (disk_of self.old) (disk_of self.new)
             (StandsBeforeOrAfter (pair_of self.old) kept (Session (kept.last_session + 1))) }
 
-        // Each refusal has its cause.
+        // Each refusal has its cause, and each cause its refusal.
         ensures refused { (kept : KeptArchive) (why : Refusal) → Stands self.old kept
             → kept_refusal kept (Session (kept.last_session + 1)) ≡ Some why
             → IsErrAnd result (λ e. refusal_of e ≡ why) }
+        ensures cause { IfErr result (λ e. IsOutside e
+            ⊎ (kept_refusal (shown self.old) (Session (session_shown self.old + 1))
+            ≡ Some (refusal_of e))) }
         ensures no_room { result ≡ Err ArchiveError.JournalFull → room_shown self.old < 9 }
         ensures refusals { IfErr result IsOfSession }
         ensures halted { (result ≡ Err ArchiveError.Halted) ↔ IsHalted self.old }
@@ -225,10 +229,13 @@ impl<D: Disk> Archive<D> {
             → LeavesOnly D.moment D.left_since (disk_of self.old) (disk_of self.new)
             (StandsBeforeOrAfter (pair_of self.old) kept (Recorded path.now (or_absent marks))) }
 
-        // Each refusal has its cause.
+        // Each refusal has its cause, and each cause its refusal.
         ensures refused { (why : Refusal) → ¬ IsHalted self.old
             → kept_refusal (shown self.old) (Recorded path.now (or_absent marks)) ≡ Some why
             → IsErrAnd result (λ e. refusal_of e ≡ why) }
+        ensures cause { IfErr result (λ e. IsOutside e
+            ⊎ (kept_refusal (shown self.old) (Recorded path.now (or_absent marks))
+            ≡ Some (refusal_of e))) }
         ensures no_room { result ≡ Err ArchiveError.JournalFull
             → room_shown self.old < length (kept_spelling (Recorded path.now (or_absent marks))) }
         ensures refusals { IfErr result IsOfRecord }
