@@ -1,5 +1,6 @@
 //! An archive over a journal.
-ghost use Rattle.std.specs.Prelude.{◌≡◌, ◌⊎◌, ◌↔◌, ◌+◌, ◌<◌, ◌≤◌, [], ℕ, length, OnOk, IfOk, IfErr};
+ghost use Rattle.std.specs.Prelude.{◌≡◌, ◌⊎◌, ◌↔◌, ◌+◌, ◌<◌, ◌≤◌, ◌^◌, [], ℕ, length, OnOk, IfOk};
+ghost use Rattle.std.specs.Prelude.{IfErr};
 ghost use Rattle.std.specs.Prelude.{IsErrAnd, MatchResult, Err, Some, true, false, option_map};
 ghost use Rattle.syn_model.specs.Archive.{Archive as KeptArchive, Session, Recorded, RecordedDir};
 ghost use Rattle.syn_model.specs.Archive.{new_archive, after_kept, kept_refusal};
@@ -18,6 +19,8 @@ ghost use Rattle.syn_archive.specs.Disks.{DiskStands, StandsBeforeOrAfter};
 ghost use Rattle.syn_archive.specs.Refusals.{refusal_of, refusal_in, CountsFailures, MakesIfDevice};
 ghost use Rattle.syn_archive.specs.Refusals.{IsOfFormat, IsOfSession, IsOfRecord, IsOfCheckpoint};
 ghost use Rattle.syn_archive.specs.Refusals.{IsOutside};
+ghost use Rattle.syn_journal.specs.Journal as journal;
+ghost use Rattle.syn_journal.specs.Layout.{image_alone, longest_image};
 
 use crate::error::ArchiveError;
 use std::alloc::Global;
@@ -287,6 +290,12 @@ impl<D: Disk> Archive<D> {
             → self.new ≡ self.old }
         ensures root { is_root path.now ≡ true → IfErr result
             (λ e. (e ≡ ArchiveError.Root) ⊎ IsHalted self.old) }
+        ensures done { IfErr result (λ _. IsHalted self.old ⊎ (is_root path.now ≡ true)
+            ⊎ (is_directory (marks_shown self.old) path.now ≡ false)) }
+        ensures no_room { result ≡ Err ArchiveError.JournalFull
+            → room_shown self.old < length (kept_spelling (RecordedDir path.now)) }
+        ensures cause { IfErr result (λ e. IsOutside e
+            ⊎ (kept_refusal (shown self.old) (RecordedDir path.now) ≡ Some (refusal_of e))) }
         ensures refused { (why : Refusal) → ¬ IsHalted self.old
             → kept_refusal (shown self.old) (RecordedDir path.now) ≡ Some why
             → IsErrAnd result (λ e. (e ≡ ArchiveError.Memory) ⊎ (refusal_of e ≡ why)) }
@@ -326,6 +335,10 @@ impl<D: Disk> Archive<D> {
         ensures any_moment { (kept : KeptArchive) → Stands self.old kept
             → LeavesOnly D.moment D.left_since (disk_of self.old) (disk_of self.new)
             (StandsBeforeOrAfter (pair_of self.old) kept (RecordedDir path.now)) }
+        ensures no_room { result ≡ Err ArchiveError.JournalFull
+            → room_shown self.old < length (kept_spelling (RecordedDir path.now)) }
+        ensures cause { IfErr result (λ e. IsOutside e
+            ⊎ (kept_refusal (shown self.old) (RecordedDir path.now) ≡ Some (refusal_of e))) }
         ensures refused { (why : Refusal) → ¬ IsHalted self.old
             → kept_refusal (shown self.old) (RecordedDir path.now) ≡ Some why
             → IsErrAnd result (λ e. (e ≡ ArchiveError.Memory) ⊎ (refusal_of e ≡ why)) }
@@ -366,6 +379,11 @@ impl<D: Disk> Archive<D> {
         ensures any_moment { (kept : KeptArchive) → Stands self.old kept
             → LeavesOnly D.moment D.left_since (disk_of self.old) (disk_of self.new)
             (λ bytes. DiskStands (pair_of self.old) bytes kept) }
+        ensures image { OnOk result (journal.Stands (journal_of self.new)
+            (image_alone (archive_spelling (pair_of self.old) (shown self.old)))) }
+        ensures full { result ≡ Err ArchiveError.Full
+            → (generation_shown self.old + 1 ≡ 2 ^ 64) ⊎ (longest_image
+            < length (archive_spelling (pair_of self.old) (shown self.old))) }
         ensures memory { SameMemory self.old self.new }
         ensures refusals { IfErr result IsOfCheckpoint }
         ensures halted { (result ≡ Err ArchiveError.Halted) ↔ IsHalted self.old }
