@@ -58,7 +58,8 @@ pub enum TokenStanding {
 
 impl<D: Disk> Replica<D> {
     ghost use Rattle.syn_replica.specs.Replica.{pair_of, standing_shown, disk_of, journal_of};
-    ghost use Rattle.syn_replica.specs.Replica.{room_shown, IsHalted, Stands, SameMemory};
+    ghost use Rattle.syn_replica.specs.Replica.{room_shown, IsHalted, Remembers, Stands};
+    ghost use Rattle.syn_replica.specs.Replica.{SameMemory};
 
     /// Begins the session, and answers the position. The session that was begun last begins again
     /// without an event.
@@ -167,7 +168,7 @@ impl<D: Disk> Replica<D> {
 
     /// How the token stands.
     pub fn standing(&self, token: Token) -> TokenStanding
-        ensures { (history : History) → Stands self.now history
+        ensures { (history : History) → Remembers self.now history
             → result ≡ how_stands history (token_of token) }
     {
         let done = self.standing.is_done(&token);
@@ -212,7 +213,7 @@ impl<D: Disk> Replica<D> {
             → (result ≡ Ok (length history)) × (self.new ≡ self.old) }
 
         // Each refusal has its cause, and each cause its refusal: the first of them is answered, or
-        // Memory in the place of it.
+        // in the place of it that memory is refused or a device call failed.
         ensures cause { (history : History) → Stands self.old history
             → IfErr result (λ e. IsOneOf outside_refusals e
             ⊎ (replace_refusal (room_shown self.old) history (token_of token) path.now since
