@@ -107,7 +107,7 @@ impl<D: Disk> Journal<D> {
             (λ journal. D.failures (disk_of journal) ≡ D.failures disk)
             (λ refused. CountsFailures refused.0 (D.failures disk) (D.failures refused.1)) }
 
-        // Seven device calls where it succeeds. After Device the last that was made failed.
+        // Seven device calls if it succeeds. After Device none before the last was to be refused.
         ensures calls { MatchResult result
             (λ journal. Makes 7 (D.arms disk) (D.arms (disk_of journal)))
             (λ refused. MakesIfDevice refused.0 7 (D.arms disk) (D.arms refused.1)) }
@@ -249,7 +249,7 @@ impl<D: Disk> Journal<D> {
             (λ refusal. CountsFailures refusal (D.failures (disk_of self.old))
             (D.failures (disk_of self.new))) }
 
-        // Four device calls where it succeeds. After Device the last that was made failed.
+        // Four device calls where it succeeds. After Device none before the last was to be refused.
         ensures calls { MatchResult result
             (λ _. Makes 4 (D.arms (disk_of self.old)) (D.arms (disk_of self.new)))
             (λ refusal. MakesIfDevice refusal 4 (D.arms (disk_of self.old))

@@ -82,7 +82,7 @@ impl<D: Disk> Replica<D> {
             (λ replica. D.failures (disk_of replica) ≡ D.failures disk)
             (λ refused. CountsFailures refused.0 (D.failures disk) (D.failures refused.1)) }
 
-        // Seven device calls where it succeeds. After Device the last that was made failed.
+        // Seven device calls if it succeeds. After Device none before the last was to be refused.
         ensures calls { MatchResult result
             (λ replica. Makes 7 (D.arms disk) (D.arms (disk_of replica)))
             (λ refused. MakesIfDevice refused.0 7 (D.arms disk) (D.arms refused.1)) }
@@ -294,7 +294,7 @@ impl<D: Disk> Replica<D> {
             (λ e. CountsFailures e (D.failures (disk_of self.old))
             (D.failures (disk_of self.new))) }
 
-        // Four device calls where it succeeds. After Device the last that was made failed.
+        // Four device calls where it succeeds. After Device none before the last was to be refused.
         ensures calls { MatchResult result
             (λ _. Makes 4 (D.arms (disk_of self.old)) (D.arms (disk_of self.new)))
             (λ e. MakesIfDevice e 4 (D.arms (disk_of self.old)) (D.arms (disk_of self.new))) }
@@ -427,7 +427,7 @@ impl<D: Disk> Replica<D> {
             (λ e. CountsFailures e (D.failures (disk_of self.old))
             (D.failures (disk_of self.new))) }
 
-        // Six device calls where it succeeds. After Device the last that was made failed.
+        // Six device calls where it succeeds. After Device none before the last was to be refused.
         ensures calls { MatchResult result
             (λ _. Makes 6 (D.arms (disk_of self.old)) (D.arms (disk_of self.new)))
             (λ e. MakesIfDevice e 6 (D.arms (disk_of self.old)) (D.arms (disk_of self.new))) }

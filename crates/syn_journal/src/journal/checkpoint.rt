@@ -53,7 +53,7 @@ impl<D: Disk> Journal<D> {
             (λ refusal. CountsFailures refusal (D.failures (disk_of self.old))
             (D.failures (disk_of self.new))) }
 
-        // Six device calls where it succeeds. After Device the last that was made failed.
+        // Six device calls where it succeeds. After Device none before the last was to be refused.
         ensures calls { MatchResult result
             (λ _. Makes 6 (D.arms (disk_of self.old)) (D.arms (disk_of self.new)))
             (λ refusal. MakesIfDevice refusal 6 (D.arms (disk_of self.old))
