@@ -1,31 +1,33 @@
 -- Marks with a part replaced.
-use Rattle.std.proofs.Common.{◌≡◌, ◌≤◌, ◌<◌, ◌+◌, ◌-◌, ℕ, Bool, true, false, ◌&&◌, nat_le, [], ◌∷◌, ◌++◌, length, length-append, refl, sym, ap, ap₂, ◌∙◌, subst, Option, Some, None, is_some, inr, true≢false, if◌then◌else◌, not, arith}
+use Rattle.std.proofs.Common.{◌≡◌, ◌≤◌, ◌<◌, ◌+◌, ℕ, Bool, true, false, ◌&&◌, nat_le, [], ◌∷◌, ◌++◌, length, length-append, refl, sym, ap, ap₂, ◌∙◌, subst, Option, Some, None, is_some, inr, true≢false, if◌then◌else◌, not, arith, nat_lt, append-nil}
 use Rattle.std.specs.List.{list_all}
 use Rattle.std.specs.Option.{option_map_or}
 use Rattle.std.specs.FinMap.{entries, get, get-empty, len, len-entries}
-use Rattle.std.proofs.lemmas.Bool.{and_parts}
+use Rattle.std.proofs.lemmas.Bool.{and_parts, leb-true}
 use Rattle.std.proofs.lemmas.Bool.Decides.{nat_tests}
 use Rattle.std.proofs.lemmas.List.Folds.{list_all-append}
 use Rattle.std.proofs.lemmas.Option.{none-some}
 use Rattle.syn_model.specs.Path.{Path, path_cmp, root, is_root, parent, strip_prefix, IsPath}
-use Rattle.syn_model.specs.Tree.{Tree, Content, Contents, Pair, File, IsPart, replace, subtree, absent, is_present, is_directory}
+use Rattle.syn_model.specs.Tree.{Tree, Pair, File, IsPart, replace, subtree, absent, is_present, is_directory, Directory, empty_directory}
 use Rattle.syn_model.specs.Mark.{IsMarks}
+use Rattle.syn_model.specs.Laws.{ReplacedIsThere, SubtreeFitsPaths}
 use Rattle.syn_model.specs.Limits.{fits_archive, fits_path, fits_paths}
 use Rattle.syn_model.specs.Refusal.{Refusal, Root, NoParent, Full, first_cause}
 use Rattle.syn_model.specs.Standing.{place_causes}
 use Rattle.syn_model.proofs.TreeLemmas.{same_tree, get-subtree, get-replace, replace-is_part}
-use Rattle.syn_tree.specs.Pairs.{Pairs, AreRising, within, before, behind, under}
+use Rattle.syn_tree.specs.Pairs.{Pairs, within, before, behind, under}
 use Rattle.syn_tree.specs.Change.{taken_from}
-use Rattle.syn_tree.proofs.RisingLemmas.{rising_of, replaced, three_parts, counted}
-use Rattle.syn_tree.proofs.TreeLemmas.{entries-replace, entries-absent, rising-entries, part-under}
+use Rattle.syn_tree.proofs.RisingLemmas.{replaced, three_parts, counted}
+use Rattle.syn_tree.proofs.TreeLemmas.{entries-replace, entries-absent, rising-entries, part-under, entries-one}
 use Rattle.syn_tree.proofs.PartLemmas.{length_replaced, length_under}
+use Rattle.syn_tree.proofs.CheckLemmas.{path_fits}
 use Rattle.syn_tree.proofs.FitLemmas.{is_dir}
 use Rattle.syn_tree.proofs.ParentLemmas.{place_free}
 use Rattle.syn_tree.proofs.ChangeLemmas.{nothing_part}
-use Rattle.syn_mark.specs.Marks.{marks_with, AreMarks, or_absent}
-use Rattle.syn_mark.specs.Changes.{Replacement, ArePlaced, IsPreparedFor, after_change, replace_refusal}
+use Rattle.syn_mark.specs.Marks.{AreMarks}
+use Rattle.syn_mark.specs.Changes.{Replacement, ArePlaced, IsPreparedFor, PutPartFits, after_change, replace_refusal}
 use Rattle.syn_mark.specs.inner.Spaces.{IsSpaced}
-use Rattle.syn_mark.proofs.MarkLemmas.{entries_of, are_marks, marks_same}
+use Rattle.syn_mark.proofs.MarkLemmas.{are_marks}
 
 abbrev pub paths_fit : Pairs → Bool
 paths_fit es = list_all (λ pair. fits_path pair.0) es
@@ -200,3 +202,26 @@ fits_some t u at ds us count paths e f fits counts l p = p ∙ sym (fits_count t
 pub fits_not : (t u : Tree) (at : Path) (ds us : Pairs) (count : ℕ) → ds ≡ entries t → us ≡ entries u → fits_archive t ≡ true → count + length (within at ds) ≡ length ds + length us →
     4096 < count → nat_le count 4096 ≡ fits_archive (replace t at u)
 fits_not t u at ds us count e f fits counts l = many count l ∙ sym (fits_count t u at ds us count e f fits counts ∙ ap (λ b. b && paths_fit (under at us)) (many count l))
+
+-- what is put keeps the limits by itself
+pub put_part_fits : ReplacedIsThere → SubtreeFitsPaths → PutPartFits
+put_part_fits there below t at u fits =
+    let both = and_parts (nat_le (len (replace t at u)) 4096) (fits_paths (replace t at u)) fits in
+    let es = entries t in
+    let us = entries u in
+    let number = leb-true (len (replace t at u)) 4096 both.0 in
+    let parts = length-append (before at es) (under at us ++ behind at es) in
+    let rest = length-append (under at us) (behind at es) in
+    let small : len u ≤ 4096 = omega (arith, number, parts, rest, len-entries (replace t at u), ap length (entries-replace t at u), length_under at us, len-entries u) in
+    let paths : fits_paths u ≡ true = ap fits_paths (sym (there t at u)) ∙ below (replace t at u) at both.1 in
+    ap₂ (λ a b. a && b) (few (len u) small) paths
+
+-- a directory alone has one node, at the path itself
+next : (n : ℕ) → nat_lt n 4096 ≡ nat_le (n + 1) 4096
+next n = grind (arith, nat_tests)
+
+pub fits_dir : (t : Tree) (at : Path) (ds : Pairs) (count : ℕ) → ds ≡ entries t → fits_archive t ≡ true → count + length (within at ds) ≡ length ds → IsPath at → nat_lt count 4096 ≡ fits_archive (replace t at empty_directory)
+fits_dir t at ds count e fits counts lawful =
+    let us : Pairs = (root, Directory) ∷ [] in
+    let one : paths_fit (under at us) ≡ true = ap (λ p. fits_path p && true) (append-nil at) ∙ ap (λ b. b && true) (path_fits at lawful) in
+    next count ∙ sym (fits_count t empty_directory at ds us (count + 1) e (sym (entries-one Directory)) fits (omega (arith, counts)) ∙ (ap (λ b. nat_le (count + 1) 4096 && b) one ∙ and_true (nat_le (count + 1) 4096)))

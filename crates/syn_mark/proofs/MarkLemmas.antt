@@ -1,30 +1,31 @@
 -- Lists of marks, and the trees that they are.
-use Rattle.std.proofs.Common.{◌≡◌, ◌≤◌, ◌<◌, ◌+◌, ℕ, zero, suc, Bool, true, false, cond, ◌&&◌, nat_le, List, [], ◌∷◌, ◌++◌, map, length, refl, sym, ap, ap₂, ◌∙◌, subst, Option, Some, None, option_map, is_some, IsSome, All, Less, true≢false, append-nil, arith}
+use Rattle.std.proofs.Common.{◌≡◌, ◌≤◌, ◌<◌, ℕ, zero, suc, true, false, cond, ◌&&◌, nat_le, List, [], ◌∷◌, ◌++◌, length, refl, sym, ap, ap₂, ◌∙◌, subst, Option, Some, None, option_map, is_some, IsSome, append-nil, arith}
 use Rattle.std.specs.Int.{w32, to_be_bytes, byte_at, bytes_high_first}
 use Rattle.std.specs.Ordering.{eq_by_cmp}
-use Rattle.std.specs.List.{list_all, AllByRecursion}
-use Rattle.std.specs.FinMap.{find, entries, get, get-entries, len, len-entries, from_sorted, get-from_entries}
+use Rattle.std.specs.List.{list_all, cons_option}
+use Rattle.std.specs.Prelude.{filter_map, option_and_then}
+use Rattle.std.specs.FinMap.{find, entries, get, len, len-entries, from_sorted, get-from_entries}
 use Rattle.std.proofs.lemmas.Bool.{and_parts}
 use Rattle.std.proofs.lemmas.Bool.Decides.{nat_tests}
 use Rattle.std.proofs.lemmas.List.Elements.{All-nil, All-cons, All-append}
 use Rattle.std.proofs.lemmas.Option.{none-some, same_Some}
 use Rattle.sha2.specs.Sha256.{sha256, digest_bytes}
-use Rattle.syn_model.specs.Path.{Path, path_cmp, root}
-use Rattle.syn_model.specs.Tree.{Tree, Content, Contents, Pair, Directory, File, HasParents, IsPart, at_root, is_present, subtree}
+use Rattle.syn_model.specs.Path.{Name, Path, path_cmp, root, strip_prefix}
+use Rattle.syn_model.specs.Tree.{Tree, Content, Contents, Pair, Directory, File, IsPart, at_root, is_present, subtree}
 use Rattle.syn_model.specs.Event.{AreBytes}
 use Rattle.syn_model.specs.Mark.{mark, mark_of, IsMarks}
-use Rattle.syn_model.specs.Limits.{fits_archive, fits_path, fits_paths}
+use Rattle.syn_model.specs.Limits.{children, only_name, fits_archive, fits_path, fits_paths}
 use Rattle.syn_model.proofs.PathLemmas.{path_total}
 use Rattle.syn_model.proofs.TreeLemmas.{same_tree, get-subtree}
 use Rattle.syn_model.proofs.HistoryLemmas.{get-at_root, at_root-is_part, only}
 use Rattle.syn_model.proofs.MarkLemmas.{get-mark, mark-digests}
 use Rattle.syn_model.proofs.SubtreeLemmas.{subtree-is_part, subtree-fits_paths}
-use Rattle.syn_tree.specs.Pairs.{Pairs, AreRising, within, behind, before, under}
+use Rattle.syn_tree.specs.Pairs.{Pairs, AreRising}
 use Rattle.syn_tree.proofs.RisingLemmas.{Rising, After, rising_of, are_rising, counted}
 use Rattle.syn_tree.proofs.TreeLemmas.{entries-rising, get-rising, rising-entries, from_entries-same, entries-one, entries-subtree, within-taken}
 use Rattle.syn_tree.proofs.PartLemmas.{length_under}
 use Rattle.syn_mark.specs.Marks.{marks_with, AreMarks, IsDigestOrDirectory}
-use Rattle.syn_mark.specs.inner.Placings.{marked}
+use Rattle.syn_mark.specs.inner.Placings.{marked, marks_of}
 
 -- ---- a list of marks
 
@@ -178,3 +179,21 @@ mark_one c = same_tree (at_root (mark_of c)) (mark (at_root c)) (λ q. get-at_ro
 
 pub part_present : (t : Tree) (at : Path) (c : Content) → get t at ≡ Some c → is_present (subtree t at) root ≡ true
 part_present t at c here = ap is_some (get-subtree t at root ∙ (ap (get t) (append-nil at) ∙ here))
+
+-- the marks in a directory are those of what is in it
+marks_in : (path : Path) (es : Pairs) →
+    marks_of (filter_map {Y = Name × Content} (λ pair. option_map (λ name. (name, pair.1)) (option_and_then only_name (strip_prefix path pair.0))) es)
+    ≡ filter_map {Y = Name × Content} (λ pair. option_map (λ name. (name, pair.1)) (option_and_then only_name (strip_prefix path pair.0))) (marked es)
+marks_in path [] = refl
+marks_in path (e ∷ es) = one (option_and_then only_name (strip_prefix path e.0)) (marks_in path es)
+  where
+    one : (o : Option Name) → marks_of (filter_map {Y = Name × Content} (λ pair. option_map (λ name. (name, pair.1)) (option_and_then only_name (strip_prefix path pair.0))) es)
+        ≡ filter_map {Y = Name × Content} (λ pair. option_map (λ name. (name, pair.1)) (option_and_then only_name (strip_prefix path pair.0))) (marked es) →
+        marks_of (cons_option (option_map (λ name. (name, e.1)) o) (filter_map {Y = Name × Content} (λ pair. option_map (λ name. (name, pair.1)) (option_and_then only_name (strip_prefix path pair.0))) es))
+        ≡ cons_option (option_map (λ name. (name, mark_of e.1)) o) (filter_map {Y = Name × Content} (λ pair. option_map (λ name. (name, pair.1)) (option_and_then only_name (strip_prefix path pair.0))) (marked es))
+    one None rest = rest
+    one (Some n) rest = ap (λ xs. (n, mark_of e.1) ∷ xs) rest
+
+pub children-mark : (t : Tree) (path : Path) → marks_of (children t path) ≡ children (mark t) path
+children-mark t path =
+    marks_in path (entries t) ∙ ap (λ es. filter_map {Y = Name × Content} (λ pair. option_map (λ name. (name, pair.1)) (option_and_then only_name (strip_prefix path pair.0))) es) (sym (entries-mark t))

@@ -1,21 +1,20 @@
 -- Entries that were looked at one by one are marks, and marks pass.
-use Rattle.std.proofs.Common.{◌≡◌, ◌≤◌, ◌<◌, ℕ, Bool, true, false, ◌&&◌, nat_le, [], ◌∷◌, ◌++◌, ◌-◌, ◌==◌, suc, length, take, drop, slice_index_or, refl, sym, ap, ap₂, ◌∙◌, subst, Some, None, is_some, IsSome, Less, true≢false, arith}
-use Rattle.std.specs.List.{list_all, AllByRecursion}
+use Rattle.std.proofs.Common.{◌≡◌, ◌≤◌, ◌<◌, ℕ, true, false, ◌&&◌, nat_le, [], ◌∷◌, ◌++◌, ◌-◌, ◌==◌, suc, length, take, drop, slice_index_or, refl, sym, ap, ap₂, ◌∙◌, subst, Some, is_some, IsSome, Less, true≢false, arith}
+use Rattle.std.specs.List.{list_all}
 use Rattle.std.specs.FinMap.{find, get, len, len-entries}
 use Rattle.std.proofs.Math.Seq.{take-length}
 use Rattle.std.proofs.lemmas.Bool.{and_parts}
 use Rattle.std.proofs.lemmas.Bool.Decides.{nat_tests}
-use Rattle.std.proofs.lemmas.Option.{none-some, same_Some}
-use Rattle.syn_model.specs.Path.{Name, Path, path_cmp, root, is_root, parent}
-use Rattle.syn_model.specs.Tree.{Content, Contents, Pair, Directory, File, is_directory_content, IsTree}
-use Rattle.syn_model.specs.Mark.{IsMarks}
-use Rattle.syn_model.specs.Limits.{fits_archive, fits_path, fits_paths}
+use Rattle.std.proofs.lemmas.Option.{same_Some}
+use Rattle.syn_model.specs.Path.{Path, path_cmp, root, is_root, parent}
+use Rattle.syn_model.specs.Tree.{Content, Pair, Directory, File, is_directory_content, IsTree}
+use Rattle.syn_model.specs.Limits.{fits_path, fits_paths}
 use Rattle.syn_tree.specs.Contents.{IsLawful}
 use Rattle.syn_tree.specs.Pairs.{Pairs, rooted, AreRising}
 use Rattle.syn_tree.specs.Entries.{IsLawfulPair}
-use Rattle.syn_tree.proofs.RisingLemmas.{Rising, rising_of, each-map}
+use Rattle.syn_tree.proofs.RisingLemmas.{rising_of, each-map}
 use Rattle.syn_tree.proofs.CountLemmas.{no_root, child_is, child_of_parent}
-use Rattle.syn_tree.proofs.FitLemmas.{all_of, each_of, each-both, is_dir}
+use Rattle.syn_tree.proofs.FitLemmas.{all_of, each_of, each-both}
 use Rattle.syn_tree.proofs.TreeLemmas.{get-with, entries-with}
 use Rattle.syn_tree.proofs.CheckLemmas.{path_fits}
 use Rattle.syn_tree.proofs.LawfulLemmas.{each-find, each_found, below_root, closed_by, lawful_tree}

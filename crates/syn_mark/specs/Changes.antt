@@ -1,5 +1,5 @@
 -- A change of marks that was prepared: a place, what will stand there, and the room for it.
-use Rattle.std.specs.Prelude.{◌≡◌, ◌≤◌, ◌+◌, ℕ, true, false, refl, length, Option}
+use Rattle.std.specs.Prelude.{◌≡◌, ◌≤◌, ◌+◌, ℕ, true, false, refl, Option}
 use Rattle.std.specs.Coded.{Coded, code_by, coded×, coded_ℕ, coded_list}
 use Rattle.std.specs.FinMap.{entries, len}
 use Rattle.syn_model.specs.Path.{Path, IsPath, is_root, parent}
@@ -34,6 +34,11 @@ after_change marks change = replace marks change.at change.new
 -- why marks refuse a replacement
 abbrev pub replace_refusal : Tree → Path → Tree → Option Refusal
 replace_refusal marks path new = first_cause (record_causes marks path new)
+
+-- what may be put somewhere within the limits is within them by itself
+abbrev pub PutPartFits : Type 0
+PutPartFits = (marks : Tree) (path : Path) (new : Tree)
+    → fits_archive (replace marks path new) ≡ true → fits_archive new ≡ true
 
 -- a replacement is stored as its fields
 abbrev pub coded_replacement : Coded Replacement

@@ -1,8 +1,8 @@
 -- Marks as the model has them: contents whose files hold digests.
-use Rattle.std.specs.Prelude.{◌≡◌, true, length, Option, Some, None}
+use Rattle.std.specs.Prelude.{◌≡◌, true, List, length, map, Option, Some, None}
 use Rattle.std.specs.List.{AllByRecursion}
 use Rattle.std.specs.FinMap.{from_sorted}
-use Rattle.syn_model.specs.Path.{root, path_cmp, IsPath}
+use Rattle.syn_model.specs.Path.{Name, root, path_cmp, IsPath}
 use Rattle.syn_model.specs.Tree.{Tree, Pair, Directory, File, contents_of, absent, is_present}
 use Rattle.syn_model.specs.Tree as model
 use Rattle.syn_model.specs.Event.{AreBytes}
@@ -15,6 +15,10 @@ use Rattle.syn_mark.specs.declared.mark.Mark.TheVariants as mark
 abbrev pub content_of : Mark → model.Content
 content_of (mark.File digest) = File (contents_of digest)
 content_of mark.Dir = Directory
+
+-- names with marks, as the model has them
+abbrev pub contents_in : List (Name × Mark) → List (Name × model.Content)
+contents_in listed = map (λ entry. (entry.0, content_of entry.1)) listed
 
 -- nothing where there are no marks
 abbrev pub or_absent : Option Tree → Tree

@@ -4,6 +4,8 @@
 
 mod change;
 mod lawful;
+mod laws;
+mod listing;
 mod mark;
 mod marking;
 mod placing;
@@ -11,6 +13,8 @@ mod same;
 mod tree;
 
 pub use change::MarkChange;
+pub use laws::replacement_laws;
+pub use listing::list_marks;
 pub use mark::Mark;
 pub use marking::mark_of;
 pub use tree::{MarkEntry, MarkTree};

@@ -6,11 +6,12 @@ ghost use Rattle.syn_tree.specs.Nodes.{node_tree};
 ghost use Rattle.syn_mark.specs.Marks.{content_of};
 ghost use Rattle.syn_mark.specs.inner.Placings.{marked};
 
+use crate::listing::mark_at;
 use crate::mark::Mark;
 use crate::tree::{MOST_NODES, MarkEntry, MarkTree};
 use std::alloc::Global;
 use syn_path::Path;
-use syn_tree::{Entries, Entry, Found, Node, TreeError};
+use syn_tree::{Entries, Entry, Node, TreeError};
 
 /// The marks of a file, or of a directory with all below it.
 ///
@@ -59,9 +60,6 @@ fn marked(alloc: Global, entry: &Entry) -> Result<MarkEntry, TreeError>
     ensures ok { IfOk result (λ made. made ≡ (entry.now.0, mark_of entry.now.1)) }
     ensures memory { IfErr result (λ e. e ≡ TreeError.Memory) }
 {
-    let mark = match entry.content() {
-        Found::File(bytes) => Mark::of_file(bytes),
-        Found::Dir => Mark::Dir,
-    };
+    let mark = mark_at(entry);
     Ok(MarkEntry::new(entry.path().copy(alloc)?, mark))
 }

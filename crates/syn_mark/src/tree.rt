@@ -3,7 +3,7 @@ ghost use Rattle.std.specs.Prelude.{option_map, IfOk, IfErr, IfSome, IfNone};
 ghost use Rattle.std.specs.FinMap.{entries, get, len};
 ghost use Rattle.syn_model.specs.Path.{root, IsPath};
 ghost use Rattle.syn_model.specs.Tree.{Tree as Pairs, at_root, is_directory, is_present, replace};
-ghost use Rattle.syn_model.specs.Tree.{subtree};
+ghost use Rattle.syn_model.specs.Tree.{empty_directory, subtree};
 ghost use Rattle.syn_model.specs.Mark.{IsMarks};
 ghost use Rattle.syn_model.specs.Limits.{children, fits_archive};
 ghost use Rattle.syn_tree.specs.Pairs.{is_below};
@@ -250,6 +250,30 @@ impl MarkTree {
         } else {
             Err(TreeError::Full)
         }
+    }
+
+    /// Why no empty directory may be put in the place of all that is at and below the path, with no
+    /// memory taken.
+    ///
+    /// Refused 6 at the root, 2 where the parent is no directory, and 7 where the marks would pass
+    /// a limit.
+    pub fn check_dir(&self, path: &Path) -> Result<(), TreeError>
+        ensures { refusal_in result ≡ replace_refusal self.now path.now empty_directory }
+    {
+        self.check_place(path)?;
+        if self.fits_dir(path) {
+            Ok(())
+        } else {
+            Err(TreeError::Full)
+        }
+    }
+
+    /// Whether the limits are kept where an empty directory takes the place of what is at the path.
+    fn fits_dir(&self, path: &Path) -> bool
+        ensures { result ≡ fits_archive (replace self.now path.now empty_directory) }
+    {
+        let others = self.list.len() - part_at(&self.list, path.names()).len();
+        others < MOST_NODES
     }
 
     /// The replacement of all that is at and below the path, ready to be made, with all memory for

@@ -8,7 +8,7 @@ use Rattle.syn_model.specs.Tree.{Pair, is_directory_content}
 use Rattle.syn_model.specs.Limits.{only_name}
 use Rattle.syn_model.proofs.PathLemmas.{path_itself, same_path, strip_prefix-is}
 use Rattle.syn_tree.specs.Pairs.{Pairs, rooted, is_within, is_below, within}
-use Rattle.syn_tree.specs.Lists.{child_names, below_off, stripped}
+use Rattle.syn_tree.specs.Lists.{child_contents, below_off, stripped}
 use Rattle.syn_tree.proofs.OrderLemmas.{not_before, first_of_all, under_prefix}
 use Rattle.syn_tree.proofs.RisingLemmas.{Rising, Each, each-map, each-filter, filter-keeps, rising-filter}
 use Rattle.syn_tree.proofs.FitLemmas.{each-both}
@@ -94,10 +94,10 @@ no_rest : (o : Option Path) → is_some o ≡ false → o ≡ None
 no_rest None h = refl
 no_rest (Some r) h = absurd (true≢false h)
 
-pub names-within : (at : Path) (es : Pairs) → child_names at (within at es) ≡ child_names at es
-names-within at es =
-    mapped-within (λ pair. option_map (λ name. (name, is_directory_content (Some pair.1))) (option_and_then only_name (strip_prefix at pair.0))) at
-    (λ e out. ap (λ o. option_map (λ name. (name, is_directory_content (Some e.1))) (option_and_then only_name o)) (no_rest (strip_prefix at e.0) out)) es
+pub contents-within : (at : Path) (es : Pairs) → child_contents at (within at es) ≡ child_contents at es
+contents-within at es =
+    mapped-within (λ pair. option_map (λ name. (name, pair.1)) (option_and_then only_name (strip_prefix at pair.0))) at
+    (λ e out. ap (λ o. option_map (λ name. (name, e.1)) (option_and_then only_name o)) (no_rest (strip_prefix at e.0) out)) es
 
 pub stripped-within : (at : Path) (es : Pairs) → stripped at (within at es) ≡ stripped at es
 stripped-within at es = mapped-within (below_off at) at (λ e out. ap (option_and_then (λ rest. if is_root rest then None else Some (rest, e.1))) (no_rest (strip_prefix at e.0) out)) es

@@ -4,17 +4,21 @@ use Rattle.std.specs.Prelude.{option_map, option_and_then, filter_map, if◌then
 use Rattle.std.specs.List.{list_all}
 use Rattle.std.specs.FinMap.{entries, len}
 use Rattle.syn_model.specs.Path.{Name, Path, IsPath, strip_prefix, is_root}
-use Rattle.syn_model.specs.Tree.{Tree, Pair, HasParents, IsPart, is_directory_content}
+use Rattle.std.specs.Borrow.{Bor}
+use Rattle.syn_model.specs.Tree.{Tree, Pair, Content, HasParents, IsPart, is_directory_content}
 use Rattle.syn_model.specs.Limits.{only_name, children, fits_part, fits_path, fits_replica}
 use Rattle.syn_model.specs.Refusal.{Refusal, first_cause}
 use Rattle.syn_model.specs.Standing.{place_causes, full_causes}
 use Rattle.syn_model.specs.Tree as model
 use Rattle.syn_tree.specs.Pairs.{Pairs, under, spelling_length}
 
--- the names in a directory, each with whether it is a directory
+-- names, each with whether it is a directory
+abbrev pub kinds_of : List (Name × Content) → List (Name × Bool)
+kinds_of children = map (λ child. (child.0, is_directory_content (Some child.1))) children
+
+-- the names in a directory
 abbrev pub listing : Tree → Path → List (Name × Bool)
-listing tree path = map (λ child. (child.0, is_directory_content (Some child.1)))
-    (children tree path)
+listing tree path = kinds_of (children tree path)
 
 -- why a tree refuses a replacement
 abbrev pub replace_refusal : Tree → Path → Tree → Option Refusal
@@ -42,11 +46,15 @@ pub record IsPlaceable (at : Path) (new : Tree) (pairs : Pairs) : Type 0 where
 abbrev pub FitsNowhere : Path → Tree → Type 0
 FitsNowhere at new = (tree : Tree) → fits_replica (model.replace tree at new) ≡ false
 
--- the names among the pairs that are children of the path, each with whether it is a directory
-abbrev pub child_names : Path → Pairs → List (Name × Bool)
-child_names path pairs =
-    filter_map (λ pair. option_map (λ name. (name, is_directory_content (Some pair.1)))
+-- the names among the pairs that are children of the path, each with what it is
+abbrev pub child_contents : Path → Pairs → List (Name × Content)
+child_contents path pairs =
+    filter_map (λ pair. option_map (λ name. (name, pair.1))
     (option_and_then only_name (strip_prefix path pair.0))) pairs
+
+-- names with references to what stands there
+abbrev pub contents_at : List (Name × Bor Pair) → List (Name × Content)
+contents_at children = map (λ (child : Name × Bor Pair). (child.0, child.1.now.1)) children
 
 -- a pair below the path, without the path before its own
 abbrev pub below_off : Path → Pair → Option Pair

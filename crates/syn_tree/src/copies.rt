@@ -1,10 +1,11 @@
 //! Entries with another beginning of their paths, of trees and of marks alike.
 ghost use Rattle.std.specs.Prelude.{◌≡◌, ◌≢◌, ◌++◌, ◌∷◌, [], true, false, IfOk, IfErr, OnOk};
+ghost use Rattle.std.specs.Prelude.{option_map, option_and_then};
 ghost use Rattle.std.specs.List.{list_all};
-ghost use Rattle.syn_model.specs.Path.{IsPath};
-ghost use Rattle.syn_model.specs.Limits.{fits_path};
+ghost use Rattle.syn_model.specs.Path.{IsPath, strip_prefix};
+ghost use Rattle.syn_model.specs.Limits.{fits_path, only_name};
 ghost use Rattle.syn_tree.specs.Pairs.{under};
-ghost use Rattle.syn_tree.specs.Lists.{stripped, child_names};
+ghost use Rattle.syn_tree.specs.Lists.{stripped, child_contents, contents_at};
 
 use crate::entry::{Placed, Standing};
 use crate::error::TreeError;
@@ -101,42 +102,39 @@ fn push_below<C: Standing>(
     Ok(())
 }
 
-/// The names in the directory of these names, each with whether it is a directory. Refused 11 where
-/// memory is refused.
-pub fn children<C: Standing>(
+/// The names in the directory of these names, each with what stands there. Refused 11 where memory
+/// is refused.
+pub fn children<'a, C: Standing>(
     alloc: Global,
-    list: &[Placed<C>],
+    list: &'a [Placed<C>],
     above: &[Name],
-) -> Result<Vec<(Name, bool)>, TreeError>
-    ensures ok { IfOk result (λ names. names.items ≡ child_names above.now list.now) }
+) -> Result<Vec<(Name, &'a Placed<C>)>, TreeError>
+    ensures ok { IfOk result
+        (λ found. contents_at found.items ≡ child_contents above.now list.now) }
     ensures memory { IfErr result (λ e. e ≡ TreeError.Memory) }
 {
-    let mut names = Vec::new(alloc);
+    let mut found = Vec::new(alloc);
     for entry in list {
-        push_child(alloc, &mut names, above, entry)?;
+        if let Some(name) = child_name(above, entry.path()) {
+            found.push((name.copy(alloc)?, entry))?;
+        }
     }
-    Ok(names)
+    Ok(found)
 }
 
-/// Puts the name of an entry in the directory of these names behind those that are there.
-fn push_child<C: Standing>(
-    alloc: Global,
-    names: &mut Vec<(Name, bool)>,
-    above: &[Name],
-    entry: &Placed<C>,
-) -> Result<(), TreeError>
-    ensures ok { OnOk result (names.new.items ≡ names.old.items
-        ++ child_names above.now (entry.now ∷ [])) }
-    ensures memory { IfErr result (λ e. e ≡ TreeError.Memory) }
+/// The last name of the path, where it stands in the directory of these names.
+fn child_name<'a>(above: &[Name], path: &'a Path) -> Option<&'a Name>
+    ensures { option_map (λ name. name.now) result
+        ≡ option_and_then only_name (strip_prefix above.now path.now) }
 {
-    let is_directory = entry.standing().is_directory();
-    match entry.path().names() {
-        [] => Ok(()),
+    match path.names() {
+        [] => None,
         [before @ .., name] => {
             if before.cmp(&above) == Ordering::Equal {
-                names.push((name.copy(alloc)?, is_directory))?;
+                Some(name)
+            } else {
+                None
             }
-            Ok(())
         }
     }
 }

@@ -17,7 +17,8 @@ ghost use Rattle.syn_tree.specs.Edits.{edit_of};
 ghost use Rattle.syn_model.specs.Path.{parent};
 ghost use Rattle.syn_tree.specs.Pairs.{rooted, AreRising, is_below, is_child};
 ghost use Rattle.syn_tree.specs.Change.{IsPreparedFor, after_change};
-ghost use Rattle.syn_tree.specs.Lists.{listing, replace_refusal, IsMeasured};
+ghost use Rattle.syn_tree.specs.Lists.{listing, kinds_of, contents_at, replace_refusal};
+ghost use Rattle.syn_tree.specs.Lists.{IsMeasured};
 ghost use Rattle.syn_tree.specs.Refusals.{refusal_of, refusal_in};
 
 use crate::change::Change;
@@ -25,7 +26,7 @@ use crate::content::{Content, Found};
 use crate::copies::{below, children};
 use crate::edit::Edit;
 use crate::entries::Entries;
-use crate::entry::Entry;
+use crate::entry::{Entry, Standing};
 use crate::error::TreeError;
 use crate::lawful::are_bytes;
 use crate::list::{
@@ -357,11 +358,12 @@ impl Tree {
         Ok(())
     }
 
-    /// The names in the directory, in byte order, each with whether it is a directory.
+    /// What stands in the directory, with its name, in byte order of the names.
     ///
     /// Refused 5 where no directory is there, and 11 where memory is refused.
-    pub fn list(&self, alloc: Global, path: &Path) -> Result<Vec<(Name, bool)>, TreeError>
-        ensures names { IfOk result (λ names. names.items ≡ listing self.now path.now) }
+    pub fn children(&self, alloc: Global, path: &Path) -> Result<Vec<(Name, &Entry)>, TreeError>
+        ensures children { IfOk result
+            (λ found. contents_at found.items ≡ children self.now path.now) }
         ensures directory { OnOk result (is_directory self.now path.now ≡ true) }
         ensures absent { (result ≡ Err TreeError.Absent)
             ↔ (is_directory self.now path.now ≡ false) }
@@ -374,6 +376,19 @@ impl Tree {
             }
             _ => Err(TreeError::Absent),
         }
+    }
+
+    /// The names in the directory, in byte order, each with whether it is a directory.
+    ///
+    /// Refused 5 where no directory is there, and 11 where memory is refused.
+    pub fn list(&self, alloc: Global, path: &Path) -> Result<Vec<(Name, bool)>, TreeError>
+        ensures names { IfOk result (λ names. names.items ≡ listing self.now path.now) }
+        ensures directory { OnOk result (is_directory self.now path.now ≡ true) }
+        ensures absent { (result ≡ Err TreeError.Absent)
+            ↔ (is_directory self.now path.now ≡ false) }
+        ensures refusals { IfErr result (λ e. (e ≡ TreeError.Absent) ⊎ (e ≡ TreeError.Memory)) }
+    {
+        kinds(alloc, self.children(alloc, path)?)
     }
 
     /// What is at and below the path; none where nothing is. Refused 11 where memory is refused.
@@ -461,4 +476,16 @@ fn has_place(list: &[Entry], above: &[Name]) -> bool
     let part = part_at(list, above);
     // where so few stand below it, no more stand in it
     part.len() < MOST_CHILDREN || count_children(part, above) < MOST_CHILDREN
+}
+
+/// The names, each with whether it is a directory. Refused 11 where memory is refused.
+fn kinds(alloc: Global, children: Vec<(Name, &Entry)>) -> Result<Vec<(Name, bool)>, TreeError>
+    ensures ok { IfOk result (λ names. names.items ≡ kinds_of (contents_at children.entry.items)) }
+    ensures memory { IfErr result (λ e. e ≡ TreeError.Memory) }
+{
+    let mut names = Vec::with_capacity(alloc, children.len())?;
+    for (name, entry) in children {
+        names.push((name, entry.standing().is_directory()))?;
+    }
+    Ok(names)
 }

@@ -1,5 +1,5 @@
 -- The image of a replica tells its pair and what it keeps.
-use Rattle.std.proofs.Common.{◌≡◌, ◌<◌, ◌≤◌, ◌^◌, ◌+◌, ℕ, zero, suc, true, List, [], ◌∷◌, ◌++◌, length, take, drop, All, Option, Some, None, IfSome, refl, sym, ap, ap₂, ◌∙◌, subst, append_assoc, append-nil, option_map, arith}
+use Rattle.std.proofs.Common.{◌≡◌, ◌<◌, ◌≤◌, ◌^◌, ◌+◌, ℕ, zero, suc, true, List, [], ◌∷◌, ◌++◌, length, take, drop, All, Option, Some, None, IfSome, refl, sym, ap, ap₂, ◌∙◌, subst, append_assoc, append-nil, arith}
 use Rattle.std.specs.Prelude.{bytes_eq}
 use Rattle.std.specs.Int.{to_be_bytes, w16}
 use Rattle.std.proofs.lemmas.Slice.Eq.{bytes_eq-Decides}
@@ -13,11 +13,8 @@ use Rattle.syn_model.specs.Spelling.{spelling, token_spelling}
 use Rattle.syn_model.specs.Laws.{NoSpellingBeginsAnother}
 use Rattle.syn_model.specs.Limits.{greatest}
 use Rattle.syn_model.specs.Standing.{Touch, Standing, most_touches}
-use Rattle.syn_model.specs.Image.{IsStanding, image_spelling, replica_front, last_token_spelling, touch_spelling}
-use Rattle.syn_history.specs.Events.{token_of}
+use Rattle.syn_model.specs.Image.{IsStanding, replica_front, last_token_spelling, touch_spelling}
 use Rattle.syn_history.specs.Past.{Past, IsLawful, standing_with, past_in}
-use Rattle.syn_history.specs.Trails.{past_from}
-use Rattle.syn_history.specs.declared.trail.Parts.{Parts}
 use Rattle.syn_wire.specs.Events.{IsNumber64, number64_spelling}
 use Rattle.syn_wire.specs.Reads.{BeginsWith, IsReading, NoneBeginsAnother}
 use Rattle.syn_wire.specs.Trees.{IsWholeTree}

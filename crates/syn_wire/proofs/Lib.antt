@@ -8,8 +8,10 @@ pub mod WalkLemmas
 pub mod MarkLemmas
 pub mod WritingLemmas
 pub mod NodeLemmas
+pub mod KindLemmas
 pub mod PartsLemmas
 pub mod ReadingLemmas
 pub mod MadeLemmas
 pub mod ListedLemmas
 pub mod ImageLemmas
+pub mod KeptLemmas

@@ -12,20 +12,20 @@ use Rattle.std.proofs.lemmas.List.Elements.{filter_map-append}
 use Rattle.syn_model.specs.Path.{Bytes, Name, Path, name_cmp, path_cmp, root, strip_prefix}
 use Rattle.syn_model.specs.Tree.{Tree, Content, Contents, Pair, Directory, File, contents_of, subtree, taken_off}
 use Rattle.syn_model.specs.Limits.{children, only_name}
-use Rattle.syn_model.specs.Spelling.{spelling, content_spelling}
 use Rattle.syn_model.proofs.PathLemmas.{name_total, path_itself, same_name, strip_prefix-append}
-use Rattle.syn_model.proofs.SpellingLemmas.{spelling_unfolds}
 use Rattle.syn_tree.specs.Pairs.{Pairs, rooted, under}
 use Rattle.syn_tree.proofs.OrderLemmas.{under_order}
 use Rattle.syn_tree.proofs.RisingLemmas.{Rising, After, each-append, each-map, are_rising, rising_of}
 use Rattle.syn_tree.proofs.FitLemmas.{each-both}
 use Rattle.syn_tree.proofs.TreeLemmas.{entries-rising, entries-subtree, get-rising, taken}
-use Rattle.syn_wire.specs.Events.{IsFile, file_spelling}
+use Rattle.syn_wire.specs.inner.Kinds.{Kind, IsFileOf, file_spelling_of, spelling_of}
 use Rattle.syn_wire.specs.Reads.{BeginsWith}
 use Rattle.syn_wire.specs.Trees.{last_name_spelling}
 use Rattle.syn_wire.specs.inner.Parts.{IsChildOf, PartIsRead, PartsAreRead}
 use Rattle.syn_wire.proofs.GroupLemmas.{tops}
+use Rattle.syn_wire.proofs.KindLemmas.{unfolds}
 use Rattle.syn_wire.proofs.PartsLemmas.{child_name, own_pair}
+use Rattle.syn_wire.proofs.WalkLemmas.{content_by}
 
 abbrev pub Listed : Type 0
 Listed = List (Name × Pairs)
@@ -133,79 +133,16 @@ one_top l b h =
 
 -- ---- spellings
 
-abbrev named : Tree → Name × Content → Bytes
-named t x = length x.0 ∷ x.0 ++ spelling (subtree t (x.0 ∷ []))
-
-abbrev pub listed_spelling : Listed → Bytes
-listed_spelling listed = flat_map (λ (l : Name × Pairs). length l.0 ∷ l.0 ++ spelling (from_sorted l.1)) listed
-
-spelled_names : (t : Tree) (listed : Listed) → AllBegin listed → AllByRecursion (λ l. Rising l.1) listed → AllByRecursion (λ l. subtree t (l.0 ∷ []) ≡ from_sorted l.1) listed →
-    (length (tops (listed_pairs listed)) ≡ length listed) × (flat_map (named t) (tops (listed_pairs listed)) ≡ listed_spelling listed)
-spelled_names t [] b r s = (refl, refl)
-spelled_names t (l ∷ listed) b r s =
-    let rest = spelled_names t listed b.1 r.1 s.1 in
-    let split : tops (listed_pairs (l ∷ listed)) ≡ (l.0, b.0.content) ∷ tops (listed_pairs listed) =
-    filter_map-append (λ pair. option_map (λ name. (name, pair.1)) (option_and_then only_name (strip_prefix root pair.0))) (under (l.0 ∷ []) l.1) (listed_pairs listed)
-    ∙ ap (λ xs. xs ++ tops (listed_pairs listed)) (one_top l b.0 r.0) in (
-      ap length split ∙ ap suc rest.0,
-      ap (flat_map (named t)) split ∙ ap₂ (λ u more. (length l.0 ∷ l.0 ++ spelling u) ++ more) s.0 rest.1,
-    )
-
--- the tree of pairs that rise, name by name
-pub listed_spelled : (listed : Listed) → AllBegin listed → Rising (rooted (listed_pairs listed)) →
-    spelling (from_sorted (rooted (listed_pairs listed))) ≡ 2 ∷ to_be_bytes w16 (length listed) ++ listed_spelling listed
-listed_spelled listed b h =
-    let t : Tree = from_sorted (rooted (listed_pairs listed)) in
-    let all = entries-rising (rooted (listed_pairs listed)) h in
-    let parts = parts_rise listed h.1 in
-    let below = each-map (λ l. Rising l.1 × (taken (l.0 ∷ []) (listed_pairs listed) ≡ l.1)) (λ l. subtree t (l.0 ∷ []) ≡ from_sorted l.1)
-    (λ l two. same_entries_map (subtree t (l.0 ∷ [])) (from_sorted l.1) (entries-subtree t (l.0 ∷ []) ∙ (ap (taken (l.0 ∷ [])) all ∙ (two.1 ∙ sym (entries-rising l.1 two.0)))))
-    listed (each-both (λ l. Rising l.1) (λ l. taken (l.0 ∷ []) (listed_pairs listed) ≡ l.1) listed parts (all_taken listed b h.1)) in
-    let names = spelled_names t listed b parts below in
-    let kids : children t root ≡ tops (listed_pairs listed) = ap tops all in
-    let here : get t root ≡ Some Directory = get-entries t root ∙ ap (find path_cmp root) all in
-    spelling_unfolds t ∙ (ap (content_spelling spelling t) here
-    ∙ ap₂ (λ n more. 2 ∷ to_be_bytes w16 n ++ more) (ap length kids ∙ names.0) (ap (flat_map (named t)) kids ∙ names.1))
-
--- ---- what was read, name by name
-
-file_of_pair : (contents : Contents) → spelling (from_sorted ((root, File contents) ∷ [])) ≡ 1 ∷ file_spelling contents.bytes
-file_of_pair contents =
-    let t : Tree = from_sorted ((root, File contents) ∷ []) in
-    spelling_unfolds t ∙ ap (content_spelling spelling t) (get-rising ((root, File contents) ∷ []) root (tt, tt))
-
-pub file_spelled : (at : Path) (fields file left : Bytes) (old new : Pairs) (entry : Pair) → BeginsWith IsFile file_spelling fields file left → entry ≡ (at, File (contents_of file)) → new ≡ old ++ entry ∷ [] → PartIsRead at (1 ∷ fields) old new (Some left)
-file_spelled at fields file left old new entry found is added = (
-  (root, File (contents_of file)) ∷ [],
-  added ∙ ap (λ x. old ++ x ∷ []) (is ∙ sym (own_pair at (File (contents_of file)))),
-  record {
-    content = File (contents_of file);
-    below = [];
-    whole = refl;
-    spelled = λ _. ap (λ b. 1 ∷ b) found.spelled ∙ ap (λ b. b ++ left) (sym (file_of_pair (contents_of file)));
-  },
-)
-
-pub directory_spelled : (at above : Path) (fields below : Bytes) (count : ℕ) (left : Option Bytes) (old mid new : Pairs) (entry : Pair) → BeginsWith (λ n. n < 2 ^ 16) (to_be_bytes w16) fields count below →
-    above ≡ at → entry ≡ (at, Directory) → mid ≡ old ++ entry ∷ [] → PartsAreRead above count below mid new left → PartIsRead at (2 ∷ fields) old new left
-directory_spelled at above fields below count None old mid new entry found copy is added read = tt
-directory_spelled at above fields below count (Some left) old mid new entry found copy is added read = (
-  rooted read.0,
-  read.1 ∙ (ap₂ (λ es p. es ++ under p read.0) (added ∙ ap (λ x. old ++ x ∷ []) (is ∙ sym (own_pair at Directory))) copy
-      ∙ append_assoc old ((at ++ root, Directory) ∷ []) (under at read.0)),
-  record { content = Directory; below = read.0; whole = refl; spelled = λ rising. ap (λ b. 2 ∷ b) found.spelled ∙ read.2 rising },
-)
+abbrev pub listed_spelling : Kind → Listed → Bytes
+listed_spelling kind listed = flat_map (λ (l : Name × Pairs). length l.0 ∷ l.0 ++ spelling_of kind (from_sorted l.1)) listed
 
 -- so many names were read
-pub record ListedSoFar (at : Path) (count : ℕ) (bytes left : Bytes) (old new : Pairs) : Type 0 where
+pub record ListedSoFar (kind : Kind) (at : Path) (count : ℕ) (bytes left : Bytes) (old new : Pairs) : Type 0 where
   pub listed : Listed
   pub counted : length listed ≡ count
   pub begin : AllBegin listed
   pub added : new ≡ old ++ under at (listed_pairs listed)
-  pub spelled : AllByRecursion (λ l. Rising l.1) listed → bytes ≡ listed_spelling listed ++ left
-
-pub none_listed : (at : Path) (bytes : Bytes) (old : Pairs) → ListedSoFar at 0 bytes bytes old old
-none_listed at bytes old = record { listed = []; counted = refl; begin = tt; added = sym (append-nil old); spelled = λ _. refl }
+  pub spelled : AllByRecursion (λ l. Rising l.1) listed → bytes ≡ listed_spelling kind listed ++ left
 
 each-front : {X : Type 0} (P : X → Type 0) (xs ys : List X) → AllByRecursion P (xs ++ ys) → AllByRecursion P xs × AllByRecursion P ys
 each-front P [] ys h = (tt, h)
@@ -215,37 +152,101 @@ under_under : (at at' : Path) (es : Pairs) → under at (under at' es) ≡ under
 under_under at at' [] = refl
 under_under at at' (e ∷ es) = ap₂ (λ (p : Path) xs. (p, e.1) ∷ xs) (sym (append_assoc at at' e.0)) (under_under at at' es)
 
-pub one_listed : (at : Path) (count : ℕ) (bytes left after left' : Bytes) (path : Path) (old new new' : Pairs) → ListedSoFar at count bytes left old new → BeginsWith (IsChildOf at) last_name_spelling left path after →
-    PartIsRead path after new new' (Some left') → ListedSoFar at (count + 1) bytes left' old new'
-one_listed at count bytes left after left' path old new new' h child part =
-    let name = child.lawful.name in
-    let one : Name × Pairs = (name, part.0) in
-    let listed = h.listed in record {
-      listed = listed ++ one ∷ [];
-      counted = length-append listed (one ∷ []) ∙ ap (λ k. k + 1) h.counted;
-      begin = each-append (λ l. BeginAtRoot l.1) listed (one ∷ []) h.begin (record { content = part.2.content; below = part.2.below; whole = part.2.whole }, tt);
-      added =
-          part.1 ∙ (ap₂ (λ es p. es ++ under p part.0) h.added child.lawful.below
-          ∙ (append_assoc old (under at (listed_pairs listed)) (under (at ++ name ∷ []) part.0)
-          ∙ ap (λ es. old ++ es) (ap (λ es. under at (listed_pairs listed) ++ es) (sym (under_under at (name ∷ []) part.0))
-          ∙ (sym (map-append (λ (e : Pair). (at ++ e.0, e.1)) (listed_pairs listed) (under (name ∷ []) part.0))
-          ∙ ap (under at) (ap (λ es. listed_pairs listed ++ es) (sym (append-nil (under (name ∷ []) part.0))) ∙ sym (flat_map-append (λ (l : Name × Pairs). under (l.0 ∷ []) l.1) listed (one ∷ [])))))));
-      spelled = λ rise.
-          let both = each-front (λ l. Rising l.1) listed (one ∷ []) rise in
-          let own = length name ∷ name ++ spelling (from_sorted part.0) in
-          h.spelled both.0 ∙ (ap (λ b. listed_spelling listed ++ b)
-          (child.spelled ∙ (ap₂ (λ a b. a ++ b) (child_name at path child.lawful).1 (part.2.spelled (are_rising part.0 both.1.0))
-          ∙ sym (append_assoc (length name ∷ name) (spelling (from_sorted part.0)) left')))
-          ∙ (sym (append_assoc (listed_spelling listed) own left')
-          ∙ ap (λ b. b ++ left') (ap (λ b. listed_spelling listed ++ b) (sym (append-nil own)) ∙ sym (flat_map-append (λ (l : Name × Pairs). length l.0 ∷ l.0 ++ spelling (from_sorted l.1)) listed (one ∷ [])))));
-    }
+module _ (kind : Kind) where
+  abbrev named : Tree → Name × Content → Bytes
+  named t x = length x.0 ∷ x.0 ++ spelling_of kind (subtree t (x.0 ∷ []))
 
-pub all_listed : (at : Path) (wanted count : ℕ) (bytes left : Bytes) (old new : Pairs) → count ≡ wanted → ListedSoFar at count bytes left old new → PartsAreRead at wanted bytes old new (Some left)
-all_listed at wanted count bytes left old new ended h = (
-  listed_pairs h.listed,
-  h.added,
-  λ rise.
-      let rising = rising_of (rooted (listed_pairs h.listed)) rise in
-      ap₂ (λ n b. 2 ∷ to_be_bytes w16 n ++ b) (sym (h.counted ∙ ended)) (h.spelled (parts_rise h.listed rising.1))
-      ∙ (sym (append_assoc (2 ∷ to_be_bytes w16 (length h.listed)) (listed_spelling h.listed) left) ∙ ap (λ b. b ++ left) (sym (listed_spelled h.listed h.begin rising))),
-)
+  spelled_names : (t : Tree) (listed : Listed) → AllBegin listed → AllByRecursion (λ l. Rising l.1) listed → AllByRecursion (λ l. subtree t (l.0 ∷ []) ≡ from_sorted l.1) listed →
+      (length (tops (listed_pairs listed)) ≡ length listed) × (flat_map (named t) (tops (listed_pairs listed)) ≡ listed_spelling kind listed)
+  spelled_names t [] b r s = (refl, refl)
+  spelled_names t (l ∷ listed) b r s =
+      let rest = spelled_names t listed b.1 r.1 s.1 in
+      let split : tops (listed_pairs (l ∷ listed)) ≡ (l.0, b.0.content) ∷ tops (listed_pairs listed) =
+      filter_map-append (λ pair. option_map (λ name. (name, pair.1)) (option_and_then only_name (strip_prefix root pair.0))) (under (l.0 ∷ []) l.1) (listed_pairs listed)
+      ∙ ap (λ xs. xs ++ tops (listed_pairs listed)) (one_top l b.0 r.0) in (
+        ap length split ∙ ap suc rest.0,
+        ap (flat_map (named t)) split ∙ ap₂ (λ u more. (length l.0 ∷ l.0 ++ spelling_of kind u) ++ more) s.0 rest.1,
+      )
+
+  -- the tree of pairs that rise, name by name
+  pub listed_spelled : (listed : Listed) → AllBegin listed → Rising (rooted (listed_pairs listed)) →
+      spelling_of kind (from_sorted (rooted (listed_pairs listed))) ≡ 2 ∷ to_be_bytes w16 (length listed) ++ listed_spelling kind listed
+  listed_spelled listed b h =
+      let t : Tree = from_sorted (rooted (listed_pairs listed)) in
+      let all = entries-rising (rooted (listed_pairs listed)) h in
+      let parts = parts_rise listed h.1 in
+      let below = each-map (λ l. Rising l.1 × (taken (l.0 ∷ []) (listed_pairs listed) ≡ l.1)) (λ l. subtree t (l.0 ∷ []) ≡ from_sorted l.1)
+      (λ l two. same_entries_map (subtree t (l.0 ∷ [])) (from_sorted l.1) (entries-subtree t (l.0 ∷ []) ∙ (ap (taken (l.0 ∷ [])) all ∙ (two.1 ∙ sym (entries-rising l.1 two.0)))))
+      listed (each-both (λ l. Rising l.1) (λ l. taken (l.0 ∷ []) (listed_pairs listed) ≡ l.1) listed parts (all_taken listed b h.1)) in
+      let names = spelled_names t listed b parts below in
+      let kids : children t root ≡ tops (listed_pairs listed) = ap tops all in
+      let here : get t root ≡ Some Directory = get-entries t root ∙ ap (find path_cmp root) all in
+      unfolds kind t ∙ (ap (content_by (file_spelling_of kind) (spelling_of kind) t) here
+      ∙ ap₂ (λ n more. 2 ∷ to_be_bytes w16 n ++ more) (ap length kids ∙ names.0) (ap (flat_map (named t)) kids ∙ names.1))
+
+  -- ---- what was read, name by name
+
+  file_of_pair : (contents : Contents) → spelling_of kind (from_sorted ((root, File contents) ∷ [])) ≡ 1 ∷ file_spelling_of kind contents.bytes
+  file_of_pair contents =
+      let t : Tree = from_sorted ((root, File contents) ∷ []) in
+      unfolds kind t ∙ ap (content_by (file_spelling_of kind) (spelling_of kind) t) (get-rising ((root, File contents) ∷ []) root (tt, tt))
+
+  pub file_spelled : (at : Path) (fields file left : Bytes) (old new : Pairs) (entry : Pair) → BeginsWith (IsFileOf kind) (file_spelling_of kind) fields file left → entry ≡ (at, File (contents_of file)) → new ≡ old ++ entry ∷ [] → PartIsRead kind at (1 ∷ fields) old new (Some left)
+  file_spelled at fields file left old new entry found is added = (
+    (root, File (contents_of file)) ∷ [],
+    added ∙ ap (λ x. old ++ x ∷ []) (is ∙ sym (own_pair at (File (contents_of file)))),
+    record {
+      content = File (contents_of file);
+      below = [];
+      whole = refl;
+      spelled = λ _. ap (λ b. 1 ∷ b) found.spelled ∙ ap (λ b. b ++ left) (sym (file_of_pair (contents_of file)));
+    },
+  )
+
+  pub directory_spelled : (at above : Path) (fields below : Bytes) (count : ℕ) (left : Option Bytes) (old mid new : Pairs) (entry : Pair) → BeginsWith (λ n. n < 2 ^ 16) (to_be_bytes w16) fields count below →
+      above ≡ at → entry ≡ (at, Directory) → mid ≡ old ++ entry ∷ [] → PartsAreRead kind above count below mid new left → PartIsRead kind at (2 ∷ fields) old new left
+  directory_spelled at above fields below count None old mid new entry found copy is added read = tt
+  directory_spelled at above fields below count (Some left) old mid new entry found copy is added read = (
+    rooted read.0,
+    read.1 ∙ (ap₂ (λ es p. es ++ under p read.0) (added ∙ ap (λ x. old ++ x ∷ []) (is ∙ sym (own_pair at Directory))) copy
+        ∙ append_assoc old ((at ++ root, Directory) ∷ []) (under at read.0)),
+    record { content = Directory; below = read.0; whole = refl; spelled = λ rising. ap (λ b. 2 ∷ b) found.spelled ∙ read.2 rising },
+  )
+
+  pub none_listed : (at : Path) (bytes : Bytes) (old : Pairs) → ListedSoFar kind at 0 bytes bytes old old
+  none_listed at bytes old = record { listed = []; counted = refl; begin = tt; added = sym (append-nil old); spelled = λ _. refl }
+
+  pub one_listed : (at : Path) (count : ℕ) (bytes left after left' : Bytes) (path : Path) (old new new' : Pairs) → ListedSoFar kind at count bytes left old new → BeginsWith (IsChildOf at) last_name_spelling left path after →
+      PartIsRead kind path after new new' (Some left') → ListedSoFar kind at (count + 1) bytes left' old new'
+  one_listed at count bytes left after left' path old new new' h child part =
+      let name = child.lawful.name in
+      let one : Name × Pairs = (name, part.0) in
+      let listed = h.listed in record {
+        listed = listed ++ one ∷ [];
+        counted = length-append listed (one ∷ []) ∙ ap (λ k. k + 1) h.counted;
+        begin = each-append (λ l. BeginAtRoot l.1) listed (one ∷ []) h.begin (record { content = part.2.content; below = part.2.below; whole = part.2.whole }, tt);
+        added =
+            part.1 ∙ (ap₂ (λ es p. es ++ under p part.0) h.added child.lawful.below
+            ∙ (append_assoc old (under at (listed_pairs listed)) (under (at ++ name ∷ []) part.0)
+            ∙ ap (λ es. old ++ es) (ap (λ es. under at (listed_pairs listed) ++ es) (sym (under_under at (name ∷ []) part.0))
+            ∙ (sym (map-append (λ (e : Pair). (at ++ e.0, e.1)) (listed_pairs listed) (under (name ∷ []) part.0))
+            ∙ ap (under at) (ap (λ es. listed_pairs listed ++ es) (sym (append-nil (under (name ∷ []) part.0))) ∙ sym (flat_map-append (λ (l : Name × Pairs). under (l.0 ∷ []) l.1) listed (one ∷ [])))))));
+        spelled = λ rise.
+            let both = each-front (λ l. Rising l.1) listed (one ∷ []) rise in
+            let own = length name ∷ name ++ spelling_of kind (from_sorted part.0) in
+            h.spelled both.0 ∙ (ap (λ b. listed_spelling kind listed ++ b)
+            (child.spelled ∙ (ap₂ (λ a b. a ++ b) (child_name at path child.lawful).1 (part.2.spelled (are_rising part.0 both.1.0))
+            ∙ sym (append_assoc (length name ∷ name) (spelling_of kind (from_sorted part.0)) left')))
+            ∙ (sym (append_assoc (listed_spelling kind listed) own left')
+            ∙ ap (λ b. b ++ left') (ap (λ b. listed_spelling kind listed ++ b) (sym (append-nil own)) ∙ sym (flat_map-append (λ (l : Name × Pairs). length l.0 ∷ l.0 ++ spelling_of kind (from_sorted l.1)) listed (one ∷ [])))));
+      }
+
+  pub all_listed : (at : Path) (wanted count : ℕ) (bytes left : Bytes) (old new : Pairs) → count ≡ wanted → ListedSoFar kind at count bytes left old new → PartsAreRead kind at wanted bytes old new (Some left)
+  all_listed at wanted count bytes left old new ended h = (
+    listed_pairs h.listed,
+    h.added,
+    λ rise.
+        let rising = rising_of (rooted (listed_pairs h.listed)) rise in
+        ap₂ (λ n b. 2 ∷ to_be_bytes w16 n ++ b) (sym (h.counted ∙ ended)) (h.spelled (parts_rise h.listed rising.1))
+        ∙ (sym (append_assoc (2 ∷ to_be_bytes w16 (length h.listed)) (listed_spelling kind h.listed) left) ∙ ap (λ b. b ++ left) (sym (listed_spelled h.listed h.begin rising))),
+  )

@@ -1,13 +1,13 @@
 -- Entries that were read make the tree that the bytes spell.
-use Rattle.std.proofs.Common.{◌≡◌, ◌≢◌, ◌<◌, ◌≤◌, ◌^◌, ℕ, Bool, true, false, cond, ◌&&◌, nat_le, [], ◌∷◌, ◌++◌, length, refl, sym, ap, ap₂, ◌∙◌, subst, Option, Some, None, is_some, true≢false, arith}
+use Rattle.std.proofs.Common.{◌≡◌, ◌≢◌, ◌<◌, ◌≤◌, ◌^◌, ℕ, Bool, true, false, cond, ◌&&◌, nat_le, [], ◌∷◌, ◌++◌, length, refl, sym, ap, ap₂, ◌∙◌, subst, Option, Some, None, is_some, IsSome, true≢false, arith}
 use Rattle.std.specs.Int.{to_be_bytes, w16}
 use Rattle.std.specs.List.{list_all}
 use Rattle.std.specs.Ordering.{eq_by_cmp}
 use Rattle.std.specs.FinMap.{entries, entries_sorted, find, from_sorted, get, get-entries, len}
-use Rattle.std.proofs.lemmas.Bool.{and_parts, le-leb}
+use Rattle.std.proofs.lemmas.Bool.{and_parts, le-leb, leb-true}
 use Rattle.std.proofs.lemmas.Option.{none-some}
-use Rattle.syn_model.specs.Path.{Bytes, Path, path_cmp, root}
-use Rattle.syn_model.specs.Tree.{Tree, Content, Directory, File, IsTree, absent, contents_of, file}
+use Rattle.syn_model.specs.Path.{Bytes, Path, IsPath, path_cmp, root}
+use Rattle.syn_model.specs.Tree.{Tree, Content, Directory, File, IsPart, IsTree, absent, contents_of, file}
 use Rattle.syn_model.specs.Limits.{fits_part, fits_path, fits_paths, fits_replica, greatest_spelling, tree_spelling_length}
 use Rattle.syn_model.specs.Spelling.{spelling, content_spelling}
 use Rattle.syn_model.proofs.PathLemmas.{same_path}
@@ -22,8 +22,10 @@ use Rattle.syn_tree.proofs.TreeLemmas.{entries-absent, entries-one, from_entries
 use Rattle.syn_wire.specs.Events.{IsFile, file_spelling}
 use Rattle.syn_wire.specs.Reads.{BeginsWith, IsReading}
 use Rattle.syn_wire.specs.Trees.{NoTreeBeginsAnother, IsDirectoryTree, IsOptionalTree, IsWholeTree}
+use Rattle.syn_wire.specs.inner.Kinds.{OfContents}
 use Rattle.syn_wire.specs.inner.Parts.{ReadsParts, PartsAreRead, StandsAt, parts_pairs, parts_spelling}
 use Rattle.syn_wire.proofs.EventLemmas.{file_tells}
+use Rattle.syn_wire.proofs.KindLemmas.{root_fits}
 use Rattle.syn_wire.proofs.NameLemmas.{first_or}
 use Rattle.syn_wire.proofs.NodeLemmas.{file_spelled}
 use Rattle.syn_wire.proofs.NumberLemmas.{u16_tells}
@@ -47,12 +49,15 @@ as_directory t h =
     let whole = and_parts (nat_le (len t) 1024 && nat_le (tree_spelling_length t) greatest_spelling && fits_part t) (fits_paths t) h.fits in
     record { tree = h.tree; fits = (and_parts (nat_le (len t) 1024 && nat_le (tree_spelling_length t) greatest_spelling) (fits_part t) whole.0).1; paths = whole.1 }
 
-stands_at_root : (t : Tree) → IsDirectoryTree t → StandsAt root t
+-- each path of what keeps the limits of paths is a lawful one
+pub paths_stand : (t : Tree) → IsPart t → fits_paths t ≡ true → (q : Path) → IsSome (get t q) → IsPath q
+paths_stand t part fits q some = fits-path q (part.names q some) (path_found (entries t) q fits (ap is_some (sym (get-entries t q)) ∙ some))
+
+stands_at_root : (t : Tree) → IsDirectoryTree t → StandsAt OfContents root t
 stands_at_root t h = record {
-  part = h.tree.part;
+  part = (h.tree.part, h.fits);
   present = ap is_some h.tree.rooted;
-  fits = h.fits;
-  paths = λ q some. fits-path q (h.tree.part.names q some) (path_found (entries t) q h.paths (ap is_some (sym (get-entries t q)) ∙ some));
+  paths = paths_stand t h.tree.part h.paths;
 }
 
 -- ---- directories
@@ -60,24 +65,24 @@ stands_at_root t h = record {
 -- a directory's count and parts stand behind its kind
 pub no_directory_read : (fields : Bytes) → IsReading (λ n. n < 2 ^ 16) (to_be_bytes w16) fields None → (t : Tree) (rest : Bytes) → IsDirectoryTree t → 2 ∷ fields ≡ spelling t ++ rest → ⊥
 no_directory_read fields none t rest h e =
-    let d = directory_at t fields rest h.tree.part h.fits e in
-    none (length (parts_in t)) (parts_spelling (parts_in t) ++ rest) (record { lawful = d.few; spelled = d.spelled })
+    let d = directory_at OfContents t fields rest (h.tree.part, h.fits) e in
+    none (length (parts_in t)) (parts_spelling OfContents (parts_in t) ++ rest) (record { lawful = d.few; spelled = d.spelled })
 
 module _ (fields below : Bytes) (above : Path) (count : ℕ) (found : BeginsWith (λ n. n < 2 ^ 16) (to_be_bytes w16) fields count below) (is_root : above ≡ root) where
-  what_is_read : (old new : Pairs) (left : Option Bytes) → ReadsParts above count below old new left → (t : Tree) (rest : Bytes) → IsDirectoryTree t → 2 ∷ fields ≡ spelling t ++ rest →
+  what_is_read : (old new : Pairs) (left : Option Bytes) → ReadsParts OfContents above count below old new left → (t : Tree) (rest : Bytes) → IsDirectoryTree t → 2 ∷ fields ≡ spelling t ++ rest →
       (left ≡ Some rest) × (new ≡ old ++ parts_pairs root (parts_in t))
   what_is_read old new left read t rest h e =
-      let d = directory_at t fields rest h.tree.part h.fits e in
-      let same = u16_tells count (length (parts_in t)) below (parts_spelling (parts_in t) ++ rest) found.lawful d.few (sym found.spelled ∙ d.spelled) in
-      subst (λ p. ReadsParts p count below old new left) is_root read (parts_in t) rest (sym same.0) (parts_stand root t (stands_at_root t h)) same.1
+      let d = directory_at OfContents t fields rest (h.tree.part, h.fits) e in
+      let same = u16_tells count (length (parts_in t)) below (parts_spelling OfContents (parts_in t) ++ rest) found.lawful d.few (sym found.spelled ∙ d.spelled) in
+      subst (λ p. ReadsParts OfContents p count below old new left) is_root read (parts_in t) rest (sym same.0) (parts_stand OfContents root t (stands_at_root t h)) same.1
 
-  pub no_parts_read : (old new : Pairs) → ReadsParts above count below old new None → (t : Tree) (rest : Bytes) → IsDirectoryTree t → 2 ∷ fields ≡ spelling t ++ rest → ⊥
+  pub no_parts_read : (old new : Pairs) → ReadsParts OfContents above count below old new None → (t : Tree) (rest : Bytes) → IsDirectoryTree t → 2 ∷ fields ≡ spelling t ++ rest → ⊥
   no_parts_read old new none t rest h e = none-some _ (what_is_read old new None none t rest h e).0
 
   -- what was read is below the root of the tree
-  pub all_entries : (old new : Pairs) (left : Bytes) → old ≡ [] → ReadsParts above count below old new (Some left) → (t : Tree) (rest : Bytes) → IsDirectoryTree t → 2 ∷ fields ≡ spelling t ++ rest → rooted new ≡ entries t
+  pub all_entries : (old new : Pairs) (left : Bytes) → old ≡ [] → ReadsParts OfContents above count below old new (Some left) → (t : Tree) (rest : Bytes) → IsDirectoryTree t → 2 ∷ fields ≡ spelling t ++ rest → rooted new ≡ entries t
   all_entries old new left empty read t rest h e =
-      let d = directory_at t fields rest h.tree.part h.fits e in
+      let d = directory_at OfContents t fields rest (h.tree.part, h.fits) e in
       ap rooted ((what_is_read old new (Some left) read t rest h e).1 ∙ ap (λ es. es ++ parts_pairs root (parts_in t)) empty) ∙ sym d.whole
 
 are_entries : (t : Tree) (list : Pairs) → IsDirectoryTree t → rooted list ≡ entries t → AreEntries list
@@ -94,13 +99,13 @@ are_entries t list h all =
 pub not_made : (t : Tree) (list : Pairs) → IsDirectoryTree t → rooted list ≡ entries t → ¬ AreEntries list → ⊥
 not_made t list h all none = none (are_entries t list h all)
 
-under_root : (es : Pairs) → under root es ≡ es
+pub under_root : (es : Pairs) → under root es ≡ es
 under_root [] = refl
 under_root (e ∷ es) = ap (λ xs. e ∷ xs) (under_root es)
 
 -- what was read is the tree that it makes
 pub directory_made : (fields below : Bytes) (above : Path) (count : ℕ) (old list : Pairs) (left : Bytes) (u : Tree) → BeginsWith (λ n. n < 2 ^ 16) (to_be_bytes w16) fields count below → above ≡ root → old ≡ [] →
-    PartsAreRead above count below old list (Some left) → rooted list ≡ entries u → IsDirectoryTree u → BeginsWith IsDirectoryTree spelling (2 ∷ fields) u left
+    PartsAreRead OfContents above count below old list (Some left) → rooted list ≡ entries u → IsDirectoryTree u → BeginsWith IsDirectoryTree spelling (2 ∷ fields) u left
 directory_made fields below above count old list left u found is_root empty read all h =
     let pairs : list ≡ read.0 = read.1 ∙ ap₂ (λ es p. es ++ under p read.0) empty is_root ∙ under_root read.0 in
     let whole : rooted read.0 ≡ entries u = ap rooted (sym pairs) ∙ all in
@@ -115,14 +120,14 @@ absent_lawful = record { part = nothing_part; fits = ap (list_all _) entries-abs
 
 pub no_file_read : (fields : Bytes) → IsReading IsFile file_spelling fields None → IsReading IsOptionalTree spelling (1 ∷ fields) None
 no_file_read fields none t rest begins =
-    let f = file_at t fields rest begins.lawful.part begins.lawful.fits begins.spelled in
+    let f = file_at OfContents t fields rest (begins.lawful.part, begins.lawful.fits) begins.spelled in
     none f.contents.bytes rest (record { lawful = f.lawful; spelled = f.spelled })
 
 pub long_file_read : (fields bytes after : Bytes) → BeginsWith IsFile file_spelling fields bytes after → 16384 < length bytes → IsReading IsOptionalTree spelling (1 ∷ fields) None
 long_file_read fields bytes after found long t rest begins =
-    let f = file_at t fields rest begins.lawful.part begins.lawful.fits begins.spelled in
+    let f = file_at OfContents t fields rest (begins.lawful.part, begins.lawful.fits) begins.spelled in
     let same = ap length (file_tells bytes f.contents.bytes after rest found.lawful f.lawful (sym found.spelled ∙ f.spelled)).0 in
-    let short = f.short in
+    let short = leb-true (length f.contents.bytes) 16384 (root_fits t (File f.contents) begins.lawful.fits f.here).0 in
     absurd (omega (arith, same, short, long))
 
 pub file_read : (fields bytes after : Bytes) → BeginsWith IsFile file_spelling fields bytes after → length bytes ≤ 16384 → BeginsWith IsOptionalTree spelling (1 ∷ fields) (file bytes) after
@@ -140,7 +145,7 @@ file_read fields bytes after found short = record {
 -- behind the kind of a directory stands a directory
 pub directory_none : (fields : Bytes) → IsReading IsDirectoryTree spelling (2 ∷ fields) None → IsReading IsOptionalTree spelling (2 ∷ fields) None
 directory_none fields none t rest begins =
-    let d = directory_at t fields rest begins.lawful.part begins.lawful.fits begins.spelled in
+    let d = directory_at OfContents t fields rest (begins.lawful.part, begins.lawful.fits) begins.spelled in
     none t rest (record {
       lawful = record { tree = record { rooted = d.here; part = begins.lawful.part }; fits = begins.lawful.fits; paths = begins.lawful.paths };
       spelled = begins.spelled;

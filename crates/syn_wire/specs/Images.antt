@@ -1,5 +1,5 @@
 -- The image of a replica, part by part.
-use Rattle.std.specs.Prelude.{◌≡◌, ℕ, ◌<◌, ◌^◌, ◌++◌, List, length, flat_map, All, Option, IfSome}
+use Rattle.std.specs.Prelude.{ℕ, ◌<◌, ◌^◌, ◌++◌, List, length, flat_map, All, Option, IfSome}
 use Rattle.std.specs.Int.{to_be_bytes, w16}
 use Rattle.syn_model.specs.Path.{Bytes, IsPath}
 use Rattle.syn_model.specs.Event.{Token, IsLawfulToken}

@@ -1,6 +1,6 @@
 -- How trees are spelled in one walk over their pairs in path order, and which of them are read.
 use Rattle.std.specs.Prelude.{◌≡◌, ℕ, true, [], ◌∷◌, ◌++◌, length, flat_map}
-use Rattle.std.specs.Int.{to_be_bytes, w16, w32}
+use Rattle.std.specs.Int.{to_be_bytes, w16}
 use Rattle.std.specs.FinMap.{entries}
 use Rattle.syn_model.specs.Path.{Bytes, Path, root}
 use Rattle.syn_model.specs.Tree.{Tree, Content, Directory, File, Pair, HasParents, IsPart, IsTree}

@@ -1,4 +1,5 @@
 -- Definitions that no public clause reaches.
 pub mod Names
+pub mod Kinds
 pub mod Parts
 pub mod Pasts

@@ -113,7 +113,7 @@ fn read_four(bytes: &[u8]) -> Option<((u64, u64), (u64, u64), &[u8])>
 }
 
 /// Two numbers.
-fn read_two(bytes: &[u8]) -> Option<((u64, u64), &[u8])>
+pub(crate) fn read_two(bytes: &[u8]) -> Option<((u64, u64), &[u8])>
     ensures { IsReading AreTwo two_spelling bytes.now
         (option_map (λ found. (found.0, found.1.now)) result) }
 {

@@ -1,26 +1,27 @@
 //! What an archive keeps, and the image of an archive.
-ghost use Rattle.std.specs.Prelude.{◌≡◌, IfOk, option_map};
+ghost use Rattle.std.specs.Prelude.{◌≡◌, length, IfOk, option_map};
 ghost use Rattle.syn_model.specs.Archive.{Session, Recorded, RecordedDir};
 ghost use Rattle.syn_model.specs.MarkSpelling.{archive_spelling, kept_spelling};
 ghost use Rattle.syn_mark.specs.Marks.{or_absent};
 ghost use Rattle.syn_wire.specs.Marks.{kept_of};
 
 use crate::error::WireError;
-use crate::marks::{write_marks, write_optional_marks};
+use crate::marks::{optional_marks_length, write_marks, write_optional_marks};
 use crate::number::write_u64;
-use crate::path::write_path;
+use crate::part_reading::copied;
+use crate::path::{path_length, write_path};
 use std::alloc::Global;
 use syn_mark::MarkTree;
 use syn_path::Path;
 
 /// The letters and the version that an archive's image begins with.
-const FRONT: [u8; 5] = [b'S', b'Y', b'N', b'A', 1];
+pub(crate) const FRONT: [u8; 5] = [b'S', b'Y', b'N', b'A', 1];
 
-const SESSION: u8 = 1;
+pub(crate) const SESSION: u8 = 1;
 
-const RECORD: u8 = 2;
+pub(crate) const RECORD: u8 = 2;
 
-const DIR: u8 = 3;
+pub(crate) const DIR: u8 = 3;
 
 /// What is kept in an archive.
 #[derive(Debug, Drop)]
@@ -31,6 +32,47 @@ pub enum Kept {
     Record(Path, Option<MarkTree>),
     /// A directory is at the path, with what the archive has below it.
     Dir(Path),
+}
+
+impl Kept {
+    /// The same, on its own. Refused 11 where memory is refused.
+    pub fn copy(&self, alloc: Global) -> Result<Kept, WireError>
+        ensures { IfOk result (λ copy. kept_of copy ≡ kept_of self.now) }
+    {
+        match self {
+            Kept::Session(session) => Ok(Kept::Session(*session)),
+            Kept::Record(path, marks) => {
+                let marks = copied_marks(alloc, marks.as_ref())?;
+                Ok(Kept::Record(copied(alloc, path)?, marks))
+            }
+            Kept::Dir(path) => Ok(Kept::Dir(copied(alloc, path)?)),
+        }
+    }
+}
+
+// Equal marks of their own, or none.
+fn copied_marks(alloc: Global, marks: Option<&MarkTree>) -> Result<Option<MarkTree>, WireError>
+    ensures { IfOk result (λ copy. or_absent copy
+        ≡ or_absent (option_map (λ there. there.now) marks.entry)) }
+{
+    let Some(there) = marks else {
+        return Ok(None);
+    };
+    match there.copy(alloc) {
+        Ok(copy) => Ok(Some(copy)),
+        Err(_) => Err(WireError::Memory),
+    }
+}
+
+/// What the image of an archive holds.
+#[derive(Debug, Drop)]
+pub struct ArchiveImage {
+    /// The number of the pair that the archive is of.
+    pub pair: u64,
+    /// The number of the last session; 0 before the first.
+    pub last_session: u64,
+    /// The marks, whose root is a directory.
+    pub marks: MarkTree,
 }
 
 /// The spelling of what is kept.
@@ -80,6 +122,21 @@ pub fn encode_dir(alloc: Global, path: &Path) -> Result<Vec<u8>, WireError>
     out.push(DIR)?;
     write_path(&mut out, path)?;
     Ok(out)
+}
+
+/// How many bytes spell the marks that are recorded at a path. It takes no memory.
+pub fn record_length(path: &Path, marks: Option<&MarkTree>) -> usize
+    ensures { result ≡ length (kept_spelling
+        (Recorded path.now (or_absent (option_map (λ there. there.now) marks.entry)))) }
+{
+    1 + path_length(path) + optional_marks_length(marks)
+}
+
+/// How many bytes spell a directory that is recorded. It takes no memory.
+pub fn dir_length(path: &Path) -> usize
+    ensures { result ≡ length (kept_spelling (RecordedDir path.now)) }
+{
+    1 + path_length(path)
 }
 
 /// The spelling of the image of an archive of the pair, with this last session and these marks.

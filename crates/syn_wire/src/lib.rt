@@ -8,6 +8,8 @@ ghost use Rattle.syn_wire.specs.Laws.{NoU16BeginsAnother, NoU32BeginsAnother, No
 ghost use Rattle.syn_wire.specs.Laws.{NoPathBeginsAnother, NoFileBeginsAnother};
 ghost use Rattle.syn_wire.specs.Laws.{NoEventBeginsAnother};
 ghost use Rattle.syn_wire.specs.Images.{NoImageBeginsAnother};
+ghost use Rattle.syn_wire.specs.Marks.{NoMarksBeginOthers, NoKeptBeginsAnother};
+ghost use Rattle.syn_wire.specs.Marks.{NoArchiveBeginsAnother};
 ghost use Rattle.syn_wire.specs.Trees.{NoTreeBeginsAnother, SpellingIsWalk, SpellingIsMeasured};
 
 mod bytes;
@@ -16,9 +18,13 @@ mod event;
 mod image;
 mod image_reading;
 mod kept;
+mod kept_reading;
+mod mark_reading;
 mod marks;
 mod number;
+mod part_reading;
 mod path;
+mod readable;
 mod tree;
 mod tree_reading;
 
@@ -27,7 +33,12 @@ pub use error::WireError;
 pub use event::{decode_event, edit_length, encode_edit, encode_event};
 pub use image::{Image, encode_image};
 pub use image_reading::decode_image;
-pub use kept::{Kept, encode_archive, encode_dir, encode_kept, encode_record, encode_session};
+pub use kept::{
+    ArchiveImage, Kept, dir_length, encode_archive, encode_dir, encode_kept, encode_record,
+    encode_session, record_length,
+};
+pub use kept_reading::{decode_archive, decode_kept};
+pub use mark_reading::{decode_mark_tree, decode_marks};
 pub use marks::{encode_marks, write_marks, write_optional_marks};
 pub use number::{read_u16, read_u32, read_u64, write_u16, write_u32, write_u64};
 pub use path::{decode_path, encode_path, write_path};
@@ -44,10 +55,14 @@ pub fn spelling_laws()
     ensures event { NoEventBeginsAnother }
     ensures tree { NoTreeBeginsAnother }
     ensures image { NoImageBeginsAnother }
+    ensures marks { NoMarksBeginOthers }
+    ensures kept { NoKeptBeginsAnother }
+    ensures archive { NoArchiveBeginsAnother }
 
     // A tree is spelled in one walk over its entries, and as long as the model measures.
     ensures walk { SpellingIsWalk }
     ensures measured { SpellingIsMeasured }
 {
     syn_model::spelling_laws();
+    syn_model::mark_laws();
 }

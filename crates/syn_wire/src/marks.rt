@@ -1,5 +1,5 @@
 //! Trees of marks, and what may stand at a path of one.
-ghost use Rattle.std.specs.Prelude.{◌≡◌, ◌≤◌, ◌<◌, ◌^◌, ◌++◌, length, IfOk, OnOk, option_map};
+ghost use Rattle.std.specs.Prelude.{◌≡◌, ◌≤◌, ◌<◌, ◌^◌, ◌++◌, ℕ, length, IfOk, OnOk, option_map};
 ghost use Rattle.syn_model.specs.Limits.{children};
 ghost use Rattle.syn_model.specs.MarkSpelling.{mark_spelling};
 ghost use Rattle.syn_mark.specs.Marks.{or_absent};
@@ -8,7 +8,7 @@ ghost use Rattle.syn_wire.specs.Reads.{IsBeginning};
 ghost use Rattle.syn_wire.specs.Trees.{last_name_spelling, standing_by};
 
 use crate::error::WireError;
-use crate::tree::{ABSENT, FILE, write_count, write_last_name};
+use crate::tree::{ABSENT, FILE, last_name_length, write_count, write_last_name};
 use std::alloc::Global;
 use syn_mark::{Mark, MarkEntry, MarkTree};
 
@@ -51,6 +51,52 @@ pub fn write_marks(out: &mut Vec<u8>, marks: &MarkTree) -> Result<(), WireError>
         write_mark(out, entry, count_in_marks(marks, entry))?;
     }
     Ok(())
+}
+
+// How many bytes spell the marks at a path, or nothing. It takes no memory.
+pub(crate) fn optional_marks_length(marks: Option<&MarkTree>) -> usize
+    ensures length { result ≡ length
+        (mark_spelling (or_absent (option_map (λ there. there.now) marks.entry))) }
+    ensures brief { result ≤ 401408 }
+{
+    match marks {
+        None => 1,
+        Some(there) => marks_length(there),
+    }
+}
+
+// How many bytes spell the marks, entry by entry.
+fn marks_length(marks: &MarkTree) -> usize
+    ensures length { result ≡ length (mark_spelling marks.now) }
+    ensures brief { result ≤ 401408 }
+{
+    let mut length = 0;
+    let list = marks.as_slice();
+    for entry in list {
+        length += entry_length(entry);
+    }
+    length
+}
+
+// How many bytes spell an entry's last name and its mark, without what is below it.
+fn entry_length(entry: &MarkEntry) -> usize
+    ensures length { (count : ℕ) → result ≡ length
+        (last_name_spelling entry.now.0 ++ standing_by digest_spelling count entry.now.1) }
+    ensures brief { result ≤ 98 }
+{
+    let mark = match entry.standing() {
+        Mark::File(digest) => 1 + digest_length(*digest),
+        Mark::Dir => 3,
+    };
+    last_name_length(entry.path()) + mark
+}
+
+// How many bytes a digest has.
+fn digest_length(digest: [u8; 32]) -> usize
+    ensures length { result ≡ length digest }
+    ensures brief { result ≤ 32 }
+{
+    digest.as_slice().len()
 }
 
 // How many names are in the directory at the entry's path. A file is spelled without a count.

@@ -164,6 +164,17 @@ pub(crate) fn write_last_name(out: &mut Vec<u8>, path: &Path) -> Result<(), Wire
     Ok(())
 }
 
+// How many bytes spell the last name with its length; none of the root.
+pub(crate) fn last_name_length(path: &Path) -> usize
+    ensures length { result ≡ length (last_name_spelling path.now) }
+    ensures brief { result ≤ 65 }
+{
+    match path.names().last() {
+        Some(name) => 1 + name.as_str().len(),
+        None => 0,
+    }
+}
+
 // Adds the kind of a directory, and how many names are in it.
 pub(crate) fn write_count(out: &mut Vec<u8>, count: usize) -> Result<(), WireError>
     requires { count < 2 ^ 16 }

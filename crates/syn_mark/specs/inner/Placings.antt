@@ -1,8 +1,8 @@
 -- Marks that are looked at one by one.
-use Rattle.std.specs.Prelude.{◌≡◌, Bool, true, map}
+use Rattle.std.specs.Prelude.{Bool, List, map}
 use Rattle.std.specs.FinMap.{find}
-use Rattle.syn_model.specs.Path.{path_cmp, parent}
-use Rattle.syn_model.specs.Tree.{Pair, is_directory_content}
+use Rattle.syn_model.specs.Path.{Name, path_cmp, parent}
+use Rattle.syn_model.specs.Tree.{Pair, Content, is_directory_content}
 use Rattle.syn_model.specs.Mark.{mark_of}
 use Rattle.syn_tree.specs.Pairs.{Pairs, rooted}
 
@@ -13,3 +13,6 @@ stands_in below pair = is_directory_content (find path_cmp (parent pair.0) (root
 -- each content by its mark
 abbrev pub marked : Pairs → Pairs
 marked pairs = map (λ pair. (pair.0, mark_of pair.1)) pairs
+
+abbrev pub marks_of : List (Name × Content) → List (Name × Content)
+marks_of children = map (λ child. (child.0, mark_of child.1)) children

@@ -1,5 +1,5 @@
 -- What stands in an image before the tree: four numbers, the last token, and the touches.
-use Rattle.std.specs.Prelude.{◌≡◌, ℕ, ◌++◌, List, length, flat_map, All, Option}
+use Rattle.std.specs.Prelude.{◌≡◌, ℕ, List, length, flat_map, All, Option}
 use Rattle.syn_model.specs.Path.{Bytes}
 use Rattle.syn_model.specs.Event.{Token}
 use Rattle.syn_model.specs.Standing.{Touch}

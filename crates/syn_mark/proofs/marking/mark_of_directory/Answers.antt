@@ -1,7 +1,7 @@
-use Rattle.std.proofs.Common.{◌≡◌, ◌≤◌, ◌<◌, [], ◌∷◌, ◌++◌, length, refl, sym, ap, ap₂, ◌∙◌, is_some, arith}
+use Rattle.std.proofs.Common.{◌≡◌, ◌≤◌, [], ◌∷◌, ◌++◌, length, refl, sym, ap, ap₂, ◌∙◌, is_some, arith}
 use Rattle.std.specs.FinMap.{entries, len, len-entries}
 use Rattle.syn_model.specs.Mark.{mark}
-use Rattle.syn_model.specs.Path.{root, Path}
+use Rattle.syn_model.specs.Path.{Path}
 use Rattle.syn_model.specs.Tree.{Directory}
 use Rattle.syn_mark.specs.inner.Placings.{marked}
 use Rattle.syn_mark.proofs.MarkLemmas.{are_marks, marks_same, entries-mark, mark_is_marks, mark_present, mark_fits}

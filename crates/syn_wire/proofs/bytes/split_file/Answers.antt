@@ -1,4 +1,4 @@
-use Rattle.std.proofs.Common.{◌≡◌, ◌<◌, ◌^◌, ◌++◌, ◌∙◌, length, sym, ap, subst}
+use Rattle.std.proofs.Common.{◌≡◌, ◌<◌, ◌^◌, ◌++◌, length, sym, subst}
 use Rattle.std.specs.Int.{to_be_bytes, w32}
 use Rattle.syn_model.specs.Event.{AreBytes}
 use Rattle.syn_wire.proofs.ByteLemmas.{of_slice, in_front, behind, file_spelled}

@@ -6,7 +6,6 @@ use Rattle.syn_model.specs.Tree.{Tree}
 use Rattle.syn_history.specs.Events.{token_of}
 use Rattle.syn_history.specs.Past.{IsLawful, standing_with}
 use Rattle.syn_history.specs.Trails.{past_from}
-use Rattle.syn_wire.specs.Images.{IsImage, spelled_image}
 use Rattle.syn_wire.specs.Reads.{BeginsWith, IsReading}
 use Rattle.syn_wire.specs.Trees.{IsWholeTree}
 use Rattle.syn_wire.specs.inner.Pasts.{IsPast, past_spelling}

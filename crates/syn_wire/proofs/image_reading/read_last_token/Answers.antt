@@ -1,4 +1,4 @@
-use Rattle.std.proofs.Common.{◌-◌, ◌≡◌, ◌∷◌, length, take, drop, slice_index_or, ap, ◌∙◌}
+use Rattle.std.proofs.Common.{◌-◌, ◌∷◌, length, take, drop, ap, ◌∙◌}
 use Rattle.syn_wire.proofs.ImageLemmas.{no_token_behind}
 use Rattle.syn_wire.proofs.NameLemmas.{first_and_rest}
 use Rattle.syn_wire.proofs.image_reading.read_last_token.Goals as goal

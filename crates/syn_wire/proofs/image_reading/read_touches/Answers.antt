@@ -1,7 +1,7 @@
 use Rattle.std.proofs.Common.{subst, option_map}
 use Rattle.syn_wire.specs.Reads.{IsReading}
 use Rattle.syn_wire.specs.inner.Pasts.{AreSoMany, each_spelling}
-use Rattle.syn_wire.proofs.ImageLemmas.{no_count, no_touches, touches_found}
+use Rattle.syn_wire.proofs.ImageLemmas.{no_count, no_touches}
 use Rattle.syn_wire.proofs.image_reading.read_touches.Goals as goal
 
 pub returns-in_default : goal.returns-in_default

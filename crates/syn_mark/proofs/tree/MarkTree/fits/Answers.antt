@@ -1,4 +1,4 @@
-use Rattle.std.proofs.Common.{◌≡◌, ◌≤◌, ◌<◌, ◌+◌, ◌-◌, ℕ, length, sym, ap, ap₂, ◌∙◌, option_map, arith}
+use Rattle.std.proofs.Common.{◌≡◌, ◌+◌, ◌-◌, length, sym, ap, ap₂, ◌∙◌, option_map, arith}
 use Rattle.std.specs.FinMap.{entries}
 use Rattle.syn_model.specs.Tree.{replace}
 use Rattle.syn_model.specs.Limits.{fits_archive}

@@ -1,4 +1,4 @@
-use Rattle.std.proofs.Common.{length, sym, ap, ◌∙◌, arith}
+use Rattle.std.proofs.Common.{length, ap, ◌∙◌, arith}
 use Rattle.std.specs.FinMap.{len, len-entries}
 use Rattle.syn_mark.specs.Marks.{marks_with}
 use Rattle.syn_mark.proofs.MarkLemmas.{entries_of}

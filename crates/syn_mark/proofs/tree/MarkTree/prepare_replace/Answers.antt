@@ -1,11 +1,10 @@
-use Rattle.std.proofs.Common.{◌≡◌, ◌≤◌, ◌+◌, Option, Some, None, Bor, option_map, length, refl, sym, ap, ap₂, ◌∙◌, subst, arith}
+use Rattle.std.proofs.Common.{◌≡◌, Option, Some, None, Bor, option_map, length, refl, sym, ap, ap₂, ◌∙◌, arith}
 use Rattle.std.specs.Option.{option_copied}
 use Rattle.syn_mark.specs.declared.tree.MarkTree.{MarkTree}
 use Rattle.std.specs.FinMap.{entries, len, len-entries}
 use Rattle.syn_model.specs.Limits.{fits_archive}
 use Rattle.syn_model.specs.Path.{parent, is_root}
 use Rattle.syn_model.specs.Tree.{replace, is_directory}
-use Rattle.syn_tree.specs.Pairs.{under}
 use Rattle.syn_tree.specs.Refusals.{refusal_in}
 use Rattle.syn_tree.specs.Change.{taken_from}
 use Rattle.syn_tree.proofs.PartLemmas.{length_under}

@@ -3,7 +3,7 @@ use Rattle.syn_model.specs.Path.{IsName}
 use Rattle.syn_wire.specs.inner.Names.{name_spelling}
 use Rattle.syn_wire.specs.Reads.{IsReading}
 use Rattle.syn_wire.proofs.PartsLemmas.{no_child, a_child, bad_child}
-use Rattle.syn_wire.proofs.tree_reading.read_child.Goals as goal
+use Rattle.syn_wire.proofs.part_reading.read_child.Goals as goal
 
 pub returns-in_default : goal.returns-in_default
 returns-in_default c =

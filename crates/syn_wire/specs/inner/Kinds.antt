@@ -1,0 +1,41 @@
+-- The two kinds of trees, of contents and of marks. They are spelled alike but for their files.
+use Rattle.std.specs.Prelude.{◌≡◌, ◌≤◌, true, length, Option, Some, None}
+use Rattle.std.specs.FinMap.{len}
+use Rattle.syn_model.specs.Path.{Bytes}
+use Rattle.syn_model.specs.Event.{AreBytes}
+use Rattle.syn_model.specs.Tree.{Tree, Content, File, contents_of, IsPart}
+use Rattle.syn_model.specs.Mark.{IsMarks}
+use Rattle.syn_model.specs.Limits.{fits_part}
+use Rattle.syn_model.specs.Spelling.{spelling}
+use Rattle.syn_model.specs.MarkSpelling.{mark_spelling}
+use Rattle.syn_wire.specs.Events.{IsFile, file_spelling}
+use Rattle.syn_wire.specs.Marks.{digest_spelling}
+use Rattle.syn_wire.specs.Reads.{BeginsWith, IsReading}
+
+pub data Kind : Type 0 where
+  OfContents : Kind
+  OfMarks : Kind
+
+abbrev pub spelling_of : Kind → Tree → Bytes
+spelling_of OfContents = spelling
+spelling_of OfMarks = mark_spelling
+
+-- of a file its bytes behind their length, and of a mark its digest
+abbrev pub file_spelling_of : Kind → Bytes → Bytes
+file_spelling_of OfContents = file_spelling
+file_spelling_of OfMarks = digest_spelling
+
+abbrev pub IsFileOf : Kind → Bytes → Type 0
+IsFileOf OfContents bytes = IsFile bytes
+IsFileOf OfMarks digest = AreBytes digest × (length digest ≡ 32)
+
+-- what may stand at a path of such a tree, within the limits there
+abbrev pub IsPartOf : Kind → Tree → Type 0
+IsPartOf OfContents t = IsPart t × (fits_part t ≡ true)
+IsPartOf OfMarks t = IsMarks t × (len t ≤ 4096)
+
+-- what a reader found behind the kind of a file: the file, or that none is there
+abbrev pub IsFileRead : Kind → Bytes → Option (Content × Bytes) → Type 0
+IsFileRead kind fields None = IsReading (IsFileOf kind) (file_spelling_of kind) fields None
+IsFileRead kind fields (Some found) = (file : Bytes) × (found.0 ≡ File (contents_of file))
+    × BeginsWith (IsFileOf kind) (file_spelling_of kind) fields file found.1

@@ -1,0 +1,67 @@
+//! What a file and a directory are read as, of trees and of marks.
+ghost use Rattle.std.specs.Prelude.{◌≡◌, IfOk, option_map};
+ghost use Rattle.syn_model.specs.Tree.{Directory};
+ghost use Rattle.syn_wire.specs.inner.Kinds.{IsFileRead};
+
+use crate::bytes::read_file;
+use crate::error::WireError;
+use std::alloc::Global;
+use syn_mark::Mark;
+use syn_tree::{Content, Standing};
+
+// How many bytes a digest has.
+const DIGEST_LENGTH: usize = 32;
+
+/// What may stand at a path, as it is read.
+pub(crate) trait Readable: Standing {
+    ghost use Rattle.syn_wire.specs.inner.Kinds.{Kind};
+
+    ghost kind: { Kind };
+
+    /// A directory.
+    fn directory() -> Self
+        ensures { Self.content result ≡ Directory };
+
+    /// What follows the kind of a file, and the rest; none where no front of the bytes is that.
+    /// Refused 11 where memory is refused.
+    fn read_file(alloc: Global, fields: &[u8]) -> Result<Option<(Self, &[u8])>, WireError>
+        ensures { IfOk result (λ read. IsFileRead kind fields.now
+            (option_map (λ found. (Self.content found.0, found.1.now)) read)) };
+}
+
+impl Readable for Content {
+    ghost use Rattle.syn_wire.specs.inner.Kinds.{OfContents};
+
+    ghost kind = { OfContents };
+
+    fn directory() -> Content {
+        Content::Dir
+    }
+
+    fn read_file(alloc: Global, fields: &[u8]) -> Result<Option<(Content, &[u8])>, WireError> {
+        match read_file(alloc, fields)? {
+            Some((bytes, rest)) => Ok(Some((Content::File(bytes), rest))),
+            None => Ok(None),
+        }
+    }
+}
+
+impl Readable for Mark {
+    ghost use Rattle.syn_wire.specs.inner.Kinds.{OfMarks};
+
+    ghost kind = { OfMarks };
+
+    fn directory() -> Mark {
+        Mark::Dir
+    }
+
+    fn read_file(_alloc: Global, fields: &[u8]) -> Result<Option<(Mark, &[u8])>, WireError> {
+        if fields.len() < DIGEST_LENGTH {
+            return Ok(None);
+        }
+        let (front, rest) = fields.split_at(DIGEST_LENGTH);
+        let mut digest = [0; DIGEST_LENGTH];
+        digest.copy_from_slice(front);
+        Ok(Some((Mark::File(digest), rest)))
+    }
+}
