@@ -13,7 +13,7 @@ use Rattle.syn_journal.specs.Layout.{half_size, open_gate, start_of, other_half,
 use Rattle.syn_journal.specs.inner.Whole.{IsWhole}
 use Rattle.syn_journal.proofs.Formats.{long, only_open, other_stays, long_after, other_gate, other_generation, this_gate, this_generation, committed, torn_final, open_final}
 use Rattle.syn_journal.proofs.Commits.{untouched}
-use Rattle.syn_journal.proofs.Meanings.{means, within_disk}
+use Rattle.syn_journal.proofs.Meanings.{has, within_disk}
 use Rattle.syn_journal.proofs.Parts.{overwritten-in, overwritten-behind, torn_by}
 use Rattle.syn_journal.proofs.Whole.{SameHeader, apart, same_current, still_whole}
 
@@ -173,11 +173,11 @@ module _ (disk : List ℕ) (half : Half) (generation gate : ℕ) (value : Value)
         committed disk half (generation + 1) image body next.whole.size next.numbered next.spells next.fits after torn opened
         (newer_current after half (this_gate disk half (generation + 1) image body next.whole.size next.numbered next.spells next.fits after torn opened) old_open (omega (arith, older, newer)))
 
-  pub before_or_after : (after : List ℕ) → IsStagedOrOpened disk (start_of half) body after → IsBeforeOrAfter value (image_alone image) after
-  before_or_after after (inl torn) = inl (means after (other_half half) generation gate value (staged after torn))
+  pub before_or_after : (after : List ℕ) → IsStagedOrOpened disk (start_of half) body after → IsBeforeOrAfter value generation (image_alone image) (generation + 1) after
+  before_or_after after (inl torn) = inl (has after (other_half half) generation gate value (staged after torn))
   before_or_after after (inr torn) = elim (cases_eq (get_or after (start_of half) 0) open_gate) [
-    | inl opened ↦ inr (means after half (generation + 1) (13 + length image) (image_alone image) (taken after torn opened))
-    | inr shut ↦ inl (means after (other_half half) generation gate value (not_yet after torn (ne_eqb _ _ shut)))
+    | inl opened ↦ inr (has after half (generation + 1) (13 + length image) (image_alone image) (taken after torn opened))
+    | inr shut ↦ inl (has after (other_half half) generation gate value (not_yet after torn (ne_eqb _ _ shut)))
   ]
 
   -- and then the old half is the other one

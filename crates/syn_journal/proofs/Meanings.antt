@@ -9,7 +9,7 @@ use Rattle.syn_disk.specs.Disk.{Only}
 use Rattle.syn_disk.specs.declared.disk.TheConstants.{DISK_SIZE}
 use Rattle.syn_journal.specs.declared.half.Half.{Half}
 use Rattle.syn_journal.specs.declared.half.Half.TheVariants.{First, Second}
-use Rattle.syn_journal.specs.Layout.{half_size, longest_image, start_of, other_half, is_open, Value, damaged, records, image_length_at, with_image, bytes_from, value_at, value_in, meaning, records_of, spelled}
+use Rattle.syn_journal.specs.Layout.{half_size, longest_image, start_of, other_half, is_open, HasJournal, Value, damaged, records, image_length_at, with_image, bytes_from, value_at, value_in, meaning, records_of, spelled}
 use Rattle.syn_journal.specs.inner.Whole.{IsWhole, IsInStep}
 use Rattle.syn_journal.specs.Layout.{value_or_empty}
 use Rattle.syn_journal.proofs.Parts.{next_part, take_over}
@@ -87,6 +87,9 @@ module _ (disk : List ℕ) (half : Half) (generation gate : ℕ) (value : Value)
   pub means : meaning disk ≡ Ok value
   unfolding meaning
   means = ap (value_in disk) whole.is_current ∙ value_is
+
+  pub has : HasJournal disk value generation
+  has = record { means = means; half = half; is_current = whole.is_current; numbered = whole.numbered }
 
   -- and so for the value that its bytes have
   pub whole_by_meaning : IsWhole disk half generation gate (value_or_empty (meaning disk))

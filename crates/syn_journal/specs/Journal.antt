@@ -1,11 +1,11 @@
 -- What a journal shows.
-use Rattle.std.specs.Prelude.{◌≡◌, ◌<◌, ◌≤◌, ◌+◌, ◌-◌, ℕ, true, false, Ok}
+use Rattle.std.specs.Prelude.{◌≡◌, ◌<◌, ◌≤◌, ◌+◌, ◌-◌, ℕ, true, false}
 use Rattle.syn_disk.specs.Disk.{Only}
 use Rattle.syn_disk.specs.declared.disk.Disk.{Ghosts}
 use Rattle.syn_journal.specs.declared.half.Half.{Half}
 use Rattle.syn_journal.specs.declared.journal.Journal.{Journal}
 use Rattle.syn_journal.specs.declared.layout.TheConstants.{RECORD_OVERHEAD}
-use Rattle.syn_journal.specs.Layout.{Value, half_size, meaning, size_of}
+use Rattle.syn_journal.specs.Layout.{Value, HasJournal, half_size, meaning, size_of}
 use Rattle.syn_journal.specs.Layout.{value_or_empty}
 
 module _ {D : Type 0} {disk : Ghosts D} (journal : Journal D disk) where
@@ -21,6 +21,10 @@ module _ {D : Type 0} {disk : Ghosts D} (journal : Journal D disk) where
   -- where its next gate stands in the half
   abbrev pub gate_of : ℕ
   gate_of = journal.gate
+
+  -- how many bytes are left for records
+  abbrev pub left_of : ℕ
+  left_of = half_size - 1 - gate_of
 
   -- the length of the longest payload that fits, or 0 where none does
   abbrev pub room_of : ℕ
@@ -41,11 +45,12 @@ module _ {D : Type 0} {disk : Ghosts D} (journal : Journal D disk) where
   abbrev pub value_of : Value
   value_of = value_or_empty (meaning (disk.seen journal.disk))
 
--- The journal runs and has this value, and each stop leaves it.
+-- The journal runs; its disk has this value and the generation that it shows, and each stop leaves
+-- them.
 pub record Stands {D : Type 0} {disk : Ghosts D} (journal : Journal D disk)
     (value : Value) : Type 0 where
   pub running : journal.halted ≡ false
-  pub means : meaning (disk.seen journal.disk) ≡ Ok value
+  pub holds : HasJournal (disk.seen journal.disk) value journal.generation
   pub durable : Only (disk.seen journal.disk) (disk.may_leave journal.disk)
   pub gate : journal.gate ≡ size_of value
 

@@ -10,6 +10,7 @@ use Rattle.std.specs.Prelude.{slice_index, Option, Some, None, Result, Ok, Err}
 use Rattle.std.specs.Int.{w32, w64, from_be_bytes, to_be_bytes}
 use Rattle.syn_journal.specs.declared.half.Half.{Half}
 use Rattle.syn_journal.specs.declared.layout.TheConstants.{IMAGE_AT, IMAGE_LENGTH_AT}
+use Rattle.syn_journal.specs.declared.layout.TheConstants.{RECORD_HEADER}
 use Rattle.syn_journal.specs.declared.half.Half.TheVariants.{First, Second}
 
 abbrev pub half_size : ℕ
@@ -119,6 +120,10 @@ size_of value = IMAGE_AT + length value.image + length (records_of value.payload
 abbrev pub with_payload : Value → List ℕ → Value
 with_payload value payload = record value { payloads = value.payloads ++ payload ∷ [] }
 
+-- how many bytes the record of a payload takes
+abbrev pub record_size : List ℕ → ℕ
+record_size payload = RECORD_HEADER + length payload
+
 -- an image, and no payload yet
 abbrev pub image_alone : List ℕ → Value
 image_alone image = record { image = image; payloads = [] }
@@ -128,6 +133,22 @@ abbrev pub value_or_empty : Result Value Fault → Value
 value_or_empty (Ok value) = value
 value_or_empty (Err fault) = image_alone []
 
--- the disk has the value before a change, or the one after it
-abbrev pub IsBeforeOrAfter : Value → Value → List ℕ → Type 0
-IsBeforeOrAfter before after disk = (meaning disk ≡ Ok before) ⊎ (meaning disk ≡ Ok after)
+-- how many bytes are left behind the records, but for the closed gate
+abbrev pub bytes_left : Value → ℕ
+bytes_left value = half_size - 1 - size_of value
+
+-- a payload more leaves as many bytes less as its record takes
+abbrev pub LeftBehindPayload : Type 0
+LeftBehindPayload = (value : Value) (payload : List ℕ)
+    → bytes_left (with_payload value payload) ≡ bytes_left value - record_size payload
+
+-- the journal on the disk has this value, and its current half this generation
+pub record HasJournal (disk : List ℕ) (value : Value) (generation : ℕ) : Type 0 where
+  pub means : meaning disk ≡ Ok value
+  pub half : Half
+  pub is_current : current disk ≡ Ok half
+  pub numbered : generation_at disk half ≡ generation
+
+-- the disk has the value and generation before a change, or those after it
+abbrev pub IsBeforeOrAfter : Value → ℕ → Value → ℕ → List ℕ → Type 0
+IsBeforeOrAfter before old after new disk = HasJournal disk before old ⊎ HasJournal disk after new

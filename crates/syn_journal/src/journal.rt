@@ -210,8 +210,8 @@ impl<D: Disk> Journal<D> {
         self.halted
     }
 
-    /// Halts the journal: each later change is refused `Halted`, until it is reopened. It serves a layer above that
-    /// could not take what a reopening handed out.
+    /// Halts the journal: each later change is refused `Halted`, until it is reopened. It serves a
+    /// layer above that could not take what a reopening handed out.
     pub fn halt(&mut self)
         ensures halted { IsHalted self.new }
         ensures disk { disk_of self.new ≡ disk_of self.old }
@@ -234,7 +234,8 @@ impl<D: Disk> Journal<D> {
         // A stop at any moment of the call leaves the value before it, or that with the payload.
         ensures any_moment { (value : Value) → Stands self.old value
             → LeavesOnly D.moment D.left_since (disk_of self.old) (disk_of self.new)
-            (IsBeforeOrAfter value (with_payload value payload.now)) }
+            (IsBeforeOrAfter value (generation_of self.old) (with_payload value payload.now)
+            (generation_of self.old)) }
 
         // When each refusal comes, and what it leaves.
         ensures halted { (result ≡ Err JournalError.Halted) ↔ IsHalted self.old }

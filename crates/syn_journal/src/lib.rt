@@ -7,10 +7,12 @@ mod contents;
 mod error;
 mod half;
 mod journal;
+mod laws;
 mod layout;
 mod read;
 
 pub use error::JournalError;
 pub use half::HALF_SIZE;
 pub use journal::{Journal, Opened, Reopened};
+pub use laws::layout_laws;
 pub use layout::MAX_IMAGE;

@@ -4,13 +4,14 @@ use Rattle.syn_model.specs.Path.{Bytes}
 use Rattle.syn_model.specs.Event.{Event}
 use Rattle.syn_model.specs.History.{History, IsAllowed}
 use Rattle.syn_model.specs.Archive.{Archive, Kept, CanKeep, after_kept}
+use Rattle.syn_journal.specs.Layout.{bytes_left}
 use Rattle.syn_headline.specs.Machine.{Journaled, Up, unarmed}
 use Rattle.syn_headline.specs.Network.{Which, Left, Right}
 use Rattle.syn_headline.specs.Acknowledged.{Stores, history_of, stores_after, Grown, ArchiveGrown}
 use Rattle.syn_headline.specs.World.{World, side_of}
 use Rattle.syn_headline.specs.Headline.{stores_of, OfEachRun, EachReplacementIsLegal, EachEntryWasHeld, LeavesPair}
 use Rattle.syn_headline.specs.Headline.{CompleteSessionsSynchronize, CompleteSessionsReconcile, RunsStand, StandsFor}
-use Rattle.syn_recovery.specs.Meaning.{Keeping, IsDiskOf, IsOf, MayBeOf, as_kept, with_record, compacted, room_left}
+use Rattle.syn_recovery.specs.Meaning.{Keeping, IsDiskOf, IsOf, MayBeOf, as_kept, with_record, compacted}
 use Rattle.syn_recovery.specs.Machines.{of_side, of_archive}
 use Rattle.syn_recovery.specs.Headline.{Disks, disk_of, DisksStand, IsOpenedFrom, DisksAreStart, Headline}
 
@@ -22,7 +23,7 @@ module _ {V W : Type 0} (keeping : Keeping V W) (bytes : Bytes) (kept : V) (disk
   machine_of = record {
     status = Up;
     value = kept;
-    room = room_left disk.value;
+    room = bytes_left disk.value;
     generation = disk.generation;
     compacting = false;
     writing = None;

@@ -1,17 +1,14 @@
 -- An opening gives what a disk may mean.
 use Rattle.std.proofs.Common.{◌≡◌, ℕ, suc, ◌-◌, [], ◌∷◌, sym, ap, ◌∙◌, refl, inl, inr, arith}
 use Rattle.syn_model.specs.Path.{Bytes}
-use Rattle.syn_journal.specs.Layout.{Value, image_alone}
+use Rattle.syn_journal.specs.Layout.{Value, image_alone, bytes_left}
 use Rattle.syn_headline.specs.Machine.{Journaled, Arms, opened, recovered, Meets, room_behind}
 use Rattle.syn_headline.specs.Machine.{reopened, with_record as and_record, Up}
-use Rattle.syn_recovery.specs.Meaning.{Keeping, MayMean, as_kept, with_record, compacted, OpensTo, room_left}
+use Rattle.syn_recovery.specs.Meaning.{Keeping, MayMean, as_kept, with_record, compacted, OpensTo}
 
 -- behind an image alone stands no record
-alone_room : (image : Bytes) → room_behind image ≡ room_left (image_alone image)
-alone_room image = sub_zero (room_behind image)
-  where
-    sub_zero : (n : ℕ) → n ≡ n - 0
-    sub_zero n = omega arith
+alone_room : (image : Bytes) → room_behind image ≡ bytes_left (image_alone image)
+alone_room image = omega arith
 
 module _ {V W : Type 0} (keeping : Keeping V W) (machine : Journaled V W) (calls : ℕ) (arms : Arms) (value : Value) (generation : ℕ)
     (made : Meets machine.arms calls Up arms 0) where
@@ -42,7 +39,7 @@ module _ {V W : Type 0} (keeping : Keeping V W) (machine : Journaled V W) (calls
         armed = refl;
         means = record {
           stands = means.stands;
-          room = alone_room image ∙ ap (λ v. room_left v) (sym means.alone);
+          room = alone_room image ∙ ap (λ v. bytes_left v) (sym means.alone);
           numbered = means.numbered;
         };
       }

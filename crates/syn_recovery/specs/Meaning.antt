@@ -1,21 +1,9 @@
 -- What a machine's disk may mean: what the machine keeps, or that with the one change that it was
 -- making.
-use Rattle.std.specs.Prelude.{ℕ, suc, true, false, None, Some, ◌-◌, ◌≡◌, List, sum_by, Ok}
+use Rattle.std.specs.Prelude.{ℕ, suc, true, false, None, Some, ◌-◌, ◌≡◌, List}
 use Rattle.syn_model.specs.Path.{Bytes}
-use Rattle.syn_journal.specs.Layout.{Value, image_alone, meaning, current, generation_at}
-use Rattle.syn_journal.specs.declared.half.Half.{Half}
-use Rattle.syn_headline.specs.Machine.{Journaled, Layout, Arms, Opens, Up, record_size, room_behind}
-
--- the journal on the disk has this value, and this generation
-pub record HasJournal (bytes : Bytes) (value : Value) (generation : ℕ) : Type 0 where
-  pub means : meaning bytes ≡ Ok value
-  pub half : Half
-  pub is_current : current bytes ≡ Ok half
-  pub numbered : generation_at bytes half ≡ generation
-
--- so many bytes are left behind its image and its records
-abbrev pub room_left : Value → ℕ
-room_left value = room_behind value.image - sum_by record_size value.payloads
+use Rattle.syn_journal.specs.Layout.{Value, HasJournal, image_alone, bytes_left}
+use Rattle.syn_headline.specs.Machine.{Journaled, Layout, Arms, Opens, Up, record_size}
 
 -- How a kind of machine keeps its value: how its journal is written, what may be added to a value,
 -- and which image and payloads stand for one
@@ -37,7 +25,7 @@ pub record MeansAsKept {V W : Type 0} (keeping : Keeping V W) (machine : Journal
     (value : Value)
     (generation : ℕ) : Type 0 where
   pub stands : keeping.Stands value.image value.payloads machine.value
-  pub room : machine.room ≡ room_left value
+  pub room : machine.room ≡ bytes_left value
   pub numbered : machine.generation ≡ generation
 
 -- The journal also has the record that was being written as the machine stopped or its device
@@ -49,7 +37,7 @@ pub record MeansWithRecord {V W : Type 0} (keeping : Keeping V W) (machine : Jou
   pub writing : machine.writing ≡ Some added
   pub can_add : keeping.CanAdd machine.value added
   pub stands : keeping.Stands value.image value.payloads (keeping.layout.after machine.value added)
-  pub room : machine.room - record_size (keeping.layout.payload added) ≡ room_left value
+  pub room : machine.room - record_size (keeping.layout.payload added) ≡ bytes_left value
   pub numbered : machine.generation ≡ generation
 
 -- The journal has the image alone, as the checkpoint that was under way leaves it

@@ -37,7 +37,8 @@ impl<D: Disk> Journal<D> {
         // A stop at any moment of the call leaves the value before it, or the image alone.
         ensures any_moment { (value : Value) → Stands self.old value
             → LeavesOnly D.moment D.left_since (disk_of self.old) (disk_of self.new)
-            (IsBeforeOrAfter value (image_alone image.now)) }
+            (IsBeforeOrAfter value (generation_of self.old) (image_alone image.now)
+            (generation_of self.old + 1)) }
 
         // When each refusal comes, and what it leaves.
         ensures halted { (result ≡ Err JournalError.Halted) ↔ IsHalted self.old }
@@ -113,7 +114,7 @@ fn replace<D: Disk>(
     ensures any_moment { (generation gate : ℕ) (value : Value) (image : List ℕ)
         → IsNextImage (D.seen disk.old) half generation gate value image body.now
         → LeavesOnly D.moment D.left_since disk.old disk.new
-        (IsBeforeOrAfter value (image_alone image)) }
+        (IsBeforeOrAfter value generation (image_alone image) (generation + 1)) }
     ensures count { CountsFailure result (D.failures disk.old) (D.failures disk.new) }
     ensures calls { MakesUpTo 6 result (D.arms disk.old) (D.arms disk.new) }
 {

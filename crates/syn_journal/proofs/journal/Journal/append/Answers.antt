@@ -7,7 +7,7 @@ use Rattle.syn_journal.specs.Layout.{value_or_empty}
 use Rattle.syn_journal.proofs.Moments.{weakened}
 use Rattle.syn_journal.proofs.Appends.{before_or_after}
 use Rattle.syn_journal.proofs.Whole.{appended, other_kept}
-use Rattle.syn_journal.proofs.Meanings.{in_step, means, sizes}
+use Rattle.syn_journal.proofs.Meanings.{in_step, has, sizes}
 use Rattle.syn_journal.proofs.journal.Journal.append.Goals as goal
 
 pub returns-in_err-commit-clause-any_moment : goal.returns-in_err-commit-clause-any_moment
@@ -15,13 +15,13 @@ returns-in_err-commit-clause-any_moment g c value stands =
     let journal = c.args.self.now in
     let seen = g.D.Disk.seen journal.disk in
     let step = journal.in_step stands.running in
-    let whole : IsWhole seen journal.half journal.generation journal.gate value = subst (λ v. IsWhole seen journal.half journal.generation journal.gate v) (ap value_or_empty stands.means) step.whole in
+    let whole : IsWhole seen journal.half journal.generation journal.gate value = subst (λ v. IsWhole seen journal.half journal.generation journal.gate v) (ap value_or_empty stands.holds.means) step.whole in
     let body = c.deref.result.now in
     let payload = c.args.payload.now in
     let fits : journal.gate + 6 + length payload ≤ half_size = omega arith in
     let spells : body ≡ body_of_record payload = c.deref.ensures.value ∙ c.in_ok-body.ensures in
     let run = rw c.start.ensures at (c.commit.ensures.any_moment stands.durable) in
-    weakened g.D.Disk.moment g.D.Disk.left_since _ _ (IsStagedOrOpened seen (start_of journal.half + journal.gate) body) (IsBeforeOrAfter value (with_payload value payload))
+    weakened g.D.Disk.moment g.D.Disk.left_since _ _ (IsStagedOrOpened seen (start_of journal.half + journal.gate) body) (IsBeforeOrAfter value journal.generation (with_payload value payload) journal.generation)
     (before_or_after seen journal.half journal.generation journal.gate value whole payload body spells fits) run
 
 pub returns-clause-any_moment : goal.returns-clause-any_moment
@@ -29,13 +29,13 @@ returns-clause-any_moment g c value stands =
     let journal = c.args.self.now in
     let seen = g.D.Disk.seen journal.disk in
     let step = journal.in_step stands.running in
-    let whole : IsWhole seen journal.half journal.generation journal.gate value = subst (λ v. IsWhole seen journal.half journal.generation journal.gate v) (ap value_or_empty stands.means) step.whole in
+    let whole : IsWhole seen journal.half journal.generation journal.gate value = subst (λ v. IsWhole seen journal.half journal.generation journal.gate v) (ap value_or_empty stands.holds.means) step.whole in
     let body = c.deref.result.now in
     let payload = c.args.payload.now in
     let fits : journal.gate + 6 + length payload ≤ half_size = omega arith in
     let spells : body ≡ body_of_record payload = c.deref.ensures.value ∙ c.in_ok-body.ensures in
     let run = rw c.start.ensures at (c.commit.ensures.any_moment stands.durable) in
-    weakened g.D.Disk.moment g.D.Disk.left_since _ _ (IsStagedOrOpened seen (start_of journal.half + journal.gate) body) (IsBeforeOrAfter value (with_payload value payload))
+    weakened g.D.Disk.moment g.D.Disk.left_since _ _ (IsStagedOrOpened seen (start_of journal.half + journal.gate) body) (IsBeforeOrAfter value journal.generation (with_payload value payload) journal.generation)
     (before_or_after seen journal.half journal.generation journal.gate value whole payload body spells fits) run
 
 -- and then the payload is on the disk
@@ -44,7 +44,7 @@ returns-clause-acknowledged g c value stands =
     let journal = c.args.self.now in
     let seen = g.D.Disk.seen journal.disk in
     let step = journal.in_step stands.running in
-    let whole : IsWhole seen journal.half journal.generation journal.gate value = subst (λ v. IsWhole seen journal.half journal.generation journal.gate v) (ap value_or_empty stands.means) step.whole in
+    let whole : IsWhole seen journal.half journal.generation journal.gate value = subst (λ v. IsWhole seen journal.half journal.generation journal.gate v) (ap value_or_empty stands.holds.means) step.whole in
     let body = c.deref.result.now in
     let payload = c.args.payload.now in
     let gate = start_of journal.half + journal.gate in
@@ -57,7 +57,7 @@ returns-clause-acknowledged g c value stands =
     rw written (appended seen journal.half journal.generation journal.gate value whole payload body spells fits) in
     record {
       running = refl;
-      means = means after journal.half journal.generation next _ whole';
+      holds = has after journal.half journal.generation next _ whole';
       durable = c.in_ok-commit.ensures.durable;
       gate = sizes after journal.half journal.generation next _ whole';
     }

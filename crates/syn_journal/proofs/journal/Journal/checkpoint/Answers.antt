@@ -4,7 +4,7 @@ use Rattle.syn_journal.specs.Layout.{other_half, image_alone, meaning}
 use Rattle.syn_journal.specs.inner.Whole.{IsWhole}
 use Rattle.syn_journal.specs.Layout.{value_or_empty}
 use Rattle.syn_journal.proofs.Checkpoints.{twice}
-use Rattle.syn_journal.proofs.Meanings.{in_step, means, sizes}
+use Rattle.syn_journal.proofs.Meanings.{in_step, has, sizes}
 use Rattle.syn_journal.proofs.journal.Journal.checkpoint.Goals as goal
 
 pub returns-in_err-replace-clause-any_moment : goal.returns-in_err-replace-clause-any_moment
@@ -15,7 +15,7 @@ returns-in_err-replace-clause-any_moment g c value stands =
     let half = c.other-other.result in
     let back : other_half half ≡ journal.half = ap other_half c.other-other.ensures ∙ twice journal.half in
     let next : IsNextImage seen half journal.generation journal.gate value c.args.image.now c.deref.result.now = record {
-      whole = subst (λ h. IsWhole seen h journal.generation journal.gate value) (sym back) (subst (λ v. IsWhole seen journal.half journal.generation journal.gate v) (ap value_or_empty stands.means) step.whole);
+      whole = subst (λ h. IsWhole seen h journal.generation journal.gate value) (sym back) (subst (λ v. IsWhole seen journal.half journal.generation journal.gate v) (ap value_or_empty stands.holds.means) step.whole);
       spells = c.deref.ensures.value ∙ c.in_ok-body.ensures;
       fits = omega arith;
       numbered = omega arith;
@@ -30,7 +30,7 @@ returns-clause-any_moment g c value stands =
     let half = c.other-other.result in
     let back : other_half half ≡ journal.half = ap other_half c.other-other.ensures ∙ twice journal.half in
     let next : IsNextImage seen half journal.generation journal.gate value c.args.image.now c.deref.result.now = record {
-      whole = subst (λ h. IsWhole seen h journal.generation journal.gate value) (sym back) (subst (λ v. IsWhole seen journal.half journal.generation journal.gate v) (ap value_or_empty stands.means) step.whole);
+      whole = subst (λ h. IsWhole seen h journal.generation journal.gate value) (sym back) (subst (λ v. IsWhole seen journal.half journal.generation journal.gate v) (ap value_or_empty stands.holds.means) step.whole);
       spells = c.deref.ensures.value ∙ c.in_ok-body.ensures;
       fits = omega arith;
       numbered = omega arith;
@@ -55,7 +55,7 @@ returns-clause-acknowledged g c =
     let whole = (c.in_ok-replace.ensures.written journal.generation journal.gate value image next).0 in
     record {
       running = refl;
-      means = means _ half (journal.generation + 1) (13 + length image) (image_alone image) whole;
+      holds = has _ half (journal.generation + 1) (13 + length image) (image_alone image) whole;
       durable = c.in_ok-replace.ensures.durable;
       gate = sizes _ half (journal.generation + 1) (13 + length image) (image_alone image) whole;
     }

@@ -2,7 +2,7 @@ use Rattle.std.proofs.Common.{◌≡◌, ◌∙◌, ◌+◌, ◌≤◌, false, l
 use Rattle.syn_journal.specs.inner.Commit.{body_of_image}
 use Rattle.syn_journal.specs.declared.half.Half.TheVariants.{First}
 use Rattle.syn_journal.specs.Layout.{longest_image}
-use Rattle.syn_journal.proofs.Meanings.{in_step, means, sizes}
+use Rattle.syn_journal.proofs.Meanings.{in_step, has, sizes}
 use Rattle.syn_journal.proofs.journal.Journal.format.Goals as goal
 
 pub invariant_of-result : goal.invariant_of-result
@@ -21,7 +21,7 @@ returns-in-Ok-write_image-clause-formatted g c =
     let whole = c.in-Ok-write_image.ensures.written image fits spells in
     record {
       running = refl;
-      means = means _ First 1 (13 + length image) _ whole;
+      holds = has _ First 1 (13 + length image) _ whole;
       durable = c.in-Ok-write_image.ensures.durable;
       gate = sizes _ First 1 (13 + length image) _ whole;
     }

@@ -1,4 +1,4 @@
-use Rattle.syn_journal.proofs.Meanings.{means, sizes}
+use Rattle.syn_journal.proofs.Meanings.{has, sizes}
 use Rattle.syn_journal.proofs.journal.Journal.is_halted.Goals as goal
 
 pub returns-clause-stands : goal.returns-clause-stands
@@ -7,7 +7,7 @@ returns-clause-stands g c running =
     let step = journal.in_step running in
     record {
       running = running;
-      means = means _ journal.half journal.generation journal.gate _ step.whole;
+      holds = has _ journal.half journal.generation journal.gate _ step.whole;
       durable = step.durable;
       gate = sizes _ journal.half journal.generation journal.gate _ step.whole;
     }

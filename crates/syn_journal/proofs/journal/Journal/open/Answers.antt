@@ -2,7 +2,7 @@ use Rattle.std.proofs.Common.{◌≡◌, ◌∙◌, refl, ap, subst, sym}
 use Rattle.syn_journal.specs.Layout.{other_half, is_open}
 use Rattle.syn_journal.specs.Opened.{value_read}
 use Rattle.syn_journal.specs.inner.Whole.{IsWhole}
-use Rattle.syn_journal.proofs.Meanings.{in_step, means, sizes}
+use Rattle.syn_journal.proofs.Meanings.{in_step, has, sizes}
 use Rattle.syn_journal.proofs.journal.Journal.open.Goals as goal
 
 pub invariant_of-result : goal.invariant_of-result
@@ -22,7 +22,7 @@ returns-in-Ok-clause-opened g c =
     subst (λ bytes. IsWhole bytes found.half found.generation found.gate (value_read found.image found.records)) (sym c.read_contents.ensures.untouched.same) c.in-Ok.ensures.whole in
     record {
       running = refl;
-      means = means seen found.half found.generation found.gate _ whole;
+      holds = has seen found.half found.generation found.gate _ whole;
       durable = c.in-Ok.ensures.durable;
       gate = sizes seen found.half found.generation found.gate _ whole;
     }

@@ -4,7 +4,7 @@ use Rattle.syn_journal.specs.inner.Commit.{IsClosing, IsStagedOrOpened}
 use Rattle.syn_journal.specs.Layout.{start_of, other_half, is_open, image_alone, IsBeforeOrAfter}
 use Rattle.syn_journal.specs.inner.Whole.{IsWhole}
 use Rattle.syn_journal.proofs.Checkpoints.{while_closing, still_next, before_or_after, checkpointed}
-use Rattle.syn_journal.proofs.Meanings.{means}
+use Rattle.syn_journal.proofs.Meanings.{has}
 use Rattle.syn_journal.proofs.Moments.{weakened, in_turn}
 use Rattle.syn_journal.proofs.Calls.{fewer, then_up_to, up_to_of_exit}
 use Rattle.syn_journal.proofs.journal.checkpoint.replace.Goals as goal
@@ -13,8 +13,8 @@ pub returns-in_err-ensure_closed-clause-any_moment : goal.returns-in_err-ensure_
 returns-in_err-ensure_closed-clause-any_moment g c generation gate value image next =
     let start = g.D.Disk.seen c.args.disk.now in
     let half = c.args.half in
-    weakened g.D.Disk.moment g.D.Disk.left_since _ _ (IsClosing start half) (IsBeforeOrAfter value (image_alone image))
-    (λ d closing. inl (means d (other_half half) generation gate value (while_closing start half generation gate value next.whole d closing)))
+    weakened g.D.Disk.moment g.D.Disk.left_since _ _ (IsClosing start half) (IsBeforeOrAfter value generation (image_alone image) (generation + 1))
+    (λ d closing. inl (has d (other_half half) generation gate value (while_closing start half generation gate value next.whole d closing)))
     (c.ensure_closed.ensures.any_moment c.requires.durable)
 
 pub returns-clause-any_moment : goal.returns-clause-any_moment
@@ -23,10 +23,10 @@ returns-clause-any_moment g c generation gate value image next =
     let mid = g.D.Disk.seen c.ensure_closed.new.disk in
     let half = c.args.half in
     let body = c.args.body.now in
-    let P = IsBeforeOrAfter value (image_alone image) in
+    let P = IsBeforeOrAfter value generation (image_alone image) (generation + 1) in
     let next' = still_next start mid half generation gate value image body next c.in_ok-ensure_closed.ensures.same in
     let first = weakened g.D.Disk.moment g.D.Disk.left_since _ _ (IsClosing start half) P
-    (λ d closing. inl (means d (other_half half) generation gate value (while_closing start half generation gate value next.whole d closing)))
+    (λ d closing. inl (has d (other_half half) generation gate value (while_closing start half generation gate value next.whole d closing)))
     (c.ensure_closed.ensures.any_moment c.requires.durable) in
     let second = weakened g.D.Disk.moment g.D.Disk.left_since _ _ (IsStagedOrOpened mid (start_of half) body) P
     (before_or_after mid half generation gate value image body next' c.in_ok-ensure_closed.ensures.closed)
