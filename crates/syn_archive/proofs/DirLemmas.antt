@@ -1,8 +1,8 @@
 -- A directory that is recorded where none was.
-use Rattle.std.proofs.Common.{◌≡◌, ℕ, Bool, true, false, if◌then◌else◌, List, [], ◌∷◌, Option, Some, None, refl, sym, ap, ◌∙◌}
-use Rattle.syn_model.specs.Path.{Path, is_root}
+use Rattle.std.proofs.Common.{◌≡◌, ℕ, false, if◌then◌else◌, [], Some, None, ap, ◌∙◌}
+use Rattle.syn_model.specs.Path.{Path}
 use Rattle.syn_model.specs.Tree.{Tree, empty_directory, is_directory, replace}
-use Rattle.syn_model.specs.Refusal.{Cause, Root, first_cause}
+use Rattle.syn_model.specs.Refusal.{Root, first_cause}
 use Rattle.syn_model.specs.Archive.{Archive, RecordedDir, after_kept, kept_refusal, record_causes}
 use Rattle.syn_mark.specs.Changes.{replace_refusal}
 use Rattle.syn_mark.proofs.ChangeLemmas.{allowed_parts}

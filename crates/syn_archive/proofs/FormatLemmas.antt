@@ -1,5 +1,5 @@
 -- What is formatted is short, so that it is refused for no length.
-use Rattle.std.proofs.Common.{◌≡◌, ◌<◌, ◌++◌, ◌∷◌, [], ℕ, length, flat_map, refl, ap, ◌∙◌, arith}
+use Rattle.std.proofs.Common.{◌≡◌, ◌<◌, ℕ, length, flat_map, refl, ap, ◌∙◌, arith}
 use Rattle.syn_journal.specs.Layout.{longest_image}
 use Rattle.syn_journal.specs.Refusals.{IsFormatRefusal}
 use Rattle.syn_journal.specs.declared.error.JournalError.{JournalError}

@@ -1,3 +1,6 @@
 pub mod StandLemmas
 pub mod FormatLemmas
 pub mod DirLemmas
+pub mod AlikeLemmas
+pub mod OpeningLemmas
+pub mod MeaningLemmas

@@ -1,12 +1,14 @@
 -- What an archive shows, and what it stands for.
-use Rattle.std.specs.Prelude.{◌≡◌, ℕ}
+use Rattle.std.specs.Prelude.{◌≡◌, ◌⊎◌, ◌+◌, ◌-◌, List, ℕ}
 use Rattle.syn_disk.specs.declared.disk.Disk.{Ghosts}
 use Rattle.syn_journal.specs.Journal as journal
 use Rattle.syn_journal.specs.declared.journal.Journal.{Journal}
 use Rattle.syn_journal.specs.Layout.{Value}
 use Rattle.syn_model.specs.Tree.{Tree}
 use Rattle.syn_model.specs.Archive as model
+use Rattle.syn_model.specs.Archive.{Kept, after_kept}
 use Rattle.syn_model.specs.ArchiveImage.{ArchiveStandsFor}
+use Rattle.syn_archive.specs.Disks.{DiskKeeps, DiskCompacted, kept_size}
 use Rattle.syn_archive.specs.declared.archive.Archive.{Archive}
 
 module _ {D : Type 0} {disk : Ghosts D} (archive : Archive D disk) where
@@ -29,6 +31,10 @@ module _ {D : Type 0} {disk : Ghosts D} (archive : Archive D disk) where
   abbrev pub disk_of : D
   disk_of = journal.disk_of archive.journal
 
+  -- how many bytes of its journal are left for records
+  abbrev pub left_shown : ℕ
+  left_shown = journal.left_of archive.journal
+
   -- the length of the longest payload that its journal still takes
   abbrev pub room_shown : ℕ
   room_shown = journal.room_of archive.journal
@@ -48,7 +54,37 @@ pub record Stands {D : Type 0} {disk : Ghosts D} (archive : Archive D disk)
   pub runs : journal.Stands (journal_of archive) value
   pub means : ArchiveStandsFor (pair_of archive) value.image value.payloads kept
 
+-- What a stop leaves while a record is written: the archive with the bytes that were left, or that
+-- with what is kept and as many bytes less as its record takes
+abbrev pub KeepsBeforeOrAfter : {D : Type 0} → {disk : Ghosts D} → Archive D disk → model.Archive →
+    Kept → List ℕ → Type 0
+KeepsBeforeOrAfter archive old kept bytes =
+    let left = left_shown archive in let generation = generation_shown archive in
+    DiskKeeps (pair_of archive) old left generation bytes
+    ⊎ DiskKeeps (pair_of archive) (after_kept old kept) (left - kept_size kept) generation bytes
+
+-- What a stop leaves during a checkpoint: the archive as it was kept, or by its image alone with
+-- the next generation
+abbrev pub KeepsOrCompacts : {D : Type 0} → {disk : Ghosts D} → Archive D disk → model.Archive →
+    List ℕ → Type 0
+KeepsOrCompacts archive old bytes =
+    DiskKeeps (pair_of archive) old (left_shown archive) (generation_shown archive) bytes
+    ⊎ DiskCompacted (pair_of archive) old (generation_shown archive + 1) bytes
+
+-- its journal has the record of what is kept, and is else as it was
+pub record HasRecord {D : Type 0} {disk : Ghosts D} (old new : Archive D disk)
+    (kept : Kept) : Type 0 where
+  pub pair : pair_of new ≡ pair_of old
+  pub left_is : left_shown new ≡ left_shown old - kept_size kept
+  pub generation : generation_shown new ≡ generation_shown old
+
 -- what it has in memory stays
 pub record SameMemory {D : Type 0} {disk : Ghosts D} (old new : Archive D disk) : Type 0 where
   pub pair : pair_of new ≡ pair_of old
   pub archive : shown new ≡ shown old
+
+-- and so do the readings of its journal
+pub record KeepsReadings {D : Type 0} {disk : Ghosts D} (old new : Archive D disk) : Type 0 where
+  pub memory : SameMemory old new
+  pub left_is : left_shown new ≡ left_shown old
+  pub generation : generation_shown new ≡ generation_shown old

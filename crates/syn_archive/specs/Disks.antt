@@ -1,8 +1,14 @@
 -- What the bytes of an archive's disk stand for.
-use Rattle.std.specs.Prelude.{◌≡◌, ◌⊎◌, ℕ, List, Ok}
-use Rattle.syn_journal.specs.Layout.{Value, meaning}
-use Rattle.syn_model.specs.Archive.{Archive, Kept, after_kept}
+use Rattle.std.specs.Prelude.{◌≡◌, ◌≢◌, ◌⊎◌, ◌<◌, ◌^◌, ℕ, List, [], Ok, Err, Option, Some, None}
+use Rattle.syn_journal.specs.Layout.{Value, HasJournal, meaning, bytes_left, record_size}
+use Rattle.syn_journal.specs.Layout.{image_alone, no_image, damaged}
+use Rattle.syn_model.specs.Path.{Bytes}
+use Rattle.syn_model.specs.Archive.{Archive, Kept}
+use Rattle.syn_model.specs.MarkSpelling.{archive_spelling, kept_spelling}
 use Rattle.syn_model.specs.ArchiveImage.{ArchiveStandsFor}
+use Rattle.syn_archive.specs.declared.error.ArchiveError.{ArchiveError}
+use Rattle.syn_archive.specs.declared.error.ArchiveError.TheVariants.{Device, Memory, NoImage}
+use Rattle.syn_archive.specs.declared.error.ArchiveError.TheVariants.{Damaged, WrongPair}
 
 -- a disk of the pair stands for the archive
 pub record DiskStands (pair : ℕ) (bytes : List ℕ) (archive : Archive) : Type 0 where
@@ -10,7 +16,75 @@ pub record DiskStands (pair : ℕ) (bytes : List ℕ) (archive : Archive) : Type
   pub means : meaning bytes ≡ Ok value
   pub stands : ArchiveStandsFor pair value.image value.payloads archive
 
--- it stands for the archive, or for the archive with what is being kept
-abbrev pub StandsBeforeOrAfter : ℕ → Archive → Kept → List ℕ → Type 0
-StandsBeforeOrAfter pair archive kept bytes = DiskStands pair bytes archive
-    ⊎ DiskStands pair bytes (after_kept archive kept)
+-- how many bytes the record of what is kept takes
+abbrev pub kept_size : Kept → ℕ
+kept_size kept = record_size (kept_spelling kept)
+
+-- it stands for the archive; so many bytes of its journal are left for records, and this is its
+-- generation
+pub record DiskKeeps (pair : ℕ) (archive : Archive) (left generation : ℕ)
+    (bytes : List ℕ) : Type 0 where
+  pub value : Value
+  pub journal : HasJournal bytes value generation
+  pub stands : ArchiveStandsFor pair value.image value.payloads archive
+  pub left_is : bytes_left value ≡ left
+
+-- it stands for the archive by its image alone
+pub record DiskCompacted (pair : ℕ) (archive : Archive) (generation : ℕ)
+    (bytes : List ℕ) : Type 0 where
+  pub journal : HasJournal bytes (image_alone (archive_spelling pair archive)) generation
+  pub stands : ArchiveStandsFor pair (archive_spelling pair archive) [] archive
+
+-- the image with the payloads stands for no archive, of whatever pair
+abbrev pub StandsForNone : Bytes → List Bytes → Type 0
+StandsForNone image payloads = (pair : ℕ) (archive : Archive) → pair < 2 ^ 64
+    → ¬ ArchiveStandsFor pair image payloads archive
+
+-- it stands for one of another pair than the wanted one
+pub record StandsForOther (wanted : Option ℕ) (image : Bytes) (payloads : List Bytes)
+    : Type 0 where
+  pub pair : ℕ
+  pub fits : pair < 2 ^ 64
+  pub archive : Archive
+  pub stands : ArchiveStandsFor pair image payloads archive
+  pub asked : ℕ
+  pub wanted_is : wanted ≡ Some asked
+  pub differ : asked ≢ pair
+
+-- the disk's layout is broken, or what it has is no archive
+abbrev pub IsDamaged : List ℕ → Type 0
+IsDamaged bytes = (meaning bytes ≡ Err damaged)
+    ⊎ ((value : Value) × (meaning bytes ≡ Ok value) × StandsForNone value.image value.payloads)
+
+-- the disk's layout is broken, or what it has is no archive of this pair
+abbrev pub IsNoneOf : ℕ → List ℕ → Type 0
+IsNoneOf pair bytes = (meaning bytes ≡ Err damaged)
+    ⊎ ((value : Value) × (meaning bytes ≡ Ok value)
+    × ((archive : Archive) → ¬ ArchiveStandsFor pair value.image value.payloads archive))
+
+-- it has an archive of another pair than the wanted one
+abbrev pub IsOfOtherPair : Option ℕ → List ℕ → Type 0
+IsOfOtherPair wanted bytes = (value : Value) × (meaning bytes ≡ Ok value)
+    × StandsForOther wanted value.image value.payloads
+
+-- Why a disk is not opened, and what that says of its bytes. No two of these hold at once, and none
+-- of a disk that stands for an archive of the wanted pair.
+abbrev pub IsOpenRefusal : ArchiveError → Option ℕ → List ℕ → Type 0
+IsOpenRefusal Device wanted bytes = Unit {0}
+IsOpenRefusal Memory wanted bytes = Unit {0}
+IsOpenRefusal NoImage wanted bytes = meaning bytes ≡ Err no_image
+IsOpenRefusal Damaged wanted bytes = IsDamaged bytes
+IsOpenRefusal WrongPair wanted bytes = IsOfOtherPair wanted bytes
+IsOpenRefusal _ wanted bytes = ⊥
+
+-- this pair is wanted, or any
+abbrev pub IsWanted : Option ℕ → ℕ → Type 0
+IsWanted wanted pair = (wanted ≡ None) ⊎ (wanted ≡ Some pair)
+
+-- and why an archive's own disk is not opened again
+abbrev pub IsReopenRefusal : ArchiveError → ℕ → List ℕ → Type 0
+IsReopenRefusal Device pair bytes = Unit {0}
+IsReopenRefusal Memory pair bytes = Unit {0}
+IsReopenRefusal NoImage pair bytes = meaning bytes ≡ Err no_image
+IsReopenRefusal Damaged pair bytes = IsNoneOf pair bytes
+IsReopenRefusal _ pair bytes = ⊥

@@ -1,7 +1,7 @@
 -- Why a call of an archive is refused, as a refusal of the product.
 use Rattle.std.specs.Prelude.{◌≡◌, ◌<◌, ℕ, Result, Ok, Err, Option, Some, None}
 use Rattle.syn_disk.specs.Arms.{Arms}
-use Rattle.syn_disk.specs.Calls.{Breaks}
+use Rattle.syn_disk.specs.Calls.{Breaks, BreaksSometime, MakesAtLeast}
 use Rattle.syn_model.specs.Refusal.{Refusal}
 use Rattle.syn_model.specs.Refusal as why
 use Rattle.syn_tree.specs.declared.error.TreeError.{TreeError}
@@ -59,6 +59,11 @@ CountsFailures _ old new = new ≡ old
 abbrev pub MakesIfDevice : ArchiveError → ℕ → Arms → Arms → Type 0
 MakesIfDevice Device most old new = Breaks most old new
 MakesIfDevice _ most old new = new ≡ old
+
+-- Where Device is answered, the last device call failed, and none where any other refusal is.
+abbrev pub AfterReads : ℕ → ArchiveError → Arms → Arms → Type 0
+AfterReads least Device old new = BreaksSometime old new
+AfterReads least _ old new = MakesAtLeast least old new
 
 -- what the marks are no cause of: a journal that is full or halted, want of memory, and a device
 -- call that failed

@@ -1,7 +1,8 @@
 //! An archive over a journal.
 ghost use Rattle.std.specs.Prelude.{◌≡◌, ◌⊎◌, ◌↔◌, ◌+◌, ◌<◌, ◌≤◌, ◌^◌, [], ℕ, length, OnOk, IfOk};
 ghost use Rattle.std.specs.Prelude.{IfErr};
-ghost use Rattle.std.specs.Prelude.{IsErrAnd, MatchResult, Err, Some, true, false, option_map};
+ghost use Rattle.std.specs.Prelude.{IsErrAnd, MatchResult, Err, None, Some, true, false};
+ghost use Rattle.std.specs.Prelude.{option_map};
 ghost use Rattle.syn_model.specs.Archive.{Archive as KeptArchive, Session, Recorded, RecordedDir};
 ghost use Rattle.syn_model.specs.Archive.{new_archive, after_kept, kept_refusal};
 ghost use Rattle.syn_model.specs.Refusal.{Refusal};
@@ -15,21 +16,25 @@ ghost use Rattle.syn_model.specs.MarkSpelling.{archive_spelling, kept_spelling};
 ghost use Rattle.syn_mark.specs.Marks.{or_absent};
 ghost use Rattle.syn_disk.specs.Calls.{Makes};
 ghost use Rattle.syn_disk.specs.Stops.{LeavesOnly};
-ghost use Rattle.syn_archive.specs.Disks.{DiskStands, StandsBeforeOrAfter};
 ghost use Rattle.syn_archive.specs.Refusals.{refusal_of, refusal_in, CountsFailures, MakesIfDevice};
 ghost use Rattle.syn_archive.specs.Refusals.{IsOfFormat, IsOfSession, IsOfRecord, IsOfCheckpoint};
 ghost use Rattle.syn_archive.specs.Refusals.{IsOutside};
 ghost use Rattle.syn_journal.specs.Journal as journal;
-ghost use Rattle.syn_journal.specs.Layout.{image_alone, longest_image};
+ghost use Rattle.syn_journal.specs.Layout.{image_alone};
 
 use crate::error::ArchiveError;
 use std::alloc::Global;
 use syn_disk::{Arm, Disk, Limit};
-use syn_journal::Journal;
+use syn_journal::{Journal, layout_laws};
 use syn_mark::{Mark, MarkTree};
 use syn_model::archive_laws;
 use syn_path::Path;
-use syn_wire::{encode_archive, encode_dir, encode_record, encode_session};
+use syn_wire::{
+    dir_length, encode_archive, encode_dir, encode_record, encode_session, record_length,
+};
+
+mod checkpoint;
+mod open;
 
 /// How many bytes spell a session that begins.
 const SESSION_LENGTH: usize = 9;
@@ -47,7 +52,8 @@ pub struct Archive<D: Disk> {
 impl<D: Disk> Archive<D> {
     ghost use Rattle.syn_archive.specs.Archive.{pair_of, marks_shown, session_shown, shown};
     ghost use Rattle.syn_archive.specs.Archive.{disk_of, journal_of, room_shown, generation_shown};
-    ghost use Rattle.syn_archive.specs.Archive.{IsHalted, Stands, SameMemory};
+    ghost use Rattle.syn_archive.specs.Archive.{IsHalted, Stands, SameMemory, KeepsReadings};
+    ghost use Rattle.syn_archive.specs.Archive.{HasRecord, KeepsBeforeOrAfter, KeepsOrCompacts};
 
     /// Formats the disk as an archive of the pair, whose root is an empty directory, with no
     /// session.
@@ -157,7 +163,12 @@ impl<D: Disk> Archive<D> {
             × Stands self.new (after_kept kept (Session session))) }
         ensures any_moment { (kept : KeptArchive) → Stands self.old kept
             → LeavesOnly D.moment D.left_since (disk_of self.old) (disk_of self.new)
-            (StandsBeforeOrAfter (pair_of self.old) kept (Session (kept.last_session + 1))) }
+            (KeepsBeforeOrAfter self.old kept (Session (kept.last_session + 1))) }
+        ensures record { OnOk result
+            (HasRecord self.old self.new (Session (session_shown self.old + 1))) }
+        ensures seen { (kept : KeptArchive) → Stands self.old kept
+            → KeepsBeforeOrAfter self.old kept (Session (kept.last_session + 1))
+            (D.seen (disk_of self.new)) }
 
         // Each refusal has its cause, and each cause its refusal.
         ensures refused { (kept : KeptArchive) (why : Refusal) → Stands self.old kept
@@ -167,6 +178,9 @@ impl<D: Disk> Archive<D> {
             ⊎ (kept_refusal (shown self.old) (Session (session_shown self.old + 1))
             ≡ Some (refusal_of e))) }
         ensures no_room { result ≡ Err ArchiveError.JournalFull → room_shown self.old < 9 }
+        ensures full { (kept : KeptArchive) → Stands self.old kept
+            → kept_refusal kept (Session (kept.last_session + 1)) ≡ None
+            → room_shown self.old < 9 → result ≡ Err ArchiveError.JournalFull }
         ensures refusals { IfErr result IsOfSession }
         ensures halted { (result ≡ Err ArchiveError.Halted) ↔ IsHalted self.old }
         ensures halts { result ≡ Err ArchiveError.Device → IsHalted self.new }
@@ -181,11 +195,12 @@ impl<D: Disk> Archive<D> {
             (λ e. MakesIfDevice e 4 (D.arms (disk_of self.old)) (D.arms (disk_of self.new))) }
 
         // What stays after a refusal.
-        ensures remembers { IfErr result (λ _. SameMemory self.old self.new) }
+        ensures readings { IfErr result (λ _. KeepsReadings self.old self.new) }
         ensures unchanged { IfErr result
             (λ e. (e ≡ ArchiveError.Device) ⊎ (journal_of self.new ≡ journal_of self.old)) }
     {
         archive_laws();
+        layout_laws();
         if self.journal.is_halted() {
             return Err(ArchiveError::Halted);
         }
@@ -230,7 +245,12 @@ impl<D: Disk> Archive<D> {
             (after_kept kept (Recorded path.now (or_absent marks)))) }
         ensures any_moment { (kept : KeptArchive) → Stands self.old kept
             → LeavesOnly D.moment D.left_since (disk_of self.old) (disk_of self.new)
-            (StandsBeforeOrAfter (pair_of self.old) kept (Recorded path.now (or_absent marks))) }
+            (KeepsBeforeOrAfter self.old kept (Recorded path.now (or_absent marks))) }
+        ensures record { OnOk result
+            (HasRecord self.old self.new (Recorded path.now (or_absent marks))) }
+        ensures seen { (kept : KeptArchive) → Stands self.old kept
+            → KeepsBeforeOrAfter self.old kept (Recorded path.now (or_absent marks))
+            (D.seen (disk_of self.new)) }
 
         // Each refusal has its cause, and each cause its refusal.
         ensures refused { (why : Refusal) → ¬ IsHalted self.old
@@ -241,6 +261,10 @@ impl<D: Disk> Archive<D> {
             ≡ Some (refusal_of e))) }
         ensures no_room { result ≡ Err ArchiveError.JournalFull
             → room_shown self.old < length (kept_spelling (Recorded path.now (or_absent marks))) }
+        ensures full { ¬ IsHalted self.old
+            → kept_refusal (shown self.old) (Recorded path.now (or_absent marks)) ≡ None
+            → room_shown self.old < length (kept_spelling (Recorded path.now (or_absent marks)))
+            → result ≡ Err ArchiveError.JournalFull }
         ensures refusals { IfErr result IsOfRecord }
         ensures halted { (result ≡ Err ArchiveError.Halted) ↔ IsHalted self.old }
         ensures halts { result ≡ Err ArchiveError.Device → IsHalted self.new }
@@ -255,15 +279,19 @@ impl<D: Disk> Archive<D> {
             (λ e. MakesIfDevice e 4 (D.arms (disk_of self.old)) (D.arms (disk_of self.new))) }
 
         // What stays after a refusal.
-        ensures remembers { IfErr result (λ _. SameMemory self.old self.new) }
+        ensures readings { IfErr result (λ _. KeepsReadings self.old self.new) }
         ensures unchanged { IfErr result
             (λ e. (e ≡ ArchiveError.Device) ⊎ (journal_of self.new ≡ journal_of self.old)) }
     {
         archive_laws();
+        layout_laws();
         if self.journal.is_halted() {
             return Err(ArchiveError::Halted);
         }
         self.fits(path, marks.as_ref())?;
+        if record_length(path, marks.as_ref()) > self.journal.room() {
+            return Err(ArchiveError::JournalFull);
+        }
         let payload = encode_record(alloc, path, marks.as_ref())?;
         let change = self.marks.prepare_replace(alloc, path, marks)?;
         self.journal.append(alloc, &payload)?;
@@ -283,7 +311,12 @@ impl<D: Disk> Archive<D> {
             → OnOk result (Stands self.new (after_kept kept (RecordedDir path.now))) }
         ensures any_moment { (kept : KeptArchive) → Stands self.old kept
             → LeavesOnly D.moment D.left_since (disk_of self.old) (disk_of self.new)
-            (StandsBeforeOrAfter (pair_of self.old) kept (RecordedDir path.now)) }
+            (KeepsBeforeOrAfter self.old kept (RecordedDir path.now)) }
+        ensures record { is_directory (marks_shown self.old) path.now ≡ false
+            → OnOk result (HasRecord self.old self.new (RecordedDir path.now)) }
+        ensures seen { (kept : KeptArchive) → Stands self.old kept
+            → KeepsBeforeOrAfter self.old kept (RecordedDir path.now)
+            (D.seen (disk_of self.new)) }
 
         // Where a directory is recorded, nothing happens, and no device call is made.
         ensures recorded { is_directory (marks_shown self.old) path.now ≡ true
@@ -294,11 +327,15 @@ impl<D: Disk> Archive<D> {
             ⊎ (is_directory (marks_shown self.old) path.now ≡ false)) }
         ensures no_room { result ≡ Err ArchiveError.JournalFull
             → room_shown self.old < length (kept_spelling (RecordedDir path.now)) }
+        ensures full { ¬ IsHalted self.old → is_directory (marks_shown self.old) path.now ≡ false
+            → kept_refusal (shown self.old) (RecordedDir path.now) ≡ None
+            → room_shown self.old < length (kept_spelling (RecordedDir path.now))
+            → result ≡ Err ArchiveError.JournalFull }
         ensures cause { IfErr result (λ e. IsOutside e
             ⊎ (kept_refusal (shown self.old) (RecordedDir path.now) ≡ Some (refusal_of e))) }
         ensures refused { (why : Refusal) → ¬ IsHalted self.old
             → kept_refusal (shown self.old) (RecordedDir path.now) ≡ Some why
-            → IsErrAnd result (λ e. (e ≡ ArchiveError.Memory) ⊎ (refusal_of e ≡ why)) }
+            → IsErrAnd result (λ e. refusal_of e ≡ why) }
         ensures calls { MatchResult result
             (λ _. (D.arms (disk_of self.new) ≡ D.arms (disk_of self.old))
             ⊎ Makes 4 (D.arms (disk_of self.old)) (D.arms (disk_of self.new)))
@@ -310,7 +347,7 @@ impl<D: Disk> Archive<D> {
             (λ _. D.failures (disk_of self.new) ≡ D.failures (disk_of self.old))
             (λ e. CountsFailures e (D.failures (disk_of self.old))
             (D.failures (disk_of self.new))) }
-        ensures remembers { IfErr result (λ _. SameMemory self.old self.new) }
+        ensures readings { IfErr result (λ _. KeepsReadings self.old self.new) }
         ensures unchanged { IfErr result
             (λ e. (e ≡ ArchiveError.Device) ⊎ (journal_of self.new ≡ journal_of self.old)) }
     {
@@ -334,14 +371,22 @@ impl<D: Disk> Archive<D> {
             → OnOk result (Stands self.new (after_kept kept (RecordedDir path.now))) }
         ensures any_moment { (kept : KeptArchive) → Stands self.old kept
             → LeavesOnly D.moment D.left_since (disk_of self.old) (disk_of self.new)
-            (StandsBeforeOrAfter (pair_of self.old) kept (RecordedDir path.now)) }
+            (KeepsBeforeOrAfter self.old kept (RecordedDir path.now)) }
+        ensures record { OnOk result (HasRecord self.old self.new (RecordedDir path.now)) }
+        ensures seen { (kept : KeptArchive) → Stands self.old kept
+            → KeepsBeforeOrAfter self.old kept (RecordedDir path.now)
+            (D.seen (disk_of self.new)) }
         ensures no_room { result ≡ Err ArchiveError.JournalFull
             → room_shown self.old < length (kept_spelling (RecordedDir path.now)) }
+        ensures full { ¬ IsHalted self.old
+            → kept_refusal (shown self.old) (RecordedDir path.now) ≡ None
+            → room_shown self.old < length (kept_spelling (RecordedDir path.now))
+            → result ≡ Err ArchiveError.JournalFull }
         ensures cause { IfErr result (λ e. IsOutside e
             ⊎ (kept_refusal (shown self.old) (RecordedDir path.now) ≡ Some (refusal_of e))) }
         ensures refused { (why : Refusal) → ¬ IsHalted self.old
             → kept_refusal (shown self.old) (RecordedDir path.now) ≡ Some why
-            → IsErrAnd result (λ e. (e ≡ ArchiveError.Memory) ⊎ (refusal_of e ≡ why)) }
+            → IsErrAnd result (λ e. refusal_of e ≡ why) }
         ensures refusals { IfErr result IsOfRecord }
         ensures halted { result ≡ Err ArchiveError.Halted → IsHalted self.old }
         ensures halts { result ≡ Err ArchiveError.Device → IsHalted self.new }
@@ -354,60 +399,21 @@ impl<D: Disk> Archive<D> {
         ensures calls { MatchResult result
             (λ _. Makes 4 (D.arms (disk_of self.old)) (D.arms (disk_of self.new)))
             (λ e. MakesIfDevice e 4 (D.arms (disk_of self.old)) (D.arms (disk_of self.new))) }
-        ensures remembers { IfErr result (λ _. SameMemory self.old self.new) }
+        ensures readings { IfErr result (λ _. KeepsReadings self.old self.new) }
         ensures unchanged { IfErr result
             (λ e. (e ≡ ArchiveError.Device) ⊎ (journal_of self.new ≡ journal_of self.old)) }
     {
         archive_laws();
+        layout_laws();
+        self.marks.check_dir(path)?;
+        if dir_length(path) > self.journal.room() {
+            return Err(ArchiveError::JournalFull);
+        }
         let directory = MarkTree::of_mark(alloc, Mark::Dir)?;
-        self.fits(path, Some(&directory))?;
         let payload = encode_dir(alloc, path)?;
         let change = self.marks.prepare_replace(alloc, path, Some(directory))?;
         self.journal.append(alloc, &payload)?;
         self.marks.make(change);
-        Ok(())
-    }
-
-    /// Writes the marks and the last session as one image, so that the journal has room again.
-    ///
-    /// Refused 10 while the archive is halted, 7 where the image is too long or the generation is
-    /// the greatest, 11 where memory is refused, and 9 where a device call fails. After 9 the
-    /// archive is halted; it shows the same in each case.
-    pub fn checkpoint(&mut self, alloc: Global) -> Result<(), ArchiveError>
-        ensures acknowledged { (kept : KeptArchive) → Stands self.old kept
-            → OnOk result (Stands self.new kept) }
-        ensures any_moment { (kept : KeptArchive) → Stands self.old kept
-            → LeavesOnly D.moment D.left_since (disk_of self.old) (disk_of self.new)
-            (λ bytes. DiskStands (pair_of self.old) bytes kept) }
-        ensures image { OnOk result (journal.Stands (journal_of self.new)
-            (image_alone (archive_spelling (pair_of self.old) (shown self.old)))) }
-        ensures full { result ≡ Err ArchiveError.Full
-            → (generation_shown self.old + 1 ≡ 2 ^ 64) ⊎ (longest_image
-            < length (archive_spelling (pair_of self.old) (shown self.old))) }
-        ensures memory { SameMemory self.old self.new }
-        ensures refusals { IfErr result IsOfCheckpoint }
-        ensures halted { (result ≡ Err ArchiveError.Halted) ↔ IsHalted self.old }
-        ensures halts { result ≡ Err ArchiveError.Device → IsHalted self.new }
-        ensures failures { MatchResult result
-            (λ _. D.failures (disk_of self.new) ≡ D.failures (disk_of self.old))
-            (λ e. CountsFailures e (D.failures (disk_of self.old))
-            (D.failures (disk_of self.new))) }
-
-        // Six device calls where it succeeds. After 9 the last that was made failed.
-        ensures calls { MatchResult result
-            (λ _. Makes 6 (D.arms (disk_of self.old)) (D.arms (disk_of self.new)))
-            (λ e. MakesIfDevice e 6 (D.arms (disk_of self.old)) (D.arms (disk_of self.new))) }
-        ensures generation { OnOk result
-            (generation_shown self.new ≡ generation_shown self.old + 1) }
-        ensures unchanged { IfErr result
-            (λ e. (e ≡ ArchiveError.Device) ⊎ (journal_of self.new ≡ journal_of self.old)) }
-    {
-        archive_laws();
-        if self.journal.is_halted() {
-            return Err(ArchiveError::Halted);
-        }
-        let image = encode_archive(alloc, self.pair, self.last_session, &self.marks)?;
-        self.journal.checkpoint(alloc, &image)?;
         Ok(())
     }
 }

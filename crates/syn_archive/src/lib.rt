@@ -3,6 +3,8 @@
 
 mod archive;
 mod error;
+mod laws;
+mod opening;
 
 pub use archive::Archive;
 pub use error::ArchiveError;

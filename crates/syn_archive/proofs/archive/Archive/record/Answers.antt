@@ -1,4 +1,4 @@
-use Rattle.std.proofs.Common.{◌≡◌, ℕ, ◌++◌, ◌∷◌, [], Option, Some, None, Bor, option_map, refl, sym, ap, ap₂, ◌∙◌, subst}
+use Rattle.std.proofs.Common.{◌≡◌, ℕ, ◌++◌, ◌∷◌, [], Option, Some, None, Bor, option_map, inl, refl, sym, ap, ap₂, ◌∙◌, subst}
 use Rattle.std.specs.Option.{option_copied}
 use Rattle.syn_journal.specs.Layout.{with_payload, IsBeforeOrAfter}
 use Rattle.syn_model.specs.Tree.{Tree, replace}
@@ -7,8 +7,8 @@ use Rattle.syn_model.specs.MarkSpelling.{kept_spelling}
 use Rattle.syn_mark.specs.Marks.{or_absent}
 use Rattle.syn_mark.specs.declared.tree.MarkTree.{MarkTree}
 use Rattle.syn_archive.specs.Archive.{shown}
-use Rattle.syn_archive.specs.Disks.{StandsBeforeOrAfter}
-use Rattle.syn_archive.proofs.StandLemmas.{payload_keeps, stop_keeps, leaves_weaker}
+use Rattle.syn_archive.specs.Archive.{KeepsBeforeOrAfter, left_shown}
+use Rattle.syn_archive.proofs.StandLemmas.{keeps_now, not_written, payload_keeps, stop_keeps, left_behind, leaves_weaker, seen_is_left}
 use Rattle.syn_archive.proofs.archive.Archive.record.Goals as goal
 
 copied : (o : Option (Bor MarkTree)) → option_map (λ m. m.now) o ≡ option_copied o
@@ -22,16 +22,16 @@ pub returns-in_err-append-clause-any_moment : goal.returns-in_err-append-clause-
 returns-in_err-append-clause-any_moment g c kept stands =
     let what = Recorded c.args.path.now (or_absent c.args.marks) in
     let can : CanKeep kept what = record { lawful = (c.in_ok-change.ensures.path, c.in_ok-change.ensures.marks); not_refused = ap (λ a. kept_refusal a what) (sym stands.remembers) ∙ c.in_ok-change.ensures.allowed } in
-    let payload : c.deref.result.now ≡ kept_spelling what = c.deref.ensures.value ∙ (c.in_ok-payload.ensures ∙ ap (λ o. kept_spelling (Recorded c.args.path.now (or_absent o))) (copied c.as_ref-2.result ∙ c.as_ref-2.ensures.value)) in
-    leaves_weaker g.D.Disk.moment g.D.Disk.left_since _ _ (IsBeforeOrAfter stands.value (with_payload stands.value c.deref.result.now)) (StandsBeforeOrAfter c.args.self.now.pair kept what)
-    (stop_keeps c.archive_laws.ensures.record c.args.self.now.pair stands.value c.deref.result.now kept what stands.means can payload)
+    let payload : c.deref.result.now ≡ kept_spelling what = c.deref.ensures.value ∙ (c.in_ok-payload.ensures ∙ ap (λ o. kept_spelling (Recorded c.args.path.now (or_absent o))) (copied c.as_ref-3.result ∙ c.as_ref-3.ensures.value)) in
+    leaves_weaker g.D.Disk.moment g.D.Disk.left_since _ _ (IsBeforeOrAfter stands.value c.args.self.now.journal.generation (with_payload stands.value c.deref.result.now) c.args.self.now.journal.generation) (KeepsBeforeOrAfter c.args.self.now kept what)
+    (stop_keeps c.archive_laws.ensures.record c.layout_laws.ensures.left c.args.self.now.pair stands.value c.deref.result.now kept what (left_shown c.args.self.now) c.args.self.now.journal.generation stands.means can payload (left_behind c.args.self.now stands.value stands.runs))
     (c.in_err-append.ensures.any_moment stands.value stands.runs)
 
 pub returns-clause-acknowledged : goal.returns-clause-acknowledged
 returns-clause-acknowledged g c kept stands =
     let what = Recorded c.args.path.now (or_absent c.args.marks) in
     let can : CanKeep kept what = record { lawful = (c.in_ok-change.ensures.path, c.in_ok-change.ensures.marks); not_refused = ap (λ a. kept_refusal a what) (sym stands.remembers) ∙ c.in_ok-change.ensures.allowed } in
-    let payload : c.deref.result.now ≡ kept_spelling what = c.deref.ensures.value ∙ (c.in_ok-payload.ensures ∙ ap (λ o. kept_spelling (Recorded c.args.path.now (or_absent o))) (copied c.as_ref-2.result ∙ c.as_ref-2.ensures.value)) in
+    let payload : c.deref.result.now ≡ kept_spelling what = c.deref.ensures.value ∙ (c.in_ok-payload.ensures ∙ ap (λ o. kept_spelling (Recorded c.args.path.now (or_absent o))) (copied c.as_ref-3.result ∙ c.as_ref-3.ensures.value)) in
     let made = c.make.ensures ∙ ap₂ (λ p u. replace c.args.self.now.marks p u) c.in_ok-change.ensures.at c.in_ok-change.ensures.new in
     record {
       remembers = ap (with_marks c.args.self.now.last_session) made ∙ ap (λ a. after_kept a what) stands.remembers;
@@ -44,7 +44,31 @@ pub returns-clause-any_moment : goal.returns-clause-any_moment
 returns-clause-any_moment g c kept stands =
     let what = Recorded c.args.path.now (or_absent c.args.marks) in
     let can : CanKeep kept what = record { lawful = (c.in_ok-change.ensures.path, c.in_ok-change.ensures.marks); not_refused = ap (λ a. kept_refusal a what) (sym stands.remembers) ∙ c.in_ok-change.ensures.allowed } in
-    let payload : c.deref.result.now ≡ kept_spelling what = c.deref.ensures.value ∙ (c.in_ok-payload.ensures ∙ ap (λ o. kept_spelling (Recorded c.args.path.now (or_absent o))) (copied c.as_ref-2.result ∙ c.as_ref-2.ensures.value)) in
-    leaves_weaker g.D.Disk.moment g.D.Disk.left_since _ _ (IsBeforeOrAfter stands.value (with_payload stands.value c.deref.result.now)) (StandsBeforeOrAfter c.args.self.now.pair kept what)
-    (stop_keeps c.archive_laws.ensures.record c.args.self.now.pair stands.value c.deref.result.now kept what stands.means can payload)
+    let payload : c.deref.result.now ≡ kept_spelling what = c.deref.ensures.value ∙ (c.in_ok-payload.ensures ∙ ap (λ o. kept_spelling (Recorded c.args.path.now (or_absent o))) (copied c.as_ref-3.result ∙ c.as_ref-3.ensures.value)) in
+    leaves_weaker g.D.Disk.moment g.D.Disk.left_since _ _ (IsBeforeOrAfter stands.value c.args.self.now.journal.generation (with_payload stands.value c.deref.result.now) c.args.self.now.journal.generation) (KeepsBeforeOrAfter c.args.self.now kept what)
+    (stop_keeps c.archive_laws.ensures.record c.layout_laws.ensures.left c.args.self.now.pair stands.value c.deref.result.now kept what (left_shown c.args.self.now) c.args.self.now.journal.generation stands.means can payload (left_behind c.args.self.now stands.value stands.runs))
     (c.in_ok-append.ensures.any_moment stands.value stands.runs)
+
+pub returns-in_err-fits-clause-any_moment : goal.returns-in_err-fits-clause-any_moment
+returns-in_err-fits-clause-any_moment g c kept stands =
+    not_written g.met.D.Disk.only_now c.args.self.now kept stands _ (inl (keeps_now c.args.self.now kept stands))
+
+pub returns-in_err-payload-clause-any_moment : goal.returns-in_err-payload-clause-any_moment
+returns-in_err-payload-clause-any_moment g c kept stands =
+    not_written g.met.D.Disk.only_now c.args.self.now kept stands _ (inl (keeps_now c.args.self.now kept stands))
+
+pub returns-in_err-change-clause-any_moment : goal.returns-in_err-change-clause-any_moment
+returns-in_err-change-clause-any_moment g c kept stands =
+    not_written g.met.D.Disk.only_now c.args.self.now kept stands _ (inl (keeps_now c.args.self.now kept stands))
+
+pub returns-in_err-append-clause-seen : goal.returns-in_err-append-clause-seen
+returns-in_err-append-clause-seen g c kept stands =
+    seen_is_left g.D.Disk.seen g.D.Disk.may_leave g.D.Disk.moment g.D.Disk.left_since g.met.D.Disk.seen_may_stay g.met.D.Disk.counts_now _ _ (KeepsBeforeOrAfter c.args.self.now kept (Recorded c.args.path.now (or_absent c.args.marks))) (returns-in_err-append-clause-any_moment g c kept stands)
+
+pub returns-clause-seen : goal.returns-clause-seen
+returns-clause-seen g c kept stands =
+    seen_is_left g.D.Disk.seen g.D.Disk.may_leave g.D.Disk.moment g.D.Disk.left_since g.met.D.Disk.seen_may_stay g.met.D.Disk.counts_now _ _ (KeepsBeforeOrAfter c.args.self.now kept (Recorded c.args.path.now (or_absent c.args.marks))) (returns-clause-any_moment g c kept stands)
+
+pub returns-then-record_length-room-clause-any_moment : goal.returns-then-record_length-room-clause-any_moment
+returns-then-record_length-room-clause-any_moment g c kept stands =
+    not_written g.met.D.Disk.only_now c.args.self.now kept stands _ (inl (keeps_now c.args.self.now kept stands))

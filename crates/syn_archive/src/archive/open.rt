@@ -1,0 +1,148 @@
+//! An opening: an archive finds out what a disk, or its own, stands for.
+ghost use Rattle.std.specs.Prelude.{◌≡◌, ◌⊎◌, ◌<◌, ◌^◌, ℕ, Err, Some, IfOk, IfErr, OnOk};
+ghost use Rattle.std.specs.Prelude.{MatchResult};
+ghost use Rattle.syn_disk.specs.Calls.{MakesAtLeast};
+ghost use Rattle.syn_disk.specs.Stops.{Untouched};
+ghost use Rattle.syn_model.specs.Archive.{Archive as KeptArchive, Kept, after_kept};
+ghost use Rattle.syn_archive.specs.Disks.{DiskStands};
+ghost use Rattle.syn_archive.specs.Disks.{IsOpenRefusal, IsReopenRefusal, IsWanted};
+ghost use Rattle.syn_archive.specs.Refusals.{AfterReads, CountsFailures};
+
+use super::Archive;
+use crate::error::ArchiveError;
+use crate::laws::opening_laws;
+use crate::opening::{read_archive, read_own};
+use std::alloc::Global;
+use syn_disk::Disk;
+use syn_journal::{Journal, Opened};
+use syn_wire::ArchiveImage;
+
+impl<D: Disk> Archive<D> {
+    ghost use Rattle.syn_archive.specs.Archive.{pair_of, shown, disk_of};
+    ghost use Rattle.syn_archive.specs.Archive.{IsHalted, Stands, SameMemory, KeepsBeforeOrAfter};
+
+    /// Opens what the disk holds.
+    ///
+    /// Refused 9 where a device call fails, 18 where the disk holds no image, 19 where its layout
+    /// is broken or it means nothing that an archive holds, 20 where it is of another pair than the
+    /// one given, and 11 where memory is refused; the disk comes back. Nothing is written.
+    pub fn open(alloc: Global, disk: D, pair: Option<u64>) -> Result<Archive<D>, (ArchiveError, D)>
+        // It shows what the disk stands for, and stands for each archive that the disk stands for.
+        ensures given { IfOk result (λ archive.
+            DiskStands (pair_of archive) (D.seen disk) (shown archive)) }
+        ensures stands { IfOk result (λ archive. Stands archive (shown archive)) }
+        ensures each { IfOk result (λ archive. (number : ℕ) (kept : KeptArchive) → number < 2 ^ 64
+            → DiskStands number (D.seen disk) kept
+            → (number ≡ pair_of archive) × Stands archive kept) }
+        ensures wanted { IfOk result (λ archive. (asked : ℕ) → pair ≡ Some asked
+            → asked ≡ pair_of archive) }
+
+        // Each refusal has its cause. No two causes hold of one disk, and none of a lawful one,
+        // which is refused 9 and 11 alone.
+        ensures refusals { IfErr result (λ refused. IsOpenRefusal refused.0 pair (D.seen disk)) }
+        ensures lawful { (number : ℕ) (kept : KeptArchive) → number < 2 ^ 64
+            → DiskStands number (D.seen disk) kept → IsWanted pair number
+            → IfErr result (λ refused.
+            (refused.0 ≡ ArchiveError.Device) ⊎ (refused.0 ≡ ArchiveError.Memory)) }
+
+        ensures untouched { MatchResult result
+            (λ archive. Untouched D.seen D.may_leave D.moment D.left_since disk (disk_of archive))
+            (λ refused. Untouched D.seen D.may_leave D.moment D.left_since disk refused.1) }
+        ensures failures { MatchResult result
+            (λ archive. D.failures (disk_of archive) ≡ D.failures disk)
+            (λ refused. CountsFailures refused.0 (D.failures disk) (D.failures refused.1)) }
+
+        // A sync and then reads, whose number is not fixed; after 9 the last of them failed.
+        ensures calls { MatchResult result
+            (λ archive. MakesAtLeast 1 (D.arms disk) (D.arms (disk_of archive)))
+            (λ refused. AfterReads 1 refused.0 (D.arms disk) (D.arms refused.1)) }
+    {
+        opening_laws();
+        let opened = match Journal::open(alloc, disk) {
+            Ok(opened) => opened,
+            Err((error, disk)) => return Err((ArchiveError::from(error), disk)),
+        };
+        let Opened {
+            journal,
+            image,
+            records,
+        } = opened;
+        match read_archive(alloc, &image, pair, &records) {
+            Ok(
+                ArchiveImage {
+                    pair,
+                    last_session,
+                    marks,
+                },
+            ) => Ok(Archive {
+                journal,
+                pair,
+                last_session,
+                marks,
+            }),
+            Err(error) => Err((error, journal.into_disk())),
+        }
+    }
+
+    /// Opens the archive's own disk again. An archive that was halted runs again.
+    ///
+    /// Refused 9 where a device call fails, 18 where the disk holds no image, 19 where its layout
+    /// is broken or it means no archive of the pair, and 11 where memory is refused. After 9 the
+    /// archive is halted; after any other refusal it is as it was, halted or not. Nothing is
+    /// written.
+    pub fn reopen(&mut self, alloc: Global) -> Result<(), ArchiveError>
+        // It shows what the disk stands for, and stands for each archive that the disk stands for.
+        ensures given { OnOk result
+            (DiskStands (pair_of self.new) (D.seen (disk_of self.old)) (shown self.new)) }
+        ensures each { OnOk result ((kept : KeptArchive)
+            → DiskStands (pair_of self.new) (D.seen (disk_of self.old)) kept
+            → Stands self.new kept) }
+        ensures pair { pair_of self.new ≡ pair_of self.old }
+
+        // Where a call was refused 9, it leaves the archive before the call, or that with what was
+        // being kept.
+        ensures before_or_after { (kept : KeptArchive) (what : Kept)
+            → KeepsBeforeOrAfter self.old kept what (D.seen (disk_of self.old))
+            → OnOk result (Stands self.new kept ⊎ Stands self.new (after_kept kept what)) }
+
+        // Each refusal has its cause.
+        ensures refusals { IfErr result (λ e.
+            IsReopenRefusal e (pair_of self.old) (D.seen (disk_of self.old))) }
+        ensures halts { result ≡ Err ArchiveError.Device → IsHalted self.new }
+
+        // What stays after a refusal.
+        ensures memory { IfErr result (λ _. SameMemory self.old self.new) }
+        ensures halted { IfErr result (λ _. IsHalted self.old → IsHalted self.new) }
+        ensures unchanged { (kept : KeptArchive) → Stands self.old kept
+            → IfErr result (λ e. (e ≡ ArchiveError.Device) ⊎ Stands self.new kept) }
+
+        ensures untouched { Untouched D.seen D.may_leave D.moment D.left_since
+            (disk_of self.old) (disk_of self.new) }
+        ensures failures { MatchResult result
+            (λ _. D.failures (disk_of self.new) ≡ D.failures (disk_of self.old))
+            (λ e. CountsFailures e (D.failures (disk_of self.old))
+            (D.failures (disk_of self.new))) }
+
+        // A sync and then reads, whose number is not fixed; after 9 the last of them failed.
+        ensures calls { MatchResult result
+            (λ _. MakesAtLeast 1 (D.arms (disk_of self.old)) (D.arms (disk_of self.new)))
+            (λ e. AfterReads 1 e (D.arms (disk_of self.old)) (D.arms (disk_of self.new))) }
+    {
+        opening_laws();
+        let was_halted = self.journal.is_halted();
+        let found = self.journal.reopen(alloc)?;
+        match read_own(alloc, &found.image, self.pair, &found.records) {
+            Ok(read) => {
+                self.last_session = read.last_session;
+                self.marks = read.marks;
+                Ok(())
+            }
+            Err(error) => {
+                if was_halted {
+                    self.journal.halt();
+                }
+                Err(error)
+            }
+        }
+    }
+}
