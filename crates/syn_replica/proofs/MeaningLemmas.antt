@@ -9,7 +9,7 @@ use Rattle.syn_journal.specs.Layout.{Value, Fault, meaning}
 use Rattle.syn_journal.specs.Refusals as journal
 use Rattle.syn_journal.specs.declared.error.JournalError.{JournalError}
 use Rattle.syn_journal.specs.declared.error.JournalError.TheVariants as refused
-use Rattle.syn_replica.specs.Disks.{DiskGives, IsOfOtherPair, IsOtherPair, IsOpenRefusal}
+use Rattle.syn_replica.specs.Disks.{IsOfOtherPair, GivesOtherPair, GivesNothing, IsOpenRefusal}
 use Rattle.syn_replica.specs.Refusals.{CountsFailures, AfterReads, IsOneOf, hiding_refusals}
 use Rattle.syn_replica.specs.inner.Openings.{IsOfMeaning}
 use Rattle.syn_replica.specs.declared.error.ReplicaError.{ReplicaError}
@@ -38,7 +38,7 @@ journal_refusal refused.Device wanted bytes h = tt
 journal_refusal refused.Halted wanted bytes h = absurd h
 journal_refusal refused.Memory wanted bytes h = tt
 journal_refusal refused.NoImage wanted bytes h = h
-journal_refusal refused.Damaged wanted bytes h = λ pair standing fits gives. no_value (meaning bytes) gives.value _ gives.means h
+journal_refusal refused.Damaged wanted bytes h = h
 
 -- of a disk that means something only for want of memory, or where a device call failed
 pub journal_hides : (e : JournalError) (wanted : Option ℕ) (bytes : List ℕ) → journal.IsOpenRefusal e (meaning bytes) → IsOfOtherPair wanted bytes → IsOneOf hiding_refusals (Journal e)
@@ -52,20 +52,19 @@ journal_hides refused.Damaged wanted bytes h other = absurd (no_value (meaning b
 
 -- and what its image and its payloads refuse
 pub meaning_refusal : (e : ReplicaError) (wanted : Option ℕ) (bytes : List ℕ) (value : Value) → meaning bytes ≡ Ok value → IsOfMeaning e →
-    (e ≡ Damaged → (pair : ℕ) (standing : Standing) → pair < 2 ^ 64 → ¬ Gives pair value.image value.payloads standing) → (e ≡ WrongPair → IsOtherPair value.image wanted) → IsOpenRefusal e wanted bytes
+    (e ≡ Damaged → GivesNothing value.image value.payloads) → (e ≡ WrongPair → GivesOtherPair wanted value.image value.payloads) → IsOpenRefusal e wanted bytes
 meaning_refusal (Tree e) wanted bytes value means h damaged other = absurd h
 meaning_refusal (History e) wanted bytes value means h damaged other = absurd h
 meaning_refusal (Journal e) wanted bytes value means h damaged other = absurd h
 meaning_refusal Memory wanted bytes value means h damaged other = tt
 meaning_refusal Touched wanted bytes value means h damaged other = absurd h
 meaning_refusal OldSession wanted bytes value means h damaged other = absurd h
-meaning_refusal Damaged wanted bytes value means h damaged other =
-    λ pair standing fits gives. damaged refl pair standing fits (subst (λ v. Gives pair v.image v.payloads standing) (one_value (meaning bytes) gives.value value gives.means means) gives.gives)
+meaning_refusal Damaged wanted bytes value means h damaged other = record { value = value; means = means; nothing = damaged refl }
 meaning_refusal WrongPair wanted bytes value means h damaged other = record { value = value; means = means; other = other refl }
 
 -- the disk is of another pair as its value is
-pub other_value : (wanted : Option ℕ) (bytes : List ℕ) (value : Value) → meaning bytes ≡ Ok value → IsOfOtherPair wanted bytes → IsOtherPair value.image wanted
-other_value wanted bytes value means other = subst (λ v. IsOtherPair v.image wanted) (one_value (meaning bytes) other.value value other.means means) other.other
+pub other_value : (wanted : Option ℕ) (bytes : List ℕ) (value : Value) → meaning bytes ≡ Ok value → IsOfOtherPair wanted bytes → GivesOtherPair wanted value.image value.payloads
+other_value wanted bytes value means other = subst (λ v. GivesOtherPair wanted v.image v.payloads) (one_value (meaning bytes) other.value value other.means means) other.other
 
 -- these make no device call that fails
 pub quiet : (e : ReplicaError) (old new : ℕ) → IsOfMeaning e → new ≡ old → CountsFailures e old new

@@ -1,5 +1,5 @@
 -- What is read of an image and of its payloads.
-use Rattle.std.proofs.Common.{◌≡◌, ◌<◌, ◌+◌, ◌^◌, ℕ, List, [], ◌∷◌, ◌++◌, length, map, take, drop, sym, ap, ap₂, ◌∙◌, subst, Some, None, append-nil, append_assoc, slice_index_or}
+use Rattle.std.proofs.Common.{◌≡◌, ◌⊎◌, inl, inr, refl, ◌<◌, ◌+◌, ◌^◌, ℕ, List, [], ◌∷◌, ◌++◌, length, map, take, drop, sym, ap, ap₂, ◌∙◌, subst, Some, None, append-nil, append_assoc, slice_index_or}
 use Rattle.std.specs.Global.{Vec}
 use Rattle.std.proofs.lemmas.List.{map-append, map_more, take-append-drop}
 use Rattle.syn_model.specs.Path.{Bytes}
@@ -12,6 +12,9 @@ use Rattle.syn_wire.specs.Images.{IsImage, spelled_image, NoImageBeginsAnother}
 use Rattle.syn_wire.specs.Laws.{NoEventBeginsAnother}
 use Rattle.syn_wire.specs.Reads.{BeginsWith, IsReading}
 use Rattle.syn_replica.specs.inner.Openings.{Replays, IsEventOf, IsImageOf, OneIsGiven, bytes_of_each}
+use Rattle.syn_replica.specs.inner.Openings.{IsOfPayload}
+use Rattle.syn_replica.specs.declared.error.ReplicaError.{ReplicaError}
+use Rattle.syn_replica.specs.declared.error.ReplicaError.TheVariants.{Tree, History, Journal, Memory, Touched, OldSession, Damaged, WrongPair}
 use Rattle.syn_replica.proofs.AlikeLemmas.{replays_nothing}
 
 -- ---- the whole of what is read, and nothing behind it
@@ -75,3 +78,14 @@ row_parts payloads i payload events inside is read =
     ∙ (map-append f (take (i + 1) payloads) (drop (i + 1) payloads)
     ∙ (ap (λ xs. xs ++ rest) (map_more f payloads i payload inside ∙ ap₂ (λ xs p. xs ++ p.items ∷ []) read (sym is))
     ∙ append_assoc (map event_spelling events) (payload.items ∷ []) rest))
+
+-- what is refused of payloads that are lawful is memory alone
+pub memory_else : (e : ReplicaError) → IsOfPayload e → (e ≡ Damaged → ⊥) → (e ≡ Memory) ⊎ (e ≡ WrongPair)
+memory_else (Tree e) of other = absurd of
+memory_else (History e) of other = absurd of
+memory_else (Journal e) of other = absurd of
+memory_else Memory of other = inl refl
+memory_else Touched of other = absurd of
+memory_else OldSession of other = absurd of
+memory_else Damaged of other = absurd (other refl)
+memory_else WrongPair of other = inr refl

@@ -1,6 +1,6 @@
 -- Which refusals a call may answer.
 use Rattle.std.proofs.Common.{◌≡◌, ◌⊎◌, ◌<◌, ℕ, Bool, true, false, ◌||◌, ◌==◌, List, [], ◌∷◌, ◌++◌, refl, sym, ap, ap₂, ◌∙◌, subst, Option, Some, None, Result, Ok, Err, inl, inr, true≢false, arith}
-use Rattle.std.specs.Prelude.{IsErrAnd}
+use Rattle.std.specs.Prelude.{IsErrAnd, IfErr, OnOk}
 use Rattle.std.specs.List.{list_any, AllByRecursion}
 use Rattle.std.proofs.lemmas.Bool.Decides.{nat_tests}
 use Rattle.std.proofs.lemmas.Option.{none-some, same_Some}
@@ -52,3 +52,43 @@ pub edit_among : (standing : Standing) (user : ℕ) (edit : Edit) (refusal : Ref
 edit_among s user (Put path bytes) refusal e = first_among edit_refusals (causes_at s (Edited user (Put path bytes))) refusal (refl, (refl, (refl, (refl, (refl, tt))))) e
 edit_among s user (MakeDir path) refusal e = first_among edit_refusals (causes_at s (Edited user (MakeDir path))) refusal (refl, (refl, (refl, (refl, (refl, tt))))) e
 edit_among s user (Remove path) refusal e = first_among edit_refusals (causes_at s (Edited user (Remove path))) refusal (refl, (refl, (refl, (refl, (refl, tt))))) e
+
+-- what no history is the cause of is want of memory or a failed device call
+pub outside_is : (w : Refusal) → is_among outside_refusals w ≡ true → (w ≡ why.Memory) ⊎ (w ≡ why.Device)
+outside_is why.BadPath h = absurd (true≢false (sym h))
+outside_is why.NoParent h = absurd (true≢false (sym h))
+outside_is why.IsDirectory h = absurd (true≢false (sym h))
+outside_is why.Exists h = absurd (true≢false (sym h))
+outside_is why.Absent h = absurd (true≢false (sym h))
+outside_is why.Root h = absurd (true≢false (sym h))
+outside_is why.Full h = absurd (true≢false (sym h))
+outside_is why.JournalFull h = absurd (true≢false (sym h))
+outside_is why.Device h = inr refl
+outside_is why.Halted h = absurd (true≢false (sym h))
+outside_is why.Memory h = inl refl
+outside_is why.Busy h = absurd (true≢false (sym h))
+outside_is why.Touched h = absurd (true≢false (sym h))
+outside_is why.OldSession h = absurd (true≢false (sym h))
+outside_is why.BelowFloor h = absurd (true≢false (sym h))
+outside_is why.NotStaged h = absurd (true≢false (sym h))
+outside_is why.BadStage h = absurd (true≢false (sym h))
+outside_is why.NoImage h = absurd (true≢false (sym h))
+outside_is why.Damaged h = absurd (true≢false (sym h))
+outside_is why.WrongPair h = absurd (true≢false (sym h))
+outside_is why.BadFrame h = absurd (true≢false (sym h))
+outside_is why.TooLarge h = absurd (true≢false (sym h))
+outside_is why.BadMessage h = absurd (true≢false (sym h))
+outside_is why.NoSeat h = absurd (true≢false (sym h))
+outside_is why.NoAnswer h = absurd (true≢false (sym h))
+
+-- where a cause stands, it is answered, or in its place that memory is refused
+pub refused_by : (r : Result ℕ ReplicaError) (answered : Option Refusal) (cause : Refusal) → answered ≡ Some cause → OnOk r (answered ≡ None) → IfErr r (λ e. refusal_of e ≡ why.Device → answered ≡ None) →
+    IfErr r (λ e. IsOneOf outside_refusals e ⊎ (answered ≡ Some (refusal_of e))) → IsErrAnd r (λ e. (refusal_of e ≡ cause) ⊎ (refusal_of e ≡ why.Memory))
+refused_by (Ok x) answered cause e none device told = none-some _ (sym none ∙ e)
+refused_by (Err x) answered cause e none device told = elim told as (λ _. (refusal_of x ≡ cause) ⊎ (refusal_of x ≡ why.Memory)) [
+  | inl outside ↦ elim (outside_is (refusal_of x) outside) as (λ _. (refusal_of x ≡ cause) ⊎ (refusal_of x ≡ why.Memory)) [
+    | inl memory ↦ inr memory
+    | inr failed ↦ absurd (none-some _ (sym (device failed) ∙ e))
+  ]
+  | inr is ↦ inl (same_refusal x cause answered is e)
+]

@@ -1,16 +1,16 @@
 -- Why a replacement is refused, as it is found out step by step.
-use Rattle.std.proofs.Common.{◌≡◌, ◌⊎◌, ◌<◌, ◌≤◌, ℕ, Bool, true, false, not, ◌||◌, if◌then◌else◌, nat_lt, List, [], ◌∷◌, ◌++◌, length, refl, sym, ap, ap₂, ◌∙◌, Option, Some, None, inl, inr, append_assoc, arith, ◌+◌, Result, Ok, Err}
+use Rattle.std.proofs.Common.{◌≡◌, ◌≢◌, ◌==◌, ◌⊎◌, ◌<◌, ◌≤◌, ℕ, Bool, true, false, not, ◌||◌, if◌then◌else◌, nat_lt, List, [], ◌∷◌, ◌++◌, length, refl, sym, ap, ap₂, ◌∙◌, Option, Some, None, inl, inr, append_assoc, arith, ◌+◌, Result, Ok, Err}
 use Rattle.std.specs.Prelude.{IfOk, IfErr, OnOk, IsErrAnd}
 use Rattle.std.proofs.lemmas.List.{length-append}
 use Rattle.std.proofs.lemmas.Option.{none-some}
 use Rattle.std.proofs.lemmas.Bool.Decides.{nat_tests}
 use Rattle.syn_model.specs.Path.{Path}
 use Rattle.syn_model.specs.Tree.{Tree, replace}
-use Rattle.syn_model.specs.Event.{Token, Event, Replaced}
+use Rattle.syn_model.specs.Event.{Token, Event, Began, Replaced}
 use Rattle.syn_model.specs.Refusal.{Refusal, OldSession, BelowFloor, Touched, Cause, first_cause}
 use Rattle.syn_model.specs.Standing.{place_causes, full_causes}
-use Rattle.syn_model.specs.History.{History, tree_of, floor, is_quiet, is_old_token, position_causes}
-use Rattle.syn_replica.specs.Steps.{add_refusal, room_causes, since_causes, replace_refusal, is_done, replaced}
+use Rattle.syn_model.specs.History.{History, tree_of, floor, is_quiet, is_old_token, last_session, position_causes}
+use Rattle.syn_replica.specs.Steps.{add_refusal, room_causes, since_causes, replace_refusal, is_done, replaced, begun}
 use Rattle.syn_replica.specs.Refusals.{IsOneOf, outside_refusals, refusal_of}
 use Rattle.syn_replica.specs.declared.error.ReplicaError.{ReplicaError}
 use Rattle.syn_replica.proofs.RefusalLemmas.{same_refusal}
@@ -102,11 +102,6 @@ module _ (room : ℕ) (history : History) (token : Token) (path : Path) (since :
 
 -- ---- what is answered
 
-pub refused_by : (r : Result ℕ ReplicaError) (answered : Option Refusal) (why : Refusal) → answered ≡ Some why → OnOk r (answered ≡ None) → IfErr r (λ e. IsOneOf outside_refusals e ⊎ (answered ≡ Some (refusal_of e))) →
-    IsErrAnd r (λ e. (refusal_of e ≡ why) ⊎ IsOneOf outside_refusals e)
-refused_by (Ok x) answered why e none cause = none-some _ (sym none ∙ e)
-refused_by (Err x) answered why e none cause = elim cause as (λ _. (refusal_of x ≡ why) ⊎ IsOneOf outside_refusals x) [ inl outside ↦ inr outside | inr is ↦ inl (same_refusal x why answered is e) ]
-
 pub one_longer : (r : Result ℕ ReplicaError) (history : History) (event : Event) (P : Type 0) → IfOk r (λ position. (position ≡ length history + 1) × P) → IfOk r (λ position. (position ≡ length (history ++ event ∷ [])) × P)
 one_longer (Ok x) history event P h = (h.0 ∙ sym (length-append history (event ∷ [])), h.1)
 one_longer (Err x) history event P h = h
@@ -114,3 +109,10 @@ one_longer (Err x) history event P h = h
 -- a token that is not done goes on by its event
 pub not_done : (history : History) (token : Token) (path : Path) (since : ℕ) (new : Tree) → is_done history token ≡ false → replaced history token path since new ≡ history ++ Replaced token path since new ∷ []
 not_done history token path since new e = ap (λ b. if b then history else history ++ Replaced token path since new ∷ []) e
+
+-- a session that was not begun last goes on by its event
+pub not_begun : (history : History) (session : ℕ) → session ≢ last_session history → begun history session ≡ history ++ Began session ∷ []
+not_begun history session other = ap (λ b. if b then history else history ++ Began session ∷ []) (differs session (last_session history) other)
+  where
+    differs : (m n : ℕ) → m ≢ n → (m == n) ≡ false
+    differs m n h = grind (arith, nat_tests)

@@ -1,8 +1,8 @@
 -- What a replica and its disk stand for goes on.
-use Rattle.std.proofs.Common.{◌≡◌, ◌⊎◌, ◌<◌, ◌^◌, ℕ, ◌+◌, List, [], ◌∷◌, ◌++◌, length, refl, sym, ap, ap₂, ◌∙◌, subst, inl, inr, Result, Ok, Err}
+use Rattle.std.proofs.Common.{◌≡◌, ◌⊎◌, ◌<◌, ◌≤◌, ◌^◌, ℕ, ◌+◌, ◌-◌, List, [], ◌∷◌, ◌++◌, length, refl, sym, ap, ap₂, ◌∙◌, subst, inl, inr, Result, Ok, Err, arith}
 use Rattle.std.proofs.lemmas.List.{length-append}
 use Rattle.syn_disk.specs.declared.disk.Disk.{Ghosts}
-use Rattle.syn_journal.specs.Layout.{Value, Fault, meaning, with_payload, image_alone, IsBeforeOrAfter}
+use Rattle.syn_journal.specs.Layout.{Value, Fault, half_size, longest_image, HasJournal, LeftBehindPayload, meaning, with_payload, image_alone, record_size, bytes_left, IsBeforeOrAfter}
 use Rattle.syn_journal.specs.Journal as journal
 use Rattle.syn_disk.specs.Stops.{LeavesOnly}
 use Rattle.syn_model.specs.Laws.{AllowedGoesOn, PayloadGoesOn, StandingSteps, ImageStands}
@@ -12,10 +12,14 @@ use Rattle.syn_model.specs.Standing.{Standing, standing_after, refusal_at, IsAll
 use Rattle.syn_model.specs.History.{History, IsAllowed, IsHistory, standing_of}
 use Rattle.syn_model.specs.Spelling.{event_spelling}
 use Rattle.syn_model.specs.Image.{Gives, StandsFor, image_spelling}
-use Rattle.syn_replica.specs.Disks.{DiskGives, DiskStands, StandsBeforeOrAfter}
+use Rattle.syn_replica.specs.Disks.{DiskGives, DiskStands, DiskKeeps, DiskCompacted, event_size}
 use Rattle.syn_replica.specs.inner.Openings.{OneIsGiven}
+use Rattle.syn_model.specs.Refusal as why
+use Rattle.syn_journal.specs.Refusals.{refusal_of as of_journal}
+use Rattle.syn_journal.specs.declared.error.JournalError.{JournalError}
+use Rattle.syn_journal.specs.declared.error.JournalError.TheVariants as journal_error
 use Rattle.syn_replica.specs.declared.replica.Replica.{Replica}
-use Rattle.syn_replica.specs.Replica.{Remembers, Stands, standing_shown, pair_of, journal_of, disk_of}
+use Rattle.syn_replica.specs.Replica.{Remembers, Stands, standing_shown, pair_of, journal_of, disk_of, left_shown, generation_shown}
 
 -- the payload of an allowed event takes the value one event on
 pub payload_stands : PayloadGoesOn → (pair : ℕ) (value : Value) (payload : Bytes) (history : History) (event : Event) → StandsFor pair value.image value.payloads history → IsAllowed history event → payload ≡ event_spelling event →
@@ -23,10 +27,16 @@ pub payload_stands : PayloadGoesOn → (pair : ℕ) (value : Value) (payload : B
 payload_stands goes_on pair value payload history event stands allowed e =
     subst (λ p. StandsFor pair value.image (value.payloads ++ p ∷ []) (history ++ event ∷ [])) (sym e) (goes_on pair value.image value.payloads history event stands allowed)
 
-pub stop_stands : PayloadGoesOn → (pair : ℕ) (value : Value) (payload : Bytes) (history : History) (event : Event) → StandsFor pair value.image value.payloads history → IsAllowed history event → payload ≡ event_spelling event →
-    (bytes : Bytes) → IsBeforeOrAfter value (with_payload value payload) bytes → StandsBeforeOrAfter pair history event bytes
-stop_stands goes_on pair value payload history event stands allowed e bytes (inl m) = inl (record { value = value; means = m; stands = stands })
-stop_stands goes_on pair value payload history event stands allowed e bytes (inr m) = inr (record { value = with_payload value payload; means = m; stands = payload_stands goes_on pair value payload history event stands allowed e })
+pub stop_keeps : PayloadGoesOn → LeftBehindPayload → (pair : ℕ) (value : Value) (payload : Bytes) (history : History) (event : Event) (left generation : ℕ) → StandsFor pair value.image value.payloads history → IsAllowed history event →
+    payload ≡ event_spelling event → bytes_left value ≡ left → (bytes : Bytes) → IsBeforeOrAfter value generation (with_payload value payload) generation bytes →
+    DiskKeeps pair history left generation bytes ⊎ DiskKeeps pair (history ++ event ∷ []) (left - event_size event) generation bytes
+stop_keeps goes_on less pair value payload history event left generation stands allowed e same bytes (inl has) = inl (record { value = value; journal = has; stands = stands; left_is = same })
+stop_keeps goes_on less pair value payload history event left generation stands allowed e same bytes (inr has) = inr (record {
+  value = with_payload value payload;
+  journal = has;
+  stands = payload_stands goes_on pair value payload history event stands allowed e;
+  left_is = less value payload ∙ ap₂ (λ n p. n - record_size p) same e;
+})
 
 -- what a stop leaves has more than was said of it
 pub leaves_weaker : {D : Type 0} (moment : D → ℕ) (left_since : D → ℕ → List ℕ → Type 0) (old new : D) (P Q : List ℕ → Type 0) → ((c : List ℕ) → P c → Q c) → LeavesOnly moment left_since old new P → LeavesOnly moment left_since old new Q
@@ -41,11 +51,18 @@ pub image_stands : ImageStands → (pair : ℕ) (history : History) (standing : 
 image_stands stands pair history standing image lawful same e =
     subst (λ bytes. StandsFor pair bytes [] history) (sym (e ∙ ap (image_spelling pair) same)) (stands pair history lawful)
 
-pub checkpoint_stands : ImageStands → (pair : ℕ) (value : Value) (history : History) (standing : Standing) (image : Bytes) → StandsFor pair value.image value.payloads history → standing ≡ standing_of history → image ≡ image_spelling pair standing →
-    (bytes : Bytes) → IsBeforeOrAfter value (image_alone image) bytes → DiskStands pair bytes history
-checkpoint_stands stands pair value history standing image before same e bytes (inl m) = record { value = value; means = m; stands = before }
-checkpoint_stands stands pair value history standing image before same e bytes (inr m) =
-    record { value = image_alone image; means = m; stands = image_stands stands pair history standing image before.lawful same e }
+pub stop_compacts : ImageStands → (pair : ℕ) (value : Value) (history : History) (standing : Standing) (image : Bytes) (left generation : ℕ) → StandsFor pair value.image value.payloads history → standing ≡ standing_of history →
+    image ≡ image_spelling pair standing → bytes_left value ≡ left → (bytes : Bytes) → IsBeforeOrAfter value generation (image_alone image) (generation + 1) bytes →
+    DiskKeeps pair history left generation bytes ⊎ DiskCompacted pair history standing (generation + 1) bytes
+stop_compacts stands pair value history standing image left generation before same e left_is bytes (inl has) = inl (record { value = value; journal = has; stands = before; left_is = left_is })
+stop_compacts stands pair value history standing image left generation before same e left_is bytes (inr has) = inr (record {
+  journal = subst (λ i. HasJournal bytes (image_alone i) (generation + 1)) e has;
+  stands = subst (λ i. StandsFor pair i [] history) e (image_stands stands pair history standing image before.lawful same e);
+})
+
+-- the bytes that are left are those behind the value
+pub left_behind : {D : Type 0} {disk : Ghosts D} (replica : Replica D disk) (value : Value) → journal.Stands (journal_of replica) value → bytes_left value ≡ left_shown replica
+left_behind replica value runs = ap (λ gate. half_size - 1 - gate) (sym runs.gate)
 
 -- what is allowed where the replica stands is allowed after the history
 pub allowed_after : (standing : Standing) (history : History) (event : Event) → standing ≡ standing_of history → IsAllowedAt standing event → IsAllowed history event
@@ -73,7 +90,7 @@ pub stands_for_each : OneIsGiven → {D : Type 0} {disk : Ghosts D} (replica : R
     journal.Stands (journal_of replica) value → disk.seen (disk_of replica) ≡ bytes → pair_of replica < 2 ^ 64 → Gives (pair_of replica) value.image value.payloads (standing_shown replica) →
     number < 2 ^ 64 → DiskStands number bytes history → (number ≡ pair_of replica) × Stands replica history
 stands_for_each one replica value bytes number history runs seen fits gives h d =
-    let same = same_value _ d.value value d.means (ap meaning (sym seen) ∙ runs.means) in
+    let same = same_value _ d.value value d.means (ap meaning (sym seen) ∙ runs.holds.means) in
     let stands = subst (λ v. StandsFor number v.image v.payloads history) same d.stands in
     let both = one value.image value.payloads number (pair_of replica) (standing_of history) (standing_shown replica) h fits stands.gives gives in (
       both.0,
@@ -91,7 +108,7 @@ pub shown_of_each : {D : Type 0} {disk : Ghosts D} (replica : Replica D disk) (v
     (Gives number value.image value.payloads (standing_of history) → (number ≡ pair_of replica) × (standing_of history ≡ standing_shown replica)) →
     (number ≡ pair_of replica) × Stands replica history
 shown_of_each replica value bytes number history runs seen d one =
-    let same = same_value _ d.value value d.means (ap meaning (sym seen) ∙ runs.means) in
+    let same = same_value _ d.value value d.means (ap meaning (sym seen) ∙ runs.holds.means) in
     let stands = subst (λ v. StandsFor number v.image v.payloads history) same d.stands in
     let both = one stands.gives in (
       both.0,
@@ -107,10 +124,46 @@ shown_of_each replica value bytes number history runs seen d one =
 pub stands_as_before : {D : Type 0} {disk : Ghosts D} (old new : Replica D disk) (value : Value) (history : History) → Stands old history → journal.Stands (journal_of new) value → disk.seen (disk_of new) ≡ disk.seen (disk_of old) →
     pair_of new ≡ pair_of old → standing_shown new ≡ standing_shown old → Stands new history
 stands_as_before old new value history stands runs seen pair standing =
-    let same = same_value _ value stands.value (ap meaning (sym seen) ∙ runs.means) stands.runs.means in
+    let same = same_value _ value stands.value (ap meaning (sym seen) ∙ runs.holds.means) stands.runs.holds.means in
     record {
       remembers = record { lawful = stands.remembers.lawful; standing = standing ∙ stands.remembers.standing };
       value = value;
       runs = runs;
       means = subst (λ n. StandsFor n value.image value.payloads history) (sym pair) (subst (λ v. StandsFor (pair_of old) v.image v.payloads history) (sym same) stands.means);
     }
+
+-- its disk keeps the history with the bytes that it shows to be left
+pub keeps_now : {D : Type 0} {disk : Ghosts D} (replica : Replica D disk) (history : History) → Stands replica history →
+    DiskKeeps (pair_of replica) history (left_shown replica) (generation_shown replica) (disk.seen (disk_of replica))
+keeps_now replica history stands = record { value = stands.value; journal = stands.runs.holds; stands = stands.means; left_is = left_behind replica stands.value stands.runs }
+
+-- and so does each stop where nothing was written
+pub not_written : {D : Type 0} {disk : Ghosts D} (only_now : (d : D) (c : List ℕ) → disk.left_since d (disk.moment d) c → disk.may_leave d c) (replica : Replica D disk) (history : History) → Stands replica history → (P : List ℕ → Type 0) →
+    P (disk.seen (disk_of replica)) → LeavesOnly disk.moment disk.left_since (disk_of replica) (disk_of replica) P
+not_written only_now replica history stands P here = record {
+  later = omega arith;
+  each = λ c left. subst P (sym (stands.runs.durable c (only_now _ c left))) here;
+  before = λ t c le left. inl left;
+}
+
+-- a checkpoint of an image that is short enough is refused 7 for its generation alone
+pub greatest_alone : (e : JournalError) (size generation : ℕ) → size ≤ longest_image → (e ≡ journal_error.Full → (longest_image < size) ⊎ (generation + 1 ≡ 2 ^ 64)) → of_journal e ≡ why.Full → generation + 1 ≡ 2 ^ 64
+greatest_alone journal_error.Full size generation few full same = elim (full refl) as (λ _. generation + 1 ≡ 2 ^ 64) [
+  | inl long ↦ absurd (omega (arith, few, long))
+  | inr greatest ↦ greatest
+]
+greatest_alone journal_error.JournalFull size generation few full same = cc same
+greatest_alone journal_error.Device size generation few full same = cc same
+greatest_alone journal_error.Halted size generation few full same = cc same
+greatest_alone journal_error.Memory size generation few full same = cc same
+greatest_alone journal_error.NoImage size generation few full same = cc same
+greatest_alone journal_error.Damaged size generation few full same = cc same
+
+-- a disk that keeps a history stands for it
+pub keeps_stands : {pair : ℕ} {history : History} {left generation : ℕ} {bytes : List ℕ} → DiskKeeps pair history left generation bytes → DiskStands pair bytes history
+keeps_stands keeps = record { value = keeps.value; means = keeps.journal.means; stands = keeps.stands }
+
+-- what a read gives after a call is among what a stop leaves of it
+pub seen_is_left : {D : Type 0} (seen : D → List ℕ) (may_leave : D → List ℕ → Type 0) (moment : D → ℕ) (left_since : D → ℕ → List ℕ → Type 0) → ((disk : D) → may_leave disk (seen disk)) →
+    ((disk : D) (t : ℕ) (bytes : List ℕ) → t ≤ moment disk → may_leave disk bytes → left_since disk t bytes) → (old new : D) (P : List ℕ → Type 0) → LeavesOnly moment left_since old new P → P (seen new)
+seen_is_left seen may_leave moment left_since stays counts old new P leaves = leaves.each (seen new) (counts new (moment old) (seen new) leaves.later (stays new))

@@ -1,13 +1,15 @@
 -- What the bytes of a disk stand for.
-use Rattle.std.specs.Prelude.{◌≡◌, ◌≢◌, ◌⊎◌, ◌<◌, ◌^◌, ℕ, List, [], ◌∷◌, ◌++◌, Ok, Err, Option}
+use Rattle.std.specs.Prelude.{◌≡◌, ◌≢◌, ◌<◌, ◌^◌, ℕ, List, [], Ok, Err, Option}
 use Rattle.std.specs.Prelude.{Some}
-use Rattle.syn_journal.specs.Layout.{Value, meaning, no_image}
+use Rattle.syn_journal.specs.Layout.{Value, HasJournal, meaning, bytes_left, record_size}
+use Rattle.syn_journal.specs.Layout.{image_alone, no_image, damaged}
 use Rattle.syn_journal.specs.declared.error.JournalError.TheVariants as journal
 use Rattle.syn_model.specs.Path.{Bytes}
 use Rattle.syn_model.specs.Event.{Event}
 use Rattle.syn_model.specs.Standing.{Standing}
 use Rattle.syn_model.specs.History.{History}
-use Rattle.syn_model.specs.Image.{Gives, IsStanding, StandsFor, image_spelling}
+use Rattle.syn_model.specs.Spelling.{event_spelling}
+use Rattle.syn_model.specs.Image.{Gives, StandsFor, image_spelling}
 use Rattle.syn_replica.specs.declared.error.ReplicaError.{ReplicaError}
 use Rattle.syn_replica.specs.declared.error.ReplicaError.TheVariants.{Journal, Memory, Damaged}
 use Rattle.syn_replica.specs.declared.error.ReplicaError.TheVariants.{WrongPair}
@@ -18,10 +20,24 @@ pub record DiskStands (pair : ℕ) (bytes : List ℕ) (history : History) : Type
   pub means : meaning bytes ≡ Ok value
   pub stands : StandsFor pair value.image value.payloads history
 
--- it stands for the history, or for the history with the event that is being written
-abbrev pub StandsBeforeOrAfter : ℕ → History → Event → List ℕ → Type 0
-StandsBeforeOrAfter pair history event bytes = DiskStands pair bytes history
-    ⊎ DiskStands pair bytes (history ++ event ∷ [])
+-- how many bytes the record of an event takes
+abbrev pub event_size : Event → ℕ
+event_size event = record_size (event_spelling event)
+
+-- it stands for the history; so many bytes of its journal are left for records, and this is its
+-- generation
+pub record DiskKeeps (pair : ℕ) (history : History) (left generation : ℕ)
+    (bytes : List ℕ) : Type 0 where
+  pub value : Value
+  pub journal : HasJournal bytes value generation
+  pub stands : StandsFor pair value.image value.payloads history
+  pub left_is : bytes_left value ≡ left
+
+-- it stands for the history by its image alone, which is that of the standing
+pub record DiskCompacted (pair : ℕ) (history : History) (standing : Standing) (generation : ℕ)
+    (bytes : List ℕ) : Type 0 where
+  pub journal : HasJournal bytes (image_alone (image_spelling pair standing)) generation
+  pub stands : StandsFor pair (image_spelling pair standing) [] history
 
 -- an image of the pair, and behind it the payloads of events that are allowed in turn, give this
 -- standing
@@ -30,13 +46,13 @@ pub record DiskGives (pair : ℕ) (bytes : List ℕ) (standing : Standing) : Typ
   pub means : meaning bytes ≡ Ok value
   pub gives : Gives pair value.image value.payloads standing
 
--- the image is of another pair than the wanted one
-pub record IsOtherPair (image : Bytes) (wanted : Option ℕ) : Type 0 where
+-- image and payloads are those of another pair than the wanted one
+pub record GivesOtherPair (wanted : Option ℕ) (image : Bytes) (payloads : List Bytes)
+    : Type 0 where
   pub pair : ℕ
   pub fits : pair < 2 ^ 64
-  pub first : Standing
-  pub sound : IsStanding first
-  pub image_is : image ≡ image_spelling pair first
+  pub standing : Standing
+  pub gives : Gives pair image payloads standing
   pub asked : ℕ
   pub wanted_is : wanted ≡ Some asked
   pub differ : asked ≢ pair
@@ -45,20 +61,26 @@ pub record IsOtherPair (image : Bytes) (wanted : Option ℕ) : Type 0 where
 pub record IsOfOtherPair (wanted : Option ℕ) (bytes : List ℕ) : Type 0 where
   pub value : Value
   pub means : meaning bytes ≡ Ok value
-  pub other : IsOtherPair value.image wanted
+  pub other : GivesOtherPair wanted value.image value.payloads
 
--- the disk gives nothing: neither as a replica disk of any pair nor as a journal
-abbrev pub GivesNothing : List ℕ → Type 0
-GivesNothing bytes = (pair : ℕ) (standing : Standing) → pair < 2 ^ 64
-    → ¬ DiskGives pair bytes standing
+-- image and payloads give nothing, of whatever pair
+abbrev pub GivesNothing : Bytes → List Bytes → Type 0
+GivesNothing image payloads = (pair : ℕ) (standing : Standing) → pair < 2 ^ 64
+    → ¬ Gives pair image payloads standing
+
+-- the disk has a journal, whose image and payloads give nothing
+pub record IsUnlawful (bytes : List ℕ) : Type 0 where
+  pub value : Value
+  pub means : meaning bytes ≡ Ok value
+  pub nothing : GivesNothing value.image value.payloads
 
 -- why a disk is not opened, and what that says of its bytes
 abbrev pub IsOpenRefusal : ReplicaError → Option ℕ → List ℕ → Type 0
 IsOpenRefusal (Journal journal.Device) wanted bytes = Unit {0}
 IsOpenRefusal (Journal journal.Memory) wanted bytes = Unit {0}
 IsOpenRefusal (Journal journal.NoImage) wanted bytes = meaning bytes ≡ Err no_image
-IsOpenRefusal (Journal journal.Damaged) wanted bytes = GivesNothing bytes
+IsOpenRefusal (Journal journal.Damaged) wanted bytes = meaning bytes ≡ Err damaged
 IsOpenRefusal Memory wanted bytes = Unit {0}
-IsOpenRefusal Damaged wanted bytes = GivesNothing bytes
+IsOpenRefusal Damaged wanted bytes = IsUnlawful bytes
 IsOpenRefusal WrongPair wanted bytes = IsOfOtherPair wanted bytes
 IsOpenRefusal _ wanted bytes = ⊥

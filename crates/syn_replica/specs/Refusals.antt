@@ -69,6 +69,11 @@ begin_refusals = why.Halted ∷ why.WrongPair ∷ why.OldSession ∷ why.Full �
 abbrev pub fetch_refusals : List Refusal
 fetch_refusals = why.Halted ∷ why.BelowFloor ∷ why.Touched ∷ why.Memory ∷ []
 
+abbrev pub replace_refusals : List Refusal
+replace_refusals =
+    why.Halted ∷ why.OldSession ∷ why.BelowFloor ∷ why.Touched ∷ why.Root ∷ why.NoParent ∷ why.Full
+    ∷ why.JournalFull ∷ why.Memory ∷ why.Device ∷ []
+
 abbrev pub checkpoint_refusals : List Refusal
 checkpoint_refusals = why.Halted ∷ why.Full ∷ why.Memory ∷ why.Device ∷ []
 

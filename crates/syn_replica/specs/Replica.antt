@@ -1,5 +1,6 @@
 -- What a replica shows, and what it stands for.
-use Rattle.std.specs.Prelude.{◌≡◌, ℕ}
+use Rattle.std.specs.Prelude.{◌≡◌, ◌⊎◌, ◌+◌, ◌-◌, ◌++◌, ◌∷◌, [], List, ℕ, ◌≢◌}
+use Rattle.std.specs.Prelude.{Option, Some, option_map, Result, Ok, Err}
 use Rattle.syn_disk.specs.declared.disk.Disk.{Ghosts}
 use Rattle.syn_journal.specs.Journal as journal
 use Rattle.syn_journal.specs.declared.journal.Journal.{Journal}
@@ -7,7 +8,14 @@ use Rattle.syn_journal.specs.Layout.{Value}
 use Rattle.syn_model.specs.Tree.{Tree}
 use Rattle.syn_model.specs.Standing.{Standing}
 use Rattle.syn_model.specs.History.{History, IsHistory, standing_of}
+use Rattle.syn_model.specs.Path.{Bytes}
+use Rattle.syn_model.specs.Event.{Event}
+use Rattle.syn_model.specs.Refusal.{Device}
+use Rattle.syn_model.specs.Spelling.{event_spelling}
+use Rattle.syn_replica.specs.Refusals.{refusal_of}
+use Rattle.syn_replica.specs.declared.error.ReplicaError.{ReplicaError}
 use Rattle.syn_model.specs.Image.{StandsFor}
+use Rattle.syn_replica.specs.Disks.{DiskKeeps, DiskCompacted, event_size}
 use Rattle.syn_replica.specs.declared.replica.Replica.{Replica}
 
 module _ {D : Type 0} {disk : Ghosts D} (replica : Replica D disk) where
@@ -30,12 +38,20 @@ module _ {D : Type 0} {disk : Ghosts D} (replica : Replica D disk) where
   abbrev pub disk_of : D
   disk_of = journal.disk_of replica.journal
 
+  -- how many bytes of its journal are left for records
+  abbrev pub left_shown : ℕ
+  left_shown = journal.left_of replica.journal
+
   -- the length of the longest payload that its journal still takes
   abbrev pub room_shown : ℕ
   room_shown = journal.room_of replica.journal
 
   abbrev pub generation_shown : ℕ
   generation_shown = journal.generation_of replica.journal
+
+  -- the spelling of the event that was last sent to the disk since it was opened
+  abbrev pub tried_shown : Option Bytes
+  tried_shown = option_map (λ spelled. spelled.items) replica.tried
 
   -- a device call failed, and the replica was not opened again since
   abbrev pub IsHalted : Type 0
@@ -55,7 +71,47 @@ pub record Stands {D : Type 0} {disk : Ghosts D} (replica : Replica D disk) (his
   pub runs : journal.Stands (journal_of replica) value
   pub means : StandsFor (pair_of replica) value.image value.payloads history
 
+-- What a stop leaves while the record of an event is written: the history with the bytes that were
+-- left, or that with the event and as many bytes less as its record takes
+abbrev pub KeepsBeforeOrAfter : {D : Type 0} → {disk : Ghosts D} → Replica D disk → History →
+    Event → List ℕ → Type 0
+KeepsBeforeOrAfter replica history event bytes =
+    let left = left_shown replica in let generation = generation_shown replica in
+    DiskKeeps (pair_of replica) history left generation bytes
+    ⊎ DiskKeeps (pair_of replica) (history ++ event ∷ []) (left - event_size event) generation bytes
+
+-- What a stop leaves during a checkpoint: the history as it was kept, or by its image alone with
+-- the next generation
+abbrev pub KeepsOrCompacts : {D : Type 0} → {disk : Ghosts D} → Replica D disk → History → List ℕ →
+    Type 0
+KeepsOrCompacts replica history bytes =
+    DiskKeeps (pair_of replica) history (left_shown replica) (generation_shown replica) bytes
+    ⊎ DiskCompacted (pair_of replica) history (standing_shown replica)
+    (generation_shown replica + 1) bytes
+
+-- its journal has the record of the event, and is else as it was
+pub record HasRecord {D : Type 0} {disk : Ghosts D} (old new : Replica D disk)
+    (event : Event) : Type 0 where
+  pub pair : pair_of new ≡ pair_of old
+  pub left_is : left_shown new ≡ left_shown old - event_size event
+  pub generation : generation_shown new ≡ generation_shown old
+
+-- The event is what was sent to the disk last. Where the call was refused otherwise than by a
+-- device call that failed, that is what it was
+abbrev pub Tries : {D X : Type 0} → {disk : Ghosts D} → Replica D disk → Replica D disk → Event →
+    Result X ReplicaError → Type 0
+Tries old new event (Ok x) = tried_shown new ≡ Some (event_spelling event)
+Tries old new event (Err e) =
+    ((refusal_of e ≡ Device) × (tried_shown new ≡ Some (event_spelling event)))
+    ⊎ ((refusal_of e ≢ Device) × (tried_shown new ≡ tried_shown old))
+
 -- what it has in memory stays
 pub record SameMemory {D : Type 0} {disk : Ghosts D} (old new : Replica D disk) : Type 0 where
   pub pair : pair_of new ≡ pair_of old
   pub standing : standing_shown new ≡ standing_shown old
+
+-- and so do the readings of its journal
+pub record KeepsReadings {D : Type 0} {disk : Ghosts D} (old new : Replica D disk) : Type 0 where
+  pub memory : SameMemory old new
+  pub left_is : left_shown new ≡ left_shown old
+  pub generation : generation_shown new ≡ generation_shown old

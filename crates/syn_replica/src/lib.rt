@@ -9,4 +9,4 @@ mod replica;
 mod standing;
 
 pub use error::ReplicaError;
-pub use replica::{Piece, Replica, TokenStanding};
+pub use replica::{Listing, Piece, Replica, TokenStanding};

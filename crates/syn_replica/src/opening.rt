@@ -7,7 +7,7 @@ ghost use Rattle.syn_model.specs.Spelling.{event_spelling};
 ghost use Rattle.syn_model.specs.Standing as model_standing;
 ghost use Rattle.syn_model.specs.Standing.{AllAllowedAt, IsAllowedAt};
 ghost use Rattle.syn_history.specs.Events.{event_of};
-ghost use Rattle.syn_replica.specs.Disks.{IsOtherPair};
+ghost use Rattle.syn_replica.specs.Disks.{GivesOtherPair};
 ghost use Rattle.syn_replica.specs.Refusals.{refusal_of};
 ghost use Rattle.syn_model.specs.Refusal as why;
 ghost use Rattle.syn_replica.specs.inner.Openings.{AddsEvent, Replays, IsEventOf, bytes_of_each};
@@ -23,8 +23,8 @@ use syn_wire::{Image, WireError, decode_event, decode_image, spelling_laws};
 
 /// The pair and the standing that the image and the payloads give.
 ///
-/// Refused 19 where they give none, 20 where the pair is not the wanted one, and 11 where memory is
-/// refused.
+/// Refused 19 where they give none, 20 where they do but the pair is not the wanted one, and 11
+/// where memory is refused.
 pub(crate) fn read_replica(
     alloc: Global,
     image: &[u8],
@@ -42,16 +42,17 @@ pub(crate) fn read_replica(
     ensures damaged { IfErr result (λ e. e ≡ ReplicaError.Damaged
         → (pair : ℕ) (standing : model_standing.Standing) → pair < 2 ^ 64
         → ¬ Gives pair image.now (bytes_of_each payloads.now) standing) }
-    ensures other { IfErr result (λ e. e ≡ ReplicaError.WrongPair → IsOtherPair image.now wanted) }
-    ensures wrong_pair { IsOtherPair image.now wanted → IsErrAnd result (λ e.
-        (e ≡ ReplicaError.Memory) ⊎ (e ≡ ReplicaError.WrongPair)) }
+    ensures other { IfErr result (λ e. e ≡ ReplicaError.WrongPair
+        → GivesOtherPair wanted image.now (bytes_of_each payloads.now)) }
+    ensures wrong_pair { GivesOtherPair wanted image.now (bytes_of_each payloads.now)
+        → IsErrAnd result (λ e. (e ≡ ReplicaError.Memory) ⊎ (e ≡ ReplicaError.WrongPair)) }
 {
     opening_laws();
     let (pair, first) = read_image(alloc, image)?;
+    let standing = replayed(alloc, first, payloads)?;
     if is_other(wanted, pair) {
         return Err(ReplicaError::WrongPair);
     }
-    let standing = replayed(alloc, first, payloads)?;
     Ok((pair, standing))
 }
 

@@ -2,7 +2,7 @@
 ghost use Rattle.std.specs.Prelude.{◌≡◌, ◌≢◌, ◌⊎◌, ◌↔◌, ◌≤◌, ◌+◌, ◌^◌, ◌<◌, ◌++◌, ◌∷◌, [], ℕ};
 ghost use Rattle.std.specs.Prelude.{length, OnOk};
 ghost use Rattle.std.specs.Prelude.{IfOk, IfErr, IsErrAnd, MatchResult, Err, Some, None, true};
-ghost use Rattle.std.specs.Prelude.{false};
+ghost use Rattle.std.specs.Prelude.{false, option_map};
 ghost use Rattle.std.specs.FinMap.{get};
 ghost use Rattle.syn_model.specs.Tree.{is_directory};
 ghost use Rattle.syn_model.specs.Event as model;
@@ -23,16 +23,14 @@ ghost use Rattle.syn_disk.specs.Stops.{LeavesOnly, Untouched};
 ghost use Rattle.syn_replica.specs.Refusals.{refusal_of, IsOneOf, format_refusals};
 ghost use Rattle.syn_replica.specs.Refusals.{reading_refusals};
 ghost use Rattle.syn_replica.specs.Refusals.{edit_refusals, outside_refusals, hiding_refusals};
-ghost use Rattle.syn_replica.specs.Refusals.{checkpoint_refusals};
 ghost use Rattle.syn_replica.specs.Refusals.{CountsFailures, MakesIfDevice, AfterReads};
-ghost use Rattle.syn_replica.specs.Disks.{DiskGives, DiskStands, StandsBeforeOrAfter};
-ghost use Rattle.syn_replica.specs.Disks.{IsOfOtherPair, IsOpenRefusal};
+ghost use Rattle.syn_replica.specs.Disks.{DiskGives, DiskStands, IsOfOtherPair, IsOpenRefusal};
 ghost use Rattle.syn_replica.specs.Edits.{event_by};
 ghost use Rattle.syn_replica.specs.Steps.{add_refusal};
 ghost use Rattle.syn_replica.specs.inner.Updates.{IsReady, IsOf, early_causes, add_refusal_at};
 ghost use Rattle.syn_wire.specs.Events.{IsShort};
 ghost use Rattle.syn_journal.specs.Journal as journal;
-ghost use Rattle.syn_journal.specs.Layout.{image_alone, longest_image};
+ghost use Rattle.syn_journal.specs.Layout.{image_alone};
 
 use crate::error::ReplicaError;
 use crate::laws::opening_laws;
@@ -41,15 +39,18 @@ use crate::standing::{Standing, Update};
 use std::alloc::Global;
 use syn_disk::{Arm, Disk, Limit};
 use syn_history::Event;
-use syn_journal::{Journal, JournalError, Opened};
+use syn_journal::{Journal, JournalError, Opened, layout_laws};
 use syn_model::{history_laws, worked_rows};
 use syn_path::{Name, Path};
 use syn_tree::{Content, Edit, Found, Tree, TreeError};
 use syn_wire::{edit_length, encode_event, encode_image};
 
+mod checkpoint;
+mod listing;
 mod reopen;
 mod session;
 
+pub use listing::Listing;
 pub use session::{Piece, TokenStanding};
 
 /// A replica of a file tree: a history of edits and of what sessions do, which outlives stops of
@@ -59,6 +60,8 @@ pub struct Replica<D: Disk> {
     journal: Journal<D>,
     pair: u64,
     standing: Standing,
+    /// How the event is spelled that was last sent to the disk.
+    tried: Option<Vec<u8>>,
 }
 
 impl<D: Disk> Replica<D> {
@@ -66,6 +69,8 @@ impl<D: Disk> Replica<D> {
     ghost use Rattle.syn_replica.specs.Replica.{position_shown};
     ghost use Rattle.syn_replica.specs.Replica.{disk_of, journal_of, room_shown, generation_shown};
     ghost use Rattle.syn_replica.specs.Replica.{IsHalted, Remembers, Stands, SameMemory};
+    ghost use Rattle.syn_replica.specs.Replica.{KeepsReadings, HasRecord, KeepsBeforeOrAfter};
+    ghost use Rattle.syn_replica.specs.Replica.{tried_shown, Tries};
 
     /// Formats the disk as a replica of the pair, with no events.
     ///
@@ -75,6 +80,7 @@ impl<D: Disk> Replica<D> {
     pub fn format(alloc: Global, disk: D, pair: u64) -> Result<Replica<D>, (ReplicaError, D)>
         ensures formatted { IfOk result (λ replica. Stands replica []) }
         ensures pair { IfOk result (λ replica. pair_of replica ≡ pair) }
+        ensures tried { IfOk result (λ replica. tried_shown replica ≡ None) }
         ensures refusals { IfErr result (λ refused. IsOneOf format_refusals refused.0) }
         ensures unchanged { IfErr result (λ refused. (refusal_of refused.0 ≡ Device)
             ⊎ (refused.1 ≡ disk)) }
@@ -98,6 +104,7 @@ impl<D: Disk> Replica<D> {
                 journal,
                 pair,
                 standing,
+                tried: None,
             }),
             Err((error, disk)) => Err((ReplicaError::from(error), disk)),
         }
@@ -117,6 +124,7 @@ impl<D: Disk> Replica<D> {
             → (number ≡ pair_of replica) × Stands replica history) }
         ensures wanted { IfOk result (λ replica. (asked : ℕ) → pair ≡ Some asked
             → asked ≡ pair_of replica) }
+        ensures tried { IfOk result (λ replica. tried_shown replica ≡ None) }
 
         // Each refusal has its cause.
         ensures refusals { IfErr result (λ refused. IsOpenRefusal refused.0 pair (D.seen disk)) }
@@ -150,6 +158,7 @@ impl<D: Disk> Replica<D> {
                 journal,
                 pair,
                 standing,
+                tried: None,
             }),
             Err(error) => Err((error, journal.into_disk())),
         }
@@ -209,6 +218,17 @@ impl<D: Disk> Replica<D> {
         ensures { (result ≡ true) ↔ IsHalted self.now }
     {
         self.journal.is_halted()
+    }
+
+    /// How the event is spelled that was last sent to the disk since the replica was formatted,
+    /// opened or reopened: its call was answered Ok, or refused 9. None where there was none.
+    pub fn tried(&self) -> Option<&[u8]>
+        ensures { option_map (λ spelled. spelled.now) result ≡ tried_shown self.now }
+    {
+        match &self.tried {
+            Some(spelled) => Some(spelled.as_slice()),
+            None => None,
+        }
     }
 
     /// The disk, as the last call left it.
@@ -275,7 +295,12 @@ impl<D: Disk> Replica<D> {
             × Stands self.new (history ++ event_by user edit ∷ [])) }
         ensures any_moment { (history : History) → Stands self.old history
             → LeavesOnly D.moment D.left_since (disk_of self.old) (disk_of self.new)
-            (StandsBeforeOrAfter (pair_of self.old) history (event_by user edit)) }
+            (KeepsBeforeOrAfter self.old history (event_by user edit)) }
+        ensures seen { (history : History) → Stands self.old history
+            → KeepsBeforeOrAfter self.old history (event_by user edit)
+            (D.seen (disk_of self.new)) }
+        ensures record { OnOk result (HasRecord self.old self.new (event_by user edit)) }
+        ensures tried { Tries self.old self.new (event_by user edit) result }
 
         // Each refusal has its cause, and each cause its refusal: the first of them is answered.
         ensures cause { (history : History) → Stands self.old history
@@ -300,7 +325,7 @@ impl<D: Disk> Replica<D> {
             (λ e. MakesIfDevice e 4 (D.arms (disk_of self.old)) (D.arms (disk_of self.new))) }
 
         // What stays after a refusal.
-        ensures memory { IfErr result (λ _. SameMemory self.old self.new) }
+        ensures readings { IfErr result (λ _. KeepsReadings self.old self.new) }
         ensures unchanged { (history : History) → Stands self.old history
             → IfErr result (λ e. (refusal_of e ≡ Device) ⊎ Stands self.new history) }
     {
@@ -339,12 +364,19 @@ impl<D: Disk> Replica<D> {
             × Stands self.new (history ++ event_of event ∷ [])) }
         ensures any_moment { (history : History) → Stands self.old history
             → LeavesOnly D.moment D.left_since (disk_of self.old) (disk_of self.new)
-            (StandsBeforeOrAfter (pair_of self.old) history (event_of event)) }
+            (KeepsBeforeOrAfter self.old history (event_of event)) }
+        ensures seen { (history : History) → Stands self.old history
+            → KeepsBeforeOrAfter self.old history (event_of event) (D.seen (disk_of self.new)) }
+        ensures record { OnOk result (HasRecord self.old self.new (event_of event)) }
+        ensures tried { Tries self.old self.new (event_of event) result }
         ensures cause { IfErr result (λ e. IsOneOf outside_refusals e
             ⊎ (add_refusal_at (room_shown self.old) (standing_shown self.old) (event_of event)
             ≡ Some (refusal_of e))) }
         ensures allowed { OnOk result
             (add_refusal_at (room_shown self.old) (standing_shown self.old) (event_of event)
+            ≡ None) }
+        ensures device { IfErr result (λ e. refusal_of e ≡ Device
+            → add_refusal_at (room_shown self.old) (standing_shown self.old) (event_of event)
             ≡ None) }
         ensures running { IfErr result (λ e. refusal_of e ≢ Halted) }
         ensures halts { IfErr result (λ e. refusal_of e ≡ Device → IsHalted self.new) }
@@ -355,30 +387,42 @@ impl<D: Disk> Replica<D> {
         ensures calls { MatchResult result
             (λ _. Makes 4 (D.arms (disk_of self.old)) (D.arms (disk_of self.new)))
             (λ e. MakesIfDevice e 4 (D.arms (disk_of self.old)) (D.arms (disk_of self.new))) }
-        ensures memory { IfErr result (λ _. SameMemory self.old self.new) }
+        ensures readings { IfErr result (λ _. KeepsReadings self.old self.new) }
         ensures unchanged { IfErr result (λ e. (refusal_of e ≡ Device)
             ⊎ (journal_of self.new ≡ journal_of self.old)) }
     {
         let payload = encode_event(alloc, &event)?;
         let update = self.standing.prepare(alloc, event)?;
         self.check_room(payload.len())?;
-        self.commit(alloc, &payload, update)
+        self.commit(alloc, payload, update)
     }
 
     /// Writes the payload of an event, and makes its update of what is in memory.
-    fn commit(&mut self, alloc: Global, payload: &[u8], update: Update) -> Result<u64, ReplicaError>
+    fn commit(
+        &mut self,
+        alloc: Global,
+        payload: Vec<u8>,
+        update: Update,
+    ) -> Result<u64, ReplicaError>
         requires ready { IsReady (standing_shown self.old) update }
-        requires takes { Takes (journal_of self.old) (length payload.now) }
+        requires takes { Takes (journal_of self.old) (length payload.items) }
         requires running { ¬ IsHalted self.old }
         ensures acknowledged { (history : History) (event : model.Event) → Stands self.old history
-            → IsAllowed history event → payload.now ≡ event_spelling event
+            → IsAllowed history event → payload.items ≡ event_spelling event
             → IsOf (standing_shown self.old) event update
             → IfOk result (λ position. (position ≡ length history + 1)
             × Stands self.new (history ++ event ∷ [])) }
         ensures any_moment { (history : History) (event : model.Event) → Stands self.old history
-            → IsAllowed history event → payload.now ≡ event_spelling event
+            → IsAllowed history event → payload.items ≡ event_spelling event
             → LeavesOnly D.moment D.left_since (disk_of self.old) (disk_of self.new)
-            (StandsBeforeOrAfter (pair_of self.old) history event) }
+            (KeepsBeforeOrAfter self.old history event) }
+        ensures seen { (history : History) (event : model.Event) → Stands self.old history
+            → IsAllowed history event → payload.items ≡ event_spelling event
+            → KeepsBeforeOrAfter self.old history event (D.seen (disk_of self.new)) }
+        ensures record { (event : model.Event) → payload.items ≡ event_spelling event
+            → OnOk result (HasRecord self.old self.new event) }
+        ensures tried { (event : model.Event) → payload.items ≡ event_spelling event
+            → Tries self.old self.new event result }
         ensures refusals { IfErr result (IsOneOf outside_refusals) }
         ensures halts { IfErr result (λ e. refusal_of e ≡ Device → IsHalted self.new) }
         ensures failures { MatchResult result
@@ -388,73 +432,27 @@ impl<D: Disk> Replica<D> {
         ensures calls { MatchResult result
             (λ _. Makes 4 (D.arms (disk_of self.old)) (D.arms (disk_of self.new)))
             (λ e. MakesIfDevice e 4 (D.arms (disk_of self.old)) (D.arms (disk_of self.new))) }
-        ensures memory { IfErr result (λ _. SameMemory self.old self.new) }
+        ensures readings { IfErr result (λ _. KeepsReadings self.old self.new) }
         ensures unchanged { IfErr result (λ e. (refusal_of e ≡ Device)
             ⊎ (journal_of self.new ≡ journal_of self.old)) }
     {
         history_laws();
-        self.journal.append(alloc, payload)?;
+        layout_laws();
+        if let Err(error) = self.journal.append(alloc, &payload) {
+            if error == JournalError::Device {
+                self.tried = Some(payload);
+            }
+            return Err(ReplicaError::Journal(error));
+        }
+        self.tried = Some(payload);
         self.standing.make(update);
         Ok(self.position())
-    }
-
-    /// Takes an image of what the history leaves in the place of the journal's records, so that
-    /// there is room again. No answer of another call changes, but those that tell of the journal:
-    /// its room and its generation, and whether a call is refused 8.
-    ///
-    /// Refused 10 while the replica is halted, 7 where the generation is the greatest, 11 where
-    /// memory is refused, and 9 where a device call fails. Whenever the machine stops, the disk
-    /// stands for the history.
-    pub fn checkpoint(&mut self, alloc: Global) -> Result<(), ReplicaError>
-        ensures acknowledged { (history : History) → Stands self.old history
-            → OnOk result (Stands self.new history) }
-        ensures any_moment { (history : History) → Stands self.old history
-            → LeavesOnly D.moment D.left_since (disk_of self.old) (disk_of self.new)
-            (λ bytes. DiskStands (pair_of self.old) bytes history) }
-        ensures image { OnOk result (journal.Stands (journal_of self.new)
-            (image_alone (image_spelling (pair_of self.old) (standing_shown self.old)))) }
-        ensures generation { OnOk result
-            (generation_shown self.new ≡ generation_shown self.old + 1) }
-        ensures full { IfErr result (λ e. refusal_of e ≡ Full
-            → (generation_shown self.old + 1 ≡ 2 ^ 64) ⊎ (longest_image
-            < length (image_spelling (pair_of self.old) (standing_shown self.old)))) }
-        ensures refusals { IfErr result (IsOneOf checkpoint_refusals) }
-        ensures halted { (result ≡ Err (ReplicaError.Journal JournalError.Halted))
-            ↔ IsHalted self.old }
-        ensures halts { IfErr result (λ e. refusal_of e ≡ Device → IsHalted self.new) }
-        ensures failures { MatchResult result
-            (λ _. D.failures (disk_of self.new) ≡ D.failures (disk_of self.old))
-            (λ e. CountsFailures e (D.failures (disk_of self.old))
-            (D.failures (disk_of self.new))) }
-
-        // Six device calls where it succeeds. After Device none before the last was to be refused.
-        ensures calls { MatchResult result
-            (λ _. Makes 6 (D.arms (disk_of self.old)) (D.arms (disk_of self.new)))
-            (λ e. MakesIfDevice e 6 (D.arms (disk_of self.old)) (D.arms (disk_of self.new))) }
-
-        // What is in memory stays, also after a refusal.
-        ensures memory { SameMemory self.old self.new }
-        ensures unchanged { IfErr result (λ e. (refusal_of e ≡ Device)
-            ⊎ (journal_of self.new ≡ journal_of self.old)) }
-    {
-        opening_laws();
-        history_laws();
-        if self.journal.is_halted() {
-            return Err(ReplicaError::Journal(JournalError::Halted));
-        }
-        let image = encode_image(
-            alloc,
-            self.pair,
-            self.standing.tree(),
-            self.standing.trail(),
-        )?;
-        self.journal.checkpoint(alloc, &image)?;
-        Ok(())
     }
 }
 
 impl<D: Limit> Replica<D> {
-    ghost use Rattle.syn_replica.specs.Replica.{disk_of, journal_of, SameMemory, Stands};
+    ghost use Rattle.syn_replica.specs.Replica.{disk_of, journal_of, tried_shown};
+    ghost use Rattle.syn_replica.specs.Replica.{SameMemory, Stands};
 
     /// Arms the replica's disk. It takes the place of an arm of its kind that is still to come.
     pub fn arm(&mut self, arm: Arm)
@@ -470,6 +468,7 @@ impl<D: Limit> Replica<D> {
         ensures failures { D.Disk.failures (disk_of self.new) ≡ D.Disk.failures (disk_of self.old) }
         ensures stands { (history : History) → Stands self.old history → Stands self.new history }
         ensures memory { SameMemory self.old self.new }
+        ensures tried { tried_shown self.new ≡ tried_shown self.old }
         ensures readings { SameReadings (journal_of self.old) (journal_of self.new) }
     {
         self.journal.arm(arm);

@@ -1,7 +1,9 @@
 //! A reopening: a replica finds out anew what its own disk stands for.
-ghost use Rattle.std.specs.Prelude.{◌≡◌, ◌⊎◌, Some, IfErr, OnOk, MatchResult};
+ghost use Rattle.std.specs.Prelude.{◌≡◌, ◌⊎◌, ◌++◌, ◌∷◌, [], Some, None, IfErr, OnOk};
+ghost use Rattle.std.specs.Prelude.{MatchResult};
 ghost use Rattle.syn_disk.specs.Calls.{MakesAtLeast};
 ghost use Rattle.syn_disk.specs.Stops.{Untouched};
+ghost use Rattle.syn_model.specs.Event.{Event};
 ghost use Rattle.syn_model.specs.History.{History};
 ghost use Rattle.syn_model.specs.Refusal.{Device};
 ghost use Rattle.syn_replica.specs.Disks.{DiskGives, DiskStands, IsOpenRefusal};
@@ -14,8 +16,8 @@ use std::alloc::Global;
 use syn_disk::Disk;
 
 impl<D: Disk> Replica<D> {
-    ghost use Rattle.syn_replica.specs.Replica.{pair_of, standing_shown, disk_of};
-    ghost use Rattle.syn_replica.specs.Replica.{IsHalted, Stands, SameMemory};
+    ghost use Rattle.syn_replica.specs.Replica.{pair_of, standing_shown, tried_shown, disk_of};
+    ghost use Rattle.syn_replica.specs.Replica.{IsHalted, Stands, SameMemory, KeepsBeforeOrAfter};
 
     /// Opens the replica's own disk again. A replica that was halted runs again.
     ///
@@ -29,6 +31,14 @@ impl<D: Disk> Replica<D> {
             → DiskStands (pair_of self.new) (D.seen (disk_of self.old)) history
             → Stands self.new history) }
         ensures pair { pair_of self.new ≡ pair_of self.old }
+        ensures tried { MatchResult result (λ _. tried_shown self.new ≡ None)
+            (λ _. tried_shown self.new ≡ tried_shown self.old) }
+
+        // Where a call was refused 9, it leaves the history before the call, or that with the event
+        // that was being written.
+        ensures before_or_after { (history : History) (event : Event)
+            → KeepsBeforeOrAfter self.old history event (D.seen (disk_of self.old))
+            → OnOk result (Stands self.new history ⊎ Stands self.new (history ++ event ∷ [])) }
 
         // Each refusal has its cause.
         ensures refusals { IfErr result (λ e.
@@ -58,6 +68,7 @@ impl<D: Disk> Replica<D> {
         match read_replica(alloc, &found.image, Some(self.pair), &found.records) {
             Ok((_pair, standing)) => {
                 self.standing = standing;
+                self.tried = None;
                 Ok(())
             }
             Err(error) => {

@@ -10,9 +10,8 @@ ghost use Rattle.syn_model.specs.Spelling.{spelling};
 ghost use Rattle.syn_model.specs.Tree.{subtree};
 ghost use Rattle.syn_history.specs.Events.{token_of};
 ghost use Rattle.syn_tree.specs.Nodes.{part_of};
-ghost use Rattle.syn_replica.specs.Disks.{StandsBeforeOrAfter};
 ghost use Rattle.syn_replica.specs.Refusals.{refusal_of, IsOneOf, outside_refusals};
-ghost use Rattle.syn_replica.specs.Refusals.{begin_refusals, fetch_refusals};
+ghost use Rattle.syn_replica.specs.Refusals.{begin_refusals, fetch_refusals, replace_refusals};
 ghost use Rattle.syn_replica.specs.Refusals.{CountsFailures, MakesIfDevice};
 ghost use Rattle.syn_replica.specs.Steps.{begun, begin_refusal, is_done, piece, since_causes};
 ghost use Rattle.syn_replica.specs.Steps.{replaced, replace_refusal, how_stands, MakesIfNew};
@@ -59,7 +58,8 @@ pub enum TokenStanding {
 impl<D: Disk> Replica<D> {
     ghost use Rattle.syn_replica.specs.Replica.{pair_of, standing_shown, disk_of, journal_of};
     ghost use Rattle.syn_replica.specs.Replica.{room_shown, IsHalted, Remembers, Stands};
-    ghost use Rattle.syn_replica.specs.Replica.{SameMemory};
+    ghost use Rattle.syn_replica.specs.Replica.{KeepsReadings, HasRecord, KeepsBeforeOrAfter};
+    ghost use Rattle.syn_replica.specs.Replica.{Tries, tried_shown};
 
     /// Begins the session, and answers the position. The session that was begun last begins again
     /// without an event.
@@ -74,7 +74,15 @@ impl<D: Disk> Replica<D> {
             × Stands self.new (begun history session)) }
         ensures any_moment { (history : History) → Stands self.old history
             → LeavesOnly D.moment D.left_since (disk_of self.old) (disk_of self.new)
-            (StandsBeforeOrAfter (pair_of self.old) history (Began session)) }
+            (KeepsBeforeOrAfter self.old history (Began session)) }
+        ensures seen { (history : History) → Stands self.old history
+            → KeepsBeforeOrAfter self.old history (Began session) (D.seen (disk_of self.new)) }
+        ensures record { session ≢ (standing_shown self.old).session
+            → OnOk result (HasRecord self.old self.new (Began session)) }
+        ensures tried { session ≢ (standing_shown self.old).session
+            → Tries self.old self.new (Began session) result }
+        ensures untried { IfErr result (λ e. refusal_of e ≢ Device
+            → tried_shown self.new ≡ tried_shown self.old) }
 
         // The session begun last begins again, and nothing changes.
         ensures again { pair ≡ pair_of self.old → session ≡ (standing_shown self.old).session
@@ -106,7 +114,7 @@ impl<D: Disk> Replica<D> {
             (λ e. MakesIfDevice e 4 (D.arms (disk_of self.old)) (D.arms (disk_of self.new))) }
 
         // What stays after a refusal.
-        ensures memory { IfErr result (λ _. SameMemory self.old self.new) }
+        ensures readings { IfErr result (λ _. KeepsReadings self.old self.new) }
         ensures unchanged { IfErr result (λ e. (refusal_of e ≡ Device)
             ⊎ (journal_of self.new ≡ journal_of self.old)) }
     {
@@ -204,8 +212,19 @@ impl<D: Disk> Replica<D> {
             IfOk result (λ position. (position ≡ length after) × Stands self.new after) }
         ensures any_moment { (history : History) → Stands self.old history
             → LeavesOnly D.moment D.left_since (disk_of self.old) (disk_of self.new)
-            (StandsBeforeOrAfter (pair_of self.old) history
+            (KeepsBeforeOrAfter self.old history
             (Replaced (token_of token) path.now since (part_of new))) }
+        ensures seen { (history : History) → Stands self.old history
+            → KeepsBeforeOrAfter self.old history
+            (Replaced (token_of token) path.now since (part_of new)) (D.seen (disk_of self.new)) }
+        ensures record { (history : History) → Stands self.old history
+            → is_done history (token_of token) ≡ false → OnOk result
+            (HasRecord self.old self.new (Replaced (token_of token) path.now since (part_of new))) }
+        ensures tried { (history : History) → Stands self.old history
+            → is_done history (token_of token) ≡ false → Tries self.old self.new
+            (Replaced (token_of token) path.now since (part_of new)) result }
+        ensures untried { IfErr result (λ e. refusal_of e ≢ Device
+            → tried_shown self.new ≡ tried_shown self.old) }
 
         // A token that is done stays done, and nothing changes.
         ensures again { (history : History) → Stands self.old history
@@ -213,7 +232,7 @@ impl<D: Disk> Replica<D> {
             → (result ≡ Ok (length history)) × (self.new ≡ self.old) }
 
         // Each refusal has its cause, and each cause its refusal: the first of them is answered, or
-        // in the place of it that memory is refused or a device call failed.
+        // in the place of it that memory is refused.
         ensures cause { (history : History) → Stands self.old history
             → IfErr result (λ e. IsOneOf outside_refusals e
             ⊎ (replace_refusal (room_shown self.old) history (token_of token) path.now since
@@ -222,7 +241,8 @@ impl<D: Disk> Replica<D> {
             → is_done history (token_of token) ≡ false
             → replace_refusal (room_shown self.old) history (token_of token) path.now since
             (part_of new) ≡ Some why
-            → IsErrAnd result (λ e. (refusal_of e ≡ why) ⊎ IsOneOf outside_refusals e) }
+            → IsErrAnd result (λ e. (refusal_of e ≡ why) ⊎ (refusal_of e ≡ Memory)) }
+        ensures refusals { IfErr result (IsOneOf replace_refusals) }
         ensures halted { (result ≡ Err (ReplicaError.Journal JournalError.Halted))
             ↔ IsHalted self.old }
         ensures halts { IfErr result (λ e. refusal_of e ≡ Device → IsHalted self.new) }
@@ -239,7 +259,7 @@ impl<D: Disk> Replica<D> {
             (λ e. MakesIfDevice e 4 (D.arms (disk_of self.old)) (D.arms (disk_of self.new))) }
 
         // What stays after a refusal.
-        ensures memory { IfErr result (λ _. SameMemory self.old self.new) }
+        ensures readings { IfErr result (λ _. KeepsReadings self.old self.new) }
         ensures unchanged { IfErr result (λ e. (refusal_of e ≡ Device)
             ⊎ (journal_of self.new ≡ journal_of self.old)) }
     {

@@ -5,6 +5,7 @@ use Rattle.syn_history.specs.Events.{event_of}
 use Rattle.syn_replica.specs.Refusals.{outside_refusals, refusal_of}
 use Rattle.syn_replica.specs.Replica.{room_shown, standing_shown}
 use Rattle.syn_replica.proofs.RefusalLemmas.{is_among}
+use Rattle.syn_replica.proofs.StandLemmas.{keeps_now, not_written}
 use Rattle.syn_replica.proofs.StandingLemmas.{refused_at, room_at}
 use Rattle.syn_replica.proofs.replica.Replica.add.Goals as goal
 
@@ -25,3 +26,10 @@ returns-in_err-check_room-clause-cause g c =
     let spelled : c.len.result ≡ length (event_spelling event) = c.len.ensures ∙ (c.in_ok-payload.payload.ok.0 ∙ ap length c.in_ok-payload.ensures.spelling) in
     let long = subst (λ n. room_shown old < n) spelled c.in_err-check_room.ensures.refused.1 in
     rw (p.1, p.2) (inr (room_at (room_shown old) (standing_shown old) event c.in_ok-update.ensures.allowed long ∙ sym (ap (λ e. Some (refusal_of e)) c.in_err-check_room.ensures.refused.0)))
+
+pub returns-in_err-check_room-clause-any_moment : goal.returns-in_err-check_room-clause-any_moment
+returns-in_err-check_room-clause-any_moment g c history stands =
+    not_written g.met.D.Disk.only_now c.args.self.now history stands _ (inl (keeps_now c.args.self.now history stands))
+
+pub returns-in_err-check_room-clause-seen : goal.returns-in_err-check_room-clause-seen
+returns-in_err-check_room-clause-seen g c history stands = inl (keeps_now c.args.self.now history stands)

@@ -1,28 +1,46 @@
 use Rattle.std.proofs.Common.{◌+◌, ap, ◌∙◌}
 use Rattle.syn_journal.specs.Layout.{with_payload, IsBeforeOrAfter}
-use Rattle.syn_replica.specs.Disks.{StandsBeforeOrAfter}
-use Rattle.syn_replica.proofs.StandLemmas.{payload_stands, stop_stands, leaves_weaker, remembers_more}
+use Rattle.syn_replica.specs.Replica.{KeepsBeforeOrAfter, left_shown}
+use Rattle.syn_replica.proofs.StandLemmas.{seen_is_left, payload_stands, stop_keeps, left_behind, leaves_weaker, remembers_more}
 use Rattle.syn_replica.proofs.replica.Replica.commit.Goals as goal
+use Rattle.syn_replica.proofs.replica.Replica.commit.Goals.{then-eq, else-eq}
 
-pub returns-in_err-append-clause-any_moment : goal.returns-in_err-append-clause-any_moment
-returns-in_err-append-clause-any_moment g c history event stands allowed e =
-    leaves_weaker g.D.Disk.moment g.D.Disk.left_since _ _ (IsBeforeOrAfter stands.value (with_payload stands.value c.args.payload.now)) (StandsBeforeOrAfter c.args.self.now.pair history event)
-    (stop_stands c.history_laws.ensures.payload c.args.self.now.pair stands.value c.args.payload.now history event stands.means allowed e)
-    (c.in_err-append.ensures.any_moment stands.value stands.runs)
+pub returns-in-Err-clause-any_moment : goal.returns-in-Err-clause-any_moment
+returns-in-Err-clause-any_moment g c history event stands allowed e =
+    let old = c.args.self.now in
+    let payload = c.deref.result.now in
+    let spelled = c.deref.ensures.value ∙ e in
+    let left = leaves_weaker g.D.Disk.moment g.D.Disk.left_since _ _ (IsBeforeOrAfter stands.value old.journal.generation (with_payload stands.value payload) old.journal.generation) (KeepsBeforeOrAfter old history event)
+    (stop_keeps c.history_laws.ensures.payload c.layout_laws.ensures.left old.pair stands.value payload history event (left_shown old) old.journal.generation stands.means allowed spelled (left_behind old stands.value stands.runs))
+    (c.append.ensures.any_moment stands.value stands.runs) in
+    elim c.if-eq.branch [ then-eq w ↦ rw w.self-is left | else-eq w ↦ rw w.self-is left ]
 
 pub returns-clause-acknowledged : goal.returns-clause-acknowledged
-returns-clause-acknowledged g c history event stands allowed e of = (
-  c.position.ensures ∙ (ap (λ s. s.position) (c.make.ensures event of) ∙ ap (λ s. s.position + 1) stands.remembers.standing),
-  record {
-    remembers = remembers_more c.history_laws.ensures.goes_on c.history_laws.ensures.steps c.args.self.now _ history event stands.remembers allowed (c.make.ensures event of);
-    value = with_payload stands.value c.args.payload.now;
-    runs = c.in_ok-append.ensures.acknowledged stands.value stands.runs;
-    means = payload_stands c.history_laws.ensures.payload c.args.self.now.pair stands.value c.args.payload.now history event stands.means allowed e;
-  },
-)
+returns-clause-acknowledged g c history event stands allowed e of =
+    let payload = c.deref.result.now in
+    let spelled = c.deref.ensures.value ∙ e in (
+      c.position.ensures ∙ (ap (λ s. s.position) (c.make.ensures event of) ∙ ap (λ s. s.position + 1) stands.remembers.standing),
+      record {
+        remembers = remembers_more c.history_laws.ensures.goes_on c.history_laws.ensures.steps c.args.self.now _ history event stands.remembers allowed (c.make.ensures event of);
+        value = with_payload stands.value payload;
+        runs = c.in_default.ensures.acknowledged stands.value stands.runs;
+        means = payload_stands c.history_laws.ensures.payload c.args.self.now.pair stands.value payload history event stands.means allowed spelled;
+      },
+    )
 
 pub returns-clause-any_moment : goal.returns-clause-any_moment
 returns-clause-any_moment g c history event stands allowed e =
-    leaves_weaker g.D.Disk.moment g.D.Disk.left_since _ _ (IsBeforeOrAfter stands.value (with_payload stands.value c.args.payload.now)) (StandsBeforeOrAfter c.args.self.now.pair history event)
-    (stop_stands c.history_laws.ensures.payload c.args.self.now.pair stands.value c.args.payload.now history event stands.means allowed e)
-    (c.in_ok-append.ensures.any_moment stands.value stands.runs)
+    let old = c.args.self.now in
+    let payload = c.deref.result.now in
+    let spelled = c.deref.ensures.value ∙ e in
+    leaves_weaker g.D.Disk.moment g.D.Disk.left_since _ _ (IsBeforeOrAfter stands.value old.journal.generation (with_payload stands.value payload) old.journal.generation) (KeepsBeforeOrAfter old history event)
+    (stop_keeps c.history_laws.ensures.payload c.layout_laws.ensures.left old.pair stands.value payload history event (left_shown old) old.journal.generation stands.means allowed spelled (left_behind old stands.value stands.runs))
+    (c.append.ensures.any_moment stands.value stands.runs)
+
+pub returns-in-Err-clause-seen : goal.returns-in-Err-clause-seen
+returns-in-Err-clause-seen g c history event stands allowed e =
+    seen_is_left g.D.Disk.seen g.D.Disk.may_leave g.D.Disk.moment g.D.Disk.left_since g.met.D.Disk.seen_may_stay g.met.D.Disk.counts_now _ _ (KeepsBeforeOrAfter c.args.self.now history event) (returns-in-Err-clause-any_moment g c history event stands allowed e)
+
+pub returns-clause-seen : goal.returns-clause-seen
+returns-clause-seen g c history event stands allowed e =
+    seen_is_left g.D.Disk.seen g.D.Disk.may_leave g.D.Disk.moment g.D.Disk.left_since g.met.D.Disk.seen_may_stay g.met.D.Disk.counts_now _ _ (KeepsBeforeOrAfter c.args.self.now history event) (returns-clause-any_moment g c history event stands allowed e)

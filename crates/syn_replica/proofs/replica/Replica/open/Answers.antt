@@ -3,7 +3,7 @@ use Rattle.syn_journal.specs.Layout.{meaning}
 use Rattle.syn_journal.specs.Opened.{value_read}
 use Rattle.syn_model.specs.Image.{Gives}
 use Rattle.syn_replica.specs.inner.Openings.{bytes_of_each}
-use Rattle.syn_replica.specs.Disks.{IsOtherPair}
+use Rattle.syn_replica.specs.Disks.{GivesOtherPair}
 use Rattle.syn_replica.proofs.MeaningLemmas.{meaning_refusal}
 use Rattle.syn_replica.proofs.StandLemmas.{stands_for_each}
 use Rattle.syn_replica.proofs.replica.Replica.open.Goals as goal
@@ -22,7 +22,7 @@ returns-clause-refusals g c =
     let opened = c.in-Ok.opened in
     let value = value_read opened.image opened.records in
     let refused = c.in-Err-read_replica in
-    meaning_refusal refused.error c.args.pair (g.D.Disk.seen c.args.disk) value (ap meaning (sym c.in-Ok.ensures.untouched.same) ∙ c.in-Ok.ensures.opened.means) refused.ensures.refusals
+    meaning_refusal refused.error c.args.pair (g.D.Disk.seen c.args.disk) value (ap meaning (sym c.in-Ok.ensures.untouched.same) ∙ c.in-Ok.ensures.opened.holds.means) refused.ensures.refusals
     (λ damaged pair standing fits gives. refused.ensures.damaged damaged pair standing fits
     (subst (λ p. Gives pair c.deref.result.now p standing) (ap bytes_of_each (sym c.deref-2.ensures.value)) (subst (λ i. Gives pair i value.payloads standing) (sym c.deref.ensures.value) gives)))
-    (λ other. subst (λ i. IsOtherPair i c.args.pair) c.deref.ensures.value (refused.ensures.other other))
+    (λ other. subst (λ p. GivesOtherPair c.args.pair value.image p) (ap bytes_of_each c.deref-2.ensures.value) (subst (λ i. GivesOtherPair c.args.pair i (bytes_of_each c.deref-2.result.now)) c.deref.ensures.value (refused.ensures.other other)))

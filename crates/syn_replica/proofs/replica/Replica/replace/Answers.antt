@@ -5,20 +5,19 @@ use Rattle.std.proofs.lemmas.Result.{err_from_is_err_and}
 use Rattle.syn_disk.specs.Stops.{LeavesOnly}
 use Rattle.syn_model.specs.Event.{Replaced, is_same_token}
 use Rattle.syn_model.specs.History.{History}
-use Rattle.syn_model.specs.Refusal.{first_cause}
+use Rattle.syn_model.specs.Refusal.{Device, first_cause}
 use Rattle.syn_model.specs.Standing.{place_causes, full_causes, is_old}
 use Rattle.syn_model.specs.Tree.{replace}
 use Rattle.syn_history.specs.Events.{token_of}
 use Rattle.syn_tree.specs.Nodes.{part_of}
 use Rattle.syn_tree.specs.Refusals.{refusal_of as of_tree}
-use Rattle.syn_replica.specs.Disks.{StandsBeforeOrAfter}
 use Rattle.syn_replica.specs.Refusals.{IsOneOf, outside_refusals, refusal_of, refusal_in}
-use Rattle.syn_replica.specs.Replica.{Stands, room_shown, standing_shown, disk_of}
+use Rattle.syn_replica.specs.Replica.{Stands, KeepsBeforeOrAfter, room_shown, standing_shown, disk_of}
 use Rattle.syn_replica.specs.Steps.{add_refusal, replace_refusal}
 use Rattle.syn_replica.specs.inner.Updates.{add_refusal_at}
 use Rattle.syn_replica.specs.declared.error.ReplicaError.TheVariants.{Tree}
-use Rattle.syn_replica.proofs.RefusalLemmas.{same_refusal}
-use Rattle.syn_replica.proofs.SessionLemmas.{replaced_since, replaced_part, replaced_rest, refused_by, one_longer, not_done}
+use Rattle.syn_replica.proofs.RefusalLemmas.{same_refusal, refused_by}
+use Rattle.syn_replica.proofs.SessionLemmas.{replaced_since, replaced_part, replaced_rest, one_longer, not_done}
 use Rattle.syn_replica.proofs.replica.Replica.replace.Goals as goal
 
 pub returns-in_err-check_untouched-clause-refused : goal.returns-in_err-check_untouched-clause-refused
@@ -81,7 +80,7 @@ returns-clause-acknowledged g c history stands =
 pub returns-clause-any_moment : goal.returns-clause-any_moment
 returns-clause-any_moment g c history stands =
     let token = token_of c.args.token in
-    subst (λ q. LeavesOnly g.D.Disk.moment g.D.Disk.left_since (disk_of c.args.self.now) (disk_of c.add.new.self) (StandsBeforeOrAfter c.args.self.now.pair history (Replaced token q c.args.since (part_of c.args.new))))
+    subst (λ q. LeavesOnly g.D.Disk.moment g.D.Disk.left_since (disk_of c.args.self.now) (disk_of c.add.new.self) (KeepsBeforeOrAfter c.args.self.now history (Replaced token q c.args.since (part_of c.args.new))))
     c.in_ok-path.ensures.ok (c.add.ensures.any_moment history stands)
 
 pub returns-clause-cause : goal.returns-clause-cause
@@ -112,4 +111,11 @@ returns-clause-refused g c history why stands done e =
     ∙ (ap (λ q. add_refusal room history (Replaced token q since new)) c.in_ok-path.ensures.ok ∙ sym (replaced_rest room history token c.args.path.now since new current none)) in
     refused_by c.add.result (replace_refusal room history token c.args.path.now since new) why e
     (subst (λ r. OnOk c.add.result (r ≡ None)) rest c.add.ensures.allowed)
+    (subst (λ r. IfErr c.add.result (λ e. refusal_of e ≡ Device → r ≡ None)) rest c.add.ensures.device)
     (subst (λ r. IfErr c.add.result (λ e. IsOneOf outside_refusals e ⊎ (r ≡ Some (refusal_of e)))) rest c.add.ensures.cause)
+
+pub returns-clause-seen : goal.returns-clause-seen
+returns-clause-seen g c history stands =
+    let token = token_of c.args.token in
+    subst (λ q. KeepsBeforeOrAfter c.args.self.now history (Replaced token q c.args.since (part_of c.args.new)) (g.D.Disk.seen (disk_of c.add.new.self)))
+    c.in_ok-path.ensures.ok (c.add.ensures.seen history stands)

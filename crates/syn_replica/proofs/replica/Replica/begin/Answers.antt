@@ -1,0 +1,15 @@
+use Rattle.std.proofs.Common.{◌≡◌, ◌≢◌, length, sym, ap, ◌∙◌, subst, arith}
+use Rattle.std.specs.Prelude.{IfOk}
+use Rattle.syn_model.specs.Event.{Began}
+use Rattle.syn_model.specs.History.{History, last_session}
+use Rattle.syn_replica.specs.Replica.{Stands}
+use Rattle.syn_replica.proofs.SessionLemmas.{not_begun, one_longer}
+use Rattle.syn_replica.proofs.replica.Replica.begin.Goals as goal
+
+pub returns-clause-acknowledged : goal.returns-clause-acknowledged
+returns-clause-acknowledged g c history stands =
+    let session = c.args.session in
+    let last : c.last_session.result ≡ last_session history = c.last_session.ensures ∙ ap (λ s. s.session) stands.remembers.standing in
+    let other : session ≢ last_session history = λ same. c.if-session-last_session.false (same ∙ sym last) in
+    subst (λ (h : History). IfOk c.add.result (λ position. (position ≡ length h) × Stands c.add.new.self h)) (sym (not_begun history session other))
+    (one_longer c.add.result history (Began session) _ (c.add.ensures.acknowledged history stands))
