@@ -1,46 +1,29 @@
 -- A request of a kind has the fields of that kind.
 use Rattle.std.proofs.Common.{◌≡◌, ◌≢◌, ◌++◌, ℕ, None, arith}
 use Rattle.std.specs.Int.{to_be_bytes, w32}
-use Rattle.syn_headline.specs.Side.{Begin, ListAt, Fetch, Stage, Replace}
+use Rattle.syn_headline.specs.Side.{ListAt, Fetch, Replace}
 use Rattle.syn_model.specs.Path.{Bytes, Path, IsPath, path_spelling}
-use Rattle.syn_message.specs.Requests.{ReadsFields}
-use Rattle.syn_message.specs.declared.kind.TheConstants.{BEGIN, LIST, FETCH, STAGE, REPLACE}
+use Rattle.syn_message.specs.Requests.{ReadsFields, kind_of}
+use Rattle.syn_message.specs.declared.kind.TheConstants.{LIST, FETCH, REPLACE}
 use Rattle.syn_message.specs.inner.Heads.{IsLast, head_spelling}
 use Rattle.syn_wire.specs.Events.{IsNumber32}
 
 module _ (fields : Bytes) where
   pub list_none : ((path : Path) → IsPath path → fields ≢ path_spelling path)
       → ReadsFields LIST fields None
-  list_none none (Begin pair) of is = absurd (let k : BEGIN ≡ LIST = of.0 in omega (arith, k))
   list_none none (ListAt path) of is = none path of.1 is
-  list_none none (Fetch path since offset) of is =
-      absurd (let k : FETCH ≡ LIST = of.0 in omega (arith, k))
-  list_none none (Stage item offset bytes) of is =
-      absurd (let k : STAGE ≡ LIST = of.0 in omega (arith, k))
-  list_none none (Replace item path since size) of is =
-      absurd (let k : REPLACE ≡ LIST = of.0 in omega (arith, k))
+  list_none none other of is = absurd (let k : kind_of other ≡ LIST = of.0 in omega (arith, k))
 
   pub fetch_none : ((path : Path) (last : ℕ × ℕ) → IsPath path → IsLast last
       → fields ≢ path_spelling path ++ head_spelling last) → ReadsFields FETCH fields None
-  fetch_none none (Begin pair) of is = absurd (let k : BEGIN ≡ FETCH = of.0 in omega (arith, k))
-  fetch_none none (ListAt path) of is = absurd (let k : LIST ≡ FETCH = of.0 in omega (arith, k))
   fetch_none none (Fetch path since offset) of is =
       none path (since, offset) of.1.0 (of.1.1, of.1.2) is
-  fetch_none none (Stage item offset bytes) of is =
-      absurd (let k : STAGE ≡ FETCH = of.0 in omega (arith, k))
-  fetch_none none (Replace item path since size) of is =
-      absurd (let k : REPLACE ≡ FETCH = of.0 in omega (arith, k))
+  fetch_none none other of is = absurd (let k : kind_of other ≡ FETCH = of.0 in omega (arith, k))
 
   pub replace_none : ((item : ℕ) (path : Path) (last : ℕ × ℕ) → IsNumber32 item → IsPath path
       → IsLast last → fields ≢ to_be_bytes w32 item ++ (path_spelling path ++ head_spelling last))
       → ReadsFields REPLACE fields None
-  replace_none none (Begin pair) of is =
-      absurd (let k : BEGIN ≡ REPLACE = of.0 in omega (arith, k))
-  replace_none none (ListAt path) of is =
-      absurd (let k : LIST ≡ REPLACE = of.0 in omega (arith, k))
-  replace_none none (Fetch path since offset) of is =
-      absurd (let k : FETCH ≡ REPLACE = of.0 in omega (arith, k))
-  replace_none none (Stage item offset bytes) of is =
-      absurd (let k : STAGE ≡ REPLACE = of.0 in omega (arith, k))
   replace_none none (Replace item path since size) of is =
       none item path (since, size) of.1.0 of.1.1 (of.1.2, of.1.3) is
+  replace_none none other of is =
+      absurd (let k : kind_of other ≡ REPLACE = of.0 in omega (arith, k))

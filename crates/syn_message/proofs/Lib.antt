@@ -1,5 +1,10 @@
+mod AnsweringLemmas
 mod AskingLemmas
+mod HeadLemmas
 mod KindLemmas
+mod ListingLemmas
+mod RefusalLemmas
+mod TellingLemmas
 mod WholeLemmas
 mod WishLemmas
 mod WishedLemmas

@@ -3,7 +3,7 @@ use Rattle.std.proofs.Common.{◌∷◌, ◌-◌, ap, arith, drop, length, take}
 use Rattle.std.proofs.Math.Seq.{take-length}
 use Rattle.syn_model.specs.Path.{Bytes}
 use Rattle.std.proofs.Common.{◌≡◌, ◌≢◌, ◌∙◌, [], ◌++◌, List, ℕ, None, sym, append-nil}
-use Rattle.syn_message.specs.Requests.{IsWholeReading}
+use Rattle.syn_message.specs.Bodies.{IsWholeReading}
 use Rattle.syn_wire.specs.Reads.{BeginsWith, IsReading, NoneBeginsAnother}
 
 -- what stands behind the first byte
@@ -49,3 +49,9 @@ module _ {A B : Type 0} (P : A → Type 0) (Q : B → Type 0) (f : A → List �
       → (a : A) (b : B) → P a → Q b → bytes ≢ f a ++ g b
   no_rest tells bytes after first found none a b lawful second is =
       none b second (tells first a after (g b) found.lawful lawful (sym found.spelled ∙ is)).1
+
+-- two spellings with nothing behind them
+pub alone : {A : Type 0} (P : A → Type 0) (f : A → Bytes) → NoneBeginsAnother P f → (a b : A)
+    → P a → P b → f a ≡ f b → a ≡ b
+alone P f tells a b p q same =
+    (tells a b [] [] p q (append-nil (f a) ∙ (same ∙ sym (append-nil (f b))))).0

@@ -1,4 +1,9 @@
+pub mod Bodies
+pub mod Listings
 pub mod Requests
+pub mod Replies
+pub mod Sides
 pub mod Users
+pub mod UserReplies
 pub mod Laws
 pub mod inner

@@ -1,9 +1,10 @@
 -- How a request of a coordinator is spelled.
-use Rattle.std.specs.Prelude.{◌≡◌, ◌≢◌, ◌<◌, ◌^◌, ℕ, ◌∷◌, ◌++◌, Option, Some, None}
+use Rattle.std.specs.Prelude.{◌≡◌, ◌<◌, ◌^◌, ℕ, ◌++◌, Option}
 use Rattle.std.specs.Int.{to_be_bytes, w32, w64}
 use Rattle.syn_headline.specs.Side.{IsLawfulBody}
 use Rattle.syn_headline.specs.Side as model
 use Rattle.syn_model.specs.Path.{Bytes, path_spelling}
+use Rattle.syn_message.specs.Bodies.{IsWholeReading, body_spelling}
 use Rattle.syn_message.specs.declared.kind.TheConstants.{BEGIN, LIST, FETCH, STAGE, REPLACE}
 use Rattle.syn_message.specs.declared.request.Asked.{Asked}
 use Rattle.syn_message.specs.declared.request.Request.{Request}
@@ -48,9 +49,8 @@ fields_spelling (model.Replace item path since size) =
 
 -- a kind, a session, a number, and what the request has
 abbrev pub asking_spelling : Asking → Bytes
-asking_spelling asking =
-    kind_of asking.request ∷ to_be_bytes w64 asking.session
-    ++ (to_be_bytes w32 asking.number ++ fields_spelling asking.request)
+asking_spelling asking = body_spelling (kind_of asking.request) asking.session asking.number
+    (fields_spelling asking.request)
 
 -- Sessions count from 1: a user's request has the session 0.
 pub record IsLawfulAsking (asking : Asking) : Type 0 where
@@ -58,12 +58,6 @@ pub record IsLawfulAsking (asking : Asking) : Type 0 where
   pub begun : 0 < asking.session
   pub number : asking.number < 2 ^ 32
   pub body : IsLawfulBody asking.request
-
--- What was found in a whole body: a lawful value that it spells, or nothing where it spells none.
-abbrev pub IsWholeReading : {V : Type 0} → (V → Type 0) → (V → Bytes) → Bytes → Option V → Type 0
-IsWholeReading IsLawful spelling body (Some value) = IsLawful value × (body ≡ spelling value)
-IsWholeReading {V} IsLawful spelling body None =
-    (value : V) → IsLawful value → body ≢ spelling value
 
 -- the same of the fields of a kind
 abbrev pub IsOfKind : ℕ → model.Request → Type 0

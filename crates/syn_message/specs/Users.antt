@@ -1,9 +1,9 @@
 -- How a request of a user is spelled.
-use Rattle.std.specs.Prelude.{◌<◌, ◌^◌, ℕ, ◌∷◌, ◌++◌}
-use Rattle.std.specs.Int.{to_be_bytes, w32, w64}
+use Rattle.std.specs.Prelude.{◌<◌, ◌^◌, ℕ}
 use Rattle.syn_model.specs.Event.{Edit, Edited}
 use Rattle.syn_model.specs.Path.{Bytes, Path, IsPath, path_spelling}
 use Rattle.syn_model.specs.Spelling.{event_spelling}
+use Rattle.syn_message.specs.Bodies.{body_spelling}
 use Rattle.syn_message.specs.declared.kind.TheConstants.{EDIT, GET}
 use Rattle.syn_message.specs.declared.user.AskedByUser.{AskedByUser}
 use Rattle.syn_message.specs.declared.user.UserRequest.{UserRequest}
@@ -28,11 +28,6 @@ pub record Wished : Type 0 where
 abbrev pub wished_of : AskedByUser → Wished
 wished_of asked = record { number = asked.number; wish = wish_of asked.request }
 
--- the front of a body, which has the session 0
-abbrev pub front_spelling : ℕ → ℕ → Bytes → Bytes
-front_spelling kind number fields =
-    kind ∷ to_be_bytes w64 0 ++ (to_be_bytes w32 number ++ fields)
-
 abbrev pub wish_kind : Wish → ℕ
 wish_kind (Edits user edit) = EDIT
 wish_kind (Gets path) = GET
@@ -41,9 +36,10 @@ abbrev pub wish_fields : Wish → Bytes
 wish_fields (Edits user edit) = event_spelling (Edited user edit)
 wish_fields (Gets path) = path_spelling path
 
+-- with the session 0
 abbrev pub wished_spelling : Wished → Bytes
 wished_spelling wished =
-    front_spelling (wish_kind wished.wish) wished.number (wish_fields wished.wish)
+    body_spelling (wish_kind wished.wish) 0 wished.number (wish_fields wished.wish)
 
 -- What is put may have any length that four bytes spell; how many a file may have says the replica.
 abbrev pub IsLawfulWish : Wish → Type 0

@@ -20,3 +20,30 @@ pub const EDIT: u8 = 0x11;
 
 /// A user reads what stands at a path.
 pub const GET: u8 = 0x12;
+
+/// A session has begun.
+pub const BEGUN: u8 = 0x81;
+
+/// The names in a directory, with the mark of each.
+pub const LISTED: u8 = 0x82;
+
+/// No directory is at the path.
+pub const NOT_DIR: u8 = 0x83;
+
+/// A piece of what stands at a path.
+pub const PIECE: u8 = 0x84;
+
+/// A piece is staged.
+pub const STAGED: u8 = 0x85;
+
+/// What was staged is at its path.
+pub const DONE: u8 = 0x86;
+
+/// The request is refused.
+pub const REFUSED: u8 = 0x87;
+
+/// A user's edit is made.
+pub const EDITED: u8 = 0x91;
+
+/// What stands at a path, to a user.
+pub const GOT: u8 = 0x92;

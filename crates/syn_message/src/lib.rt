@@ -4,23 +4,38 @@
 //! Numbers are big-endian, and nothing follows the last field. Each message has one body.
 #![tactic(auto)]
 
-ghost use Rattle.syn_message.specs.Laws.{RequestsTell, WishesTell};
+ghost use Rattle.syn_message.specs.Laws.{RequestsTell, RepliesTell, WishesTell, TellingsTell};
 
+mod copies;
+mod head;
 mod kind;
+mod listing;
+mod reply;
+mod reply_reading;
 mod request;
 mod request_reading;
+mod side;
 mod user;
 mod user_reading;
+mod user_reply;
+mod user_reply_reading;
 
+pub use reply::{Answered, Reply, encode_reply};
+pub use reply_reading::decode_reply;
 pub use request::{Asked, Request, encode_request};
 pub use request_reading::{MAX_PIECE, decode_request};
+pub use side::Side;
 pub use user::{AskedByUser, UserRequest, encode_user_request};
 pub use user_reading::decode_user_request;
+pub use user_reply::{AnsweredToUser, UserReply, encode_user_reply};
+pub use user_reply_reading::decode_user_reply;
 
 /// No two messages have one body, so what was written is read again.
 pub fn message_laws()
     ensures requests { RequestsTell }
+    ensures replies { RepliesTell }
     ensures wishes { WishesTell }
+    ensures tellings { TellingsTell }
 {
     syn_wire::spelling_laws();
 }

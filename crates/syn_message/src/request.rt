@@ -4,6 +4,8 @@ ghost use Rattle.syn_headline.specs.Side.{IsLawfulBody};
 ghost use Rattle.syn_message.specs.Requests.{IsLawfulAsking, asking_of, asking_spelling};
 ghost use Rattle.syn_message.specs.Requests.{fields_spelling, kind_of, request_of};
 
+use crate::copies::copy_path;
+use crate::head::write_head;
 use crate::kind::{BEGIN, FETCH, LIST, REPLACE, STAGE};
 use std::alloc::Global;
 use syn_path::Path;
@@ -56,6 +58,57 @@ impl Request {
             Request::Replace { .. } => REPLACE,
         }
     }
+
+    /// An equal request of its own, which is sent once more. Refused 11 where memory is refused.
+    pub fn copy(&self, alloc: Global) -> Result<Request, WireError>
+        ensures { IfOk result (λ copy. request_of copy ≡ request_of self.now) }
+    {
+        match self {
+            Request::Begin { pair } => Ok(Request::Begin { pair: *pair }),
+            Request::List { path } => {
+                let path = copy_path(alloc, path)?;
+                Ok(Request::List { path })
+            }
+            Request::Fetch {
+                path,
+                since,
+                offset,
+            } => {
+                let path = copy_path(alloc, path)?;
+                Ok(Request::Fetch {
+                    path,
+                    since: *since,
+                    offset: *offset,
+                })
+            }
+            Request::Stage {
+                item,
+                offset,
+                bytes,
+            } => {
+                let bytes = bytes.clone()?;
+                Ok(Request::Stage {
+                    item: *item,
+                    offset: *offset,
+                    bytes,
+                })
+            }
+            Request::Replace {
+                item,
+                path,
+                since,
+                length,
+            } => {
+                let path = copy_path(alloc, path)?;
+                Ok(Request::Replace {
+                    item: *item,
+                    path,
+                    since: *since,
+                    length: *length,
+                })
+            }
+        }
+    }
 }
 
 /// A request with its session, from 1, and its number in it.
@@ -74,9 +127,7 @@ pub fn encode_request(alloc: Global, asked: &Asked) -> Result<Vec<u8>, WireError
     ensures { IfOk result (λ body. body.items ≡ asking_spelling (asking_of asked.now)) }
 {
     let mut body = Vec::new(alloc);
-    body.push(asked.request.kind())?;
-    write_u64(&mut body, asked.session)?;
-    write_u32(&mut body, asked.number)?;
+    write_head(&mut body, asked.request.kind(), asked.session, asked.number)?;
     write_fields(&mut body, &asked.request)?;
     Ok(body)
 }

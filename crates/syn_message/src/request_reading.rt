@@ -1,12 +1,13 @@
 //! Reads the body of a request.
 ghost use Rattle.std.specs.Prelude.{◌≡◌, ◌<◌, ◌^◌, IfOk, option_map};
-ghost use Rattle.syn_message.specs.Requests.{IsLawfulAsking, IsWholeReading, ReadsFields};
+ghost use Rattle.syn_message.specs.Bodies.{IsWholeReading};
+ghost use Rattle.syn_message.specs.Requests.{IsLawfulAsking, ReadsFields};
 ghost use Rattle.syn_message.specs.Requests.{asking_of, asking_spelling, request_of};
-ghost use Rattle.syn_message.specs.inner.Heads.{IsHead, ReadsLast, head_spelling};
+ghost use Rattle.syn_message.specs.inner.Heads.{ReadsLast};
 ghost use Rattle.syn_headline.specs.Side.{IsPieceBytes};
 ghost use Rattle.syn_wire.specs.Events.{file_spelling};
-ghost use Rattle.syn_wire.specs.Reads.{IsReading};
 
+use crate::head::read_head;
 use crate::kind::{BEGIN, FETCH, LIST, REPLACE, STAGE};
 use crate::request::{Asked, Request};
 use std::alloc::Global;
@@ -36,20 +37,6 @@ pub fn decode_request(alloc: Global, body: &[u8]) -> Result<Option<Asked>, WireE
         })),
         None => Ok(None),
     }
-}
-
-/// The number of a session, which is not 0, that of the request in it, and the rest.
-fn read_head(bytes: &[u8]) -> Option<(u64, u32, &[u8])>
-    ensures { IsReading IsHead head_spelling bytes.now
-        (option_map (λ found. ((found.0, found.1), found.2.now)) result) }
-{
-    spelling_laws();
-    let (session, after) = read_u64(bytes)?;
-    let (number, rest) = read_u32(after)?;
-    if session == 0 {
-        return None;
-    }
-    Some((session, number, rest))
 }
 
 /// What stands behind the number, in a request of the kind.

@@ -1,12 +1,13 @@
 //! What a user asks of a served replica.
-ghost use Rattle.std.specs.Prelude.{◌≡◌, ◌++◌, [], IfOk, OnOk};
-ghost use Rattle.syn_message.specs.Users.{IsLawfulWished, front_spelling, wished_of, wished_spelling};
+ghost use Rattle.std.specs.Prelude.{◌≡◌, IfOk};
+ghost use Rattle.syn_message.specs.Users.{IsLawfulWished, wished_of, wished_spelling};
 
+use crate::head::write_head;
 use crate::kind::{EDIT, GET};
 use std::alloc::Global;
 use syn_path::Path;
 use syn_tree::Edit;
-use syn_wire::{WireError, encode_edit, write_path, write_u32, write_u64};
+use syn_wire::{WireError, encode_edit, write_path};
 
 /// What a user asks of a served replica.
 #[derive(Debug, Drop)]
@@ -34,22 +35,13 @@ pub fn encode_user_request(alloc: Global, asked: &AskedByUser) -> Result<Vec<u8>
     let mut body = Vec::new(alloc);
     match &asked.request {
         UserRequest::Edit { user, edit } => {
-            write_front(&mut body, EDIT, asked.number)?;
+            write_head(&mut body, EDIT, 0, asked.number)?;
             body.extend_from_slice(&encode_edit(alloc, *user, edit)?)?;
         }
         UserRequest::Get { path } => {
-            write_front(&mut body, GET, asked.number)?;
+            write_head(&mut body, GET, 0, asked.number)?;
             write_path(&mut body, path)?;
         }
     }
     Ok(body)
-}
-
-/// Adds the kind, the session 0 and the number.
-fn write_front(body: &mut Vec<u8>, kind: u8, number: u32) -> Result<(), WireError>
-    ensures { OnOk result (body.new.items ≡ body.old.items ++ front_spelling kind number []) }
-{
-    body.push(kind)?;
-    write_u64(body, 0)?;
-    write_u32(body, number)
 }

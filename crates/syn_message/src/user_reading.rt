@@ -1,16 +1,16 @@
 //! Reads the body of a user's request.
 ghost use Rattle.std.specs.Prelude.{◌≡◌, IfOk, option_map};
-ghost use Rattle.syn_message.specs.Requests.{IsWholeReading};
+ghost use Rattle.syn_message.specs.Bodies.{IsWholeReading};
 ghost use Rattle.syn_message.specs.Users.{IsLawfulWished, wished_of, wished_spelling};
-ghost use Rattle.syn_message.specs.inner.Heads.{IsUserHead, ReadsWish, head_spelling};
+ghost use Rattle.syn_message.specs.inner.Heads.{ReadsWish};
 ghost use Rattle.syn_message.specs.Users.{wish_of};
-ghost use Rattle.syn_wire.specs.Reads.{IsReading};
 
+use crate::head::read_user_head;
 use crate::kind::{EDIT, GET};
 use crate::user::{AskedByUser, UserRequest};
 use std::alloc::Global;
 use syn_history::Event;
-use syn_wire::{WireError, decode_event, decode_path, read_u32, read_u64, spelling_laws};
+use syn_wire::{WireError, decode_event, decode_path, spelling_laws};
 
 /// The user's request that the body spells; none where it spells none.
 ///
@@ -22,27 +22,13 @@ pub fn decode_user_request(alloc: Global, body: &[u8]) -> Result<Option<AskedByU
     let [kind, after @ ..] = body else {
         return Ok(None);
     };
-    let Some((number, fields)) = read_front(after) else {
+    let Some((number, fields)) = read_user_head(after) else {
         return Ok(None);
     };
     match read_wish(alloc, *kind, fields)? {
         Some(request) => Ok(Some(AskedByUser { number, request })),
         None => Ok(None),
     }
-}
-
-/// The number behind a session of 0, and the rest.
-fn read_front(bytes: &[u8]) -> Option<(u32, &[u8])>
-    ensures { IsReading IsUserHead head_spelling bytes.now
-        (option_map (λ found. ((0, found.0), found.1.now)) result) }
-{
-    spelling_laws();
-    let (session, after) = read_u64(bytes)?;
-    let (number, rest) = read_u32(after)?;
-    if session != 0 {
-        return None;
-    }
-    Some((number, rest))
 }
 
 /// What stands behind the number, in a request of the kind.

@@ -1,8 +1,9 @@
 -- Parts of a body that have no contract of their own.
-use Rattle.std.specs.Prelude.{◌≡◌, ◌<◌, ◌^◌, ℕ, ◌++◌, Option}
+use Rattle.std.specs.Prelude.{◌≡◌, ◌<◌, ◌^◌, ℕ, [], ◌∷◌, ◌++◌, Option}
 use Rattle.std.specs.Int.{to_be_bytes, w32, w64}
 use Rattle.syn_model.specs.Path.{Bytes}
-use Rattle.syn_message.specs.Requests.{IsWholeReading}
+use Rattle.syn_model.specs.Refusal.{Refusal, number}
+use Rattle.syn_message.specs.Bodies.{IsWholeReading}
 use Rattle.syn_message.specs.Users.{Wish, IsLawfulWish, wish_fields, wish_kind}
 
 -- a session, from 1, and a number in it
@@ -32,3 +33,10 @@ IsWishOf kind wish = (wish_kind wish ≡ kind) × IsLawfulWish wish
 
 abbrev pub ReadsWish : ℕ → Bytes → Option Wish → Type 0
 ReadsWish kind = IsWholeReading (IsWishOf kind) wish_fields
+
+-- a refusal, by its number
+abbrev pub IsRefusal : Refusal → Type 0
+IsRefusal why = Unit {0}
+
+abbrev pub refusal_spelling : Refusal → Bytes
+refusal_spelling why = number why ∷ []

@@ -1,6 +1,6 @@
 use Rattle.std.proofs.Common.{◌∙◌, append_assoc, sym, ◌++◌}
 use Rattle.std.specs.Int.{to_be_bytes, w32, w64}
-use Rattle.syn_message.proofs.request_reading.read_head.Goals as goal
+use Rattle.syn_message.proofs.head.read_head.Goals as goal
 
 pub returns-in_err-number : goal.returns-in_err-number
 returns-in_err-number c =

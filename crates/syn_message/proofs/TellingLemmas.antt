@@ -1,0 +1,58 @@
+-- The body of a reply to a user tells it.
+use Rattle.std.proofs.Common.{◌≡◌, ◌<◌, ◌^◌, ap, ap₂, arith, refl, Option, Some, None}
+use Rattle.std.specs.Int.{to_be_bytes, w64}
+use Rattle.syn_model.specs.Path.{Bytes}
+use Rattle.syn_model.specs.Tree.{Content, Directory, File, contents_of}
+use Rattle.syn_message.proofs.HeadLemmas.{body_tells}
+use Rattle.syn_message.proofs.RefusalLemmas.{number_tells}
+use Rattle.syn_message.proofs.WholeLemmas.{alone, first_of, rest_of}
+use Rattle.syn_message.specs.UserReplies.{Told, Edited, Got, Refused, Telling, IsLawfulTelling}
+use Rattle.syn_message.specs.UserReplies.{IsFound, IsLawfulTold, IsWithinFile, found_spelling}
+use Rattle.syn_message.specs.UserReplies.{telling_spelling, told_fields, told_kind}
+use Rattle.syn_wire.specs.Events.{IsFile, file_spelling}
+use Rattle.syn_wire.specs.Laws.{NoU32BeginsAnother, NoU64BeginsAnother}
+use Rattle.syn_wire.specs.Reads.{NoneBeginsAnother}
+
+short : (bytes : Bytes) → IsWithinFile bytes → IsFile bytes
+short bytes is = record { bytes = is.1; brief = omega (arith, is.0) }
+
+module _ (u32 : NoU32BeginsAnother) (u64 : NoU64BeginsAnother)
+    (files : NoneBeginsAnother IsFile file_spelling) where
+  found_tells : (a b : Option Content) → IsFound a → IsFound b
+      → found_spelling a ≡ found_spelling b → a ≡ b
+  found_tells None None p q same = refl
+  found_tells (Some (File a)) (Some (File b)) p q same =
+      ap (λ bytes. Some (File (contents_of bytes))) (alone IsFile file_spelling files a.bytes
+      b.bytes (short a.bytes p) (short b.bytes q) (ap rest_of same))
+  found_tells (Some Directory) (Some Directory) p q same = refl
+  found_tells None (Some (File b)) p q same =
+      absurd (let k : 0 ≡ 1 = ap first_of same in omega (arith, k))
+  found_tells None (Some Directory) p q same =
+      absurd (let k : 0 ≡ 2 = ap first_of same in omega (arith, k))
+  found_tells (Some (File a)) None p q same =
+      absurd (let k : 1 ≡ 0 = ap first_of same in omega (arith, k))
+  found_tells (Some (File a)) (Some Directory) p q same =
+      absurd (let k : 1 ≡ 2 = ap first_of same in omega (arith, k))
+  found_tells (Some Directory) None p q same =
+      absurd (let k : 2 ≡ 0 = ap first_of same in omega (arith, k))
+  found_tells (Some Directory) (Some (File b)) p q same =
+      absurd (let k : 2 ≡ 1 = ap first_of same in omega (arith, k))
+
+  fields_tell : (a b : Told) → IsLawfulTold a → IsLawfulTold b → told_kind a ≡ told_kind b
+      → told_fields a ≡ told_fields b → a ≡ b
+  fields_tell (Edited position) (Edited position') p q kind same =
+      ap Edited (alone (λ n. n < 2 ^ 64) (to_be_bytes w64) u64 position position' p q same)
+  fields_tell (Got found) (Got found') p q kind same = ap Got (found_tells found found' p q same)
+  fields_tell (Refused why) (Refused why') p q kind same =
+      ap Refused (number_tells why why' (ap first_of same))
+  fields_tell a b p q kind same =
+      absurd (let k : told_kind a ≡ told_kind b = kind in omega (arith, k))
+
+  pub telling_tells : (a b : Telling) → IsLawfulTelling a → IsLawfulTelling b
+      → telling_spelling a ≡ telling_spelling b → a ≡ b
+  telling_tells a b p q same =
+      let parts = body_tells u32 u64 (told_kind a.told) 0 a.number (told_kind b.told) 0 b.number
+      (told_fields a.told) (told_fields b.told) (omega arith) (omega arith) p.number q.number
+      same in
+      ap₂ (λ x y. record { number = x; told = y }) parts.2
+      (fields_tell a.told b.told p.lawful q.lawful parts.0 parts.3)

@@ -1,0 +1,23 @@
+//! The two sides of a pair.
+ghost use Rattle.std.specs.Prelude.{◌≡◌};
+ghost use Rattle.syn_headline.specs.Network.{other};
+ghost use Rattle.syn_message.specs.Sides.{which_of};
+
+/// A side of a pair of replicas.
+#[derive(Clone, Copy, Debug, PartialEq, Eq)]
+pub enum Side {
+    Left,
+    Right,
+}
+
+impl Side {
+    /// The side across.
+    pub fn other(self) -> Side
+        ensures { which_of result ≡ other (which_of self) }
+    {
+        match self {
+            Side::Left => Side::Right,
+            Side::Right => Side::Left,
+        }
+    }
+}
