@@ -1,0 +1,4 @@
+pub mod MergeLemmas
+pub mod PartLemmas
+pub mod WalkLemmas
+pub mod PlanLemmas

@@ -1,0 +1,8 @@
+use Rattle.std.proofs.Common.{sym, subst}
+use Rattle.syn_tree.specs.Pairs.{AreRising}
+use Rattle.syn_tree.proofs.RisingLemmas.{are_rising}
+use Rattle.syn_tree.proofs.TreeLemmas.{rising-entries}
+use Rattle.syn_scan.proofs.scan.Scan.marks.Goals as goal
+
+pub part_at-requires : goal.part_at-requires
+part_at-requires c = subst AreRising (sym c.as_slice.ensures.all) (are_rising _ (rising-entries c.self.inside.marks))

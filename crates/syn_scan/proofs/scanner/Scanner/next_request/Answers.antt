@@ -1,0 +1,43 @@
+use Rattle.std.proofs.Common.{◌≡◌, ◌<◌, ◌≤◌, true, ap, ◌∙◌, sym, subst, length, slice_index_or, ltb-true, ltb-false}
+use Rattle.std.specs.Prelude.{All}
+use Rattle.std.specs.FinMap.{entries}
+use Rattle.std.proofs.lemmas.List.Elements.{All-push}
+use Rattle.syn_scan.specs.Found.{is_open, IsFirstOpen, IsWhole}
+use Rattle.syn_scan.specs.Asked.{Asked}
+use Rattle.syn_scan.specs.inner.Kept.{is_open_entry}
+use Rattle.syn_scan.proofs.FirstLemmas.{first_is, whole_is}
+use Rattle.syn_scan.proofs.scanner.Scanner.next_request.Goals as goal
+use Rattle.syn_scan.proofs.scanner.Scanner.next_request.Goals.{In_ok-path}
+
+pub returns-in_default-clause-none : goal.returns-in_default-clause-none
+returns-in_default-clause-none c =
+    let found = c.self.inside.scan in
+    let all = c.as_slice.ensures.all ∙ ap entries c.tree.ensures.marks in
+    let n = c.first_open-at.result in
+    subst IsWhole (ap (λ (a : Asked). a.found) c.self.view_is)
+    (whole_is found n c.first_open-at.ensures.none (subst (λ es. length es ≤ n) all (ltb-false _ _ (sym c.in_default.ensures.lookup.0))))
+
+-- the path is the first that is open
+first : (c : In_ok-path) → IsFirstOpen c.self.inside.scan c.in_ok-path.path
+first c =
+    let found = c.self.inside.scan in
+    let e = c.in-Some.next.now in
+    let n = c.first_open-at.result in
+    let all = c.as_slice.ensures.all ∙ ap entries c.tree.ensures.marks in
+    let l = subst (λ es. n < length es) all (ltb-true _ _ (sym c.in-Some.ensures.lookup.0)) in
+    let is = c.in-Some.ensures.lookup.1 ∙ ap (λ es. slice_index_or es n e) all in
+    first_is found n e c.in_ok-path.path c.first_open-at.ensures.none l is (ap (is_open_entry found) is ∙ c.first_open-at.ensures.open e l) (c.in_ok-path.ensures.ok ∙ c.path.ensures)
+
+pub invariant_of-self-in_ok-push : goal.invariant_of-self-in_ok-push
+invariant_of-self-in_ok-push c =
+    let found = c.self.inside.scan in
+    let one = first (goal.at.invariant_of-self-in_ok-push c).In_ok-path in
+    record {
+      out_open = subst (All (λ q. is_open found q ≡ true)) (sym c.in_ok-push.ensures.items)
+          (All-push (λ q. is_open found q ≡ true) c.self.inside.out.items c.in_ok-copy.field-0 c.self.invariant.out_open (ap (is_open found) c.in_ok-copy.ensures.ok ∙ one.opened));
+      none_open = c.first_open-at.ensures.none;
+    }
+
+pub returns-clause-some : goal.returns-clause-some
+returns-clause-some c =
+    subst (λ f. IsFirstOpen f c.in_ok-path.path) (ap (λ (a : Asked). a.found) c.self.view_is) (first (goal.at.returns-clause-some c).In_ok-path)

@@ -1,0 +1,4 @@
+pub mod Refusals
+pub mod Found
+pub mod Asked
+pub mod inner
