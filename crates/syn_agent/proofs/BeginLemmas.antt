@@ -1,0 +1,280 @@
+-- How a session begins, by what the replica answers.
+use Rattle.std.proofs.Common.{◌≡◌, ◌⊎◌, ◌∙◌, ◌+◌, ◌-◌, ℕ, Bool, true, false, List, [], ◌∷◌, ◌++◌}
+use Rattle.std.proofs.Common.{Option, Some, None, ap, arith, inl, inr, length, not}
+use Rattle.std.proofs.Common.{◌≢◌, length-append, refl, subst, sym}
+use Rattle.std.proofs.lemmas.Bool.{eqb-true, eqb-false, false≢true}
+use Rattle.std.specs.Prelude.{◌==◌, nat_le, nat_lt, if◌then◌else◌}
+use Rattle.syn_agent.proofs.CauseLemmas.{device_is, later_none, later_some, never_first}
+use Rattle.syn_agent.proofs.CauseLemmas.{outside, rooms}
+use Rattle.syn_agent.proofs.ReplicaLemmas.{stays}
+use Rattle.syn_agent.specs.Agents.{side_of}
+use Rattle.syn_agent.specs.Answers.{Answers, keeps, adds, breaks, IsUnchanged, room_for}
+use Rattle.syn_agent.specs.declared.agent.Agent.{Agent}
+use Rattle.syn_agent.specs.Answers.{BreaksOff, IsUnread, ServesSo}
+use Rattle.syn_disk.specs.declared.disk.Disk.{Ghosts}
+use Rattle.syn_headline.specs.Machine.{record_size}
+use Rattle.syn_headline.specs.Side.{Side, Served, Begin, Begun, Refused, add_event, answer, begin}
+use Rattle.syn_headline.specs.Side as model
+use Rattle.syn_model.specs.Event.{Event, Began}
+use Rattle.syn_model.specs.History.{History, last_session, position_causes}
+use Rattle.syn_model.specs.Refusal.{Refusal, Cause, first_cause, WrongPair, OldSession, JournalFull}
+use Rattle.syn_model.specs.Refusal as why
+use Rattle.syn_model.specs.Spelling.{event_spelling}
+use Rattle.syn_replica.specs.Refusals.{CountsFailures, IsOneOf, MakesIfDevice, outside_refusals}
+use Rattle.syn_replica.specs.Refusals.{refusal_of}
+use Rattle.syn_replica.specs.Replica.{HasRecord, IsHalted, KeepsReadings, Stands, disk_of}
+use Rattle.syn_replica.specs.Replica.{journal_of, left_shown, pair_of, room_shown, standing_shown}
+use Rattle.syn_replica.specs.Steps.{MakesIfNew, begin_refusal, begun, room_causes}
+use Rattle.syn_replica.specs.declared.error.ReplicaError.{ReplicaError}
+use Rattle.syn_replica.specs.declared.replica.Replica.{Replica}
+
+module _ (room left own session pair : ℕ) (history : History) (agent : Agent)
+    (is : room ≡ left - 5) where
+  abbrev side : Side
+  side = side_of history agent
+
+  abbrev has_room : Event → Bool
+  has_room event = nat_le (record_size (event_spelling event)) left
+
+  abbrev early : List Cause
+  early = (not (pair == own), WrongPair) ∷ (nat_lt session (last_session history), OldSession) ∷ []
+
+  abbrev late : List Cause
+  late = position_causes history ++ model.room_causes has_room (Began session)
+
+  abbrev fresh : Served
+  fresh = answer (add_event side (Began session)) (Begun (length history + 1))
+
+  abbrev again_begun : Served
+  again_begun = answer side (Begun (length history))
+
+  same_rooms : room_causes room (Began session) ≡ model.room_causes has_room (Began session)
+  same_rooms = ap (λ b. (b, JournalFull) ∷ [])
+      (rooms room left (length (event_spelling (Began session))) is (omega arith))
+
+  pub begins : begin_refusal room own history pair session ≡ None
+      → begin own has_room side session pair
+      ≡ (if session == last_session history then answer side (Begun (length history))
+      else answer (add_event side (Began session)) (Begun (length history + 1)))
+  begins none = by (session == last_session history) none
+    where
+      by : (again : Bool)
+          → first_cause (early ++ (if again then [] else position_causes history
+          ++ room_causes room (Began session))) ≡ None
+          → model.unless_refused side (first_cause early)
+          (if again then answer side (Begun (length history))
+          else model.unless_refused side (first_cause (position_causes history
+          ++ model.room_causes has_room (Began session)))
+          (answer (add_event side (Began session)) (Begun (length history + 1))))
+          ≡ (if again then answer side (Begun (length history))
+          else answer (add_event side (Began session)) (Begun (length history + 1)))
+      by true none = later_none early [] side again_begun none
+      by false none = later_none early late side fresh
+          (subst (λ r. first_cause (early ++ (position_causes history ++ r)) ≡ None) same_rooms
+          none)
+
+  pub begins_not : (refusal : Refusal)
+      → begin_refusal room own history pair session ≡ Some refusal
+      → begin own has_room side session pair ≡ answer side (Refused refusal)
+  begins_not refusal some = by (session == last_session history) some
+    where
+      by : (again : Bool)
+          → first_cause (early ++ (if again then [] else position_causes history
+          ++ room_causes room (Began session))) ≡ Some refusal
+          → model.unless_refused side (first_cause early)
+          (if again then answer side (Begun (length history))
+          else model.unless_refused side (first_cause (position_causes history
+          ++ model.room_causes has_room (Began session)))
+          (answer (add_event side (Began session)) (Begun (length history + 1))))
+          ≡ answer side (Refused refusal)
+      by true some = later_some early [] side again_begun refusal some
+      by false some = later_some early late side fresh refusal
+          (subst (λ r. first_cause (early ++ (position_causes history ++ r)) ≡ Some refusal)
+          same_rooms some)
+
+  -- no cause is a failed device call
+  pub never_device : (refusal : Refusal)
+      → begin_refusal room own history pair session ≡ Some refusal → refusal ≢ why.Device
+  never_device refusal some = by (session == last_session history) some
+    where
+      by : (again : Bool)
+          → first_cause (early ++ (if again then [] else position_causes history
+          ++ room_causes room (Began session))) ≡ Some refusal → refusal ≢ why.Device
+      by true some = never_first why.Device refusal early
+          ((λ e. cc), ((λ e. cc), tt)) some
+      by false some = never_first why.Device refusal
+          (early ++ (position_causes history ++ room_causes room (Began session)))
+          ((λ e. cc), ((λ e. cc), ((λ e. cc), ((λ e. cc), tt)))) some
+
+  -- the pair is its own
+  pub own_pair : begin_refusal room own history pair session ≡ None → pair ≡ own
+  own_pair none = by (pair == own) refl none
+    where
+      by : (b : Bool) → (pair == own) ≡ b
+          → first_cause ((not b, WrongPair) ∷ (nat_lt session (last_session history), OldSession)
+          ∷ (if session == last_session history then [] else position_causes history
+          ++ room_causes room (Began session))) ≡ None → pair ≡ own
+      by true same none = eqb-true pair own same
+      by false same none = absurd (let k : Some WrongPair ≡ None = none in cc)
+
+module _ {D : Type 0} {disk : Ghosts D} (old new : Replica D disk) (agent : Agent)
+    (history : History) (session pair : ℕ) (stands : Stands old history) where
+  was_running : ¬ IsHalted old
+  was_running halted = false≢true (sym stands.runs.running ∙ halted)
+
+  unread : IsUnread (pair_of old) (room_for old) (side_of history agent) session (Begin pair)
+  unread a b = refl
+
+  room_is : room_shown old ≡ left_shown old - 5
+  room_is = omega arith
+
+  last_is : (standing_shown old).session ≡ last_session history
+  last_is = ap (λ s. s.session) stands.remembers.standing
+
+  own : begin_refusal (room_shown old) (pair_of old) history pair session ≡ None
+      → pair ≡ pair_of old
+  own none =
+      own_pair (room_shown old) (left_shown old) (pair_of old) session pair history agent room_is
+      none
+
+  serves : (again : Bool) → session == last_session history ≡ again
+      → begin_refusal (room_shown old) (pair_of old) history pair session ≡ None
+      → ServesSo (pair_of old) (room_for old) (side_of history agent) session (Begin pair)
+      (if again then answer (side_of history agent) (Begun (length history))
+      else answer (add_event (side_of history agent) (Began session)) (Begun (length history + 1)))
+  serves again is none = inl (
+    None,
+    inr unread,
+    sym (begins (room_shown old) (left_shown old)
+        (pair_of old) session pair history agent room_is none
+        ∙ ap (λ b. if b then answer (side_of history agent) (Begun (length history))
+        else answer (add_event (side_of history agent) (Began session))
+        (Begun (length history + 1)))
+        is),
+  )
+
+  -- the replica answers a position
+  pub begun_answers : (position : ℕ)
+      → (position ≡ length (begun history session)) × Stands new (begun history session)
+      → (begin_refusal (room_shown old) (pair_of old) history pair session ≡ None)
+      → (session ≢ (standing_shown old).session → HasRecord old new (Began session))
+      → (pair ≡ pair_of old → session ≡ (standing_shown old).session → ¬ IsHalted old
+      → new ≡ old)
+      → MakesIfNew (session == (standing_shown old).session) (disk.arms (disk_of old))
+      (disk.arms (disk_of new))
+      → disk.failures (disk_of new) ≡ disk.failures (disk_of old)
+      → Answers old new agent agent history session (Begin pair) (Begun position)
+  begun_answers position given none has same calls failures =
+      by (session == last_session history) refl
+    where
+      after : (again : Bool) → (session == last_session history) ≡ again
+          → begun history session ≡ (if again then history else history ++ Began session ∷ [])
+      after again is = ap (λ b. if b then history else history ++ Began session ∷ []) is
+
+      by : (again : Bool) → (session == last_session history) ≡ again
+          → Answers old new agent agent history session (Begin pair) (Begun position)
+      by true is =
+          let q = same (own none) (eqb-true session (last_session history) is ∙ sym last_is)
+          was_running in
+          subst (λ n. Answers old new agent agent history session (Begin pair) (Begun n))
+          (sym (given.0 ∙ ap length (after true is)))
+          (keeps (answer (side_of history agent) (Begun (length history))) (serves true is none)
+          refl
+          (record {
+            memory = record { pair = ap pair_of q; standing = ap standing_shown q };
+            journal = ap journal_of q;
+          })
+          (subst (Stands new) (after true is) given.1))
+      by false is =
+          subst (λ n. Answers old new agent agent history session (Begin pair) (Begun n))
+          (sym (given.0 ∙ (ap length (after false is)
+          ∙ length-append history (Began session ∷ []))))
+          (adds (answer (add_event (side_of history agent) (Began session))
+          (Begun (length history + 1))) (Began session) (serves false is none) refl
+          (record {
+            stands = subst (Stands new) (after false is) given.1;
+            has = has (λ e. eqb-false session (last_session history) is (e ∙ last_is));
+            calls = subst (λ b. MakesIfNew b (disk.arms (disk_of old)) (disk.arms (disk_of new)))
+                (ap (λ n. session == n) last_is ∙ is) calls;
+            failures = failures;
+          }))
+
+  -- the replica refuses it
+  pub begun_refused : (e : ReplicaError)
+      → (IsOneOf outside_refusals e ⊎ (begin_refusal (room_shown old) (pair_of old) history pair
+      session ≡ Some (refusal_of e)))
+      → ((refusal : Refusal)
+      → begin_refusal (room_shown old) (pair_of old) history pair session ≡ Some refusal
+      → refusal_of e ≡ refusal)
+      → ((pair ≡ pair_of old) → (session ≡ (standing_shown old).session) → ¬ IsHalted old → ⊥)
+      → (refusal_of e ≡ why.Device → IsHalted new)
+      → CountsFailures e (disk.failures (disk_of old)) (disk.failures (disk_of new))
+      → MakesIfDevice e 4 (disk.arms (disk_of old)) (disk.arms (disk_of new))
+      → KeepsReadings old new
+      → ((refusal_of e ≡ why.Device) ⊎ (journal_of new ≡ journal_of old))
+      → Answers old new agent agent history session (Begin pair) (Refused (refusal_of e))
+  begun_refused e cause refused again halts failures calls readings unchanged =
+      elim unchanged [
+        | inl device ↦ broken device
+        | inr same ↦ elim cause [
+          | inl none ↦ elim (outside e none) [
+            | inl memory ↦ kept same (answer (side_of history agent) (Refused (refusal_of e)))
+                (inr (ap (λ r. answer (side_of history agent) (Refused r)) memory)) refl
+            | inr device ↦ broken device
+          ]
+          | inr some ↦ kept same (answer (side_of history agent) (Refused (refusal_of e)))
+              (inl (
+                None,
+                inr unread,
+                sym (begins_not (room_shown old) (left_shown old)
+                    (pair_of old) session pair history agent room_is (refusal_of e) some),
+              )) refl
+        ]
+      ]
+    where
+      kept : journal_of new ≡ journal_of old → (served : Served)
+          → ServesSo (pair_of old) (room_for old) (side_of history agent) session (Begin pair)
+          served
+          → served.side ≡ side_of history agent
+          → Answers old new agent agent history session (Begin pair) served.reply
+      kept same served so stays_so =
+          let as_it_was : IsUnchanged old new =
+          record { memory = readings.memory; journal = same } in
+          keeps served so stays_so as_it_was (stays old new history stands as_it_was)
+
+      no_cause : refusal_of e ≡ why.Device → (found : Option Refusal)
+          → begin_refusal (room_shown old) (pair_of old) history pair session ≡ found
+          → begin_refusal (room_shown old) (pair_of old) history pair session ≡ None
+      no_cause device None is = is
+      no_cause device (Some refusal) is = absurd (never_device (room_shown old) (left_shown old)
+          (pair_of old) session pair history agent room_is refusal is
+          (sym (refused refusal is) ∙ device))
+
+      off : refusal_of e ≡ why.Device → BreaksOff old new
+      off device =
+          let error = device_is e device in
+          record {
+            halted = halts device;
+            readings = readings;
+            calls = subst (λ x. MakesIfDevice x 4 (disk.arms (disk_of old))
+                (disk.arms (disk_of new))) error calls;
+            failures = subst (λ x. CountsFailures x (disk.failures (disk_of old))
+                (disk.failures (disk_of new))) error failures;
+          }
+
+      broken_if : refusal_of e ≡ why.Device
+          → begin_refusal (room_shown old) (pair_of old) history pair session ≡ None
+          → (b : Bool) → (session == last_session history) ≡ b
+          → Answers old new agent agent history session (Begin pair) (Refused why.Device)
+      broken_if device none true is = absurd (again (own none)
+          (eqb-true session (last_session history) is ∙ sym last_is) was_running)
+      broken_if device none false is =
+          breaks (answer (add_event (side_of history agent) (Began session))
+          (Begun (length history + 1))) (Began session) (serves false is none) refl (off device)
+
+      broken : refusal_of e ≡ why.Device
+          → Answers old new agent agent history session (Begin pair) (Refused (refusal_of e))
+      broken device =
+          subst (λ r. Answers old new agent agent history session (Begin pair) (Refused r))
+          (sym device)
+          (broken_if device (no_cause device _ refl) (session == last_session history) refl)

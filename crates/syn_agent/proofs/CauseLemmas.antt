@@ -1,0 +1,119 @@
+-- Refusals and their causes.
+use Rattle.std.proofs.Common.{◌≡◌, ◌≢◌, ◌⊎◌, ◌∙◌, ◌-◌, ◌+◌, ◌≤◌, ℕ, Bool, true, false, List, []}
+use Rattle.std.proofs.Common.{◌∷◌, ◌++◌, Option, Some, None, ap, arith, inl, inr, not, refl, sym}
+use Rattle.std.proofs.Common.{suc}
+use Rattle.std.proofs.lemmas.Bool.{eqb-true, false≢true}
+use Rattle.std.proofs.lemmas.Bool.Decides.{leb_tells}
+use Rattle.std.specs.Prelude.{◌||◌, ◌==◌, nat_le, nat_lt}
+use Rattle.syn_headline.specs.Side.{Side, Served, Refused, answer, unless_refused}
+use Rattle.syn_journal.specs.declared.error.JournalError.TheVariants as journal
+use Rattle.syn_model.specs.Refusal.{Refusal, Cause, first_cause, number}
+use Rattle.syn_model.specs.Refusal as why
+use Rattle.syn_replica.specs.Refusals.{IsOneOf, outside_refusals, refusal_of}
+use Rattle.syn_replica.specs.declared.error.ReplicaError.{ReplicaError}
+use Rattle.syn_replica.specs.declared.error.ReplicaError.TheVariants.{Tree, History, Journal}
+use Rattle.syn_history.specs.Refusals.{refusal_of as of_history}
+use Rattle.syn_history.specs.declared.error.HistoryError.{HistoryError}
+use Rattle.syn_history.specs.declared.error.HistoryError.TheVariants as history
+use Rattle.syn_tree.specs.Refusals.{refusal_of as of_tree}
+use Rattle.syn_tree.specs.declared.error.TreeError.{TreeError}
+use Rattle.syn_tree.specs.declared.error.TreeError.TheVariants as tree
+
+pub or_cases : (a b : Bool) → (a || b) ≡ true → (a ≡ true) ⊎ (b ≡ true)
+or_cases true b is = inl refl
+or_cases false b is = inr is
+
+pub memory_number : (refusal : Refusal) → 11 ≡ number refusal → refusal ≡ why.Memory
+memory_number why.Memory is = refl
+memory_number refusal is =
+    absurd (let k : 11 ≡ number refusal = is in omega (arith, k))
+
+device_number : (refusal : Refusal) → 9 ≡ number refusal → refusal ≡ why.Device
+device_number why.Device is = refl
+device_number refusal is =
+    absurd (let k : 9 ≡ number refusal = is in omega (arith, k))
+
+-- what no history causes
+pub outside : (e : ReplicaError) → IsOneOf outside_refusals e
+    → (refusal_of e ≡ why.Memory) ⊎ (refusal_of e ≡ why.Device)
+outside e is =
+    elim (or_cases (11 == number (refusal_of e)) ((9 == number (refusal_of e)) || false) is) [
+      | inl memory ↦ inl (memory_number (refusal_of e) (eqb-true _ _ memory))
+      | inr more ↦ elim (or_cases (9 == number (refusal_of e)) false more) [
+        | inl device ↦ inr (device_number (refusal_of e) (eqb-true _ _ device))
+        | inr none ↦ absurd (false≢true none)
+      ]
+    ]
+
+tree_is_none : (e : TreeError) → of_tree e ≢ why.Device
+tree_is_none tree.Memory is = let k : why.Memory ≡ why.Device = is in cc
+tree_is_none e is = let k : of_tree e ≡ why.Device = is in cc
+
+history_is_none : (e : HistoryError) → of_history e ≢ why.Device
+history_is_none history.Memory is = let k : why.Memory ≡ why.Device = is in cc
+history_is_none e is = let k : of_history e ≡ why.Device = is in cc
+
+-- a failed device call is the journal's
+pub device_is : (e : ReplicaError) → refusal_of e ≡ why.Device → e ≡ Journal journal.Device
+device_is (Journal journal.Device) is = refl
+device_is (Tree e) is = absurd (tree_is_none e is)
+device_is (History e) is = absurd (history_is_none e is)
+device_is e is = absurd (let k : refusal_of e ≡ why.Device = is in cc)
+
+-- none of the causes is that of the refusal
+abbrev pub Never : Refusal → List Cause → Type 0
+Never refusal [] = Unit {0}
+Never refusal (cause ∷ causes) = (cause.1 ≢ refusal) × Never refusal causes
+
+none_is_no : (refusal : Refusal) → ◌≢◌ {A = Option Refusal} None (Some refusal)
+none_is_no refusal is = cc
+
+-- there is no cause
+pub none_of : (found : Option Refusal) → ((refusal : Refusal) → ◌≢◌ found (Some refusal))
+    → found ≡ None
+none_of None not = refl
+none_of (Some refusal) not = absurd (not refusal refl)
+
+pub never_first : (refusal other : Refusal) (causes : List Cause) → Never refusal causes
+    → first_cause causes ≡ Some other → other ≢ refusal
+never_first refusal other [] never is = absurd (none_is_no other is)
+never_first refusal other ((true, first) ∷ causes) never is =
+    λ same. never.0 (let k : Some first ≡ Some other = is in cc)
+never_first refusal other ((false, first) ∷ causes) never is =
+    never_first refusal other causes never.1 is
+
+-- what the journal takes, by its longest payload and by what is left of it
+pub rooms : (room left size : ℕ) → room ≡ left - 5 → 1 ≤ size
+    → nat_lt room size ≡ not (nat_le (5 + size) left)
+rooms room left size is some =
+    elim (leb_tells (suc room) size) [
+      | inl longer ↦ elim (leb_tells (5 + size) left) [
+        | inl fits ↦ absurd (omega (arith, is, some, longer.1, fits.1))
+        | inr full ↦ longer.0 ∙ sym (ap not full.0)
+      ]
+      | inr short ↦ elim (leb_tells (5 + size) left) [
+        | inl fits ↦ short.0 ∙ sym (ap not fits.0)
+        | inr full ↦ absurd (omega (arith, is, some, short.1, full.1))
+      ]
+    ]
+
+-- the first cause of two lists of causes, one looked at behind the other
+pub later_none : (first second : List Cause) (side : Side) (served : Served)
+    → first_cause (first ++ second) ≡ None
+    → unless_refused side (first_cause first) (unless_refused side (first_cause second) served)
+    ≡ served
+later_none [] second side served none = ap (λ o. unless_refused side o served) none
+later_none ((true, why) ∷ first) second side served none =
+    absurd (let k : Some why ≡ None = none in cc)
+later_none ((false, why) ∷ first) second side served none =
+    later_none first second side served none
+
+pub later_some : (first second : List Cause) (side : Side) (served : Served) (why : Refusal)
+    → first_cause (first ++ second) ≡ Some why
+    → unless_refused side (first_cause first) (unless_refused side (first_cause second) served)
+    ≡ answer side (Refused why)
+later_some [] second side served why some = ap (λ o. unless_refused side o served) some
+later_some ((true, first) ∷ causes) second side served why some =
+    ap (λ o. unless_refused side o (unless_refused side (first_cause second) served)) some
+later_some ((false, first) ∷ causes) second side served why some =
+    later_some causes second side served why some

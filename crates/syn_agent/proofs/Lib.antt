@@ -1,0 +1,6 @@
+mod CauseLemmas
+mod ReplicaLemmas
+mod BeginLemmas
+mod ReplaceLemmas
+mod ReadingLemmas
+mod StageLemmas

@@ -1,0 +1,341 @@
+-- How a replacement is served, by what is staged and what the replica answers.
+use Rattle.std.proofs.Common.{◌≡◌, ◌⊎◌, ◌∙◌, ◌-◌, ℕ, Bool, true, false, List, [], ◌∷◌, ◌++◌}
+use Rattle.std.proofs.Common.{Option, Some, None, ap, arith, inl, inr, length, not, refl, subst}
+use Rattle.std.proofs.Common.{sym}
+use Rattle.std.proofs.lemmas.Bool.Decides.{nat_tests}
+use Rattle.std.specs.Option.{option_map_or}
+use Rattle.std.specs.Prelude.{◌||◌, ◌&&◌, ◌==◌, nat_lt, if◌then◌else◌}
+use Rattle.syn_agent.proofs.CauseLemmas.{Never, device_is, never_first, outside, rooms}
+use Rattle.syn_agent.proofs.ReplicaLemmas.{stays}
+use Rattle.syn_agent.specs.Agents.{side_of, staging_of}
+use Rattle.syn_agent.specs.Answers.{Answers, BreaksOff, IsUnchanged, ServesSo, keeps, adds}
+use Rattle.syn_agent.specs.Answers.{breaks, room_for, staging_causes}
+use Rattle.syn_agent.specs.declared.agent.Agent.{Agent}
+use Rattle.syn_disk.specs.declared.disk.Disk.{Ghosts}
+use Rattle.syn_headline.specs.Side.{Side, Served, Replace, Done, Refused, Reads, add_event, answer}
+use Rattle.syn_headline.specs.Side.{is_dead_token, is_staged, replace_at, replace_with, serve}
+use Rattle.syn_headline.specs.Side.{staged_bytes, unless_refused}
+use Rattle.syn_headline.specs.Side as model
+use Rattle.syn_model.specs.Event.{Event, Token, Replaced, is_below, is_same_token}
+use Rattle.syn_model.specs.History.{History, is_old_token, last_session, last_token, tree_of}
+use Rattle.syn_model.specs.History.{position_causes}
+use Rattle.syn_model.specs.Path.{Path}
+use Rattle.syn_model.specs.Refusal.{Refusal, Cause, first_cause, OldSession, NotStaged, BadStage}
+use Rattle.syn_model.specs.Refusal.{JournalFull}
+use Rattle.syn_model.specs.Refusal as why
+use Rattle.syn_model.specs.Spelling.{event_spelling}
+use Rattle.syn_model.specs.Standing.{full_causes, place_causes}
+use Rattle.syn_model.specs.Tree.{Tree, replace}
+use Rattle.syn_replica.specs.Refusals.{CountsFailures, IsOneOf, MakesIfDevice, outside_refusals}
+use Rattle.syn_replica.specs.Refusals.{refusal_of}
+use Rattle.syn_replica.specs.Replica.{HasRecord, IsHalted, KeepsReadings, Stands, disk_of}
+use Rattle.syn_replica.specs.Replica.{journal_of, left_shown, pair_of, room_shown}
+use Rattle.syn_replica.specs.Steps.{MakesIfNew, is_done, replace_refusal, replaced, room_causes}
+use Rattle.syn_replica.specs.Steps.{since_causes}
+use Rattle.syn_replica.specs.declared.error.ReplicaError.{ReplicaError}
+use Rattle.syn_replica.specs.declared.replica.Replica.{Replica}
+use Rattle.syn_replica.specs.declared.replica.session.TokenStanding.TheVariants as TokenStanding
+
+-- of two tokens that are not one, one is below the other
+other_way : (a b : Token) → is_same_token a b ≡ false → not (is_below a b) ≡ is_below b a
+other_way a b apart = by a.session a.item b.session b.item apart
+  where
+    by : (s i t j : ℕ) → (s == t && i == j) ≡ false
+        → not (nat_lt s t || (s == t && nat_lt i j)) ≡ (nat_lt t s || (t == s && nat_lt j i))
+    by s i t j apart = grind (arith, nat_tests)
+
+-- so a token that is not done is old where it is below the last
+reached : (last : Option Token) (token : Token)
+    → option_map_or (λ last. is_same_token last token) last false ≡ false
+    → option_map_or (λ last. is_below token last) last false
+    ≡ option_map_or (λ last. not (is_below last token)) last false
+reached None token apart = refl
+reached (Some last) token apart = sym (other_way last token apart)
+
+module _ {D : Type 0} {disk : Ghosts D} (old : Replica D disk) (agent : Agent)
+    (history : History) (session item : ℕ) (path : Path) (since size : ℕ)
+    (stands : Stands old history) where
+  abbrev token : Token
+  token = record { session = session; item = item }
+
+  abbrev side : Side
+  side = side_of history agent
+
+  abbrev below_staged : Bool
+  below_staged = option_map_or (λ staged. is_below token staged.token) (staging_of agent) false
+
+  abbrev causes_if : Bool → List Cause
+  causes_if dead = (dead, OldSession) ∷ (not (is_staged (staging_of agent) token), NotStaged)
+      ∷ (not (length (staged_bytes (staging_of agent)) == size), BadStage) ∷ []
+
+  abbrev at : Option Tree → Served
+  at read = serve (pair_of old) (room_for old) read side session (Replace item path since size)
+
+  abbrev with : Option Tree → Served
+  with read = replace_with (room_for old) side token path since read
+
+  -- under a token that is done
+  done : is_done history token ≡ true → (read : Option Tree) → at read ≡ answer side Done
+  done is read = ap (λ b. if b then answer side Done
+      else unless_refused side (first_cause (causes_if (is_dead_token side token))) (with read)) is
+
+  -- under another
+  undone : is_done history token ≡ false → (read : Option Tree)
+      → at read ≡ unless_refused side
+      (first_cause (causes_if (is_old_token history token || below_staged))) (with read)
+  undone is read =
+      ap (λ b. if b then answer side Done
+      else unless_refused side (first_cause (causes_if (is_dead_token side token))) (with read)) is
+      ∙ ap (λ z. unless_refused side (first_cause (causes_if (session == 0
+      || not (session == last_session history) || z || below_staged))) (with read))
+      (reached (last_token history) token is)
+
+  -- an answer that is given without the replica, whatever is staged
+  pub kept : (served : Served) → ((read : Option Tree) → at read ≡ served)
+      → served.side ≡ side
+      → Answers old old agent agent history session (Replace item path since size) served.reply
+  kept served is same =
+      keeps served (inl (None, inr (λ a b. is a ∙ sym (is b)), sym (is None))) same
+      (record { memory = record { pair = refl; standing = refl }; journal = refl }) stands
+
+  pub done_answers : is_done history token ≡ true
+      → Answers old old agent agent history session (Replace item path since size) Done
+  done_answers is = kept (answer side Done) (done is) refl
+
+  pub old_answers : is_done history token ≡ false → is_old_token history token ≡ true
+      → Answers old old agent agent history session (Replace item path since size)
+      (Refused OldSession)
+  old_answers fresh is = kept (answer side (Refused OldSession))
+      (λ read. undone fresh read ∙ ap (λ b. unless_refused side
+      (first_cause (causes_if (b || below_staged))) (with read)) is) refl
+
+  -- under one that is open
+  open_at : is_done history token ≡ false → is_old_token history token ≡ false
+      → (read : Option Tree)
+      → at read ≡ unless_refused side
+      (first_cause (staging_causes (staging_of agent) token size)) (with read)
+  open_at fresh young read = undone fresh read ∙ ap (λ b. unless_refused side
+      (first_cause (causes_if (b || below_staged))) (with read)) young
+
+  pub refused_answers : is_done history token ≡ false → is_old_token history token ≡ false
+      → (refusal : Refusal)
+      → first_cause (staging_causes (staging_of agent) token size) ≡ Some refusal
+      → Answers old old agent agent history session (Replace item path since size)
+      (Refused refusal)
+  refused_answers fresh young refusal some = kept (answer side (Refused refusal))
+      (λ read. open_at fresh young read ∙ ap (λ o. unless_refused side o (with read)) some) refl
+
+  staged_at : is_done history token ≡ false → is_old_token history token ≡ false
+      → first_cause (staging_causes (staging_of agent) token size) ≡ None
+      → (read : Option Tree) → at read ≡ with read
+  staged_at fresh young none read =
+      open_at fresh young read ∙ ap (λ o. unless_refused side o (with read)) none
+
+  -- what is staged is no spelling
+  pub unread_answers : is_done history token ≡ false → is_old_token history token ≡ false
+      → first_cause (staging_causes (staging_of agent) token size) ≡ None
+      → Reads (staged_bytes (staging_of agent)) None
+      → Answers old old agent agent history session (Replace item path since size)
+      (Refused BadStage)
+  unread_answers fresh young none reads =
+      keeps (answer side (Refused BadStage))
+      (inl (None, inl reads, sym (staged_at fresh young none None))) refl
+      (record { memory = record { pair = refl; standing = refl }; journal = refl }) stands
+
+  -- memory is refused
+  pub memory_answers : (refusal : Refusal) → refusal ≡ why.Memory
+      → Answers old old agent agent history session (Replace item path since size)
+      (Refused refusal)
+  memory_answers refusal memory =
+      subst (λ r. Answers old old agent agent history session (Replace item path since size)
+      (Refused r)) (sym memory)
+      (keeps (answer side (Refused why.Memory)) (inr refl) refl
+      (record { memory = record { pair = refl; standing = refl }; journal = refl }) stands)
+
+  module _ (fresh : is_done history token ≡ false) (young : is_old_token history token ≡ false)
+      (none : first_cause (staging_causes (staging_of agent) token size) ≡ None) (tree : Tree)
+      (reads : Reads (staged_bytes (staging_of agent)) (Some tree)) (new : Replica D disk) where
+    abbrev event : Event
+    event = Replaced token path since tree
+
+    abbrev all_causes : List Cause
+    all_causes = (is_old_token history token, OldSession) ∷ since_causes history path since
+        ++ (place_causes (tree_of history) path
+        ++ (full_causes (replace (tree_of history) path tree)
+        ++ (position_causes history ++ room_causes (room_shown old) event)))
+
+    room_is : room_shown old ≡ left_shown old - 5
+    room_is = omega arith
+
+    same_rooms : room_causes (room_shown old) event ≡ model.room_causes (room_for old) event
+    same_rooms = ap (λ b. (b, JournalFull) ∷ [])
+        (rooms (room_shown old) (left_shown old) (length (event_spelling event)) room_is
+        (omega arith))
+
+    causes_are : replace_refusal (room_shown old) history token path since tree
+        ≡ first_cause (model.replace_causes (room_for old) side token path since tree)
+    causes_are =
+        ap (λ b. first_cause ((b, OldSession) ∷ since_causes history path since
+        ++ (place_causes (tree_of history) path
+        ++ (full_causes (replace (tree_of history) path tree)
+        ++ (position_causes history ++ room_causes (room_shown old) event))))) young
+        ∙ ap (λ r. first_cause (since_causes history path since
+        ++ (place_causes (tree_of history) path
+        ++ (full_causes (replace (tree_of history) path tree)
+        ++ (position_causes history ++ r))))) same_rooms
+
+    adding : Served
+    adding = answer (add_event side event) Done
+
+    serves : replace_refusal (room_shown old) history token path since tree ≡ None
+        → ServesSo (pair_of old) (room_for old) side session (Replace item path since size)
+        (answer (add_event side event) Done)
+    serves allowed = inl (
+      Some tree,
+      inl reads,
+      sym (staged_at fresh young none (Some tree)
+          ∙ ap (λ o. unless_refused side o (answer (add_event side event) Done))
+          (sym causes_are ∙ allowed)),
+    )
+
+    serves_not : (refusal : Refusal)
+        → replace_refusal (room_shown old) history token path since tree ≡ Some refusal
+        → ServesSo (pair_of old) (room_for old) side session (Replace item path since size)
+        (answer side (Refused refusal))
+    serves_not refusal some = inl (
+      Some tree,
+      inl reads,
+      sym (staged_at fresh young none (Some tree)
+          ∙ ap (λ o. unless_refused side o (answer (add_event side event) Done))
+          (sym causes_are ∙ some)),
+    )
+
+    -- the replica makes it
+    pub made_answers : Stands new (replaced history token path since tree)
+        → replace_refusal (room_shown old) history token path since tree ≡ None
+        → HasRecord old new event
+        → MakesIfNew (is_done history token) (disk.arms (disk_of old)) (disk.arms (disk_of new))
+        → disk.failures (disk_of new) ≡ disk.failures (disk_of old)
+        → Answers old new agent agent history session (Replace item path since size) Done
+    made_answers after allowed has calls failures =
+        adds (answer (add_event side event) Done) event (serves allowed) refl (record {
+          stands = subst (Stands new)
+              (ap (λ b. if b then history else history ++ event ∷ []) fresh) after;
+          has = has;
+          calls = subst (λ b. MakesIfNew b (disk.arms (disk_of old)) (disk.arms (disk_of new)))
+              fresh calls;
+          failures = failures;
+        })
+
+    -- the replica refuses it
+    pub unmade_answers : (e : ReplicaError)
+        → (IsOneOf outside_refusals e
+        ⊎ (replace_refusal (room_shown old) history token path since tree ≡ Some (refusal_of e)))
+        → ((refusal : Refusal)
+        → replace_refusal (room_shown old) history token path since tree ≡ Some refusal
+        → (refusal_of e ≡ refusal) ⊎ (refusal_of e ≡ why.Memory))
+        → (refusal_of e ≡ why.Device → IsHalted new)
+        → CountsFailures e (disk.failures (disk_of old)) (disk.failures (disk_of new))
+        → MakesIfDevice e 4 (disk.arms (disk_of old)) (disk.arms (disk_of new))
+        → KeepsReadings old new
+        → ((refusal_of e ≡ why.Device) ⊎ (journal_of new ≡ journal_of old))
+        → Answers old new agent agent history session (Replace item path since size)
+        (Refused (refusal_of e))
+    unmade_answers e cause refused halts failures calls readings unchanged =
+        elim unchanged [
+          | inl device ↦ broken device
+          | inr same ↦ elim cause [
+            | inl out ↦ elim (outside e out) [
+              | inl memory ↦ stayed same (answer side (Refused (refusal_of e)))
+                  (inr (ap (λ r. answer side (Refused r)) memory)) refl
+              | inr device ↦ broken device
+            ]
+            | inr some ↦ stayed same (answer side (Refused (refusal_of e)))
+                (serves_not (refusal_of e) some) refl
+          ]
+        ]
+      where
+        stayed : journal_of new ≡ journal_of old → (served : Served)
+            → ServesSo (pair_of old) (room_for old) side session (Replace item path since size)
+            served
+            → served.side ≡ side
+            → Answers old new agent agent history session (Replace item path since size)
+            served.reply
+        stayed same served so stays_so =
+            let as_it_was : IsUnchanged old new =
+            record { memory = readings.memory; journal = same } in
+            keeps served so stays_so as_it_was (stays old new history stands as_it_was)
+
+        never : Never why.Device all_causes
+        never = (
+          (λ e. cc),
+          (
+            (λ e. cc),
+            (
+              (λ e. cc),
+              (
+                (λ e. cc),
+                (
+                  (λ e. cc),
+                  (
+                    (λ e. cc),
+                    ((λ e. cc), ((λ e. cc), tt)),
+                  ),
+                ),
+              ),
+            ),
+          ),
+        )
+
+        allowed : refusal_of e ≡ why.Device → (found : Option Refusal)
+            → replace_refusal (room_shown old) history token path since tree ≡ found
+            → replace_refusal (room_shown old) history token path since tree ≡ None
+        allowed device None is = is
+        allowed device (Some refusal) is =
+            absurd (elim (refused refusal is) [
+              | inl same ↦ never_first why.Device refusal all_causes never is (sym same ∙ device)
+              | inr memory ↦ let k : why.Memory ≡ why.Device = sym memory ∙ device in cc
+            ])
+
+        off : refusal_of e ≡ why.Device → BreaksOff old new
+        off device =
+            let error = device_is e device in
+            record {
+              halted = halts device;
+              readings = readings;
+              calls = subst (λ x. MakesIfDevice x 4 (disk.arms (disk_of old))
+                  (disk.arms (disk_of new))) error calls;
+              failures = subst (λ x. CountsFailures x (disk.failures (disk_of old))
+                  (disk.failures (disk_of new))) error failures;
+            }
+
+        broken : refusal_of e ≡ why.Device
+            → Answers old new agent agent history session (Replace item path since size)
+            (Refused (refusal_of e))
+        broken device =
+            subst (λ r. Answers old new agent agent history session
+            (Replace item path since size) (Refused r)) (sym device)
+            (breaks (answer (add_event side event) Done) event (serves (allowed device _ refl)) refl
+            (off device))
+
+-- what a token's standing says of it
+pub stands_done : (a b : Bool)
+    → TokenStanding.Done ≡ (if a then TokenStanding.Done
+    else if b then TokenStanding.Old else TokenStanding.Open) → a ≡ true
+stands_done true b is = refl
+stands_done false true is = cc
+stands_done false false is = cc
+
+pub stands_old : (a b : Bool)
+    → TokenStanding.Old ≡ (if a then TokenStanding.Done
+    else if b then TokenStanding.Old else TokenStanding.Open) → (a ≡ false) × (b ≡ true)
+stands_old true b is = absurd (let k : TokenStanding.Old ≡ TokenStanding.Done = is in cc)
+stands_old false true is = (refl, refl)
+stands_old false false is = absurd (let k : TokenStanding.Old ≡ TokenStanding.Open = is in cc)
+
+pub stands_open : (a b : Bool)
+    → TokenStanding.Open ≡ (if a then TokenStanding.Done
+    else if b then TokenStanding.Old else TokenStanding.Open) → (a ≡ false) × (b ≡ false)
+stands_open true b is = absurd (let k : TokenStanding.Open ≡ TokenStanding.Done = is in cc)
+stands_open false true is = absurd (let k : TokenStanding.Open ≡ TokenStanding.Old = is in cc)
+stands_open false false is = (refl, refl)

@@ -1,0 +1,33 @@
+use Rattle.std.proofs.Common.{◌∙◌, inl, inr, refl, subst, sym}
+use Rattle.syn_agent.proofs.CauseLemmas.{none_of}
+use Rattle.syn_agent.proofs.ReadingLemmas.{is_piece, is_refused, no_memory}
+use Rattle.syn_agent.proofs.agent.Agent.fetch.Goals as goal
+use Rattle.syn_agent.specs.Answers.{Answers}
+use Rattle.syn_headline.specs.Side.{Fetch, Refused}
+use Rattle.syn_model.specs.Refusal as why
+
+pub returns-in-Ok-try_from-clause-answers : goal.returns-in-Ok-try_from-clause-answers
+returns-in-Ok-try_from-clause-answers g c history session stands =
+    let told = c.in-Ok.ensures in
+    is_piece c.args.replica.now c.args.self.now history session stands c.args.path.now
+    c.args.since c.args.offset c.in-Ok-try_from.total c.in-Ok.piece.bytes.items
+    (none_of _ (λ why is. told.refused history why stands is))
+    (told.piece history stands).0 (c.in-Ok-try_from.ensures.1 ∙ (told.piece history stands).1)
+
+pub returns-in-Err-try_from-clause-answers : goal.returns-in-Err-try_from-clause-answers
+returns-in-Err-try_from-clause-answers g c history session stands =
+    no_memory c.args.replica.now c.args.self.now history session stands
+    (Fetch c.args.path.now c.args.since c.args.offset) why.Memory refl
+
+pub returns-in-Err-clause-answers : goal.returns-in-Err-clause-answers
+returns-in-Err-clause-answers g c history session stands =
+    let request = Fetch c.args.path.now c.args.since c.args.offset in
+    subst (λ r. Answers c.args.replica.now c.args.replica.now c.args.self.now c.args.self.now
+    history session (Fetch c.args.path.now c.args.since c.args.offset) (Refused r))
+    (sym c.refusal.ensures)
+    (elim (c.in-Err.ensures.cause history stands) [
+      | inl memory ↦ no_memory c.args.replica.now c.args.self.now history session stands
+          (Fetch c.args.path.now c.args.since c.args.offset) _ memory
+      | inr some ↦ is_refused c.args.replica.now c.args.self.now history session stands
+          c.args.path.now c.args.since c.args.offset _ some
+    ])

@@ -1,0 +1,42 @@
+use Rattle.std.proofs.Common.{◌≡◌, ◌∙◌, Err, ap, inl, inr, sym}
+use Rattle.syn_agent.proofs.ReadingLemmas.{absent_is, halted_is, is_listed, is_no_directory}
+use Rattle.syn_agent.proofs.ReadingLemmas.{no_memory, own_absent, reading, running}
+use Rattle.syn_agent.proofs.agent.Agent.list.Goals as goal
+use Rattle.syn_headline.specs.Side.{ListAt, Refused}
+use Rattle.syn_model.specs.Refusal as why
+use Rattle.syn_refusal.specs.Refusals.{cause_of}
+use Rattle.syn_replica.specs.Refusals.{refusal_in, refusal_of}
+
+pub returns-in-Ok-clause-answers : goal.returns-in-Ok-clause-answers
+returns-in-Ok-clause-answers g c history session stands =
+    let told = c.in-Ok.ensures in
+    is_listed c.args.replica.now c.args.self.now history session stands c.args.path.now _ _
+    told.position told.marks
+    (λ none. let k = told.absent.1 (
+      running c.args.replica.now c.args.self.now history session
+          stands,
+      none,
+    ) in cc)
+
+pub returns-in-Absent-clause-answers : goal.returns-in-Absent-clause-answers
+returns-in-Absent-clause-answers g c history session stands =
+    let error = absent_is c.in-Err.error (sym c.refusal.ensures ∙ ap cause_of c.in-Absent.is) in
+    is_no_directory c.args.replica.now c.args.self.now history session stands c.args.path.now _
+    c.position.ensures (c.in-Err.ensures.absent.0 (ap Err error)).1
+
+pub returns-in_default : goal.returns-in_default
+returns-in_default g c = record {
+  answers = λ history session stands.
+      elim (reading c.in-Err.error c.in-Err.ensures.refusals) [
+        | inl halted ↦ absurd (running c.args.replica.now c.args.self.now history session stands
+            (c.in-Err.ensures.halted.0 (ap Err (halted_is c.in-Err.error halted))))
+        | inr (inl absent) ↦ absurd (c.in_default.not-Absent
+            (own_absent c.refusal.result (c.refusal.ensures ∙ absent)))
+        | inr (inr memory) ↦ no_memory c.args.replica.now c.args.self.now history session stands
+            (ListAt c.args.path.now) _ (c.refusal.ensures ∙ memory)
+      ];
+  halted = λ halted.
+      let found = ap refusal_in (c.in-Err.ensures.halted.1 halted) in
+      let same : refusal_of c.in-Err.error ≡ why.Halted = cc in
+      ap Refused (c.refusal.ensures ∙ same);
+}

@@ -1,0 +1,3 @@
+pub mod Stagings
+pub mod Agents
+pub mod Answers

@@ -1,0 +1,43 @@
+//! A session begins on a side.
+ghost use Rattle.std.specs.Prelude.{◌≡◌};
+ghost use Rattle.syn_disk.specs.Stops.{LeavesOnly};
+ghost use Rattle.syn_headline.specs.Side.{Begin, Refused};
+ghost use Rattle.syn_message.specs.Replies.{reply_of};
+ghost use Rattle.syn_model.specs.Event.{Began};
+ghost use Rattle.syn_model.specs.History.{History};
+ghost use Rattle.syn_model.specs.Refusal as why;
+ghost use Rattle.syn_replica.specs.Replica.{IsHalted, KeepsBeforeOrAfter, Stands, disk_of};
+ghost use Rattle.syn_agent.specs.Answers.{Answers, IsUnchanged};
+
+use crate::agent::Agent;
+use std::alloc::Global;
+use syn_disk::Disk;
+use syn_message::Reply;
+use syn_replica::Replica;
+
+impl Agent {
+    /// Begins the session on the replica, and answers its position. What is staged stays.
+    ///
+    /// Refused as `Replica::begin` is.
+    pub fn begin<D: Disk>(
+        &self,
+        alloc: Global,
+        replica: &mut Replica<D>,
+        session: u64,
+        pair: u64,
+    ) -> Reply
+        ensures answers { (history : History) → Stands replica.old history
+            → Answers replica.old replica.new self.now self.now history session (Begin pair)
+            (reply_of result) }
+        ensures any_moment { (history : History) → Stands replica.old history
+            → LeavesOnly D.moment D.left_since (disk_of replica.old) (disk_of replica.new)
+            (KeepsBeforeOrAfter replica.old history (Began session)) }
+        ensures halted { IsHalted replica.old → (reply_of result ≡ Refused why.Halted)
+            × IsUnchanged replica.old replica.new }
+    {
+        match replica.begin(alloc, pair, session) {
+            Ok(position) => Reply::Begun { position },
+            Err(error) => Reply::Refused(error.refusal()),
+        }
+    }
+}

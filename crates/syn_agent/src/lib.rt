@@ -1,0 +1,12 @@
+//! How a side takes what a session asks of it.
+#![tactic(auto)]
+
+mod agent;
+mod answer;
+mod begin;
+mod reading;
+mod replace;
+mod staging;
+
+pub use agent::Agent;
+pub use staging::{MAX_STAGED, Staging};

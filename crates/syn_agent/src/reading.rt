@@ -1,0 +1,67 @@
+//! What a side tells of its tree.
+ghost use Rattle.std.specs.Prelude.{◌≡◌, ℕ};
+ghost use Rattle.syn_headline.specs.Side.{Fetch, ListAt, Refused};
+ghost use Rattle.syn_message.specs.Replies.{reply_of};
+ghost use Rattle.syn_model.specs.History.{History};
+ghost use Rattle.syn_model.specs.Refusal as why;
+ghost use Rattle.syn_replica.specs.Replica.{IsHalted, Stands};
+ghost use Rattle.syn_agent.specs.Answers.{Answers};
+
+use crate::agent::Agent;
+use std::alloc::Global;
+use syn_disk::Disk;
+use syn_message::Reply;
+use syn_path::Path;
+use syn_refusal::Refusal;
+use syn_replica::{Listing, Replica};
+
+impl Agent {
+    /// The names in the directory with the mark of each, or that no directory is at the path.
+    ///
+    /// Refused 10 while the replica is halted, and 11 where memory is refused.
+    pub fn list<D: Disk>(&self, alloc: Global, replica: &Replica<D>, path: &Path) -> Reply
+        ensures answers { (history : History) (session : ℕ) → Stands replica.now history
+            → Answers replica.now replica.now self.now self.now history session (ListAt path.now)
+            (reply_of result) }
+        ensures halted { IsHalted replica.now → reply_of result ≡ Refused why.Halted }
+    {
+        match replica.listing(alloc, path) {
+            Ok(Listing { position, entries }) => Reply::Listed { position, entries },
+            Err(error) => match error.refusal() {
+                Refusal::Absent => Reply::NotDir {
+                    position: replica.position(),
+                },
+                why => Reply::Refused(why),
+            },
+        }
+    }
+
+    /// The length of what is spelled at the path, and a piece of it.
+    ///
+    /// Refused as `Replica::fetch` is, and 11 where four bytes do not spell the length, which is so
+    /// of no tree of a replica.
+    pub fn fetch<D: Disk>(
+        &self,
+        alloc: Global,
+        replica: &Replica<D>,
+        path: &Path,
+        since: u64,
+        offset: u32,
+    ) -> Reply
+        ensures answers { (history : History) (session : ℕ) → Stands replica.now history
+            → Answers replica.now replica.now self.now self.now history session
+            (Fetch path.now since offset) (reply_of result) }
+        ensures halted { IsHalted replica.now → reply_of result ≡ Refused why.Halted }
+    {
+        match replica.fetch(alloc, path, since, offset as usize) {
+            Ok(piece) => match u32::try_from(piece.total) {
+                Ok(total) => Reply::Piece {
+                    total,
+                    bytes: piece.bytes,
+                },
+                Err(_) => Reply::Refused(Refusal::Memory),
+            },
+            Err(error) => Reply::Refused(error.refusal()),
+        }
+    }
+}

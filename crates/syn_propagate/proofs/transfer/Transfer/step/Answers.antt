@@ -1,0 +1,39 @@
+use Rattle.std.proofs.Common.{◌≡◌, ◌∙◌, Ok, Some, None, ap, subst}
+use Rattle.syn_headline.specs.Session.{fault_of}
+use Rattle.syn_message.specs.Replies.{reply_of}
+use Rattle.syn_propagate.proofs.StepLemmas.{Answers, after_done, after_piece, after_staged}
+use Rattle.syn_propagate.proofs.StepLemmas.{same_answer}
+use Rattle.syn_propagate.proofs.transfer.Transfer.step.Goals as goal
+use Rattle.syn_propagate.specs.Carrying.{WasCarried}
+use Rattle.syn_propagate.specs.declared.next.Next.TheVariants.{Done}
+use Rattle.syn_propagate.specs.Transfers.{WaitsAt, with_answer}
+
+pub returns-in-Piece-clause-goes_on : goal.returns-in-Piece-clause-goes_on
+returns-in-Piece-clause-goes_on c taken to request number answer is waits =
+    let carriage = c.args.self.now.carriage in
+    let next = c.take_piece.new.self in
+    let at = subst (λ p. WaitsAt carriage taken p to request) c.in-Fetching.is waits in
+    subst (λ a. Answers next taken to number request (reply_of a) c.take_piece.result)
+    (same_answer c.args.reply _ answer (c.in-Some.is ∙ ap (λ a. Some a) c.in-Piece.is) is)
+    (after_piece carriage next taken to number request c.take_piece.result c.in-Fetching.offset
+    c.in-Piece.whole c.in-Fetching.total c.in-Piece.bytes.items at
+    (c.take_piece.ensures.goes_on taken number))
+
+pub returns-in-Staged-clause-goes_on : goal.returns-in-Staged-clause-goes_on
+returns-in-Staged-clause-goes_on c taken to request number answer is waits =
+    let carriage = c.args.self.now.carriage in
+    let next = c.go_on.new.self in
+    let at = subst (λ p. WaitsAt carriage taken p to request) c.in-Staging.is waits in
+    subst (λ a. Answers next taken to number request (reply_of a) c.go_on.result)
+    (same_answer c.args.reply _ answer (c.in-Some.is ∙ ap (λ a. Some a) c.in-Staged.is) is)
+    (after_staged carriage next taken to number request c.go_on.result c.in-Staging.end
+    c.in-Staging.total at (c.go_on.ensures.goes_on _))
+
+pub returns-in-Done-clause-goes_on : goal.returns-in-Done-clause-goes_on
+returns-in-Done-clause-goes_on c taken to request number answer is waits =
+    let carriage = c.args.self.now.carriage in
+    let at = subst (λ p. WaitsAt carriage taken p to request) c.in-Replacing.is waits in
+    subst (λ a. (fault_of taken to request (reply_of a) ≡ None)
+    × WasCarried carriage (with_answer taken to number request (reply_of a)))
+    (same_answer c.args.reply _ answer (c.in-Some.is ∙ ap (λ a. Some a) c.in-Done.is) is)
+    (after_done carriage c.args.self.now taken to number request (Ok Done) at)

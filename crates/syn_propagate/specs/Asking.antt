@@ -1,0 +1,14 @@
+-- What a transfer asks for.
+use Rattle.std.specs.Prelude.{◌≡◌}
+use Rattle.syn_headline.specs.Network.{Which}
+use Rattle.syn_headline.specs.Side.{Request}
+use Rattle.syn_message.specs.Requests.{request_of}
+use Rattle.syn_message.specs.Sides.{which_of}
+use Rattle.syn_propagate.specs.declared.next.Next.{Next}
+use Rattle.syn_propagate.specs.declared.next.Next.TheVariants.{Ask, Done, Refused}
+
+-- it asks this side for this
+abbrev pub AsksFor : Next → Which → Request → Type 0
+AsksFor (Ask side asked) to request = (which_of side ≡ to) × (request_of asked ≡ request)
+AsksFor Done to request = ⊥
+AsksFor (Refused why) to request = ⊥

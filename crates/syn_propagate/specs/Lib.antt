@@ -1,0 +1,4 @@
+pub mod Refusals
+pub mod Carrying
+pub mod Asking
+pub mod Transfers

@@ -1,0 +1,105 @@
+//! What a transfer carries, and what it asks for that.
+ghost use Rattle.std.specs.Prelude.{◌≡◌, ◌≤◌, length, IfErr, IfOk};
+ghost use Rattle.syn_headline.specs.Side.{IsLawfulBody, Fetch, Stage, Replace};
+ghost use Rattle.syn_model.specs.Path.{IsPath};
+
+use crate::error::TransferError;
+use crate::lawful::{are_bytes, is_number, is_position};
+use crate::next::Next;
+use std::alloc::Global;
+use syn_message::{Request, Side};
+use syn_path::Path;
+
+/// An item that a session carries: what stands at the path on one side is put there on the other.
+#[derive(Debug, Drop)]
+pub struct Carriage {
+    /// Where it is fetched. It is staged and put on the other side.
+    pub source: Side,
+    /// Its number in the session's plan.
+    pub item: u32,
+    pub path: Path,
+    /// No event may have touched the path on the source from this position on.
+    pub source_since: u64,
+    /// The same on the other side.
+    pub target_since: u64,
+}
+
+impl Carriage {
+    ghost use Rattle.syn_propagate.specs.Carrying.{source_of, target_of};
+    ghost use Rattle.syn_propagate.specs.Asking.{AsksFor};
+
+    /// Asks the source for the piece from the offset on. Refused 11 where memory is refused.
+    pub(crate) fn fetch(&self, alloc: Global, offset: u32) -> Result<Next, TransferError>
+        ensures asks { IfOk result (λ next. AsksFor next (source_of self.now)
+            (Fetch self.now.path self.now.source_since offset)) }
+        ensures lawful { IsLawfulBody (Fetch self.now.path self.now.source_since offset) }
+        ensures memory { IfErr result (λ e. e ≡ TransferError.Memory) }
+    {
+        let since = self.source_since;
+        is_position(since);
+        is_number(offset);
+        let path = self.copy_path(alloc)?;
+        let request = Request::Fetch {
+            path,
+            since,
+            offset,
+        };
+        Ok(Next::Ask(self.source, request))
+    }
+
+    /// Asks the other side to stage a piece.
+    pub(crate) fn stage(&self, offset: u32, bytes: Vec<u8>) -> Next
+        ensures asks { AsksFor result (target_of self.now)
+            (Stage self.now.item offset bytes.items) }
+        ensures lawful { 1 ≤ length bytes.items → length bytes.items ≤ 32768
+            → IsLawfulBody (Stage self.now.item offset bytes.items) }
+    {
+        let item = self.item;
+        is_number(item);
+        is_number(offset);
+        are_bytes(&bytes);
+        let request = Request::Stage {
+            item,
+            offset,
+            bytes,
+        };
+        Next::Ask(self.source.other(), request)
+    }
+
+    /// Asks the other side to put what is staged, of so many bytes. Refused 11 where memory is
+    /// refused.
+    pub(crate) fn replace(&self, alloc: Global, length: u32) -> Result<Next, TransferError>
+        ensures asks { IfOk result (λ next. AsksFor next (target_of self.now)
+            (Replace self.now.item self.now.path self.now.target_since length)) }
+        ensures lawful { IsLawfulBody
+            (Replace self.now.item self.now.path self.now.target_since length) }
+        ensures memory { IfErr result (λ e. e ≡ TransferError.Memory) }
+    {
+        let item = self.item;
+        let since = self.target_since;
+        is_number(item);
+        is_position(since);
+        is_number(length);
+        let path = self.copy_path(alloc)?;
+        let request = Request::Replace {
+            item,
+            path,
+            since,
+            length,
+        };
+        Ok(Next::Ask(self.source.other(), request))
+    }
+
+    /// The path once more. Refused 11 where memory is refused.
+    fn copy_path(&self, alloc: Global) -> Result<Path, TransferError>
+        ensures ok { IfOk result (λ path. path ≡ self.now.path) }
+        ensures lawful { IsPath self.now.path }
+        ensures memory { IfErr result (λ e. e ≡ TransferError.Memory) }
+    {
+        let _ = self.path.names();
+        match self.path.copy(alloc) {
+            Ok(path) => Ok(path),
+            Err(_) => Err(TransferError::Memory),
+        }
+    }
+}

@@ -1,0 +1,232 @@
+//! A transfer, from what was answered last to what is asked next.
+ghost use Rattle.std.specs.Prelude.{◌≡◌, ◌≢◌, ◌⊎◌, ℕ, Some, None, Err, Ok, MatchResult};
+ghost use Rattle.syn_headline.specs.Network.{Which};
+ghost use Rattle.syn_headline.specs.Session.{fault_of, fits_piece};
+ghost use Rattle.syn_headline.specs.Side.{Request as Asked, Fetch, Piece};
+ghost use Rattle.syn_message.specs.Replies.{reply_of};
+ghost use Rattle.syn_message.specs.declared.reply.Reply.{Reply as Answer};
+ghost use Rattle.syn_message.specs.declared.reply.Reply.TheVariants as answer;
+ghost use Rattle.syn_refusal.specs.declared.refusal.Refusal.{Refusal as Why};
+ghost use Rattle.syn_propagate.specs.Refusals.{refusal_of};
+ghost use Rattle.syn_propagate.specs.Carrying.{Exchanges, IsFresh, IsUnreplaced, IsWhole};
+ghost use Rattle.syn_propagate.specs.Carrying.{source_of};
+ghost use Rattle.syn_propagate.specs.Transfers.{or_refused};
+
+use crate::carriage::Carriage;
+use crate::error::TransferError;
+use crate::next::Next;
+use std::alloc::Global;
+use syn_message::{MAX_PIECE, Reply};
+
+/// How far a transfer has come.
+#[derive(Clone, Copy, Debug)]
+enum Progress {
+    /// Nothing is asked yet.
+    Ready,
+    /// The piece from the offset on is asked for. How long the whole is, the first piece tells.
+    Fetching { offset: u32, total: Option<u32> },
+    /// A piece that ends there is sent.
+    Staging { end: u32, total: u32 },
+    /// The replacement is asked for.
+    Replacing,
+    /// It is done, or it was refused.
+    Over,
+}
+
+/// The transfer of one item of a session. It keeps no bytes: each piece is handed on.
+#[derive(Debug, Drop)]
+pub struct Transfer {
+    carriage: Carriage,
+    progress: Progress,
+}
+
+impl Transfer {
+    ghost use Rattle.syn_propagate.specs.Transfers.{Follows, FollowsAny, HasReached, HasStagedTo};
+    ghost use Rattle.syn_propagate.specs.Transfers.{IsMisfit, IsOver, IsOverUnlessAsking, IsReady};
+    ghost use Rattle.syn_propagate.specs.Transfers.{WaitsFor, carriage_of, with_answer};
+
+    /// A transfer that has asked for nothing yet.
+    pub fn new(carriage: Carriage) -> Transfer
+        ensures carriage { carriage_of result ≡ carriage }
+        ensures ready { IsReady result }
+    {
+        Transfer {
+            carriage,
+            progress: Progress::Ready,
+        }
+    }
+
+    /// Takes the answer to what was asked last, none at first, and says what comes next: a piece
+    /// from the source, that piece for the other side, and so on, and then the replacement.
+    ///
+    /// Refused 23 where the answer does not belong to what was asked: it is of another kind, or a
+    /// piece has another length or total than it should; and 11 where memory is refused. After a
+    /// refusal, or once it is done or a side refused it, it is over.
+    pub fn step(&mut self, alloc: Global, reply: Option<Reply>) -> Result<Next, TransferError>
+        ensures carriage { carriage_of self.new ≡ carriage_of self.old }
+
+        // At first it asks for the first piece.
+        ensures starts { (taken : Exchanges) → reply ≡ None → IsReady self.old
+            → IsFresh (carriage_of self.old) taken
+            → MatchResult result (FollowsAny self.new taken) (λ e. e ≡ TransferError.Memory) }
+
+        // An answer is refused exactly where it ends its session, or else what it says follows.
+        ensures goes_on { (taken : Exchanges) (to : Which) (request : Asked) (number : ℕ)
+            (answer : Answer) → reply ≡ Some answer → WaitsFor self.old taken to request
+            → MatchResult result
+            (λ next. (fault_of taken to request (reply_of answer) ≡ None) × Follows self.new
+            (with_answer taken to number request (reply_of answer)) (reply_of answer) next)
+            (λ e. (e ≡ TransferError.Memory)
+            ⊎ (fault_of taken to request (reply_of answer) ≡ Some (refusal_of e))) }
+        ensures refused { (taken : Exchanges) (to : Which) (request : Asked) (why : Why)
+            → reply ≡ Some (answer.Refused why) → WaitsFor self.old taken to request
+            → result ≡ Ok (Next.Refused why) }
+
+        // What answers nothing that was asked is refused, and a transfer that is over asks nothing.
+        ensures misfit { IsMisfit self.old reply → result ≡ Err TransferError.BadMessage }
+        ensures over { MatchResult result (IsOverUnlessAsking self.new) (λ _. IsOver self.new) }
+    {
+        let progress = self.progress;
+        self.progress = Progress::Over;
+        let Some(reply) = reply else {
+            return self.start(alloc, progress);
+        };
+        match progress {
+            Progress::Ready => Err(TransferError::BadMessage),
+            Progress::Fetching { offset, total } => match reply {
+                Reply::Piece {
+                    total: whole,
+                    bytes,
+                } => self.take_piece(alloc, offset, total, whole, bytes),
+                other => or_refused(other),
+            },
+            Progress::Staging { end, total } => match reply {
+                Reply::Staged => self.go_on(alloc, end, total),
+                other => or_refused(other),
+            },
+            Progress::Replacing => match reply {
+                Reply::Done => Ok(Next::Done),
+                other => or_refused(other),
+            },
+            Progress::Over => Err(TransferError::BadMessage),
+        }
+    }
+
+    /// Asks for the first piece, where nothing was asked yet.
+    fn start(&mut self, alloc: Global, progress: Progress) -> Result<Next, TransferError>
+        ensures carriage { carriage_of self.new ≡ carriage_of self.old }
+        ensures starts { (taken : Exchanges) → progress ≡ Progress.Ready
+            → IsFresh (carriage_of self.old) taken
+            → MatchResult result (FollowsAny self.new taken) (λ e. e ≡ TransferError.Memory) }
+        ensures misfit { progress ≢ Progress.Ready → result ≡ Err TransferError.BadMessage }
+        ensures over { IsOver self.old
+            → MatchResult result (IsOverUnlessAsking self.new) (λ _. IsOver self.new) }
+    {
+        match progress {
+            Progress::Ready => self.fetch(alloc, 0, None),
+            _ => Err(TransferError::BadMessage),
+        }
+    }
+
+    /// Sends a piece that came on to the other side.
+    fn take_piece(
+        &mut self,
+        alloc: Global,
+        offset: u32,
+        known: Option<u32>,
+        total: u32,
+        bytes: Vec<u8>,
+    ) -> Result<Next, TransferError>
+        ensures carriage { carriage_of self.new ≡ carriage_of self.old }
+        ensures goes_on { (taken : Exchanges) (number : ℕ)
+            → HasReached (carriage_of self.old) taken offset known
+            → let c = carriage_of self.old in
+            let request = Fetch c.path c.source_since offset in let answer = Piece total bytes.items
+            in MatchResult result
+            (λ next. (fault_of taken (source_of c) request answer ≡ None) × FollowsAny self.new
+            (with_answer taken (source_of c) number request answer) next)
+            (λ e. (e ≡ TransferError.Memory)
+            ⊎ (fault_of taken (source_of c) request answer ≡ Some (refusal_of e))) }
+        ensures over { IsOver self.old
+            → MatchResult result (IsOverUnlessAsking self.new) (λ _. IsOver self.new) }
+    {
+        if !fits_piece(known, offset, total, bytes.len()) {
+            return Err(TransferError::BadMessage);
+        }
+        if bytes.is_empty() {
+            return self.replace(alloc, total);
+        }
+        let end = offset + bytes.len() as u32;
+        self.progress = Progress::Staging { end, total };
+        Ok(self.carriage.stage(offset, bytes))
+    }
+
+    /// Goes on behind a piece that is staged.
+    fn go_on(&mut self, alloc: Global, end: u32, total: u32) -> Result<Next, TransferError>
+        ensures carriage { carriage_of self.new ≡ carriage_of self.old }
+        ensures goes_on { (taken : Exchanges)
+            → HasStagedTo (carriage_of self.old) taken end total
+            → MatchResult result (FollowsAny self.new taken) (λ e. e ≡ TransferError.Memory) }
+        ensures over { IsOver self.old
+            → MatchResult result (IsOverUnlessAsking self.new) (λ _. IsOver self.new) }
+    {
+        if end < total {
+            self.fetch(alloc, end, Some(total))
+        } else {
+            self.replace(alloc, total)
+        }
+    }
+
+    /// Asks for the piece from the offset on.
+    fn fetch(
+        &mut self,
+        alloc: Global,
+        offset: u32,
+        total: Option<u32>,
+    ) -> Result<Next, TransferError>
+        ensures carriage { carriage_of self.new ≡ carriage_of self.old }
+        ensures asks { (taken : Exchanges) → HasReached (carriage_of self.old) taken offset total
+            → MatchResult result (FollowsAny self.new taken) (λ e. e ≡ TransferError.Memory) }
+        ensures over { IsOver self.old
+            → MatchResult result (IsOverUnlessAsking self.new) (λ _. IsOver self.new) }
+    {
+        let next = self.carriage.fetch(alloc, offset)?;
+        self.progress = Progress::Fetching { offset, total };
+        Ok(next)
+    }
+
+    /// Asks for the replacement by what is staged, which has so many bytes.
+    fn replace(&mut self, alloc: Global, total: u32) -> Result<Next, TransferError>
+        ensures carriage { carriage_of self.new ≡ carriage_of self.old }
+        ensures asks { (taken : Exchanges) → IsWhole (carriage_of self.old) taken total
+            → IsUnreplaced (carriage_of self.old) taken
+            → MatchResult result (FollowsAny self.new taken) (λ e. e ≡ TransferError.Memory) }
+        ensures over { IsOver self.old
+            → MatchResult result (IsOverUnlessAsking self.new) (λ _. IsOver self.new) }
+    {
+        let next = self.carriage.replace(alloc, total)?;
+        self.progress = Progress::Replacing;
+        Ok(next)
+    }
+}
+
+/// The side refused what it was asked; any other answer does not belong.
+fn or_refused(reply: Reply) -> Result<Next, TransferError>
+    ensures { result ≡ or_refused reply }
+{
+    match reply {
+        Reply::Refused(why) => Ok(Next::Refused(why)),
+        _ => Err(TransferError::BadMessage),
+    }
+}
+
+/// The piece has the total that the first one told, and all the bytes that it can have.
+fn fits_piece(known: Option<u32>, offset: u32, total: u32, count: usize) -> bool
+    ensures { result ≡ fits_piece known offset total count }
+{
+    let as_told = match known {
+        Some(told) => total == told,
+        None => true,
+    };
+    as_told && offset <= total && count == MAX_PIECE.min((total - offset) as usize)
+}
