@@ -1,16 +1,21 @@
 -- An edit that is asked for. Of the input of a put at most one byte more is read than a file may have.
-use Rattle.std.proofs.Common.{◌≡◌, ◌⊎◌, inl, inr, ◌<◌, ◌≤◌, ◌++◌, ◌∷◌, ◌∙◌, ℕ, Bool, true, false, not, nat_le, [], List, length, take, Option, Some, sym, ap, subst, refl, arith}
+use Rattle.std.proofs.Common.{◌≡◌, ◌⊎◌, inl, inr, ◌<◌, ◌≤◌, ◌-◌, ◌++◌, ◌∷◌, ◌∙◌, ℕ, Bool, true, false, not, nat_le, [], List, length, take, Option, Some, sym, ap, subst, refl, arith}
 use Rattle.std.specs.Option.{IfSome}
 use Rattle.std.proofs.lemmas.Bool.{leb-true, leb-false}
 use Rattle.std.proofs.lemmas.List.{take_all, length-take-le}
-use Rattle.syn_model.specs.Event.{Edit, Edited, Put, after_edit}
+use Rattle.syn_model.specs.Event.{Edit, Event, Edited, Put, after_edit}
 use Rattle.syn_model.specs.History.{History, IsHistory, tree_of, event_refusal}
 use Rattle.syn_model.specs.Limits.{fits_replica}
 use Rattle.syn_model.specs.Path.{Bytes, Path}
 use Rattle.syn_model.specs.Refusal.{Full, first_cause}
 use Rattle.syn_model.specs.Standing.{edit_causes, full_position}
 use Rattle.syn_model.specs.Laws.{HistoryFits, PutFits, StandingSteps}
-use Rattle.syn_replica.specs.Disks.{DiskStands, StandsBeforeOrAfter}
+use Rattle.syn_disk.specs.declared.disk.Disk.{Ghosts}
+use Rattle.syn_disk.specs.Stops.{LeavesOnly}
+use Rattle.syn_journal.specs.Layout.{half_size}
+use Rattle.syn_replica.specs.Disks.{DiskKeeps, event_size}
+use Rattle.syn_replica.specs.Replica.{KeepsBeforeOrAfter, Stands, pair_of, disk_of, left_shown, generation_shown}
+use Rattle.syn_replica.specs.declared.replica.Replica.{Replica}
 use Rattle.syn.specs.Asked.{edit_asked}
 use Rattle.syn.specs.declared.line.Change.{Change}
 use Rattle.syn.specs.declared.line.Change.TheVariants as change
@@ -79,15 +84,17 @@ module _ (fits : HistoryFits) (put : PutFits) (steps : StandingSteps) where
   same_edit history user change.MakeDir path left h = refl
   same_edit history user change.Remove path left h = refl
 
-  pub before_or_after : (pair : ℕ) (history : History) (user : ℕ) (change : Change) (path : Path)
-      (left : Bytes) (edit : Edit) → edit ≡ edit_asked change path (take most left)
-      → (c : List ℕ) → StandsBeforeOrAfter pair history (Edited user edit) c
-      → StandsBeforeOrAfter pair history (Edited user (edit_asked change path left)) c
-  before_or_after pair history user change path left edit is c (inl before) = inl before
-  before_or_after pair history user change path left edit is c (inr after) =
-      let Stands : Edit → Type 0 = λ e. DiskStands pair c (history ++ Edited user e ∷ []) in
-      let cut = subst Stands is after in
-      inr (subst Stands (same_edit history user change path left cut.stands.lawful) cut)
+  pub before_or_after : {D : Type 0} {disk : Ghosts D} (replica : Replica D disk) (history : History)
+      (user : ℕ) (change : Change) (path : Path) (left : Bytes) (edit : Edit)
+      → edit ≡ edit_asked change path (take most left)
+      → (c : List ℕ) → KeepsBeforeOrAfter replica history (Edited user edit) c
+      → KeepsBeforeOrAfter replica history (Edited user (edit_asked change path left)) c
+  before_or_after replica history user change path left edit is c (inl before) = inl before
+  before_or_after replica history user change path left edit is c (inr after) =
+      let Keeps : Edit → Type 0 = λ e. DiskKeeps (pair_of replica) (history ++ Edited user e ∷ [])
+      (left_shown replica - event_size (Edited user e)) (generation_shown replica) c in
+      let cut = subst Keeps is after in
+      inr (subst Keeps (same_edit history user change path left cut.stands.lawful) cut)
 
   -- what is asked for is refused as what was read of it is
   pub same_refusal : (history : History) (user : ℕ) (change : Change) (path : Path) (left : Bytes)
@@ -97,3 +104,25 @@ module _ (fits : HistoryFits) (put : PutFits) (steps : StandingSteps) where
       put_refusal history user path (take most left) left refl
   same_refusal history user change.MakeDir path left = refl
   same_refusal history user change.Remove path left = refl
+
+-- a stop of a replica to which nothing was done leaves what it keeps
+pub not_written : {D : Type 0} {disk : Ghosts D} (only_now : (d : D) (c : List ℕ)
+    → disk.left_since d (disk.moment d) c → disk.may_leave d c) (replica : Replica D disk)
+    (history : History) (event : Event) → Stands replica history
+    → LeavesOnly disk.moment disk.left_since (disk_of replica) (disk_of replica)
+    (KeepsBeforeOrAfter replica history event)
+not_written {disk} only_now replica history event stands =
+    let runs = stands.runs in
+    let keeps : DiskKeeps (pair_of replica) history (left_shown replica) (generation_shown replica)
+    (disk.seen (disk_of replica)) = record {
+      value = stands.value;
+      journal = runs.holds;
+      stands = stands.means;
+      left_is = ap (λ gate. half_size - 1 - gate) (sym runs.gate);
+    } in
+    record {
+      later = omega arith;
+      each = λ c left. inl (subst (DiskKeeps (pair_of replica) history (left_shown replica)
+          (generation_shown replica)) (sym (runs.durable c (only_now _ c left))) keeps);
+      before = λ t c le left. inl left;
+    }

@@ -6,8 +6,7 @@ ghost use Rattle.syn_model.specs.History.{History, event_refusal};
 ghost use Rattle.syn_model.specs.Path.{Bytes};
 ghost use Rattle.syn_model.specs.Refusal.{Refusal as Why};
 ghost use Rattle.syn_path.specs.Paths.{NamesPath};
-ghost use Rattle.syn_replica.specs.Disks.{StandsBeforeOrAfter};
-ghost use Rattle.syn_replica.specs.Replica.{Stands, disk_of, pair_of};
+ghost use Rattle.syn_replica.specs.Replica.{KeepsBeforeOrAfter, Stands, disk_of};
 ghost use Rattle.syn_tree.specs.Edits.{edit_of};
 ghost use Rattle.syn_model.specs.Refusal.{Device};
 ghost use Rattle.syn.specs.Asked.{IsInput, edit_asked, event_asked};
@@ -49,8 +48,7 @@ pub fn make_edit<D: Disk, I: Read>(
     ensures any_moment { (history : History) (left : Bytes)
         → Stands replica.old history → IsInput line.entry.now.change (I.remaining input.old) left
         → LeavesOnly D.moment D.left_since (disk_of replica.old) (disk_of replica.new)
-        (StandsBeforeOrAfter (pair_of replica.old) history
-        (event_asked line.entry.now path left)) }
+        (KeepsBeforeOrAfter replica.old history (event_asked line.entry.now path left)) }
 
     // An edit that the history refuses is refused so, unless the input cannot be read.
     ensures refused { (history : History) (left : Bytes) (why : Why)

@@ -4,11 +4,10 @@ use Rattle.syn_replica.proofs.StandLemmas.{leaves_weaker}
 use Rattle.syn_replica.proofs.StandingLemmas.{refused_at}
 use Rattle.syn_model.specs.Event.{Edit, Edited}
 use Rattle.syn_model.specs.History.{IsHistory, event_refusal, standing_of}
-use Rattle.syn_replica.specs.Disks.{StandsBeforeOrAfter}
-use Rattle.syn_replica.specs.Replica.{Stands, room_shown}
+use Rattle.syn_replica.specs.Replica.{KeepsBeforeOrAfter, Stands, room_shown}
 use Rattle.syn_tree.specs.Edits.{edit_of}
 use Rattle.syn.specs.Asked.{edit_asked}
-use Rattle.syn.proofs.EditLemmas.{same_edit, before_or_after, same_refusal}
+use Rattle.syn.proofs.EditLemmas.{same_edit, before_or_after, same_refusal, not_written}
 use Rattle.syn.proofs.edit.make_edit.Goals as goal
 
 pub returns-in_err-edit-clause-any_moment : goal.returns-in_err-edit-clause-any_moment
@@ -20,9 +19,9 @@ returns-in_err-edit-clause-any_moment g c history left stands e =
     c.in_ok-asked.ensures.edit left e in
     let asked = edit_asked line.change c.args.path left in
     leaves_weaker g.D.Disk.moment g.D.Disk.left_since _ _
-    (StandsBeforeOrAfter c.args.replica.now.pair history (Edited line.user edit))
-    (StandsBeforeOrAfter c.args.replica.now.pair history (Edited line.user asked))
-    (before_or_after laws.fits laws.put laws.steps c.args.replica.now.pair history line.user
+    (KeepsBeforeOrAfter c.args.replica.now history (Edited line.user edit))
+    (KeepsBeforeOrAfter c.args.replica.now history (Edited line.user asked))
+    (before_or_after laws.fits laws.put laws.steps c.args.replica.now history line.user
     line.change c.args.path left edit is)
     (c.in_err-edit.ensures.any_moment history stands)
 
@@ -64,9 +63,9 @@ returns-clause-any_moment g c history left stands e =
     c.in_ok-asked.ensures.edit left e in
     let asked = edit_asked line.change c.args.path left in
     leaves_weaker g.D.Disk.moment g.D.Disk.left_since _ _
-    (StandsBeforeOrAfter c.args.replica.now.pair history (Edited line.user edit))
-    (StandsBeforeOrAfter c.args.replica.now.pair history (Edited line.user asked))
-    (before_or_after laws.fits laws.put laws.steps c.args.replica.now.pair history line.user
+    (KeepsBeforeOrAfter c.args.replica.now history (Edited line.user edit))
+    (KeepsBeforeOrAfter c.args.replica.now history (Edited line.user asked))
+    (before_or_after laws.fits laws.put laws.steps c.args.replica.now history line.user
     line.change c.args.path left edit is)
     (c.in_ok-edit.ensures.any_moment history stands)
 
@@ -81,3 +80,7 @@ returns-clause-refused g c history left why stands e refused =
     absurd (c.in_ok-edit.ensures.refused history why stands
     (refused_at (room_shown c.args.replica.now) (standing_of history) (Edited line.user edit) why
     (ap (λ (x : Edit). event_refusal history (Edited line.user x)) is ∙ (same ∙ refused))))
+
+pub returns-in_err-asked-clause-any_moment : goal.returns-in_err-asked-clause-any_moment
+returns-in_err-asked-clause-any_moment g c history left stands e =
+    not_written g.met.D.Disk.only_now c.args.replica.now history _ stands
