@@ -4,3 +4,4 @@ mod BeginLemmas
 mod ReplaceLemmas
 mod ReadingLemmas
 mod StageLemmas
+mod MachineLemmas

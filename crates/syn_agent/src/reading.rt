@@ -1,11 +1,13 @@
 //! What a side tells of its tree.
-ghost use Rattle.std.specs.Prelude.{◌≡◌, ℕ};
+ghost use Rattle.std.specs.Prelude.{◌≡◌, ◌≢◌, ℕ};
 ghost use Rattle.syn_headline.specs.Side.{Fetch, ListAt, Refused};
 ghost use Rattle.syn_message.specs.Replies.{reply_of};
 ghost use Rattle.syn_model.specs.History.{History};
 ghost use Rattle.syn_model.specs.Refusal as why;
-ghost use Rattle.syn_replica.specs.Replica.{IsHalted, Stands};
-ghost use Rattle.syn_agent.specs.Answers.{Answers};
+ghost use Rattle.syn_replica.specs.Replica.{IsHalted, Stands, pair_of};
+ghost use Rattle.syn_agent.specs.Agents.{side_of};
+ghost use Rattle.syn_agent.specs.Answers.{Answers, room_for};
+ghost use Rattle.syn_agent.specs.Causes.{TakesMemory};
 
 use crate::agent::Agent;
 use std::alloc::Global;
@@ -23,6 +25,10 @@ impl Agent {
         ensures answers { (history : History) (session : ℕ) → Stands replica.now history
             → Answers replica.now replica.now self.now self.now history session (ListAt path.now)
             (reply_of result) }
+        ensures memory { (history : History) (session : ℕ) → Stands replica.now history
+            → reply_of result ≡ Refused why.Memory → TakesMemory (pair_of replica.now)
+            (room_for replica.now) (side_of history self.now) session (ListAt path.now) }
+        ensures device { reply_of result ≢ Refused why.Device }
         ensures halted { IsHalted replica.now → reply_of result ≡ Refused why.Halted }
     {
         match replica.listing(alloc, path) {
@@ -51,6 +57,11 @@ impl Agent {
         ensures answers { (history : History) (session : ℕ) → Stands replica.now history
             → Answers replica.now replica.now self.now self.now history session
             (Fetch path.now since offset) (reply_of result) }
+        ensures memory { (history : History) (session : ℕ) → Stands replica.now history
+            → reply_of result ≡ Refused why.Memory → TakesMemory (pair_of replica.now)
+            (room_for replica.now) (side_of history self.now) session
+            (Fetch path.now since offset) }
+        ensures device { reply_of result ≢ Refused why.Device }
         ensures halted { IsHalted replica.now → reply_of result ≡ Refused why.Halted }
     {
         match replica.fetch(alloc, path, since, offset as usize) {

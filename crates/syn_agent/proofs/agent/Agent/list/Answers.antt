@@ -1,11 +1,13 @@
-use Rattle.std.proofs.Common.{◌≡◌, ◌∙◌, Err, ap, inl, inr, sym}
+use Rattle.std.proofs.Common.{◌≡◌, ◌∙◌, Err, ap, inl, inr, refl, sym}
+use Rattle.syn_agent.proofs.CauseLemmas.{refused_one}
 use Rattle.syn_agent.proofs.ReadingLemmas.{absent_is, halted_is, is_listed, is_no_directory}
-use Rattle.syn_agent.proofs.ReadingLemmas.{no_memory, own_absent, reading, running}
+use Rattle.syn_agent.proofs.ReadingLemmas.{is_there, no_device, no_memory, own_absent, reading}
+use Rattle.syn_agent.proofs.ReadingLemmas.{running}
 use Rattle.syn_agent.proofs.agent.Agent.list.Goals as goal
 use Rattle.syn_headline.specs.Side.{ListAt, Refused}
 use Rattle.syn_model.specs.Refusal as why
 use Rattle.syn_refusal.specs.Refusals.{cause_of}
-use Rattle.syn_replica.specs.Refusals.{refusal_in, refusal_of}
+use Rattle.syn_replica.specs.Refusals.{reading_refusals, refusal_in, refusal_of}
 
 pub returns-in-Ok-clause-answers : goal.returns-in-Ok-clause-answers
 returns-in-Ok-clause-answers g c history session stands =
@@ -35,6 +37,17 @@ returns-in_default g c = record {
         | inr (inr memory) ↦ no_memory c.args.replica.now c.args.self.now history session stands
             (ListAt c.args.path.now) _ (c.refusal.ensures ∙ memory)
       ];
+  memory = λ history session stands is.
+      let memory : refusal_of c.in-Err.error ≡ why.Memory =
+      sym c.refusal.ensures ∙ refused_one _ _ is in
+      is_there c.args.replica.now c.args.self.now history session stands c.args.path.now
+      (λ none. let found = ap refusal_in (c.in-Err.ensures.absent.1 (
+        running c.args.replica.now c.args.self.now history session stands,
+        none,
+      )) in let same : refusal_of c.in-Err.error ≡ why.Absent = cc in
+      let k : why.Memory ≡ why.Absent = sym memory ∙ same in cc);
+  device = λ is. no_device reading_refusals c.in-Err.error c.in-Err.ensures.refusals refl
+      (sym c.refusal.ensures ∙ refused_one _ _ is);
   halted = λ halted.
       let found = ap refusal_in (c.in-Err.ensures.halted.1 halted) in
       let same : refusal_of c.in-Err.error ≡ why.Halted = cc in
