@@ -11,6 +11,7 @@ use Rattle.syn_agent.specs.declared.agent.Agent.{Agent}
 use Rattle.syn_disk.specs.declared.disk.Disk.{Ghosts}
 use Rattle.syn_headline.specs.Side.{Reply, Refused, Served, Stage, Staged, Staging, Side, answer}
 use Rattle.syn_headline.specs.Side.{set_staging, stage, stage_first, token_of, unless_refused}
+use Rattle.syn_message.specs.Replies.{IsLawfulReply}
 use Rattle.syn_model.specs.Event.{Token, is_below, is_same_token}
 use Rattle.syn_model.specs.History.{History}
 use Rattle.syn_model.specs.Path.{Bytes}
@@ -101,3 +102,43 @@ stage_device agent after token offset bytes reply (inl served) is =
     token offset bytes (ap (λ s. s.reply) (served []) ∙ is)
 stage_device agent after token offset bytes reply (inr memory) is =
     let k : Refused Memory ≡ Refused Device = sym memory.0 ∙ is in cc
+
+-- and every reply to a piece can be sent: it is that the piece is staged, or a refusal
+abbrev IsSent : Served → Type 0
+IsSent served = IsLawfulReply served.reply
+
+one_of : (b : Bool) (x y : Served) → IsSent x → IsSent y → IsSent (if b then x else y)
+one_of true x y h k = h
+one_of false x y h k = k
+
+first_sent : (side : Side) (token : Token) (offset : ℕ) (bytes : Bytes)
+    → IsSent (stage_first side token offset bytes)
+first_sent side token offset bytes = by (offset == 0)
+  where
+    by : (b : Bool) → IsSent (unless_refused side (first_cause ((not b, NotStaged) ∷ []))
+        (answer (set_staging side (record { token = token; bytes = bytes })) Staged))
+    by true = tt
+    by false = tt
+
+stage_sent : (side : Side) (staging : Option Staging) (token : Token) (offset : ℕ) (bytes : Bytes)
+    → IsSent (stage side staging token offset bytes)
+stage_sent side None token offset bytes = first_sent side token offset bytes
+stage_sent side (Some staging) token offset bytes =
+    one_of (is_below token staging.token) _ _ tt
+    (one_of (is_same_token token staging.token) _ _
+    (one_of (offset == length staging.bytes
+    && nat_le (length staging.bytes + length bytes) greatest_spelling) _ _ tt
+    (one_of (bytes_eq (take (length bytes) (drop offset staging.bytes)) bytes
+    && nat_le (offset + length bytes) (length staging.bytes)) _ _ tt tt))
+    (first_sent side token offset bytes))
+
+pub stage_lawful : (agent after : Agent) (token : Token) (offset : ℕ) (bytes : Bytes)
+    (reply : Reply)
+    → ((history : History) → stage (side_of history agent) (staging_of agent) token offset bytes
+    ≡ answer (side_of history after) reply)
+    ⊎ ((reply ≡ Refused Memory) × (staging_of after ≡ staging_of agent)
+    × GoesBehind (staging_of agent) token offset) → IsLawfulReply reply
+stage_lawful agent after token offset bytes reply (inl served) =
+    subst IsSent (served []) (stage_sent (side_of [] agent) (staging_of agent) token offset bytes)
+stage_lawful agent after token offset bytes reply (inr memory) =
+    subst IsLawfulReply (sym memory.0) tt

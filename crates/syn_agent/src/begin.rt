@@ -1,7 +1,7 @@
 //! A session begins on a side.
 ghost use Rattle.std.specs.Prelude.{◌≡◌};
 ghost use Rattle.syn_headline.specs.Side.{Begin, Refused};
-ghost use Rattle.syn_message.specs.Replies.{reply_of};
+ghost use Rattle.syn_message.specs.Replies.{IsLawfulReply, reply_of};
 ghost use Rattle.syn_model.specs.History.{History};
 ghost use Rattle.syn_model.specs.Refusal as why;
 ghost use Rattle.syn_replica.specs.Replica.{IsHalted, Stands, disk_of, pair_of};
@@ -29,6 +29,7 @@ impl Agent {
         ensures answers { (history : History) → Stands replica.old history
             → Answers replica.old replica.new self.now self.now history session (Begin pair)
             (reply_of result) }
+        ensures lawful { IsLawfulReply (reply_of result) }
         ensures memory { (history : History) → Stands replica.old history
             → reply_of result ≡ Refused why.Memory → TakesMemory (pair_of replica.old)
             (room_for replica.old) (side_of history self.now) session (Begin pair) }

@@ -2,7 +2,7 @@
 ghost use Rattle.std.specs.Prelude.{◌≡◌, Some, None, IfOk, IfErr, length, option_map, false};
 ghost use Rattle.syn_headline.specs.Side.{Reads, Refused, Replace, staged_bytes};
 ghost use Rattle.syn_history.specs.Events.{token_of};
-ghost use Rattle.syn_message.specs.Replies.{reply_of};
+ghost use Rattle.syn_message.specs.Replies.{IsLawfulReply, reply_of};
 ghost use Rattle.syn_model.specs.History.{History, is_old_token};
 ghost use Rattle.syn_model.specs.Refusal.{first_cause};
 ghost use Rattle.syn_model.specs.Refusal as why;
@@ -44,6 +44,7 @@ impl Agent {
         ensures answers { (history : History) → Stands replica.old history
             → Answers replica.old replica.new self.now self.now history token.session
             (Replace token.item path.now since length) (reply_of result) }
+        ensures lawful { IsLawfulReply (reply_of result) }
         ensures memory { (history : History) → Stands replica.old history
             → reply_of result ≡ Refused why.Memory → TakesMemory (pair_of replica.old)
             (room_for replica.old) (side_of history self.now) token.session
@@ -78,6 +79,7 @@ impl Agent {
             → is_old_token history (token_of token) ≡ false
             → Answers replica.old replica.new self.now self.now history token.session
             (Replace token.item path.now since length) (reply_of result) }
+        ensures lawful { IsLawfulReply (reply_of result) }
         ensures memory { reply_of result ≡ Refused why.Memory
             → first_cause (staging_causes (staging_of self.now) (token_of token) length) ≡ None }
         ensures failures { CountsFailures (reply_of result) (D.failures (disk_of replica.old))

@@ -28,6 +28,7 @@ returns-in-Absent-clause-answers g c history session stands =
 
 pub returns-in_default : goal.returns-in_default
 returns-in_default g c = record {
+  lawful = λ history stands lists. tt;
   answers = λ history session stands.
       elim (reading c.in-Err.error c.in-Err.ensures.refusals) [
         | inl halted ↦ absurd (running c.args.replica.now c.args.self.now history session stands

@@ -1,12 +1,12 @@
 use Rattle.std.proofs.Common.{inl, inr, refl, subst, sym}
 use Rattle.syn_agent.proofs.CauseLemmas.{counts_none}
-use Rattle.syn_agent.proofs.StageLemmas.{stage_answers, stage_device, stage_takes}
+use Rattle.syn_agent.proofs.StageLemmas.{stage_answers, stage_device, stage_lawful, stage_takes}
 use Rattle.syn_agent.proofs.agent.Agent.serve.Goals as goal
 use Rattle.syn_agent.specs.Agents.{side_of}
 use Rattle.syn_agent.specs.Answers.{Answers, room_for}
 use Rattle.syn_agent.specs.Causes.{TakesMemory}
 use Rattle.syn_headline.specs.Side.{token_of}
-use Rattle.syn_message.specs.Replies.{reply_of}
+use Rattle.syn_message.specs.Replies.{IsLawfulReply, reply_of}
 use Rattle.syn_message.specs.Requests.{request_of}
 use Rattle.syn_replica.specs.Replica.{pair_of}
 
@@ -46,3 +46,20 @@ returns-in-Stage-clause-failures g c =
     counts_none (reply_of c.stage.result) _ _ (stage_device c.args.self.now c.stage.new.self
     (token_of c.args.session c.in-Stage.item) c.in-Stage.offset c.in-Stage.bytes.items
     (reply_of c.stage.result) c.stage.ensures) refl
+
+pub returns-in-List-clause-lawful : goal.returns-in-List-clause-lawful
+returns-in-List-clause-lawful g c history (inl stands) lists =
+    c.list.ensures.lawful history stands lists
+returns-in-List-clause-lawful g c history (inr halted) lists =
+    subst IsLawfulReply (sym (c.list.ensures.halted halted)) tt
+
+pub returns-in-Fetch-clause-lawful : goal.returns-in-Fetch-clause-lawful
+returns-in-Fetch-clause-lawful g c history (inl stands) lists =
+    c.fetch.ensures.lawful history stands
+returns-in-Fetch-clause-lawful g c history (inr halted) lists =
+    subst IsLawfulReply (sym (c.fetch.ensures.halted halted)) tt
+
+pub returns-in-Stage-clause-lawful : goal.returns-in-Stage-clause-lawful
+returns-in-Stage-clause-lawful g c history stands lists =
+    stage_lawful c.args.self.now c.stage.new.self (token_of c.args.session c.in-Stage.item)
+    c.in-Stage.offset c.in-Stage.bytes.items (reply_of c.stage.result) c.stage.ensures
