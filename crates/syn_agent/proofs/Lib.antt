@@ -5,3 +5,4 @@ mod ReplaceLemmas
 mod ReadingLemmas
 mod StageLemmas
 mod MachineLemmas
+mod ListedLemmas

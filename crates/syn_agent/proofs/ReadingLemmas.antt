@@ -9,7 +9,9 @@ use Rattle.syn_agent.proofs.CauseLemmas.{memory_number, never_first, none_of, or
 use Rattle.syn_agent.proofs.ReplicaLemmas.{as_was}
 use Rattle.syn_agent.specs.Agents.{side_of}
 use Rattle.syn_agent.specs.Answers.{Answers, keeps, room_for}
+use Rattle.syn_agent.specs.inner.Lawful.{ListsLawfully}
 use Rattle.syn_agent.specs.declared.agent.Agent.{Agent}
+use Rattle.syn_message.specs.Listings.{IsListing}
 use Rattle.syn_disk.specs.declared.disk.Disk.{Ghosts}
 use Rattle.syn_headline.specs.Side.{Side, Served, Fetch, ListAt, Listed, NotDir, Piece, Refused}
 use Rattle.syn_headline.specs.Side.{Serves, answer, serve, unless_refused}
@@ -162,6 +164,15 @@ module _ {D : Type 0} {disk : Ghosts D} (replica : Replica D disk) (agent : Agen
           → is_directory (tree_of history) path ≡ true
       by true is = is
       by false is = absurd (there (ap (λ t. is_directory t path) tree_is ∙ is))
+
+  -- what it lists can be sent
+  pub is_listing : (path : Path) (listed : List (Name × Content))
+      → listed ≡ children (mark (tree_shown replica)) path
+      → is_directory (tree_shown replica) path ≢ false → ListsLawfully history
+      → IsListing listed
+  is_listing path listed are there lawful =
+      subst IsListing (sym (are ∙ ap (λ t. children (mark t) path) tree_is))
+      (lawful path (is_there path there))
 
   pub is_listed : (path : Path) (position : ℕ) (entries : List (Name × Content))
       → position ≡ position_shown replica

@@ -3,4 +3,4 @@ pub mod Agents
 pub mod Answers
 pub mod Causes
 pub mod Machines
-pub mod Lawful
+pub mod inner

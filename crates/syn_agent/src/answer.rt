@@ -10,7 +10,6 @@ ghost use Rattle.syn_replica.specs.Replica.{IsHalted, Stands, disk_of, pair_of};
 ghost use Rattle.syn_agent.specs.Agents.{side_of};
 ghost use Rattle.syn_agent.specs.Answers.{Answers, IsUnchanged, room_for};
 ghost use Rattle.syn_agent.specs.Causes.{CountsFailures, TakesMemory};
-ghost use Rattle.syn_agent.specs.Lawful.{ListsLawfully};
 ghost use Rattle.syn_agent.specs.Machines.{IsOf, Takes};
 
 use crate::agent::Agent;
@@ -47,9 +46,9 @@ impl Agent {
             (answer (side_of history self.new) (reply_of result)) }
         ensures unchanged { IsHalted replica.old → IsUnchanged replica.old replica.new }
 
-        // It can be sent, where what is listed can be.
+        // It can be sent.
         ensures lawful { (history : History) → Stands replica.old history ⊎ IsHalted replica.old
-            → ListsLawfully history → IsLawfulReply (reply_of result) }
+            → IsLawfulReply (reply_of result) }
 
         // When memory is refused, and when the device failed.
         ensures memory { (history : History) → Stands replica.old history ⊎ IsHalted replica.old
@@ -78,7 +77,7 @@ impl Agent {
             (answer (side_of history self.new) (reply_of result)) }
         ensures unchanged { IsHalted replica.old → IsUnchanged replica.old replica.new }
         ensures lawful { (history : History) → Stands replica.old history ⊎ IsHalted replica.old
-            → ListsLawfully history → IsLawfulReply (reply_of result) }
+            → IsLawfulReply (reply_of result) }
         ensures memory { (history : History) → Stands replica.old history ⊎ IsHalted replica.old
             → reply_of result ≡ Refused why.Memory → TakesMemory (pair_of replica.old)
             (room_for replica.old) (side_of history self.old) session (request_of request) }

@@ -4,6 +4,7 @@
 mod agent;
 mod answer;
 mod begin;
+mod laws;
 mod reading;
 mod replace;
 mod staging;

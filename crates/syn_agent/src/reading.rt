@@ -9,9 +9,9 @@ ghost use Rattle.syn_replica.specs.Replica.{IsHalted, Stands, pair_of};
 ghost use Rattle.syn_agent.specs.Agents.{side_of};
 ghost use Rattle.syn_agent.specs.Answers.{Answers, room_for};
 ghost use Rattle.syn_agent.specs.Causes.{TakesMemory};
-ghost use Rattle.syn_agent.specs.Lawful.{ListsLawfully};
 
 use crate::agent::Agent;
+use crate::laws::listing_laws;
 use std::alloc::Global;
 use syn_disk::Disk;
 use syn_message::Reply;
@@ -27,7 +27,7 @@ impl Agent {
         ensures answers { (history : History) (session : ℕ) → Stands replica.now history
             → Answers replica.now replica.now self.now self.now history session (ListAt path.now)
             (reply_of result) }
-        ensures lawful { (history : History) → Stands replica.now history → ListsLawfully history
+        ensures lawful { (history : History) → Stands replica.now history
             → IsLawfulReply (reply_of result) }
         ensures memory { (history : History) (session : ℕ) → Stands replica.now history
             → reply_of result ≡ Refused why.Memory → TakesMemory (pair_of replica.now)
@@ -35,6 +35,7 @@ impl Agent {
         ensures device { reply_of result ≢ Refused why.Device }
         ensures halted { IsHalted replica.now → reply_of result ≡ Refused why.Halted }
     {
+        listing_laws();
         match replica.listing(alloc, path) {
             Ok(Listing { position, entries }) => Reply::Listed { position, entries },
             Err(error) => match error.refusal() {

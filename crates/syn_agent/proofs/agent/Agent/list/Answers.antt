@@ -1,7 +1,8 @@
-use Rattle.std.proofs.Common.{◌≡◌, ◌∙◌, Err, ap, inl, inr, refl, sym}
+use Rattle.std.proofs.Common.{◌≡◌, ◌∙◌, Err, ap, inl, inr, refl, rules, sym}
 use Rattle.syn_agent.proofs.CauseLemmas.{refused_one}
 use Rattle.syn_agent.proofs.ReadingLemmas.{absent_is, halted_is, is_listed, is_no_directory}
-use Rattle.syn_agent.proofs.ReadingLemmas.{is_there, no_device, no_memory, own_absent, reading}
+use Rattle.syn_agent.proofs.ReadingLemmas.{is_listing, is_there, no_device}
+use Rattle.syn_agent.proofs.ReadingLemmas.{no_memory, own_absent, reading}
 use Rattle.syn_agent.proofs.ReadingLemmas.{running}
 use Rattle.syn_agent.proofs.agent.Agent.list.Goals as goal
 use Rattle.syn_headline.specs.Side.{ListAt, Refused}
@@ -20,6 +21,17 @@ returns-in-Ok-clause-answers g c history session stands =
       none,
     ) in cc)
 
+pub returns-in-Ok-clause-lawful : goal.returns-in-Ok-clause-lawful
+returns-in-Ok-clause-lawful g c history stands =
+    let told = c.in-Ok.ensures in (
+      search rules,
+      is_listing c.args.replica.now c.args.self.now history 0 stands c.args.path.now _
+          told.marks (λ none. let k = told.absent.1 (
+            running c.args.replica.now c.args.self.now history 0 stands,
+            none,
+          ) in cc) (c.listing_laws.ensures history stands.remembers.lawful),
+    )
+
 pub returns-in-Absent-clause-answers : goal.returns-in-Absent-clause-answers
 returns-in-Absent-clause-answers g c history session stands =
     let error = absent_is c.in-Err.error (sym c.refusal.ensures ∙ ap cause_of c.in-Absent.is) in
@@ -28,7 +40,7 @@ returns-in-Absent-clause-answers g c history session stands =
 
 pub returns-in_default : goal.returns-in_default
 returns-in_default g c = record {
-  lawful = λ history stands lists. tt;
+  lawful = λ history stands. tt;
   answers = λ history session stands.
       elim (reading c.in-Err.error c.in-Err.ensures.refusals) [
         | inl halted ↦ absurd (running c.args.replica.now c.args.self.now history session stands

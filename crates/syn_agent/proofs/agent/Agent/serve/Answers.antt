@@ -48,18 +48,18 @@ returns-in-Stage-clause-failures g c =
     (reply_of c.stage.result) c.stage.ensures) refl
 
 pub returns-in-List-clause-lawful : goal.returns-in-List-clause-lawful
-returns-in-List-clause-lawful g c history (inl stands) lists =
-    c.list.ensures.lawful history stands lists
-returns-in-List-clause-lawful g c history (inr halted) lists =
+returns-in-List-clause-lawful g c history (inl stands) =
+    c.list.ensures.lawful history stands
+returns-in-List-clause-lawful g c history (inr halted) =
     subst IsLawfulReply (sym (c.list.ensures.halted halted)) tt
 
 pub returns-in-Fetch-clause-lawful : goal.returns-in-Fetch-clause-lawful
-returns-in-Fetch-clause-lawful g c history (inl stands) lists =
+returns-in-Fetch-clause-lawful g c history (inl stands) =
     c.fetch.ensures.lawful history stands
-returns-in-Fetch-clause-lawful g c history (inr halted) lists =
+returns-in-Fetch-clause-lawful g c history (inr halted) =
     subst IsLawfulReply (sym (c.fetch.ensures.halted halted)) tt
 
 pub returns-in-Stage-clause-lawful : goal.returns-in-Stage-clause-lawful
-returns-in-Stage-clause-lawful g c history stands lists =
+returns-in-Stage-clause-lawful g c history stands =
     stage_lawful c.args.self.now c.stage.new.self (token_of c.args.session c.in-Stage.item)
     c.in-Stage.offset c.in-Stage.bytes.items (reply_of c.stage.result) c.stage.ensures
