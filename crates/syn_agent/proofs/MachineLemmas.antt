@@ -1,11 +1,12 @@
 -- An answer is a step of the world's side.
-use Rattle.std.proofs.Common.{◌≡◌, ◌∙◌, ◌-◌, ◌≤◌, ℕ, List, [], ◌∷◌}
+use Rattle.std.proofs.Common.{◌≡◌, ◌∙◌, ◌+◌, ◌-◌, ◌≤◌, ℕ, List, [], ◌∷◌, arith, suc}
 use Rattle.std.proofs.Common.{◌++◌, Option, Some, ap, append-nil, append_assoc, inl, inr, refl}
 use Rattle.std.proofs.Common.{subst, sym}
 use Rattle.std.specs.Prelude.{nat_le}
 use Rattle.syn_agent.specs.Agents.{side_of, staging_of}
 use Rattle.syn_agent.specs.Answers.{Answers, keeps, adds, breaks, Adds, BreaksOff, IsUnchanged}
 use Rattle.syn_agent.specs.Answers.{room_for}
+use Rattle.syn_agent.specs.Machines.{CompactedIsOf, IsUpAs, WrittenIsOf}
 use Rattle.syn_agent.specs.Machines.{IsOf, StandsAs, Takes}
 use Rattle.syn_agent.specs.Machines.{goes_on, stops, heard}
 use Rattle.syn_agent.specs.declared.agent.Agent.{Agent}
@@ -18,16 +19,16 @@ use Rattle.syn_headline.specs.SideMachine.{SideMachine, SideTakes, ServesAs, Ser
 use Rattle.syn_headline.specs.SideMachine.{has_room_for, said, side_layout, side_now, with_journal}
 use Rattle.syn_headline.specs.SideMachine as model
 use Rattle.syn_journal.specs.Journal as journal
-use Rattle.syn_journal.specs.Layout.{HasJournal}
+use Rattle.syn_journal.specs.Layout.{HasJournal, image_alone}
 use Rattle.syn_model.specs.Event.{Event}
-use Rattle.syn_model.specs.History.{History, AllAllowed, IsAllowed}
-use Rattle.syn_model.specs.Image.{StandsFor}
+use Rattle.syn_model.specs.History.{History, AllAllowed, IsAllowed, standing_of}
+use Rattle.syn_model.specs.Image.{StandsFor, image_spelling}
 use Rattle.syn_model.specs.Refusal.{Device}
 use Rattle.syn_model.specs.Spelling.{event_spelling}
 use Rattle.syn_recovery.specs.Calls.{BrokenCallsMeet, CallsMeet, MadeCallsMeet, armed_at}
 use Rattle.syn_recovery.specs.Calls as calls
 use Rattle.syn_recovery.specs.Machines.{of_side}
-use Rattle.syn_recovery.specs.Meaning.{MayBeOf, as_kept, with_record as record_too}
+use Rattle.syn_recovery.specs.Meaning.{MayBeOf, as_kept, compacted, with_record as record_too}
 use Rattle.syn_replica.specs.Disks.{DiskKeeps, event_size}
 use Rattle.syn_replica.specs.Replica.{IsHalted, KeepsBeforeOrAfter, Remembers, Stands, disk_of}
 use Rattle.syn_replica.specs.Replica.{generation_shown, left_shown, pair_of}
@@ -97,6 +98,45 @@ stands_kept {D} {disk} pair replica history left generation stands pair_is room 
           stands.means;
       left_is = ap (λ n. 4194304 - 1 - n) (sym stands.runs.gate) ∙ room;
     })
+
+pub is_up : {D : Type 0} {disk : Ghosts D} (pair : ℕ) (replica : Replica D disk) (agent : Agent)
+    (machine : SideMachine) → IsUpAs pair replica agent machine → IsOf pair replica agent machine
+is_up pair replica agent machine is = record {
+  pair_is = is.pair_is;
+  stands = subst (λ s. StandsAs s replica machine.journal.value) (sym is.up) is.stands;
+  room = is.room;
+  generation = is.generation;
+  armed = is.armed;
+  runs = is.runs;
+  staging = is.staging;
+  left = λ bytes may. kept pair machine.journal machine.journal.value (left_shown replica)
+      (generation_shown replica) bytes
+      (stands_kept pair replica machine.journal.value (left_shown replica)
+      (generation_shown replica) is.stands is.pair_is refl refl bytes may)
+      refl is.room is.generation;
+}
+
+pub written_is_of : WrittenIsOf
+written_is_of pair machine event bytes writing (inl before) =
+    kept pair machine machine.value machine.room machine.generation bytes before refl refl refl
+written_is_of pair machine event bytes writing (inr behind) =
+    kept_more pair machine machine.value event machine.room machine.generation bytes behind refl
+    refl refl writing
+
+pub compacted_is_of : CompactedIsOf
+compacted_is_of pair machine bytes compacting (inl before) =
+    kept pair machine machine.value machine.room machine.generation bytes before refl refl refl
+compacted_is_of pair machine bytes compacting (inr behind) = record {
+  value = image_alone (image_spelling pair (standing_of machine.value));
+  generation = machine.generation + 1;
+  journal = behind.journal;
+  means = compacted (record {
+    compacting = compacting;
+    stands = behind.stands;
+    alone = refl;
+    numbered = let k : suc machine.generation ≡ machine.generation + 1 = omega arith in k;
+  });
+}
 
 -- the side of a machine, by what its replica and agent show
 serves_it : (pair pair' : ℕ) (left left' : ℕ) (history : History) (staged staged' : Option Staging)

@@ -1,17 +1,19 @@
 -- An answer as a step of the world.
-use Rattle.std.specs.Prelude.{◌≡◌, ℕ, true, false, List, Option, Some, None}
+use Rattle.std.specs.Prelude.{◌≡◌, ◌⊎◌, ◌+◌, ◌-◌, ◌++◌, ◌∷◌, [], ℕ, true, false, List, Option}
+use Rattle.std.specs.Prelude.{Some, None}
 use Rattle.syn_agent.specs.Agents.{staging_of}
 use Rattle.syn_agent.specs.declared.agent.Agent.{Agent}
 use Rattle.syn_disk.specs.Arms.{is_stopped}
 use Rattle.syn_disk.specs.declared.disk.Disk.{Ghosts}
-use Rattle.syn_headline.specs.Machine.{Status, Up, Halted, Down}
+use Rattle.syn_headline.specs.Machine.{Journaled, Status, Up, Halted, Down}
 use Rattle.syn_headline.specs.Side.{Request, Reply}
 use Rattle.syn_headline.specs.SideMachine.{SideMachine, SideTakes}
 use Rattle.syn_model.specs.Event.{Event}
-use Rattle.syn_model.specs.History.{History}
+use Rattle.syn_model.specs.History.{History, standing_of}
 use Rattle.syn_recovery.specs.Calls.{armed_at}
 use Rattle.syn_recovery.specs.Machines.{of_side}
 use Rattle.syn_recovery.specs.Meaning.{MayBeOf}
+use Rattle.syn_replica.specs.Disks.{DiskCompacted, DiskKeeps, event_size}
 use Rattle.syn_replica.specs.Replica.{IsHalted, Remembers, Stands, disk_of, generation_shown}
 use Rattle.syn_replica.specs.Replica.{left_shown, pair_of}
 use Rattle.syn_replica.specs.declared.replica.Replica.{Replica}
@@ -39,6 +41,19 @@ pub record IsOf {D : Type 0} {disk : Ghosts D} (pair : ℕ) (replica : Replica D
   pub staging : machine.staging ≡ staging_of agent
   pub left : MayLeave pair replica machine
 
+-- a replica that stands for the history of a machine that is up, with as much room, the same
+-- generation and arms, and what is staged
+pub record IsUpAs {D : Type 0} {disk : Ghosts D} (pair : ℕ) (replica : Replica D disk)
+    (agent : Agent) (machine : SideMachine) : Type 0 where
+  pub pair_is : pair_of replica ≡ pair
+  pub up : machine.journal.status ≡ Up
+  pub stands : Stands replica machine.journal.value
+  pub room : machine.journal.room ≡ left_shown replica
+  pub generation : machine.journal.generation ≡ generation_shown replica
+  pub armed : machine.journal.arms ≡ armed_at (disk.arms (disk_of replica))
+  pub runs : is_stopped (disk.arms (disk_of replica)) ≡ false
+  pub staging : machine.staging ≡ staging_of agent
+
 -- the disk is stopped, and the machine is down
 pub record IsStopped {D : Type 0} {disk : Ghosts D} (pair : ℕ) (replica : Replica D disk)
     (machine : SideMachine) : Type 0 where
@@ -65,3 +80,20 @@ pub record Takes {D : Type 0} {disk : Ghosts D} (pair : ℕ) (new : Replica D di
   pub events : List Event
   pub takes : SideTakes pair machine session request next (heard next.journal.status reply) events
   pub leaves : IsLeftAs pair new after next
+
+-- What a call of a replica leaves on its disk may be the machine's that was making it: as it was
+-- kept, with the event that was being written, or by the image of a checkpoint
+abbrev pub WrittenIsOf : Type 0
+WrittenIsOf = (pair : ℕ) (machine : Journaled History Event) (event : Event) (bytes : List ℕ)
+    → machine.writing ≡ Some event
+    → DiskKeeps pair machine.value machine.room machine.generation bytes
+    ⊎ DiskKeeps pair (machine.value ++ event ∷ []) (machine.room - event_size event)
+    machine.generation bytes
+    → MayBeOf (of_side pair) machine bytes
+
+abbrev pub CompactedIsOf : Type 0
+CompactedIsOf = (pair : ℕ) (machine : Journaled History Event) (bytes : List ℕ)
+    → machine.compacting ≡ true
+    → DiskKeeps pair machine.value machine.room machine.generation bytes
+    ⊎ DiskCompacted pair machine.value (standing_of machine.value) (machine.generation + 1) bytes
+    → MayBeOf (of_side pair) machine bytes
