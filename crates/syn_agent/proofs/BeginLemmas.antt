@@ -3,17 +3,20 @@ use Rattle.std.proofs.Common.{◌≡◌, ◌⊎◌, ◌∙◌, ◌+◌, ◌-◌,
 use Rattle.std.proofs.Common.{Option, Some, None, ap, arith, inl, inr, length, not}
 use Rattle.std.proofs.Common.{◌≢◌, length-append, refl, subst, sym}
 use Rattle.std.proofs.lemmas.Bool.{eqb-true, eqb-false, false≢true}
-use Rattle.std.specs.Prelude.{◌==◌, nat_le, nat_lt, if◌then◌else◌}
+use Rattle.std.specs.Prelude.{◌==◌, Err, nat_le, nat_lt, if◌then◌else◌}
 use Rattle.syn_agent.proofs.CauseLemmas.{device_is, later_none, later_some, never_first}
 use Rattle.syn_agent.proofs.CauseLemmas.{outside, rooms}
 use Rattle.syn_agent.proofs.ReplicaLemmas.{stays}
 use Rattle.syn_agent.specs.Agents.{side_of}
 use Rattle.syn_agent.specs.Answers.{Answers, keeps, adds, breaks, IsUnchanged, room_for}
 use Rattle.syn_agent.specs.declared.agent.Agent.{Agent}
-use Rattle.syn_agent.specs.Answers.{BreaksOff, IsUnread, ServesSo}
+use Rattle.syn_agent.specs.Answers.{BreaksOff}
+use Rattle.syn_agent.specs.Causes.{TakesMemory}
+use Rattle.syn_disk.specs.Stops.{LeavesOnly}
 use Rattle.syn_disk.specs.declared.disk.Disk.{Ghosts}
 use Rattle.syn_headline.specs.Machine.{record_size}
 use Rattle.syn_headline.specs.Side.{Side, Served, Begin, Begun, Refused, add_event, answer, begin}
+use Rattle.syn_headline.specs.Side.{IsUnread, Serves}
 use Rattle.syn_headline.specs.Side as model
 use Rattle.syn_model.specs.Event.{Event, Began}
 use Rattle.syn_model.specs.History.{History, last_session, position_causes}
@@ -22,8 +25,9 @@ use Rattle.syn_model.specs.Refusal as why
 use Rattle.syn_model.specs.Spelling.{event_spelling}
 use Rattle.syn_replica.specs.Refusals.{CountsFailures, IsOneOf, MakesIfDevice, outside_refusals}
 use Rattle.syn_replica.specs.Refusals.{refusal_of}
-use Rattle.syn_replica.specs.Replica.{HasRecord, IsHalted, KeepsReadings, Stands, disk_of}
-use Rattle.syn_replica.specs.Replica.{journal_of, left_shown, pair_of, room_shown, standing_shown}
+use Rattle.syn_replica.specs.Replica.{HasRecord, IsHalted, KeepsBeforeOrAfter, KeepsReadings}
+use Rattle.syn_replica.specs.Replica.{Stands, Tries, disk_of, journal_of, left_shown, pair_of}
+use Rattle.syn_replica.specs.Replica.{room_shown, standing_shown, tried_shown}
 use Rattle.syn_replica.specs.Steps.{MakesIfNew, begin_refusal, begun, room_causes}
 use Rattle.syn_replica.specs.declared.error.ReplicaError.{ReplicaError}
 use Rattle.syn_replica.specs.declared.replica.Replica.{Replica}
@@ -92,19 +96,20 @@ module _ (room left own session pair : ℕ) (history : History) (agent : Agent)
           (subst (λ r. first_cause (early ++ (position_causes history ++ r)) ≡ Some refusal)
           same_rooms some)
 
-  -- no cause is a failed device call
-  pub never_device : (refusal : Refusal)
-      → begin_refusal room own history pair session ≡ Some refusal → refusal ≢ why.Device
-  never_device refusal some = by (session == last_session history) some
+  -- what is no cause is not answered as one
+  pub never_cause : (bad : Refusal) → WrongPair ≢ bad → OldSession ≢ bad → why.Full ≢ bad
+      → JournalFull ≢ bad → (refusal : Refusal)
+      → begin_refusal room own history pair session ≡ Some refusal → refusal ≢ bad
+  never_cause bad first second third fourth refusal some =
+      by (session == last_session history) some
     where
       by : (again : Bool)
           → first_cause (early ++ (if again then [] else position_causes history
-          ++ room_causes room (Began session))) ≡ Some refusal → refusal ≢ why.Device
-      by true some = never_first why.Device refusal early
-          ((λ e. cc), ((λ e. cc), tt)) some
-      by false some = never_first why.Device refusal
+          ++ room_causes room (Began session))) ≡ Some refusal → refusal ≢ bad
+      by true some = never_first bad refusal early (first, (second, tt)) some
+      by false some = never_first bad refusal
           (early ++ (position_causes history ++ room_causes room (Began session)))
-          ((λ e. cc), ((λ e. cc), ((λ e. cc), ((λ e. cc), tt)))) some
+          (first, (second, (third, (fourth, tt)))) some
 
   -- the pair is its own
   pub own_pair : begin_refusal room own history pair session ≡ None → pair ≡ own
@@ -139,7 +144,7 @@ module _ {D : Type 0} {disk : Ghosts D} (old new : Replica D disk) (agent : Agen
 
   serves : (again : Bool) → session == last_session history ≡ again
       → begin_refusal (room_shown old) (pair_of old) history pair session ≡ None
-      → ServesSo (pair_of old) (room_for old) (side_of history agent) session (Begin pair)
+      → Serves (pair_of old) (room_for old) (side_of history agent) session (Begin pair)
       (if again then answer (side_of history agent) (Begun (length history))
       else answer (add_event (side_of history agent) (Began session)) (Begun (length history + 1)))
   serves again is none = inl (
@@ -160,11 +165,15 @@ module _ {D : Type 0} {disk : Ghosts D} (old new : Replica D disk) (agent : Agen
       → (session ≢ (standing_shown old).session → HasRecord old new (Began session))
       → (pair ≡ pair_of old → session ≡ (standing_shown old).session → ¬ IsHalted old
       → new ≡ old)
+      → (session ≢ (standing_shown old).session
+      → tried_shown new ≡ Some (event_spelling (Began session)))
+      → LeavesOnly disk.moment disk.left_since (disk_of old) (disk_of new)
+      (KeepsBeforeOrAfter old history (Began session))
       → MakesIfNew (session == (standing_shown old).session) (disk.arms (disk_of old))
       (disk.arms (disk_of new))
       → disk.failures (disk_of new) ≡ disk.failures (disk_of old)
       → Answers old new agent agent history session (Begin pair) (Begun position)
-  begun_answers position given none has same calls failures =
+  begun_answers position given none has same tried any_moment calls failures =
       by (session == last_session history) refl
     where
       after : (again : Bool) → (session == last_session history) ≡ again
@@ -183,6 +192,7 @@ module _ {D : Type 0} {disk : Ghosts D} (old new : Replica D disk) (agent : Agen
           (record {
             memory = record { pair = ap pair_of q; standing = ap standing_shown q };
             journal = ap journal_of q;
+            tried = ap tried_shown q;
           })
           (subst (Stands new) (after true is) given.1))
       by false is =
@@ -190,10 +200,14 @@ module _ {D : Type 0} {disk : Ghosts D} (old new : Replica D disk) (agent : Agen
           (sym (given.0 ∙ (ap length (after false is)
           ∙ length-append history (Began session ∷ []))))
           (adds (answer (add_event (side_of history agent) (Began session))
-          (Begun (length history + 1))) (Began session) (serves false is none) refl
+          (Begun (length history + 1))) (Began session) (serves false is none) refl refl
           (record {
             stands = subst (Stands new) (after false is) given.1;
             has = has (λ e. eqb-false session (last_session history) is (e ∙ last_is));
+            sends = record {
+              tried = tried (λ e. eqb-false session (last_session history) is (e ∙ last_is));
+              any_moment = any_moment;
+            };
             calls = subst (λ b. MakesIfNew b (disk.arms (disk_of old)) (disk.arms (disk_of new)))
                 (ap (λ n. session == n) last_is ∙ is) calls;
             failures = failures;
@@ -212,17 +226,27 @@ module _ {D : Type 0} {disk : Ghosts D} (old new : Replica D disk) (agent : Agen
       → MakesIfDevice e 4 (disk.arms (disk_of old)) (disk.arms (disk_of new))
       → KeepsReadings old new
       → ((refusal_of e ≡ why.Device) ⊎ (journal_of new ≡ journal_of old))
+      → (session ≢ (standing_shown old).session → Tries {X = ℕ} old new (Began session) (Err e))
+      → (refusal_of e ≢ why.Device → tried_shown new ≡ tried_shown old)
+      → LeavesOnly disk.moment disk.left_since (disk_of old) (disk_of new)
+      (KeepsBeforeOrAfter old history (Began session))
+      → KeepsBeforeOrAfter old history (Began session) (disk.seen (disk_of new))
       → Answers old new agent agent history session (Begin pair) (Refused (refusal_of e))
-  begun_refused e cause refused again halts failures calls readings unchanged =
+  begun_refused e cause refused again halts failures calls readings unchanged tried untried
+      any_moment seen =
       elim unchanged [
         | inl device ↦ broken device
         | inr same ↦ elim cause [
           | inl none ↦ elim (outside e none) [
-            | inl memory ↦ kept same (answer (side_of history agent) (Refused (refusal_of e)))
+            | inl memory ↦ kept same
+                (λ device. let k : why.Memory ≡ why.Device = sym memory ∙ device in cc)
+                (answer (side_of history agent) (Refused (refusal_of e)))
                 (inr (ap (λ r. answer (side_of history agent) (Refused r)) memory)) refl
             | inr device ↦ broken device
           ]
-          | inr some ↦ kept same (answer (side_of history agent) (Refused (refusal_of e)))
+          | inr some ↦ kept same (never_cause (room_shown old) (left_shown old) (pair_of old)
+              session pair history agent room_is why.Device (λ e. cc) (λ e. cc) (λ e. cc) (λ e. cc)
+              (refusal_of e) some) (answer (side_of history agent) (Refused (refusal_of e)))
               (inl (
                 None,
                 inr unread,
@@ -232,30 +256,39 @@ module _ {D : Type 0} {disk : Ghosts D} (old new : Replica D disk) (agent : Agen
         ]
       ]
     where
-      kept : journal_of new ≡ journal_of old → (served : Served)
-          → ServesSo (pair_of old) (room_for old) (side_of history agent) session (Begin pair)
+      kept : journal_of new ≡ journal_of old → refusal_of e ≢ why.Device → (served : Served)
+          → Serves (pair_of old) (room_for old) (side_of history agent) session (Begin pair)
           served
           → served.side ≡ side_of history agent
           → Answers old new agent agent history session (Begin pair) served.reply
-      kept same served so stays_so =
+      kept same not served so stays_so =
           let as_it_was : IsUnchanged old new =
-          record { memory = readings.memory; journal = same } in
+          record { memory = readings.memory; journal = same; tried = untried not } in
           keeps served so stays_so as_it_was (stays old new history stands as_it_was)
 
       no_cause : refusal_of e ≡ why.Device → (found : Option Refusal)
           → begin_refusal (room_shown old) (pair_of old) history pair session ≡ found
           → begin_refusal (room_shown old) (pair_of old) history pair session ≡ None
       no_cause device None is = is
-      no_cause device (Some refusal) is = absurd (never_device (room_shown old) (left_shown old)
-          (pair_of old) session pair history agent room_is refusal is
-          (sym (refused refusal is) ∙ device))
+      no_cause device (Some refusal) is = absurd (never_cause (room_shown old) (left_shown old)
+          (pair_of old) session pair history agent room_is why.Device (λ e. cc) (λ e. cc) (λ e. cc)
+          (λ e. cc) refusal is (sym (refused refusal is) ∙ device))
 
-      off : refusal_of e ≡ why.Device → BreaksOff old new
-      off device =
+      off : refusal_of e ≡ why.Device → session ≢ (standing_shown old).session
+          → BreaksOff old new history (Began session)
+      off device fresh_session =
           let error = device_is e device in
           record {
             halted = halts device;
             readings = readings;
+            sends = record {
+              tried = elim (tried fresh_session) [
+                | inl sent ↦ sent.1
+                | inr none ↦ absurd (none.0 device)
+              ];
+              any_moment = any_moment;
+            };
+            seen = seen;
             calls = subst (λ x. MakesIfDevice x 4 (disk.arms (disk_of old))
                 (disk.arms (disk_of new))) error calls;
             failures = subst (λ x. CountsFailures x (disk.failures (disk_of old))
@@ -270,7 +303,8 @@ module _ {D : Type 0} {disk : Ghosts D} (old new : Replica D disk) (agent : Agen
           (eqb-true session (last_session history) is ∙ sym last_is) was_running)
       broken_if device none false is =
           breaks (answer (add_event (side_of history agent) (Began session))
-          (Begun (length history + 1))) (Began session) (serves false is none) refl (off device)
+          (Begun (length history + 1))) (Began session) (serves false is none) refl refl
+          (off device (λ e. eqb-false session (last_session history) is (e ∙ last_is)))
 
       broken : refusal_of e ≡ why.Device
           → Answers old new agent agent history session (Begin pair) (Refused (refusal_of e))
@@ -278,3 +312,31 @@ module _ {D : Type 0} {disk : Ghosts D} (old new : Replica D disk) (agent : Agen
           subst (λ r. Answers old new agent agent history session (Begin pair) (Refused r))
           (sym device)
           (broken_if device (no_cause device _ refl) (session == last_session history) refl)
+
+  -- memory is refused only where the session would begin
+  pub begun_takes : (e : ReplicaError)
+      → ((refusal : Refusal)
+      → begin_refusal (room_shown old) (pair_of old) history pair session ≡ Some refusal
+      → refusal_of e ≡ refusal)
+      → ((pair ≡ pair_of old) → (session ≡ (standing_shown old).session) → ¬ IsHalted old → ⊥)
+      → refusal_of e ≡ why.Memory
+      → TakesMemory (pair_of old) (room_for old) (side_of history agent) session (Begin pair)
+  begun_takes e refused again memory = by (session == last_session history) refl
+    where
+      none : (found : Option Refusal)
+          → begin_refusal (room_shown old) (pair_of old) history pair session ≡ found
+          → begin_refusal (room_shown old) (pair_of old) history pair session ≡ None
+      none None is = is
+      none (Some refusal) is = absurd (never_cause (room_shown old) (left_shown old) (pair_of old)
+          session pair history agent room_is why.Memory (λ e. cc) (λ e. cc) (λ e. cc) (λ e. cc)
+          refusal is (sym (refused refusal is) ∙ memory))
+
+      by : (b : Bool) → (session == last_session history) ≡ b
+          → TakesMemory (pair_of old) (room_for old) (side_of history agent) session (Begin pair)
+      by true is = absurd (again (own (none _ refl))
+          (eqb-true session (last_session history) is ∙ sym last_is) was_running)
+      by false is = begins (room_shown old) (left_shown old) (pair_of old) session pair history
+          agent room_is (none _ refl)
+          ∙ ap (λ b. if b then answer (side_of history agent) (Begun (length history))
+          else answer (add_event (side_of history agent) (Began session))
+          (Begun (length history + 1))) is

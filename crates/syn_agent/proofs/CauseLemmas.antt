@@ -5,11 +5,13 @@ use Rattle.std.proofs.Common.{suc}
 use Rattle.std.proofs.lemmas.Bool.{eqb-true, false≢true}
 use Rattle.std.proofs.lemmas.Bool.Decides.{leb_tells}
 use Rattle.std.specs.Prelude.{◌||◌, ◌==◌, nat_le, nat_lt}
-use Rattle.syn_headline.specs.Side.{Side, Served, Refused, answer, unless_refused}
+use Rattle.syn_agent.specs.Causes.{CountsFailures}
+use Rattle.syn_headline.specs.Side.{Side, Served, Reply, Refused, answer, unless_refused}
 use Rattle.syn_journal.specs.declared.error.JournalError.TheVariants as journal
 use Rattle.syn_model.specs.Refusal.{Refusal, Cause, first_cause, number}
 use Rattle.syn_model.specs.Refusal as why
 use Rattle.syn_replica.specs.Refusals.{IsOneOf, outside_refusals, refusal_of}
+use Rattle.syn_replica.specs.Refusals as replica
 use Rattle.syn_replica.specs.declared.error.ReplicaError.{ReplicaError}
 use Rattle.syn_replica.specs.declared.error.ReplicaError.TheVariants.{Tree, History, Journal}
 use Rattle.syn_history.specs.Refusals.{refusal_of as of_history}
@@ -52,6 +54,9 @@ tree_is_none e is = let k : of_tree e ≡ why.Device = is in cc
 history_is_none : (e : HistoryError) → of_history e ≢ why.Device
 history_is_none history.Memory is = let k : why.Memory ≡ why.Device = is in cc
 history_is_none e is = let k : of_history e ≡ why.Device = is in cc
+
+pub refused_one : (a b : Refusal) → Refused a ≡ Refused b → a ≡ b
+refused_one a b is = cc
 
 -- a failed device call is the journal's
 pub device_is : (e : ReplicaError) → refusal_of e ≡ why.Device → e ≡ Journal journal.Device
@@ -117,3 +122,18 @@ later_some ((true, first) ∷ causes) second side served why some =
     ap (λ o. unless_refused side o (unless_refused side (first_cause second) served)) some
 later_some ((false, first) ∷ causes) second side served why some =
     later_some causes second side served why some
+
+-- a device call failed exactly where the replica says so
+pub counts : (e : ReplicaError) (old new : ℕ) → replica.CountsFailures e old new
+    → CountsFailures (Refused (refusal_of e)) old new
+counts (Journal journal.Device) old new grew = inl (refl, grew)
+counts e old new same = inr (
+  λ is.
+      (let k : refusal_of e ≡ why.Device = refused_one _ _ is in let d = device_is e k in cc),
+  same,
+)
+
+-- and not where it answers
+pub counts_none : (reply : Reply) (old new : ℕ) → reply ≢ Refused why.Device → new ≡ old
+    → CountsFailures reply old new
+counts_none reply old new not same = inr (not, same)

@@ -4,3 +4,5 @@ mod BeginLemmas
 mod ReplaceLemmas
 mod ReadingLemmas
 mod StageLemmas
+mod MachineLemmas
+mod ListedLemmas

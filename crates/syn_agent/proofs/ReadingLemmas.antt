@@ -3,14 +3,18 @@ use Rattle.std.proofs.Common.{◌≡◌, ◌≢◌, ◌⊎◌, ◌∙◌, ℕ, B
 use Rattle.std.proofs.Common.{Some, None, ap, ap₂, arith, inl, inr, refl, subst, sym, drop}
 use Rattle.std.proofs.Common.{take}
 use Rattle.std.proofs.lemmas.Bool.{eqb-true, false≢true}
+use Rattle.std.specs.List.{list_any}
 use Rattle.std.specs.Prelude.{◌==◌, ◌||◌, if◌then◌else◌}
-use Rattle.syn_agent.proofs.CauseLemmas.{memory_number, or_cases}
+use Rattle.syn_agent.proofs.CauseLemmas.{memory_number, never_first, none_of, or_cases}
+use Rattle.syn_agent.proofs.ReplicaLemmas.{as_was}
 use Rattle.syn_agent.specs.Agents.{side_of}
-use Rattle.syn_agent.specs.Answers.{Answers, ServesSo, keeps, room_for}
+use Rattle.syn_agent.specs.Answers.{Answers, keeps, room_for}
+use Rattle.syn_agent.specs.inner.Lawful.{ListsLawfully}
 use Rattle.syn_agent.specs.declared.agent.Agent.{Agent}
+use Rattle.syn_message.specs.Listings.{IsListing}
 use Rattle.syn_disk.specs.declared.disk.Disk.{Ghosts}
 use Rattle.syn_headline.specs.Side.{Side, Served, Fetch, ListAt, Listed, NotDir, Piece, Refused}
-use Rattle.syn_headline.specs.Side.{answer, serve, unless_refused}
+use Rattle.syn_headline.specs.Side.{Serves, answer, serve, unless_refused}
 use Rattle.syn_headline.specs.Side as model
 use Rattle.syn_history.specs.Refusals.{refusal_of as of_history}
 use Rattle.syn_history.specs.declared.error.HistoryError.{HistoryError}
@@ -116,12 +120,12 @@ module _ {D : Type 0} {disk : Ghosts D} (replica : Replica D disk) (agent : Agen
 
   -- an answer that changes nothing
   tells : (request : model.Request) (served : Served)
-      → ServesSo (pair_of replica) (room_for replica) (side_of history agent) session request served
+      → Serves (pair_of replica) (room_for replica) (side_of history agent) session request served
       → served.side ≡ side_of history agent
       → Answers replica replica agent agent history session request served.reply
   tells request served so same =
       keeps served so same
-      (record { memory = record { pair = refl; standing = refl }; journal = refl }) stands
+      (as_was replica) stands
 
   pub no_memory : (request : model.Request) (refusal : Refusal) → refusal ≡ why.Memory
       → Answers replica replica agent agent history session request (Refused refusal)
@@ -151,6 +155,25 @@ module _ {D : Type 0} {disk : Ghosts D} (replica : Replica D disk) (agent : Agen
             else NotDir (length history))) (sym is),
       )) refl
 
+  -- a directory that the replica shows is one of the history
+  pub is_there : (path : Path) → is_directory (tree_shown replica) path ≢ false
+      → is_directory (tree_of history) path ≡ true
+  is_there path there = by (is_directory (tree_of history) path) refl
+    where
+      by : (b : Bool) → is_directory (tree_of history) path ≡ b
+          → is_directory (tree_of history) path ≡ true
+      by true is = is
+      by false is = absurd (there (ap (λ t. is_directory t path) tree_is ∙ is))
+
+  -- what it lists can be sent
+  pub is_listing : (path : Path) (listed : List (Name × Content))
+      → listed ≡ children (mark (tree_shown replica)) path
+      → is_directory (tree_shown replica) path ≢ false → ListsLawfully history
+      → IsListing listed
+  is_listing path listed are there lawful =
+      subst IsListing (sym (are ∙ ap (λ t. children (mark t) path) tree_is))
+      (lawful path (is_there path there))
+
   pub is_listed : (path : Path) (position : ℕ) (entries : List (Name × Content))
       → position ≡ position_shown replica
       → entries ≡ children (mark (tree_shown replica)) path
@@ -161,12 +184,7 @@ module _ {D : Type 0} {disk : Ghosts D} (replica : Replica D disk) (agent : Agen
       subst (λ r. Answers replica replica agent agent history session (ListAt path) r)
       (sym (ap₂ (λ p es. Listed p es) (at ∙ position_is)
       (are ∙ ap (λ t. children (mark t) path) tree_is)))
-      (listed path true (by (is_directory (tree_of history) path) refl))
-    where
-      by : (b : Bool) → is_directory (tree_of history) path ≡ b
-          → is_directory (tree_of history) path ≡ true
-      by true is = is
-      by false is = absurd (there (ap (λ t. is_directory t path) tree_is ∙ is))
+      (listed path true (is_there path there))
 
   pub is_no_directory : (path : Path) (position : ℕ) → position ≡ position_shown replica
       → is_directory (tree_shown replica) path ≡ false
@@ -212,3 +230,18 @@ module _ {D : Type 0} {disk : Ghosts D} (replica : Replica D disk) (agent : Agen
             (Piece (length whole) (take 32768 (drop offset whole)))))
             some),
       )) refl
+
+-- a fetch is refused for want of memory only where nothing else refuses it
+pub fetch_takes : (history : History) (path : Path) (since : ℕ) (answered : Refusal)
+    → ((refusal : Refusal) → first_cause (since_causes history path since) ≡ Some refusal
+    → answered ≡ refusal) → answered ≡ why.Memory
+    → first_cause (since_causes history path since) ≡ None
+fetch_takes history path since answered refused memory = none_of _ (λ refusal some.
+    never_first why.Memory refusal (since_causes history path since)
+    ((λ e. cc), ((λ e. cc), tt)) some (sym (refused refusal some) ∙ memory))
+
+-- what is not among the refusals of a fetch
+pub no_device : (refusals : List Refusal) (e : ReplicaError) → IsOneOf refusals e
+    → list_any (λ why. number why == 9) refusals ≡ false → refusal_of e ≢ why.Device
+no_device refusals e is none device = false≢true (sym none ∙ subst (λ r. list_any
+    (λ why. number why == number r) refusals ≡ true) device is)

@@ -1,20 +1,22 @@
 -- How a replacement is served, by what is staged and what the replica answers.
-use Rattle.std.proofs.Common.{◌≡◌, ◌⊎◌, ◌∙◌, ◌-◌, ℕ, Bool, true, false, List, [], ◌∷◌, ◌++◌}
+use Rattle.std.proofs.Common.{◌≡◌, ◌≢◌, ◌⊎◌, ◌∙◌, ◌-◌, ℕ, Bool, true, false, List, [], ◌∷◌, ◌++◌}
 use Rattle.std.proofs.Common.{Option, Some, None, ap, arith, inl, inr, length, not, refl, subst}
 use Rattle.std.proofs.Common.{sym}
 use Rattle.std.proofs.lemmas.Bool.Decides.{nat_tests}
 use Rattle.std.specs.Option.{option_map_or}
-use Rattle.std.specs.Prelude.{◌||◌, ◌&&◌, ◌==◌, nat_lt, if◌then◌else◌}
+use Rattle.std.specs.Prelude.{Err, ◌||◌, ◌&&◌, ◌==◌, nat_lt, if◌then◌else◌}
 use Rattle.syn_agent.proofs.CauseLemmas.{Never, device_is, never_first, outside, rooms}
-use Rattle.syn_agent.proofs.ReplicaLemmas.{stays}
+use Rattle.syn_agent.proofs.ReplicaLemmas.{as_was, stays}
 use Rattle.syn_agent.specs.Agents.{side_of, staging_of}
-use Rattle.syn_agent.specs.Answers.{Answers, BreaksOff, IsUnchanged, ServesSo, keeps, adds}
-use Rattle.syn_agent.specs.Answers.{breaks, room_for, staging_causes}
+use Rattle.syn_agent.specs.Answers.{Answers, BreaksOff, IsUnchanged, keeps, adds, breaks}
+use Rattle.syn_agent.specs.Answers.{room_for}
+use Rattle.syn_agent.specs.Causes.{staging_causes}
 use Rattle.syn_agent.specs.declared.agent.Agent.{Agent}
+use Rattle.syn_disk.specs.Stops.{LeavesOnly}
 use Rattle.syn_disk.specs.declared.disk.Disk.{Ghosts}
 use Rattle.syn_headline.specs.Side.{Side, Served, Replace, Done, Refused, Reads, add_event, answer}
 use Rattle.syn_headline.specs.Side.{is_dead_token, is_staged, replace_at, replace_with, serve}
-use Rattle.syn_headline.specs.Side.{staged_bytes, unless_refused}
+use Rattle.syn_headline.specs.Side.{Serves, staged_bytes, unless_refused}
 use Rattle.syn_headline.specs.Side as model
 use Rattle.syn_model.specs.Event.{Event, Token, Replaced, is_below, is_same_token}
 use Rattle.syn_model.specs.History.{History, is_old_token, last_session, last_token, tree_of}
@@ -28,8 +30,9 @@ use Rattle.syn_model.specs.Standing.{full_causes, place_causes}
 use Rattle.syn_model.specs.Tree.{Tree, replace}
 use Rattle.syn_replica.specs.Refusals.{CountsFailures, IsOneOf, MakesIfDevice, outside_refusals}
 use Rattle.syn_replica.specs.Refusals.{refusal_of}
-use Rattle.syn_replica.specs.Replica.{HasRecord, IsHalted, KeepsReadings, Stands, disk_of}
-use Rattle.syn_replica.specs.Replica.{journal_of, left_shown, pair_of, room_shown}
+use Rattle.syn_replica.specs.Replica.{HasRecord, IsHalted, KeepsBeforeOrAfter, KeepsReadings}
+use Rattle.syn_replica.specs.Replica.{Stands, Tries, disk_of, journal_of, left_shown, pair_of}
+use Rattle.syn_replica.specs.Replica.{room_shown, tried_shown}
 use Rattle.syn_replica.specs.Steps.{MakesIfNew, is_done, replace_refusal, replaced, room_causes}
 use Rattle.syn_replica.specs.Steps.{since_causes}
 use Rattle.syn_replica.specs.declared.error.ReplicaError.{ReplicaError}
@@ -96,7 +99,7 @@ module _ {D : Type 0} {disk : Ghosts D} (old : Replica D disk) (agent : Agent)
       → Answers old old agent agent history session (Replace item path since size) served.reply
   kept served is same =
       keeps served (inl (None, inr (λ a b. is a ∙ sym (is b)), sym (is None))) same
-      (record { memory = record { pair = refl; standing = refl }; journal = refl }) stands
+      (as_was old) stands
 
   pub done_answers : is_done history token ≡ true
       → Answers old old agent agent history session (Replace item path since size) Done
@@ -140,7 +143,7 @@ module _ {D : Type 0} {disk : Ghosts D} (old : Replica D disk) (agent : Agent)
   unread_answers fresh young none reads =
       keeps (answer side (Refused BadStage))
       (inl (None, inl reads, sym (staged_at fresh young none None))) refl
-      (record { memory = record { pair = refl; standing = refl }; journal = refl }) stands
+      (as_was old) stands
 
   -- memory is refused
   pub memory_answers : (refusal : Refusal) → refusal ≡ why.Memory
@@ -150,7 +153,7 @@ module _ {D : Type 0} {disk : Ghosts D} (old : Replica D disk) (agent : Agent)
       subst (λ r. Answers old old agent agent history session (Replace item path since size)
       (Refused r)) (sym memory)
       (keeps (answer side (Refused why.Memory)) (inr refl) refl
-      (record { memory = record { pair = refl; standing = refl }; journal = refl }) stands)
+      (as_was old) stands)
 
   module _ (fresh : is_done history token ≡ false) (young : is_old_token history token ≡ false)
       (none : first_cause (staging_causes (staging_of agent) token size) ≡ None) (tree : Tree)
@@ -188,7 +191,7 @@ module _ {D : Type 0} {disk : Ghosts D} (old : Replica D disk) (agent : Agent)
     adding = answer (add_event side event) Done
 
     serves : replace_refusal (room_shown old) history token path since tree ≡ None
-        → ServesSo (pair_of old) (room_for old) side session (Replace item path since size)
+        → Serves (pair_of old) (room_for old) side session (Replace item path since size)
         (answer (add_event side event) Done)
     serves allowed = inl (
       Some tree,
@@ -200,7 +203,7 @@ module _ {D : Type 0} {disk : Ghosts D} (old : Replica D disk) (agent : Agent)
 
     serves_not : (refusal : Refusal)
         → replace_refusal (room_shown old) history token path since tree ≡ Some refusal
-        → ServesSo (pair_of old) (room_for old) side session (Replace item path since size)
+        → Serves (pair_of old) (room_for old) side session (Replace item path since size)
         (answer side (Refused refusal))
     serves_not refusal some = inl (
       Some tree,
@@ -214,14 +217,18 @@ module _ {D : Type 0} {disk : Ghosts D} (old : Replica D disk) (agent : Agent)
     pub made_answers : Stands new (replaced history token path since tree)
         → replace_refusal (room_shown old) history token path since tree ≡ None
         → HasRecord old new event
+        → tried_shown new ≡ Some (event_spelling event)
+        → LeavesOnly disk.moment disk.left_since (disk_of old) (disk_of new)
+        (KeepsBeforeOrAfter old history event)
         → MakesIfNew (is_done history token) (disk.arms (disk_of old)) (disk.arms (disk_of new))
         → disk.failures (disk_of new) ≡ disk.failures (disk_of old)
         → Answers old new agent agent history session (Replace item path since size) Done
-    made_answers after allowed has calls failures =
-        adds (answer (add_event side event) Done) event (serves allowed) refl (record {
+    made_answers after allowed has tried any_moment calls failures =
+        adds (answer (add_event side event) Done) event (serves allowed) refl refl (record {
           stands = subst (Stands new)
               (ap (λ b. if b then history else history ++ event ∷ []) fresh) after;
           has = has;
+          sends = record { tried = tried; any_moment = any_moment };
           calls = subst (λ b. MakesIfNew b (disk.arms (disk_of old)) (disk.arms (disk_of new)))
               fresh calls;
           failures = failures;
@@ -239,31 +246,40 @@ module _ {D : Type 0} {disk : Ghosts D} (old : Replica D disk) (agent : Agent)
         → MakesIfDevice e 4 (disk.arms (disk_of old)) (disk.arms (disk_of new))
         → KeepsReadings old new
         → ((refusal_of e ≡ why.Device) ⊎ (journal_of new ≡ journal_of old))
+        → Tries {X = ℕ} old new event (Err e)
+        → (refusal_of e ≢ why.Device → tried_shown new ≡ tried_shown old)
+        → LeavesOnly disk.moment disk.left_since (disk_of old) (disk_of new)
+        (KeepsBeforeOrAfter old history event)
+        → KeepsBeforeOrAfter old history event (disk.seen (disk_of new))
         → Answers old new agent agent history session (Replace item path since size)
         (Refused (refusal_of e))
-    unmade_answers e cause refused halts failures calls readings unchanged =
+    unmade_answers e cause refused halts failures calls readings unchanged tried untried any_moment
+        seen =
         elim unchanged [
           | inl device ↦ broken device
           | inr same ↦ elim cause [
             | inl out ↦ elim (outside e out) [
-              | inl memory ↦ stayed same (answer side (Refused (refusal_of e)))
+              | inl memory ↦ stayed same
+                  (λ device. let k : why.Memory ≡ why.Device = sym memory ∙ device in cc)
+                  (answer side (Refused (refusal_of e)))
                   (inr (ap (λ r. answer side (Refused r)) memory)) refl
               | inr device ↦ broken device
             ]
-            | inr some ↦ stayed same (answer side (Refused (refusal_of e)))
+            | inr some ↦ stayed same (never_first why.Device (refusal_of e) all_causes never some)
+                (answer side (Refused (refusal_of e)))
                 (serves_not (refusal_of e) some) refl
           ]
         ]
       where
-        stayed : journal_of new ≡ journal_of old → (served : Served)
-            → ServesSo (pair_of old) (room_for old) side session (Replace item path since size)
+        stayed : journal_of new ≡ journal_of old → refusal_of e ≢ why.Device → (served : Served)
+            → Serves (pair_of old) (room_for old) side session (Replace item path since size)
             served
             → served.side ≡ side
             → Answers old new agent agent history session (Replace item path since size)
             served.reply
-        stayed same served so stays_so =
+        stayed same not served so stays_so =
             let as_it_was : IsUnchanged old new =
-            record { memory = readings.memory; journal = same } in
+            record { memory = readings.memory; journal = same; tried = untried not } in
             keeps served so stays_so as_it_was (stays old new history stands as_it_was)
 
         never : Never why.Device all_causes
@@ -297,12 +313,20 @@ module _ {D : Type 0} {disk : Ghosts D} (old : Replica D disk) (agent : Agent)
               | inr memory ↦ let k : why.Memory ≡ why.Device = sym memory ∙ device in cc
             ])
 
-        off : refusal_of e ≡ why.Device → BreaksOff old new
+        off : refusal_of e ≡ why.Device → BreaksOff old new history event
         off device =
             let error = device_is e device in
             record {
               halted = halts device;
               readings = readings;
+              sends = record {
+                tried = elim tried [
+                  | inl sent ↦ sent.1
+                  | inr none ↦ absurd (none.0 device)
+                ];
+                any_moment = any_moment;
+              };
+              seen = seen;
               calls = subst (λ x. MakesIfDevice x 4 (disk.arms (disk_of old))
                   (disk.arms (disk_of new))) error calls;
               failures = subst (λ x. CountsFailures x (disk.failures (disk_of old))
@@ -316,7 +340,14 @@ module _ {D : Type 0} {disk : Ghosts D} (old : Replica D disk) (agent : Agent)
             subst (λ r. Answers old new agent agent history session
             (Replace item path since size) (Refused r)) (sym device)
             (breaks (answer (add_event side event) Done) event (serves (allowed device _ refl)) refl
-            (off device))
+            refl (off device))
+
+-- what is staged is never refused for want of memory
+pub staging_memory : (staging : Option model.Staging) (token : Token) (size : ℕ)
+    (refusal : Refusal) → first_cause (staging_causes staging token size) ≡ Some refusal
+    → refusal ≢ why.Memory
+staging_memory staging token size refusal some = never_first why.Memory refusal
+    (staging_causes staging token size) ((λ e. cc), ((λ e. cc), ((λ e. cc), tt))) some
 
 -- what a token's standing says of it
 pub stands_done : (a b : Bool)

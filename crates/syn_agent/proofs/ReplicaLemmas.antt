@@ -1,5 +1,5 @@
 -- A replica whose journal and memory stay stands for what it stood for.
-use Rattle.std.proofs.Common.{◌∙◌, subst, sym}
+use Rattle.std.proofs.Common.{◌∙◌, refl, subst, sym}
 use Rattle.syn_agent.specs.Answers.{IsUnchanged}
 use Rattle.syn_disk.specs.declared.disk.Disk.{Ghosts}
 use Rattle.syn_journal.specs.Journal as journal
@@ -20,3 +20,9 @@ stays old new history stands same = record {
   means = subst (λ p. StandsFor p stands.value.image stands.value.payloads history)
       (sym same.memory.pair) stands.means;
 }
+
+-- one that nobody touches stays
+pub as_was : {D : Type 0} {disk : Ghosts D} (replica : Replica D disk)
+    → IsUnchanged replica replica
+as_was replica =
+    record { memory = record { pair = refl; standing = refl }; journal = refl; tried = refl }

@@ -1,5 +1,5 @@
 -- What is staged, as the model has it.
-use Rattle.std.specs.Prelude.{◌≡◌, ◌⊎◌, ℕ, Some}
+use Rattle.std.specs.Prelude.{◌≡◌, ◌⊎◌, ℕ, Some, length}
 use Rattle.syn_agent.specs.declared.staging.Staging.{Staging}
 use Rattle.syn_headline.specs.Side as model
 use Rattle.syn_headline.specs.Side.{Side, Refused, answer, stage_more}
@@ -18,9 +18,10 @@ staged_of staging = record { token = token_of staging.token; bytes = staging.byt
 abbrev pub side_with : History → model.Staging → Side
 side_with history staging = record { history = history; staging = Some staging }
 
--- a piece is added as the definition of a side says, or nothing for want of memory
+-- A piece is added as the definition of a side says; or nothing for want of memory, where it goes
+-- behind what is there
 abbrev pub AddsAs : model.Staging → model.Staging → Reply → ℕ → Bytes → Type 0
 AddsAs old new reply offset bytes =
     ((history : History) → stage_more (side_with history old) old.token old.bytes offset bytes
     ≡ answer (side_with history new) (reply_of reply))
-    ⊎ ((reply_of reply ≡ Refused why.Memory) × (new ≡ old))
+    ⊎ ((reply_of reply ≡ Refused why.Memory) × (new ≡ old) × (offset ≡ length old.bytes))

@@ -1,21 +1,23 @@
 //! Every request of a session.
-ghost use Rattle.std.specs.Prelude.{◌≡◌, ◌⊎◌};
-ghost use Rattle.syn_disk.specs.Stops.{LeavesOnly};
-ghost use Rattle.syn_headline.specs.Side.{answer};
-ghost use Rattle.syn_headline.specs.SideMachine.{ServesHalted};
-ghost use Rattle.syn_message.specs.Replies.{reply_of};
+ghost use Rattle.std.specs.Prelude.{◌≡◌, ◌⊎◌, ℕ};
+ghost use Rattle.syn_headline.specs.Side.{Refused, answer};
+ghost use Rattle.syn_headline.specs.SideMachine.{ServesHalted, SideMachine};
+ghost use Rattle.syn_message.specs.Replies.{IsLawfulReply, reply_of};
 ghost use Rattle.syn_message.specs.Requests.{request_of};
-ghost use Rattle.syn_model.specs.Event.{Event};
 ghost use Rattle.syn_model.specs.History.{History};
-ghost use Rattle.syn_replica.specs.Replica.{IsHalted, KeepsBeforeOrAfter, Stands, disk_of};
+ghost use Rattle.syn_model.specs.Refusal as why;
+ghost use Rattle.syn_replica.specs.Replica.{IsHalted, Stands, disk_of, pair_of};
 ghost use Rattle.syn_agent.specs.Agents.{side_of};
-ghost use Rattle.syn_agent.specs.Answers.{Answers, IsUnchanged};
+ghost use Rattle.syn_agent.specs.Answers.{Answers, IsUnchanged, room_for};
+ghost use Rattle.syn_agent.specs.Causes.{CountsFailures, TakesMemory};
+ghost use Rattle.syn_agent.specs.Machines.{IsOf, Takes};
 
 use crate::agent::Agent;
 use std::alloc::Global;
 use syn_disk::Disk;
 use syn_history::Token;
 use syn_message::{Reply, Request};
+use syn_recovery::device_laws;
 use syn_replica::Replica;
 
 impl Agent {
@@ -30,17 +32,57 @@ impl Agent {
         session: u64,
         request: Request,
     ) -> Reply
+        // It is a step of the world's side, and the replica is the machine's behind it.
+        ensures takes { (pair : ℕ) (machine : SideMachine) → IsOf pair replica.old self.old machine
+            → Takes pair replica.new self.new machine session (request_of request)
+            (reply_of result) }
+
+        // What it does to the replica, for every history that this stands for.
         ensures answers { (history : History) → Stands replica.old history
             → Answers replica.old replica.new self.old self.new history session
             (request_of request) (reply_of result) }
-        ensures any_moment { (history : History) → Stands replica.old history
-            → (disk_of replica.new ≡ disk_of replica.old)
-            ⊎ ((event : Event) × LeavesOnly D.moment D.left_since (disk_of replica.old)
-            (disk_of replica.new) (KeepsBeforeOrAfter replica.old history event)) }
         ensures halted { (history : History) → IsHalted replica.old
             → ServesHalted (side_of history self.old) session (request_of request)
             (answer (side_of history self.new) (reply_of result)) }
         ensures unchanged { IsHalted replica.old → IsUnchanged replica.old replica.new }
+
+        // It can be sent.
+        ensures lawful { (history : History) → Stands replica.old history ⊎ IsHalted replica.old
+            → IsLawfulReply (reply_of result) }
+
+        // When memory is refused, and when the device failed.
+        ensures memory { (history : History) → Stands replica.old history ⊎ IsHalted replica.old
+            → reply_of result ≡ Refused why.Memory → TakesMemory (pair_of replica.old)
+            (room_for replica.old) (side_of history self.old) session (request_of request) }
+        ensures failures { CountsFailures (reply_of result) (D.failures (disk_of replica.old))
+            (D.failures (disk_of replica.new)) }
+    {
+        device_laws();
+        self.serve(alloc, replica, session, request)
+    }
+
+    /// The same, as the replica shows it.
+    fn serve<D: Disk>(
+        &mut self,
+        alloc: Global,
+        replica: &mut Replica<D>,
+        session: u64,
+        request: Request,
+    ) -> Reply
+        ensures answers { (history : History) → Stands replica.old history
+            → Answers replica.old replica.new self.old self.new history session
+            (request_of request) (reply_of result) }
+        ensures halted { (history : History) → IsHalted replica.old
+            → ServesHalted (side_of history self.old) session (request_of request)
+            (answer (side_of history self.new) (reply_of result)) }
+        ensures unchanged { IsHalted replica.old → IsUnchanged replica.old replica.new }
+        ensures lawful { (history : History) → Stands replica.old history ⊎ IsHalted replica.old
+            → IsLawfulReply (reply_of result) }
+        ensures memory { (history : History) → Stands replica.old history ⊎ IsHalted replica.old
+            → reply_of result ≡ Refused why.Memory → TakesMemory (pair_of replica.old)
+            (room_for replica.old) (side_of history self.old) session (request_of request) }
+        ensures failures { CountsFailures (reply_of result) (D.failures (disk_of replica.old))
+            (D.failures (disk_of replica.new)) }
     {
         match request {
             Request::Begin { pair } => self.begin(alloc, replica, session, pair),

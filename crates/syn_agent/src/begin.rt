@@ -1,13 +1,13 @@
 //! A session begins on a side.
 ghost use Rattle.std.specs.Prelude.{◌≡◌};
-ghost use Rattle.syn_disk.specs.Stops.{LeavesOnly};
 ghost use Rattle.syn_headline.specs.Side.{Begin, Refused};
-ghost use Rattle.syn_message.specs.Replies.{reply_of};
-ghost use Rattle.syn_model.specs.Event.{Began};
+ghost use Rattle.syn_message.specs.Replies.{IsLawfulReply, reply_of};
 ghost use Rattle.syn_model.specs.History.{History};
 ghost use Rattle.syn_model.specs.Refusal as why;
-ghost use Rattle.syn_replica.specs.Replica.{IsHalted, KeepsBeforeOrAfter, Stands, disk_of};
-ghost use Rattle.syn_agent.specs.Answers.{Answers, IsUnchanged};
+ghost use Rattle.syn_replica.specs.Replica.{IsHalted, Stands, disk_of, pair_of};
+ghost use Rattle.syn_agent.specs.Agents.{side_of};
+ghost use Rattle.syn_agent.specs.Answers.{Answers, IsUnchanged, room_for};
+ghost use Rattle.syn_agent.specs.Causes.{CountsFailures, TakesMemory};
 
 use crate::agent::Agent;
 use std::alloc::Global;
@@ -29,9 +29,12 @@ impl Agent {
         ensures answers { (history : History) → Stands replica.old history
             → Answers replica.old replica.new self.now self.now history session (Begin pair)
             (reply_of result) }
-        ensures any_moment { (history : History) → Stands replica.old history
-            → LeavesOnly D.moment D.left_since (disk_of replica.old) (disk_of replica.new)
-            (KeepsBeforeOrAfter replica.old history (Began session)) }
+        ensures lawful { IsLawfulReply (reply_of result) }
+        ensures memory { (history : History) → Stands replica.old history
+            → reply_of result ≡ Refused why.Memory → TakesMemory (pair_of replica.old)
+            (room_for replica.old) (side_of history self.now) session (Begin pair) }
+        ensures failures { CountsFailures (reply_of result) (D.failures (disk_of replica.old))
+            (D.failures (disk_of replica.new)) }
         ensures halted { IsHalted replica.old → (reply_of result ≡ Refused why.Halted)
             × IsUnchanged replica.old replica.new }
     {

@@ -4,9 +4,11 @@
 mod agent;
 mod answer;
 mod begin;
+mod laws;
 mod reading;
 mod replace;
 mod staging;
 
 pub use agent::Agent;
+pub use laws::machine_laws;
 pub use staging::{MAX_STAGED, Staging};

@@ -1,13 +1,17 @@
 //! What a side tells of its tree.
-ghost use Rattle.std.specs.Prelude.{◌≡◌, ℕ};
+ghost use Rattle.std.specs.Prelude.{◌≡◌, ◌≢◌, ℕ};
 ghost use Rattle.syn_headline.specs.Side.{Fetch, ListAt, Refused};
-ghost use Rattle.syn_message.specs.Replies.{reply_of};
+ghost use Rattle.syn_message.specs.Replies.{IsLawfulReply, reply_of};
+ghost use Rattle.syn_model.specs.Event.{AreBytes};
 ghost use Rattle.syn_model.specs.History.{History};
 ghost use Rattle.syn_model.specs.Refusal as why;
-ghost use Rattle.syn_replica.specs.Replica.{IsHalted, Stands};
-ghost use Rattle.syn_agent.specs.Answers.{Answers};
+ghost use Rattle.syn_replica.specs.Replica.{IsHalted, Stands, pair_of};
+ghost use Rattle.syn_agent.specs.Agents.{side_of};
+ghost use Rattle.syn_agent.specs.Answers.{Answers, room_for};
+ghost use Rattle.syn_agent.specs.Causes.{TakesMemory};
 
 use crate::agent::Agent;
+use crate::laws::listing_laws;
 use std::alloc::Global;
 use syn_disk::Disk;
 use syn_message::Reply;
@@ -23,8 +27,15 @@ impl Agent {
         ensures answers { (history : History) (session : ℕ) → Stands replica.now history
             → Answers replica.now replica.now self.now self.now history session (ListAt path.now)
             (reply_of result) }
+        ensures lawful { (history : History) → Stands replica.now history
+            → IsLawfulReply (reply_of result) }
+        ensures memory { (history : History) (session : ℕ) → Stands replica.now history
+            → reply_of result ≡ Refused why.Memory → TakesMemory (pair_of replica.now)
+            (room_for replica.now) (side_of history self.now) session (ListAt path.now) }
+        ensures device { reply_of result ≢ Refused why.Device }
         ensures halted { IsHalted replica.now → reply_of result ≡ Refused why.Halted }
     {
+        listing_laws();
         match replica.listing(alloc, path) {
             Ok(Listing { position, entries }) => Reply::Listed { position, entries },
             Err(error) => match error.refusal() {
@@ -51,17 +62,34 @@ impl Agent {
         ensures answers { (history : History) (session : ℕ) → Stands replica.now history
             → Answers replica.now replica.now self.now self.now history session
             (Fetch path.now since offset) (reply_of result) }
+        ensures lawful { (history : History) → Stands replica.now history
+            → IsLawfulReply (reply_of result) }
+        ensures memory { (history : History) (session : ℕ) → Stands replica.now history
+            → reply_of result ≡ Refused why.Memory → TakesMemory (pair_of replica.now)
+            (room_for replica.now) (side_of history self.now) session
+            (Fetch path.now since offset) }
+        ensures device { reply_of result ≢ Refused why.Device }
         ensures halted { IsHalted replica.now → reply_of result ≡ Refused why.Halted }
     {
         match replica.fetch(alloc, path, since, offset as usize) {
-            Ok(piece) => match u32::try_from(piece.total) {
-                Ok(total) => Reply::Piece {
-                    total,
-                    bytes: piece.bytes,
-                },
-                Err(_) => Reply::Refused(Refusal::Memory),
-            },
+            Ok(piece) => {
+                are_bytes(&piece.bytes);
+                match u32::try_from(piece.total) {
+                    Ok(total) => Reply::Piece {
+                        total,
+                        bytes: piece.bytes,
+                    },
+                    Err(_) => Reply::Refused(Refusal::Memory),
+                }
+            }
             Err(error) => Reply::Refused(error.refusal()),
         }
     }
+}
+
+/// Each byte is below 256, which their type says.
+fn are_bytes(bytes: &[u8])
+    ensures { AreBytes bytes.now }
+{
+    let _ = bytes;
 }

@@ -1,20 +1,18 @@
 //! What is staged goes to its path.
-ghost use Rattle.std.specs.Prelude.{◌≡◌, ◌⊎◌, Some, None, IfOk, IfErr, length, option_map, false};
-ghost use Rattle.syn_disk.specs.Stops.{LeavesOnly};
+ghost use Rattle.std.specs.Prelude.{◌≡◌, Some, None, IfOk, IfErr, length, option_map, false};
 ghost use Rattle.syn_headline.specs.Side.{Reads, Refused, Replace, staged_bytes};
 ghost use Rattle.syn_history.specs.Events.{token_of};
-ghost use Rattle.syn_message.specs.Replies.{reply_of};
-ghost use Rattle.syn_model.specs.Event.{Replaced};
+ghost use Rattle.syn_message.specs.Replies.{IsLawfulReply, reply_of};
 ghost use Rattle.syn_model.specs.History.{History, is_old_token};
 ghost use Rattle.syn_model.specs.Refusal.{first_cause};
 ghost use Rattle.syn_model.specs.Refusal as why;
-ghost use Rattle.syn_model.specs.Tree.{Tree};
 ghost use Rattle.syn_refusal.specs.Refusals.{cause_of};
-ghost use Rattle.syn_replica.specs.Replica.{IsHalted, KeepsBeforeOrAfter, Stands, disk_of};
+ghost use Rattle.syn_replica.specs.Replica.{IsHalted, Stands, disk_of, pair_of};
 ghost use Rattle.syn_replica.specs.Steps.{is_done};
 ghost use Rattle.syn_tree.specs.Nodes.{part_of};
-ghost use Rattle.syn_agent.specs.Agents.{staging_of};
-ghost use Rattle.syn_agent.specs.Answers.{Answers, IsUnchanged, staging_causes};
+ghost use Rattle.syn_agent.specs.Agents.{side_of, staging_of};
+ghost use Rattle.syn_agent.specs.Answers.{Answers, IsUnchanged, room_for};
+ghost use Rattle.syn_agent.specs.Causes.{CountsFailures, TakesMemory, staging_causes};
 
 use crate::agent::Agent;
 use std::alloc::Global;
@@ -46,11 +44,13 @@ impl Agent {
         ensures answers { (history : History) → Stands replica.old history
             → Answers replica.old replica.new self.now self.now history token.session
             (Replace token.item path.now since length) (reply_of result) }
-        ensures any_moment { (history : History) → Stands replica.old history
-            → (disk_of replica.new ≡ disk_of replica.old)
-            ⊎ ((new : Tree) × LeavesOnly D.moment D.left_since (disk_of replica.old)
-            (disk_of replica.new) (KeepsBeforeOrAfter replica.old history
-            (Replaced (token_of token) path.now since new))) }
+        ensures lawful { IsLawfulReply (reply_of result) }
+        ensures memory { (history : History) → Stands replica.old history
+            → reply_of result ≡ Refused why.Memory → TakesMemory (pair_of replica.old)
+            (room_for replica.old) (side_of history self.now) token.session
+            (Replace token.item path.now since length) }
+        ensures failures { CountsFailures (reply_of result) (D.failures (disk_of replica.old))
+            (D.failures (disk_of replica.new)) }
         ensures halted { IsHalted replica.old → (reply_of result ≡ Refused why.Halted)
             × IsUnchanged replica.old replica.new }
     {
@@ -79,11 +79,11 @@ impl Agent {
             → is_old_token history (token_of token) ≡ false
             → Answers replica.old replica.new self.now self.now history token.session
             (Replace token.item path.now since length) (reply_of result) }
-        ensures any_moment { (history : History) → Stands replica.old history
-            → (disk_of replica.new ≡ disk_of replica.old)
-            ⊎ ((new : Tree) × LeavesOnly D.moment D.left_since (disk_of replica.old)
-            (disk_of replica.new) (KeepsBeforeOrAfter replica.old history
-            (Replaced (token_of token) path.now since new))) }
+        ensures lawful { IsLawfulReply (reply_of result) }
+        ensures memory { reply_of result ≡ Refused why.Memory
+            → first_cause (staging_causes (staging_of self.now) (token_of token) length) ≡ None }
+        ensures failures { CountsFailures (reply_of result) (D.failures (disk_of replica.old))
+            (D.failures (disk_of replica.new)) }
     {
         let bytes = match self.staged_for(token, length) {
             Ok(bytes) => bytes,

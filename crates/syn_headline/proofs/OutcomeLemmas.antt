@@ -18,7 +18,7 @@ use Rattle.syn_headline.specs.Laws.{PiecesAreUntouched}
 use Rattle.syn_headline.specs.Machine.{Status, Up, Halted, Down}
 use Rattle.syn_headline.specs.SideMachine.{serve_halted, CannotStage, ServesAs}
 use Rattle.syn_model.proofs.HistoryLemmas.{first_cause-none, none-append}
-use Rattle.syn_headline.proofs.SideLemmas.{began_allowed, replaced_allowed}
+use Rattle.syn_headline.proofs.SideLemmas.{IsOfStaged, began_allowed, replaced_allowed, served_so}
 
 pub data Outcome (side : Side) (session : ℕ) : Request → Served → Type 0 where
   refuses : (request : Request) (reason : Refusal) → Outcome side session request (answer side (Refused reason))
@@ -72,7 +72,7 @@ stage_outcome side (Some staging) session item offset bytes e =
     (λ _. choose P (bytes_eq (take (length bytes) (drop offset staging.bytes)) bytes && nat_le (offset + length bytes) (length staging.bytes)) _ _ (λ _. stages_again item offset bytes) (λ _. refuses _ BadStage)))
     (λ _. first_outcome side session item offset bytes))
 
-with_outcome : (has_room : Event → Bool) (side : Side) (session item : ℕ) (path : Path) (since size : ℕ) (read : Option Tree) → IsLawfulToken (token_of session item) × IsPath path × (since < 2 ^ 64) → Reads (staged_bytes side.staging) read →
+with_outcome : (has_room : Event → Bool) (side : Side) (session item : ℕ) (path : Path) (since size : ℕ) (read : Option Tree) → IsLawfulToken (token_of session item) × IsPath path × (since < 2 ^ 64) → IsOfStaged (staged_bytes side.staging) read →
     option_map_or (λ last. is_same_token last (token_of session item)) (last_token side.history) false ≡ false → is_dead_token side (token_of session item) ≡ false →
     is_staged side.staging (token_of session item) ≡ true → length (staged_bytes side.staging) ≡ size →
     Outcome side session (Replace item path since size) (replace_with has_room side (token_of session item) path since read)
@@ -91,7 +91,7 @@ pieces_are_untouched pair has_room side session path since offset served total b
     unless (λ served. served.reply ≡ Piece total bytes → (since ≤ length side.history) × (is_quiet side.history since (length side.history) path ≡ true)) side (first_cause (since_causes side.history path since)) _
     (λ why e. absurd (let x : Refused why ≡ Piece total bytes = e in cc)) (λ e _. since_holds side.history path since e) (sym (ap (λ s. s.reply) s.2) ∙ is)
 
-serve_outcome : (pair : ℕ) (has_room : Event → Bool) (side : Side) (session : ℕ) (request : Request) (read : Option Tree) → Reads (staged_bytes side.staging) read → IsLawfulRequest session request → Outcome side session request (serve pair has_room read side session request)
+serve_outcome : (pair : ℕ) (has_room : Event → Bool) (side : Side) (session : ℕ) (request : Request) (read : Option Tree) → IsOfStaged (staged_bytes side.staging) read → IsLawfulRequest session request → Outcome side session request (serve pair has_room read side session request)
 serve_outcome pair has_room side session (ListAt path) read reads lawful =
     elim (is_directory (tree_of side.history) path) as (λ b. is_directory (tree_of side.history) path ≡ b → Outcome side session (ListAt path) (answer side (if b then Listed (length side.history) (children (mark (tree_of side.history)) path) else NotDir (length side.history)))) [ true ↦ λ there. lists path there | false ↦ λ none. lists_none path none ] refl
 serve_outcome pair has_room side session (Fetch path since offset) read reads lawful =
@@ -116,7 +116,9 @@ serve_outcome pair has_room side session (Replace item path since size) read rea
 
 -- what a side answers while no device fails
 pub outcome : (pair : ℕ) (has_room : Event → Bool) (side : Side) (session : ℕ) (request : Request) (served : Served) → IsLawfulRequest session request → Serves pair has_room side session request served → Outcome side session request served
-outcome pair has_room side session request served lawful (inl s) = subst (Outcome side session request) (sym s.2) (serve_outcome pair has_room side session request s.0 s.1 lawful)
+outcome pair has_room side session request served lawful (inl s) =
+    let so = served_so pair has_room side session request served s.0 s.1 s.2 in
+    subst (Outcome side session request) (sym so.2) (serve_outcome pair has_room side session request so.0 so.1 lawful)
 outcome pair has_room side session request served lawful (inr none) = subst (Outcome side session request) (sym none) (refuses request why.Memory)
 
 pub halted_outcome : (side : Side) (session : ℕ) (request : Request) → Outcome side session request (serve_halted side session request)

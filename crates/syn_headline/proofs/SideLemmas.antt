@@ -1,5 +1,5 @@
 -- A side adds only allowed events.
-use Rattle.std.proofs.Common.{◌≡◌, ◌<◌, ◌^◌, ℕ, Bool, true, false, not, ◌||◌, ◌&&◌, ◌==◌, nat_lt, nat_le, [], ◌∷◌, ◌++◌, length, take, drop, bytes_eq, if◌then◌else◌, refl, sym, ap, ◌∙◌, subst, Option, Some, None, inl, inr, arith, ◌+◌}
+use Rattle.std.proofs.Common.{◌≡◌, ◌<◌, ◌^◌, ℕ, Bool, true, false, not, ◌||◌, ◌&&◌, ◌==◌, nat_lt, nat_le, ◌⊎◌, [], ◌∷◌, ◌++◌, length, take, drop, bytes_eq, if◌then◌else◌, refl, sym, ap, ◌∙◌, subst, Option, Some, None, inl, inr, arith, ◌+◌}
 use Rattle.std.specs.Option.{option_map_or}
 use Rattle.std.proofs.lemmas.Bool.Decides.{nat_tests}
 use Rattle.std.proofs.lemmas.Bool.{or_from, or_parts}
@@ -9,9 +9,10 @@ use Rattle.syn_model.specs.Refusal.{Refusal, first_cause, OldSession, WrongPair,
 use Rattle.syn_model.specs.Event.{Token, IsLawfulToken, is_below, is_same_token, Event, Began, Replaced}
 use Rattle.syn_model.specs.History.{History, tree_of, IsAllowed, last_session, last_token, position_causes}
 use Rattle.syn_model.specs.Standing.{place_causes, full_causes}
-use Rattle.syn_headline.specs.Side.{Side, Served, Staging, Request, Begin, ListAt, Fetch, Stage, Replace, IsLawfulRequest, unless_refused, stage, stage_first, replace_with, replace_causes, since_causes, room_causes, is_dead_token, serve, token_of, Reads, is_staged, staged_bytes}
-use Rattle.syn_headline.specs.Laws.{AddsAllowed, ServesAllowed}
+use Rattle.syn_headline.specs.Side.{Side, Served, Staging, Request, Begin, ListAt, Fetch, Stage, Replace, IsLawfulRequest, unless_refused, stage, stage_first, replace_with, replace_causes, since_causes, room_causes, is_dead_token, serve, token_of, Reads, IsUnread, is_staged, staged_bytes}
+use Rattle.syn_headline.specs.Laws.{AddsAllowed, ServesAllowed, ServesByReading}
 use Rattle.syn_model.proofs.HistoryLemmas.{first_cause-none, none-append, append-none}
+use Rattle.syn_model.proofs.SpellingLemmas.{spelling_tells}
 
 -- what is answered unless a cause stands adds what it adds where none stands
 unless : (old : History) (side : Side) (why : Option Refusal) (served : Served) → side.history ≡ old → (why ≡ None → AddsAllowed old served.side.history) → AddsAllowed old (unless_refused side why served).side.history
@@ -72,14 +73,19 @@ stage_keeps side (Some staging) token offset bytes =
     choose side.history (bytes_eq (take (length bytes) (drop offset staging.bytes)) bytes && nat_le (offset + length bytes) (length staging.bytes)) _ _ (λ _. inl refl) (λ _. inl refl)))
     (λ _. first_keeps side token offset bytes))
 
-with_keeps : (has_room : Event → Bool) (side : Side) (token : Token) (path : Path) (since : ℕ) (read : Option Tree) (bytes : Bytes) → IsLawfulToken token × IsPath path × (since < 2 ^ 64) → Reads bytes read →
+-- a part that is read is the staged one
+abbrev pub IsOfStaged : Bytes → Option Tree → Type 0
+IsOfStaged bytes None = Unit {0}
+IsOfStaged bytes (Some tree) = Reads bytes (Some tree)
+
+with_keeps : (has_room : Event → Bool) (side : Side) (token : Token) (path : Path) (since : ℕ) (read : Option Tree) (bytes : Bytes) → IsLawfulToken token × IsPath path × (since < 2 ^ 64) → IsOfStaged bytes read →
     option_map_or (λ last. is_same_token last token) (last_token side.history) false ≡ false → is_dead_token side token ≡ false → AddsAllowed side.history (replace_with has_room side token path since read).side.history
 with_keeps has_room side token path since None bytes lawful reads fresh alive = inl refl
 with_keeps has_room side token path since (Some new) bytes lawful reads fresh alive =
     unless side.history side (first_cause (replace_causes has_room side token path since new)) _ refl (λ e.
     inr (Replaced token path since new, replaced_allowed has_room side token path since new lawful reads.0 fresh alive e, refl))
 
-by_request : (pair : ℕ) (has_room : Event → Bool) (side : Side) (session : ℕ) (request : Request) (read : Option Tree) → Reads (staged_bytes side.staging) read → IsLawfulRequest session request → AddsAllowed side.history (serve pair has_room read side session request).side.history
+by_request : (pair : ℕ) (has_room : Event → Bool) (side : Side) (session : ℕ) (request : Request) (read : Option Tree) → IsOfStaged (staged_bytes side.staging) read → IsLawfulRequest session request → AddsAllowed side.history (serve pair has_room read side session request).side.history
 by_request pair has_room side session (ListAt path) read reads lawful = inl refl
 by_request pair has_room side session (Fetch path since offset) read reads lawful = unless side.history side _ _ refl (λ _. inl refl)
 by_request pair has_room side session (Stage item offset bytes) read reads lawful = stage_keeps side side.staging (token_of session item) offset bytes
@@ -95,8 +101,34 @@ by_request pair has_room side session (Replace item path since size) read reads 
     unless side.history side _ _ refl (λ e.
     with_keeps has_room side token path since read (staged_bytes side.staging) ((lawful.0, lawful.1.0), lawful.1.1, lawful.1.2) reads fresh (first_cause-none (is_dead_token side token, OldSession) ((not (is_staged side.staging token), NotStaged) ∷ (not (length (staged_bytes side.staging) == size), BadStage) ∷ []) e).0))
 
+of_staged : (bytes : Bytes) (read : Option Tree) → Reads bytes read → IsOfStaged bytes read
+of_staged bytes None reads = tt
+of_staged bytes (Some tree) reads = reads
+
+-- what is served by the staged part, or by none where it plays no part
+pub served_so : (pair : ℕ) (has_room : Event → Bool) (side : Side) (session : ℕ) (request : Request) (served : Served) (read : Option Tree) →
+    Reads (staged_bytes side.staging) read ⊎ IsUnread pair has_room side session request → served ≡ serve pair has_room read side session request →
+    (by : Option Tree) × IsOfStaged (staged_bytes side.staging) by × (served ≡ serve pair has_room by side session request)
+served_so pair has_room side session request served read (inl reads) is = (read, of_staged (staged_bytes side.staging) read reads, is)
+served_so pair has_room side session request served read (inr unread) is = (None, tt, is ∙ unread read None)
+
 -- a step of a side adds one allowed event at most
 pub serves_allowed : ServesAllowed
 serves_allowed pair has_room side session request served lawful (inr none) = inl (ap (λ s. s.side.history) none)
 serves_allowed pair has_room side session request served lawful (inl s) =
-    subst (λ x. AddsAllowed side.history x.side.history) (sym s.2) (by_request pair has_room side session request s.0 s.1 lawful)
+    let so = served_so pair has_room side session request served s.0 s.1 s.2 in
+    subst (λ x. AddsAllowed side.history x.side.history) (sym so.2) (by_request pair has_room side session request so.0 so.1 lawful)
+
+-- two readings of the same bytes are one
+one_reading : (bytes : Bytes) (a b : Option Tree) → Reads bytes a → Reads bytes b → a ≡ b
+one_reading bytes None None ra rb = refl
+one_reading bytes None (Some u) ra rb = absurd (ra u rb.0 rb.1 rb.2 rb.3)
+one_reading bytes (Some t) None ra rb = absurd (rb t ra.0 ra.1 ra.2 ra.3)
+one_reading bytes (Some t) (Some u) ra rb = ap (λ x. Some x) (spelling_tells t u [] [] ra.0 rb.0 ra.1 rb.1 (ap (λ s. s ++ []) (ra.3 ∙ sym rb.3))).0
+
+-- so a step is the one that the staged bytes spell
+pub serves_by_reading : ServesByReading
+serves_by_reading pair has_room side session request served read reads (inr none) = inr none
+serves_by_reading pair has_room side session request served read reads (inl (other, inl also, is)) =
+    inl (is ∙ ap (λ r. serve pair has_room r side session request) (one_reading (staged_bytes side.staging) other read also reads))
+serves_by_reading pair has_room side session request served read reads (inl (other, inr unread, is)) = inl (is ∙ unread other read)

@@ -1,5 +1,5 @@
 -- What follows from the definitions of a side's step, for the other crates to use.
-use Rattle.std.specs.Prelude.{ℕ, ◌≤◌, ◌≡◌, ◌⊎◌, Bool, true, false, [], ◌∷◌, ◌++◌, length, Some}
+use Rattle.std.specs.Prelude.{ℕ, ◌≤◌, ◌≡◌, ◌⊎◌, Bool, true, false, [], ◌∷◌, ◌++◌, length, Some, Option}
 use Rattle.syn_model.specs.History.{History, IsHistory, IsAllowed, last_token, is_quiet}
 use Rattle.std.specs.Option.{option_map_or}
 use Rattle.syn_model.specs.Path.{Bytes, Path}
@@ -8,7 +8,7 @@ use Rattle.syn_model.specs.Refusal.{OldSession}
 use Rattle.syn_model.specs.Event.{Token, is_same_token, Event, Replaced}
 use Rattle.syn_headline.specs.Side.{Side, Served, Request, Fetch, Replace, Piece, Done, Refused}
 use Rattle.syn_headline.specs.Side.{Serves, IsOutOfMemory, IsLawfulRequest, answer, token_of}
-use Rattle.syn_headline.specs.Side.{is_dead_token}
+use Rattle.syn_headline.specs.Side.{Reads, is_dead_token, serve, staged_bytes}
 
 -- a step of a side leaves its history, or adds one event that is allowed after it
 abbrev pub AddsAllowed : History → History → Type 0
@@ -20,6 +20,13 @@ ServesAllowed = (pair : ℕ) (has_room : Event → Bool) (side : Side) (session 
     (served : Served) →
     IsLawfulRequest session request → Serves pair has_room side session request served →
     AddsAllowed side.history served.side.history
+
+-- what is staged has at most one reading, and the step is the one by that
+abbrev pub ServesByReading : Type 0
+ServesByReading = (pair : ℕ) (has_room : Event → Bool) (side : Side) (session : ℕ)
+    (request : Request) (served : Served) (read : Option Tree) →
+    Reads (staged_bytes side.staging) read → Serves pair has_room side session request served →
+    (served ≡ serve pair has_room read side session request) ⊎ IsOutOfMemory side served
 
 -- a fetch is answered with a piece only where nothing touched the path from its position up to now
 abbrev pub PiecesAreUntouched : Type 0

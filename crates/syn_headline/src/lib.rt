@@ -2,7 +2,7 @@
 #![tactic(auto)]
 
 ghost use Rattle.syn_headline.specs.Laws.{ServesAllowed, PiecesAreUntouched, RepeatsAreDone};
-ghost use Rattle.syn_headline.specs.Laws.{LaterAreOld, DeadAreOld};
+ghost use Rattle.syn_headline.specs.Laws.{LaterAreOld, DeadAreOld, ServesByReading};
 ghost use Rattle.syn_headline.specs.Headline.{formatted, IsPair, RunsStand, OfEachRun};
 ghost use Rattle.syn_headline.specs.Headline.{EachReplacementIsLegal, EachTokenOnce};
 ghost use Rattle.syn_headline.specs.Headline.{EachEntryWasHeld, LeavesPair, LogsPlans, Owes};
@@ -10,10 +10,12 @@ ghost use Rattle.syn_headline.specs.Headline.{CompleteSessionsSynchronize};
 ghost use Rattle.syn_headline.specs.Headline.{CompleteSessionsReconcile, ReportsItsConflicts};
 ghost use Rattle.syn_headline.specs.Headline.{CountsItsItems, CarriedIsMarked, HeldIsMarked};
 
-/// A step of a side leaves its history or adds one allowed event. It answers a fetch only where
-/// nothing touched the path since its position, and a repeat as done or as old.
+/// A step of a side leaves its history or adds one allowed event, and is the one that its staged
+/// bytes spell. It answers a fetch only where nothing touched the path since its position, and a
+/// repeat as done or as old.
 pub fn side_laws()
     ensures serves { ServesAllowed }
+    ensures reading { ServesByReading }
     ensures pieces { PiecesAreUntouched }
     ensures repeats { RepeatsAreDone }
     ensures later { LaterAreOld }

@@ -15,9 +15,9 @@ use Rattle.syn_propagate.proofs.CarryLemmas.{is_staged, last, new_fetch, new_rep
 use Rattle.syn_propagate.proofs.CarryLemmas.{so_far, staged_kept, told, untold, whole_kept}
 use Rattle.syn_propagate.specs.Carrying.{Exchanges, IsStagedTo, IsUnreplaced, IsWhole, WasCarried}
 use Rattle.syn_propagate.specs.Carrying.{IsEarlier, WasFetched, piece, source_of, target_of}
-use Rattle.syn_propagate.specs.Transfers.{FollowsAny}
-use Rattle.syn_propagate.specs.Transfers.{Asks, HasReached, HasStagedTo, WaitsForStage}
-use Rattle.syn_propagate.specs.Transfers.{WaitsForReplacement, with_answer}
+use Rattle.syn_propagate.specs.Transfers.{Asks, FollowsAny, with_answer}
+use Rattle.syn_propagate.specs.inner.Progresses.{HasReached, HasStagedTo, WaitsForStage}
+use Rattle.syn_propagate.specs.inner.Progresses.{WaitsForReplacement}
 use Rattle.syn_propagate.specs.declared.carriage.Carriage.{Carriage}
 use Rattle.syn_propagate.specs.Refusals.{refusal_of}
 use Rattle.syn_propagate.specs.declared.error.TransferError.{TransferError}

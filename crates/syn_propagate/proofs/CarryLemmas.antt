@@ -19,7 +19,8 @@ use Rattle.syn_headline.specs.Side.{Piece}
 use Rattle.syn_model.specs.Path.{Bytes, Path, path_cmp}
 use Rattle.syn_propagate.specs.Carrying.{Exchanges, AreEarlier, IsEarlier, IsNew, IsStagedTo}
 use Rattle.syn_propagate.specs.Carrying.{IsWhole, WasFetched, WasStaged, nothing, piece}
-use Rattle.syn_propagate.specs.Transfers.{HasCome, HasStaged, with_answer}
+use Rattle.syn_propagate.specs.Transfers.{with_answer}
+use Rattle.syn_propagate.specs.inner.Progresses.{HasCome, HasStaged}
 use Rattle.syn_propagate.specs.declared.carriage.Carriage.{Carriage}
 
 -- a path is itself in path order

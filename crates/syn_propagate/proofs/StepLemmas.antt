@@ -12,9 +12,9 @@ use Rattle.syn_model.specs.Refusal.{Refusal}
 use Rattle.syn_propagate.proofs.AskLemmas.{carried, goes_on, staged}
 use Rattle.syn_propagate.specs.Carrying.{Exchanges, WasCarried, source_of}
 use Rattle.syn_propagate.specs.Refusals.{refusal_of}
-use Rattle.syn_propagate.specs.Transfers.{Follows, FollowsAny, HasReached, HasStagedTo}
-use Rattle.syn_propagate.specs.Transfers.{WaitsForPiece}
-use Rattle.syn_propagate.specs.Transfers.{WaitsForReplacement, WaitsForStage, with_answer}
+use Rattle.syn_propagate.specs.Transfers.{Follows, FollowsAny, with_answer}
+use Rattle.syn_propagate.specs.inner.Progresses.{HasReached, HasStagedTo, WaitsForPiece}
+use Rattle.syn_propagate.specs.inner.Progresses.{WaitsForReplacement, WaitsForStage}
 use Rattle.syn_propagate.specs.declared.carriage.Carriage.{Carriage}
 use Rattle.syn_propagate.specs.declared.error.TransferError.{TransferError}
 use Rattle.syn_propagate.specs.declared.error.TransferError.TheVariants.{Memory}

@@ -1,113 +1,27 @@
--- How far a transfer has come, and what it answers.
-use Rattle.std.specs.Prelude.{◌≡◌, ◌+◌, ◌<◌, ◌≤◌, ℕ, suc, [], ◌∷◌, ◌++◌, length}
-use Rattle.std.specs.Prelude.{Option, Some, None, IsSome, Result, Ok, Err}
+-- What a transfer asks for next, and what it answers.
+use Rattle.std.specs.Prelude.{◌≡◌, ◌⊎◌, ◌++◌, ℕ, [], ◌∷◌, Option, None, Some, IsSome, Result, Ok}
+use Rattle.std.specs.Prelude.{Err}
 use Rattle.syn_headline.specs.Network.{Which}
-use Rattle.syn_headline.specs.Session.{first_total}
-use Rattle.syn_headline.specs.Side.{Request, Fetch, Stage, Replace, IsLawfulBody}
+use Rattle.syn_headline.specs.Side.{Request, IsLawfulBody}
 use Rattle.syn_headline.specs.Side as model
 use Rattle.syn_message.specs.Requests.{request_of}
 use Rattle.syn_message.specs.Sides.{which_of}
 use Rattle.syn_message.specs.declared.reply.Reply.{Reply}
 use Rattle.syn_message.specs.declared.reply.Reply.TheVariants as has
-use Rattle.syn_model.specs.Path.{Bytes}
-use Rattle.syn_propagate.specs.Carrying.{Exchanges, AreEarlier, IsNew, IsWhole, MayAsk}
-use Rattle.syn_propagate.specs.Carrying.{WasCarried, WasFetched, WasStaged, source_of, target_of}
-use Rattle.syn_propagate.specs.declared.carriage.Carriage.{Carriage}
+use Rattle.syn_propagate.specs.Carrying.{Exchanges, IsNew, MayAsk, WasCarried}
 use Rattle.syn_propagate.specs.declared.error.TransferError.{TransferError}
 use Rattle.syn_propagate.specs.declared.error.TransferError.TheVariants.{BadMessage}
 use Rattle.syn_propagate.specs.declared.next.Next.{Next}
 use Rattle.syn_propagate.specs.declared.next.Next.TheVariants.{Ask, Done, Refused}
-use Rattle.syn_propagate.specs.declared.transfer.Progress.{Progress}
-use Rattle.syn_propagate.specs.declared.transfer.Progress.TheVariants.{Ready, Fetching, Staging}
-use Rattle.syn_propagate.specs.declared.transfer.Progress.TheVariants.{Replacing, Over}
 use Rattle.syn_propagate.specs.declared.transfer.Transfer.{Transfer}
+pub use Rattle.syn_propagate.specs.inner.Progresses.{IsOver, IsReady, IsWaiting, WaitsFor}
+pub use Rattle.syn_propagate.specs.inner.Progresses.{carriage_of}
 use Rattle.syn_refusal.specs.Refusals.{cause_of}
-
-abbrev pub carriage_of : Transfer → Carriage
-carriage_of transfer = transfer.carriage
-
--- nothing is asked yet
-abbrev pub IsReady : Transfer → Type 0
-IsReady transfer = transfer.progress ≡ Ready
-
--- it is done or was refused, and asks for nothing more
-abbrev pub IsOver : Transfer → Type 0
-IsOver transfer = transfer.progress ≡ Over
-
--- so many bytes of it were staged
-pub record HasStaged (c : Carriage) (taken : Exchanges) (total offset : ℕ) : Type 0 where
-  pub bytes : Bytes
-  pub staged : WasStaged c taken total bytes
-  pub count : length bytes ≡ offset
-
--- once a piece told the length of the whole, there is more to fetch
-abbrev pub HasCome : Carriage → Exchanges → Option ℕ → ℕ → Type 0
-HasCome c taken None offset = offset ≡ 0
-HasCome c taken (Some total) offset = (offset < total) × HasStaged c taken total offset
-
--- what stands before the offset has come, and nothing behind it was asked for
-pub record HasReached (c : Carriage) (taken : Exchanges) (offset : ℕ) (total : Option ℕ)
-    : Type 0 where
-  pub told : first_total taken c.path ≡ total
-  pub come : HasCome c taken total offset
-  pub earlier : AreEarlier c taken offset offset
-
--- it waits for a piece
-pub record WaitsForPiece (c : Carriage) (taken : Exchanges) (offset : ℕ) (total : Option ℕ)
-    (to : Which) (request : Request) : Type 0 where
-  pub of : to ≡ source_of c
-  pub asked : request ≡ Fetch c.path c.source_since offset
-  pub reached : HasReached c taken offset total
-
--- a piece is staged that ends there
-pub record HasStagedTo (c : Carriage) (taken : Exchanges) (end total : ℕ) : Type 0 where
-  pub within : end ≤ total
-  pub told : first_total taken c.path ≡ Some total
-  pub come : HasStaged c taken total end
-  pub offset : ℕ
-  pub bytes : Bytes
-  pub fetched : WasFetched c taken total offset bytes
-  pub earlier : AreEarlier c taken end end
-
--- it waits until a piece is staged, which ends there
-pub record WaitsForStage (c : Carriage) (taken : Exchanges) (end total : ℕ) (to : Which)
-    (request : Request) : Type 0 where
-  pub offset : ℕ
-  pub bytes : Bytes
-  pub of : to ≡ target_of c
-  pub asked : request ≡ Stage c.item offset bytes
-  pub some : 1 ≤ length bytes
-  pub ends : end ≡ offset + length bytes
-  pub within : end ≤ total
-  pub told : first_total taken c.path ≡ Some total
-  pub come : HasStaged c taken total offset
-  pub fetched : WasFetched c taken total offset bytes
-  pub earlier : AreEarlier c taken (suc offset) offset
-
--- it waits until the whole is put
-pub record WaitsForReplacement (c : Carriage) (taken : Exchanges) (to : Which)
-    (request : Request) : Type 0 where
-  pub total : ℕ
-  pub of : to ≡ target_of c
-  pub asked : request ≡ Replace c.item c.path c.target_since total
-  pub whole : IsWhole c taken total
-
-abbrev pub WaitsAt : Carriage → Exchanges → Progress → Which → Request → Type 0
-WaitsAt c taken Ready to request = ⊥
-WaitsAt c taken (Fetching offset total) to request = WaitsForPiece c taken offset total to request
-WaitsAt c taken (Staging end total) to request = WaitsForStage c taken end total to request
-WaitsAt c taken Replacing to request = WaitsForReplacement c taken to request
-WaitsAt c taken Over to request = ⊥
-
--- it has come so far by these exchanges, and waits for the answer to this request
-abbrev pub WaitsFor : Transfer → Exchanges → Which → Request → Type 0
-WaitsFor transfer taken to request =
-    WaitsAt transfer.carriage taken transfer.progress to request
 
 -- it asks for what may be asked, for the first time, and waits for the answer
 pub record Asks (transfer : Transfer) (taken : Exchanges) (to : Which) (request : Request)
     : Type 0 where
-  pub may : MayAsk transfer.carriage taken to request
+  pub may : MayAsk (carriage_of transfer) taken to request
   pub new : IsNew taken request
   pub lawful : IsLawfulBody request
   pub waits : WaitsFor transfer taken to request
@@ -116,7 +30,7 @@ pub record Asks (transfer : Transfer) (taken : Exchanges) (to : Which) (request 
 abbrev pub Follows : Transfer → Exchanges → model.Reply → Next → Type 0
 Follows transfer taken reply (Ask side request) =
     Asks transfer taken (which_of side) (request_of request)
-Follows transfer taken reply Done = WasCarried transfer.carriage taken
+Follows transfer taken reply Done = WasCarried (carriage_of transfer) taken
 Follows transfer taken reply (Refused why) = reply ≡ model.Refused (cause_of why)
 
 -- whatever was answered
@@ -140,12 +54,14 @@ or_refused (has.Refused why) = Ok (Refused why)
 or_refused _ = Err BadMessage
 
 -- nothing was asked for what was answered, or nothing was answered
-abbrev pub IsMisfitAt : Progress → Option Reply → Type 0
-IsMisfitAt Ready reply = IsSome reply
-IsMisfitAt (Fetching offset total) reply = reply ≡ None
-IsMisfitAt (Staging end total) reply = reply ≡ None
-IsMisfitAt Replacing reply = reply ≡ None
-IsMisfitAt Over reply = Unit {0}
-
 abbrev pub IsMisfit : Transfer → Option Reply → Type 0
-IsMisfit transfer reply = IsMisfitAt transfer.progress reply
+IsMisfit transfer reply = IsOver transfer ⊎ (IsReady transfer × IsSome reply)
+    ⊎ (IsWaiting transfer × (reply ≡ None))
+
+-- What takes memory to answer: the first request, and what follows a piece that is staged, or one
+-- without bytes. A piece is handed on, and a refusal and the end are passed on, without any
+abbrev pub TakesMemory : Option Reply → Type 0
+TakesMemory None = Unit {0}
+TakesMemory (Some has.Staged) = Unit {0}
+TakesMemory (Some (has.Piece total bytes)) = bytes.items ≡ []
+TakesMemory _ = ⊥

@@ -1,5 +1,5 @@
 //! A transfer, from what was answered last to what is asked next.
-ghost use Rattle.std.specs.Prelude.{◌≡◌, ◌≢◌, ◌⊎◌, ℕ, Some, None, Err, Ok, MatchResult};
+ghost use Rattle.std.specs.Prelude.{◌≡◌, ◌≢◌, ◌⊎◌, ℕ, [], Some, None, Err, Ok, MatchResult};
 ghost use Rattle.syn_headline.specs.Network.{Which};
 ghost use Rattle.syn_headline.specs.Session.{fault_of, fits_piece};
 ghost use Rattle.syn_headline.specs.Side.{Request as Asked, Fetch, Piece};
@@ -41,9 +41,10 @@ pub struct Transfer {
 }
 
 impl Transfer {
-    ghost use Rattle.syn_propagate.specs.Transfers.{Follows, FollowsAny, HasReached, HasStagedTo};
-    ghost use Rattle.syn_propagate.specs.Transfers.{IsMisfit, IsOver, IsOverUnlessAsking, IsReady};
+    ghost use Rattle.syn_propagate.specs.Transfers.{Follows, FollowsAny, IsMisfit, IsOver};
+    ghost use Rattle.syn_propagate.specs.Transfers.{IsOverUnlessAsking, IsReady, TakesMemory};
     ghost use Rattle.syn_propagate.specs.Transfers.{WaitsFor, carriage_of, with_answer};
+    ghost use Rattle.syn_propagate.specs.inner.Progresses.{HasReached, HasStagedTo};
 
     /// A transfer that has asked for nothing yet.
     pub fn new(carriage: Carriage) -> Transfer
@@ -81,6 +82,9 @@ impl Transfer {
         ensures refused { (taken : Exchanges) (to : Which) (request : Asked) (why : Why)
             → reply ≡ Some (answer.Refused why) → WaitsFor self.old taken to request
             → result ≡ Ok (Next.Refused why) }
+
+        // Memory is refused only where what comes next takes some.
+        ensures memory { result ≡ Err TransferError.Memory → TakesMemory reply }
 
         // What answers nothing that was asked is refused, and a transfer that is over asks nothing.
         ensures misfit { IsMisfit self.old reply → result ≡ Err TransferError.BadMessage }
@@ -147,6 +151,7 @@ impl Transfer {
             (with_answer taken (source_of c) number request answer) next)
             (λ e. (e ≡ TransferError.Memory)
             ⊎ (fault_of taken (source_of c) request answer ≡ Some (refusal_of e))) }
+        ensures memory { result ≡ Err TransferError.Memory → bytes.items ≡ [] }
         ensures over { IsOver self.old
             → MatchResult result (IsOverUnlessAsking self.new) (λ _. IsOver self.new) }
     {

@@ -113,7 +113,7 @@ failed_world = record halted_right { coordinator = record halted_right.coordinat
 fails_it : Steps armed_right (Deliver 12) halted_right
 unfolding event_then armed_right halted_right
 fails_it = to_side Right 1 3 (Replace 0 a_path 1 6) halted_right.right (Some (Refused Device)) []
-    (adds (answer right_done Done) event_then halted_right.right.journal [] refl (inl (Some one, reads_one, done_is)) refl
+    (adds (answer right_done Done) event_then halted_right.right.journal [] refl (inl (Some one, inl reads_one, done_is)) refl
     (unwritten Halted unarmed 1 refl (inl refl) (one_fails 1 (omega arith) (inr (omega arith)) (inl refl))))
 
 ends_failed : Steps halted_right (Deliver 13) failed_world

@@ -101,7 +101,7 @@ replacement_allowed =
 cuts_it : Steps armed_right (Deliver 12) cut_right
 unfolding armed_right cut_right
 cuts_it = to_side Right 1 3 (Replace 0 a_path 1 6) cut_right.right None []
-    (adds (answer right_done Done) replacement cut_right.right.journal [] refl (inl (Some one, reads_one, done_is)) refl
+    (adds (answer right_done Done) replacement cut_right.right.journal [] refl (inl (Some one, inl reads_one, done_is)) refl
     (unwritten Down unarmed 0 refl (inr refl) (one_stops 1 0 (omega arith) (inl refl) refl (omega arith) (λ e. absurd (omega (arith, e))))))
 
 pub replacement_is_recovered : ReplacementIsRecovered

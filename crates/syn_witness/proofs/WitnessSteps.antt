@@ -69,7 +69,7 @@ pub says_so : (old : World) (which : Which) (session number : ℕ) (request : Re
     answer side reply ≡ serve old.pair (has_room_for old.pair (side_of old which)) read (side_now (side_of old which)) session request → side.history ≡ (side_of old which).journal.value →
     Delivers old (Some (Asks which session number request)) (side_goes old which (record (side_of old which) { staging = side.staging }) (Answers which session number reply ∷ []) [])
 says_so old which session number request read side reply up reads is same = to_side which session number request (record (side_of old which) { staging = side.staging }) (Some reply) []
-    (answers (answer side reply) (subst (λ status. ServesAs status old.pair (has_room_for old.pair (side_of old which)) (side_now (side_of old which)) session request (answer side reply)) (sym up) (inl (read, reads, is))) same)
+    (answers (answer side reply) (subst (λ status. ServesAs status old.pair (has_room_for old.pair (side_of old which)) (side_now (side_of old which)) session request (answer side reply)) (sym up) (inl (read, inl reads, is))) same)
 
 -- a side that is up answers, and adds an event
 abbrev pub with_event : World → Which → Event → SideMachine
@@ -79,7 +79,7 @@ pub adds_so : (old : World) (which : Which) (session number : ℕ) (request : Re
     answer side reply ≡ serve old.pair (has_room_for old.pair (side_of old which)) read (side_now (side_of old which)) session request → side.history ≡ (side_of old which).journal.value ++ event ∷ [] →
     Delivers old (Some (Asks which session number request)) (side_goes old which (with_event old which event) (says which session number (said (side_of old which).journal.status reply)) (event ∷ []))
 adds_so old which session number request read side reply event up arms reads is more = to_side which session number request (with_event old which event) (said (side_of old which).journal.status reply) (event ∷ [])
-    (adds (answer side reply) event (with_record (side_layout old.pair) (side_of old which).journal event unarmed) (event ∷ []) up (inl (read, reads, is)) more
+    (adds (answer side reply) event (with_record (side_layout old.pair) (side_of old which).journal event unarmed) (event ∷ []) up (inl (read, inl reads, is)) more
     (written unarmed refl (subst (λ arms. Meets arms 4 Up unarmed 0) (sym arms) (meets_unarmed 4))))
 
 -- a listing of a directory

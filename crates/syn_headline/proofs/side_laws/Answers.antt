@@ -1,10 +1,13 @@
-use Rattle.syn_headline.proofs.SideLemmas.{serves_allowed}
+use Rattle.syn_headline.proofs.SideLemmas.{serves_allowed, serves_by_reading}
 use Rattle.syn_headline.proofs.RepeatLemmas.{repeats_are_done, later_are_old, dead_are_old}
 use Rattle.syn_headline.proofs.OutcomeLemmas.{pieces_are_untouched}
 use Rattle.syn_headline.proofs.side_laws.Goals as goal
 
 pub returns-clause-serves : goal.returns-clause-serves
 returns-clause-serves c = serves_allowed
+
+pub returns-clause-reading : goal.returns-clause-reading
+returns-clause-reading c = serves_by_reading
 
 pub returns-clause-repeats : goal.returns-clause-repeats
 returns-clause-repeats c = repeats_are_done

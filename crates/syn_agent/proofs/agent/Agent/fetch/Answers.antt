@@ -1,9 +1,11 @@
-use Rattle.std.proofs.Common.{◌∙◌, inl, inr, refl, subst, sym}
+use Rattle.std.proofs.Common.{◌∙◌, ◌≤◌, ℕ, arith, inl, inr, length, refl, subst, sym}
+use Rattle.std.proofs.lemmas.List.{length-take}
 use Rattle.syn_agent.proofs.CauseLemmas.{none_of}
 use Rattle.syn_agent.proofs.ReadingLemmas.{is_piece, is_refused, no_memory}
 use Rattle.syn_agent.proofs.agent.Agent.fetch.Goals as goal
 use Rattle.syn_agent.specs.Answers.{Answers}
 use Rattle.syn_headline.specs.Side.{Fetch, Refused}
+use Rattle.syn_model.specs.Event.{AreBytes}
 use Rattle.syn_model.specs.Refusal as why
 
 pub returns-in-Ok-try_from-clause-answers : goal.returns-in-Ok-try_from-clause-answers
@@ -31,3 +33,14 @@ returns-in-Err-clause-answers g c history session stands =
       | inr some ↦ is_refused c.args.replica.now c.args.self.now history session stands
           c.args.path.now c.args.since c.args.offset _ some
     ])
+
+pub returns-in-Ok-try_from-clause-lawful : goal.returns-in-Ok-try_from-clause-lawful
+returns-in-Ok-try_from-clause-lawful g c history stands =
+    let told = (c.in-Ok.ensures.piece history stands).0 in (
+      omega arith,
+      (
+        subst (λ b. length b ≤ 32768) (sym told)
+            (omega (arith, length-take {A = ℕ})),
+        subst AreBytes c.deref.ensures.value c.are_bytes.ensures,
+      ),
+    )

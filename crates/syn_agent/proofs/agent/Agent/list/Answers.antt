@@ -1,11 +1,14 @@
-use Rattle.std.proofs.Common.{◌≡◌, ◌∙◌, Err, ap, inl, inr, sym}
+use Rattle.std.proofs.Common.{◌≡◌, ◌∙◌, Err, ap, inl, inr, refl, rules, sym}
+use Rattle.syn_agent.proofs.CauseLemmas.{refused_one}
 use Rattle.syn_agent.proofs.ReadingLemmas.{absent_is, halted_is, is_listed, is_no_directory}
-use Rattle.syn_agent.proofs.ReadingLemmas.{no_memory, own_absent, reading, running}
+use Rattle.syn_agent.proofs.ReadingLemmas.{is_listing, is_there, no_device}
+use Rattle.syn_agent.proofs.ReadingLemmas.{no_memory, own_absent, reading}
+use Rattle.syn_agent.proofs.ReadingLemmas.{running}
 use Rattle.syn_agent.proofs.agent.Agent.list.Goals as goal
 use Rattle.syn_headline.specs.Side.{ListAt, Refused}
 use Rattle.syn_model.specs.Refusal as why
 use Rattle.syn_refusal.specs.Refusals.{cause_of}
-use Rattle.syn_replica.specs.Refusals.{refusal_in, refusal_of}
+use Rattle.syn_replica.specs.Refusals.{reading_refusals, refusal_in, refusal_of}
 
 pub returns-in-Ok-clause-answers : goal.returns-in-Ok-clause-answers
 returns-in-Ok-clause-answers g c history session stands =
@@ -18,6 +21,17 @@ returns-in-Ok-clause-answers g c history session stands =
       none,
     ) in cc)
 
+pub returns-in-Ok-clause-lawful : goal.returns-in-Ok-clause-lawful
+returns-in-Ok-clause-lawful g c history stands =
+    let told = c.in-Ok.ensures in (
+      search rules,
+      is_listing c.args.replica.now c.args.self.now history 0 stands c.args.path.now _
+          told.marks (λ none. let k = told.absent.1 (
+            running c.args.replica.now c.args.self.now history 0 stands,
+            none,
+          ) in cc) (c.listing_laws.ensures history stands.remembers.lawful),
+    )
+
 pub returns-in-Absent-clause-answers : goal.returns-in-Absent-clause-answers
 returns-in-Absent-clause-answers g c history session stands =
     let error = absent_is c.in-Err.error (sym c.refusal.ensures ∙ ap cause_of c.in-Absent.is) in
@@ -26,6 +40,7 @@ returns-in-Absent-clause-answers g c history session stands =
 
 pub returns-in_default : goal.returns-in_default
 returns-in_default g c = record {
+  lawful = λ history stands. tt;
   answers = λ history session stands.
       elim (reading c.in-Err.error c.in-Err.ensures.refusals) [
         | inl halted ↦ absurd (running c.args.replica.now c.args.self.now history session stands
@@ -35,6 +50,17 @@ returns-in_default g c = record {
         | inr (inr memory) ↦ no_memory c.args.replica.now c.args.self.now history session stands
             (ListAt c.args.path.now) _ (c.refusal.ensures ∙ memory)
       ];
+  memory = λ history session stands is.
+      let memory : refusal_of c.in-Err.error ≡ why.Memory =
+      sym c.refusal.ensures ∙ refused_one _ _ is in
+      is_there c.args.replica.now c.args.self.now history session stands c.args.path.now
+      (λ none. let found = ap refusal_in (c.in-Err.ensures.absent.1 (
+        running c.args.replica.now c.args.self.now history session stands,
+        none,
+      )) in let same : refusal_of c.in-Err.error ≡ why.Absent = cc in
+      let k : why.Memory ≡ why.Absent = sym memory ∙ same in cc);
+  device = λ is. no_device reading_refusals c.in-Err.error c.in-Err.ensures.refusals refl
+      (sym c.refusal.ensures ∙ refused_one _ _ is);
   halted = λ halted.
       let found = ap refusal_in (c.in-Err.ensures.halted.1 halted) in
       let same : refusal_of c.in-Err.error ≡ why.Halted = cc in

@@ -1,11 +1,16 @@
-use Rattle.std.proofs.Common.{◌≡◌, ◌∙◌, Some, None, inr, refl, subst, sym}
-use Rattle.syn_agent.proofs.CauseLemmas.{none_of}
+use Rattle.std.proofs.Common.{◌≡◌, ◌∙◌, Some, None, refl, subst, sym}
+use Rattle.syn_agent.proofs.CauseLemmas.{counts, none_of, refused_one}
 use Rattle.syn_agent.proofs.ReplaceLemmas.{made_answers, memory_answers, refused_answers}
-use Rattle.syn_agent.proofs.ReplaceLemmas.{unmade_answers, unread_answers}
+use Rattle.syn_agent.proofs.ReplaceLemmas.{staging_memory, unmade_answers, unread_answers}
 use Rattle.syn_agent.proofs.agent.Agent.replace_open.Goals as goal
 use Rattle.syn_agent.specs.Answers.{Answers}
+use Rattle.syn_agent.specs.Causes.{CountsFailures}
 use Rattle.syn_headline.specs.Side.{Reads, Refused, Replace}
 use Rattle.syn_model.specs.Refusal.{Memory}
+use Rattle.syn_history.specs.Events.{token_of}
+use Rattle.syn_agent.specs.Agents.{staging_of}
+use Rattle.syn_refusal.specs.Refusals.{cause_of}
+use Rattle.syn_replica.specs.Replica.{disk_of}
 use Rattle.syn_tree.specs.Nodes.{part_of}
 use Rattle.syn_wire.specs.Refusals.{refusal_of as of_wire}
 use Rattle.syn_wire.specs.declared.error.WireError.{WireError}
@@ -19,6 +24,11 @@ returns-in-Err-clause-answers g c history stands fresh young =
     refused_answers c.args.replica.now c.args.self.now history c.args.token.session
     c.args.token.item c.args.path.now c.args.since c.args.length stands fresh young _
     c.in-Err.ensures.refused
+
+pub returns-in-Err-clause-memory : goal.returns-in-Err-clause-memory
+returns-in-Err-clause-memory g c is = absurd (staging_memory (staging_of c.args.self.now)
+    (token_of c.args.token) c.args.length (cause_of c.in-Err.why) c.in-Err.ensures.refused
+    (refused_one (cause_of c.in-Err.why) Memory is))
 
 pub returns-in-Ok-None-clause-answers : goal.returns-in-Ok-None-clause-answers
 returns-in-Ok-None-clause-answers g c history stands fresh young =
@@ -43,11 +53,8 @@ returns-in-Ok-replace-clause-answers g c history stands fresh young =
     c.in-Ok.ensures.none (part_of c.in-Ok-Some.new) reads c.replace.new.self
     (told.acknowledged history stands).1
     (none_of _ (λ why is. told.refused history why stands fresh is))
-    (told.record history stands fresh) (told.calls history stands) told.failures
-
-pub returns-in-Ok-replace-clause-any_moment : goal.returns-in-Ok-replace-clause-any_moment
-returns-in-Ok-replace-clause-any_moment g c history stands =
-    inr (part_of c.in-Ok-Some.new, c.replace.ensures.any_moment history stands)
+    (told.record history stands fresh) (told.tried history stands fresh)
+    (told.any_moment history stands) (told.calls history stands) told.failures
 
 pub returns-in-Err-replace-clause-answers : goal.returns-in-Err-replace-clause-answers
 returns-in-Err-replace-clause-answers g c history stands fresh young =
@@ -62,8 +69,12 @@ returns-in-Err-replace-clause-answers g c history stands fresh young =
     c.args.token.item c.args.path.now c.args.since c.args.length stands fresh young
     c.in-Ok.ensures.none (part_of c.in-Ok-Some.new) reads c.replace.new.self c.in-Err-replace.error
     (told.cause history stands) (λ why is. told.refused history why stands fresh is) told.halts
-    told.failures (told.calls history stands) told.readings told.unchanged)
+    told.failures (told.calls history stands) told.readings told.unchanged
+    (told.tried history stands fresh) told.untried (told.any_moment history stands)
+    (told.seen history stands))
 
-pub returns-in-Err-replace-clause-any_moment : goal.returns-in-Err-replace-clause-any_moment
-returns-in-Err-replace-clause-any_moment g c history stands =
-    inr (part_of c.in-Ok-Some.new, c.replace.ensures.any_moment history stands)
+pub returns-in-Err-replace-clause-failures : goal.returns-in-Err-replace-clause-failures
+returns-in-Err-replace-clause-failures g c =
+    subst (λ r. CountsFailures (Refused r) (g.D.Disk.failures (disk_of c.args.replica.now))
+    (g.D.Disk.failures (disk_of c.replace.new.self))) (sym c.refusal.ensures)
+    (counts c.in-Err-replace.error _ _ c.in-Err-replace.ensures.failures)

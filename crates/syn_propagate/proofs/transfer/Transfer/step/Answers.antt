@@ -6,7 +6,8 @@ use Rattle.syn_propagate.proofs.StepLemmas.{same_answer}
 use Rattle.syn_propagate.proofs.transfer.Transfer.step.Goals as goal
 use Rattle.syn_propagate.specs.Carrying.{WasCarried}
 use Rattle.syn_propagate.specs.declared.next.Next.TheVariants.{Done}
-use Rattle.syn_propagate.specs.Transfers.{WaitsAt, with_answer}
+use Rattle.syn_propagate.specs.Transfers.{with_answer}
+use Rattle.syn_propagate.specs.inner.Progresses.{WaitsAt}
 
 pub returns-in-Piece-clause-goes_on : goal.returns-in-Piece-clause-goes_on
 returns-in-Piece-clause-goes_on c taken to request number answer is waits =

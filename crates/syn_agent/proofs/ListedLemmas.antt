@@ -1,0 +1,372 @@
+-- What stands in a directory of a history is a listing that can be sent.
+use Rattle.sha2.proofs.Facts256.{length-sha256}
+use Rattle.sha2.specs.Sha256.{digest_bytes, sha256}
+use Rattle.std.proofs.Common.{◌≡◌, ◌∙◌, ◌+◌, ◌<◌, ◌≤◌, ℕ, zero, suc, Bool, true, false, ◌&&◌}
+use Rattle.std.proofs.Common.{List, [], ◌∷◌, ◌++◌, Option, Some, None, T, Less, Equal, Greater, ap}
+use Rattle.std.proofs.Common.{ap₂, arith, cond, is_eq, IsSome, length, map, nat_le, refl}
+use Rattle.std.proofs.Common.{option_map, subst, sym}
+use Rattle.std.proofs.lemmas.Bool.{and_parts}
+use Rattle.std.proofs.lemmas.Bool.Decides.{nat_tests}
+use Rattle.std.proofs.lemmas.Cmp.{lists_total, nat_list_cmp_total}
+use Rattle.std.proofs.lemmas.List.Elements.{All-append, All-cons, All-head, All-nil, All-tail}
+use Rattle.std.proofs.lemmas.Option.{none-some, same_Some}
+use Rattle.std.specs.Cmp.{IsTotalOrder, tied_itself}
+use Rattle.std.specs.FinMap.{IsAntisymmetric, entries, entries_sorted, find, get-entries}
+use Rattle.std.specs.FinMap.{nat_cmp-IsAntisymmetric, slice_cmp-IsAntisymmetric}
+use Rattle.std.specs.FinMap.Entries.{below_all, is_sorted, same_entries}
+use Rattle.std.specs.Int.{byte_at, bytes_high_first, to_be_bytes, w32}
+use Rattle.std.specs.List.{cons_option, list_all, slice_index_or}
+use Rattle.std.specs.Ordering.{eq_by_cmp, is_lt, ordering_then}
+use Rattle.std.specs.Prelude.{All, filter_map, if◌then◌else◌, option_and_then}
+use Rattle.std.specs.declared.cmp.Ordering.{Ordering}
+use Rattle.syn_agent.specs.inner.Lawful.{ListsLawfully}
+use Rattle.syn_mark.specs.Marks.{IsDigestOrDirectory}
+use Rattle.syn_message.specs.Listings.{AreRising, IsEntry, IsListing}
+use Rattle.syn_model.specs.Event.{AreBytes}
+use Rattle.syn_model.specs.History.{History, IsHistory, tree_of}
+use Rattle.syn_model.specs.Laws.{HistoryFits, HistoryIsTree, MarkHas}
+use Rattle.syn_model.specs.Limits.{children, fits_content, fits_part, fits_paths, greatest_spelling}
+use Rattle.syn_model.specs.Limits.{only_name, tree_spelling_length}
+use Rattle.syn_model.specs.Mark.{mark, mark_of}
+use Rattle.syn_model.specs.Path.{IsName, Name, Path, name_cmp, path_cmp, strip_prefix}
+use Rattle.syn_model.specs.Tree.{Content, Directory, File, IsPart, Pair, Tree, is_directory}
+use Rattle.syn_model.specs.Tree.{is_directory_content}
+use Rattle.std.specs.FinMap.{len}
+
+name_total : IsTotalOrder name_cmp
+name_total = nat_list_cmp_total
+
+path_total : IsTotalOrder path_cmp
+path_total = lists_total nat_list_cmp_total
+
+name_exact : IsAntisymmetric name_cmp
+name_exact = slice_cmp-IsAntisymmetric nat_cmp-IsAntisymmetric
+
+path_exact : IsAntisymmetric path_cmp
+path_exact = slice_cmp-IsAntisymmetric name_exact
+
+equal_of : (o : Ordering) → is_eq o ≡ true → o ≡ Equal
+equal_of Less e = absurd (let k : false ≡ true = e in cc)
+equal_of Equal e = refl
+equal_of Greater e = absurd (let k : false ≡ true = e in cc)
+
+less_of : (o : Ordering) → T (is_lt o) → o ≡ Less
+less_of Less h = refl
+less_of Equal h = absurd h
+less_of Greater h = absurd h
+
+parts : (a b : Bool) → T (a && b) → T a × T b
+parts true b h = (tt, h)
+parts false b h = absurd h
+
+-- A name in a directory, with what stands there
+
+abbrev Row : Type 0
+Row = Name × Content
+
+abbrev row : Path → Pair → Option Row
+row path pair = option_map (λ name. (name, pair.1))
+    (option_and_then only_name (strip_prefix path pair.0))
+
+abbrev rows : Path → List Pair → List Row
+rows path pairs = filter_map {Y = Row} (row path) pairs
+
+strip_is : (prefix path rest : Path) → strip_prefix prefix path ≡ Some rest
+    → path ≡ prefix ++ rest
+strip_is [] path rest is = same_Some _ _ is
+strip_is (name ∷ prefix) [] rest is = absurd (none-some _ is)
+strip_is (name ∷ prefix) (first ∷ path) rest is =
+    by (eq_by_cmp name_cmp name first) refl is (λ more. strip_is prefix path rest more)
+  where
+    by : (b : Bool) → eq_by_cmp name_cmp name first ≡ b
+        → (if b then strip_prefix prefix path else None) ≡ Some rest
+        → (strip_prefix prefix path ≡ Some rest → path ≡ prefix ++ rest)
+        → first ∷ path ≡ (name ∷ prefix) ++ rest
+    by true same is more = ap₂ (λ n p. n ∷ p)
+        (sym (name_exact name first (equal_of (name_cmp name first) same))) (more is)
+    by false same is more = absurd (none-some _ is)
+
+only_is : (path : Path) (name : Name) → only_name path ≡ Some name → path ≡ name ∷ []
+only_is [] name is = absurd (none-some _ is)
+only_is (first ∷ []) name is = ap (λ n. n ∷ []) (same_Some _ _ is)
+only_is (first ∷ next ∷ path) name is = absurd (none-some _ is)
+
+-- the pair that a row is of
+abbrev IsRowOf : Path → Pair → Row → Type 0
+IsRowOf path pair found = (pair.0 ≡ path ++ found.0 ∷ []) × (pair.1 ≡ found.1)
+
+row_last : (path : Path) (pair : Pair) (rest : Path) (o : Option Name) (found : Row)
+    → strip_prefix path pair.0 ≡ Some rest → only_name rest ≡ o
+    → option_map (λ name. (name, pair.1)) o ≡ Some found → IsRowOf path pair found
+row_last path pair rest None found at only is = absurd (none-some _ is)
+row_last path pair rest (Some name) found at only is =
+    let same : (name, pair.1) ≡ found = same_Some _ _ is in (
+      strip_is path pair.0 rest at ∙ (ap (λ r. path ++ r) (only_is rest name only)
+          ∙ ap (λ (r : Row). path ++ r.0 ∷ []) same),
+      ap (λ (r : Row). r.1) same,
+    )
+
+row_is : (path : Path) (pair : Pair) (found : Row) → row path pair ≡ Some found
+    → IsRowOf path pair found
+row_is path pair found is = by (strip_prefix path pair.0) refl is
+  where
+    by : (o : Option Path) → strip_prefix path pair.0 ≡ o
+        → option_map (λ name. (name, pair.1)) (option_and_then only_name o) ≡ Some found
+        → IsRowOf path pair found
+    by None at is = absurd (none-some _ is)
+    by (Some rest) at is = row_last path pair rest (only_name rest) found at refl is
+
+-- Names rise
+
+under : (path : Path) (a b : Name)
+    → path_cmp (path ++ a ∷ []) (path ++ b ∷ []) ≡ name_cmp a b
+under [] a b = elim (name_cmp a b) as (λ o. ordering_then o Equal ≡ o)
+    [ Less ↦ refl | Equal ↦ refl | Greater ↦ refl ]
+under (n ∷ path) a b =
+    ap (λ o. ordering_then o (path_cmp (path ++ a ∷ []) (path ++ b ∷ [])))
+    (tied_itself name_total n)
+    ∙ under path a b
+
+abbrev IsBelow : Name → List Row → Type 0
+IsBelow name [] = Unit {0}
+IsBelow name (found ∷ others) = (name_cmp name found.0 ≡ Less) × IsBelow name others
+
+abbrev Rise : List Row → Type 0
+Rise [] = Unit {0}
+Rise (found ∷ others) = IsBelow found.0 others × Rise others
+
+below_rows : (path : Path) (name : Name) (pairs : List Pair)
+    → T (below_all path_cmp (path ++ name ∷ []) pairs) → IsBelow name (rows path pairs)
+below_rows path name [] below = tt
+below_rows path name (pair ∷ pairs) below =
+    by (row path pair) refl (below_rows path name pairs both.1)
+  where
+    both : T (is_lt (path_cmp (path ++ name ∷ []) pair.0))
+        × T (below_all path_cmp (path ++ name ∷ []) pairs)
+    both = parts (is_lt (path_cmp (path ++ name ∷ []) pair.0))
+        (below_all path_cmp (path ++ name ∷ []) pairs) below
+
+    by : (o : Option Row) → row path pair ≡ o → IsBelow name (rows path pairs)
+        → IsBelow name (cons_option o (rows path pairs))
+    by None at rest = rest
+    by (Some found) at rest = (
+      sym (under path name found.0)
+          ∙ (ap (λ k. path_cmp (path ++ name ∷ []) k) (sym (row_is path pair found at).0)
+          ∙ less_of _ both.0),
+      rest,
+    )
+
+rise_rows : (path : Path) (pairs : List Pair) → T (is_sorted path_cmp pairs)
+    → Rise (rows path pairs)
+rise_rows path [] sorted = tt
+rise_rows path (pair ∷ pairs) sorted = by (row path pair) refl (rise_rows path pairs both.1)
+  where
+    both : T (below_all path_cmp pair.0 pairs) × T (is_sorted path_cmp pairs)
+    both = parts (below_all path_cmp pair.0 pairs) (is_sorted path_cmp pairs) sorted
+
+    by : (o : Option Row) → row path pair ≡ o → Rise (rows path pairs)
+        → Rise (cons_option o (rows path pairs))
+    by None at rest = rest
+    by (Some found) at rest = (
+      below_rows path found.0 pairs (subst (λ k. T (below_all path_cmp k pairs))
+          (row_is path pair found at).0 both.0),
+      rest,
+    )
+
+rising : (found : List Row) → Rise found → AreRising found
+rising [] h k d within = absurd (omega arith)
+rising (one ∷ []) h k d within = absurd (omega arith)
+rising (one ∷ next ∷ others) h zero d within = h.0.0
+rising (one ∷ next ∷ others) h (suc k) d within =
+    let step : suc k + 1 ≡ suc (k + 1) = omega arith in
+    subst (λ j. name_cmp (slice_index_or (next ∷ others) k d).0
+    (slice_index_or (one ∷ next ∷ others) j d).0 ≡ Less) (sym step)
+    (rising (next ∷ others) h.1 k d (omega arith))
+
+-- The pairs of marks
+
+abbrev marked : List Pair → List Pair
+marked pairs = map (λ pair. (pair.0, mark_of pair.1)) pairs
+
+below_marked : (at : Path) (pairs : List Pair)
+    → below_all path_cmp at (marked pairs) ≡ below_all path_cmp at pairs
+below_marked at [] = refl
+below_marked at (pair ∷ pairs) =
+    ap (λ b. is_lt (path_cmp at pair.0) && b) (below_marked at pairs)
+
+sorted_marked : (pairs : List Pair)
+    → is_sorted path_cmp (marked pairs) ≡ is_sorted path_cmp pairs
+sorted_marked [] = refl
+sorted_marked (pair ∷ pairs) =
+    ap₂ (λ a b. a && b) (below_marked pair.0 pairs) (sorted_marked pairs)
+
+find_marked : (at : Path) (pairs : List Pair)
+    → find path_cmp at (marked pairs) ≡ option_map mark_of (find path_cmp at pairs)
+find_marked at [] = refl
+find_marked at (pair ∷ pairs) =
+    elim (eq_by_cmp path_cmp at pair.0) as (λ b.
+    cond b (Some (mark_of pair.1)) (find path_cmp at (marked pairs))
+    ≡ option_map mark_of (cond b (Some pair.1) (find path_cmp at pairs)))
+    [ true ↦ refl | false ↦ find_marked at pairs ]
+
+in_order : (tree : Tree) → T (is_sorted path_cmp (marked (entries tree)))
+in_order tree = subst T (sym (sorted_marked (entries tree))) (entries_sorted tree)
+
+entries_mark : MarkHas → (tree : Tree) → entries (mark tree) ≡ marked (entries tree)
+entries_mark has tree =
+    same_entries path_cmp path_total path_exact (entries (mark tree)) (marked (entries tree))
+    (entries_sorted (mark tree)) (in_order tree)
+    (λ at. sym (get-entries (mark tree) at) ∙ (has tree at
+    ∙ (ap (option_map mark_of) (get-entries tree at) ∙ sym (find_marked at (entries tree)))))
+
+-- As many as there are without marks
+
+length_marked : (path : Path) (pairs : List Pair)
+    → length (rows path (marked pairs)) ≡ length (rows path pairs)
+length_marked path [] = refl
+length_marked path (pair ∷ pairs) =
+    by (option_and_then only_name (strip_prefix path pair.0)) (length_marked path pairs)
+  where
+    by : (o : Option Name) → length (rows path (marked pairs)) ≡ length (rows path pairs)
+        → length (cons_option (option_map (λ name. (name, mark_of pair.1)) o)
+        (rows path (marked pairs)))
+        ≡ length (cons_option (option_map (λ name. (name, pair.1)) o) (rows path pairs))
+    by None same = same
+    by (Some name) same = ap suc same
+
+-- what each pair passes passes where a content is found
+found_passes : (test : Pair → Bool) (at : Path) (content : Content) (pairs : List Pair)
+    → find path_cmp at pairs ≡ Some content → list_all test pairs ≡ true
+    → test (at, content) ≡ true
+found_passes test at content [] is all = absurd (none-some _ is)
+found_passes test at content (pair ∷ pairs) is all = by (eq_by_cmp path_cmp at pair.0) refl is
+    (λ more. found_passes test at content pairs more both.1)
+  where
+    both : (test pair ≡ true) × (list_all test pairs ≡ true)
+    both = and_parts (test pair) (list_all test pairs) all
+
+    by : (b : Bool) → eq_by_cmp path_cmp at pair.0 ≡ b
+        → cond b (Some pair.1) (find path_cmp at pairs) ≡ Some content
+        → (find path_cmp at pairs ≡ Some content → test (at, content) ≡ true)
+        → test (at, content) ≡ true
+    by true same is more = ap₂ (λ p c. test (p, c))
+        (path_exact at pair.0 (equal_of (path_cmp at pair.0) same)) (sym (same_Some _ _ is))
+        ∙ both.0
+    by false same is more = more is
+
+within : (n : ℕ) → nat_le n 256 ≡ true → n ≤ 256
+within n is = grind (arith, nat_tests)
+
+directory_is : (o : Option Content) → is_directory_content o ≡ true → o ≡ Some Directory
+directory_is None is = absurd (let k : false ≡ true = is in cc)
+directory_is (Some Directory) is = refl
+directory_is (Some (File contents)) is = absurd (let k : false ≡ true = is in cc)
+
+few : (tree : Tree) (path : Path) → fits_part tree ≡ true → is_directory tree path ≡ true
+    → length (children tree path) ≤ 256
+few tree path fits there =
+    let test : Pair → Bool = λ pair. fits_content pair.1
+    && nat_le (length (children tree pair.0)) 256 in
+    let passes = found_passes test path Directory (entries tree)
+    (sym (get-entries tree path) ∙ directory_is _ there) fits in
+    within (length (children tree path))
+    (and_parts (fits_content Directory) (nat_le (length (children tree path)) 256) passes).1
+
+-- Each is a name with a mark
+
+byte_below : (k n : ℕ) → byte_at k n < 256
+byte_below zero n = omega arith
+byte_below (suc k) n = omega arith
+
+high_bytes : (k n : ℕ) → AreBytes (bytes_high_first k n)
+high_bytes zero n = All-nil (λ byte. byte < 256)
+high_bytes (suc k) n = All-cons (λ byte. byte < 256) (byte_at k n) (bytes_high_first k n)
+    (byte_below k n) (high_bytes k n)
+
+words_bytes : (words : List ℕ) (n : ℕ) → AreBytes (digest_bytes words n)
+unfolding digest_bytes
+words_bytes words zero = All-nil (λ byte. byte < 256)
+words_bytes words (suc n) = All-append (λ byte. byte < 256) (digest_bytes words n)
+    (to_be_bytes w32 _) (words_bytes words n) (high_bytes 4 _)
+
+digest_is_bytes : (bytes : List ℕ) → AreBytes (sha256 bytes)
+unfolding sha256
+digest_is_bytes bytes = words_bytes _ 8
+
+is_digest : (content : Content) → IsDigestOrDirectory (mark_of content)
+is_digest Directory = tt
+is_digest (File contents) = (digest_is_bytes contents.bytes, length-sha256 contents.bytes)
+
+last_name : (path : Path) (name : Name) → All IsName (path ++ name ∷ []) → IsName name
+last_name [] name all = All-head IsName name [] all
+last_name (first ∷ path) name all =
+    last_name path name (All-tail IsName first (path ++ name ∷ []) all)
+
+abbrev Each : (Pair → Type 0) → List Pair → Type 0
+Each P [] = Unit {0}
+Each P (pair ∷ pairs) = P pair × Each P pairs
+
+each_of : (P Q : Pair → Type 0) → ((pair : Pair) → P pair → Q pair) → (pairs : List Pair)
+    → Each P pairs → Each Q pairs
+each_of P Q so [] h = tt
+each_of P Q so (pair ∷ pairs) h = (so pair h.0, each_of P Q so pairs h.1)
+
+abbrev IsIn : List Pair → Pair → Type 0
+IsIn pairs pair = IsSome (find path_cmp pair.0 pairs)
+
+further : (pair other : Pair) (pairs : List Pair) → IsIn pairs other → IsIn (pair ∷ pairs) other
+further pair other pairs h = elim (eq_by_cmp path_cmp other.0 pair.0) as (λ b.
+    IsSome (cond b (Some pair.1) (find path_cmp other.0 pairs))) [ true ↦ refl | false ↦ h ]
+
+each_is_in : (pairs : List Pair) → Each (IsIn pairs) pairs
+each_is_in [] = tt
+each_is_in (pair ∷ pairs) = (
+  subst (λ b. IsSome (cond b (Some pair.1) (find path_cmp pair.0 pairs)))
+      (sym (ap is_eq (tied_itself path_total pair.0))) refl,
+  each_of (IsIn pairs) (IsIn (pair ∷ pairs)) (λ other h. further pair other pairs h) pairs
+      (each_is_in pairs),
+)
+
+each_row : (path : Path) (pairs : List Pair) → Each (λ pair. All IsName pair.0) pairs
+    → All IsEntry (rows path (marked pairs))
+each_row path [] named = All-nil IsEntry
+each_row path (pair ∷ pairs) named =
+    by (row path (pair.0, mark_of pair.1)) refl (each_row path pairs named.1)
+  where
+    by : (o : Option Row) → row path (pair.0, mark_of pair.1) ≡ o
+        → All IsEntry (rows path (marked pairs))
+        → All IsEntry (cons_option o (rows path (marked pairs)))
+    by None at rest = rest
+    by (Some found) at rest =
+        let is = row_is path (pair.0, mark_of pair.1) found at in
+        All-cons IsEntry found (rows path (marked pairs)) (
+          last_name path found.0 (subst (λ k. All IsName k) is.0 named.0),
+          subst IsDigestOrDirectory is.1 (is_digest pair.1),
+        ) rest
+
+-- All three of a directory
+
+listed : MarkHas → (tree : Tree) → IsPart tree → fits_part tree ≡ true → (path : Path)
+    → is_directory tree path ≡ true → IsListing (children (mark tree) path)
+listed has tree part fits path there =
+    subst (λ pairs. IsListing (rows path pairs)) (sym (entries_mark has tree)) (record {
+      few = subst (λ n. n ≤ 256) (sym (length_marked path (entries tree)))
+          (few tree path fits there);
+      each = each_row path (entries tree) (each_of (IsIn (entries tree))
+          (λ pair. All IsName pair.0)
+          (λ pair h. part.names pair.0 (subst IsSome (sym (get-entries tree pair.0)) h))
+          (entries tree) (each_is_in (entries tree)));
+      rising = rising (rows path (marked (entries tree)))
+          (rise_rows path (marked (entries tree)) (in_order tree));
+    })
+
+pub lists_lawfully : MarkHas → HistoryIsTree → HistoryFits → (history : History)
+    → IsHistory history → ListsLawfully history
+lists_lawfully has is_tree fits history lawful path there =
+    let tree = tree_of history in
+    let limits = and_parts (nat_le (len tree) 1024
+    && nat_le (tree_spelling_length tree) greatest_spelling && fits_part tree) (fits_paths tree)
+    (fits history lawful) in
+    let each = and_parts (nat_le (len tree) 1024
+    && nat_le (tree_spelling_length tree) greatest_spelling) (fits_part tree) limits.0 in
+    listed has tree (is_tree history lawful).part each.1 path there

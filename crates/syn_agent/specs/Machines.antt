@@ -1,0 +1,99 @@
+-- An answer as a step of the world.
+use Rattle.std.specs.Prelude.{◌≡◌, ◌⊎◌, ◌+◌, ◌-◌, ◌++◌, ◌∷◌, [], ℕ, true, false, List, Option}
+use Rattle.std.specs.Prelude.{Some, None}
+use Rattle.syn_agent.specs.Agents.{staging_of}
+use Rattle.syn_agent.specs.declared.agent.Agent.{Agent}
+use Rattle.syn_disk.specs.Arms.{is_stopped}
+use Rattle.syn_disk.specs.declared.disk.Disk.{Ghosts}
+use Rattle.syn_headline.specs.Machine.{Journaled, Status, Up, Halted, Down}
+use Rattle.syn_headline.specs.Side.{Request, Reply}
+use Rattle.syn_headline.specs.SideMachine.{SideMachine, SideTakes}
+use Rattle.syn_model.specs.Event.{Event}
+use Rattle.syn_model.specs.History.{History, standing_of}
+use Rattle.syn_recovery.specs.Calls.{armed_at}
+use Rattle.syn_recovery.specs.Machines.{of_side}
+use Rattle.syn_recovery.specs.Meaning.{MayBeOf}
+use Rattle.syn_replica.specs.Disks.{DiskCompacted, DiskKeeps, event_size}
+use Rattle.syn_replica.specs.Replica.{IsHalted, Remembers, Stands, disk_of, generation_shown}
+use Rattle.syn_replica.specs.Replica.{left_shown, pair_of}
+use Rattle.syn_replica.specs.declared.replica.Replica.{Replica}
+
+-- a machine that is up has a replica that stands for its history; of a halted one it remembers it
+abbrev pub StandsAs : {D : Type 0} → {disk : Ghosts D} → Status → Replica D disk → History → Type 0
+StandsAs Up replica history = Stands replica history
+StandsAs Halted replica history = IsHalted replica × Remembers replica history
+StandsAs Down replica history = ⊥
+
+-- whatever a stop may now leave on the disk may be the machine's
+abbrev pub MayLeave : {D : Type 0} → {disk : Ghosts D} → ℕ → Replica D disk → SideMachine → Type 0
+MayLeave {D} {disk} pair replica machine = (bytes : List ℕ) → disk.may_leave (disk_of replica) bytes
+    → MayBeOf (of_side pair) machine.journal bytes
+
+-- the replica with its agent is the machine of a side that is not down
+pub record IsOf {D : Type 0} {disk : Ghosts D} (pair : ℕ) (replica : Replica D disk) (agent : Agent)
+    (machine : SideMachine) : Type 0 where
+  pub pair_is : pair_of replica ≡ pair
+  pub stands : StandsAs machine.journal.status replica machine.journal.value
+  pub room : machine.journal.room ≡ left_shown replica
+  pub generation : machine.journal.generation ≡ generation_shown replica
+  pub armed : machine.journal.arms ≡ armed_at (disk.arms (disk_of replica))
+  pub runs : is_stopped (disk.arms (disk_of replica)) ≡ false
+  pub staging : machine.staging ≡ staging_of agent
+  pub left : MayLeave pair replica machine
+
+-- a replica that stands for the history of a machine that is up, with as much room, the same
+-- generation and arms, and what is staged
+pub record IsUpAs {D : Type 0} {disk : Ghosts D} (pair : ℕ) (replica : Replica D disk)
+    (agent : Agent) (machine : SideMachine) : Type 0 where
+  pub pair_is : pair_of replica ≡ pair
+  pub up : machine.journal.status ≡ Up
+  pub stands : Stands replica machine.journal.value
+  pub room : machine.journal.room ≡ left_shown replica
+  pub generation : machine.journal.generation ≡ generation_shown replica
+  pub armed : machine.journal.arms ≡ armed_at (disk.arms (disk_of replica))
+  pub runs : is_stopped (disk.arms (disk_of replica)) ≡ false
+  pub staging : machine.staging ≡ staging_of agent
+
+-- the disk is stopped, and the machine is down
+pub record IsStopped {D : Type 0} {disk : Ghosts D} (pair : ℕ) (replica : Replica D disk)
+    (machine : SideMachine) : Type 0 where
+  pub pair_is : pair_of replica ≡ pair
+  pub down : machine.journal.status ≡ Down
+  pub stopped : is_stopped (disk.arms (disk_of replica)) ≡ true
+  pub left : MayLeave pair replica machine
+
+-- whether it goes on or stops
+pub data IsLeftAs {D : Type 0} {disk : Ghosts D} (pair : ℕ) (replica : Replica D disk)
+    (agent : Agent) (machine : SideMachine) : Type 0 where
+  goes_on : IsOf pair replica agent machine → IsLeftAs pair replica agent machine
+  stops : IsStopped pair replica machine → IsLeftAs pair replica agent machine
+
+-- what is heard of a reply: nothing where the machine stopped
+abbrev pub heard : Status → Reply → Option Reply
+heard Down reply = None
+heard _ reply = Some reply
+
+-- a step of the world's side, with the machine after it, what it says and the events that it adds
+pub record Takes {D : Type 0} {disk : Ghosts D} (pair : ℕ) (new : Replica D disk) (after : Agent)
+    (machine : SideMachine) (session : ℕ) (request : Request) (reply : Reply) : Type 0 where
+  pub next : SideMachine
+  pub events : List Event
+  pub takes : SideTakes pair machine session request next (heard next.journal.status reply) events
+  pub leaves : IsLeftAs pair new after next
+
+-- What a call of a replica leaves on its disk may be the machine's that was making it: as it was
+-- kept, with the event that was being written, or by the image of a checkpoint
+abbrev pub WrittenIsOf : Type 0
+WrittenIsOf = (pair : ℕ) (machine : Journaled History Event) (event : Event) (bytes : List ℕ)
+    → machine.writing ≡ Some event
+    → DiskKeeps pair machine.value machine.room machine.generation bytes
+    ⊎ DiskKeeps pair (machine.value ++ event ∷ []) (machine.room - event_size event)
+    machine.generation bytes
+    → MayBeOf (of_side pair) machine bytes
+
+abbrev pub CompactedIsOf : Type 0
+CompactedIsOf = (pair : ℕ) (machine : Journaled History Event) (bytes : List ℕ)
+    → machine.compacting ≡ true
+    → DiskKeeps pair machine.value machine.room machine.generation bytes
+    ⊎ DiskCompacted pair machine.value (standing_of machine.value) (machine.generation + 1) bytes
+    → MayBeOf (of_side pair) machine bytes
