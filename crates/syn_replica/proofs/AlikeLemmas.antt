@@ -1,13 +1,10 @@
 -- Events that are spelled alike are one, and an image with payloads gives one standing.
-use Rattle.std.proofs.Common.{◌≡◌, ◌<◌, ◌^◌, ℕ, Bool, true, false, List, [], ◌∷◌, ◌++◌, map, fold, refl, sym, ap, ap₂, ◌∙◌, subst, append-nil, true≢false}
-use Rattle.std.specs.List.{AllByRecursion}
+use Rattle.std.proofs.Common.{◌≡◌, Bool, true, false, List, [], ◌∷◌, ◌++◌, map, fold, refl, sym, ap, ap₂, ◌∙◌, subst, true≢false}
 use Rattle.syn_model.specs.Path.{Bytes}
 use Rattle.syn_model.specs.Event.{Event}
 use Rattle.syn_model.specs.Standing.{Standing, standing_after, IsAllowedAt, AllAllowedAt}
 use Rattle.syn_model.specs.Spelling.{event_spelling}
-use Rattle.syn_model.specs.Image.{Gives}
 use Rattle.syn_wire.specs.Laws.{NoEventBeginsAnother}
-use Rattle.syn_wire.specs.Events.{IsSpelledEvent}
 use Rattle.syn_wire.specs.Images.{NoImageBeginsAnother}
 use Rattle.syn_replica.specs.inner.Openings.{AddsEvent, Replays, OneIsGiven, AllowedIsSpelled, EventsAreTold}
 

@@ -7,3 +7,5 @@ pub mod RefusalLemmas
 pub mod MeaningLemmas
 pub mod FormattedLemmas
 pub mod SessionLemmas
+pub mod GrowthLemmas
+pub mod ReopenLemmas

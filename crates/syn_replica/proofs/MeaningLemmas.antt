@@ -1,10 +1,7 @@
 -- Why a disk is not opened.
-use Rattle.std.proofs.Common.{◌≡◌, ◌<◌, ◌≤◌, ◌⊎◌, ◌^◌, ℕ, List, refl, sym, ap, ◌∙◌, subst, Option, Result, Ok, Err, inl, inr, true≢false, Bool, true, false}
+use Rattle.std.proofs.Common.{◌≡◌, ℕ, List, refl, sym, ap, ◌∙◌, subst, Option, Result, Ok, Err, true≢false, Bool, true, false}
 use Rattle.syn_disk.specs.Arms.{Arms}
 use Rattle.syn_disk.specs.Calls.{MakesAtLeast}
-use Rattle.syn_model.specs.Path.{Bytes}
-use Rattle.syn_model.specs.Standing.{Standing}
-use Rattle.syn_model.specs.Image.{Gives}
 use Rattle.syn_journal.specs.Layout.{Value, Fault, meaning}
 use Rattle.syn_journal.specs.Refusals as journal
 use Rattle.syn_journal.specs.declared.error.JournalError.{JournalError}
@@ -19,11 +16,11 @@ is_ok : Result Value Fault → Bool
 is_ok (Ok value) = true
 is_ok (Err fault) = false
 
-no_value : (d : Result Value Fault) (value : Value) (fault : Fault) → d ≡ Ok value → d ≡ Err fault → ⊥
+pub no_value : (d : Result Value Fault) (value : Value) (fault : Fault) → d ≡ Ok value → d ≡ Err fault → ⊥
 unfolding is_ok
 no_value d value fault a b = true≢false (ap is_ok (sym a ∙ b))
 
-one_value : (d : Result Value Fault) (a b : Value) → d ≡ Ok a → d ≡ Ok b → a ≡ b
+pub one_value : (d : Result Value Fault) (a b : Value) → d ≡ Ok a → d ≡ Ok b → a ≡ b
 one_value d a b x y = ap (λ r. value_or r a) (sym x ∙ y)
   where
     value_or : Result Value Fault → Value → Value

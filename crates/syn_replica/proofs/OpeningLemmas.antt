@@ -1,12 +1,12 @@
 -- What is read of an image and of its payloads.
-use Rattle.std.proofs.Common.{◌≡◌, ◌⊎◌, inl, inr, refl, ◌<◌, ◌+◌, ◌^◌, ℕ, List, [], ◌∷◌, ◌++◌, length, map, take, drop, sym, ap, ap₂, ◌∙◌, subst, Some, None, append-nil, append_assoc, slice_index_or}
+use Rattle.std.proofs.Common.{◌≡◌, ◌⊎◌, inl, inr, refl, ◌<◌, ◌+◌, ℕ, List, [], ◌∷◌, ◌++◌, length, map, take, drop, sym, ap, ap₂, ◌∙◌, Some, None, append-nil, append_assoc, slice_index_or}
 use Rattle.std.specs.Global.{Vec}
 use Rattle.std.proofs.lemmas.List.{map-append, map_more, take-append-drop}
 use Rattle.syn_model.specs.Path.{Bytes}
 use Rattle.syn_model.specs.Event.{Event}
 use Rattle.syn_model.specs.Standing.{Standing}
 use Rattle.syn_model.specs.Spelling.{event_spelling}
-use Rattle.syn_model.specs.Image.{Gives, IsStanding, image_spelling}
+use Rattle.syn_model.specs.Image.{Gives}
 use Rattle.syn_wire.specs.Events.{IsSpelledEvent}
 use Rattle.syn_wire.specs.Images.{IsImage, spelled_image, NoImageBeginsAnother}
 use Rattle.syn_wire.specs.Laws.{NoEventBeginsAnother}

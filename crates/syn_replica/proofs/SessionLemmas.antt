@@ -1,8 +1,7 @@
 -- Why a replacement is refused, as it is found out step by step.
-use Rattle.std.proofs.Common.{◌≡◌, ◌≢◌, ◌==◌, ◌⊎◌, ◌<◌, ◌≤◌, ℕ, Bool, true, false, not, ◌||◌, if◌then◌else◌, nat_lt, List, [], ◌∷◌, ◌++◌, length, refl, sym, ap, ap₂, ◌∙◌, Option, Some, None, inl, inr, append_assoc, arith, ◌+◌, Result, Ok, Err}
-use Rattle.std.specs.Prelude.{IfOk, IfErr, OnOk, IsErrAnd}
+use Rattle.std.proofs.Common.{◌≡◌, ◌≢◌, ◌==◌, ◌⊎◌, ◌<◌, ℕ, Bool, true, false, not, ◌||◌, if◌then◌else◌, nat_lt, List, [], ◌∷◌, ◌++◌, length, refl, sym, ap, ap₂, ◌∙◌, Some, None, inl, inr, append_assoc, arith, ◌+◌, Result, Ok, Err}
+use Rattle.std.specs.Prelude.{IfOk}
 use Rattle.std.proofs.lemmas.List.{length-append}
-use Rattle.std.proofs.lemmas.Option.{none-some}
 use Rattle.std.proofs.lemmas.Bool.Decides.{nat_tests}
 use Rattle.syn_model.specs.Path.{Path}
 use Rattle.syn_model.specs.Tree.{Tree, replace}
@@ -11,9 +10,7 @@ use Rattle.syn_model.specs.Refusal.{Refusal, OldSession, BelowFloor, Touched, Ca
 use Rattle.syn_model.specs.Standing.{place_causes, full_causes}
 use Rattle.syn_model.specs.History.{History, tree_of, floor, is_quiet, is_old_token, last_session, position_causes}
 use Rattle.syn_replica.specs.Steps.{add_refusal, room_causes, since_causes, replace_refusal, is_done, replaced, begun}
-use Rattle.syn_replica.specs.Refusals.{IsOneOf, outside_refusals, refusal_of}
 use Rattle.syn_replica.specs.declared.error.ReplicaError.{ReplicaError}
-use Rattle.syn_replica.proofs.RefusalLemmas.{same_refusal}
 use Rattle.syn_replica.proofs.CauseLemmas.{first_stays, first_skips}
 
 first_true : (b : Bool) (why : Refusal) (rest : List Cause) → b ≡ true → first_cause ((b, why) ∷ rest) ≡ Some why

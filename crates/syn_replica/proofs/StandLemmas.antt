@@ -1,6 +1,5 @@
 -- What a replica and its disk stand for goes on.
-use Rattle.std.proofs.Common.{◌≡◌, ◌⊎◌, ◌<◌, ◌≤◌, ◌^◌, ℕ, ◌+◌, ◌-◌, List, [], ◌∷◌, ◌++◌, length, refl, sym, ap, ap₂, ◌∙◌, subst, inl, inr, Result, Ok, Err, arith}
-use Rattle.std.proofs.lemmas.List.{length-append}
+use Rattle.std.proofs.Common.{◌≡◌, ◌⊎◌, ◌<◌, ◌≤◌, ◌^◌, ℕ, ◌+◌, ◌-◌, List, [], ◌∷◌, ◌++◌, refl, sym, ap, ap₂, ◌∙◌, subst, inl, inr, Result, Ok, Err, arith}
 use Rattle.syn_disk.specs.declared.disk.Disk.{Ghosts}
 use Rattle.syn_journal.specs.Layout.{Value, Fault, half_size, longest_image, HasJournal, LeftBehindPayload, meaning, with_payload, image_alone, record_size, bytes_left, IsBeforeOrAfter}
 use Rattle.syn_journal.specs.Journal as journal
@@ -12,7 +11,7 @@ use Rattle.syn_model.specs.Standing.{Standing, standing_after, refusal_at, IsAll
 use Rattle.syn_model.specs.History.{History, IsAllowed, IsHistory, standing_of}
 use Rattle.syn_model.specs.Spelling.{event_spelling}
 use Rattle.syn_model.specs.Image.{Gives, StandsFor, image_spelling}
-use Rattle.syn_replica.specs.Disks.{DiskGives, DiskStands, DiskKeeps, DiskCompacted, event_size}
+use Rattle.syn_replica.specs.Disks.{DiskStands, DiskKeeps, DiskCompacted, event_size}
 use Rattle.syn_replica.specs.inner.Openings.{OneIsGiven}
 use Rattle.syn_model.specs.Refusal as why
 use Rattle.syn_journal.specs.Refusals.{refusal_of as of_journal}

@@ -1,5 +1,5 @@
 -- What the bytes of a disk stand for.
-use Rattle.std.specs.Prelude.{◌≡◌, ◌≢◌, ◌<◌, ◌^◌, ℕ, List, [], Ok, Err, Option}
+use Rattle.std.specs.Prelude.{◌≡◌, ◌≢◌, ◌⊎◌, ◌<◌, ◌^◌, ℕ, List, [], Ok, Err, Option}
 use Rattle.std.specs.Prelude.{Some}
 use Rattle.syn_journal.specs.Layout.{Value, HasJournal, meaning, bytes_left, record_size}
 use Rattle.syn_journal.specs.Layout.{image_alone, no_image, damaged}
@@ -74,6 +74,12 @@ pub record IsUnlawful (bytes : List ℕ) : Type 0 where
   pub means : meaning bytes ≡ Ok value
   pub nothing : GivesNothing value.image value.payloads
 
+-- it gives fewer events than were remembered
+pub record GivesFewer (pair position : ℕ) (bytes : List ℕ) : Type 0 where
+  pub standing : Standing
+  pub gives : DiskGives pair bytes standing
+  pub fewer : standing.position < position
+
 -- why a disk is not opened, and what that says of its bytes
 abbrev pub IsOpenRefusal : ReplicaError → Option ℕ → List ℕ → Type 0
 IsOpenRefusal (Journal journal.Device) wanted bytes = Unit {0}
@@ -84,3 +90,8 @@ IsOpenRefusal Memory wanted bytes = Unit {0}
 IsOpenRefusal Damaged wanted bytes = IsUnlawful bytes
 IsOpenRefusal WrongPair wanted bytes = IsOfOtherPair wanted bytes
 IsOpenRefusal _ wanted bytes = ⊥
+
+-- why it is not opened again by a replica of the pair that remembers so many events
+abbrev pub IsReopenRefusal : ReplicaError → ℕ → ℕ → List ℕ → Type 0
+IsReopenRefusal Damaged pair position bytes = IsUnlawful bytes ⊎ GivesFewer pair position bytes
+IsReopenRefusal error pair position bytes = IsOpenRefusal error (Some pair) bytes

@@ -1,5 +1,5 @@
 -- Why a call of a replica is refused, as a refusal of the product.
-use Rattle.std.specs.Prelude.{◌≡◌, ℕ, Bool, ◌==◌, true, List, [], ◌∷◌, Option, Some, None, Result}
+use Rattle.std.specs.Prelude.{◌≡◌, ℕ, ◌==◌, true, List, [], ◌∷◌, Option, Some, None, Result}
 use Rattle.std.specs.Prelude.{Ok, Err}
 use Rattle.std.specs.List.{list_any}
 use Rattle.syn_disk.specs.Arms.{Arms}

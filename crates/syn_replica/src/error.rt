@@ -29,7 +29,8 @@ pub enum ReplicaError {
     Touched,
     /// 14: the session is below the last, or the token is not above the last of the last session.
     OldSession,
-    /// 19: the disk means nothing that a replica holds.
+    /// 19: the disk means nothing that a replica holds, or a reopening gives fewer events than were
+    /// remembered.
     Damaged,
     /// 20: the pair is another one.
     WrongPair,

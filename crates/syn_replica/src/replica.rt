@@ -46,6 +46,7 @@ use syn_tree::{Content, Edit, Found, Tree, TreeError};
 use syn_wire::{edit_length, encode_event, encode_image};
 
 mod checkpoint;
+mod growth;
 mod listing;
 mod reopen;
 mod session;
@@ -71,6 +72,7 @@ impl<D: Disk> Replica<D> {
     ghost use Rattle.syn_replica.specs.Replica.{IsHalted, Remembers, Stands, SameMemory};
     ghost use Rattle.syn_replica.specs.Replica.{KeepsReadings, HasRecord, KeepsBeforeOrAfter};
     ghost use Rattle.syn_replica.specs.Replica.{tried_shown, Tries};
+    ghost use Rattle.syn_replica.specs.Growth.{IsGrown};
 
     /// Formats the disk as a replica of the pair, with no events.
     ///
@@ -324,6 +326,9 @@ impl<D: Disk> Replica<D> {
             (λ _. Makes 4 (D.arms (disk_of self.old)) (D.arms (disk_of self.new)))
             (λ e. MakesIfDevice e 4 (D.arms (disk_of self.old)) (D.arms (disk_of self.new))) }
 
+        // Whatever is answered, no history is lost.
+        ensures grown { IsGrown self.old self.new }
+
         // What stays after a refusal.
         ensures readings { IfErr result (λ _. KeepsReadings self.old self.new) }
         ensures unchanged { (history : History) → Stands self.old history
@@ -387,6 +392,7 @@ impl<D: Disk> Replica<D> {
         ensures calls { MatchResult result
             (λ _. Makes 4 (D.arms (disk_of self.old)) (D.arms (disk_of self.new)))
             (λ e. MakesIfDevice e 4 (D.arms (disk_of self.old)) (D.arms (disk_of self.new))) }
+        ensures grown { IsGrown self.old self.new }
         ensures readings { IfErr result (λ _. KeepsReadings self.old self.new) }
         ensures unchanged { IfErr result (λ e. (refusal_of e ≡ Device)
             ⊎ (journal_of self.new ≡ journal_of self.old)) }
@@ -432,6 +438,10 @@ impl<D: Disk> Replica<D> {
         ensures calls { MatchResult result
             (λ _. Makes 4 (D.arms (disk_of self.old)) (D.arms (disk_of self.new)))
             (λ e. MakesIfDevice e 4 (D.arms (disk_of self.old)) (D.arms (disk_of self.new))) }
+        ensures grown { (event : model.Event)
+            → ((history : History) → Stands self.old history → IsAllowed history event)
+            → payload.items ≡ event_spelling event → IsOf (standing_shown self.old) event update
+            → IsGrown self.old self.new }
         ensures readings { IfErr result (λ _. KeepsReadings self.old self.new) }
         ensures unchanged { IfErr result (λ e. (refusal_of e ≡ Device)
             ⊎ (journal_of self.new ≡ journal_of self.old)) }
@@ -453,6 +463,7 @@ impl<D: Disk> Replica<D> {
 impl<D: Limit> Replica<D> {
     ghost use Rattle.syn_replica.specs.Replica.{disk_of, journal_of, tried_shown};
     ghost use Rattle.syn_replica.specs.Replica.{SameMemory, Stands};
+    ghost use Rattle.syn_replica.specs.Growth.{IsGrown};
 
     /// Arms the replica's disk. It takes the place of an arm of its kind that is still to come.
     pub fn arm(&mut self, arm: Arm)
@@ -467,6 +478,7 @@ impl<D: Limit> Replica<D> {
             (D.Disk.left_since (disk_of self.new) t) }
         ensures failures { D.Disk.failures (disk_of self.new) ≡ D.Disk.failures (disk_of self.old) }
         ensures stands { (history : History) → Stands self.old history → Stands self.new history }
+        ensures grown { IsGrown self.old self.new }
         ensures memory { SameMemory self.old self.new }
         ensures tried { tried_shown self.new ≡ tried_shown self.old }
         ensures readings { SameReadings (journal_of self.old) (journal_of self.new) }

@@ -24,6 +24,7 @@ impl<D: Disk> Replica<D> {
     ghost use Rattle.syn_replica.specs.Replica.{pair_of, standing_shown, tried_shown, disk_of};
     ghost use Rattle.syn_replica.specs.Replica.{journal_of, generation_shown, IsHalted, Stands};
     ghost use Rattle.syn_replica.specs.Replica.{SameMemory, KeepsReadings, KeepsOrCompacts};
+    ghost use Rattle.syn_replica.specs.Growth.{IsGrown};
 
     /// Takes an image of what the history leaves in the place of the journal's records, so that
     /// there is room again. No answer of another call changes, but those that tell of the journal:
@@ -66,6 +67,9 @@ impl<D: Disk> Replica<D> {
         ensures calls { MatchResult result
             (λ _. Makes 6 (D.arms (disk_of self.old)) (D.arms (disk_of self.new)))
             (λ e. MakesIfDevice e 6 (D.arms (disk_of self.old)) (D.arms (disk_of self.new))) }
+
+        // Whatever is answered, no history is lost.
+        ensures grown { IsGrown self.old self.new }
 
         // What is in memory stays, also after a refusal.
         ensures memory { SameMemory self.old self.new }

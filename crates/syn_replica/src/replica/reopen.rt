@@ -1,28 +1,41 @@
 //! A reopening: a replica finds out anew what its own disk stands for.
-ghost use Rattle.std.specs.Prelude.{◌≡◌, ◌⊎◌, ◌++◌, ◌∷◌, [], Some, None, IfErr, OnOk};
-ghost use Rattle.std.specs.Prelude.{MatchResult};
+ghost use Rattle.std.specs.Prelude.{◌≡◌, ◌≤◌, ◌<◌, ◌^◌, ◌⊎◌, ◌++◌, ◌∷◌, [], None, Ok, IfOk};
+ghost use Rattle.std.specs.Prelude.{IfErr, OnOk, MatchResult, List, ℕ};
 ghost use Rattle.syn_disk.specs.Calls.{MakesAtLeast};
 ghost use Rattle.syn_disk.specs.Stops.{Untouched};
 ghost use Rattle.syn_model.specs.Event.{Event};
 ghost use Rattle.syn_model.specs.History.{History};
 ghost use Rattle.syn_model.specs.Refusal.{Device};
-ghost use Rattle.syn_replica.specs.Disks.{DiskGives, DiskStands, IsOpenRefusal};
+ghost use Rattle.syn_journal.specs.Layout.{meaning};
+ghost use Rattle.syn_journal.specs.Opened.{payloads_of, value_read};
+ghost use Rattle.syn_model.specs.Image.{Gives};
+ghost use Rattle.syn_model.specs.Standing as model_standing;
+ghost use Rattle.syn_replica.specs.Disks.{DiskGives, DiskStands, IsReopenRefusal};
 ghost use Rattle.syn_replica.specs.Refusals.{refusal_of, CountsFailures, AfterReads};
+ghost use Rattle.syn_replica.specs.Refusals.{IsOneOf, outside_refusals};
+ghost use Rattle.syn_replica.specs.inner.Openings.{IsOfMeaning};
 
 use super::Replica;
 use crate::error::ReplicaError;
+use crate::laws::opening_laws;
 use crate::opening::read_replica;
+use crate::standing::Standing;
 use std::alloc::Global;
 use syn_disk::Disk;
+use syn_journal::Reopened;
 
 impl<D: Disk> Replica<D> {
     ghost use Rattle.syn_replica.specs.Replica.{pair_of, standing_shown, tried_shown, disk_of};
+    ghost use Rattle.syn_replica.specs.Replica.{position_shown};
+    ghost use Rattle.syn_replica.specs.Growth.{KeepsUp, IsGrown};
     ghost use Rattle.syn_replica.specs.Replica.{IsHalted, Stands, SameMemory, KeepsBeforeOrAfter};
 
     /// Opens the replica's own disk again. A replica that was halted runs again.
     ///
-    /// Refused as `open` is. After 9 the replica is halted; after any other refusal it is as it
-    /// was, halted or not. Nothing is written.
+    /// Refused 9 where a device call fails, 18 where the disk holds no image, 19 where it means
+    /// nothing that a replica of the pair holds or gives fewer events than the replica remembers,
+    /// 20 where it is of another pair, and 11 where memory is refused. After 9 the replica is
+    /// halted; after any other refusal it is as it was, halted or not. Nothing is written.
     pub fn reopen(&mut self, alloc: Global) -> Result<(), ReplicaError>
         // It shows what the disk gives, and stands for each history that the disk stands for.
         ensures given { OnOk result
@@ -40,9 +53,19 @@ impl<D: Disk> Replica<D> {
             → KeepsBeforeOrAfter self.old history event (D.seen (disk_of self.old))
             → OnOk result (Stands self.new history ⊎ Stands self.new (history ++ event ∷ [])) }
 
+        // A replica that keeps up with a history stands for it again, or for it with the event that
+        // was being written. It is refused 9 and 11 alone.
+        ensures keeps_up { (history : History) → KeepsUp self.old history → MatchResult result
+            (λ _. Stands self.new history
+            ⊎ ((event : Event) × Stands self.new (history ++ event ∷ [])))
+            (IsOneOf outside_refusals) }
+
+        // Whatever is answered, no history is lost.
+        ensures grown { IsGrown self.old self.new }
+
         // Each refusal has its cause.
-        ensures refusals { IfErr result (λ e.
-            IsOpenRefusal e (Some (pair_of self.old)) (D.seen (disk_of self.old))) }
+        ensures refusals { IfErr result (λ e. IsReopenRefusal e (pair_of self.old)
+            (position_shown self.old) (D.seen (disk_of self.old))) }
         ensures halts { IfErr result (λ e. refusal_of e ≡ Device → IsHalted self.new) }
 
         // What stays after a refusal.
@@ -63,10 +86,11 @@ impl<D: Disk> Replica<D> {
             (λ _. MakesAtLeast 1 (D.arms (disk_of self.old)) (D.arms (disk_of self.new)))
             (λ e. AfterReads 1 e (D.arms (disk_of self.old)) (D.arms (disk_of self.new))) }
     {
+        opening_laws();
         let was_halted = self.journal.is_halted();
         let found = self.journal.reopen(alloc)?;
-        match read_replica(alloc, &found.image, Some(self.pair), &found.records) {
-            Ok((_pair, standing)) => {
+        match self.read_again(alloc, &found) {
+            Ok(standing) => {
                 self.standing = standing;
                 self.tried = None;
                 Ok(())
@@ -78,5 +102,29 @@ impl<D: Disk> Replica<D> {
                 Err(error)
             }
         }
+    }
+
+    /// What its own disk gives.
+    ///
+    /// Refused 19 where that is nothing or has fewer events than the replica remembers, 20 where it
+    /// is of another pair, and 11 where memory is refused.
+    fn read_again(&self, alloc: Global, found: &Reopened) -> Result<Standing, ReplicaError>
+        ensures gives { IfOk result (λ standing. Gives (pair_of self.now) found.now.image.items
+            (payloads_of found.now.records) standing) }
+        ensures one { IfOk result (λ read. (standing : model_standing.Standing)
+            → Gives (pair_of self.now) found.now.image.items (payloads_of found.now.records)
+            standing → standing ≡ read) }
+        ensures fits { pair_of self.now < 2 ^ 64 }
+        ensures later { IfOk result (λ standing. position_shown self.now ≤ standing.position) }
+        ensures refusals { IfErr result IsOfMeaning }
+        ensures cause { IfErr result (λ e. (bytes : List ℕ)
+            → meaning bytes ≡ Ok (value_read found.now.image found.now.records)
+            → IsReopenRefusal e (pair_of self.now) (position_shown self.now) bytes) }
+    {
+        let (_pair, standing) = read_replica(alloc, &found.image, Some(self.pair), &found.records)?;
+        if standing.trail().position() < self.position() {
+            return Err(ReplicaError::Damaged);
+        }
+        Ok(standing)
     }
 }

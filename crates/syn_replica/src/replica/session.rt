@@ -60,6 +60,7 @@ impl<D: Disk> Replica<D> {
     ghost use Rattle.syn_replica.specs.Replica.{room_shown, IsHalted, Remembers, Stands};
     ghost use Rattle.syn_replica.specs.Replica.{KeepsReadings, HasRecord, KeepsBeforeOrAfter};
     ghost use Rattle.syn_replica.specs.Replica.{Tries, tried_shown};
+    ghost use Rattle.syn_replica.specs.Growth.{IsGrown};
 
     /// Begins the session, and answers the position. The session that was begun last begins again
     /// without an event.
@@ -112,6 +113,9 @@ impl<D: Disk> Replica<D> {
             (λ _. MakesIfNew (session == (standing_shown self.old).session)
             (D.arms (disk_of self.old)) (D.arms (disk_of self.new)))
             (λ e. MakesIfDevice e 4 (D.arms (disk_of self.old)) (D.arms (disk_of self.new))) }
+
+        // Whatever is answered, no history is lost.
+        ensures grown { IsGrown self.old self.new }
 
         // What stays after a refusal.
         ensures readings { IfErr result (λ _. KeepsReadings self.old self.new) }
@@ -257,6 +261,9 @@ impl<D: Disk> Replica<D> {
             (λ _. MakesIfNew (is_done history (token_of token)) (D.arms (disk_of self.old))
             (D.arms (disk_of self.new)))
             (λ e. MakesIfDevice e 4 (D.arms (disk_of self.old)) (D.arms (disk_of self.new))) }
+
+        // Whatever is answered, no history is lost.
+        ensures grown { IsGrown self.old self.new }
 
         // What stays after a refusal.
         ensures readings { IfErr result (λ _. KeepsReadings self.old self.new) }

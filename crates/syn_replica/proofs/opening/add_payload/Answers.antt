@@ -1,4 +1,4 @@
-use Rattle.std.proofs.Common.{◌≡◌, ◌⊎◌, Some, None, sym, ap, ◌∙◌, subst, option_map, inl, inr}
+use Rattle.std.proofs.Common.{sym, ap, ◌∙◌, subst, option_map, inl, inr}
 use Rattle.std.proofs.lemmas.Option.{none-some}
 use Rattle.syn_history.specs.Events.{event_of}
 use Rattle.syn_model.specs.Standing.{refusal_at}

@@ -5,8 +5,9 @@ use Rattle.syn_history.specs.Events.{event_of}
 use Rattle.syn_replica.specs.Refusals.{outside_refusals, refusal_of}
 use Rattle.syn_replica.specs.Replica.{room_shown, standing_shown}
 use Rattle.syn_replica.proofs.RefusalLemmas.{is_among}
-use Rattle.syn_replica.proofs.StandLemmas.{keeps_now, not_written}
+use Rattle.syn_replica.proofs.StandLemmas.{keeps_now, not_written, allowed_after}
 use Rattle.syn_replica.proofs.StandingLemmas.{refused_at, room_at}
+use Rattle.syn_replica.specs.Growing.{itself}
 use Rattle.syn_replica.proofs.replica.Replica.add.Goals as goal
 
 pub returns-in_err-update-clause-cause : goal.returns-in_err-update-clause-cause
@@ -33,3 +34,18 @@ returns-in_err-check_room-clause-any_moment g c history stands =
 
 pub returns-in_err-check_room-clause-seen : goal.returns-in_err-check_room-clause-seen
 returns-in_err-check_room-clause-seen g c history stands = inl (keeps_now c.args.self.now history stands)
+
+pub returns-in_err-payload-clause-grown : goal.returns-in_err-payload-clause-grown
+returns-in_err-payload-clause-grown g c = itself c.args.self.now
+
+pub returns-in_err-update-clause-grown : goal.returns-in_err-update-clause-grown
+returns-in_err-update-clause-grown g c = itself c.args.self.now
+
+pub returns-in_err-check_room-clause-grown : goal.returns-in_err-check_room-clause-grown
+returns-in_err-check_room-clause-grown g c = itself c.args.self.now
+
+pub returns-clause-grown : goal.returns-clause-grown
+returns-clause-grown g c =
+    c.commit.ensures.grown (event_of c.args.event)
+    (λ history stands. allowed_after (standing_shown c.args.self.now) history (event_of c.args.event) stands.remembers.standing (record { lawful = c.in_ok-payload.ensures.lawful; not_refused = c.in_ok-update.ensures.allowed }))
+    c.in_ok-payload.ensures.spelling c.in_ok-update.ensures.gives

@@ -1,11 +1,13 @@
-use Rattle.std.proofs.Common.{◌+◌, ◌≤◌, ℕ, List, length, Err, inl, sym, ap, ap₂, ◌∙◌, subst}
+use Rattle.std.proofs.Common.{◌≡◌, ◌⊎◌, ◌+◌, ◌≤◌, ℕ, List, length, Err, inl, inr, refl, true≢false, sym, ap, ap₂, ◌∙◌, subst}
 use Rattle.std.proofs.lemmas.Result.{err_from_is_err_and}
 use Rattle.syn_journal.specs.Journal as journal
 use Rattle.syn_journal.specs.Layout.{IsBeforeOrAfter, image_alone, longest_image}
 use Rattle.syn_history.specs.Past.{standing_with}
 use Rattle.syn_model.specs.Image.{image_spelling}
-use Rattle.syn_replica.specs.Replica.{KeepsOrCompacts, left_shown}
+use Rattle.syn_replica.specs.Replica.{KeepsOrCompacts, left_shown, IsHalted}
 use Rattle.syn_replica.proofs.StandLemmas.{seen_is_left, keeps_now, not_written, greatest_alone, stop_compacts, left_behind, image_stands, leaves_weaker}
+use Rattle.syn_replica.specs.Growing.{itself}
+use Rattle.syn_replica.proofs.GrowthLemmas.{broken, kept, of_checkpoint}
 use Rattle.syn_replica.proofs.replica.Replica.checkpoint.Goals as goal
 
 pub returns-in_err-checkpoint-clause-any_moment : goal.returns-in_err-checkpoint-clause-any_moment
@@ -70,3 +72,24 @@ returns-clause-seen g c history stands =
 
 pub returns-in_err-image-clause-seen : goal.returns-in_err-image-clause-seen
 returns-in_err-image-clause-seen g c history stands = inl (keeps_now c.args.self.now history stands)
+
+pub returns-then-is_halted-clause-grown : goal.returns-then-is_halted-clause-grown
+returns-then-is_halted-clause-grown g c = itself c.args.self.now
+
+pub returns-in_err-image-clause-grown : goal.returns-in_err-image-clause-grown
+returns-in_err-image-clause-grown g c = itself c.args.self.now
+
+pub returns-in_err-checkpoint-clause-grown : goal.returns-in_err-checkpoint-clause-grown
+returns-in_err-checkpoint-clause-grown g c =
+    let old = c.args.self.now in
+    let running : IsHalted c.args.self.now → ⊥ = λ halted. true≢false (sym (c.is_halted.ensures.halted.1 halted) ∙ c.if-is_halted.false) in
+    let how : journal.IsHalted c.checkpoint.new.self ⊎ (c.checkpoint.new.self ≡ old.journal) = elim c.in_err-checkpoint.ensures.unchanged [
+      | inl device ↦ inl (c.checkpoint.ensures.halts (c.in_err-checkpoint.was ∙ ap (λ e. Err e) device))
+      | inr same ↦ inr same
+    ] in
+    broken old _ refl refl running how (λ history stands. of_checkpoint old history _ (returns-in_err-checkpoint-clause-seen g c history stands))
+
+pub returns-clause-grown : goal.returns-clause-grown
+returns-clause-grown g c =
+    let running : IsHalted c.args.self.now → ⊥ = λ halted. true≢false (sym (c.is_halted.ensures.halted.1 halted) ∙ c.if-is_halted.false) in
+    kept c.args.self.now _ refl refl running (λ history stands. returns-clause-acknowledged g c history stands)

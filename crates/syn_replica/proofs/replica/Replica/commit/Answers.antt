@@ -1,7 +1,13 @@
-use Rattle.std.proofs.Common.{◌+◌, ap, ◌∙◌}
+use Rattle.std.proofs.Common.{◌≡◌, ◌≤◌, ◌⊎◌, ◌+◌, ◌∷◌, ◌++◌, [], ap, ◌∙◌, sym, subst, refl, inl, inr, Err}
+use Rattle.syn_journal.specs.Journal as journal
+use Rattle.syn_model.specs.Standing.{Standing}
 use Rattle.syn_journal.specs.Layout.{with_payload, IsBeforeOrAfter}
-use Rattle.syn_replica.specs.Replica.{KeepsBeforeOrAfter, left_shown}
+use Rattle.syn_replica.specs.Disks.{DiskStands}
+use Rattle.syn_replica.specs.Replica.{KeepsBeforeOrAfter, Stands, left_shown}
+use Rattle.syn_model.specs.Event.{Event}
+use Rattle.syn_model.specs.History.{History}
 use Rattle.syn_replica.proofs.StandLemmas.{seen_is_left, payload_stands, stop_keeps, left_behind, leaves_weaker, remembers_more}
+use Rattle.syn_replica.proofs.GrowthLemmas.{broken, added, of_write, one_more}
 use Rattle.syn_replica.proofs.replica.Replica.commit.Goals as goal
 use Rattle.syn_replica.proofs.replica.Replica.commit.Goals.{then-eq, else-eq}
 
@@ -44,3 +50,28 @@ returns-in-Err-clause-seen g c history event stands allowed e =
 pub returns-clause-seen : goal.returns-clause-seen
 returns-clause-seen g c history event stands allowed e =
     seen_is_left g.D.Disk.seen g.D.Disk.may_leave g.D.Disk.moment g.D.Disk.left_since g.met.D.Disk.seen_may_stay g.met.D.Disk.counts_now _ _ (KeepsBeforeOrAfter c.args.self.now history event) (returns-clause-any_moment g c history event stands allowed e)
+
+pub returns-in-Err-clause-grown : goal.returns-in-Err-clause-grown
+returns-in-Err-clause-grown g c event allowed e of =
+    let old = c.args.self.now in
+    let payload = c.deref.result.now in
+    let spelled = c.deref.ensures.value ∙ e in
+    let how : journal.IsHalted c.append.new.self ⊎ (c.append.new.self ≡ old.journal) = elim c.in-Err.ensures.unchanged [
+      | inl device ↦ inl (c.append.ensures.halts (c.in-Err.is ∙ ap (λ e. Err e) device))
+      | inr same ↦ inr same
+    ] in
+    let keeps : (history : History) → Stands old history → DiskStands old.pair (g.D.Disk.seen c.append.new.self.disk) history ⊎ ((x : Event) × DiskStands old.pair (g.D.Disk.seen c.append.new.self.disk) (history ++ x ∷ [])) = λ history stands.
+    let left = leaves_weaker g.D.Disk.moment g.D.Disk.left_since _ _ (IsBeforeOrAfter stands.value old.journal.generation (with_payload stands.value payload) old.journal.generation) (KeepsBeforeOrAfter old history event)
+    (stop_keeps c.history_laws.ensures.payload c.layout_laws.ensures.left old.pair stands.value payload history event (left_shown old) old.journal.generation stands.means (allowed history stands) spelled (left_behind old stands.value stands.runs))
+    (c.append.ensures.any_moment stands.value stands.runs) in
+    of_write old history event _ (seen_is_left g.D.Disk.seen g.D.Disk.may_leave g.D.Disk.moment g.D.Disk.left_since g.met.D.Disk.seen_may_stay g.met.D.Disk.counts_now _ _ (KeepsBeforeOrAfter old history event) left) in
+    elim c.if-eq.branch [
+      | then-eq w ↦ rw w.self-is (broken old _ refl refl c.requires.running how keeps)
+      | else-eq w ↦ rw w.self-is (broken old _ refl refl c.requires.running how keeps)
+    ]
+
+pub returns-clause-grown : goal.returns-clause-grown
+returns-clause-grown g c event allowed e of =
+    let old = c.args.self.now in
+    added old _ (event ∷ []) refl (subst (λ (s : Standing). old.standing.position ≤ s.position) (sym (c.make.ensures event of)) (one_more old.standing.position)) c.requires.running
+    (λ history stands. (returns-clause-acknowledged g c history event stands (allowed history stands) e of).1)

@@ -1,18 +1,14 @@
-use Rattle.std.proofs.Common.{◌≡◌, ◌<◌, ◌≤◌, Some, length, sym, ap, ◌∙◌, subst, inl, inr}
-use Rattle.std.specs.Prelude.{IfErr}
-use Rattle.std.specs.Result.{MatchResult}
-use Rattle.std.proofs.lemmas.Option.{none-some}
-use Rattle.std.proofs.lemmas.Result.{err_from_is_err_and, MatchResult-weaker}
-use Rattle.syn_model.specs.Event.{Edited}
-use Rattle.syn_model.specs.Spelling.{event_spelling}
+use Rattle.std.proofs.Common.{◌<◌, Some, sym, ap, ◌∙◌, subst, inr}
+use Rattle.std.proofs.lemmas.Result.{err_from_is_err_and}
 use Rattle.syn_tree.specs.Edits.{edit_of}
 use Rattle.syn_replica.specs.Edits.{event_by}
-use Rattle.syn_replica.specs.Refusals.{IsOneOf, edit_refusals, outside_refusals, refusal_of, refusal_in}
+use Rattle.syn_replica.specs.Refusals.{refusal_of, refusal_in}
 use Rattle.syn_replica.specs.Replica.{room_shown, standing_shown}
 use Rattle.syn_replica.specs.Steps.{add_refusal}
 use Rattle.syn_replica.specs.inner.Updates.{add_refusal_at}
-use Rattle.syn_replica.proofs.RefusalLemmas.{edit_among, outside_among, same_refusal}
-use Rattle.syn_replica.proofs.StandingLemmas.{early_at, refused_at, room_at, room_passed}
+use Rattle.syn_replica.proofs.RefusalLemmas.{edit_among, same_refusal}
+use Rattle.syn_replica.proofs.StandingLemmas.{early_at, refused_at, room_at}
+use Rattle.syn_replica.specs.Growing.{itself}
 use Rattle.syn_replica.proofs.replica.Replica.edit.Goals as goal
 
 pub returns-in_err-check-clause-cause : goal.returns-in_err-check-clause-cause
@@ -52,3 +48,12 @@ pub add-requires-clause-brief : goal.add-requires-clause-brief
 add-requires-clause-brief g c =
     let none = sym c.check.ensures ∙ ap refusal_in c.in_ok-check.was in
     c.opening_laws.ensures.short (standing_shown c.args.self.now) (event_by c.args.user c.args.edit) none
+
+pub returns-then-is_halted-clause-grown : goal.returns-then-is_halted-clause-grown
+returns-then-is_halted-clause-grown g c = itself c.args.self.now
+
+pub returns-in_err-check-clause-grown : goal.returns-in_err-check-clause-grown
+returns-in_err-check-clause-grown g c = itself c.args.self.now
+
+pub returns-in_err-check_room-clause-grown : goal.returns-in_err-check_room-clause-grown
+returns-in_err-check_room-clause-grown g c = itself c.args.self.now

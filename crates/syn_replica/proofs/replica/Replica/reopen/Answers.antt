@@ -1,12 +1,11 @@
-use Rattle.std.proofs.Common.{◌≡◌, ◌<◌, ◌^◌, Some, refl, sym, ap, ◌∙◌, subst, inl, inr, ◌++◌, ◌∷◌, [], true≢false}
+use Rattle.std.proofs.Common.{refl, sym, ap, ◌∙◌, subst, inl, inr, ◌++◌, ◌∷◌, [], true≢false, Err}
+use Rattle.std.proofs.lemmas.Result.{err_from_is_err_and}
 use Rattle.syn_journal.specs.Layout.{meaning}
 use Rattle.syn_journal.specs.Opened.{value_read}
-use Rattle.syn_model.specs.Image.{Gives}
 use Rattle.syn_model.specs.History.{standing_of}
-use Rattle.syn_replica.specs.Disks.{GivesOtherPair}
 use Rattle.syn_replica.specs.Replica.{disk_of, Stands}
-use Rattle.syn_replica.specs.inner.Openings.{bytes_of_each}
-use Rattle.syn_replica.proofs.MeaningLemmas.{meaning_refusal}
+use Rattle.syn_replica.proofs.GrowthLemmas.{not_read, reopened, unmoved}
+use Rattle.syn_replica.proofs.ReopenLemmas.{refused_outside, not_read_outside, stands_again}
 use Rattle.syn_replica.proofs.StandLemmas.{keeps_stands, shown_of_each, stands_as_before}
 use Rattle.syn_replica.proofs.replica.Replica.reopen.Goals as goal
 use Rattle.syn_replica.proofs.replica.Replica.reopen.Goals.{then-was_halted, else-was_halted}
@@ -15,27 +14,47 @@ pub returns-in-Ok-clause-each : goal.returns-in-Ok-clause-each
 returns-in-Ok-clause-each g c history d =
     let old = c.args.self.now in
     let value = value_read c.in_ok-found.found.image c.in_ok-found.found.records in
-    let read = c.in-Ok.ensures in
-    let fits = subst (λ n. n < 2 ^ 64) (sym (read.wanted old.pair refl)) read.fits in
     (shown_of_each _ value (g.D.Disk.seen (disk_of old)) old.pair history c.in_ok-found.ensures.reopened c.reopen.ensures.untouched.same d
-    (λ gives. (
-      refl,
-      (read.one old.pair (standing_of history) fits
-          (subst (λ p. Gives old.pair c.deref.result.now p (standing_of history)) (ap bytes_of_each (sym c.deref-2.ensures.value))
-          (subst (λ i. Gives old.pair i value.payloads (standing_of history)) (sym c.deref.ensures.value) gives))).1,
-    ))).1
+    (λ gives. (refl, c.in-Ok.ensures.one (standing_of history) gives))).1
 
 pub returns-clause-refusals : goal.returns-clause-refusals
 returns-clause-refusals g c =
+    let cause = c.in-Err.ensures.cause (g.D.Disk.seen (disk_of c.args.self.now)) (ap meaning (sym c.reopen.ensures.untouched.same) ∙ c.in_ok-found.ensures.reopened.holds.means) in
+    elim c.if-was_halted.branch [ then-was_halted w ↦ rw w.result-is cause | else-was_halted w ↦ rw w.result-is cause ]
+
+pub returns-in_err-found-clause-keeps_up : goal.returns-in_err-found-clause-keeps_up
+returns-in_err-found-clause-keeps_up g c history k =
+    let p = err_from_is_err_and c.from_residual.result c.from_residual.ensures.1 in
+    rw (p.1, p.2) (not_read_outside c.args.self.now history k _ c.in_err-found.ensures.refusals)
+
+pub returns-in-Ok-clause-keeps_up : goal.returns-in-Ok-clause-keeps_up
+returns-in-Ok-clause-keeps_up g c history k = stands_again c.args.self.now _ history refl (λ h d. returns-in-Ok-clause-each g c h d) k
+
+pub returns-clause-keeps_up : goal.returns-clause-keeps_up
+returns-clause-keeps_up g c history k =
+    let cause = c.in-Err.ensures.cause (g.D.Disk.seen (disk_of c.args.self.now)) (ap meaning (sym c.reopen.ensures.untouched.same) ∙ c.in_ok-found.ensures.reopened.holds.means) in
+    let outside = refused_outside c.opening_laws.ensures.one c.args.self.now history k c.read_again.ensures.fits c.in-Err.error cause in
+    elim c.if-was_halted.branch [ then-was_halted w ↦ rw w.result-is outside | else-was_halted w ↦ rw w.result-is outside ]
+
+pub returns-in_err-found-clause-grown : goal.returns-in_err-found-clause-grown
+returns-in_err-found-clause-grown g c =
+    not_read c.args.self.now _ refl refl c.reopen.ensures.untouched.same (elim c.in_err-found.ensures.unchanged [
+      | inl device ↦ inl (c.reopen.ensures.halts (c.in_err-found.was ∙ ap (λ e. Err e) device))
+      | inr before ↦ inr before
+    ])
+
+pub returns-in-Ok-clause-grown : goal.returns-in-Ok-clause-grown
+returns-in-Ok-clause-grown g c = reopened c.args.self.now _ refl c.in-Ok.ensures.later (λ h d. returns-in-Ok-clause-each g c h d)
+
+pub returns-clause-grown : goal.returns-clause-grown
+returns-clause-grown g c =
     let old = c.args.self.now in
     let value = value_read c.in_ok-found.found.image c.in_ok-found.found.records in
-    let refused = c.in-Err in
-    let cause =
-    meaning_refusal refused.error (Some old.pair) (g.D.Disk.seen (disk_of old)) value (ap meaning (sym c.reopen.ensures.untouched.same) ∙ c.in_ok-found.ensures.reopened.holds.means) refused.ensures.refusals
-    (λ damaged pair standing fits gives. refused.ensures.damaged damaged pair standing fits
-    (subst (λ p. Gives pair c.deref.result.now p standing) (ap bytes_of_each (sym c.deref-2.ensures.value)) (subst (λ i. Gives pair i value.payloads standing) (sym c.deref.ensures.value) gives)))
-    (λ other. subst (λ p. GivesOtherPair (Some old.pair) value.image p) (ap bytes_of_each c.deref-2.ensures.value) (subst (λ i. GivesOtherPair (Some old.pair) i (bytes_of_each c.deref-2.result.now)) c.deref.ensures.value (refused.ensures.other other))) in
-    elim c.if-was_halted.branch [ then-was_halted w ↦ rw w.result-is cause | else-was_halted w ↦ rw w.result-is cause ]
+    elim c.if-was_halted.branch [
+      | then-was_halted w ↦ rw w.self-is (unmoved old _ refl refl (ap g.D.Disk.seen w.halt.ensures.disk ∙ c.reopen.ensures.untouched.same) (λ h. w.halt.ensures.halted) (λ history stands. inl w.halt.ensures.halted))
+      | else-was_halted w ↦ rw w.self-is (unmoved old _ refl refl c.reopen.ensures.untouched.same (λ h. absurd (true≢false (sym (c.is_halted-was_halted.ensures.halted.1 h) ∙ w.if-was_halted.false)))
+          (λ history stands. inr (stands_as_before old _ value history stands c.in_ok-found.ensures.reopened c.reopen.ensures.untouched.same refl refl)))
+    ]
 
 pub returns-clause-unchanged : goal.returns-clause-unchanged
 returns-clause-unchanged g c history stands =

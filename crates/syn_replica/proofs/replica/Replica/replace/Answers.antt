@@ -1,4 +1,4 @@
-use Rattle.std.proofs.Common.{◌≡◌, ◌⊎◌, ◌++◌, ◌∷◌, [], ◌+◌, Some, None, false, length, option_map, sym, ap, ap₂, ◌∙◌, subst, inl, inr}
+use Rattle.std.proofs.Common.{◌≡◌, ◌⊎◌, ◌++◌, ◌∷◌, [], Some, None, false, length, sym, ap, ap₂, ◌∙◌, subst, inl, inr}
 use Rattle.std.specs.Option.{option_map_or}
 use Rattle.std.specs.Prelude.{IfOk, IfErr, OnOk}
 use Rattle.std.proofs.lemmas.Result.{err_from_is_err_and}
@@ -12,12 +12,13 @@ use Rattle.syn_history.specs.Events.{token_of}
 use Rattle.syn_tree.specs.Nodes.{part_of}
 use Rattle.syn_tree.specs.Refusals.{refusal_of as of_tree}
 use Rattle.syn_replica.specs.Refusals.{IsOneOf, outside_refusals, refusal_of, refusal_in}
-use Rattle.syn_replica.specs.Replica.{Stands, KeepsBeforeOrAfter, room_shown, standing_shown, disk_of}
+use Rattle.syn_replica.specs.Replica.{Stands, KeepsBeforeOrAfter, room_shown, disk_of}
 use Rattle.syn_replica.specs.Steps.{add_refusal, replace_refusal}
 use Rattle.syn_replica.specs.inner.Updates.{add_refusal_at}
 use Rattle.syn_replica.specs.declared.error.ReplicaError.TheVariants.{Tree}
 use Rattle.syn_replica.proofs.RefusalLemmas.{same_refusal, refused_by}
 use Rattle.syn_replica.proofs.SessionLemmas.{replaced_since, replaced_part, replaced_rest, one_longer, not_done}
+use Rattle.syn_replica.specs.Growing.{itself}
 use Rattle.syn_replica.proofs.replica.Replica.replace.Goals as goal
 
 pub returns-in_err-check_untouched-clause-refused : goal.returns-in_err-check_untouched-clause-refused
@@ -119,3 +120,21 @@ returns-clause-seen g c history stands =
     let token = token_of c.args.token in
     subst (λ q. KeepsBeforeOrAfter c.args.self.now history (Replaced token q c.args.since (part_of c.args.new)) (g.D.Disk.seen (disk_of c.add.new.self)))
     c.in_ok-path.ensures.ok (c.add.ensures.seen history stands)
+
+pub returns-then-is_halted-clause-grown : goal.returns-then-is_halted-clause-grown
+returns-then-is_halted-clause-grown g c = itself c.args.self.now
+
+pub returns-then-is_done-clause-grown : goal.returns-then-is_done-clause-grown
+returns-then-is_done-clause-grown g c = itself c.args.self.now
+
+pub returns-then-is_old-clause-grown : goal.returns-then-is_old-clause-grown
+returns-then-is_old-clause-grown g c = itself c.args.self.now
+
+pub returns-in_err-check_untouched-clause-grown : goal.returns-in_err-check_untouched-clause-grown
+returns-in_err-check_untouched-clause-grown g c = itself c.args.self.now
+
+pub returns-in_err-check_part-clause-grown : goal.returns-in_err-check_part-clause-grown
+returns-in_err-check_part-clause-grown g c = itself c.args.self.now
+
+pub returns-in_err-path-clause-grown : goal.returns-in_err-path-clause-grown
+returns-in_err-path-clause-grown g c = itself c.args.self.now

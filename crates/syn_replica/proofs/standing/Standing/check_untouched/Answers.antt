@@ -1,4 +1,4 @@
-use Rattle.std.proofs.Common.{◌≡◌, ◌<◌, ◌⊎◌, Some, None, Ok, Err, if◌then◌else◌, sym, ap, ◌∙◌, subst, length}
+use Rattle.std.proofs.Common.{◌<◌, ◌⊎◌, Some, None, Err, if◌then◌else◌, sym, ap, ◌∙◌, subst, length}
 use Rattle.std.proofs.lemmas.Result.{err_from_is_err_and}
 use Rattle.syn_history.specs.Past.{Past, past_in}
 use Rattle.syn_history.specs.Refusals.{refusal_of as of_history}

@@ -1,8 +1,7 @@
-use Rattle.std.proofs.Common.{◌≡◌, Some, sym, ap, ◌∙◌, inr}
+use Rattle.std.proofs.Common.{sym, ◌∙◌, inr}
 use Rattle.std.proofs.lemmas.Result.{err_from_is_err_and}
 use Rattle.syn_history.specs.Events.{event_of}
 use Rattle.syn_model.specs.Standing.{refusal_at}
-use Rattle.syn_replica.specs.inner.Updates.{tree_refusal}
 use Rattle.syn_replica.proofs.StandingLemmas.{tree_at, position_at, of_cause}
 use Rattle.syn_replica.proofs.standing.Standing.prepare.Goals as goal
 
