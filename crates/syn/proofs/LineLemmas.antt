@@ -14,8 +14,9 @@ use Rattle.syn.specs.Reads.{Asks, AsksHelp, HasText, IfUsage, IsMistake, IsReque
 use Rattle.syn.specs.Asked.{word_of}
 use Rattle.syn.specs.declared.line.Change.{Change}
 use Rattle.syn.specs.declared.line.Change.TheVariants as change
+use Rattle.syn.specs.declared.line.ImageKind.{ImageKind}
 use Rattle.syn.specs.declared.line.Line.{Line}
-use Rattle.syn.specs.declared.line.Line.TheVariants.{Format, Edit, Show}
+use Rattle.syn.specs.declared.line.Line.TheVariants.{Format, Edit, Show, Check}
 use Rattle.syn.specs.declared.line.ValueName.{ValueName}
 use Rattle.syn.specs.declared.line.LineError.{LineError}
 use Rattle.syn.specs.declared.line.LineError.TheVariants.{Usage, Value, Memory}
@@ -98,7 +99,7 @@ value_is (Err e) P Q p h = λ _. h p
 pub differ : (a b : Text) → (slice_index a 0 ≡ slice_index b 0 → ⊥) → a ≡ b → ⊥
 differ a b letters e = letters (ap (λ (t : List ℕ). slice_index t 0) e)
 
--- the word of an edit is not `format`, and not `show`
+-- the word of an edit begins with none of the letters of `format`, `show` and `check`
 no_format : (change : Change) → word_of change ≡ codes "format" → ⊥
 no_format change.Put = differ (codes "put") (codes "format") (λ (e : 112 ≡ 102). omega (arith, e))
 no_format change.MakeDir =
@@ -110,6 +111,21 @@ no_show change.Put = differ (codes "put") (codes "show") (λ (e : 112 ≡ 115). 
 no_show change.MakeDir = differ (codes "mkdir") (codes "show") (λ (e : 109 ≡ 115). omega (arith, e))
 no_show change.Remove = differ (codes "rm") (codes "show") (λ (e : 114 ≡ 115). omega (arith, e))
 
+no_check : (change : Change) → word_of change ≡ codes "check" → ⊥
+no_check change.Put = differ (codes "put") (codes "check") (λ (e : 112 ≡ 99). omega (arith, e))
+no_check change.MakeDir =
+    differ (codes "mkdir") (codes "check") (λ (e : 109 ≡ 99). omega (arith, e))
+no_check change.Remove = differ (codes "rm") (codes "check") (λ (e : 114 ≡ 99). omega (arith, e))
+
+pub format_show : codes "format" ≡ codes "show" → ⊥
+format_show = differ (codes "format") (codes "show") (λ (e : 102 ≡ 115). omega (arith, e))
+
+pub format_check : codes "format" ≡ codes "check" → ⊥
+format_check = differ (codes "format") (codes "check") (λ (e : 102 ≡ 99). omega (arith, e))
+
+pub show_check : codes "show" ≡ codes "check" → ⊥
+show_check = differ (codes "show") (codes "check") (λ (e : 115 ≡ 99). omega (arith, e))
+
 -- the word of an edit is one of the three
 pub is_edit_word : (change : Change) → IsEditName (word_of change)
 is_edit_word change.Put = inl refl
@@ -117,43 +133,52 @@ is_edit_word change.MakeDir = inr (inl refl)
 is_edit_word change.Remove = inr (inr refl)
 
 pub only_format : (name : Text) (rows : List Row) → name ≡ codes "format"
-    → ((pair : ℕ) (file : Text) → IsFormat rows pair file → ⊥) → NothingReads (Some (name, rows))
-only_format name rows same none (Format pair file) read = none pair file.now read.1
+    → ((kind : ImageKind) (pair : ℕ) (file : Text) → IsFormat rows kind pair file → ⊥)
+    → NothingReads (Some (name, rows))
+only_format name rows same none (Format kind pair file) read = none kind pair file.now read.1
 only_format name rows same none (Edit line) read = no_format line.change (sym read.0 ∙ same)
-only_format name rows same none (Show file path) read =
-    differ (codes "format") (codes "show") (λ (e : 102 ≡ 115). omega (arith, e)) (sym same ∙ read.0)
+only_format name rows same none (Show file path) read = format_show (sym same ∙ read.0)
+only_format name rows same none (Check file) read = format_check (sym same ∙ read.0)
 
 pub only_edit : (change : Change) (name : Text) (rows : List Row) → name ≡ word_of change
     → ((file : Text) (user : ℕ) (path : Text) → IsEdit rows file user path → ⊥)
     → NothingReads (Some (name, rows))
-only_edit change name rows same none (Format pair file) read =
+only_edit change name rows same none (Format kind pair file) read =
     no_format change (sym same ∙ read.0)
 only_edit change name rows same none (Edit line) read =
     none line.file.now line.user line.path.now read.1
 only_edit change name rows same none (Show file path) read = no_show change (sym same ∙ read.0)
+only_edit change name rows same none (Check file) read = no_check change (sym same ∙ read.0)
 
 pub only_show : (name : Text) (rows : List Row) → name ≡ codes "show"
     → ((file : Text) → HasText rows (codes "FILE") file → ⊥) → NothingReads (Some (name, rows))
-only_show name rows same none (Format pair file) read =
-    differ (codes "show") (codes "format") (λ (e : 115 ≡ 102). omega (arith, e)) (sym same ∙ read.0)
+only_show name rows same none (Format kind pair file) read = format_show (sym read.0 ∙ same)
 only_show name rows same none (Edit line) read = no_show line.change (sym read.0 ∙ same)
 only_show name rows same none (Show file path) read = none file.now read.1
+only_show name rows same none (Check file) read = show_check (sym same ∙ read.0)
+
+pub only_check : (name : Text) (rows : List Row) → name ≡ codes "check"
+    → ((file : Text) → HasText rows (codes "FILE") file → ⊥) → NothingReads (Some (name, rows))
+only_check name rows same none (Format kind pair file) read = format_check (sym read.0 ∙ same)
+only_check name rows same none (Edit line) read = no_check line.change (sym read.0 ∙ same)
+only_check name rows same none (Show file path) read = show_check (sym read.0 ∙ same)
+only_check name rows same none (Check file) read = none file.now read.1
 
 -- any other name is no command's
-pub other_name : (name : Text) (rows : List Row)
-    → (name ≡ codes "format" → ⊥) → (name ≡ codes "put" → ⊥) → (name ≡ codes "mkdir" → ⊥)
-    → (name ≡ codes "rm" → ⊥) → (name ≡ codes "show" → ⊥) → NothingReads (Some (name, rows))
-other_name name rows not_format not_put not_make_dir not_remove not_show (Format pair file) read =
-    not_format read.0
-other_name name rows not_format not_put not_make_dir not_remove not_show (Edit line) read =
-    go line.change read.0
-  where
-    go : (change : Change) → name ≡ word_of change → ⊥
-    go change.Put = not_put
-    go change.MakeDir = not_make_dir
-    go change.Remove = not_remove
-other_name name rows not_format not_put not_make_dir not_remove not_show (Show file path) read =
-    not_show read.0
+module _ (name : Text) (rows : List Row)
+    (not_format : name ≡ codes "format" → ⊥) (not_put : name ≡ codes "put" → ⊥)
+    (not_make_dir : name ≡ codes "mkdir" → ⊥) (not_remove : name ≡ codes "rm" → ⊥)
+    (not_show : name ≡ codes "show" → ⊥) (not_check : name ≡ codes "check" → ⊥) where
+  not_word : (change : Change) → name ≡ word_of change → ⊥
+  not_word change.Put = not_put
+  not_word change.MakeDir = not_make_dir
+  not_word change.Remove = not_remove
+
+  pub other_name : NothingReads (Some (name, rows))
+  other_name (Format kind pair file) read = not_format read.0
+  other_name (Edit line) read = not_word line.change read.0
+  other_name (Show file path) read = not_show read.0
+  other_name (Check file) read = not_check read.0
 
 -- what is told where the help is asked for
 pub is_asked : (error : LineError) (words : List Text) → IsRequest error

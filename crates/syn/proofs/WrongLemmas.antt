@@ -14,11 +14,11 @@ use Rattle.clap.specs.Takes.{is_given}
 use Rattle.clap.specs.Walk.{Held, Names, Outcome, Row, Rule, Step, Text, Waiting, Walk, after_flag, after_step, answers_to, arg_by_index, done, idle, long_or_other, next, nothing_held, option, plain, plain_word, positional, refused, rows_after, settled, short_or_plain, subcommand, subcommand_met, subcommand_or_other, first_of, to_positional, trailing, value, waits, walk, walk_from, walked, walked_from, word_met}
 use Rattle.clap.specs.declared.error.kind.ErrorKind.TheVariants.{DisplayHelp, InvalidSubcommand}
 use Rattle.clap.proofs.OnLiterals.{clap_on_literals}
-use Rattle.syn.specs.App.{edit_app, format_app, show_app, syn_app}
-use Rattle.syn.specs.Reads.{HasEditValues, HasFormatValues, IsCommandName, IsComplete, IsEditName, IsGiven, IsWrongIn, IsWrongValue, Lacks}
+use Rattle.syn.specs.App.{check_app, edit_app, format_app, show_app, syn_app}
+use Rattle.syn.specs.Reads.{HasEditValues, HasFormatValues, IsCommandName, IsComplete, IsEditName, IsGiven, IsReadingName, IsWrongIn, IsWrongValue, Lacks}
 use Rattle.syn.specs.declared.line.ValueName.{ValueName}
 use Rattle.syn.specs.declared.line.ValueName.TheVariants.{Command, Kind, Pair, User, File, Path}
-use Rattle.syn.proofs.LineLemmas.{differ}
+use Rattle.syn.proofs.LineLemmas.{differ, format_check, format_show}
 use Rattle.syn.proofs.GivenLemmas.{IsFull, full_finished, full_walk, give, given_text, no_faults}
 
 -- ---- `help` is refused, so no walk that is not stops at it
@@ -191,9 +191,16 @@ remove_sound name words answers other e = inr (inl (inr (inr refl), leaf_has (su
 
 show_sound : IsSound (sub_of show_app)
 unfolding clap_on_literals
-show_sound name words answers other e = inr (inr (refl, leaf_has (sub_of show_app) (λ rows. IsGiven rows (codes "FILE")) refl has words e))
+show_sound name words answers other e = inr (inr (inl refl, leaf_has (sub_of show_app) (λ rows. IsGiven rows (codes "FILE")) refl has words e))
   where
     has : (rows : List Row) → IsFull rows → is_missing (sub_of show_app).rules rows ≡ false → IsGiven rows (codes "FILE")
+    has rows full none = given_text (codes "FILE") rows full (not_either (is_given (codes "FILE") rows) _ none).0
+
+check_sound : IsSound (sub_of check_app)
+unfolding clap_on_literals
+check_sound name words answers other e = inr (inr (inr refl, leaf_has (sub_of check_app) (λ rows. IsGiven rows (codes "FILE")) refl has words e))
+  where
+    has : (rows : List Row) → IsFull rows → is_missing (sub_of check_app).rules rows ≡ false → IsGiven rows (codes "FILE")
     has rows full none = given_text (codes "FILE") rows full (not_either (is_given (codes "FILE") rows) _ none).0
 
 help_sound : IsSound (built_leaf help_shape)
@@ -205,7 +212,7 @@ help_sound name words answers other e = absurd (true≢false (sym (go (bytes_eq 
 
 sound : AreSound (built syn_app).subs
 unfolding clap_on_literals
-sound = (format_sound, (put_sound, (make_dir_sound, (remove_sound, (show_sound, (help_sound, tt))))))
+sound = (format_sound, (put_sound, (make_dir_sound, (remove_sound, (show_sound, (check_sound, (help_sound, tt)))))))
 
 -- ---- what the words name
 
@@ -258,35 +265,44 @@ no_edit_show : (name : Text) → IsEditName name → name ≡ codes "show" → �
 no_edit_show name edit same =
     edit_differs name (codes "show") edit same (λ (e : 112 ≡ 115). omega (arith, e)) (λ (e : 109 ≡ 115). omega (arith, e)) (λ (e : 114 ≡ 115). omega (arith, e))
 
-no_show_format : (name : Text) → name ≡ codes "show" → name ≡ codes "format" → ⊥
-no_show_format name show same = differ (codes "show") (codes "format") (λ (e : 115 ≡ 102). omega (arith, e)) (sym show ∙ same)
+no_edit_check : (name : Text) → IsEditName name → name ≡ codes "check" → ⊥
+no_edit_check name edit same =
+    edit_differs name (codes "check") edit same (λ (e : 112 ≡ 99). omega (arith, e)) (λ (e : 109 ≡ 99). omega (arith, e)) (λ (e : 114 ≡ 99). omega (arith, e))
+
+no_edit_reading : (name : Text) → IsEditName name → IsReadingName name → ⊥
+no_edit_reading name edit (inl show) = no_edit_show name edit show
+no_edit_reading name edit (inr check) = no_edit_check name edit check
+
+no_reading_format : (name : Text) → IsReadingName name → name ≡ codes "format" → ⊥
+no_reading_format name (inl show) same = format_show (sym same ∙ show)
+no_reading_format name (inr check) same = format_check (sym same ∙ check)
 
 format_values : (name : Text) (rows : List Row) → IsComplete name rows → name ≡ codes "format" → HasFormatValues rows
 format_values name rows (inl format) same = format.1
 format_values name rows (inr (inl edit)) same = absurd (no_edit_format name edit.0 same)
-format_values name rows (inr (inr show)) same = absurd (no_show_format name show.0 same)
+format_values name rows (inr (inr reading)) same = absurd (no_reading_format name reading.0 same)
 
 edit_values_of : (name : Text) (rows : List Row) → IsComplete name rows → IsEditName name → HasEditValues rows
 edit_values_of name rows (inl format) edit = absurd (no_edit_format name edit format.0)
 edit_values_of name rows (inr (inl edit)) named = edit.1
-edit_values_of name rows (inr (inr show)) edit = absurd (no_edit_show name edit show.0)
+edit_values_of name rows (inr (inr reading)) edit = absurd (no_edit_reading name edit reading.0)
 
 has_file : (name : Text) (rows : List Row) → IsComplete name rows → IsGiven rows (codes "FILE")
 has_file name rows (inl format) = format.1.2
 has_file name rows (inr (inl edit)) = edit.1.0
-has_file name rows (inr (inr show)) = show.1
+has_file name rows (inr (inr reading)) = reading.1
 
 is_command : (name : Text) (rows : List Row) → IsComplete name rows → IsCommandName name
 is_command name rows (inl format) = inl format.0
 is_command name rows (inr (inl edit)) = inr (inl edit.0)
-is_command name rows (inr (inr show)) = inr (inr show.0)
+is_command name rows (inr (inr reading)) = inr (inr reading.0)
 
 -- of the values that are given, only these can be wrong
 wrong_in : (name : Text) (rows : List Row) (value : ValueName) → IsComplete name rows → Lacks name rows value → IsWrongIn name rows value
 wrong_in name rows Command complete lacks = absurd (lacks (is_command name rows complete))
 wrong_in name rows Kind complete lacks =
     let values = format_values name rows complete lacks.0 in
-    (lacks.0, values, (values.0.0, values.0.1, lacks.1 values.0.0 values.0.1))
+    (lacks.0, values, (values.0.0, values.0.1, λ kind is. lacks.1 values.0.0 values.0.1 (kind, is)))
 wrong_in name rows Pair complete lacks =
     let values = format_values name rows complete lacks.0 in
     (lacks.0, values, (values.1.0, values.1.1, λ n is. lacks.1 values.1.0 values.1.1 (n, is)))

@@ -35,6 +35,9 @@ show_app =
     (with_rule (word_app (codes "show") (codes "FILE" ∷ [])) (new_rule (codes "PATH")))
     verbose_rule
 
+abbrev pub check_app : App
+check_app = command_app (codes "check") (codes "FILE" ∷ [])
+
 -- a command that has a version
 abbrev pub versioned : App → App
 versioned app = record app { top = record app.top { has_version = true } }
@@ -47,10 +50,11 @@ abbrev pub top_app : App
 top_app = with_rule (requiring (versioned (new_app (codes "syn")))) verbose_rule
 
 abbrev pub syn_app : App
-syn_app = with_subcommand (with_subcommand
+syn_app = with_subcommand (with_subcommand (with_subcommand
     (with_subcommand (with_subcommand (with_subcommand top_app
     format_app.top)
     (edit_app (codes "put")).top)
     (edit_app (codes "mkdir")).top)
     (edit_app (codes "rm")).top)
-    show_app.top
+    show_app.top)
+    check_app.top

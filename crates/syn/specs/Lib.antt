@@ -1,6 +1,8 @@
 pub mod App
 pub mod Asked
 pub mod Errors
+pub mod Images
 pub mod Printed
 pub mod Reads
+pub mod Shown
 pub mod Status

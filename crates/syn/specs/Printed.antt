@@ -31,12 +31,43 @@ lines_of pairs = flat_map (λ pair. content_line pair.0 pair.1) pairs
 abbrev pub lines_below : Tree → Path → List ℕ
 lines_below tree at = lines_of (filter (is_below at) (entries tree))
 
--- the first line of an image
-abbrev pub image_line : ℕ → ℕ → List ℕ
-image_line pair position = codes "replica pair "
+-- the first line of a replica
+abbrev pub replica_line : ℕ → ℕ → List ℕ
+replica_line pair position = codes "replica pair "
     ++ (decimal pair ++ (codes " position " ++ (decimal position ++ codes "\n")))
 
 -- what is printed of a path: the bytes of a file, or the lines of what is below a directory
 abbrev pub content_shown : Tree → Path → Content → List ℕ
 content_shown tree path Directory = lines_below tree path
 content_shown tree path (File contents) = contents.bytes
+
+-- the line of a file in an archive: its path, and its digest in lower case hexadecimal digits
+abbrev pub digest_line : List (List ℕ) → List ℕ → List ℕ
+digest_line path digest = codes "f " ++
+    (printed_form path ++ (codes " " ++ (encode_lower digest ++ codes "\n")))
+
+abbrev pub mark_line : Path → Content → List ℕ
+mark_line path Directory = directory_line path
+mark_line path (File digest) = digest_line path digest.bytes
+
+-- the lines of marks, in their order
+abbrev pub lines_of_marks : List Pair → List ℕ
+lines_of_marks pairs = flat_map (λ pair. mark_line pair.0 pair.1) pairs
+
+-- the first line of an archive
+abbrev pub archive_line : ℕ → ℕ → List ℕ
+archive_line pair session = codes "archive pair "
+    ++ (decimal pair ++ (codes " session " ++ (decimal session ++ codes "\n")))
+
+-- the numbers of a replica: its pair, generation, position, floor and last session
+abbrev pub replica_numbers : ℕ → ℕ → ℕ → ℕ → ℕ → List ℕ
+replica_numbers pair generation position floor session = codes "replica pair "
+    ++ (decimal pair ++ (codes " generation " ++ (decimal generation ++ (codes " position "
+    ++ (decimal position ++ (codes " floor " ++ (decimal floor ++ (codes " session "
+    ++ (decimal session ++ codes "\n")))))))))
+
+-- the numbers of an archive: its pair, generation and last session
+abbrev pub archive_numbers : ℕ → ℕ → ℕ → List ℕ
+archive_numbers pair generation session = codes "archive pair "
+    ++ (decimal pair ++ (codes " generation " ++ (decimal generation ++ (codes " session "
+    ++ (decimal session ++ codes "\n")))))

@@ -7,8 +7,10 @@ use Rattle.clap.specs.declared.error.Error.{Error}
 use Rattle.clap.specs.declared.error.kind.ErrorKind.TheVariants.{DisplayHelp, DisplayVersion}
 use Rattle.syn.specs.App.{syn_app}
 use Rattle.syn.specs.Asked.{word_of}
+use Rattle.syn.specs.declared.line.ImageKind.{ImageKind}
+use Rattle.syn.specs.declared.line.ImageKind.TheVariants.{Replica, Archive}
 use Rattle.syn.specs.declared.line.Line.{Line}
-use Rattle.syn.specs.declared.line.Line.TheVariants.{Format, Edit, Show}
+use Rattle.syn.specs.declared.line.Line.TheVariants.{Format, Edit, Show, Check}
 use Rattle.syn.specs.declared.line.ValueName.{ValueName}
 use Rattle.syn.specs.declared.line.ValueName.TheVariants.{Command, Kind, Pair, User, File, Path}
 use Rattle.syn.specs.declared.line.LineError.{LineError}
@@ -28,9 +30,14 @@ HasText rows id text = first_of id rows ≡ Some text
 abbrev pub HasNumber : ℕ → List Row → Text → ℕ → Type 0
 HasNumber bits rows id n = (text : Text) × HasText rows id text × IsNumber bits text n
 
+-- the word of a kind
+abbrev pub kind_word : ImageKind → Text
+kind_word Replica = codes "replica"
+kind_word Archive = codes "archive"
+
 -- the values of each command
-abbrev pub IsFormat : List Row → ℕ → Text → Type 0
-IsFormat rows pair file = HasText rows (codes "KIND") (codes "replica")
+abbrev pub IsFormat : List Row → ImageKind → ℕ → Text → Type 0
+IsFormat rows kind pair file = HasText rows (codes "KIND") (kind_word kind)
     × HasNumber 64 rows (codes "PAIR") pair × HasText rows (codes "FILE") file
 
 abbrev pub IsEdit : List Row → Text → ℕ → Text → Type 0
@@ -39,12 +46,14 @@ IsEdit rows file user path = HasText rows (codes "FILE") file
 
 -- the line is that of the subcommand and its rows
 abbrev pub ReadsRows : Text → List Row → Line → Type 0
-ReadsRows name rows (Format pair file) = (name ≡ codes "format") × IsFormat rows pair file.now
+ReadsRows name rows (Format kind pair file) =
+    (name ≡ codes "format") × IsFormat rows kind pair file.now
 ReadsRows name rows (Edit line) =
     (name ≡ word_of line.change) × IsEdit rows line.file.now line.user line.path.now
 ReadsRows name rows (Show file path) =
     (name ≡ codes "show") × HasText rows (codes "FILE") file.now
     × (first_of (codes "PATH") rows ≡ option_map (λ p. p.now) path)
+ReadsRows name rows (Check file) = (name ≡ codes "check") × HasText rows (codes "FILE") file.now
 
 abbrev pub Reads : Option (Text × List Row) → Line → Type 0
 Reads None line = ⊥
@@ -70,15 +79,20 @@ HasEditValues rows = IsGiven rows (codes "FILE") × IsGiven rows (codes "USER")
 abbrev pub IsEditName : Text → Type 0
 IsEditName name = (name ≡ codes "put") ⊎ ((name ≡ codes "mkdir") ⊎ (name ≡ codes "rm"))
 
+-- a command that reads an image
+abbrev pub IsReadingName : Text → Type 0
+IsReadingName name = (name ≡ codes "show") ⊎ (name ≡ codes "check")
+
 -- the name is that of a command, and each value that the command requires is given
 abbrev pub IsComplete : Text → List Row → Type 0
 IsComplete name rows = ((name ≡ codes "format") × HasFormatValues rows)
     ⊎ ((IsEditName name × HasEditValues rows)
-    ⊎ ((name ≡ codes "show") × IsGiven rows (codes "FILE")))
+    ⊎ (IsReadingName name × IsGiven rows (codes "FILE")))
 
--- the text given for KIND is another than `replica`
+-- the text given for KIND is the word of none
 abbrev pub IsOtherKind : List Row → Type 0
-IsOtherKind rows = (kind : Text) × HasText rows (codes "KIND") kind × (kind ≢ codes "replica")
+IsOtherKind rows = (text : Text) × HasText rows (codes "KIND") text
+    × ((kind : ImageKind) → text ≢ kind_word kind)
 
 -- the text given for the id is no number of so many bits
 abbrev pub IsNoNumber : ℕ → List Row → Text → Type 0
@@ -108,7 +122,7 @@ name_of Path = codes "PATH"
 
 -- what is right for a value, where a text is given for it
 abbrev pub IsRight : ValueName → Text → Type 0
-IsRight Kind text = text ≡ codes "replica"
+IsRight Kind text = (kind : ImageKind) × (text ≡ kind_word kind)
 IsRight Pair text = (n : ℕ) × IsNumber 64 text n
 IsRight User text = (n : ℕ) × IsNumber 32 text n
 IsRight _ text = Unit {0}
@@ -118,7 +132,7 @@ abbrev pub IsWanting : List Row → ValueName → Type 0
 IsWanting rows value = (text : Text) → HasText rows (name_of value) text → ¬ IsRight value text
 
 abbrev pub IsCommandName : Text → Type 0
-IsCommandName name = (name ≡ codes "format") ⊎ (IsEditName name ⊎ (name ≡ codes "show"))
+IsCommandName name = (name ≡ codes "format") ⊎ (IsEditName name ⊎ IsReadingName name)
 
 -- the value is one of the command, and is wanting, or there is no such command
 abbrev pub Lacks : Text → List Row → ValueName → Type 0

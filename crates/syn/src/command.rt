@@ -6,9 +6,11 @@ ghost use Rattle.syn.specs.Errors.{IsOfPath};
 ghost use Rattle.syn.specs.Reads.{Asks, AsksHelp, IsMistake, IsRequest};
 ghost use Rattle.syn.specs.declared.line.Line.{Line};
 
+use crate::check::check_image;
 use crate::edit::make_edit;
 use crate::error::CommandError;
 use crate::format::format;
+use crate::image::{Image, open_image};
 use crate::line::{EditLine, Line, LineError};
 use crate::report::{print_meanings, report};
 use crate::show::{show_image, show_path};
@@ -94,8 +96,8 @@ where
     F::File: HostFile,
 {
     match line {
-        Line::Format { pair, file } => {
-            format(alloc, files, file, *pair)?;
+        Line::Format { kind, pair, file } => {
+            format(alloc, files, file, *kind, *pair)?;
             writeln!(output, "ok")?;
         }
         Line::Edit(line) => {
@@ -103,12 +105,13 @@ where
             writeln!(output, "ok {position}")?;
         }
         Line::Show { file, path: None } => {
-            show_image(alloc, &open_to_read(alloc, files, file)?, output)?;
+            show_image(alloc, &image_in(alloc, files, file)?, output)?;
         }
         Line::Show {
             file,
             path: Some(path),
         } => show(alloc, files, file, path, output)?,
+        Line::Check { file } => check_image(alloc, &image_in(alloc, files, file)?, output)?,
     }
     Ok(output.flush()?)
 }
@@ -159,6 +162,18 @@ where
 {
     let disk = FileDisk::open(alloc, files, name)?;
     Replica::open(alloc, disk, None).map_err(|(error, _)| CommandError::from(error))
+}
+
+/// The image in the file, to be read. The file need not be one that can be written.
+fn image_in<F: Files>(
+    alloc: Global,
+    files: &F,
+    name: &str,
+) -> Result<Image<FileDisk<MirroredFile<F::File>>>, CommandError>
+where
+    F::File: HostFile,
+{
+    open_image(alloc, FileDisk::open_to_read(alloc, files, name)?)
 }
 
 /// The replica in the file, to be read. The file need not be one that can be written.

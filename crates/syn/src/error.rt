@@ -6,6 +6,7 @@ ghost use Rattle.syn.specs.Errors.{refusal_of};
 
 use std::alloc::{AllocError, AllocFailed};
 use std::{fmt, io};
+use syn_archive::ArchiveError;
 use syn_disk::OpenError;
 use syn_path::PathError;
 use syn_refusal::Refusal;
@@ -19,8 +20,10 @@ pub enum CommandError {
     Path(PathError),
     /// The file is no disk, or somebody else has it.
     Open(OpenError),
-    /// The replica refuses the call.
+    /// The replica refuses the call, or the disk has no replica.
     Replica(ReplicaError),
+    /// The archive refuses the call, or the disk has no archive.
+    Archive(ArchiveError),
     /// Standard input cannot be read, standard output cannot be written, or the file cannot be
     /// made.
     Device(io::Error),
@@ -39,6 +42,7 @@ impl CommandError {
             CommandError::Path(error) => error.refusal(),
             CommandError::Open(error) => error.refusal(),
             CommandError::Replica(error) => error.refusal(),
+            CommandError::Archive(error) => error.refusal(),
             CommandError::Device(_) | CommandError::Longer => Refusal::Device,
             CommandError::Memory => Refusal::Memory,
         }
@@ -88,6 +92,16 @@ impl From<ReplicaError> for CommandError {
 
     fn from(error: ReplicaError) -> CommandError {
         CommandError::Replica(error)
+    }
+}
+
+impl From<ArchiveError> for CommandError {
+    ghost use Rattle.syn.specs.declared.error.CommandError.TheVariants.{Archive};
+
+    ghost from_gives = { λ error e. e ≡ Archive error };
+
+    fn from(error: ArchiveError) -> CommandError {
+        CommandError::Archive(error)
     }
 }
 

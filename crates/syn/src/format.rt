@@ -1,18 +1,25 @@
 //! Makes a file an image.
 
 use crate::error::CommandError;
+use crate::image::format_image;
+use crate::line::ImageKind;
 use std::alloc::Global;
 use std::fs::{Files, OpenFile, OpenOptions, TryLockError};
 use std::io;
 use syn_disk::{Access, DISK_SIZE, FileDisk, HostFile, OpenError};
-use syn_replica::Replica;
 
-/// Makes the file a replica of the pair. Where that is refused, the file is as long as it was, or
-/// missing.
+/// Makes the file an image of the kind, for the pair. Where that is refused, the file is as long as
+/// it was, or missing.
 ///
 /// A file that is longer than an image is refused: to cut it would lose what it holds. No other
 /// process can make it an image meanwhile, for the file is locked before it is looked at.
-pub fn format<F: Files>(alloc: Global, files: &F, name: &str, pair: u64) -> Result<(), CommandError>
+pub fn format<F: Files>(
+    alloc: Global,
+    files: &F,
+    name: &str,
+    kind: ImageKind,
+    pair: u64,
+) -> Result<(), CommandError>
 where
     F::File: HostFile,
 {
@@ -24,7 +31,7 @@ where
     }
     // Keeps the lock until what was refused is undone.
     let held = file.try_clone()?;
-    let formatted = format_file(alloc, file, pair);
+    let formatted = format_file(alloc, file, kind, pair);
     if formatted.is_err() {
         let _ = held.set_len(before);
         if is_new {
@@ -55,12 +62,15 @@ fn lock<H: HostFile>(file: &H) -> Result<(), CommandError> {
     }
 }
 
-/// Gives a file that is locked the length of a disk, and makes it a replica of the pair.
-fn format_file<H: HostFile>(alloc: Global, file: H, pair: u64) -> Result<(), CommandError> {
+/// Gives a file that is locked the length of a disk, and makes it an image of the kind.
+fn format_file<H: HostFile>(
+    alloc: Global,
+    file: H,
+    kind: ImageKind,
+    pair: u64,
+) -> Result<(), CommandError> {
     file.set_len(DISK_SIZE as u64)?;
     let disk = FileDisk::of_file(alloc, file, Access::Write)?;
-    match Replica::format(alloc, disk, pair) {
-        Ok(_) => Ok(()),
-        Err((error, _)) => Err(CommandError::from(error)),
-    }
+    format_image(alloc, disk, kind, pair)?;
+    Ok(())
 }

@@ -4,6 +4,15 @@ ghost use Rattle.syn.specs.Reads.{name_of};
 
 use thiserror::Error;
 
+/// What an image holds.
+#[derive(Clone, Copy, Debug, PartialEq, Eq)]
+pub enum ImageKind {
+    /// A tree of files with the history of its edits.
+    Replica,
+    /// The marks that both sides last agreed on.
+    Archive,
+}
+
 /// What an edit does.
 #[derive(Clone, Copy, Debug, PartialEq, Eq)]
 pub enum Change {
@@ -27,8 +36,9 @@ pub struct EditLine<'a> {
 /// A command with its values.
 #[derive(Clone, Copy, Debug, PartialEq, Eq)]
 pub enum Line<'a> {
-    /// Makes the file a replica of the pair.
+    /// Makes the file an image of the kind, for the pair.
     Format {
+        kind: ImageKind,
         pair: u64,
         file: &'a str,
     },
@@ -38,6 +48,10 @@ pub enum Line<'a> {
     Show {
         file: &'a str,
         path: Option<&'a str>,
+    },
+    /// Prints the numbers of the image in a file.
+    Check {
+        file: &'a str,
     },
 }
 
@@ -77,7 +91,7 @@ impl ValueName {
     /// What it has to be.
     pub fn wanted(self) -> &'static str {
         match self {
-            ValueName::Kind => "'replica'",
+            ValueName::Kind => "'replica' or 'archive'",
             ValueName::Pair => "a decimal number below 2^64",
             ValueName::User => "a decimal number below 2^32",
             ValueName::Command | ValueName::File | ValueName::Path => "there",
@@ -88,8 +102,8 @@ impl ValueName {
     pub fn help(self) -> &'static str {
         match self {
             ValueName::Command => "What to do",
-            ValueName::Kind => "What the image is to hold: 'replica'",
-            ValueName::Pair => "The number of the pair that the replica belongs to, below 2^64",
+            ValueName::Kind => "What the image is to hold: 'replica' or 'archive'",
+            ValueName::Pair => "The number of the pair that the image belongs to, below 2^64",
             ValueName::User => "The number of the user who makes the edit, below 2^32",
             ValueName::File => "The file that has the image",
             ValueName::Path => "A path in the image: '.' for its root, else names parted by '/'",

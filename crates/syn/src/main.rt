@@ -1,15 +1,18 @@
 //! A crash-safe synchronizer of file trees: the program.
 //!
-//! `syn format replica PAIR FILE` makes a replica, `syn put FILE USER PATH` puts standard input
-//! into it, `syn mkdir FILE USER PATH` and `syn rm FILE USER PATH` make a directory and remove what
-//! is there, and `syn show FILE [PATH]` prints it. The exit status is 0 where the command was done,
-//! 1 where it was refused and 2 where the words are no command.
+//! `syn format KIND PAIR FILE` makes a replica or an archive. `syn put FILE USER PATH` puts
+//! standard input into a replica, and `syn mkdir FILE USER PATH` and `syn rm FILE USER PATH` make a
+//! directory and remove what is there. `syn show FILE [PATH]` prints an image, and `syn check FILE`
+//! its numbers. The exit status is 0 where the command was done, 1 where it was refused and 2 where
+//! the words are no command.
 #![tactic(auto)]
 
+mod check;
 mod command;
 mod edit;
 mod error;
 mod format;
+mod image;
 mod line;
 mod report;
 mod show;

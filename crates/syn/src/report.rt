@@ -42,10 +42,8 @@ fn refuse<E: Write>(error: &CommandError, errors: &mut E) {
 /// something.
 fn explain<E: Write>(line: &Line<'_>, error: &CommandError, errors: &mut E) {
     let _ = match line {
-        Line::Format { file, .. } | Line::Show { file, path: None } => write!(
-            errors,
-            "syn: {file}"
-        ),
+        Line::Format { file, .. } | Line::Show { file, path: None } | Line::Check { file } =>
+            write!(errors, "syn: {file}"),
         Line::Edit(edit) => write!(errors, "syn: {} in {}", edit.path, edit.file),
         Line::Show {
             file,

@@ -4,17 +4,22 @@ ghost use Rattle.std.specs.FinMap.{get};
 ghost use Rattle.std.specs.Io.KnownBytes.{Appends};
 ghost use Rattle.std.specs.String.{string_bytes};
 ghost use Rattle.syn_model.specs.Tree.{Content, is_present};
-ghost use Rattle.syn_replica.specs.Replica.{pair_of, position_shown, tree_shown};
-ghost use Rattle.syn.specs.Printed.{content_line, content_shown, directory_line, file_line};
-ghost use Rattle.syn.specs.Printed.{image_line, lines_below};
+ghost use Rattle.syn_replica.specs.Replica.{tree_shown};
+ghost use Rattle.syn.specs.Printed.{content_line, content_shown, digest_line, directory_line};
+ghost use Rattle.syn.specs.Printed.{archive_line, file_line, lines_below, lines_of_marks, mark_line};
+ghost use Rattle.syn.specs.Printed.{replica_line};
+ghost use Rattle.syn.specs.Shown.{archive_shown, image_shown, replica_shown};
 ghost use Rattle.syn_model.specs.Refusal.{Absent};
 ghost use Rattle.syn.specs.Errors.{refusal_of, IsOfStream};
 
 use crate::error::CommandError;
+use crate::image::Image;
 use sha2::{Digest, Sha256};
 use std::alloc::{AllocError, Global};
 use std::io::Write;
+use syn_archive::Archive;
 use syn_disk::Disk;
+use syn_mark::{Mark, MarkEntry};
 use syn_path::Path;
 use syn_replica::{Replica, ReplicaError};
 use syn_tree::{Entry, Found, Tree, TreeError};
@@ -25,17 +30,47 @@ use syn_tree::{Entry, Found, Tree, TreeError};
 /// Refused 9 where the output cannot be written, and 11 where memory is refused.
 pub fn show_image<D: Disk, W: Write>(
     alloc: Global,
+    image: &Image<D>,
+    output: &mut W,
+) -> Result<(), CommandError>
+    ensures printed { OnOk result (Appends (W.contents output.old) (W.contents output.new)
+        (image_shown image.now)) }
+    ensures stream { IfErr result IsOfStream }
+{
+    match image {
+        Image::Replica(replica) => show_replica(alloc, replica, output),
+        Image::Archive(archive) => show_archive(alloc, archive, output),
+    }
+}
+
+/// Prints the whole replica.
+fn show_replica<D: Disk, W: Write>(
+    alloc: Global,
     replica: &Replica<D>,
     output: &mut W,
 ) -> Result<(), CommandError>
     ensures printed { OnOk result (Appends (W.contents output.old) (W.contents output.new)
-        (image_line (pair_of replica.now) (position_shown replica.now)
-        ++ lines_below (tree_shown replica.now) [])) }
+        (replica_shown replica.now)) }
     ensures stream { IfErr result IsOfStream }
 {
-    let line = image_line(alloc, replica.pair(), replica.position())?;
+    let line = replica_line(alloc, replica.pair(), replica.position())?;
     output.write_all(line.as_bytes())?;
     show_below(alloc, replica.tree(), &Path::root(alloc), output)
+}
+
+/// Prints the whole archive.
+fn show_archive<D: Disk, W: Write>(
+    alloc: Global,
+    archive: &Archive<D>,
+    output: &mut W,
+) -> Result<(), CommandError>
+    ensures printed { OnOk result (Appends (W.contents output.old) (W.contents output.new)
+        (archive_shown archive.now)) }
+    ensures stream { IfErr result IsOfStream }
+{
+    let line = archive_line(alloc, archive.pair(), archive.last_session())?;
+    output.write_all(line.as_bytes())?;
+    show_marks(alloc, archive.tree().below(&Path::root(alloc)), output)
 }
 
 /// Prints the bytes of the file at the path, or the lines of what is below the directory there.
@@ -81,11 +116,35 @@ fn show_below<W: Write>(
     Ok(())
 }
 
-/// The first line of an image.
-fn image_line(alloc: Global, pair: u64, position: u64) -> Result<String, AllocError>
-    ensures { IfOk result (λ line. string_bytes line ≡ image_line pair position) }
+/// Prints a line for each of the marks, in their order.
+fn show_marks<W: Write>(
+    alloc: Global,
+    marks: &[MarkEntry],
+    output: &mut W,
+) -> Result<(), CommandError>
+    ensures printed { OnOk result (Appends (W.contents output.old) (W.contents output.new)
+        (lines_of_marks marks.now)) }
+    ensures stream { IfErr result IsOfStream }
+{
+    for entry in marks {
+        let line = mark_line(alloc, entry)?;
+        output.write_all(line.as_bytes())?;
+    }
+    Ok(())
+}
+
+/// The first line of a replica.
+fn replica_line(alloc: Global, pair: u64, position: u64) -> Result<String, AllocError>
+    ensures { IfOk result (λ line. string_bytes line ≡ replica_line pair position) }
 {
     format!(in alloc; "replica pair {pair} position {position}\n")
+}
+
+/// The first line of an archive.
+fn archive_line(alloc: Global, pair: u64, session: u64) -> Result<String, AllocError>
+    ensures { IfOk result (λ line. string_bytes line ≡ archive_line pair session) }
+{
+    format!(in alloc; "archive pair {pair} session {session}\n")
 }
 
 /// The line of what stands at a path.
@@ -95,6 +154,16 @@ fn entry_line(alloc: Global, entry: &Entry) -> Result<String, AllocError>
     match entry.content() {
         Found::File(bytes) => file_line(alloc, entry.path(), bytes),
         Found::Dir => directory_line(alloc, entry.path()),
+    }
+}
+
+/// The line of a mark.
+fn mark_line(alloc: Global, entry: &MarkEntry) -> Result<String, AllocError>
+    ensures { IfOk result (λ line. string_bytes line ≡ mark_line entry.now.0 entry.now.1) }
+{
+    match entry.standing() {
+        Mark::File(digest) => digest_line(alloc, entry.path(), digest),
+        Mark::Dir => directory_line(alloc, entry.path()),
     }
 }
 
@@ -112,4 +181,12 @@ fn file_line(alloc: Global, path: &Path, bytes: &[u8]) -> Result<String, AllocEr
     let digest = hex::encode(alloc, Sha256::digest(bytes))?;
     let length = bytes.len();
     format!(in alloc; "f {path} {length} {digest}\n")
+}
+
+/// The line of a file in an archive: its path and its digest.
+fn digest_line(alloc: Global, path: &Path, digest: &[u8; 32]) -> Result<String, AllocError>
+    ensures { IfOk result (λ line. string_bytes line ≡ digest_line path.now digest.now) }
+{
+    let digest = hex::encode(alloc, *digest)?;
+    format!(in alloc; "f {path} {digest}\n")
 }

@@ -3,26 +3,27 @@ ghost use Rattle.std.specs.Prelude.{◌≡◌, ◌≢◌, ℕ, [], IfOk, IfErr, 
 ghost use Rattle.std.specs.Prelude.{map, false};
 ghost use Rattle.syn.specs.Reads.{Asks, HasText, IfUsage, IfValue, IsFormat, IsNumber, IsEdit};
 ghost use Rattle.syn.specs.Reads.{IsEditName, IsRight, IsValue, IsWanting, IsWrongValue, Lacks};
-ghost use Rattle.syn.specs.Reads.{NothingReads, ReadsRows, name_of};
+ghost use Rattle.syn.specs.Reads.{NothingReads, ReadsRows, kind_word, name_of};
+ghost use Rattle.syn.specs.declared.line.ImageKind.{ImageKind};
 ghost use Rattle.syn.specs.declared.line.LineError.TheVariants.{Value};
 ghost use Rattle.clap.specs.Words.{IsAmong, Text, app_of, with_rule, fault_of, first_of, found_of};
 ghost use Rattle.clap.specs.Words.{kind_of, rows_of, subcommand_of};
 ghost use Rattle.clap.specs.declared.Command.TheViews.{out-Command};
-ghost use Rattle.syn.specs.App.{command_app, edit_app, format_app, show_app, syn_app, top_app};
-ghost use Rattle.syn.specs.App.{verbose_rule, word_app};
+ghost use Rattle.syn.specs.App.{check_app, command_app, edit_app, format_app, show_app, syn_app};
+ghost use Rattle.syn.specs.App.{top_app, verbose_rule, word_app};
 ghost use Rattle.syn.specs.Asked.{word_of};
 
-use crate::line::{Asked, Change, EditLine, Line, LineError, ValueName};
+use crate::line::{Asked, Change, EditLine, ImageKind, Line, LineError, ValueName};
 use clap::error::ErrorKind;
 use clap::{Arg, ArgAction, ArgMatches, Command};
 use std::alloc::{AllocError, Global};
 
 /// What the words of a command line stand for, as the help ends.
 const TERMS: &str = "\
-An image is a file of 8 MiB that holds one replica: a tree of files and directories with the
-history of its edits. A pair is the number of the two replicas that are to be kept the same. A
-user is the number of somebody who edits. syn reads and writes images alone, and no folder of
-yours.";
+An image is a file of 8 MiB. It holds a replica, which is a tree of files and directories with the
+history of its edits, or an archive, which is what two replicas last agreed on. A pair is the number
+of the two replicas that are to be kept the same, and of their archive. A user is the number of
+somebody who edits. syn reads and writes images alone, and no folder of yours.";
 
 /// A command that takes words, each required, in the order of their names.
 fn word_command<'a>(
@@ -65,7 +66,7 @@ fn format_command<'a>(alloc: Global) -> Result<Command<'a>, AllocError>
     let words = word_command(
         alloc,
         "format",
-        "Makes FILE an image of KIND `replica` for the pair numbered PAIR",
+        "Makes FILE an image of KIND, `replica` or `archive`, for the pair numbered PAIR",
         &[ValueName::Kind, ValueName::Pair, ValueName::File],
     )?;
     with_verbose(alloc, words)
@@ -101,6 +102,20 @@ fn show_command<'a>(alloc: Global) -> Result<Command<'a>, AllocError>
     with_verbose(alloc, words.arg(path)?)
 }
 
+/// The command that prints the numbers of an image.
+fn check_command<'a>(alloc: Global) -> Result<Command<'a>, AllocError>
+    ensures app { IfOk result (λ c. app_of c ≡ check_app) }
+    ensures globals { IfOk result (λ c. (out-Command c).has_globals ≡ false) }
+{
+    let words = word_command(
+        alloc,
+        "check",
+        "Opens an image, and prints its numbers",
+        &[ValueName::File],
+    )?;
+    with_verbose(alloc, words)
+}
+
 /// The program, with no command yet.
 fn top_command<'a>(alloc: Global) -> Result<Command<'a>, AllocError>
     ensures app { IfOk result (λ c. app_of c ≡ top_app) }
@@ -134,12 +149,14 @@ fn syn_command<'a>(alloc: Global) -> Result<Command<'a>, AllocError>
         "Removes what is at PATH, with all below it, as an edit of the user numbered USER",
     )?;
     let show = show_command(alloc)?;
+    let check = check_command(alloc)?;
     top_command(alloc)?
         .subcommand(format)?
         .subcommand(put)?
         .subcommand(mkdir)?
         .subcommand(rm)?
-        .subcommand(show)
+        .subcommand(show)?
+        .subcommand(check)
 }
 
 /// The command that the words ask for. The first word is the program's own.
@@ -217,6 +234,7 @@ fn line_of<'a>(name: &'a str, found: &ArgMatches<'a>) -> Result<Line<'a>, LineEr
         "mkdir" => edit_line(Change::MakeDir, found),
         "rm" => edit_line(Change::Remove, found),
         "show" => show_line(found),
+        "check" => check_line(found),
         _ => Err(LineError::Value(ValueName::Command)),
     }
 }
@@ -227,13 +245,13 @@ fn format_line<'a>(found: &ArgMatches<'a>) -> Result<Line<'a>, LineError>
     ensures value { IfErr result (λ error. IsValue error) }
     ensures lacks { IfErr result (λ error. IfValue error
         (Lacks (codes "format") (rows_of (found_of found.now)))) }
-    ensures nothing { OnErr result ((pair : ℕ) (file : Text)
-        → ¬ IsFormat (rows_of (found_of found.now)) pair file) }
+    ensures nothing { OnErr result ((kind : ImageKind) (pair : ℕ) (file : Text)
+        → ¬ IsFormat (rows_of (found_of found.now)) kind pair file) }
 {
-    replica_kind(text(found, ValueName::Kind)?)?;
+    let kind = image_kind(text(found, ValueName::Kind)?)?;
     let pair = number(text(found, ValueName::Pair)?)?;
     let file = text(found, ValueName::File)?;
-    Ok(Line::Format { pair, file })
+    Ok(Line::Format { kind, pair, file })
 }
 
 /// The edit of the change, whose word was read.
@@ -286,6 +304,19 @@ fn show_line<'a>(found: &ArgMatches<'a>) -> Result<Line<'a>, LineError>
     Ok(Line::Show { file, path })
 }
 
+fn check_line<'a>(found: &ArgMatches<'a>) -> Result<Line<'a>, LineError>
+    ensures ok { IfOk result (λ line.
+        ReadsRows (codes "check") (rows_of (found_of found.now)) line) }
+    ensures value { IfErr result (λ error. IsValue error) }
+    ensures lacks { IfErr result (λ error. IfValue error
+        (Lacks (codes "check") (rows_of (found_of found.now)))) }
+    ensures nothing { OnErr result ((file : Text)
+        → ¬ HasText (rows_of (found_of found.now)) (codes "FILE") file) }
+{
+    let file = text(found, ValueName::File)?;
+    Ok(Line::Check { file })
+}
+
 /// The text that is given for the id.
 #[tactic(auto, using(crate::proofs::LineLemmas::first_value_rows))]
 fn text<'a>(found: &ArgMatches<'a>, value: ValueName) -> Result<&'a str, LineError>
@@ -329,14 +360,15 @@ fn user(value: &str) -> Result<u32, LineError>
         .map_err(|_| LineError::Value(ValueName::User))
 }
 
-/// The text has to be the one kind that there is.
-fn replica_kind(value: &str) -> Result<(), LineError>
-    ensures ok { OnOk result (value.now ≡ codes "replica") }
+/// The kind of image that the text names.
+fn image_kind(value: &str) -> Result<ImageKind, LineError>
+    ensures ok { IfOk result (λ kind. value.now ≡ kind_word kind) }
     ensures value { IfErr result (λ error. error ≡ Value ValueName.Kind) }
-    ensures nothing { OnErr result (value.now ≢ codes "replica") }
+    ensures nothing { OnErr result ((kind : ImageKind) → value.now ≢ kind_word kind) }
 {
     match value {
-        "replica" => Ok(()),
+        "replica" => Ok(ImageKind::Replica),
+        "archive" => Ok(ImageKind::Archive),
         _ => Err(LineError::Value(ValueName::Kind)),
     }
 }

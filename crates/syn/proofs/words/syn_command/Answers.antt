@@ -18,6 +18,9 @@ returns c =
     let four =
     c.in_ok-subcommand-4.ensures.shape c.in_ok-rm.ensures.globals
     ∙ ap₂ with_subcommand three (ap top_of c.in_ok-rm.ensures.app) in
-    IfOk-weaker c.subcommand-5.result _ _ (λ r added.
-    added.shape c.in_ok-show.ensures.globals
-    ∙ ap₂ with_subcommand four (ap top_of c.in_ok-show.ensures.app)) c.subcommand-5.ensures
+    let five =
+    c.in_ok-subcommand-5.ensures.shape c.in_ok-show.ensures.globals
+    ∙ ap₂ with_subcommand four (ap top_of c.in_ok-show.ensures.app) in
+    IfOk-weaker c.subcommand-6.result _ _ (λ r added.
+    added.shape c.in_ok-check.ensures.globals
+    ∙ ap₂ with_subcommand five (ap top_of c.in_ok-check.ensures.app)) c.subcommand-6.ensures

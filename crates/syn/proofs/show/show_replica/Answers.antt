@@ -2,16 +2,16 @@ use Rattle.std.proofs.Common.{◌≡◌, ◌∙◌, [], ap₂, subst}
 use Rattle.std.proofs.lemmas.Result.{on_ok_weaker}
 use Rattle.std.specs.Io.KnownBytes.{Appends}
 use Rattle.syn_replica.specs.Replica.{pair_of, position_shown, tree_shown}
-use Rattle.syn.specs.Printed.{image_line, lines_below}
+use Rattle.syn.specs.Printed.{replica_line, lines_below}
 use Rattle.syn.proofs.ShowLemmas.{appends_more}
-use Rattle.syn.proofs.show.show_image.Goals as goal
+use Rattle.syn.proofs.show.show_replica.Goals as goal
 
 pub returns-clause-printed : goal.returns-clause-printed
 returns-clause-printed g c =
     let replica = c.args.replica.now in
-    let first : c.as_bytes.result.now ≡ image_line (pair_of replica) (position_shown replica) = c.as_bytes.ensures.value ∙ (c.in_ok-line.ensures ∙ ap₂ image_line c.pair.ensures c.position.ensures) in
+    let first : c.as_bytes.result.now ≡ replica_line (pair_of replica) (position_shown replica) = c.as_bytes.ensures.value ∙ (c.in_ok-line.ensures ∙ ap₂ replica_line c.pair.ensures c.position.ensures) in
     let lines = ap₂ lines_below c.tree.ensures c.root.ensures in
     on_ok_weaker c.show_below-2.result (λ shown.
-    appends_more (g.W.Write.contents c.args.output.now) (g.W.Write.contents c.write_all.new.self) (g.W.Write.contents c.show_below-2.new.output) (image_line (pair_of replica) (position_shown replica)) (lines_below (tree_shown replica) [])
+    appends_more (g.W.Write.contents c.args.output.now) (g.W.Write.contents c.write_all.new.self) (g.W.Write.contents c.show_below-2.new.output) (replica_line (pair_of replica) (position_shown replica)) (lines_below (tree_shown replica) [])
     (subst (λ xs. Appends (g.W.Write.contents c.args.output.now) (g.W.Write.contents c.write_all.new.self) xs) first c.in_ok-write_all.ensures.bytes)
     (subst (λ xs. Appends (g.W.Write.contents c.write_all.new.self) (g.W.Write.contents c.show_below-2.new.output) xs) lines shown)) c.show_below-2.ensures.printed

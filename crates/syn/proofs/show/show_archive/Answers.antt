@@ -1,0 +1,24 @@
+use Rattle.std.proofs.Common.{◌≡◌, ◌∙◌, [], ap, ap₂, subst, filter}
+use Rattle.std.proofs.lemmas.Result.{on_ok_weaker}
+use Rattle.std.specs.FinMap.{entries}
+use Rattle.std.specs.Io.KnownBytes.{Appends}
+use Rattle.syn_archive.specs.Archive.{pair_of, session_shown, marks_shown}
+use Rattle.syn_model.specs.Tree.{Tree}
+use Rattle.syn_tree.specs.Pairs.{is_below}
+use Rattle.syn.specs.Printed.{archive_line, lines_of_marks}
+use Rattle.syn.proofs.ShowLemmas.{appends_more}
+use Rattle.syn.proofs.show.show_archive.Goals as goal
+
+pub returns-clause-printed : goal.returns-clause-printed
+returns-clause-printed g c =
+    let archive = c.args.archive.now in
+    let first : c.as_bytes.result.now ≡ archive_line (pair_of archive) (session_shown archive) =
+    c.as_bytes.ensures.value ∙ (c.in_ok-line.ensures ∙ ap₂ archive_line c.pair.ensures c.last_session.ensures) in
+    let marks = lines_of_marks (filter (is_below []) (entries (marks_shown archive))) in
+    let lines : lines_of_marks c.below-2.result.now ≡ marks =
+    ap lines_of_marks (c.below-2.ensures
+    ∙ ap₂ (λ at (tree : Tree). filter (is_below at) (entries tree)) c.root.ensures c.tree.ensures) in
+    on_ok_weaker c.show_marks.result (λ shown.
+    appends_more (g.W.Write.contents c.args.output.now) (g.W.Write.contents c.write_all.new.self) (g.W.Write.contents c.show_marks.new.output) (archive_line (pair_of archive) (session_shown archive)) marks
+    (subst (λ xs. Appends (g.W.Write.contents c.args.output.now) (g.W.Write.contents c.write_all.new.self) xs) first c.in_ok-write_all.ensures.bytes)
+    (subst (λ xs. Appends (g.W.Write.contents c.write_all.new.self) (g.W.Write.contents c.show_marks.new.output) xs) lines shown)) c.show_marks.ensures.printed

@@ -1,0 +1,54 @@
+-- What an opened image says of the disk that it is on.
+use Rattle.std.specs.Prelude.{◌≡◌, ◌≢◌, ℕ, List, [], None, codes}
+use Rattle.syn_disk.specs.declared.disk.Disk.{Ghosts}
+use Rattle.syn_model.specs.Archive as model
+use Rattle.syn_model.specs.Archive.{new_archive}
+use Rattle.syn_model.specs.History.{History}
+use Rattle.syn_replica.specs.Replica as replica
+use Rattle.syn_replica.specs.Disks as replica_disk
+use Rattle.syn_archive.specs.Archive as archive
+use Rattle.syn_archive.specs.Disks as archive_disk
+use Rattle.syn_archive.specs.declared.error.ArchiveError.TheVariants.{Damaged}
+use Rattle.syn.specs.declared.error.CommandError.{CommandError}
+use Rattle.syn.specs.declared.error.CommandError.TheVariants as error
+use Rattle.syn.specs.declared.image.Image.{Image}
+use Rattle.syn.specs.declared.image.Image.TheVariants.{Replica, Archive}
+use Rattle.syn.specs.declared.line.ImageKind.{ImageKind}
+use Rattle.syn.specs.declared.line.ImageKind.TheVariants as kind
+
+-- the bytes of the disk give what the image has
+abbrev pub IsOn : {D : Type 0} → {disk : Ghosts D} → List ℕ → Image D disk → Type 0
+IsOn bytes (Replica r) =
+    replica_disk.DiskGives (replica.pair_of r) bytes (replica.standing_shown r)
+IsOn bytes (Archive a) = archive_disk.DiskStands (archive.pair_of a) bytes (archive.shown a)
+
+-- the letters that an image of its kind begins with
+abbrev pub letters_of : {D : Type 0} → {disk : Ghosts D} → Image D disk → List ℕ
+letters_of (Replica r) = codes "SYNR"
+letters_of (Archive a) = codes "SYNA"
+
+-- it is an archive of this pair, and stands for this one
+abbrev pub StandsForArchive : {D : Type 0} → {disk : Ghosts D} → ℕ → model.Archive →
+    Image D disk → Type 0
+StandsForArchive pair kept (Replica r) = ⊥
+StandsForArchive pair kept (Archive a) = (pair ≡ archive.pair_of a) × archive.Stands a kept
+
+-- it is a replica of this pair, and stands for this history
+abbrev pub StandsForHistory : {D : Type 0} → {disk : Ghosts D} → ℕ → History →
+    Image D disk → Type 0
+StandsForHistory pair history (Replica r) =
+    (pair ≡ replica.pair_of r) × replica.Stands r history
+StandsForHistory pair history (Archive a) = ⊥
+
+-- it is a new image of the kind, of this pair
+abbrev pub IsFormatted : {D : Type 0} → {disk : Ghosts D} → ImageKind → ℕ → Image D disk → Type 0
+IsFormatted kind.Replica pair image = StandsForHistory pair [] image
+IsFormatted kind.Archive pair image = StandsForArchive pair new_archive image
+
+-- Why no image is opened, and what that says of the bytes. Damage says that they hold neither an
+-- archive nor a replica.
+abbrev pub IsImageRefusal : List ℕ → CommandError → Type 0
+IsImageRefusal bytes (error.Archive e) = (e ≢ Damaged) × archive_disk.IsOpenRefusal e None bytes
+IsImageRefusal bytes (error.Replica e) =
+    archive_disk.IsDamaged bytes × replica_disk.IsOpenRefusal e None bytes
+IsImageRefusal bytes _ = ⊥
