@@ -7,7 +7,8 @@ ghost use Rattle.syn_model.specs.Archive.{Archive as KeptArchive, Session, Recor
 ghost use Rattle.syn_model.specs.Archive.{new_archive, after_kept, kept_refusal};
 ghost use Rattle.syn_model.specs.Refusal.{Refusal};
 ghost use Rattle.syn_model.specs.Tree.{empty_directory, is_directory, subtree};
-ghost use Rattle.syn_model.specs.Path.{is_root};
+ghost use Rattle.syn_archive.specs.Disks.{DiskKeeps};
+ghost use Rattle.syn_model.specs.Path.{Bytes, is_root};
 ghost use Rattle.syn_journal.specs.Journal.{SameReadings};
 ghost use Rattle.syn_disk.specs.Armed.{armed};
 ghost use Rattle.syn_disk.specs.Arms.{is_stopped};
@@ -52,6 +53,7 @@ pub struct Archive<D: Disk> {
 impl<D: Disk> Archive<D> {
     ghost use Rattle.syn_archive.specs.Archive.{pair_of, marks_shown, session_shown, shown};
     ghost use Rattle.syn_archive.specs.Archive.{disk_of, journal_of, room_shown, generation_shown};
+    ghost use Rattle.syn_archive.specs.Archive.{left_shown};
     ghost use Rattle.syn_archive.specs.Archive.{IsHalted, Stands, SameMemory, KeepsReadings};
     ghost use Rattle.syn_archive.specs.Archive.{HasRecord, KeepsBeforeOrAfter, KeepsOrCompacts};
 
@@ -141,6 +143,14 @@ impl<D: Disk> Archive<D> {
     {
         self.journal.into_disk()
     }
+
+    /// Does nothing. It says of an archive that stands for what is kept that a stop leaves that on
+    /// its disk, with the bytes that are left for records and the generation that it shows.
+    pub fn keeps_on_disk(&self)
+        ensures { (kept : KeptArchive) → Stands self.now kept
+            → (bytes : Bytes) → D.may_leave (disk_of self.now) bytes → DiskKeeps (pair_of self.now)
+            kept (left_shown self.now) (generation_shown self.now) bytes }
+    {}
 
     /// The marks at and below the path; none where nothing is. Refused 11 where memory is refused.
     pub fn subtree(&self, alloc: Global, path: &Path) -> Result<Option<MarkTree>, ArchiveError>

@@ -1,12 +1,12 @@
 -- The arms of a disk and those of its machine, call by call.
 use Rattle.std.proofs.Common.{◌≡◌, ◌≢◌, ◌≤◌, ◌<◌, ◌-◌, inl, inr, ℕ, zero, suc, Bool, true, false, ◌==◌, if◌then◌else◌, refl, sym, ap, ap₂, ◌∙◌, subst, Option, Some, None, arith}
 use Rattle.std.specs.Option.{option_map_or}
-use Rattle.std.proofs.lemmas.Bool.{or_parts}
+use Rattle.std.proofs.lemmas.Bool.{or_parts, false≢true}
 use Rattle.std.proofs.lemmas.Bool.Decides.{nat_tests}
 use Rattle.syn_disk.specs.Arms.{Arms as DiskArms, is_zero, is_stopped, is_refused, one_fewer, after_call}
 use Rattle.syn_disk.specs.Calls.{Makes}
 use Rattle.syn_headline.specs.Machine.{Up, Halted, IsBefore, after_calls, Meets, all_made, one_fails, one_stops}
-use Rattle.syn_recovery.specs.Calls.{armed_at, CallsMeet, goes_on, goes_down, MadeCallsMeet, BrokenCallsMeet, MadeReadsMeet}
+use Rattle.syn_recovery.specs.Calls.{armed_at, CallsMeet, goes_on, goes_down, MadeCallsMeet, StopsBehind, BrokenCallsMeet, MadeReadsMeet}
 
 -- a stop comes so many calls later: never, or it is still to come, or with the last of these calls
 abbrev fewer : ℕ → Option ℕ → Option ℕ
@@ -188,6 +188,21 @@ module _ (old new : DiskArms) (open_ : is_stopped old ≡ false) where
 
 pub made_calls_meet : MadeCallsMeet
 made_calls_meet calls old new running m = all_meet old new running calls (makes_after calls old new m)
+
+pub stops_behind : StopsBehind
+stops_behind calls old new running m down = by old.stop refl
+  where
+    by : (o : Option ℕ) → old.stop ≡ o → ((armed_at old).stop ≡ calls) × IsBefore calls (armed_at old).fail
+    by None at =
+        let a = makes_after calls old new m in
+        let open_ : is_stopped new ≡ false = ap is_zero (a.stop ∙ ap (fewer calls) at) in
+        absurd (false≢true (sym open_ ∙ down))
+    by (Some n) at =
+        let a = makes_after calls old new m in
+        let later = subst (IsLater calls) at a.not_stopped in
+        let over : (n - calls == 0) ≡ true = sym (ap is_zero (a.stop ∙ ap (fewer calls) at)) ∙ down in
+        let none : n - calls ≡ 0 = grind (arith, nat_tests) in
+        (stop_of old.stop n at ∙ (let e : n ≡ calls = omega (arith, later, none) in e), a.not_failed)
 
 pub broken_calls_meet : BrokenCallsMeet
 broken_calls_meet most old new running b = breaks_meet old new running most b.made b.few b.at (makes_after b.made old b.at b.before) b.after

@@ -3,7 +3,7 @@ use Rattle.std.specs.Prelude.{ℕ, true, false, ◌≤◌, ◌≡◌}
 use Rattle.std.specs.Option.{option_map_or}
 use Rattle.syn_disk.specs.Arms.{Arms as DiskArms, is_stopped}
 use Rattle.syn_disk.specs.Calls.{Makes, MakesAtLeast, Breaks}
-use Rattle.syn_headline.specs.Machine.{Status, Up, Halted, Down, Arms, unarmed, Meets}
+use Rattle.syn_headline.specs.Machine.{Status, Up, Halted, Down, Arms, unarmed, Meets, IsBefore}
 
 -- what is armed at the machine of a disk that was not stopped yet
 abbrev pub armed_at : DiskArms → Arms
@@ -21,6 +21,13 @@ pub data CallsMeet (old new : DiskArms) (calls : ℕ) (status : Status) (failed 
 abbrev pub MadeCallsMeet : Type 0
 MadeCallsMeet = (calls : ℕ) (old new : DiskArms) → is_stopped old ≡ false → Makes calls old new →
     CallsMeet old new calls Up 0
+
+-- where such a call succeeds and the machine went down, the stop was armed behind its last device
+-- call
+abbrev pub StopsBehind : Type 0
+StopsBehind = (calls : ℕ) (old new : DiskArms) → is_stopped old ≡ false → Makes calls old new →
+    is_stopped new ≡ true →
+    ((armed_at old).stop ≡ calls) × IsBefore calls (armed_at old).fail
 
 -- a call that is refused 9: one device call of the machine failed, by itself or as it was armed,
 -- and halts it

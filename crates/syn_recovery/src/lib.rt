@@ -2,7 +2,8 @@
 //! headline.
 #![tactic(auto)]
 
-ghost use Rattle.syn_recovery.specs.Calls.{MadeCallsMeet, BrokenCallsMeet, MadeReadsMeet};
+ghost use Rattle.syn_recovery.specs.Calls.{MadeCallsMeet, StopsBehind, BrokenCallsMeet};
+ghost use Rattle.syn_recovery.specs.Calls.{MadeReadsMeet};
 ghost use Rattle.syn_recovery.specs.Machines.{SidesOpen, ArchivesOpen, SideImagesFit};
 ghost use Rattle.syn_recovery.specs.Machines.{ArchiveImagesFit};
 ghost use Rattle.syn_recovery.specs.Headline.{DisksAreStart, Headline};
@@ -10,6 +11,7 @@ ghost use Rattle.syn_recovery.specs.Headline.{DisksAreStart, Headline};
 /// The device calls that a journal's contract counts are what the world says that a machine met.
 pub fn device_laws()
     ensures made { MadeCallsMeet }
+    ensures behind { StopsBehind }
     ensures broken { BrokenCallsMeet }
     ensures reads { MadeReadsMeet }
 {}

@@ -1,0 +1,9 @@
+pub mod ErrorLemmas
+pub mod MachineLemmas
+pub mod StayLemmas
+pub mod CheckpointLemmas
+pub mod ReopenLemmas
+pub mod RefusedLemmas
+pub mod StartLemmas
+pub mod KeepLemmas
+pub mod TickLemmas

@@ -1,0 +1,128 @@
+-- Why a checkpoint is refused, and what one does to the coordinator.
+use Rattle.std.proofs.Common.{◌≡◌, ◌≢◌, ◌⊎◌, ◌<◌, ◌^◌, ℕ, ◌+◌, Bool, true, false, not, nat_le, if◌then◌else◌, List, [], ◌∷◌, Some, Result, Ok, Err, refl, sym, ap, ◌∙◌, inl, inr, arith}
+use Rattle.std.proofs.lemmas.Bool.Decides.{nat_tests}
+use Rattle.std.proofs.lemmas.Bool.{false≢true}
+use Rattle.std.specs.Prelude.{◌↔◌, ◌&&◌, is_some, option_map}
+use Rattle.syn_archive.specs.Archive.{Stands as ArchiveStands, IsHalted, generation_shown}
+use Rattle.syn_archive.specs.Refusals.{refusal_of, IsOfCheckpoint}
+use Rattle.syn_archive.specs.declared.archive.Archive.{Archive}
+use Rattle.syn_archive.specs.declared.error.ArchiveError.{ArchiveError}
+use Rattle.syn_archive.specs.declared.error.ArchiveError.TheVariants as error
+use Rattle.syn_disk.specs.declared.disk.Disk.{Ghosts}
+use Rattle.syn_headline.specs.Coordinator.{CoordinatorMachine, archive_layout, running_after}
+use Rattle.syn_headline.specs.Machine.{Up, Halted, Down, Status, Compacts}
+use Rattle.syn_headline.specs.World.{is_halted}
+use Rattle.syn_model.specs.Archive as model
+use Rattle.syn_model.specs.Limits.{greatest}
+use Rattle.syn_model.specs.Refusal.{Refusal, first_cause}
+use Rattle.syn_model.specs.Refusal as why
+use Rattle.syn_model.specs.Archive.{Kept}
+use Rattle.syn_session.specs.Coordinators.{Checkpoints, checkpoints, Reopens, reopens, ReopensNot, reopens_not, Does, Stands, checkpoint_causes, ended_in, in_report, report_shown, runs, goes_on, goes_down}
+use Rattle.syn_session.specs.Machines.{Journal, Runs, Fails, IsMachine, Reopened, NotReopened}
+use Rattle.syn_session.specs.declared.coordinator.Coordinator.{Coordinator}
+use Rattle.syn_session.specs.inner.Sessions.{running_of}
+use Rattle.syn_session.specs.inner.Steps.{Moves, moves_on, moves_down}
+
+-- by what each of the causes is
+causes_with : (machine : CoordinatorMachine) (halted full : Bool) → is_halted machine.journal.status ≡ halted → nat_le greatest machine.journal.generation ≡ full →
+    first_cause (checkpoint_causes machine) ≡ first_cause ((halted, why.Halted) ∷ (full, why.Full) ∷ (true, why.Memory) ∷ [])
+causes_with machine halted full h f =
+    ap (λ x. first_cause ((x, why.Halted) ∷ (nat_le greatest machine.journal.generation, why.Full) ∷ (true, why.Memory) ∷ [])) h
+    ∙ ap (λ x. first_cause ((halted, why.Halted) ∷ (x, why.Full) ∷ (true, why.Memory) ∷ [])) f
+
+is_greatest : (n : ℕ) → n + 1 ≡ 2 ^ 64 → nat_le greatest n ≡ true
+is_greatest n e = grind (arith, nat_tests)
+
+is_less : (n : ℕ) → n < 2 ^ 64 → n + 1 ≢ 2 ^ 64 → nat_le greatest n ≡ false
+is_less n h other = grind (arith, nat_tests)
+
+pub up_not_down : Up ≢ Down
+up_not_down e = cc
+
+pub halted_not_down : Halted ≢ Down
+halted_not_down e = cc
+
+-- a machine that an archive is, is not down
+pub not_down : {D : Type 0} {disk : Ghosts D} (archive : Archive D disk) (machine : Journal) → Runs archive machine ⊎ Fails archive machine → machine.status ≢ Down
+not_down archive machine (inl was) down = up_not_down (sym was.up ∙ down)
+not_down archive machine (inr fails) down = halted_not_down (sym fails.halted ∙ down)
+
+abbrev pub failed : (T : Type 0) → ArchiveError → Result T ArchiveError
+failed T e = Err e
+
+full_not_halted : (T : Type 0) → failed T error.Full ≡ failed T error.Halted → ⊥
+full_not_halted T e = cc
+
+memory_not_halted : (T : Type 0) → failed T error.Memory ≡ failed T error.Halted → ⊥
+memory_not_halted T e = cc
+
+memory_not_full : (T : Type 0) → failed T error.Memory ≡ failed T error.Full → ⊥
+memory_not_full T e = cc
+
+pub device_not_halted : (T : Type 0) (e : ArchiveError) → e ≡ error.Device → failed T e ≡ failed T error.Halted → ⊥
+device_not_halted T e device halted = cc
+
+pub ok_not_halted : {T : Type 0} (x : T) (r : Result T ArchiveError) → r ≡ Ok x → r ≡ failed T error.Halted → ⊥
+ok_not_halted x r ok halted = cc
+
+module _ {D : Type 0} {disk : Ghosts D} (archive : Archive D disk) (pair : ℕ) (machine : CoordinatorMachine) (is : IsMachine archive pair machine.journal) (fits : generation_shown archive < 2 ^ 64) where
+  when_halted : IsHalted archive → is_halted machine.journal.status ≡ true
+  when_halted halted = elim is.state as (λ _. is_halted machine.journal.status ≡ true) [
+    | inl was ↦ absurd (false≢true (sym was.stands.runs.running ∙ halted))
+    | inr fails ↦ ap is_halted fails.halted
+  ]
+
+  pub when_up : (IsHalted archive → ⊥) → Runs archive machine.journal
+  when_up up = elim is.state as (λ _. Runs archive machine.journal) [ inl was ↦ was | inr fails ↦ absurd (up fails.is_halted) ]
+
+  pub refused_for : (T : Type 0) (e : ArchiveError) → IsOfCheckpoint e → e ≢ error.Device → ((failed T e ≡ failed T error.Halted) ↔ IsHalted archive) →
+      ((kept : model.Archive) → ArchiveStands archive kept → (failed T e ≡ failed T error.Full) ↔ (generation_shown archive + 1 ≡ 2 ^ 64)) → first_cause (checkpoint_causes machine) ≡ Some (refusal_of e)
+  refused_for T error.Halted of other halted full = causes_with machine true (nat_le greatest machine.journal.generation) (when_halted (halted.0 refl)) refl
+  refused_for T error.Full of other halted full =
+      let was = when_up (λ h. full_not_halted T (halted.1 h)) in
+      causes_with machine false true (ap is_halted was.up) (ap (nat_le greatest) (sym was.generation) ∙ is_greatest (generation_shown archive) ((full machine.journal.value was.stands).0 refl))
+  refused_for T error.Memory of other halted full =
+      let was = when_up (λ h. memory_not_halted T (halted.1 h)) in
+      causes_with machine false false (ap is_halted was.up) (ap (nat_le greatest) (sym was.generation) ∙ is_less (generation_shown archive) fits (λ e. memory_not_full T ((full machine.journal.value was.stands).1 e)))
+  refused_for T error.Device of other halted full = absurd (other refl)
+  refused_for T error.NoParent of other halted full = absurd of
+  refused_for T error.Root of other halted full = absurd of
+  refused_for T error.JournalFull of other halted full = absurd of
+  refused_for T error.NoImage of other halted full = absurd of
+  refused_for T error.Damaged of other halted full = absurd of
+  refused_for T error.WrongPair of other halted full = absurd of
+
+module _ {D : Type 0} {disk : Ghosts D} (old new : Coordinator D disk) (pair : ℕ) (machine : CoordinatorMachine) (stands : Stands old pair machine) (same : new.running ≡ old.running) where
+  -- a session that runs goes on, so that none ended
+  goes_on_still : (b : Bool) → (if b && not b then in_report (report_shown new) else []) ≡ []
+  goes_on_still true = refl
+  goes_on_still false = refl
+
+  pub none_ended : [] ≡ ended_in old new
+  none_ended = sym (ap (λ r. if runs old && not (is_some r) then in_report (report_shown new) else []) same ∙ goes_on_still (runs old))
+
+  still_runs : (status : Status) → status ≢ Down → (journal : Journal) → journal.status ≡ status → running_after journal.status machine.running ≡ option_map running_of new.running
+  still_runs status up journal is = ap (λ s. running_after s machine.running) is ∙ (goes status up ∙ (stands.running ∙ ap (option_map running_of) (sym same)))
+    where
+      goes : (s : Status) → s ≢ Down → running_after s machine.running ≡ machine.running
+      goes Up _ = refl
+      goes Halted _ = refl
+      goes Down never = absurd (never refl)
+
+  pub checkpoint_does : (status : Status) → status ≢ Down → Moves new.archive pair (Compacts (archive_layout pair) machine.journal) status → Does old new pair (Checkpoints pair machine) [] []
+  checkpoint_does status up (moves_on journal compacts is_status is) =
+      goes_on _ _ (checkpoints journal compacts) (record { journal = is; running = still_runs status up journal is_status }) refl refl none_ended
+  checkpoint_does status up (moves_down journal compacts stopped down leaves) = goes_down _ _ (checkpoints journal compacts) stopped down leaves refl
+
+  pub reopen_does : Moves new.archive pair (λ journal. (kept : List Kept) × Reopened pair machine.journal journal kept) Up → (kept : List Kept) × Does old new pair (Reopens pair machine) kept []
+  reopen_does (moves_on journal opened is_status is) =
+      (opened.0, goes_on _ _ (reopens journal opened.0 opened.1) (record { journal = is; running = still_runs Up up_not_down journal is_status }) refl refl none_ended)
+  reopen_does (moves_down journal opened stopped down leaves) = (opened.0, goes_down _ _ (reopens journal opened.0 opened.1) stopped down leaves refl)
+
+  pub not_reopened : (met left : Status) → left ≢ Down → Moves new.archive pair (NotReopened machine.journal met left) left → Does old new pair (ReopensNot machine met left) [] []
+  not_reopened met left up (moves_on journal not_opened is_status is) =
+      goes_on _ _ (reopens_not journal not_opened) (record { journal = is; running = still_runs left up journal is_status }) refl refl none_ended
+  not_reopened met left up (moves_down journal not_opened stopped down leaves) = goes_down _ _ (reopens_not journal not_opened) stopped down leaves refl
+
+pub error_is : {T : Type 0} (a b : ArchiveError) → failed T a ≡ failed T b → a ≡ b
+error_is a b e = cc

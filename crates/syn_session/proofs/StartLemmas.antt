@@ -1,0 +1,87 @@
+-- A start is the step of a coordinator that starts.
+use Rattle.std.proofs.Common.{◌≡◌, ◌≢◌, ◌<◌, ◌^◌, ℕ, ◌-◌, ◌+◌, ◌==◌, Bool, true, false, not, nat_le, if◌then◌else◌, [], ◌∷◌, Option, Some, None, refl, sym, ap, ◌∙◌, arith}
+use Rattle.std.proofs.lemmas.Bool.{false≢true}
+use Rattle.std.proofs.lemmas.Bool.Decides.{nat_tests}
+use Rattle.std.specs.Prelude.{is_some, option_map, ◌&&◌}
+use Rattle.syn_disk.specs.declared.disk.Disk.{Ghosts}
+use Rattle.syn_headline.specs.Coordinator.{CoordinatorMachine, CoordinatorStarts, starts, start_breaks, archive_layout, new_session, begins, sent_now}
+use Rattle.syn_headline.specs.Machine.{Up, Halted, Down, Status, has_room}
+use Rattle.syn_headline.specs.World.{is_halted}
+use Rattle.syn_model.specs.Archive as model
+use Rattle.syn_model.specs.Archive.{CanKeep, Session}
+use Rattle.syn_model.specs.Limits.{greatest}
+use Rattle.syn_model.specs.Refusal.{Refusal, Full, BadMessage, first_cause}
+use Rattle.syn_model.specs.Refusal as why
+use Rattle.syn_session.specs.Coordinators.{Does, ended_in, in_report, report_shown, runs, all_causes, goes_on, goes_down}
+use Rattle.syn_session.specs.declared.coordinator.Coordinator.{Coordinator}
+use Rattle.syn_session.specs.inner.Sessions.{running_of, begun}
+use Rattle.syn_session.specs.inner.Steps.{KeepsSo, moves_on, moves_down}
+
+same : (n : ℕ) → (n == n) ≡ true
+same n = grind (arith, nat_tests)
+
+below : (n : ℕ) → n < 2 ^ 64 - 1 → nat_le greatest n ≡ false
+below n h = grind (arith, nat_tests)
+
+-- the next session can be kept until the greatest
+pub can_begin : (archive : model.Archive) → archive.last_session < 2 ^ 64 - 1 → CanKeep archive (Session (archive.last_session + 1))
+can_begin archive h = record {
+  lawful = tt;
+  not_refused =
+      ap (λ b. if b then Some Full else (if not (archive.last_session + 1 == archive.last_session + 1) then Some BadMessage else None)) (below archive.last_session h)
+      ∙ ap (λ b. if not b then Some BadMessage else None) (same (archive.last_session + 1));
+}
+
+-- none is there
+pub is_none : {A : Type 0} (o : Option A) → is_some o ≡ false → o ≡ None
+is_none None e = refl
+is_none (Some a) e = absurd (false≢true (sym e))
+
+is_up : Status → Bool
+is_up Up = true
+is_up Halted = false
+is_up Down = false
+
+not_up : {s : Status} → s ≡ Down → s ≢ Up
+unfolding is_up
+not_up down up = false≢true (sym (ap is_up down) ∙ ap is_up up)
+
+halted_not_up : {s : Status} → s ≡ Halted → s ≢ Up
+unfolding is_up
+halted_not_up halted up = false≢true (sym (ap is_up halted) ∙ ap is_up up)
+
+-- by what each of the causes is
+abbrev pub first_of : Bool → Bool → Bool → Bool → Option Refusal
+first_of halted busy full no_room = first_cause ((halted, why.Halted) ∷ (busy, why.Busy) ∷ (full, why.Full) ∷ (no_room, why.JournalFull) ∷ (true, why.Memory) ∷ [])
+
+pub causes_are : (pair : ℕ) (machine : CoordinatorMachine) (halted busy full no_room : Bool) → is_halted machine.journal.status ≡ halted → is_some machine.running ≡ busy → nat_le greatest machine.journal.value.last_session ≡ full →
+    not (has_room (archive_layout pair) machine.journal (Session (machine.journal.value.last_session + 1))) ≡ no_room → first_cause (all_causes pair machine) ≡ first_of halted busy full no_room
+causes_are pair machine halted busy full no_room h b f r =
+    ap (λ x. first_of x (is_some machine.running) (nat_le greatest machine.journal.value.last_session) (not (has_room (archive_layout pair) machine.journal (Session (machine.journal.value.last_session + 1))))) h
+    ∙ (ap (λ x. first_of halted x (nat_le greatest machine.journal.value.last_session) (not (has_room (archive_layout pair) machine.journal (Session (machine.journal.value.last_session + 1))))) b
+    ∙ (ap (λ x. first_of halted busy x (not (has_room (archive_layout pair) machine.journal (Session (machine.journal.value.last_session + 1))))) f
+    ∙ ap (λ x. first_of halted busy full x) r))
+
+module _ {D : Type 0} {disk : Ghosts D} (old new : Coordinator D disk) (pair : ℕ) (machine : CoordinatorMachine) (no_session : runs old ≡ false) where
+  -- no report stands for it
+  no_report : [] ≡ ended_in old new
+  no_report = sym (ap (λ b. if b && not (runs new) then in_report (report_shown new) else []) no_session)
+
+  abbrev pub number : ℕ
+  number = machine.journal.value.last_session + 1
+
+  module _ (session_fits : number < 2 ^ 64) (pair_fits : pair < 2 ^ 64) where
+    -- both sides are to begin the session
+    pub started : option_map running_of new.running ≡ Some (begun number pair) → KeepsSo new.archive pair machine.journal (Session number) (Session number ∷ []) Up →
+        Does old new pair (CoordinatorStarts pair machine) (Session number ∷ []) (sent_now (new_session number) (begins pair) (begins pair))
+    started running (moves_on journal keeps up is) =
+        goes_on _ _ (starts number journal refl (session_fits, pair_fits) keeps up) (record { journal = is; running = sym running }) refl refl no_report
+    started running (moves_down journal keeps stopped down leaves) =
+        goes_down _ _ (start_breaks number journal (Session number ∷ []) refl keeps (not_up down)) stopped down leaves refl
+
+  -- the device failed as the number was kept
+  pub start_failed : option_map running_of new.running ≡ None → KeepsSo new.archive pair machine.journal (Session number) [] Halted → Does old new pair (CoordinatorStarts pair machine) [] []
+  start_failed running (moves_on journal keeps halted is) =
+      goes_on _ _ (start_breaks number journal [] refl keeps (halted_not_up halted)) (record { journal = is; running = sym running }) refl refl no_report
+  start_failed running (moves_down journal keeps stopped down leaves) =
+      goes_down _ _ (start_breaks number journal [] refl keeps (not_up down)) stopped down leaves refl

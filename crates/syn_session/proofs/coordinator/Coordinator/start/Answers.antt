@@ -1,0 +1,53 @@
+use Rattle.std.proofs.Common.{◌≡◌, ◌≢◌, ◌<◌, ◌^◌, ◌+◌, [], ◌∷◌, ◌++◌, Some, Err, inl, inr, sym, ap, ap₂, ◌∙◌, subst, map}
+use Rattle.std.specs.Prelude.{option_map}
+use Rattle.syn_headline.specs.Coordinator.{CoordinatorStarts, messages_to}
+use Rattle.syn_headline.specs.Network.{Left, Right}
+use Rattle.syn_wire.specs.Marks.{kept_of}
+use Rattle.syn_wire.specs.declared.kept.Kept.TheVariants as has
+use Rattle.syn_headline.specs.Machine.{Up, Halted}
+use Rattle.syn_model.specs.Archive.{Session}
+use Rattle.syn_model.specs.Refusal.{first_cause}
+use Rattle.syn_session.specs.Coordinators.{Does, Stands, all_causes, archive_of}
+use Rattle.syn_session.specs.Refusals.{refusal_of}
+use Rattle.syn_session.specs.Sendings.{messages_of}
+use Rattle.syn_session.specs.declared.error.SessionError.TheVariants.{Device}
+use Rattle.syn_session.specs.inner.Sessions.{running_of, begun}
+use Rattle.syn_session.specs.inner.Steps.{KeepsSo}
+use Rattle.syn_session.proofs.ErrorLemmas.{passed, refused_so}
+use Rattle.syn_session.proofs.StartLemmas.{is_none, started, start_failed}
+use Rattle.syn_session.proofs.coordinator.Coordinator.start.Goals as goal
+
+pub returns-in_err-check_start-clause-step : goal.returns-in_err-check_start-clause-step
+returns-in_err-check_start-clause-step g c pair machine stands =
+    passed (λ e. e ≡ Device → Does c.args.self.now c.args.self.now pair (CoordinatorStarts pair machine) [] []) _ c.from_residual.result _ c.from_residual.ensures.1 (λ e. absurd (c.in_err-check_start.ensures.no_call e))
+
+pub returns-in_err-check_start-clause-refused : goal.returns-in_err-check_start-clause-refused
+returns-in_err-check_start-clause-refused g c pair machine stands =
+    refused_so (λ e. e ≢ Device → (first_cause (all_causes pair machine) ≡ Some (refusal_of e)) × Stands c.args.self.now pair machine) c.from_residual.result _ c.from_residual.ensures.1
+    (λ other. (c.in_err-check_start.ensures.refused pair machine stands, stands))
+
+pub returns-in_err-keep_session-clause-step : goal.returns-in_err-keep_session-clause-step
+returns-in_err-keep_session-clause-step g c pair machine stands =
+    passed (λ e. e ≡ Device → Does c.args.self.now c.keep_session.new.self pair (CoordinatorStarts pair machine) [] []) _ c.from_residual-in_err-keep_session.result _ c.from_residual-in_err-keep_session.ensures.1
+    (λ e. start_failed c.args.self.now c.keep_session.new.self pair machine c.in_ok-check_start.ensures.idle (ap (option_map running_of) (c.in_err-keep_session.ensures.stays ∙ is_none c.args.self.now.running c.in_ok-check_start.ensures.idle))
+    (subst (λ n. KeepsSo (archive_of c.keep_session.new.self) pair machine.journal (Session (n + 1)) [] Halted) (ap (λ a. a.last_session) stands.journal.remembers) (c.in_err-keep_session.ensures.device pair machine stands (ap (λ e. Err e) e))))
+
+pub returns-in_err-keep_session-clause-refused : goal.returns-in_err-keep_session-clause-refused
+returns-in_err-keep_session-clause-refused g c pair machine stands =
+    refused_so (λ e. e ≢ Device → (first_cause (all_causes pair machine) ≡ Some (refusal_of e)) × Stands c.keep_session.new.self pair machine) c.from_residual-in_err-keep_session.result _ c.from_residual-in_err-keep_session.ensures.1
+    (λ other. elim (c.in_err-keep_session.ensures.memory pair machine stands) [
+      | inl device ↦ absurd (other device)
+      | inr memory ↦ (c.in_ok-check_start.ensures.refused pair machine stands ∙ ap (λ e. Some (refusal_of e)) (sym memory.0), memory.1)
+    ])
+
+pub returns-clause-step : goal.returns-clause-step
+returns-clause-step g c pair machine stands =
+    let last = ap (λ a. a.last_session) stands.journal.remembers in
+    let begins = c.new-session.ensures.begun ∙ ap₂ begun (ap (λ n. n + 1) (c.last_session.ensures ∙ last)) (c.pair.ensures ∙ stands.journal.pair_is) in
+    let running = ap (option_map running_of) c.in_ok-keep_session.ensures.running ∙ ap (λ r. Some r) begins in
+    let kept = subst (λ n. KeepsSo (archive_of c.keep_session.new.self) pair machine.journal (Session (n + 1)) (Session (n + 1) ∷ []) Up) last (c.in_ok-keep_session.ensures.ok pair machine stands) in
+    let written_is = ap (λ v. map kept_of v.items) c.in_ok-keep_session.ensures.written ∙ (ap (map kept_of) c.in_ok-push.ensures.items ∙ (ap (λ l. map kept_of (l ++ has.Session c.new-session.result.number ∷ [])) c.new-written.ensures.items ∙ ap (λ r. Session r.session ∷ []) begins)) in
+    let sent = c.in_ok-sends.ensures.ok ∙ ap (λ r. messages_to r.session Left r.left ++ messages_to r.session Right r.right) begins in
+    subst (λ w. Does c.args.self.now c.keep_session.new.self pair (CoordinatorStarts pair machine) w (messages_of c.in_ok-sends.sends.items)) (sym written_is)
+    (subst (λ m. Does c.args.self.now c.keep_session.new.self pair (CoordinatorStarts pair machine) (Session (machine.journal.value.last_session + 1) ∷ []) m) (sym sent)
+    (started c.args.self.now c.keep_session.new.self pair machine c.in_ok-check_start.ensures.idle (subst (λ n. n + 1 < 2 ^ 64) last c.in_ok-check_start.ensures.fits) (subst (λ p. p < 2 ^ 64) (c.pair.ensures ∙ stands.journal.pair_is) c.new-session.ensures.fits) running kept))

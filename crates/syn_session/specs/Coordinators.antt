@@ -1,0 +1,108 @@
+-- What a coordinator shows, which of the model's machines it is, and what a call does.
+use Rattle.std.specs.Prelude.{◌≡◌, ◌++◌, ℕ, nat_le, Bool, true, not, ◌&&◌, List, [], ◌∷◌, map}
+use Rattle.std.specs.Prelude.{Option, Some, None, option_map, is_some, if◌then◌else◌}
+use Rattle.syn_archive.specs.Archive.{disk_of}
+use Rattle.syn_archive.specs.declared.archive.Archive.{Archive}
+use Rattle.syn_disk.specs.Arms.{is_stopped}
+use Rattle.syn_disk.specs.declared.disk.Disk.{Ghosts}
+use Rattle.syn_headline.specs.Coordinator.{Call, CoordinatorMachine, archive_layout, no_call}
+use Rattle.syn_headline.specs.Coordinator.{start_causes, with_archive}
+use Rattle.syn_headline.specs.Machine.{Arms, Compacts, Down, Status, after_device}
+use Rattle.syn_headline.specs.Network.{Message}
+use Rattle.syn_headline.specs.Report.{Report}
+use Rattle.syn_headline.specs.World.{is_halted}
+use Rattle.syn_model.specs.Archive.{Kept}
+use Rattle.syn_model.specs.Limits.{greatest}
+use Rattle.syn_model.specs.Refusal.{Cause, Refusal}
+use Rattle.syn_model.specs.Refusal as why
+use Rattle.syn_session.specs.Machines.{IsMachine, Journal, LeavesMachine, NotReopened}
+use Rattle.syn_session.specs.Machines.{Reopened}
+use Rattle.syn_session.specs.Reports.{report_model}
+use Rattle.syn_session.specs.declared.coordinator.Coordinator.{Coordinator}
+use Rattle.syn_session.specs.inner.Sessions.{running_of}
+use Rattle.syn_wire.specs.Marks.{kept_of}
+
+module _ {D : Type 0} {disk : Ghosts D} (coordinator : Coordinator D disk) where
+  abbrev pub archive_of : Archive D disk
+  archive_of = coordinator.archive
+
+  abbrev pub device_of : D
+  device_of = disk_of coordinator.archive
+
+  -- the report of the session that ended last, since the last start
+  abbrev pub report_shown : Option Report
+  report_shown = option_map report_model coordinator.report
+
+  -- what the last call that could write wrote into the archive, and what was answered 9 in it
+  abbrev pub written : List Kept
+  written = map kept_of coordinator.written.items
+
+  abbrev pub broken : Option Kept
+  broken = option_map kept_of coordinator.broken
+
+  -- a session runs
+  abbrev pub runs : Bool
+  runs = is_some coordinator.running
+
+  -- it is this machine of the pair
+  pub record Stands (pair : ℕ) (machine : CoordinatorMachine) : Type 0 where
+    pub journal : IsMachine coordinator.archive pair machine.journal
+    pub running : machine.running ≡ option_map running_of coordinator.running
+
+-- the report of a session that ended in a call
+abbrev pub in_report : Option Report → List Report
+in_report None = []
+in_report (Some report) = report ∷ []
+
+abbrev pub ended_in : {D : Type 0} → {disk : Ghosts D} → Coordinator D disk → Coordinator D disk →
+    List Report
+ended_in old new = if runs old && not (runs new) then in_report (report_shown new) else []
+
+-- A call is a step of the machine: it leaves a machine that this coordinator is, with what was
+-- kept, sent and reported; or the machine went down in it, with what was kept so far
+pub data Does {D : Type 0} {disk : Ghosts D} (old new : Coordinator D disk) (pair : ℕ)
+    (Step : CoordinatorMachine → Call → Type 0) (kept : List Kept) (messages : List Message)
+    : Type 0 where
+  goes_on : (machine : CoordinatorMachine) (call : Call) → Step machine call →
+      Stands new pair machine → call.kept ≡ kept → call.messages ≡ messages →
+      call.reports ≡ ended_in old new → Does old new pair Step kept messages
+  goes_down : (machine : CoordinatorMachine) (call : Call) → Step machine call →
+      is_stopped (disk.arms (device_of new)) ≡ true → machine.journal.status ≡ Down →
+      LeavesMachine disk (device_of new) pair machine.journal → call.kept ≡ kept →
+      Does old new pair Step kept messages
+
+-- why a start is refused, before memory is
+abbrev pub all_causes : ℕ → CoordinatorMachine → List Cause
+all_causes pair machine =
+    ((is_halted machine.journal.status, why.Halted) ∷ start_causes pair machine)
+    ++ (true, why.Memory) ∷ []
+
+-- Calls on the archive as a whole
+
+abbrev pub checkpoint_causes : CoordinatorMachine → List Cause
+checkpoint_causes machine =
+    (is_halted machine.journal.status, why.Halted)
+    ∷ (nat_le greatest machine.journal.generation, why.Full) ∷ (true, why.Memory) ∷ []
+
+-- a checkpoint is made, or its device fails
+pub data Checkpoints (pair : ℕ) (machine : CoordinatorMachine) : CoordinatorMachine → Call →
+    Type 0 where
+  checkpoints : (journal : Journal) → Compacts (archive_layout pair) machine.journal journal →
+      Checkpoints pair machine (with_archive machine journal) no_call
+
+-- another opening gives what the disk then means, with the record that was being written or without
+pub data Reopens (pair : ℕ) (machine : CoordinatorMachine) : CoordinatorMachine → Call →
+    Type 0 where
+  reopens : (journal : Journal) (kept : List Kept) → Reopened pair machine.journal journal kept →
+      Reopens pair machine (with_archive machine journal) (record no_call { kept = kept })
+
+-- or it gives nothing, and its device calls left the machine so
+pub data ReopensNot (machine : CoordinatorMachine) (met left : Status) : CoordinatorMachine →
+    Call → Type 0 where
+  reopens_not : (journal : Journal) → NotReopened machine.journal met left journal →
+      ReopensNot machine met left (with_archive machine journal) no_call
+
+-- with these arms at its device
+abbrev pub with_arms : CoordinatorMachine → Arms → CoordinatorMachine
+with_arms machine arms =
+    record machine { journal = after_device machine.journal machine.journal.status arms 0 }

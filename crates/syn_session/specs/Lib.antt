@@ -1,0 +1,6 @@
+pub mod Refusals
+pub mod Reports
+pub mod Sendings
+pub mod Machines
+pub mod Coordinators
+pub mod inner

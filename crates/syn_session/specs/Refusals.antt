@@ -1,0 +1,14 @@
+-- Why a session does not start, as a refusal of the product.
+use Rattle.syn_model.specs.Refusal.{Refusal}
+use Rattle.syn_model.specs.Refusal as why
+use Rattle.syn_session.specs.declared.error.SessionError.{SessionError}
+use Rattle.syn_session.specs.declared.error.SessionError.TheVariants.{Full, JournalFull, Device}
+use Rattle.syn_session.specs.declared.error.SessionError.TheVariants.{Halted, Memory, Busy}
+
+abbrev pub refusal_of : SessionError → Refusal
+refusal_of Full = why.Full
+refusal_of JournalFull = why.JournalFull
+refusal_of Device = why.Device
+refusal_of Halted = why.Halted
+refusal_of Memory = why.Memory
+refusal_of Busy = why.Busy

@@ -1,0 +1,3 @@
+-- Definitions that no public clause names.
+pub mod Sessions
+pub mod Steps

@@ -1,0 +1,121 @@
+//! The coordinator's archive as a whole: a checkpoint, another opening, and the arms of its device.
+ghost use Rattle.std.specs.Prelude.{◌≡◌, ◌≢◌, ◌<◌, ◌^◌, [], ℕ, List, false, Err, IfErr, OnOk};
+ghost use Rattle.std.specs.Prelude.{MatchResult, Some};
+ghost use Rattle.syn_disk.specs.Armed.{armed};
+ghost use Rattle.syn_disk.specs.Arms.{is_stopped};
+ghost use Rattle.syn_recovery.specs.Calls.{armed_at};
+ghost use Rattle.syn_session.specs.Coordinators.{with_arms};
+ghost use Rattle.syn_archive.specs.Refusals.{refusal_of};
+ghost use Rattle.syn_headline.specs.Coordinator.{CoordinatorMachine};
+ghost use Rattle.syn_headline.specs.Machine.{Halted, Up};
+ghost use Rattle.syn_model.specs.Archive.{Kept};
+ghost use Rattle.syn_model.specs.Refusal.{first_cause};
+
+use super::Coordinator;
+use std::alloc::Global;
+use syn_archive::ArchiveError;
+use syn_disk::{Arm, Disk, Limit};
+use syn_model::archive_laws;
+use syn_recovery::{device_laws, opening_laws};
+
+impl<D: Disk> Coordinator<D> {
+    ghost use Rattle.syn_session.specs.Coordinators.{Checkpoints, Does, Reopens, ReopensNot};
+    ghost use Rattle.syn_session.specs.Coordinators.{Stands, checkpoint_causes};
+
+    /// Writes the archive as one image, so that its journal has room again. A session that runs
+    /// goes on.
+    ///
+    /// Refused 10 while the archive is halted, 7 where its generation is the greatest that can be
+    /// written, 11 where memory is refused, and 9 where a device call fails. After 9 the archive is
+    /// halted; it shows the same in each case.
+    pub fn checkpoint(&mut self, alloc: Global) -> Result<(), ArchiveError>
+        // It is a checkpoint of the machine, also where its device fails or is stopped.
+        ensures step { (pair : ℕ) (machine : CoordinatorMachine) → Stands self.old pair machine
+            → MatchResult result
+            (λ _. Does self.old self.new pair (Checkpoints pair machine) [] [])
+            (λ e. e ≡ ArchiveError.Device
+            → Does self.old self.new pair (Checkpoints pair machine) [] []) }
+
+        // Any other refusal is the first cause that stands, and changes nothing.
+        ensures refused { (pair : ℕ) (machine : CoordinatorMachine) → Stands self.old pair machine
+            → IfErr result (λ e. e ≢ ArchiveError.Device
+            → (first_cause (checkpoint_causes machine) ≡ Some (refusal_of e))
+            × Stands self.new pair machine) }
+    {
+        device_laws();
+        archive_laws();
+        let generation = self.archive.generation();
+        is_long(generation);
+        match self.archive.checkpoint(alloc) {
+            Ok(()) => {
+                self.archive.keeps_on_disk();
+                Ok(())
+            }
+            Err(error) => Err(error),
+        }
+    }
+
+    /// Opens the archive's own disk again. A session that runs goes on; an archive that was halted
+    /// runs again.
+    ///
+    /// Refused 9 where a device call fails, and 11 where memory is refused. After 9 the archive is
+    /// halted; after 11 it is as it was. Nothing is written.
+    pub fn reopen(&mut self, alloc: Global) -> Result<(), ArchiveError>
+        // It is another opening of the machine. What it keeps there is a record that was being
+        // written when its device failed.
+        ensures ok { (pair : ℕ) (machine : CoordinatorMachine) → Stands self.old pair machine
+            → OnOk result ((kept : List Kept)
+            × Does self.old self.new pair (Reopens pair machine) kept []) }
+        ensures device { (pair : ℕ) (machine : CoordinatorMachine) → Stands self.old pair machine
+            → result ≡ Err ArchiveError.Device
+            → Does self.old self.new pair (ReopensNot machine Halted Halted) [] [] }
+        ensures memory { (pair : ℕ) (machine : CoordinatorMachine) → Stands self.old pair machine
+            → IfErr result (λ e. e ≢ ArchiveError.Device → (e ≡ ArchiveError.Memory)
+            × Does self.old self.new pair
+            (ReopensNot machine Up machine.journal.status) [] []) }
+    {
+        device_laws();
+        opening_laws();
+        self.archive.keeps_on_disk();
+        match self.archive.reopen(alloc) {
+            Ok(()) => {
+                self.archive.keeps_on_disk();
+                Ok(())
+            }
+            Err(error) => {
+                self.archive.keeps_on_disk();
+                Err(error)
+            }
+        }
+    }
+}
+
+impl<D: Limit> Coordinator<D> {
+    ghost use Rattle.syn_session.specs.Coordinators.{device_of, Stands};
+
+    /// Arms the archive's disk. It takes the place of an arm of its kind that is still to come.
+    pub fn arm(&mut self, arm: Arm)
+        ensures arms { D.Disk.arms (device_of self.new) ≡ armed (D.Disk.arms (device_of self.old))
+            arm }
+        ensures stands { (pair : ℕ) (machine : CoordinatorMachine) → Stands self.old pair machine
+            → is_stopped (D.Disk.arms (device_of self.new)) ≡ false
+            → Stands self.new pair (with_arms machine
+            (armed_at (D.Disk.arms (device_of self.new)))) }
+    {
+        self.archive.arm(arm);
+    }
+
+    /// Whether all the device calls before a stop are made.
+    pub fn is_cut(&self) -> bool
+        ensures { result ≡ is_stopped (D.Disk.arms (device_of self.now)) }
+    {
+        self.archive.is_cut()
+    }
+}
+
+/// Eight bytes spell it.
+fn is_long(number: u64)
+    ensures { number < 2 ^ 64 }
+{
+    let _ = number;
+}

@@ -1,0 +1,14 @@
+//! The coordinator of a pair: it runs sessions between the two replicas, over its archive.
+#![tactic(auto)]
+
+mod coordinator;
+mod error;
+mod report;
+mod requests;
+mod sending;
+mod session;
+
+pub use coordinator::Coordinator;
+pub use error::SessionError;
+pub use report::{End, Report};
+pub use sending::Sending;

@@ -1,0 +1,67 @@
+//! A request that waits for its answer.
+ghost use Rattle.std.specs.Prelude.{◌≡◌, false, nat_le, IfOk, IfErr};
+ghost use Rattle.syn_headline.specs.Coordinator.{most_resends};
+ghost use Rattle.syn_headline.specs.Side.{Begin};
+ghost use Rattle.syn_message.specs.Requests.{request_of};
+
+use crate::error::SessionError;
+use std::alloc::Global;
+use syn_message::{Asked, Request};
+
+/// How often a request is sent again at most.
+const MOST_RESENDS: u8 = 8;
+
+/// A request that waits for its answer.
+#[derive(Debug, Drop)]
+pub(crate) struct Waiting {
+    pub(crate) number: u32,
+    pub(crate) request: Request,
+    /// How often it was sent again.
+    pub(crate) resent: u8,
+}
+
+impl Waiting {
+    ghost use Rattle.syn_session.specs.inner.Sessions.{asks, outstanding_of, once_later};
+
+    /// The first request of a session to a side: it is to begin there.
+    pub(crate) fn begin(pair: u64) -> Waiting
+        ensures { outstanding_of result ≡ asks 0 (Begin pair) }
+    {
+        Waiting {
+            number: 0,
+            request: Request::Begin { pair },
+            resent: 0,
+        }
+    }
+
+    /// The request, with its session and its number in it. Refused 11 where memory is refused.
+    pub(crate) fn asked(&self, alloc: Global, session: u64) -> Result<Asked, SessionError>
+        ensures session { IfOk result (λ asked. asked.session ≡ session) }
+        ensures number { IfOk result (λ asked. asked.number ≡ self.now.number) }
+        ensures request { IfOk result (λ asked. request_of asked.request
+            ≡ request_of self.now.request) }
+        ensures memory { IfErr result (λ e. e ≡ SessionError.Memory) }
+    {
+        let request = self.request.copy(alloc)?;
+        Ok(Asked {
+            session,
+            number: self.number,
+            request,
+        })
+    }
+
+    /// Whether it was sent again as often as it may be.
+    pub(crate) fn is_worn(&self) -> bool
+        ensures { result ≡ nat_le most_resends self.now.resent }
+    {
+        self.resent >= MOST_RESENDS
+    }
+
+    /// It was sent once more.
+    pub(crate) fn count_resend(&mut self)
+        requires { nat_le most_resends self.old.resent ≡ false }
+        ensures { outstanding_of self.new ≡ once_later (outstanding_of self.old) }
+    {
+        self.resent += 1;
+    }
+}

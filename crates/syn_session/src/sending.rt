@@ -1,0 +1,10 @@
+//! What a coordinator sends.
+
+use syn_message::{Asked, Side};
+
+/// A request that is to be sent to a side.
+#[derive(Debug, Drop)]
+pub struct Sending {
+    pub to: Side,
+    pub asked: Asked,
+}
