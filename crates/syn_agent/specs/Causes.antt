@@ -23,9 +23,9 @@ abbrev pub GoesBehind : Option Staging → Token → ℕ → Type 0
 GoesBehind staging token offset =
     (is_staged staging token ≡ true) × (offset ≡ length (staged_bytes staging))
 
--- What takes memory to answer: a session that begins; the names of a directory; a piece of what
--- nobody touched; a piece that goes behind another; and a replacement under a token that is neither
--- done nor old, once what it puts is staged. Every other answer takes none
+-- What takes memory to answer. It is a session that begins, the names of a directory, a piece of
+-- what nobody touched, or one that goes behind another. And it is a replacement under a token that
+-- is neither done nor old, once what it puts is staged. Every other answer takes none
 abbrev pub TakesMemory : ℕ → (Event → Bool) → Side → ℕ → Request → Type 0
 TakesMemory pair has_room side session (Begin asked) =
     begin pair has_room side session asked

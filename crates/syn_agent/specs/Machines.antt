@@ -81,8 +81,8 @@ pub record Takes {D : Type 0} {disk : Ghosts D} (pair : ℕ) (new : Replica D di
   pub takes : SideTakes pair machine session request next (heard next.journal.status reply) events
   pub leaves : IsLeftAs pair new after next
 
--- What a call of a replica leaves on its disk may be the machine's that was making it: as it was
--- kept, with the event that was being written, or by the image of a checkpoint
+-- What a call of a replica leaves on its disk may be the machine's that was making it. It is as it
+-- was kept, or with the event that was being written
 abbrev pub WrittenIsOf : Type 0
 WrittenIsOf = (pair : ℕ) (machine : Journaled History Event) (event : Event) (bytes : List ℕ)
     → machine.writing ≡ Some event
@@ -91,6 +91,7 @@ WrittenIsOf = (pair : ℕ) (machine : Journaled History Event) (event : Event) (
     machine.generation bytes
     → MayBeOf (of_side pair) machine bytes
 
+-- or by the image of the checkpoint
 abbrev pub CompactedIsOf : Type 0
 CompactedIsOf = (pair : ℕ) (machine : Journaled History Event) (bytes : List ℕ)
     → machine.compacting ≡ true
