@@ -1,6 +1,6 @@
 -- Laws of growth: a replica is grown from itself, and growth upon growth is growth.
-use Rattle.std.proofs.Common.{◌≤◌, List, [], ◌∷◌, ◌++◌, sym, ◌∙◌, subst, inl, inr, append_assoc, le_refl}
-use Rattle.std.proofs.Common.{le_trans, refl}
+use Rattle.std.proofs.Common.{◌≤◌, List, [], ◌∷◌, ◌++◌, sym, ◌∙◌, subst, inl, inr, append_assoc}
+use Rattle.std.proofs.Common.{le_refl, le_trans, refl}
 use mathlib.Core.List.{append-nil}
 use Rattle.syn_disk.specs.declared.disk.Disk.{Ghosts}
 use Rattle.syn_model.specs.Event.{Event}

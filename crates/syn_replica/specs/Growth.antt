@@ -1,4 +1,4 @@
--- How a replica goes on: no history that it keeps up with is lost or altered, and events may follow.
+-- How a replica goes on: no history that it keeps up with is lost or altered; events may follow.
 use Rattle.std.specs.Prelude.{◌≡◌, ◌≤◌, ◌⊎◌, ◌++◌, ◌∷◌, [], List}
 use Rattle.syn_disk.specs.declared.disk.Disk.{Ghosts}
 use Rattle.syn_model.specs.Event.{Event}

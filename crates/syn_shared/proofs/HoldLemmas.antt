@@ -1,0 +1,42 @@
+-- One hold of a pass, from its entering to its leaving.
+use Rattle.std.proofs.Common.{◌≡◌, refl, sym, ap, ◌∙◌, subst, Option, Some, Result}
+use Rattle.std.specs.Option.{MatchOption}
+use Rattle.syn_disk.specs.declared.disk.Disk.{Ghosts}
+use Rattle.syn_lock.specs.History.{end_of}
+use Rattle.syn_lock.specs.Views.{Held, outside, published}
+use Rattle.syn_lock.specs.Guards.{HasEntered, knows, state_of}
+use Rattle.syn_lock.specs.declared.guard.Guard.{Guard}
+use Rattle.syn_lock.specs.declared.view.View.{View}
+use Rattle.syn_replica.specs.Growing.{itself}
+use Rattle.syn_replica.specs.Growth.{IsGrown}
+use Rattle.syn_replica.specs.declared.error.ReplicaError.{ReplicaError}
+use Rattle.syn_replica.specs.declared.replica.Replica.{Replica}
+use Rattle.syn_shared.specs.Refusals.{answer_in}
+use Rattle.syn_shared.specs.declared.error.SharedError.{SharedError}
+
+module _ {S : Type 0} (grows : S → S → Type 0) where
+  -- the state found became another
+  pub held_now : (o p : S) → p ≡ o → (v w : View S) (g : Guard S) (found left : S) (change : S → S → Type 0) → HasEntered grows p v g → found ≡ state_of g → w ≡ outside (published p (knows g) left) → change found left → Held grows o v w change
+  held_now o p same v w g found left change entered is e h =
+      subst (λ (x : S). Held grows x v w change) same (
+        entered.0,
+        left,
+        entered.1,
+        e ∙ ap (λ (k : View S). outside (published p k left)) entered.2,
+        subst (λ (x : S). change x left) (is ∙ entered.3) h,
+      )
+
+  -- it stayed
+  pub held_reading : (o p : S) → p ≡ o → (v w : View S) (g : Guard S) (found : S) (change : S → S → Type 0) → HasEntered grows p v g → found ≡ state_of g → w ≡ outside (published p (knows g) (state_of g)) → change found found → Held grows o v w change
+  held_reading o p same v w g found change entered is e h = held_now o p same v w g (state_of g) (state_of g) change entered refl e (subst (λ (x : S). change x x) is h)
+
+module _ {D : Type 0} {disk : Ghosts D} where
+  -- what is left as it was found has grown
+  pub still : (o : Replica D disk) (v : View (Replica D disk)) (g : Guard (Replica D disk)) → HasEntered IsGrown o v g → IsGrown (end_of o (knows g).seen) (state_of g)
+  still o v g entered =
+      let end = entered.3 ∙ sym (ap (λ (k : View (Replica D disk)). end_of o k.seen) entered.2) in
+      subst (λ (x : Replica D disk). IsGrown x (state_of g)) end (itself (state_of g))
+
+-- what the replica answered is what is answered
+pub held_answer : {X : Type 0} (r : Result X SharedError) (answer : Result X ReplicaError) (A : Type 0) (B : Result X ReplicaError → Type 0) → answer_in r ≡ Some answer → B answer → MatchOption (answer_in r) A B
+held_answer {X} r answer A B e b = subst (λ (o : Option (Result X ReplicaError)). MatchOption o A B) (sym e) b

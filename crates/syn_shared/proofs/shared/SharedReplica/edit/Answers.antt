@@ -1,0 +1,29 @@
+use Rattle.std.proofs.Common.{rules, ap}
+use Rattle.syn_lock.specs.Locks.{origin_of}
+use Rattle.syn_replica.specs.Growth.{IsGrown}
+use Rattle.syn_replica.specs.Edits.{event_by}
+use Rattle.syn_shared.specs.Edits.{Edits}
+use Rattle.syn_shared.proofs.HoldLemmas.{held_now}
+use Rattle.syn_shared.proofs.shared.SharedReplica.edit.Goals as goal
+
+pub returns-clause-held : goal.returns-clause-held
+returns-clause-held g c = (
+  c.enter-guard.ensures.entered.0,
+  held_now IsGrown _ (origin_of c.own-own.result.now) (ap origin_of c.own-own.ensures) _ _ c.enter-guard.result c.deref_mut.result.now c.edit-made.new.self (Edits (event_by c.args.user c.args.edit) c.edit-made.result) c.enter-guard.ensures.entered.1 c.deref_mut.ensures.value (search rules) (record {
+    acknowledged = c.edit-made.ensures.acknowledged;
+    writes = c.edit-made.ensures.record;
+    any_moment = c.edit-made.ensures.any_moment;
+    seen = c.edit-made.ensures.seen;
+    grown = c.edit-made.ensures.grown;
+    tried = c.edit-made.ensures.tried;
+    cause = c.edit-made.ensures.cause;
+    refused = c.edit-made.ensures.refused;
+    refusals = c.edit-made.ensures.refusals;
+    halted = c.edit-made.ensures.halted;
+    halts = c.edit-made.ensures.halts;
+    readings = c.edit-made.ensures.readings;
+    unchanged = c.edit-made.ensures.unchanged;
+    failures = c.edit-made.ensures.failures;
+    calls = c.edit-made.ensures.calls;
+  }),
+)

@@ -1,0 +1,21 @@
+use Rattle.std.proofs.Common.{rules, ap, refl}
+use Rattle.syn_lock.specs.Locks.{origin_of}
+use Rattle.syn_replica.specs.Growth.{IsGrown}
+use Rattle.syn_shared.specs.Reads.{Gets}
+use Rattle.syn_shared.proofs.HoldLemmas.{held_reading, still}
+use Rattle.syn_shared.proofs.shared.SharedReplica.get.Goals as goal
+
+pub leave-requires-clause-grown : goal.leave-requires-clause-grown
+leave-requires-clause-grown g c = still _ _ c.enter-guard.result c.enter-guard.ensures.entered.1
+
+pub returns-clause-held : goal.returns-clause-held
+returns-clause-held g c = (
+  c.enter-guard.ensures.entered.0,
+  held_reading IsGrown _ (origin_of c.own-own.result.now) (ap origin_of c.own-own.ensures) _ _ c.enter-guard.result c.deref.result.now (Gets c.args.path.now c.get-content.result) c.enter-guard.ensures.entered.1 c.deref.ensures (search rules) (record {
+    same = refl;
+    content = c.get-content.ensures.found;
+    absent = c.get-content.ensures.absent;
+    halted = c.get-content.ensures.halted;
+    refusals = c.get-content.ensures.refusals;
+  }),
+)

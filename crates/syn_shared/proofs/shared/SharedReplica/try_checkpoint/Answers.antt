@@ -1,0 +1,29 @@
+use Rattle.std.proofs.Common.{rules, ap}
+use Rattle.syn_lock.specs.Locks.{origin_of}
+use Rattle.syn_replica.specs.Growth.{IsGrown}
+use Rattle.syn_shared.specs.Upkeep.{Checkpoints}
+use Rattle.syn_shared.proofs.HoldLemmas.{held_now, held_answer}
+use Rattle.syn_shared.proofs.shared.SharedReplica.try_checkpoint.Goals as goal
+
+pub returns-clause-held : goal.returns-clause-held
+returns-clause-held g c =
+    held_answer c.answered.result _ _ _ c.answered.ensures (held_now IsGrown _ (origin_of c.own-own.result.now) (ap origin_of c.own-own.ensures) _ _ c.in-Ok.guard c.deref_mut.result.now c.checkpoint-answer.new.self (Checkpoints c.checkpoint-answer.result) c.in-Ok.ensures.entered c.deref_mut.ensures.value (search rules) (record {
+      acknowledged = c.checkpoint-answer.ensures.acknowledged;
+      image = c.checkpoint-answer.ensures.image;
+      generation = c.checkpoint-answer.ensures.generation;
+      memory = c.checkpoint-answer.ensures.memory;
+      any_moment = c.checkpoint-answer.ensures.any_moment;
+      seen = c.checkpoint-answer.ensures.seen;
+      grown = c.checkpoint-answer.ensures.grown;
+      tried = c.checkpoint-answer.ensures.tried;
+      cause = c.checkpoint-answer.ensures.cause;
+      full = c.checkpoint-answer.ensures.full;
+      greatest = c.checkpoint-answer.ensures.greatest;
+      refusals = c.checkpoint-answer.ensures.refusals;
+      halted = c.checkpoint-answer.ensures.halted;
+      halts = c.checkpoint-answer.ensures.halts;
+      readings = c.checkpoint-answer.ensures.readings;
+      unchanged = c.checkpoint-answer.ensures.unchanged;
+      failures = c.checkpoint-answer.ensures.failures;
+      calls = c.checkpoint-answer.ensures.calls;
+    }))

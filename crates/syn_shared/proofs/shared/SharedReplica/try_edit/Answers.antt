@@ -1,0 +1,27 @@
+use Rattle.std.proofs.Common.{rules, ap}
+use Rattle.syn_lock.specs.Locks.{origin_of}
+use Rattle.syn_replica.specs.Growth.{IsGrown}
+use Rattle.syn_replica.specs.Edits.{event_by}
+use Rattle.syn_shared.specs.Edits.{Edits}
+use Rattle.syn_shared.proofs.HoldLemmas.{held_now, held_answer}
+use Rattle.syn_shared.proofs.shared.SharedReplica.try_edit.Goals as goal
+
+pub returns-clause-held : goal.returns-clause-held
+returns-clause-held g c =
+    held_answer c.answered.result _ _ _ c.answered.ensures (held_now IsGrown _ (origin_of c.own-own.result.now) (ap origin_of c.own-own.ensures) _ _ c.in-Ok.guard c.deref_mut.result.now c.edit-answer.new.self (Edits (event_by c.args.user c.args.edit) c.edit-answer.result) c.in-Ok.ensures.entered c.deref_mut.ensures.value (search rules) (record {
+      acknowledged = c.edit-answer.ensures.acknowledged;
+      writes = c.edit-answer.ensures.record;
+      any_moment = c.edit-answer.ensures.any_moment;
+      seen = c.edit-answer.ensures.seen;
+      grown = c.edit-answer.ensures.grown;
+      tried = c.edit-answer.ensures.tried;
+      cause = c.edit-answer.ensures.cause;
+      refused = c.edit-answer.ensures.refused;
+      refusals = c.edit-answer.ensures.refusals;
+      halted = c.edit-answer.ensures.halted;
+      halts = c.edit-answer.ensures.halts;
+      readings = c.edit-answer.ensures.readings;
+      unchanged = c.edit-answer.ensures.unchanged;
+      failures = c.edit-answer.ensures.failures;
+      calls = c.edit-answer.ensures.calls;
+    }))

@@ -1,0 +1,19 @@
+use Rattle.std.proofs.Common.{rules, ap, refl}
+use Rattle.syn_lock.specs.Locks.{origin_of}
+use Rattle.syn_replica.specs.Growth.{IsGrown}
+use Rattle.syn_shared.specs.Reads.{Gets}
+use Rattle.syn_shared.proofs.HoldLemmas.{held_reading, still, held_answer}
+use Rattle.syn_shared.proofs.shared.SharedReplica.try_get.Goals as goal
+
+pub leave-requires-clause-grown : goal.leave-requires-clause-grown
+leave-requires-clause-grown g c = still _ _ c.in-Ok.guard c.in-Ok.ensures.entered
+
+pub returns-clause-held : goal.returns-clause-held
+returns-clause-held g c =
+    held_answer c.answered.result _ _ _ c.answered.ensures (held_reading IsGrown _ (origin_of c.own-own.result.now) (ap origin_of c.own-own.ensures) _ _ c.in-Ok.guard c.deref.result.now (Gets c.args.path.now c.get-answer.result) c.in-Ok.ensures.entered c.deref.ensures (search rules) (record {
+      same = refl;
+      content = c.get-answer.ensures.found;
+      absent = c.get-answer.ensures.absent;
+      halted = c.get-answer.ensures.halted;
+      refusals = c.get-answer.ensures.refusals;
+    }))

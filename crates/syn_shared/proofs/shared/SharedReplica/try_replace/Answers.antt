@@ -1,0 +1,30 @@
+use Rattle.std.proofs.Common.{rules, ap}
+use Rattle.syn_lock.specs.Locks.{origin_of}
+use Rattle.syn_replica.specs.Growth.{IsGrown}
+use Rattle.syn_history.specs.Events.{token_of}
+use Rattle.syn_tree.specs.Nodes.{part_of}
+use Rattle.syn_shared.specs.Replacements.{Replaces}
+use Rattle.syn_shared.proofs.HoldLemmas.{held_now, held_answer}
+use Rattle.syn_shared.proofs.shared.SharedReplica.try_replace.Goals as goal
+
+pub returns-clause-held : goal.returns-clause-held
+returns-clause-held g c =
+    held_answer c.answered.result _ _ _ c.answered.ensures (held_now IsGrown _ (origin_of c.own-own.result.now) (ap origin_of c.own-own.ensures) _ _ c.in-Ok.guard c.deref_mut.result.now c.replace-answer.new.self (Replaces (token_of c.args.token) c.args.path.now c.args.since (part_of c.args.new) c.replace-answer.result) c.in-Ok.ensures.entered c.deref_mut.ensures.value (search rules) (record {
+      acknowledged = c.replace-answer.ensures.acknowledged;
+      again = c.replace-answer.ensures.again;
+      writes = c.replace-answer.ensures.record;
+      any_moment = c.replace-answer.ensures.any_moment;
+      seen = c.replace-answer.ensures.seen;
+      grown = c.replace-answer.ensures.grown;
+      tried = c.replace-answer.ensures.tried;
+      untried = c.replace-answer.ensures.untried;
+      cause = c.replace-answer.ensures.cause;
+      refused = c.replace-answer.ensures.refused;
+      refusals = c.replace-answer.ensures.refusals;
+      halted = c.replace-answer.ensures.halted;
+      halts = c.replace-answer.ensures.halts;
+      readings = c.replace-answer.ensures.readings;
+      unchanged = c.replace-answer.ensures.unchanged;
+      failures = c.replace-answer.ensures.failures;
+      calls = c.replace-answer.ensures.calls;
+    }))

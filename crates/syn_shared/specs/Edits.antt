@@ -1,0 +1,56 @@
+-- What the edit of one thread answers and leaves.
+use Rattle.std.specs.Prelude.{◌≡◌, ◌⊎◌, ◌↔◌, ◌+◌, ℕ, [], ◌∷◌, ◌++◌, length, Some, Result, Err}
+use Rattle.std.specs.Prelude.{IfOk, IfErr, OnOk, IsErrAnd, MatchResult}
+use Rattle.syn_disk.specs.Calls.{Makes}
+use Rattle.syn_disk.specs.Stops.{LeavesOnly}
+use Rattle.syn_disk.specs.declared.disk.Disk.{Ghosts}
+use Rattle.syn_journal.specs.declared.error.JournalError.TheVariants.{Halted}
+use Rattle.syn_model.specs.Event.{Event}
+use Rattle.syn_model.specs.History.{History}
+use Rattle.syn_model.specs.Refusal.{Refusal, Device}
+use Rattle.syn_replica.specs.Growth.{IsGrown}
+use Rattle.syn_replica.specs.Refusals.{refusal_of, IsOneOf, edit_refusals, outside_refusals}
+use Rattle.syn_replica.specs.Refusals.{CountsFailures, MakesIfDevice}
+use Rattle.syn_replica.specs.Replica.{disk_of, room_shown, IsHalted, Stands, KeepsReadings}
+use Rattle.syn_replica.specs.Replica.{HasRecord, KeepsBeforeOrAfter, Tries}
+use Rattle.syn_replica.specs.Steps.{add_refusal}
+use Rattle.syn_replica.specs.declared.error.ReplicaError.{ReplicaError}
+use Rattle.syn_replica.specs.declared.error.ReplicaError.TheVariants.{Journal}
+use Rattle.syn_replica.specs.declared.replica.Replica.{Replica}
+
+-- an edit, as its event: one step of a side
+pub record Edits {D : Type 0} {disk : Ghosts D} (event : Event) (answer : Result ℕ ReplicaError)
+    (found left : Replica D disk) : Type 0 where
+  -- Ok: the event is added, and stands
+  pub acknowledged : (history : History) → Stands found history
+      → IfOk answer (λ position. (position ≡ length history + 1)
+      × Stands left (history ++ event ∷ []))
+  pub writes : OnOk answer (HasRecord found left event)
+  -- a stop, and a read after the call, find the history before or after
+  pub any_moment : (history : History) → Stands found history
+      → LeavesOnly disk.moment disk.left_since (disk_of found) (disk_of left)
+      (KeepsBeforeOrAfter found history event)
+  pub seen : (history : History) → Stands found history
+      → KeepsBeforeOrAfter found history event (disk.seen (disk_of left))
+  pub grown : IsGrown found left
+  pub tried : Tries found left event answer
+  -- refused: each refusal has its cause, and each cause its refusal
+  pub cause : (history : History) → Stands found history
+      → IfErr answer (λ e. IsOneOf outside_refusals e
+      ⊎ (add_refusal (room_shown found) history event ≡ Some (refusal_of e)))
+  pub refused : (history : History) (why : Refusal) → Stands found history
+      → add_refusal (room_shown found) history event ≡ Some why
+      → IsErrAnd answer (λ e. refusal_of e ≡ why)
+  pub refusals : IfErr answer (IsOneOf edit_refusals)
+  pub halted : (answer ≡ Err (Journal Halted)) ↔ IsHalted found
+  pub halts : IfErr answer (λ e. refusal_of e ≡ Device → IsHalted left)
+  pub readings : IfErr answer (λ _. KeepsReadings found left)
+  pub unchanged : (history : History) → Stands found history
+      → IfErr answer (λ e. (refusal_of e ≡ Device) ⊎ Stands left history)
+  -- what its device was asked
+  pub failures : MatchResult answer
+      (λ _. disk.failures (disk_of left) ≡ disk.failures (disk_of found))
+      (λ e. CountsFailures e (disk.failures (disk_of found)) (disk.failures (disk_of left)))
+  pub calls : MatchResult answer
+      (λ _. Makes 4 (disk.arms (disk_of found)) (disk.arms (disk_of left)))
+      (λ e. MakesIfDevice e 4 (disk.arms (disk_of found)) (disk.arms (disk_of left)))

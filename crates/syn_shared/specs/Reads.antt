@@ -1,0 +1,54 @@
+-- What the calls of one thread read from the replica found, which they leave as it is.
+use Rattle.std.specs.Prelude.{◌≡◌, ◌↔◌, Bool, false, Some, None, Result, Err, IfOk, IfErr}
+use Rattle.std.specs.FinMap.{get}
+use Rattle.std.specs.Global.{Vec}
+use Rattle.syn_disk.specs.declared.disk.Disk.{Ghosts}
+use Rattle.syn_journal.specs.declared.error.JournalError.TheVariants.{Halted}
+use Rattle.syn_mark.specs.Marks.{contents_in}
+use Rattle.syn_model.specs.Limits.{children}
+use Rattle.syn_model.specs.Mark.{mark}
+use Rattle.syn_model.specs.Path.{Name, Path}
+use Rattle.syn_model.specs.Tree.{is_directory}
+use Rattle.syn_replica.specs.Refusals.{IsOneOf, reading_refusals}
+use Rattle.syn_replica.specs.Replica.{IsHalted, tree_shown, position_shown}
+use Rattle.syn_replica.specs.declared.error.ReplicaError.{ReplicaError}
+use Rattle.syn_replica.specs.declared.error.ReplicaError.TheVariants.{Journal, Tree}
+use Rattle.syn_replica.specs.declared.replica.Replica.{Replica}
+use Rattle.syn_replica.specs.declared.replica.listing.Listing.{Listing}
+use Rattle.syn_tree.specs.Contents.{content_of}
+use Rattle.syn_tree.specs.Lists.{listing}
+use Rattle.syn_tree.specs.declared.content.Content.{Content}
+use Rattle.syn_tree.specs.declared.error.TreeError.TheVariants.{Absent}
+
+module _ {D : Type 0} {disk : Ghosts D} (path : Path) where
+  -- what stands at the path
+  pub record Gets (answer : Result Content ReplicaError) (found left : Replica D disk)
+      : Type 0 where
+    pub same : left ≡ found
+    pub content : IfOk answer (λ content. get (tree_shown found) path ≡ Some (content_of content))
+    pub absent : (answer ≡ Err (Tree Absent))
+        ↔ (¬ IsHalted found × (get (tree_shown found) path ≡ None))
+    pub halted : (answer ≡ Err (Journal Halted)) ↔ IsHalted found
+    pub refusals : IfErr answer (IsOneOf reading_refusals)
+
+  -- the names in the directory in byte order, with true for a directory
+  pub record Lists (answer : Result (Vec (Name × Bool)) ReplicaError) (found left : Replica D disk)
+      : Type 0 where
+    pub same : left ≡ found
+    pub names : IfOk answer (λ names. names.items ≡ listing (tree_shown found) path)
+    pub absent : (answer ≡ Err (Tree Absent))
+        ↔ (¬ IsHalted found × (is_directory (tree_shown found) path ≡ false))
+    pub halted : (answer ≡ Err (Journal Halted)) ↔ IsHalted found
+    pub refusals : IfErr answer (IsOneOf reading_refusals)
+
+  -- the marks of what stands in the directory, with the position
+  pub record ListsMarks (answer : Result Listing ReplicaError) (found left : Replica D disk)
+      : Type 0 where
+    pub same : left ≡ found
+    pub marks : IfOk answer (λ listing. contents_in listing.entries.items
+        ≡ children (mark (tree_shown found)) path)
+    pub position : IfOk answer (λ listing. listing.position ≡ position_shown found)
+    pub absent : (answer ≡ Err (Tree Absent))
+        ↔ (¬ IsHalted found × (is_directory (tree_shown found) path ≡ false))
+    pub halted : (answer ≡ Err (Journal Halted)) ↔ IsHalted found
+    pub refusals : IfErr answer (IsOneOf reading_refusals)

@@ -1,0 +1,11 @@
+-- What became of a worker's work.
+use Rattle.std.specs.Prelude.{◌≡◌, Result, Ok, Err}
+use Rattle.syn_lock.specs.declared.error.LockError.{LockError}
+use Rattle.syn_lock.specs.declared.error.LockError.TheVariants.{Memory, Busy, NoSeat}
+
+-- it was done, also where its pass was not taken back; without a pass nothing was done
+abbrev pub IsDone : {W : Type 0} → (W → W → Type 0) → W → W → Result Unit LockError → Type 0
+IsDone does old new (Ok x) = does old new
+IsDone does old new (Err Memory) = does old new
+IsDone does old new (Err NoSeat) = new ≡ old
+IsDone does old new (Err Busy) = ⊥
