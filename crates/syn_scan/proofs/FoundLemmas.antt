@@ -17,11 +17,16 @@ use Rattle.syn_model.specs.Refusal.{Refusal, Root, NoParent, Full}
 use Rattle.syn_mark.specs.Changes.{replace_refusal}
 use Rattle.std.proofs.lemmas.Bool.Decides.{nat_tests}
 use Rattle.syn_model.specs.Dirty.{is_unstable, IsScanBy}
-use Rattle.syn_model.proofs.PathLemmas.{first_or, name_itself, path_total, path_itself, same_path, strip_prefix-append, strip_prefix-is, parent-append, is_prefix-is}
+use Rattle.syn_model.proofs.PathLemmas.{first_or, same_name, name_itself, path_total, path_itself, same_path, strip_prefix-append, strip_prefix-is, parent-append, is_prefix-is}
 use Rattle.syn_model.proofs.TreeLemmas.{same_tree, get-replace, within, beside}
 use Rattle.syn_model.proofs.SyncLemmas.{directory_is}
 use Rattle.syn_model.proofs.HistoryLemmas.{get-at_root, get-below_root}
-use Rattle.syn_scan.specs.Found.{Found, Positions, scan_of, was_listed, was_no_directory, is_open, IsWhole, WasListedIn, WasNoDirectoryIn, position_of, IsFound}
+use Rattle.syn_scan.specs.Found.{Found, Positions, scan_of, was_listed, was_no_directory, is_open, IsWhole, WasListedIn, WasNoDirectoryIn, position_of, IsFound, IsShownIn}
+use Rattle.syn_model.proofs.QuietLemmas.{get-children}
+use Rattle.syn_model.specs.Tree.{Content}
+use Rattle.std.specs.FinMap.Entries.{find}
+use Rattle.std.proofs.lemmas.Option.{same_Some}
+use Rattle.std.proofs.Common.{inl, inr}
 use Rattle.syn_scan.specs.Asked.{Asked, nothing_found, with_no_directory, is_out}
 use Rattle.syn_scan.specs.inner.Kept.{IsFlat, with_tree, AreOpen}
 use Rattle.syn_scan.proofs.ShownLemmas.{deeper, no_children}
@@ -301,3 +306,41 @@ refused_for_limits found p u why f o r h = by_case (fits_archive (replace found.
     by_case : (b : Bool) → fits_archive (replace found.marks p u) ≡ b → b ≡ false
     by_case true e = absurd (none-some _ (sym (ap₂ (λ a b. if a then Some Root else (if not b then Some NoParent else (if not (fits_archive (replace found.marks p u)) then Some Full else None))) r above ∙ ap (λ b. if not b then Some Full else None) e) ∙ h))
     by_case false e = refl
+
+-- ---- what is shown
+
+directory_found : (n : Name) (es : List (Name × Content)) → find name_cmp n es ≡ Some Directory → Contains es (n, Directory)
+directory_found n [] e = absurd (none-some _ e)
+directory_found n (x ∷ es) e = by_case (eq_by_cmp name_cmp n x.0) refl (directory_found n es)
+  where
+    by_case : (b : Bool) → eq_by_cmp name_cmp n x.0 ≡ b → (find name_cmp n es ≡ Some Directory → Contains es (n, Directory)) → Contains (x ∷ es) (n, Directory)
+    by_case true same rest =
+        let content : x.1 ≡ Directory = same_Some _ _ (sym (ap (λ b. cond b (Some x.1) (find name_cmp n es)) same) ∙ e) in
+        let name : x.0 ≡ n = sym (same_name n x.0 same) in
+        (0, omega arith, λ i. (name i, content i))
+    by_case false other rest =
+        let more = rest (sym (ap (λ b. cond b (Some x.1) (find name_cmp n es)) other) ∙ e) in
+        (suc more.0, omega (arith, more.1), more.2)
+
+-- a directory that is shown is the root, or stands in a listing
+pub shown_in : (found : Found) (p : Path) → IsFound found → is_directory found.marks p ≡ true → IsShownIn found p
+shown_in found [] f d = inl refl
+shown_in found (n ∷ q) f d = inr (by_case (was_listed found (parent (n ∷ q))) refl)
+  where
+    by_case : (b : Bool) → was_listed found (parent (n ∷ q)) ≡ b → (above : Path) × (name : Name) × (position : ℕ) × (entries : List (Name × Content)) × (n ∷ q ≡ child above name) × WasListedIn found above position entries × Contains entries (name, Directory)
+    by_case false never =
+        let last = split_last n q in
+        let nothing = f.nothing_below (parent (n ∷ q)) last.0 never in
+        absurd (true≢false (sym d ∙ ap is_directory_content (ap (get found.marks) last.1 ∙ nothing)))
+    by_case true was =
+        let last = split_last n q in
+        let at = known found.listed (parent (n ∷ q)) was in
+        let here : get found.marks (child (parent (n ∷ q)) last.0) ≡ Some Directory = ap (get found.marks) (sym last.1) ∙ directory_is (get found.marks (n ∷ q)) d in (
+          parent (n ∷ q),
+          last.0,
+          at.0,
+          children found.marks (parent (n ∷ q)),
+          last.1,
+          record { answered = at.1; shows = refl },
+          directory_found last.0 (children found.marks (parent (n ∷ q))) (sym (get-children found.marks (parent (n ∷ q)) last.0) ∙ here),
+        )

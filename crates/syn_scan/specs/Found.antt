@@ -1,6 +1,7 @@
 -- What the answers of a side show: marks, which directory was listed at which position, and which
 -- path was answered as no directory.
-use Rattle.std.specs.Prelude.{◌≡◌, ℕ, Bool, true, false, not, ◌&&◌, List, Some, None, refl}
+use Rattle.std.specs.Prelude.{◌≡◌, ◌⊎◌, Contains, ℕ, Bool, true, false, not, ◌&&◌, List, Some}
+use Rattle.std.specs.Prelude.{None, refl}
 use Rattle.std.specs.Prelude.{unwrap_or}
 use Rattle.std.specs.Option.{option_or}
 use Rattle.std.specs.Coded.{Coded, code_by, coded×, coded_ℕ, coded_list}
@@ -60,6 +61,13 @@ pub record WasListedIn (found : Found) (path : Path) (position : ℕ)
     (entries : List (Name × Content)) : Type 0 where
   pub answered : get found.listed path ≡ Some position
   pub shows : children found.marks path ≡ entries
+
+-- the path is the root, or a listing shows a directory there
+abbrev pub IsShownIn : Found → Path → Type 0
+IsShownIn found path = (path ≡ root)
+    ⊎ ((above : Path) × (name : Name) × (position : ℕ) × (entries : List (Name × Content))
+    × (path ≡ child above name) × WasListedIn found above position entries
+    × Contains entries (name, Directory))
 
 -- the path was answered as no directory at the position
 abbrev pub WasNoDirectoryIn : Found → Path → ℕ → Type 0

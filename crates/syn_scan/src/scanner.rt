@@ -5,7 +5,9 @@ ghost use Rattle.syn_model.specs.Path.{path_cmp, IsPath};
 ghost use Rattle.syn_model.specs.Dirty.{IsScanBy};
 ghost use Rattle.syn_mark.specs.Marks.{AreMarks, AreMarkPairs};
 ghost use Rattle.syn_scan.specs.Found.{scan_of, IsWhole, IsFirstOpen, WasListedIn};
-ghost use Rattle.syn_scan.specs.Found.{WasNoDirectoryIn, position_of};
+ghost use Rattle.syn_scan.specs.Found.{IsShownIn, WasNoDirectoryIn, position_of};
+ghost use Rattle.std.specs.FinMap.{len};
+ghost use Rattle.std.specs.Prelude.{◌+◌};
 ghost use Rattle.syn_scan.specs.Asked.{nothing_found, handed_out, is_out, without, contents_in};
 ghost use Rattle.syn_scan.specs.Asked.{with_listing, with_no_directory, is_too_large, Belongs};
 ghost use Rattle.syn_scan.specs.Asked.{ListsOnly, directory_with, listing_pairs, named, names_rise};
@@ -66,6 +68,7 @@ impl Scanner {
     /// Refused 11 where memory is refused, and for no other cause.
     pub fn next_request(&mut self, alloc: Global) -> Result<Option<Path>, ScanError>
         ensures some { IfOk result (λ next. IfSome next (λ path. IsFirstOpen self.old.found path)) }
+        ensures shown { IfOk result (λ next. IfSome next (λ path. IsShownIn self.old.found path)) }
         ensures none { IfOk result (λ next. IfNone next (IsWhole self.old.found)) }
         ensures found { self.new.found ≡ self.old.found }
         ensures out { IfOk result (λ next. self.new.out ≡ handed_out self.old.out next) }
@@ -103,6 +106,9 @@ impl Scanner {
         ensures belongs { OnOk result (Belongs self.old path.now (contents_in entries.items)) }
         ensures small { OnOk result (is_too_large self.old.found (contents_in entries.items)
             ≡ false) }
+
+        ensures nodes { OnOk result (len self.new.found.marks
+            ≡ len self.old.found.marks + length entries.items) }
 
         // What was listed is what had been, and this.
         ensures listed { OnOk result (WasListedIn self.new.found path.now position

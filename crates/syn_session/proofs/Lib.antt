@@ -7,3 +7,4 @@ pub mod RefusedLemmas
 pub mod StartLemmas
 pub mod KeepLemmas
 pub mod TickLemmas
+pub mod ScanningLemmas

@@ -1,6 +1,7 @@
 pub mod Refusals
 pub mod Reports
 pub mod Sendings
+pub mod Scanning
 pub mod Machines
 pub mod Coordinators
 pub mod inner

@@ -7,6 +7,7 @@ ghost use Rattle.syn_session.specs.Refusals.{refusal_of};
 use std::alloc::{AllocError, AllocFailed};
 use std::fmt;
 use syn_refusal::Refusal;
+use syn_scan::ScanError;
 use syn_wire::WireError;
 use thiserror::Error;
 
@@ -56,6 +57,17 @@ impl fmt::Display for SessionError {
 
     fn fmt<W: fmt::Write>(&self, f: &mut fmt::Formatter<W>) -> fmt::Result {
         write!(f, "{}", self.refusal())
+    }
+}
+
+/// A scan asks for nothing more for want of memory.
+impl From<ScanError> for SessionError {
+    ghost use Rattle.syn_session.specs.declared.error.SessionError.TheVariants.{Memory};
+
+    ghost from_gives = { λ _ e. e ≡ Memory };
+
+    fn from(_error: ScanError) -> SessionError {
+        SessionError::Memory
     }
 }
 

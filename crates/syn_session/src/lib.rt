@@ -7,8 +7,10 @@ mod report;
 mod requests;
 mod sending;
 mod session;
+mod side_scan;
 
 pub use coordinator::Coordinator;
 pub use error::SessionError;
 pub use report::{End, Report};
 pub use sending::Sending;
+pub use side_scan::SideScan;

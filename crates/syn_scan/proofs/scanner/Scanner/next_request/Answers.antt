@@ -2,7 +2,8 @@ use Rattle.std.proofs.Common.{◌≡◌, ◌<◌, ◌≤◌, true, ap, ◌∙◌
 use Rattle.std.specs.Prelude.{All}
 use Rattle.std.specs.FinMap.{entries}
 use Rattle.std.proofs.lemmas.List.Elements.{All-push}
-use Rattle.syn_scan.specs.Found.{is_open, IsFirstOpen, IsWhole}
+use Rattle.syn_scan.specs.Found.{is_open, IsFirstOpen, IsShownIn, IsWhole}
+use Rattle.syn_scan.proofs.FoundLemmas.{opened, shown_in}
 use Rattle.syn_scan.specs.Asked.{Asked}
 use Rattle.syn_scan.specs.inner.Kept.{is_open_entry}
 use Rattle.syn_scan.proofs.FirstLemmas.{first_is, whole_is}
@@ -41,3 +42,8 @@ invariant_of-self-in_ok-push c =
 pub returns-clause-some : goal.returns-clause-some
 returns-clause-some c =
     subst (λ f. IsFirstOpen f c.in_ok-path.path) (ap (λ (a : Asked). a.found) c.self.view_is) (first (goal.at.returns-clause-some c).In_ok-path)
+
+pub returns-clause-shown : goal.returns-clause-shown
+returns-clause-shown c =
+    let one = first (goal.at.returns-clause-shown c).In_ok-path in
+    subst (λ f. IsShownIn f c.in_ok-path.path) (ap (λ (a : Asked). a.found) c.self.view_is) (shown_in c.self.inside.scan c.in_ok-path.path c.tree.ensures.found (opened c.self.inside.scan c.in_ok-path.path one.opened).directory)

@@ -1,4 +1,4 @@
-use Rattle.std.proofs.Common.{◌≢◌, true≢false, ◌≡◌, ◌∙◌, ◌<◌, length, true, false, ap, sym, subst, arith}
+use Rattle.std.proofs.Common.{◌≢◌, true≢false, ◌≡◌, ◌∙◌, ◌<◌, ◌+◌, length, true, false, ap, ap₂, sym, subst, arith}
 use Rattle.std.specs.Prelude.{All}
 use Rattle.std.specs.FinMap.{len}
 use Rattle.std.proofs.lemmas.Result.{err_from_is_err_and}
@@ -14,7 +14,7 @@ use Rattle.syn_scan.specs.inner.Kept.{NoneOpen}
 use Rattle.syn_scan.proofs.ListingLemmas.{passed_then}
 use Rattle.syn_scan.proofs.FoundLemmas.{opened as opened_so, out_is_open, open_then}
 use Rattle.syn_scan.proofs.NamesLemmas.{has_node}
-use Rattle.syn_scan.proofs.ListingLemmas.{out_then, listing_is_flat, listing_len, length_contents, not_too_large, fits_then, listed_so, lists_only}
+use Rattle.syn_scan.proofs.ListingLemmas.{new_len, out_then, listing_is_flat, listing_len, length_contents, not_too_large, fits_then, listed_so, lists_only}
 use Rattle.syn_scan.proofs.scanner.Scanner.take.Goals as goal
 use Rattle.syn_scan.proofs.scanner.Scanner.take.Goals.{In_ok-listing}
 
@@ -123,3 +123,12 @@ returns-clause-only c =
     let new : c.take.new.self ≡ with_listing old p c.args.position es = c.in_ok-take.ensures.ok ∙ ap (λ u. with_tree old p c.args.position u) c.in_ok-listing.ensures.ok in
     let P : Found → Type 0 = λ f. ListsOnly f p c.args.position es c.take.new.self in
     subst P (same_found k) (subst (ListsOnly old p c.args.position es) (sym new) (lists_only old p es (found k) (opened k) c.in_ok-listing.ensures.marks c.args.position))
+
+pub returns-clause-nodes : goal.returns-clause-nodes
+returns-clause-nodes c =
+    let k = (goal.at.returns-clause-nodes c).In_ok-listing in
+    let old = c.self.inside.scan in
+    let p = c.args.path.now in
+    let es = contents_in c.args.entries.items in
+    let new : c.take.new.self ≡ with_listing old p c.args.position es = c.in_ok-take.ensures.ok ∙ ap (λ u. with_tree old p c.args.position u) c.in_ok-listing.ensures.ok in
+    ap (λ (f : Found). len f.marks) new ∙ (new_len old p es (found k) (opened k) c.in_ok-listing.ensures.marks ∙ ap₂ (λ m n. m + n) (ap (λ (f : Found). len f.marks) (same_found k)) (length_contents c.args.entries.items))

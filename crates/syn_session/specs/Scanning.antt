@@ -1,0 +1,46 @@
+-- What a scan of one side was told, by the transcript of its session.
+use Rattle.std.specs.Prelude.{◌≡◌, ◌⊎◌, ◌++◌, ℕ, true, List, [], ◌∷◌, Contains}
+use Rattle.std.specs.FinMap.{len}
+use Rattle.syn_headline.specs.Network.{Which}
+use Rattle.syn_headline.specs.Session.{Exchange, WasTaken, nodes_shown}
+use Rattle.syn_headline.specs.Side.{ListAt, Listed, NotDir}
+use Rattle.syn_headline.specs.Side as model
+use Rattle.syn_model.specs.Path.{Path, Name}
+use Rattle.syn_model.specs.Tree.{Content}
+use Rattle.syn_scan.specs.Asked.{Asked, is_out}
+use Rattle.syn_scan.specs.Found.{Found, WasListedIn, WasNoDirectoryIn, was_listed, was_no_directory}
+use Rattle.syn_session.specs.declared.side_scan.SideScan.{SideScan}
+
+abbrev pub Exchanges : Type 0
+Exchanges = List Exchange
+
+-- what was found so far, and what was handed out
+abbrev pub asked_of : SideScan → Asked
+asked_of scan = scan.scanner
+
+abbrev pub found_of : SideScan → Found
+found_of scan = (asked_of scan).found
+
+-- the side was asked to list the path, and its answer was taken
+abbrev pub WasAnswered : Found → Path → Type 0
+WasAnswered found path = (was_listed found path ≡ true) ⊎ (was_no_directory found path ≡ true)
+
+-- What was found is what the side answered in these exchanges, and all of it
+pub record IsFoundIn (found : Found) (side : Which) (taken : Exchanges) : Type 0 where
+  pub listed : (path : Path) (position : ℕ) (entries : List (Name × Content)) →
+      WasListedIn found path position entries →
+      WasTaken taken side (ListAt path) (Listed position entries)
+  pub not_dir : (path : Path) (position : ℕ) → WasNoDirectoryIn found path position →
+      WasTaken taken side (ListAt path) (NotDir position)
+  pub nodes : nodes_shown taken side ≡ len found.marks
+  pub only : (exchange : Exchange) (path : Path) → Contains taken exchange →
+      exchange.side ≡ side → exchange.request ≡ ListAt path → WasAnswered found path
+
+-- its listing is asked for and waits for the answer
+abbrev pub WaitsFor : SideScan → Path → Type 0
+WaitsFor scan path = is_out (asked_of scan).out path ≡ true
+
+-- with the answer
+abbrev pub with_listing_answered : Exchanges → Which → ℕ → Path → model.Reply → Exchanges
+with_listing_answered taken side number path reply =
+    taken ++ record { side = side; number = number; request = ListAt path; reply = reply } ∷ []

@@ -1,0 +1,99 @@
+//! The scan of one side in a session.
+ghost use Rattle.std.specs.Prelude.{◌≡◌, ◌⊎◌, ℕ, [], IfOk, IfErr, IfSome, IfNone};
+ghost use Rattle.std.specs.Prelude.{MatchResult, None, Some};
+ghost use Rattle.syn_headline.specs.Network.{Which};
+ghost use Rattle.syn_headline.specs.Session.{IsShown, fault_of};
+ghost use Rattle.syn_headline.specs.Side.{ListAt};
+ghost use Rattle.syn_message.specs.Replies.{IsLawfulReply, reply_of};
+ghost use Rattle.syn_model.specs.Path.{Path as Names};
+ghost use Rattle.syn_model.specs.Refusal.{Memory};
+ghost use Rattle.syn_refusal.specs.Refusals.{cause_of};
+ghost use Rattle.syn_scan.specs.Found.{IsWhole};
+
+use crate::error::SessionError;
+use std::alloc::Global;
+use syn_message::Reply;
+use syn_path::Path;
+use syn_refusal::Refusal;
+use syn_scan::{Scan, ScanError, Scanner};
+
+/// The scan of one side in a session: which directory is to be listed next, and what the side
+/// answered so far.
+#[derive(Debug, Drop)]
+pub struct SideScan {
+    scanner: Scanner,
+}
+
+impl SideScan {
+    ghost use Rattle.syn_session.specs.Scanning.{Exchanges, IsFoundIn, WaitsFor, WasAnswered};
+    ghost use Rattle.syn_session.specs.Scanning.{found_of, with_listing_answered};
+
+    /// Nothing is asked yet. Refused 11 where memory is refused.
+    pub fn new(alloc: Global) -> Result<SideScan, SessionError>
+        ensures found { (side : Which) → IfOk result (λ scan. IsFoundIn (found_of scan) side []) }
+        ensures memory { IfErr result (λ e. e ≡ SessionError.Memory) }
+    {
+        let scanner = Scanner::new(alloc)?;
+        Ok(SideScan { scanner })
+    }
+
+    /// The directory that is to be listed next; none where each was. It waits for its answer then.
+    ///
+    /// Refused 11 where memory is refused.
+    pub fn next(&mut self, alloc: Global) -> Result<Option<Path>, SessionError>
+        // A listing shows it, and it was not asked for yet.
+        ensures shown { (side : Which) (taken : Exchanges)
+            → IsFoundIn (found_of self.old) side taken
+            → IfOk result (λ next. IfSome next (λ path. IsShown taken side path)) }
+        ensures new { IfOk result (λ next. IfSome next
+            (λ path. ¬ WasAnswered (found_of self.old) path)) }
+        ensures waits { IfOk result (λ next. IfSome next (λ path. WaitsFor self.new path)) }
+        ensures whole { IfOk result (λ next. IfNone next (IsWhole (found_of self.old))) }
+        ensures found { found_of self.new ≡ found_of self.old }
+        ensures memory { IfErr result (λ e. e ≡ SessionError.Memory) }
+    {
+        Ok(self.scanner.next_request(alloc)?)
+    }
+
+    /// Takes the answer to the listing that waits.
+    ///
+    /// Refused 22 where the scan would have more than 4,096 nodes; 23 where a path would pass the
+    /// limits, or the answer is none to a listing; 11 where memory is refused; and with the number
+    /// that the side refused the listing with.
+    pub fn take(&mut self, alloc: Global, path: &Path, reply: Reply) -> Result<(), Refusal>
+        requires lawful { IsLawfulReply (reply_of reply) }
+        requires waits { WaitsFor self.old path.now }
+        // An answer is refused exactly where it ends its session, or for want of memory.
+        ensures step { (side : Which) (taken : Exchanges) (number : ℕ)
+            → IsFoundIn (found_of self.old) side taken
+            → MatchResult result
+            (λ _. (fault_of taken side (ListAt path.now) (reply_of reply) ≡ None)
+            × IsFoundIn (found_of self.new) side
+            (with_listing_answered taken side number path.now (reply_of reply)))
+            (λ e. (cause_of e ≡ Memory)
+            ⊎ (fault_of taken side (ListAt path.now) (reply_of reply) ≡ Some (cause_of e))) }
+    {
+        match reply {
+            Reply::Listed { position, entries } => {
+                match self.scanner.take(alloc, path, position, entries) {
+                    Ok(()) => Ok(()),
+                    Err(error) => Err(error.refusal()),
+                }
+            }
+            Reply::NotDir { position } => match self.scanner.not_dir(alloc, path, position) {
+                Ok(()) => Ok(()),
+                Err(error) => Err(error.refusal()),
+            },
+            Reply::Refused(why) => Err(why),
+            _ => Err(Refusal::BadMessage),
+        }
+    }
+
+    /// What the side showed, once each directory was answered. It takes no memory.
+    pub fn finish(self) -> Scan
+        requires { IsWhole (found_of self) }
+        ensures { result ≡ found_of self }
+    {
+        self.scanner.finish()
+    }
+}
