@@ -17,10 +17,14 @@ use Rattle.syn_replica.specs.Steps.{add_refusal}
 use Rattle.syn_replica.specs.declared.error.ReplicaError.{ReplicaError}
 use Rattle.syn_replica.specs.declared.error.ReplicaError.TheVariants.{Journal}
 use Rattle.syn_replica.specs.declared.replica.Replica.{Replica}
+use Rattle.syn_shared.specs.Steps.{StepsBy}
 
--- an edit, as its event: one step of a side
+-- an edit, as its event
 pub record Edits {D : Type 0} {disk : Ghosts D} (event : Event) (answer : Result ℕ ReplicaError)
     (found left : Replica D disk) : Type 0 where
+  -- one step of a side
+  pub step : (history : History) → Stands found history
+      → StepsBy found left history event (add_refusal (room_shown found) history event) answer
   -- Ok: the event is added, and stands
   pub acknowledged : (history : History) → Stands found history
       → IfOk answer (λ position. (position ≡ length history + 1)

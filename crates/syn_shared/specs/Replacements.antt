@@ -18,10 +18,15 @@ use Rattle.syn_replica.specs.Steps.{is_done, replaced, replace_refusal, MakesIfN
 use Rattle.syn_replica.specs.declared.error.ReplicaError.{ReplicaError}
 use Rattle.syn_replica.specs.declared.error.ReplicaError.TheVariants.{Journal}
 use Rattle.syn_replica.specs.declared.replica.Replica.{Replica}
+use Rattle.syn_shared.specs.Steps.{StepsBy}
 
--- a replacement under a token: one step of a side
+-- a replacement under a token
 pub record Replaces {D : Type 0} {disk : Ghosts D} (token : Token) (path : Path) (since : ℕ)
     (new : Tree) (answer : Result ℕ ReplicaError) (found left : Replica D disk) : Type 0 where
+  -- one step of a side, where the token is not done
+  pub step : (history : History) → Stands found history → is_done history token ≡ false
+      → StepsBy found left history (Replaced token path since new)
+      (replace_refusal (room_shown found) history token path since new) answer
   -- Ok: the event is added and stands, or its token was done before and nothing changed
   pub acknowledged : (history : History) → Stands found history
       → let after = replaced history token path since new in
