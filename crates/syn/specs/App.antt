@@ -49,12 +49,16 @@ requiring app = record app { top = record app.top { subcommand_required = true }
 abbrev pub top_app : App
 top_app = with_rule (requiring (versioned (new_app (codes "syn")))) verbose_rule
 
-abbrev pub syn_app : App
-syn_app = with_subcommand (with_subcommand (with_subcommand
-    (with_subcommand (with_subcommand (with_subcommand top_app
-    format_app.top)
+-- a program with the three edits
+abbrev pub with_edit_apps : App → App
+with_edit_apps app = with_subcommand (with_subcommand (with_subcommand app
     (edit_app (codes "put")).top)
     (edit_app (codes "mkdir")).top)
-    (edit_app (codes "rm")).top)
-    show_app.top)
-    check_app.top
+    (edit_app (codes "rm")).top
+
+-- a program with the commands that read an image
+abbrev pub with_reader_apps : App → App
+with_reader_apps app = with_subcommand (with_subcommand app show_app.top) check_app.top
+
+abbrev pub syn_app : App
+syn_app = with_reader_apps (with_edit_apps (with_subcommand top_app format_app.top))

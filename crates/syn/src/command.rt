@@ -104,16 +104,40 @@ where
             let position = edit(alloc, line, files, input)?;
             writeln!(output, "ok {position}")?;
         }
-        Line::Show { file, path: None } => {
-            show_image(alloc, &image_in(alloc, files, file)?, output)?;
-        }
+        Line::Show { file, path: None } => print_image(alloc, files, file, output)?,
         Line::Show {
             file,
             path: Some(path),
         } => show(alloc, files, file, path, output)?,
-        Line::Check { file } => check_image(alloc, &image_in(alloc, files, file)?, output)?,
+        Line::Check { file } => print_numbers(alloc, files, file, output)?,
     }
     Ok(output.flush()?)
+}
+
+/// Prints the whole image in the file.
+fn print_image<F: Files, O: Write>(
+    alloc: Global,
+    files: &F,
+    file: &str,
+    output: &mut O,
+) -> Result<(), CommandError>
+where
+    F::File: HostFile,
+{
+    show_image(alloc, &image_in(alloc, files, file)?, output)
+}
+
+/// Prints the numbers of the image in the file.
+fn print_numbers<F: Files, O: Write>(
+    alloc: Global,
+    files: &F,
+    file: &str,
+    output: &mut O,
+) -> Result<(), CommandError>
+where
+    F::File: HostFile,
+{
+    check_image(alloc, &image_in(alloc, files, file)?, output)
 }
 
 /// Makes the edit in the line's file, and answers the new position. A text that names no path is

@@ -7,10 +7,10 @@ ghost use Rattle.syn.specs.Reads.{NothingReads, ReadsRows, kind_word, name_of};
 ghost use Rattle.syn.specs.declared.line.ImageKind.{ImageKind};
 ghost use Rattle.syn.specs.declared.line.LineError.TheVariants.{Value};
 ghost use Rattle.clap.specs.Words.{IsAmong, Text, app_of, with_rule, fault_of, first_of, found_of};
-ghost use Rattle.clap.specs.Words.{kind_of, rows_of, subcommand_of};
+ghost use Rattle.clap.specs.Words.{kind_of, rows_of, subcommand_of, with_subcommand};
 ghost use Rattle.clap.specs.declared.Command.TheViews.{out-Command};
 ghost use Rattle.syn.specs.App.{check_app, command_app, edit_app, format_app, show_app, syn_app};
-ghost use Rattle.syn.specs.App.{top_app, verbose_rule, word_app};
+ghost use Rattle.syn.specs.App.{top_app, verbose_rule, with_edit_apps, with_reader_apps, word_app};
 ghost use Rattle.syn.specs.Asked.{word_of};
 
 use crate::line::{Asked, Change, EditLine, ImageKind, Line, LineError, ValueName};
@@ -129,34 +129,50 @@ fn top_command<'a>(alloc: Global) -> Result<Command<'a>, AllocError>
     with_verbose(alloc, top)
 }
 
+/// The program with its edits. Each is added before the next is made, so that a proof of a function
+/// speaks of few commands at once.
+fn with_edits<'a>(alloc: Global, top: Command<'a>) -> Result<Command<'a>, AllocError>
+    ensures { IfOk result (λ c. app_of c ≡ with_edit_apps (app_of top.entry)) }
+{
+    let about = "Puts standard input at PATH, as an edit of the user numbered USER";
+    let top = with_edit(alloc, top, "put", about)?;
+    let about = "Makes a directory at PATH, as an edit of the user numbered USER";
+    let top = with_edit(alloc, top, "mkdir", about)?;
+    let about = "Removes what is at PATH, with all below it, as an edit of the user numbered USER";
+    with_edit(alloc, top, "rm", about)
+}
+
+/// The program with one edit more.
+fn with_edit<'a>(
+    alloc: Global,
+    top: Command<'a>,
+    name: &'a str,
+    about: &'a str,
+) -> Result<Command<'a>, AllocError>
+    ensures { IfOk result (λ c.
+        app_of c ≡ with_subcommand (app_of top.entry) (edit_app name.entry.now).top) }
+{
+    let edit = edit_command(alloc, name, about)?;
+    top.subcommand(edit)
+}
+
+/// The program with the commands that read an image.
+fn with_readers<'a>(alloc: Global, top: Command<'a>) -> Result<Command<'a>, AllocError>
+    ensures { IfOk result (λ c. app_of c ≡ with_reader_apps (app_of top.entry)) }
+{
+    let show = show_command(alloc)?;
+    let top = top.subcommand(show)?;
+    let check = check_command(alloc)?;
+    top.subcommand(check)
+}
+
 fn syn_command<'a>(alloc: Global) -> Result<Command<'a>, AllocError>
     ensures { IfOk result (λ c. app_of c ≡ syn_app) }
 {
     let format = format_command(alloc)?;
-    let put = edit_command(
-        alloc,
-        "put",
-        "Puts standard input at PATH, as an edit of the user numbered USER",
-    )?;
-    let mkdir = edit_command(
-        alloc,
-        "mkdir",
-        "Makes a directory at PATH, as an edit of the user numbered USER",
-    )?;
-    let rm = edit_command(
-        alloc,
-        "rm",
-        "Removes what is at PATH, with all below it, as an edit of the user numbered USER",
-    )?;
-    let show = show_command(alloc)?;
-    let check = check_command(alloc)?;
-    top_command(alloc)?
-        .subcommand(format)?
-        .subcommand(put)?
-        .subcommand(mkdir)?
-        .subcommand(rm)?
-        .subcommand(show)?
-        .subcommand(check)
+    let top = top_command(alloc)?.subcommand(format)?;
+    let top = with_edits(alloc, top)?;
+    with_readers(alloc, top)
 }
 
 /// The command that the words ask for. The first word is the program's own.

@@ -12,13 +12,18 @@ use Rattle.syn.proofs.show.show_archive.Goals as goal
 pub returns-clause-printed : goal.returns-clause-printed
 returns-clause-printed g c =
     let archive = c.args.archive.now in
-    let first : c.as_bytes.result.now ≡ archive_line (pair_of archive) (session_shown archive) =
-    c.as_bytes.ensures.value ∙ (c.in_ok-line.ensures ∙ ap₂ archive_line c.pair.ensures c.last_session.ensures) in
+    let line = archive_line (pair_of archive) (session_shown archive) in
     let marks = lines_of_marks (filter (is_below []) (entries (marks_shown archive))) in
+    let old = g.W.Write.contents c.args.output.now in
+    let middle = g.W.Write.contents c.write_all.new.self in
+    let new = g.W.Write.contents c.show_marks.new.output in
+    let first : c.as_bytes.result.now ≡ line =
+    c.as_bytes.ensures.value
+    ∙ (c.in_ok-line.ensures ∙ ap₂ archive_line c.pair.ensures c.last_session.ensures) in
     let lines : lines_of_marks c.below-2.result.now ≡ marks =
     ap lines_of_marks (c.below-2.ensures
     ∙ ap₂ (λ at (tree : Tree). filter (is_below at) (entries tree)) c.root.ensures c.tree.ensures) in
     on_ok_weaker c.show_marks.result (λ shown.
-    appends_more (g.W.Write.contents c.args.output.now) (g.W.Write.contents c.write_all.new.self) (g.W.Write.contents c.show_marks.new.output) (archive_line (pair_of archive) (session_shown archive)) marks
-    (subst (λ xs. Appends (g.W.Write.contents c.args.output.now) (g.W.Write.contents c.write_all.new.self) xs) first c.in_ok-write_all.ensures.bytes)
-    (subst (λ xs. Appends (g.W.Write.contents c.write_all.new.self) (g.W.Write.contents c.show_marks.new.output) xs) lines shown)) c.show_marks.ensures.printed
+    appends_more old middle new line marks
+    (subst (λ xs. Appends old middle xs) first c.in_ok-write_all.ensures.bytes)
+    (subst (λ xs. Appends middle new xs) lines shown)) c.show_marks.ensures.printed

@@ -4,4 +4,6 @@ use Rattle.syn.specs.Printed.{lines_of_marks}
 use Rattle.syn.proofs.show.show_marks.Given as goal
 
 abbrev pub invariant-loop-entry : goal.invariant-loop-entry
-invariant-loop-entry g l = Appends (g.W.Write.contents l.initial.output) (g.W.Write.contents l.output) (lines_of_marks (take l.entry-index l.marks))
+invariant-loop-entry g l =
+    Appends (g.W.Write.contents l.initial.output) (g.W.Write.contents l.output)
+    (lines_of_marks (take l.entry-index l.marks))

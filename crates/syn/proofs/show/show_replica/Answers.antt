@@ -9,9 +9,16 @@ use Rattle.syn.proofs.show.show_replica.Goals as goal
 pub returns-clause-printed : goal.returns-clause-printed
 returns-clause-printed g c =
     let replica = c.args.replica.now in
-    let first : c.as_bytes.result.now ≡ replica_line (pair_of replica) (position_shown replica) = c.as_bytes.ensures.value ∙ (c.in_ok-line.ensures ∙ ap₂ replica_line c.pair.ensures c.position.ensures) in
+    let line = replica_line (pair_of replica) (position_shown replica) in
+    let below = lines_below (tree_shown replica) [] in
+    let old = g.W.Write.contents c.args.output.now in
+    let middle = g.W.Write.contents c.write_all.new.self in
+    let new = g.W.Write.contents c.show_below-2.new.output in
+    let first : c.as_bytes.result.now ≡ line =
+    c.as_bytes.ensures.value
+    ∙ (c.in_ok-line.ensures ∙ ap₂ replica_line c.pair.ensures c.position.ensures) in
     let lines = ap₂ lines_below c.tree.ensures c.root.ensures in
     on_ok_weaker c.show_below-2.result (λ shown.
-    appends_more (g.W.Write.contents c.args.output.now) (g.W.Write.contents c.write_all.new.self) (g.W.Write.contents c.show_below-2.new.output) (replica_line (pair_of replica) (position_shown replica)) (lines_below (tree_shown replica) [])
-    (subst (λ xs. Appends (g.W.Write.contents c.args.output.now) (g.W.Write.contents c.write_all.new.self) xs) first c.in_ok-write_all.ensures.bytes)
-    (subst (λ xs. Appends (g.W.Write.contents c.write_all.new.self) (g.W.Write.contents c.show_below-2.new.output) xs) lines shown)) c.show_below-2.ensures.printed
+    appends_more old middle new line below
+    (subst (λ xs. Appends old middle xs) first c.in_ok-write_all.ensures.bytes)
+    (subst (λ xs. Appends middle new xs) lines shown)) c.show_below-2.ensures.printed
