@@ -1,6 +1,7 @@
 -- What a call on a shared replica does within its hold of the lock.
 use Rattle.std.specs.Prelude.{◌≡◌, ℕ}
 use Rattle.syn_disk.specs.declared.disk.Disk.{Ghosts}
+use Rattle.syn_lock.specs.History.{end_of}
 use Rattle.syn_lock.specs.Locks.{id_of, origin_of}
 use Rattle.syn_lock.specs.Passes.{view_of, IsPassOf}
 use Rattle.syn_lock.specs.Views.{Held, refused, refused_times}
@@ -36,3 +37,9 @@ module _ {D : Type 0} {disk : Ghosts D} where
   -- the pass's one exchange found the lock taken, and nothing else changed
   abbrev pub FoundBusy : Pass (Replica D disk) → Pass (Replica D disk) → Type 0
   FoundBusy old new = view_of new ≡ refused (view_of old)
+
+-- the replica that the pass saw last is the one that it had seen before, grown further
+pub record IsLater {D : Type 0} {disk : Ghosts D} (shared : SharedReplica D disk)
+    (old new : Pass (Replica D disk)) : Type 0 where
+  pub grown : IsGrown (end_of (origin_of (own_of shared)) (view_of old).seen)
+      (end_of (origin_of (own_of shared)) (view_of new).seen)

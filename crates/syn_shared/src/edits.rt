@@ -14,7 +14,7 @@ use syn_replica::{Replica, ReplicaError};
 use syn_tree::Edit;
 
 impl<D: Disk> SharedReplica<D> {
-    ghost use Rattle.syn_shared.specs.Shared.{IsFor, HeldOnce, HeldAfterWait, FoundBusy};
+    ghost use Rattle.syn_shared.specs.Shared.{IsFor, HeldOnce, HeldAfterWait, FoundBusy, IsLater};
 
     /// Makes the edit if the lock is free, and answers the new position.
     ///
@@ -31,6 +31,7 @@ impl<D: Disk> SharedReplica<D> {
         ensures of { IsFor self.now pass.new }
         ensures held { MatchOption (answer_in result) (FoundBusy pass.old pass.new)
             (λ answer. HeldOnce self.now pass.old pass.new (Edits (event_by user edit) answer)) }
+        ensures later { IsLater self.now pass.old pass.new }
     {
         let own = self.own();
         let Ok(mut guard) = pass.try_enter(own) else {
@@ -56,6 +57,7 @@ impl<D: Disk> SharedReplica<D> {
         ensures of { IsFor self.now pass.new }
         ensures held { HeldAfterWait self.now pass.old pass.new
             (Edits (event_by user edit) result) }
+        ensures later { IsLater self.now pass.old pass.new }
     {
         let own = self.own();
         let mut guard = pass.enter(rt, own);

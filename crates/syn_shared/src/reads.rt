@@ -14,7 +14,7 @@ use syn_replica::{Listing, Replica, ReplicaError};
 use syn_tree::Content;
 
 impl<D: Disk> SharedReplica<D> {
-    ghost use Rattle.syn_shared.specs.Shared.{IsFor, HeldOnce, HeldAfterWait, FoundBusy};
+    ghost use Rattle.syn_shared.specs.Shared.{IsFor, HeldOnce, HeldAfterWait, FoundBusy, IsLater};
 
     /// What stands at the path, if the lock is free.
     ///
@@ -30,6 +30,7 @@ impl<D: Disk> SharedReplica<D> {
         ensures of { IsFor self.now pass.new }
         ensures held { MatchOption (answer_in result) (FoundBusy pass.old pass.new)
             (λ answer. HeldOnce self.now pass.old pass.new (Gets path.now answer)) }
+        ensures later { IsLater self.now pass.old pass.new }
     {
         let own = self.own();
         let Ok(guard) = pass.try_enter(own) else {
@@ -54,6 +55,7 @@ impl<D: Disk> SharedReplica<D> {
         ensures of { IsFor self.now pass.new }
         ensures held { MatchOption (answer_in result) (FoundBusy pass.old pass.new)
             (λ answer. HeldOnce self.now pass.old pass.new (Lists path.now answer)) }
+        ensures later { IsLater self.now pass.old pass.new }
     {
         let own = self.own();
         let Ok(guard) = pass.try_enter(own) else {
@@ -78,6 +80,7 @@ impl<D: Disk> SharedReplica<D> {
         ensures of { IsFor self.now pass.new }
         ensures held { MatchOption (answer_in result) (FoundBusy pass.old pass.new)
             (λ answer. HeldOnce self.now pass.old pass.new (ListsMarks path.now answer)) }
+        ensures later { IsLater self.now pass.old pass.new }
     {
         let own = self.own();
         let Ok(guard) = pass.try_enter(own) else {
@@ -102,6 +105,7 @@ impl<D: Disk> SharedReplica<D> {
         requires { IsFor self.now pass.old }
         ensures of { IsFor self.now pass.new }
         ensures held { HeldAfterWait self.now pass.old pass.new (Gets path.now result) }
+        ensures later { IsLater self.now pass.old pass.new }
     {
         let own = self.own();
         let guard = pass.enter(rt, own);

@@ -16,7 +16,7 @@ use syn_replica::Replica;
 use syn_tree::Node;
 
 impl<D: Disk> SharedReplica<D> {
-    ghost use Rattle.syn_shared.specs.Shared.{IsFor, HeldOnce, FoundBusy};
+    ghost use Rattle.syn_shared.specs.Shared.{IsFor, HeldOnce, FoundBusy, IsLater};
 
     /// Puts what is given in the place of all that is at and below the path, or takes it out, if
     /// the lock is free, and answers the position. What is checked and what is written are in one
@@ -38,6 +38,7 @@ impl<D: Disk> SharedReplica<D> {
         ensures held { MatchOption (answer_in result) (FoundBusy pass.old pass.new)
             (λ answer. HeldOnce self.now pass.old pass.new
             (Replaces (token_of token) path.now since (part_of new) answer)) }
+        ensures later { IsLater self.now pass.old pass.new }
     {
         let own = self.own();
         let Ok(mut guard) = pass.try_enter(own) else {

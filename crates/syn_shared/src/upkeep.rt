@@ -11,7 +11,7 @@ use syn_lock::Pass;
 use syn_replica::Replica;
 
 impl<D: Disk> SharedReplica<D> {
-    ghost use Rattle.syn_shared.specs.Shared.{IsFor, HeldOnce, FoundBusy};
+    ghost use Rattle.syn_shared.specs.Shared.{IsFor, HeldOnce, FoundBusy, IsLater};
 
     /// Makes a checkpoint if the lock is free.
     ///
@@ -26,6 +26,7 @@ impl<D: Disk> SharedReplica<D> {
         ensures of { IsFor self.now pass.new }
         ensures held { MatchOption (answer_in result) (FoundBusy pass.old pass.new)
             (λ answer. HeldOnce self.now pass.old pass.new (Checkpoints answer)) }
+        ensures later { IsLater self.now pass.old pass.new }
     {
         let own = self.own();
         let Ok(mut guard) = pass.try_enter(own) else {
@@ -46,6 +47,7 @@ impl<D: Disk> SharedReplica<D> {
         ensures of { IsFor self.now pass.new }
         ensures held { MatchOption (answer_in result) (FoundBusy pass.old pass.new)
             (λ answer. HeldOnce self.now pass.old pass.new (Reopens answer)) }
+        ensures later { IsLater self.now pass.old pass.new }
     {
         let own = self.own();
         let Ok(mut guard) = pass.try_enter(own) else {

@@ -4,7 +4,7 @@ use Rattle.syn_replica.specs.Growth.{IsGrown}
 use Rattle.syn_replica.specs.Edits.{event_by}
 use Rattle.syn_shared.specs.Edits.{Edits}
 use Rattle.syn_shared.proofs.StepLemmas.{step_by}
-use Rattle.syn_shared.proofs.HoldLemmas.{held_now}
+use Rattle.syn_shared.proofs.HoldLemmas.{held_now, later_now}
 use Rattle.syn_shared.proofs.shared.SharedReplica.edit.Goals as goal
 
 pub returns-clause-held : goal.returns-clause-held
@@ -29,3 +29,7 @@ returns-clause-held g c = (
     calls = c.edit-made.ensures.calls;
   }),
 )
+
+pub returns-clause-later : goal.returns-clause-later
+returns-clause-later g c =
+    later_now _ _ _ (origin_of c.own-own.result.now) (ap origin_of c.own-own.ensures) c.enter-guard.result c.deref_mut.result.now c.edit-made.new.self c.enter-guard.ensures.later c.deref_mut.ensures.value (search rules) c.edit-made.ensures.grown

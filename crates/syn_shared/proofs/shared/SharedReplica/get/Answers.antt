@@ -2,7 +2,7 @@ use Rattle.std.proofs.Common.{rules, ap, refl}
 use Rattle.syn_lock.specs.Locks.{origin_of}
 use Rattle.syn_replica.specs.Growth.{IsGrown}
 use Rattle.syn_shared.specs.Reads.{Gets}
-use Rattle.syn_shared.proofs.HoldLemmas.{held_reading, still}
+use Rattle.syn_shared.proofs.HoldLemmas.{held_reading, still, later_still}
 use Rattle.syn_shared.proofs.shared.SharedReplica.get.Goals as goal
 
 pub leave-requires-clause-grown : goal.leave-requires-clause-grown
@@ -19,3 +19,7 @@ returns-clause-held g c = (
     refusals = c.get-content.ensures.refusals;
   }),
 )
+
+pub returns-clause-later : goal.returns-clause-later
+returns-clause-later g c =
+    later_still _ _ _ (origin_of c.own-own.result.now) (ap origin_of c.own-own.ensures) c.enter-guard.result c.enter-guard.ensures.later (search rules)

@@ -2,7 +2,7 @@ use Rattle.std.proofs.Common.{rules, ap}
 use Rattle.syn_lock.specs.Locks.{origin_of}
 use Rattle.syn_replica.specs.Growth.{IsGrown}
 use Rattle.syn_shared.specs.Upkeep.{Checkpoints}
-use Rattle.syn_shared.proofs.HoldLemmas.{held_now, held_answer}
+use Rattle.syn_shared.proofs.HoldLemmas.{held_now, held_answer, later_now, later_none}
 use Rattle.syn_shared.proofs.shared.SharedReplica.try_checkpoint.Goals as goal
 
 pub returns-clause-held : goal.returns-clause-held
@@ -27,3 +27,10 @@ returns-clause-held g c =
       failures = c.checkpoint-answer.ensures.failures;
       calls = c.checkpoint-answer.ensures.calls;
     }))
+
+pub returns-clause-later : goal.returns-clause-later
+returns-clause-later g c =
+    later_now _ _ _ (origin_of c.own-own.result.now) (ap origin_of c.own-own.ensures) c.in-Ok.guard c.deref_mut.result.now c.checkpoint-answer.new.self c.in-Ok.ensures.later c.deref_mut.ensures.value (search rules) c.checkpoint-answer.ensures.grown
+
+pub returns-in_default-clause-later : goal.returns-in_default-clause-later
+returns-in_default-clause-later g c = later_none _ _ _ (search rules)

@@ -4,7 +4,7 @@ use Rattle.syn_replica.specs.Growth.{IsGrown}
 use Rattle.syn_replica.specs.Edits.{event_by}
 use Rattle.syn_shared.specs.Edits.{Edits}
 use Rattle.syn_shared.proofs.StepLemmas.{step_by}
-use Rattle.syn_shared.proofs.HoldLemmas.{held_now, held_answer}
+use Rattle.syn_shared.proofs.HoldLemmas.{held_now, held_answer, later_now, later_none}
 use Rattle.syn_shared.proofs.shared.SharedReplica.try_edit.Goals as goal
 
 pub returns-clause-held : goal.returns-clause-held
@@ -27,3 +27,10 @@ returns-clause-held g c =
       failures = c.edit-answer.ensures.failures;
       calls = c.edit-answer.ensures.calls;
     }))
+
+pub returns-clause-later : goal.returns-clause-later
+returns-clause-later g c =
+    later_now _ _ _ (origin_of c.own-own.result.now) (ap origin_of c.own-own.ensures) c.in-Ok.guard c.deref_mut.result.now c.edit-answer.new.self c.in-Ok.ensures.later c.deref_mut.ensures.value (search rules) c.edit-answer.ensures.grown
+
+pub returns-in_default-clause-later : goal.returns-in_default-clause-later
+returns-in_default-clause-later g c = later_none _ _ _ (search rules)

@@ -5,7 +5,7 @@ use Rattle.syn_history.specs.Events.{token_of}
 use Rattle.syn_tree.specs.Nodes.{part_of}
 use Rattle.syn_shared.specs.Replacements.{Replaces}
 use Rattle.syn_shared.proofs.StepLemmas.{replaced_by}
-use Rattle.syn_shared.proofs.HoldLemmas.{held_now, held_answer}
+use Rattle.syn_shared.proofs.HoldLemmas.{held_now, held_answer, later_now, later_none}
 use Rattle.syn_shared.proofs.shared.SharedReplica.try_replace.Goals as goal
 
 pub returns-clause-held : goal.returns-clause-held
@@ -30,3 +30,10 @@ returns-clause-held g c =
       failures = c.replace-answer.ensures.failures;
       calls = c.replace-answer.ensures.calls;
     }))
+
+pub returns-clause-later : goal.returns-clause-later
+returns-clause-later g c =
+    later_now _ _ _ (origin_of c.own-own.result.now) (ap origin_of c.own-own.ensures) c.in-Ok.guard c.deref_mut.result.now c.replace-answer.new.self c.in-Ok.ensures.later c.deref_mut.ensures.value (search rules) c.replace-answer.ensures.grown
+
+pub returns-in_default-clause-later : goal.returns-in_default-clause-later
+returns-in_default-clause-later g c = later_none _ _ _ (search rules)
