@@ -22,7 +22,8 @@ returns-clause-printed g c =
     ∙ (c.in_ok-line.ensures ∙ ap₂ archive_line c.pair.ensures c.last_session.ensures) in
     let lines : lines_of_marks c.below-2.result.now ≡ marks =
     ap lines_of_marks (c.below-2.ensures
-    ∙ ap₂ (λ at (tree : Tree). filter (is_below at) (entries tree)) c.root.ensures c.tree.ensures) in
+    ∙ ap₂ (λ at (tree : Tree). filter (is_below at) (entries tree))
+    c.root.ensures c.tree.ensures) in
     on_ok_weaker c.show_marks.result (λ shown.
     appends_more old middle new line marks
     (subst (λ xs. Appends old middle xs) first c.in_ok-write_all.ensures.bytes)
