@@ -1,5 +1,5 @@
--- One step of a side by an event, as the definitions of a side have it: it adds the event and
--- writes it, or answers and adds nothing.
+-- One step of a replica by an event, in the form of a side's step: it adds the event and writes it,
+-- or answers and adds nothing.
 use Rattle.std.specs.Prelude.{◌≡◌, ◌⊎◌, ◌+◌, ◌<◌, ℕ, [], ◌∷◌, ◌++◌, length, Option, Some}
 use Rattle.std.specs.Prelude.{Result, Ok, Err}
 use Rattle.syn_disk.specs.Calls.{Makes, Breaks}
