@@ -1,5 +1,5 @@
 -- Why a checkpoint is refused, and what one does to the coordinator.
-use Rattle.std.proofs.Common.{◌≡◌, ◌≢◌, ◌⊎◌, ◌<◌, ◌^◌, ℕ, ◌+◌, Bool, true, false, not, nat_le, if◌then◌else◌, List, [], ◌∷◌, Some, Result, Ok, Err, refl, sym, ap, ◌∙◌, inl, inr, arith}
+use Rattle.std.proofs.Common.{◌≡◌, ◌≢◌, ◌⊎◌, ◌<◌, ◌^◌, ℕ, ◌+◌, Bool, true, false, not, nat_le, if◌then◌else◌, List, [], ◌∷◌, Some, Result, Ok, Err, refl, sym, ap, ◌∙◌, inl, inr, arith, None, ap₂}
 use Rattle.std.proofs.lemmas.Bool.Decides.{nat_tests}
 use Rattle.std.proofs.lemmas.Bool.{false≢true}
 use Rattle.std.specs.Prelude.{◌↔◌, ◌&&◌, is_some, option_map}
@@ -17,7 +17,7 @@ use Rattle.syn_model.specs.Limits.{greatest}
 use Rattle.syn_model.specs.Refusal.{Refusal, first_cause}
 use Rattle.syn_model.specs.Refusal as why
 use Rattle.syn_model.specs.Archive.{Kept}
-use Rattle.syn_session.specs.Coordinators.{Checkpoints, checkpoints, Reopens, reopens, ReopensNot, reopens_not, Does, Stands, checkpoint_causes, ended_in, in_report, report_shown, runs, goes_on, goes_down}
+use Rattle.syn_session.specs.Coordinators.{Checkpoints, checkpoints, Reopens, reopens, ReopensNot, reopens_not, Does, Stands, checkpoint_causes, checkpoint_refusals, ended_in, in_report, report_shown, runs, goes_on, goes_down}
 use Rattle.syn_session.specs.Machines.{Journal, Runs, Fails, IsMachine, Reopened, NotReopened}
 use Rattle.syn_session.specs.declared.coordinator.Coordinator.{Coordinator}
 use Rattle.syn_session.specs.inner.Sessions.{running_of}
@@ -59,6 +59,12 @@ memory_not_halted T e = cc
 memory_not_full : (T : Type 0) → failed T error.Memory ≡ failed T error.Full → ⊥
 memory_not_full T e = cc
 
+pub device_not_full : (T : Type 0) (e : ArchiveError) → e ≡ error.Device → failed T e ≡ failed T error.Full → ⊥
+device_not_full T e device full = cc
+
+pub ok_not_full : {T : Type 0} (x : T) (r : Result T ArchiveError) → r ≡ Ok x → r ≡ failed T error.Full → ⊥
+ok_not_full x r ok full = cc
+
 pub device_not_halted : (T : Type 0) (e : ArchiveError) → e ≡ error.Device → failed T e ≡ failed T error.Halted → ⊥
 device_not_halted T e device halted = cc
 
@@ -74,6 +80,12 @@ module _ {D : Type 0} {disk : Ghosts D} (archive : Archive D disk) (pair : ℕ) 
 
   pub when_up : (IsHalted archive → ⊥) → Runs archive machine.journal
   when_up up = elim is.state as (λ _. Runs archive machine.journal) [ inl was ↦ was | inr fails ↦ absurd (up fails.is_halted) ]
+
+  -- where it is neither halted nor at the greatest generation, no cause stands
+  pub none_stands : (IsHalted archive → ⊥) → (generation_shown archive + 1 ≡ 2 ^ 64 → ⊥) → first_cause (checkpoint_refusals machine) ≡ None
+  none_stands up less =
+      let was = when_up up in
+      ap₂ (λ h f. first_cause ((h, why.Halted) ∷ (f, why.Full) ∷ [])) (ap is_halted was.up) (ap (nat_le greatest) (sym was.generation) ∙ is_less (generation_shown archive) fits less)
 
   pub refused_for : (T : Type 0) (e : ArchiveError) → IsOfCheckpoint e → e ≢ error.Device → ((failed T e ≡ failed T error.Halted) ↔ IsHalted archive) →
       ((kept : model.Archive) → ArchiveStands archive kept → (failed T e ≡ failed T error.Full) ↔ (generation_shown archive + 1 ≡ 2 ^ 64)) → first_cause (checkpoint_causes machine) ≡ Some (refusal_of e)

@@ -20,11 +20,12 @@ use Rattle.syn_model.specs.Refusal.{Memory, TooLarge, BadMessage}
 use Rattle.syn_model.specs.Tree.{Content, Directory, empty_directory}
 use Rattle.syn_model.proofs.PathLemmas.{path_total, name_total, path_itself, same_path}
 use Rattle.syn_scan.specs.Asked.{nothing_found, with_listing, with_no_directory, is_too_large, fit_below, names_rise, ListsOnly, is_out, with_out}
-use Rattle.syn_scan.specs.Found.{Found, Positions, is_open, was_listed, was_no_directory, IsShownIn, WasNoDirectoryIn}
+use Rattle.syn_scan.specs.Found.{WasListedIn, Found, Positions, is_open, was_listed, was_no_directory, IsShownIn, WasNoDirectoryIn}
 use Rattle.syn_scan.specs.Refusals.{refusal_of}
 use Rattle.syn_scan.specs.declared.error.ScanError.{ScanError}
 use Rattle.syn_scan.specs.declared.error.ScanError.TheVariants as error
-use Rattle.syn_session.specs.Scanning.{Exchanges, IsFoundIn, WasAnswered, with_listing_answered}
+use Rattle.syn_model.specs.Dirty.{Scan, IsScanBy}
+use Rattle.syn_session.specs.Scanning.{WasListedAt, WasNoDirectoryAt, Exchanges, IsFoundIn, WasAnswered, with_listing_answered}
 
 -- ---- positions
 
@@ -219,3 +220,13 @@ refused_so found side taken f path position entries error.Memory large bad = inl
 refused_so found side taken f path position entries error.TooLarge large bad = inr (is_large found side taken f 0 path position entries (large refl))
 refused_so found side taken f path position entries error.BadMessage large bad =
     let why = bad refl in inr (does_not_fit found side taken f 0 path position entries why.0 (false_from_ne_true (fit_below path entries) why.1))
+
+-- the scan that is whole is the scan by what was answered
+pub scan_by : (found : Found) (side : Which) (taken : Exchanges) → IsFoundIn found side taken → (scan : Scan) (since : Path → ℕ) → IsScanBy (WasListedIn found) (WasNoDirectoryIn found) scan since → IsScanBy (WasListedAt taken side) (WasNoDirectoryAt taken side) scan since
+scan_by found side taken f scan since s = record {
+  tree = s.tree;
+  fits = s.fits;
+  listed = λ path d stable. f.listed path _ _ (s.listed path d stable);
+  not_dir = λ path c. let both = s.not_dir path c in (both.0, f.not_dir path _ both.1);
+  nothing_below = s.nothing_below;
+}

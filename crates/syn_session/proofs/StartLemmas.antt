@@ -1,6 +1,7 @@
 -- A start is the step of a coordinator that starts.
-use Rattle.std.proofs.Common.{◌≡◌, ◌≢◌, ◌<◌, ◌^◌, ℕ, ◌-◌, ◌+◌, ◌==◌, Bool, true, false, not, nat_le, if◌then◌else◌, [], ◌∷◌, Option, Some, None, refl, sym, ap, ◌∙◌, arith}
+use Rattle.std.proofs.Common.{◌≡◌, ◌≢◌, ◌<◌, ◌^◌, ℕ, ◌-◌, ◌+◌, ◌==◌, Bool, true, false, not, nat_le, if◌then◌else◌, [], ◌∷◌, Option, Some, None, refl, sym, ap, ◌∙◌, arith, ◌++◌, List}
 use Rattle.std.proofs.lemmas.Bool.{false≢true}
+use Rattle.std.proofs.lemmas.Option.{none-some}
 use Rattle.std.proofs.lemmas.Bool.Decides.{nat_tests}
 use Rattle.std.specs.Prelude.{is_some, option_map, ◌&&◌}
 use Rattle.syn_disk.specs.declared.disk.Disk.{Ghosts}
@@ -10,7 +11,7 @@ use Rattle.syn_headline.specs.World.{is_halted}
 use Rattle.syn_model.specs.Archive as model
 use Rattle.syn_model.specs.Archive.{CanKeep, Session}
 use Rattle.syn_model.specs.Limits.{greatest}
-use Rattle.syn_model.specs.Refusal.{Refusal, Full, BadMessage, first_cause}
+use Rattle.syn_model.specs.Refusal.{Refusal, Full, BadMessage, first_cause, Cause}
 use Rattle.syn_model.specs.Refusal as why
 use Rattle.syn_session.specs.Coordinators.{Does, ended_in, in_report, report_shown, runs, all_causes, goes_on, goes_down}
 use Rattle.syn_session.specs.declared.coordinator.Coordinator.{Coordinator}
@@ -49,6 +50,17 @@ not_up down up = false≢true (sym (ap is_up down) ∙ ap is_up up)
 halted_not_up : {s : Status} → s ≡ Halted → s ≢ Up
 unfolding is_up
 halted_not_up halted up = false≢true (sym (ap is_up halted) ∙ ap is_up up)
+
+-- a first cause stays the first before others, and want of memory is the first where there is none
+pub still_first : (xs ys : List Cause) (w : Refusal) → first_cause xs ≡ Some w → first_cause (xs ++ ys) ≡ Some w
+still_first [] ys w e = absurd (none-some _ e)
+still_first ((true, v) ∷ xs) ys w e = e
+still_first ((false, v) ∷ xs) ys w e = still_first xs ys w e
+
+pub then_memory : (xs : List Cause) → first_cause xs ≡ None → first_cause (xs ++ (true, why.Memory) ∷ []) ≡ Some why.Memory
+then_memory [] e = refl
+then_memory ((true, v) ∷ xs) e = absurd (none-some _ (sym e))
+then_memory ((false, v) ∷ xs) e = then_memory xs e
 
 -- by what each of the causes is
 abbrev pub first_of : Bool → Bool → Bool → Bool → Option Refusal

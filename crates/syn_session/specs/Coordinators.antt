@@ -71,18 +71,31 @@ pub data Does {D : Type 0} {disk : Ghosts D} (old new : Coordinator D disk) (pai
       LeavesMachine disk (device_of new) pair machine.journal → call.kept ≡ kept →
       Does old new pair Step kept messages
 
--- why a start is refused, before memory is
+-- what a call answers of reports and of what was kept stays, and so does the session that runs
+pub record KeepsReadings {D : Type 0} {disk : Ghosts D} (old new : Coordinator D disk)
+    : Type 0 where
+  pub report : report_shown new ≡ report_shown old
+  pub written_is : written new ≡ written old
+  pub broken_is : broken new ≡ broken old
+  pub runs_still : runs new ≡ runs old
+
+-- why a start is refused, and then for want of memory
+abbrev pub refusals_of : ℕ → CoordinatorMachine → List Cause
+refusals_of pair machine =
+    (is_halted machine.journal.status, why.Halted) ∷ start_causes pair machine
+
 abbrev pub all_causes : ℕ → CoordinatorMachine → List Cause
-all_causes pair machine =
-    ((is_halted machine.journal.status, why.Halted) ∷ start_causes pair machine)
-    ++ (true, why.Memory) ∷ []
+all_causes pair machine = refusals_of pair machine ++ (true, why.Memory) ∷ []
 
 -- Calls on the archive as a whole
 
-abbrev pub checkpoint_causes : CoordinatorMachine → List Cause
-checkpoint_causes machine =
+abbrev pub checkpoint_refusals : CoordinatorMachine → List Cause
+checkpoint_refusals machine =
     (is_halted machine.journal.status, why.Halted)
-    ∷ (nat_le greatest machine.journal.generation, why.Full) ∷ (true, why.Memory) ∷ []
+    ∷ (nat_le greatest machine.journal.generation, why.Full) ∷ []
+
+abbrev pub checkpoint_causes : CoordinatorMachine → List Cause
+checkpoint_causes machine = checkpoint_refusals machine ++ (true, why.Memory) ∷ []
 
 -- a checkpoint is made, or its device fails
 pub data Checkpoints (pair : ℕ) (machine : CoordinatorMachine) : CoordinatorMachine → Call →

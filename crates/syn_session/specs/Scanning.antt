@@ -21,6 +21,14 @@ asked_of scan = scan.scanner
 abbrev pub found_of : SideScan → Found
 found_of scan = (asked_of scan).found
 
+-- the side listed the path so in these exchanges, or answered that no directory is there
+abbrev pub WasListedAt : Exchanges → Which → Path → ℕ → List (Name × Content) → Type 0
+WasListedAt taken side path position entries =
+    WasTaken taken side (ListAt path) (Listed position entries)
+
+abbrev pub WasNoDirectoryAt : Exchanges → Which → Path → ℕ → Type 0
+WasNoDirectoryAt taken side path position = WasTaken taken side (ListAt path) (NotDir position)
+
 -- the side was asked to list the path, and its answer was taken
 abbrev pub WasAnswered : Found → Path → Type 0
 WasAnswered found path = (was_listed found path ≡ true) ⊎ (was_no_directory found path ≡ true)

@@ -1,7 +1,7 @@
 //! A coordinator over its archive.
 ghost use Rattle.std.specs.Prelude.{◌≡◌, ◌≢◌, ◌++◌, ◌∷◌, [], ℕ, true, is_some, Some, None};
 ghost use Rattle.std.specs.Prelude.{Err, IfErr, MatchResult, OnErr, OnOk, false, map, option_map};
-ghost use Rattle.std.specs.Prelude.{◌+◌, ◌<◌, ◌^◌, ◌⊎◌};
+ghost use Rattle.std.specs.Prelude.{◌+◌, ◌<◌, ◌^◌, ◌⊎◌, ◌&&◌, not};
 ghost use Rattle.syn_archive.specs.Archive.{IsHalted, session_shown};
 ghost use Rattle.syn_headline.specs.Coordinator.{CoordinatorMachine, CoordinatorStarts};
 ghost use Rattle.syn_headline.specs.Coordinator.{CoordinatorTicks, Running, report_of};
@@ -10,7 +10,7 @@ ghost use Rattle.syn_model.specs.Archive.{Session as Begun};
 ghost use Rattle.syn_model.specs.Refusal.{Memory, first_cause};
 ghost use Rattle.syn_refusal.specs.Refusals.{cause_of};
 ghost use Rattle.syn_session.specs.Machines.{IsMachine, Journal};
-ghost use Rattle.syn_session.specs.Refusals.{refusal_of};
+ghost use Rattle.syn_session.specs.Refusals.{CountsFailures, refusal_of};
 ghost use Rattle.syn_session.specs.Reports.{report_model};
 ghost use Rattle.syn_session.specs.Sendings.{messages_of};
 ghost use Rattle.syn_session.specs.inner.Sessions.{running_of};
@@ -46,7 +46,8 @@ pub struct Coordinator<D: Disk> {
 
 impl<D: Disk> Coordinator<D> {
     ghost use Rattle.syn_session.specs.Coordinators.{Does, Stands, all_causes, archive_of, broken};
-    ghost use Rattle.syn_session.specs.Coordinators.{report_shown, runs, written};
+    ghost use Rattle.syn_session.specs.Coordinators.{device_of, refusals_of, report_shown, runs};
+    ghost use Rattle.syn_session.specs.Coordinators.{written};
 
     /// A coordinator over the archive, with no session. It takes no memory.
     pub fn new(alloc: Global, archive: Archive<D>) -> Coordinator<D>
@@ -54,6 +55,7 @@ impl<D: Disk> Coordinator<D> {
         ensures stands { (pair : ℕ) (journal : Journal) → IsMachine archive pair journal
             → Stands result pair (record { journal = journal; running = None }) }
         ensures report { report_shown result ≡ None }
+        ensures kept { (written result ≡ []) × (broken result ≡ None) }
     {
         Coordinator {
             archive,
@@ -124,7 +126,18 @@ impl<D: Disk> Coordinator<D> {
             → (first_cause (all_causes pair machine) ≡ Some (refusal_of e))
             × Stands self.new pair machine) }
 
-        // What `kept` answers then.
+        // It starts, or its device fails, only where no cause stands: no session runs then.
+        ensures allowed { (pair : ℕ) (machine : CoordinatorMachine) → Stands self.old pair machine
+            → MatchResult result (λ _. first_cause (refusals_of pair machine) ≡ None)
+            (λ e. e ≡ SessionError.Device → first_cause (refusals_of pair machine) ≡ None) }
+        ensures failures { MatchResult result
+            (λ _. D.failures (device_of self.new) ≡ D.failures (device_of self.old))
+            (λ e. CountsFailures e (D.failures (device_of self.old))
+            (D.failures (device_of self.new))) }
+
+        // What `report` and `kept` answer then.
+        ensures report { MatchResult result (λ _. report_shown self.new ≡ None)
+            (λ _. report_shown self.new ≡ report_shown self.old) }
         ensures whole { OnOk result (broken self.new ≡ None) }
         ensures breaks { result ≡ Err SessionError.Device → (written self.new ≡ [])
             × (broken self.new ≡ Some (Begun (session_shown (archive_of self.old) + 1))) }
@@ -143,8 +156,8 @@ impl<D: Disk> Coordinator<D> {
     /// Why a session cannot be started, but for want of memory and a device that fails.
     fn check_start(&self) -> Result<(), SessionError>
         ensures refused { (pair : ℕ) (machine : CoordinatorMachine) → Stands self.now pair machine
-            → MatchResult result (λ _. first_cause (all_causes pair machine) ≡ Some Memory)
-            (λ e. first_cause (all_causes pair machine) ≡ Some (refusal_of e)) }
+            → MatchResult result (λ _. first_cause (refusals_of pair machine) ≡ None)
+            (λ e. first_cause (refusals_of pair machine) ≡ Some (refusal_of e)) }
         ensures no_call { IfErr result (λ e. e ≢ SessionError.Device) }
         ensures idle { OnOk result (runs self.now ≡ false) }
         ensures up { OnOk result (¬ IsHalted (archive_of self.now)) }
@@ -186,6 +199,12 @@ impl<D: Disk> Coordinator<D> {
         ensures memory { (pair : ℕ) (machine : CoordinatorMachine) → Stands self.old pair machine
             → IfErr result (λ e. (e ≡ SessionError.Device)
             ⊎ ((e ≡ SessionError.Memory) × Stands self.new pair machine)) }
+        ensures failures { MatchResult result
+            (λ _. D.failures (device_of self.new) ≡ D.failures (device_of self.old))
+            (λ e. CountsFailures e (D.failures (device_of self.old))
+            (D.failures (device_of self.new))) }
+        ensures report { MatchResult result (λ _. report_shown self.new ≡ None)
+            (λ _. report_shown self.new ≡ report_shown self.old) }
         ensures running { OnOk result (self.new.running ≡ Some session) }
         ensures stays { OnErr result (self.new.running ≡ self.old.running) }
         ensures written { OnOk result (self.new.written ≡ records) }
@@ -222,6 +241,8 @@ impl<D: Disk> Coordinator<D> {
         ensures step { (pair : ℕ) (machine : CoordinatorMachine) → Stands self.old pair machine
             → Does self.old self.new pair (CoordinatorTicks machine) [] (messages_of result.items) }
         ensures archive { archive_of self.new ≡ archive_of self.old }
+        ensures report { (runs self.old && not (runs self.new)) ≡ false
+            → report_shown self.new ≡ report_shown self.old }
         ensures kept { (written self.new ≡ written self.old) × (broken self.new ≡ broken self.old) }
     {
         let Some(session) = &mut self.running else {

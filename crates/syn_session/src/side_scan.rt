@@ -8,7 +8,8 @@ ghost use Rattle.syn_message.specs.Replies.{IsLawfulReply, reply_of};
 ghost use Rattle.syn_model.specs.Path.{Path as Names};
 ghost use Rattle.syn_model.specs.Refusal.{Memory};
 ghost use Rattle.syn_refusal.specs.Refusals.{cause_of};
-ghost use Rattle.syn_scan.specs.Found.{IsWhole};
+ghost use Rattle.syn_model.specs.Dirty.{IsScanBy};
+ghost use Rattle.syn_scan.specs.Found.{IsWhole, position_of, scan_of};
 
 use crate::error::SessionError;
 use std::alloc::Global;
@@ -27,6 +28,7 @@ pub struct SideScan {
 impl SideScan {
     ghost use Rattle.syn_session.specs.Scanning.{Exchanges, IsFoundIn, WaitsFor, WasAnswered};
     ghost use Rattle.syn_session.specs.Scanning.{found_of, with_listing_answered};
+    ghost use Rattle.syn_session.specs.Scanning.{WasListedAt, WasNoDirectoryAt};
 
     /// Nothing is asked yet. Refused 11 where memory is refused.
     pub fn new(alloc: Global) -> Result<SideScan, SessionError>
@@ -41,7 +43,7 @@ impl SideScan {
     ///
     /// Refused 11 where memory is refused.
     pub fn next(&mut self, alloc: Global) -> Result<Option<Path>, SessionError>
-        // A listing shows it, and it was not asked for yet.
+        // A listing shows it, and it was not answered yet.
         ensures shown { (side : Which) (taken : Exchanges)
             → IsFoundIn (found_of self.old) side taken
             → IfOk result (λ next. IfSome next (λ path. IsShown taken side path)) }
@@ -92,7 +94,12 @@ impl SideScan {
     /// What the side showed, once each directory was answered. It takes no memory.
     pub fn finish(self) -> Scan
         requires { IsWhole (found_of self) }
-        ensures { result ≡ found_of self }
+        ensures found { result ≡ found_of self }
+
+        // It is the scan by what the side answered.
+        ensures scan { (side : Which) (taken : Exchanges) → IsFoundIn (found_of self) side taken
+            → IsScanBy (WasListedAt taken side) (WasNoDirectoryAt taken side) (scan_of result)
+            (position_of result) }
     {
         self.scanner.finish()
     }

@@ -1,11 +1,12 @@
 //! The coordinator's archive as a whole: a checkpoint, another opening, and the arms of its device.
 ghost use Rattle.std.specs.Prelude.{◌≡◌, ◌≢◌, ◌<◌, ◌^◌, [], ℕ, List, false, Err, IfErr, OnOk};
-ghost use Rattle.std.specs.Prelude.{MatchResult, Some};
+ghost use Rattle.std.specs.Prelude.{MatchResult, None, Some};
 ghost use Rattle.syn_disk.specs.Armed.{armed};
 ghost use Rattle.syn_disk.specs.Arms.{is_stopped};
 ghost use Rattle.syn_recovery.specs.Calls.{armed_at};
 ghost use Rattle.syn_session.specs.Coordinators.{with_arms};
-ghost use Rattle.syn_archive.specs.Refusals.{refusal_of};
+ghost use Rattle.syn_archive.specs.Refusals.{CountsFailures, refusal_of};
+ghost use Rattle.syn_disk.specs.Disk.{SameOutcomes};
 ghost use Rattle.syn_headline.specs.Coordinator.{CoordinatorMachine};
 ghost use Rattle.syn_headline.specs.Machine.{Halted, Up};
 ghost use Rattle.syn_model.specs.Archive.{Kept};
@@ -20,7 +21,8 @@ use syn_recovery::{device_laws, opening_laws};
 
 impl<D: Disk> Coordinator<D> {
     ghost use Rattle.syn_session.specs.Coordinators.{Checkpoints, Does, Reopens, ReopensNot};
-    ghost use Rattle.syn_session.specs.Coordinators.{Stands, checkpoint_causes};
+    ghost use Rattle.syn_session.specs.Coordinators.{KeepsReadings, Stands, checkpoint_causes};
+    ghost use Rattle.syn_session.specs.Coordinators.{checkpoint_refusals, device_of};
 
     /// Writes the archive as one image, so that its journal has room again. A session that runs
     /// goes on.
@@ -41,6 +43,16 @@ impl<D: Disk> Coordinator<D> {
             → IfErr result (λ e. e ≢ ArchiveError.Device
             → (first_cause (checkpoint_causes machine) ≡ Some (refusal_of e))
             × Stands self.new pair machine) }
+
+        // It is made, or its device fails, only where no cause stands.
+        ensures allowed { (pair : ℕ) (machine : CoordinatorMachine) → Stands self.old pair machine
+            → MatchResult result (λ _. first_cause (checkpoint_refusals machine) ≡ None)
+            (λ e. e ≡ ArchiveError.Device → first_cause (checkpoint_refusals machine) ≡ None) }
+        ensures same { KeepsReadings self.old self.new }
+        ensures failures { MatchResult result
+            (λ _. D.failures (device_of self.new) ≡ D.failures (device_of self.old))
+            (λ e. CountsFailures e (D.failures (device_of self.old))
+            (D.failures (device_of self.new))) }
     {
         device_laws();
         archive_laws();
@@ -73,6 +85,11 @@ impl<D: Disk> Coordinator<D> {
             → IfErr result (λ e. e ≢ ArchiveError.Device → (e ≡ ArchiveError.Memory)
             × Does self.old self.new pair
             (ReopensNot machine Up machine.journal.status) [] []) }
+        ensures same { KeepsReadings self.old self.new }
+        ensures failures { MatchResult result
+            (λ _. D.failures (device_of self.new) ≡ D.failures (device_of self.old))
+            (λ e. CountsFailures e (D.failures (device_of self.old))
+            (D.failures (device_of self.new))) }
     {
         device_laws();
         opening_laws();
@@ -91,7 +108,7 @@ impl<D: Disk> Coordinator<D> {
 }
 
 impl<D: Limit> Coordinator<D> {
-    ghost use Rattle.syn_session.specs.Coordinators.{device_of, Stands};
+    ghost use Rattle.syn_session.specs.Coordinators.{device_of, KeepsReadings, Stands};
 
     /// Arms the archive's disk. It takes the place of an arm of its kind that is still to come.
     pub fn arm(&mut self, arm: Arm)
@@ -101,6 +118,17 @@ impl<D: Limit> Coordinator<D> {
             → is_stopped (D.Disk.arms (device_of self.new)) ≡ false
             → Stands self.new pair (with_arms machine
             (armed_at (D.Disk.arms (device_of self.new)))) }
+
+        // It changes nothing that a read gives or a stop leaves, nor what the coordinator shows.
+        ensures seen { D.Disk.seen (device_of self.new) ≡ D.Disk.seen (device_of self.old) }
+        ensures stop { SameOutcomes (D.Disk.may_leave (device_of self.old))
+            (D.Disk.may_leave (device_of self.new)) }
+        ensures moment { D.Disk.moment (device_of self.new) ≡ D.Disk.moment (device_of self.old) }
+        ensures past { (t : ℕ) → SameOutcomes (D.Disk.left_since (device_of self.old) t)
+            (D.Disk.left_since (device_of self.new) t) }
+        ensures failures { D.Disk.failures (device_of self.new)
+            ≡ D.Disk.failures (device_of self.old) }
+        ensures same { KeepsReadings self.old self.new }
     {
         self.archive.arm(arm);
     }

@@ -2,7 +2,7 @@ use Rattle.std.proofs.Common.{◌<◌, ◌^◌, Err, ap, subst, refl, inl, inr}
 use Rattle.syn_archive.specs.Archive.{disk_of}
 use Rattle.syn_archive.specs.Refusals.{MakesIfDevice}
 use Rattle.syn_session.proofs.CheckpointLemmas.{compact_ok, compact_failed}
-use Rattle.syn_session.proofs.RefusedLemmas.{checkpoint_does, refused_for, when_up, up_not_down, halted_not_down, device_not_halted, ok_not_halted}
+use Rattle.syn_session.proofs.RefusedLemmas.{checkpoint_does, refused_for, when_up, up_not_down, halted_not_down, device_not_halted, ok_not_halted, device_not_full, ok_not_full, none_stands}
 use Rattle.syn_session.proofs.StayLemmas.{same_machine}
 use Rattle.syn_session.proofs.coordinator.Coordinator.checkpoint.Goals as goal
 
@@ -29,3 +29,13 @@ returns-in-Err-clause-refused g c pair machine stands other = (
     running = stands.running;
   },
 )
+
+pub returns-in-Ok-clause-allowed : goal.returns-in-Ok-clause-allowed
+returns-in-Ok-clause-allowed g c pair machine stands =
+    let was = when_up c.args.self.now.archive pair machine stands.journal (subst (λ n. n < 2 ^ 64) c.generation-generation.ensures c.is_long.ensures) (λ h. ok_not_halted _ _ refl (c.in-Ok.ensures.halted.1 h)) in
+    none_stands c.args.self.now.archive pair machine stands.journal (subst (λ n. n < 2 ^ 64) c.generation-generation.ensures c.is_long.ensures) (λ h. ok_not_halted _ _ refl (c.in-Ok.ensures.halted.1 h)) (λ e. ok_not_full _ _ refl ((c.in-Ok.ensures.greatest _ was.stands).1 e))
+
+pub returns-in-Err-clause-allowed : goal.returns-in-Err-clause-allowed
+returns-in-Err-clause-allowed g c pair machine stands device =
+    let was = when_up c.args.self.now.archive pair machine stands.journal (subst (λ n. n < 2 ^ 64) c.generation-generation.ensures c.is_long.ensures) (λ h. device_not_halted _ _ device (c.in-Err.ensures.halted.1 h)) in
+    none_stands c.args.self.now.archive pair machine stands.journal (subst (λ n. n < 2 ^ 64) c.generation-generation.ensures c.is_long.ensures) (λ h. device_not_halted _ _ device (c.in-Err.ensures.halted.1 h)) (λ e. device_not_full _ _ device ((c.in-Err.ensures.greatest _ was.stands).1 e))

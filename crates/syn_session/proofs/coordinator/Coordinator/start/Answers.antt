@@ -1,4 +1,4 @@
-use Rattle.std.proofs.Common.{◌≡◌, ◌≢◌, ◌<◌, ◌^◌, ◌+◌, [], ◌∷◌, ◌++◌, Some, Err, inl, inr, sym, ap, ap₂, ◌∙◌, subst, map}
+use Rattle.std.proofs.Common.{◌≡◌, ◌≢◌, ◌<◌, ◌^◌, ◌+◌, [], ◌∷◌, ◌++◌, Some, Err, inl, inr, sym, ap, ap₂, ◌∙◌, subst, map, true}
 use Rattle.std.specs.Prelude.{option_map}
 use Rattle.syn_headline.specs.Coordinator.{CoordinatorStarts, messages_to}
 use Rattle.syn_headline.specs.Network.{Left, Right}
@@ -6,15 +6,16 @@ use Rattle.syn_wire.specs.Marks.{kept_of}
 use Rattle.syn_wire.specs.declared.kept.Kept.TheVariants as has
 use Rattle.syn_headline.specs.Machine.{Up, Halted}
 use Rattle.syn_model.specs.Archive.{Session}
+use Rattle.syn_model.specs.Refusal as why
 use Rattle.syn_model.specs.Refusal.{first_cause}
-use Rattle.syn_session.specs.Coordinators.{Does, Stands, all_causes, archive_of}
+use Rattle.syn_session.specs.Coordinators.{Does, Stands, all_causes, archive_of, refusals_of}
 use Rattle.syn_session.specs.Refusals.{refusal_of}
 use Rattle.syn_session.specs.Sendings.{messages_of}
 use Rattle.syn_session.specs.declared.error.SessionError.TheVariants.{Device}
 use Rattle.syn_session.specs.inner.Sessions.{running_of, begun}
 use Rattle.syn_session.specs.inner.Steps.{KeepsSo}
 use Rattle.syn_session.proofs.ErrorLemmas.{passed, refused_so}
-use Rattle.syn_session.proofs.StartLemmas.{is_none, started, start_failed}
+use Rattle.syn_session.proofs.StartLemmas.{is_none, started, start_failed, still_first, then_memory}
 use Rattle.syn_session.proofs.coordinator.Coordinator.start.Goals as goal
 
 pub returns-in_err-check_start-clause-step : goal.returns-in_err-check_start-clause-step
@@ -24,7 +25,7 @@ returns-in_err-check_start-clause-step g c pair machine stands =
 pub returns-in_err-check_start-clause-refused : goal.returns-in_err-check_start-clause-refused
 returns-in_err-check_start-clause-refused g c pair machine stands =
     refused_so (λ e. e ≢ Device → (first_cause (all_causes pair machine) ≡ Some (refusal_of e)) × Stands c.args.self.now pair machine) c.from_residual.result _ c.from_residual.ensures.1
-    (λ other. (c.in_err-check_start.ensures.refused pair machine stands, stands))
+    (λ other. (still_first (refusals_of pair machine) ((true, why.Memory) ∷ []) _ (c.in_err-check_start.ensures.refused pair machine stands), stands))
 
 pub returns-in_err-keep_session-clause-step : goal.returns-in_err-keep_session-clause-step
 returns-in_err-keep_session-clause-step g c pair machine stands =
@@ -37,7 +38,7 @@ returns-in_err-keep_session-clause-refused g c pair machine stands =
     refused_so (λ e. e ≢ Device → (first_cause (all_causes pair machine) ≡ Some (refusal_of e)) × Stands c.keep_session.new.self pair machine) c.from_residual-in_err-keep_session.result _ c.from_residual-in_err-keep_session.ensures.1
     (λ other. elim (c.in_err-keep_session.ensures.memory pair machine stands) [
       | inl device ↦ absurd (other device)
-      | inr memory ↦ (c.in_ok-check_start.ensures.refused pair machine stands ∙ ap (λ e. Some (refusal_of e)) (sym memory.0), memory.1)
+      | inr memory ↦ (then_memory (refusals_of pair machine) (c.in_ok-check_start.ensures.refused pair machine stands) ∙ ap (λ e. Some (refusal_of e)) (sym memory.0), memory.1)
     ])
 
 pub returns-clause-step : goal.returns-clause-step
@@ -51,3 +52,13 @@ returns-clause-step g c pair machine stands =
     subst (λ w. Does c.args.self.now c.keep_session.new.self pair (CoordinatorStarts pair machine) w (messages_of c.in_ok-sends.sends.items)) (sym written_is)
     (subst (λ m. Does c.args.self.now c.keep_session.new.self pair (CoordinatorStarts pair machine) (Session (machine.journal.value.last_session + 1) ∷ []) m) (sym sent)
     (started c.args.self.now c.keep_session.new.self pair machine c.in_ok-check_start.ensures.idle (subst (λ n. n + 1 < 2 ^ 64) last c.in_ok-check_start.ensures.fits) (subst (λ p. p < 2 ^ 64) (c.pair.ensures ∙ stands.journal.pair_is) c.new-session.ensures.fits) running kept))
+
+pub returns-in_err-sends-clause-refused : goal.returns-in_err-sends-clause-refused
+returns-in_err-sends-clause-refused g c pair machine stands =
+    refused_so (λ e. e ≢ Device → (first_cause (all_causes pair machine) ≡ Some (refusal_of e)) × Stands c.args.self.now pair machine) c.from_residual-in_err-sends.result _ c.from_residual-in_err-sends.ensures.1
+    (λ other. (then_memory (refusals_of pair machine) (c.in_ok-check_start.ensures.refused pair machine stands) ∙ ap (λ e. Some (refusal_of e)) (sym c.in_err-sends.ensures.memory), stands))
+
+pub returns-in_err-push-clause-refused : goal.returns-in_err-push-clause-refused
+returns-in_err-push-clause-refused g c pair machine stands =
+    refused_so (λ e. e ≢ Device → (first_cause (all_causes pair machine) ≡ Some (refusal_of e)) × Stands c.args.self.now pair machine) c.from_residual-in_err-push.result _ c.from_residual-in_err-push.ensures.1
+    (λ other. (then_memory (refusals_of pair machine) (c.in_ok-check_start.ensures.refused pair machine stands), stands))
