@@ -104,8 +104,8 @@ pub is_up : {D : Type 0} {disk : Ghosts D} (pair : ℕ) (replica : Replica D dis
 is_up pair replica agent machine is = record {
   pair_is = is.pair_is;
   stands = subst (λ s. StandsAs s replica machine.journal.value) (sym is.up) is.stands;
-  room = is.room;
-  generation = is.generation;
+  room = λ _. is.room;
+  generation = λ _. is.generation;
   armed = is.armed;
   runs = is.runs;
   staging = is.staging;
@@ -171,8 +171,8 @@ module _ {D : Type 0} {disk : Ghosts D} (pair : ℕ) (old new : Replica D disk) 
   stays_of staged staged_is same stands = record {
     pair_is = same.memory.pair ∙ is.pair_is;
     stands = stands;
-    room = is.room ∙ ap (λ j. journal.left_of j) (sym same.journal);
-    generation = is.generation ∙ ap (λ j. journal.generation_of j) (sym same.journal);
+    room = λ up. is.room up ∙ ap (λ j. journal.left_of j) (sym same.journal);
+    generation = λ up. is.generation up ∙ ap (λ j. journal.generation_of j) (sym same.journal);
     armed = is.armed ∙ ap (λ j. armed_at (disk.arms (journal.disk_of j))) (sym same.journal);
     runs = ap (λ j. is_stopped (disk.arms (journal.disk_of j))) same.journal ∙ is.runs;
     staging = staged_is;
@@ -185,7 +185,7 @@ module _ {D : Type 0} {disk : Ghosts D} (pair : ℕ) (old new : Replica D disk) 
         → Serves (pair_of old) (room_for old) (side_of value agent) session request served
         → Serves pair (has_room_for pair machine) (side_now machine) session request served
     serves_up served serves = serves_it (pair_of old) pair (left_shown old) machine.journal.room
-        value (staging_of agent) machine.staging session request served is.pair_is (sym is.room)
+        value (staging_of agent) machine.staging session request served is.pair_is (sym (is.room up))
         (sym is.staging) serves
 
     same_said : (status : Status) → status ≡ Up → (reply : Reply)
@@ -227,8 +227,8 @@ module _ {D : Type 0} {disk : Ghosts D} (pair : ℕ) (old new : Replica D disk) 
           leaves = goes_on (record {
             pair_is = adding.has.pair ∙ is.pair_is;
             stands = subst (λ s. StandsAs s new (value ++ event ∷ [])) (sym up) adding.stands;
-            room = ap (λ n. n - event_size event) is.room ∙ sym adding.has.left_is;
-            generation = is.generation ∙ sym adding.has.generation;
+            room = λ _. ap (λ n. n - event_size event) (is.room up) ∙ sym adding.has.left_is;
+            generation = λ _. (is.generation up) ∙ sym adding.has.generation;
             armed = refl;
             runs = runs;
             staging = subst (λ s. model.staging_after s machine.staging ≡ staging_of after)
@@ -238,7 +238,7 @@ module _ {D : Type 0} {disk : Ghosts D} (pair : ℕ) (old new : Replica D disk) 
                 (stands_kept pair new (value ++ event ∷ []) (left_shown old - event_size event)
                 (generation_shown old) adding.stands (adding.has.pair ∙ is.pair_is)
                 adding.has.left_is adding.has.generation bytes may)
-                refl (ap (λ n. n - event_size event) is.room) is.generation;
+                refl (ap (λ n. n - event_size event) (is.room up)) (is.generation up);
           });
         }
     added served event serves so staged adding (calls.goes_down stopped meets) =
@@ -258,7 +258,7 @@ module _ {D : Type 0} {disk : Ghosts D} (pair : ℕ) (old new : Replica D disk) 
                 (stands_kept pair new (value ++ event ∷ []) (left_shown old - event_size event)
                 (generation_shown old) adding.stands (adding.has.pair ∙ is.pair_is)
                 adding.has.left_is adding.has.generation bytes may)
-                refl is.room is.generation refl;
+                refl (is.room up) (is.generation up) refl;
           });
         }
 
@@ -269,11 +269,11 @@ module _ {D : Type 0} {disk : Ghosts D} (pair : ℕ) (old new : Replica D disk) 
     either event status failed arms bytes (inl before) = kept pair
         (writing_it event status arms failed) value (left_shown old) (generation_shown old) bytes
         (subst (λ p. DiskKeeps p value (left_shown old) (generation_shown old) bytes) is.pair_is
-        before) refl is.room is.generation
+        before) refl (is.room up) (is.generation up)
     either event status failed arms bytes (inr behind) = kept_more pair
         (writing_it event status arms failed) value event (left_shown old) (generation_shown old)
         bytes (subst (λ p. DiskKeeps p (value ++ event ∷ []) (left_shown old - event_size event)
-        (generation_shown old) bytes) is.pair_is behind) refl is.room is.generation refl
+        (generation_shown old) bytes) is.pair_is behind) refl (is.room up) (is.generation up) refl
 
     broke : (served : Served) (event : Event) → Stands old value
         → Serves (pair_of old) (room_for old) (side_of value agent) session request served
@@ -298,8 +298,8 @@ module _ {D : Type 0} {disk : Ghosts D} (pair : ℕ) (old new : Replica D disk) 
                 standing = off.readings.memory.standing ∙ stands.remembers.standing;
               },
             );
-            room = is.room ∙ sym off.readings.left_is;
-            generation = is.generation ∙ sym off.readings.generation;
+            room = λ _. (is.room up) ∙ sym off.readings.left_is;
+            generation = λ _. (is.generation up) ∙ sym off.readings.generation;
             armed = refl;
             runs = runs;
             staging = is.staging ∙ sym staged;

@@ -29,13 +29,15 @@ abbrev pub MayLeave : {D : Type 0} → {disk : Ghosts D} → ℕ → Replica D d
 MayLeave {D} {disk} pair replica machine = (bytes : List ℕ) → disk.may_leave (disk_of replica) bytes
     → MayBeOf (of_side pair) machine.journal bytes
 
--- the replica with its agent is the machine of a side that is not down
+-- The replica with its agent is the machine of a side that is not down. What its journal shows is
+-- compared where it is up alone: an opening for which memory was refused may have read more
 pub record IsOf {D : Type 0} {disk : Ghosts D} (pair : ℕ) (replica : Replica D disk) (agent : Agent)
     (machine : SideMachine) : Type 0 where
   pub pair_is : pair_of replica ≡ pair
   pub stands : StandsAs machine.journal.status replica machine.journal.value
-  pub room : machine.journal.room ≡ left_shown replica
-  pub generation : machine.journal.generation ≡ generation_shown replica
+  pub room : machine.journal.status ≡ Up → machine.journal.room ≡ left_shown replica
+  pub generation : machine.journal.status ≡ Up →
+      machine.journal.generation ≡ generation_shown replica
   pub armed : machine.journal.arms ≡ armed_at (disk.arms (disk_of replica))
   pub runs : is_stopped (disk.arms (disk_of replica)) ≡ false
   pub staging : machine.staging ≡ staging_of agent

@@ -1,5 +1,5 @@
 //! Workers that take their passes from a pool.
-ghost use Rattle.std.specs.Prelude.{◌≡◌, IfErr, MatchResult};
+ghost use Rattle.std.specs.Prelude.{◌≡◌, ◌⊎◌, IfErr, MatchResult};
 ghost use Rattle.syn_lock.specs.Locks.{IsLock};
 ghost use Rattle.syn_shared.specs.Shared.{own_of, IsFor};
 ghost use Rattle.syn_shared.specs.Workers.{IsDone};
@@ -33,6 +33,7 @@ pub fn fill<D: Disk, L: Naming<Replica<D>>>(
     workers: usize,
 ) -> Result<PassPool<Replica<D>, L>, LockError>
     requires { IsLock L.lock L.origin (own_of shared.now) }
+    ensures refusals { IfErr result (λ e. (e ≡ LockError.NoSeat) ⊎ (e ≡ LockError.Memory)) }
 {
     let mut passes = Vec::new(alloc);
     for _ in 0..workers {
