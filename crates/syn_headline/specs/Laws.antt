@@ -1,5 +1,6 @@
 -- What follows from the definitions of a side's step, for the other crates to use.
-use Rattle.std.specs.Prelude.{ℕ, ◌≤◌, ◌≡◌, ◌⊎◌, Bool, true, false, [], ◌∷◌, ◌++◌, length, Some, Option}
+use Rattle.std.specs.Prelude.{ℕ, ◌≤◌, ◌≡◌, ◌⊎◌, Bool, true, false, [], ◌∷◌, ◌++◌, length, Some}
+use Rattle.std.specs.Prelude.{Option}
 use Rattle.syn_model.specs.History.{History, IsHistory, IsAllowed, last_token, is_quiet}
 use Rattle.std.specs.Option.{option_map_or}
 use Rattle.syn_model.specs.Path.{Bytes, Path}
