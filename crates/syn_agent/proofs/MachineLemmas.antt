@@ -154,6 +154,20 @@ serves_it pair pair' left left' history staged staged' session request served p 
     (subst (λ s. Serves pair (λ event. nat_le (record_size (event_spelling event)) left)
     (record { history = history; staging = s }) session request served) s serves))
 
+-- of an event that was sent to the disk
+one_same : (event told : Event) → ◌≡◌ {A = List Event} (event ∷ []) (told ∷ []) → event ≡ told
+one_same event told same = cc
+
+none_same : (told : Event) → ◌≡◌ {A = List Event} [] (told ∷ []) → ⊥
+none_same told same = cc
+
+some_same : (event told : Event) → Some event ≡ Some told → event ≡ told
+some_same event told same = cc
+
+sent : (event told : Event) {tried : Option (List ℕ)} → tried ≡ Some (event_spelling event)
+    → event ≡ told → tried ≡ Some (event_spelling told)
+sent event told is same = is ∙ ap (λ e. Some (event_spelling e)) same
+
 module _ {D : Type 0} {disk : Ghosts D} (pair : ℕ) (old new : Replica D disk) (agent after : Agent)
     (machine : SideMachine) (session : ℕ) (request : Request) (is : IsOf pair old agent machine)
     (counts_now : (d : D) (t : ℕ) (c : List ℕ) → t ≤ disk.moment d → disk.may_leave d c
@@ -240,6 +254,8 @@ module _ {D : Type 0} {disk : Ghosts D} (pair : ℕ) (old new : Replica D disk) 
                 adding.has.left_is adding.has.generation bytes may)
                 refl (ap (λ n. n - event_size event) (is.room up)) (is.generation up);
           });
+          added = λ told same. sent event told adding.sends.tried (one_same event told same);
+          writing = λ told under_way. inl under_way;
         }
     added served event serves so staged adding (calls.goes_down stopped meets) =
         let after_it = writing_it event Down unarmed 0 in
@@ -260,6 +276,9 @@ module _ {D : Type 0} {disk : Ghosts D} (pair : ℕ) (old new : Replica D disk) 
                 adding.has.left_is adding.has.generation bytes may)
                 refl (is.room up) (is.generation up) refl;
           });
+          added = λ told same. absurd (none_same told same);
+          writing = λ told under_way. inr (sent event told adding.sends.tried
+              (some_same event told under_way));
         }
 
     -- before the event or with it, of a machine that was writing it
@@ -307,6 +326,9 @@ module _ {D : Type 0} {disk : Ghosts D} (pair : ℕ) (old new : Replica D disk) 
                 bytes (counts_now (disk_of new) (disk.moment (disk_of old)) bytes
                 off.sends.any_moment.later may));
           });
+          added = λ told same. absurd (none_same told same);
+          writing = λ told under_way. inr (sent event told off.sends.tried
+              (some_same event told under_way));
         }
     broke served event stands serves so staged off (calls.goes_down stopped meets) =
         let after_it = writing_it event Down unarmed 1 in
@@ -324,6 +346,9 @@ module _ {D : Type 0} {disk : Ghosts D} (pair : ℕ) (old new : Replica D disk) 
                 bytes (counts_now (disk_of new) (disk.moment (disk_of old)) bytes
                 off.sends.any_moment.later may));
           });
+          added = λ told same. absurd (none_same told same);
+          writing = λ told under_way. inr (sent event told off.sends.tried
+              (some_same event told under_way));
         }
 
     takes_up : (reply : Reply) → Stands old value
@@ -340,6 +365,8 @@ module _ {D : Type 0} {disk : Ghosts D} (pair : ℕ) (old new : Replica D disk) 
           (ap (λ s. s.history) so));
       leaves = goes_on (stays_of served.side.staging (ap (λ s. s.staging) so) same
           (subst (λ s. StandsAs s new value) (sym up) still));
+      added = λ told same. absurd (none_same told same);
+      writing = λ told under_way. inl under_way;
     }
     takes_up _ stands (adds served event serves so staged adding) =
         added served event serves so staged adding
@@ -372,6 +399,8 @@ module _ {D : Type 0} {disk : Ghosts D} (pair : ℕ) (old new : Replica D disk) 
             standing = same.memory.standing ∙ remembers.standing;
           },
         )));
+    added = λ told same'. absurd (none_same told same');
+    writing = λ told under_way. inl under_way;
   }
 
   pub takes_so : (reply : Reply)

@@ -10,12 +10,13 @@ use Rattle.syn_headline.specs.Side.{Request, Reply}
 use Rattle.syn_headline.specs.SideMachine.{SideMachine, SideTakes}
 use Rattle.syn_model.specs.Event.{Event}
 use Rattle.syn_model.specs.History.{History, standing_of}
+use Rattle.syn_model.specs.Spelling.{event_spelling}
 use Rattle.syn_recovery.specs.Calls.{armed_at}
 use Rattle.syn_recovery.specs.Machines.{of_side}
 use Rattle.syn_recovery.specs.Meaning.{MayBeOf}
 use Rattle.syn_replica.specs.Disks.{DiskCompacted, DiskKeeps, event_size}
 use Rattle.syn_replica.specs.Replica.{IsHalted, Remembers, Stands, disk_of, generation_shown}
-use Rattle.syn_replica.specs.Replica.{left_shown, pair_of}
+use Rattle.syn_replica.specs.Replica.{left_shown, pair_of, tried_shown}
 use Rattle.syn_replica.specs.declared.replica.Replica.{Replica}
 
 -- a machine that is up has a replica that stands for its history; of a halted one it remembers it
@@ -75,13 +76,20 @@ abbrev pub heard : Status → Reply → Option Reply
 heard Down reply = None
 heard _ reply = Some reply
 
--- a step of the world's side, with the machine after it, what it says and the events that it adds
+-- A step of the world's side, with the machine after it, what it says and the events that it adds.
+-- An event that it adds, or was writing as its device failed or stopped, is what was sent to the
+-- disk last
 pub record Takes {D : Type 0} {disk : Ghosts D} (pair : ℕ) (new : Replica D disk) (after : Agent)
     (machine : SideMachine) (session : ℕ) (request : Request) (reply : Reply) : Type 0 where
   pub next : SideMachine
   pub events : List Event
   pub takes : SideTakes pair machine session request next (heard next.journal.status reply) events
   pub leaves : IsLeftAs pair new after next
+  pub added : (event : Event) → events ≡ event ∷ [] →
+      tried_shown new ≡ Some (event_spelling event)
+  pub writing : (event : Event) → next.journal.writing ≡ Some event →
+      (machine.journal.writing ≡ Some event)
+      ⊎ (tried_shown new ≡ Some (event_spelling event))
 
 -- What a call of a replica leaves on its disk may be the machine's that was making it. It is as it
 -- was kept, or with the event that was being written

@@ -46,6 +46,7 @@ mod checkpoint;
 mod device;
 mod growth;
 mod listing;
+mod parts;
 mod reopen;
 mod session;
 
