@@ -1,0 +1,4 @@
+mod CauseLemmas
+mod SideLemmas
+mod EditLemmas
+mod CheckpointLemmas

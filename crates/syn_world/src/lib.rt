@@ -1,0 +1,14 @@
+//! A world of three machines, two sides and a coordinator, and what each kind of step does to it.
+//!
+//! A machine runs over a disk that can be told to fail or to stop. While it is down it is its disk
+//! alone.
+#![tactic(auto)]
+
+mod disk;
+mod lawful;
+mod outcome;
+mod side;
+
+pub use disk::SimulatedDisk;
+pub use outcome::Outcome;
+pub use side::{DownSide, SideAnswer, SideCall, SideHost, UpSide};

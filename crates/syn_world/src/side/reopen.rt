@@ -1,0 +1,87 @@
+//! A side opens its own disk again.
+ghost use Rattle.std.specs.Prelude.{◌≡◌, ℕ, IfOk, option_map};
+ghost use Rattle.syn_headline.specs.SideMachine.{SideMachine};
+ghost use Rattle.syn_replica.specs.Replica.{tried_shown};
+
+use super::open::gained;
+use super::{DownSide, SideCall, SideHost, UpSide};
+use crate::disk::SimulatedDisk;
+use crate::outcome::Outcome;
+use std::alloc::{AllocError, Global};
+use syn_agent::machine_laws;
+use syn_recovery::{device_laws, opening_laws};
+use syn_refusal::Refusal;
+
+impl<D: SimulatedDisk> UpSide<D> {
+    ghost use Rattle.syn_world.specs.Sides.{ReopensSo, RunsAs, SettlesOpened};
+
+    /// The replica opens its own disk again, and runs again where it was halted. It may find there
+    /// the event that was being written as its device failed, and that is acknowledged then.
+    ///
+    /// Refused 9 where a device call fails, and 11 where memory is refused.
+    pub fn reopen(self, alloc: Global) -> SideCall<D>
+        ensures { (pair : ℕ) (machine : SideMachine) → RunsAs pair self machine
+            → ReopensSo pair machine result }
+    {
+        match self.copied(alloc) {
+            Ok(tried) => self.reopen_with(alloc, tried),
+            Err(_) => self.refused(Refusal::Memory),
+        }
+    }
+
+    /// A copy of what was sent to the disk last, which a reopening forgets.
+    fn copied(&self, alloc: Global) -> Result<Option<Vec<u8>>, AllocError>
+        ensures { IfOk result (λ copy. option_map (λ spelled. spelled.items) copy
+            ≡ tried_shown self.now.replica) }
+    {
+        match self.replica.tried() {
+            Some(spelled) => Ok(Some(spelled.to_vec(alloc)?)),
+            None => Ok(None),
+        }
+    }
+
+    /// The same, with that copy.
+    fn reopen_with(self, alloc: Global, tried: Option<Vec<u8>>) -> SideCall<D>
+        requires { option_map (λ spelled. spelled.items) tried ≡ tried_shown self.replica }
+        ensures { (pair : ℕ) (machine : SideMachine) → RunsAs pair self machine
+            → ReopensSo pair machine result }
+    {
+        device_laws();
+        opening_laws();
+        let mut side = self;
+        let position = side.replica.position();
+        match side.replica.reopen(alloc) {
+            Ok(()) => {
+                machine_laws(&side.replica, &side.agent);
+                side.settle_opened(position, tried)
+            }
+            Err(error) => {
+                machine_laws(&side.replica, &side.agent);
+                side.settle(position, Outcome::Refused(error.refusal()))
+            }
+        }
+    }
+
+    /// The side behind a reopening, before which so many events had been acknowledged and this had
+    /// been sent to the disk last.
+    fn settle_opened(self, position: u64, tried: Option<Vec<u8>>) -> SideCall<D>
+        ensures { SettlesOpened self position (option_map (λ spelled. spelled.items) tried) result }
+    {
+        if self.replica.is_cut() {
+            let (disk, _) = self.replica.into_parts();
+            return SideCall {
+                side: SideHost::Down(DownSide {
+                    disk: disk.after_stop(),
+                    position,
+                    tried,
+                }),
+                outcome: Outcome::Nothing,
+            };
+        }
+        let outcome = gained(position, self.replica.position(), tried);
+        SideCall {
+            side: SideHost::Up(self),
+            outcome,
+        }
+    }
+}
