@@ -7,7 +7,7 @@ use Rattle.std.proofs.lemmas.Bool.Decides.{leb_tells}
 use Rattle.std.specs.Prelude.{◌||◌, ◌==◌, nat_le, nat_lt, length}
 use Rattle.syn_disk.specs.Arms.{Arms}
 use Rattle.syn_headline.specs.SideMachine.{SideMachine, causes_of}
-use Rattle.syn_headline.specs.Machine.{Up}
+use Rattle.syn_headline.specs.Machine.{Up, Halted}
 use Rattle.syn_headline.specs.World.{is_halted}
 use Rattle.syn_journal.specs.declared.error.JournalError.TheVariants as journal
 use Rattle.syn_model.specs.Event.{Edit, Put, MakeDir, Remove, Edited}
@@ -222,6 +222,13 @@ module _ (machine : SideMachine) (causes : List Cause) (up : machine.journal.sta
   causes_some reason some =
       ap (λ s. first_cause ((is_halted s, why.Halted) ∷ causes ++ (true, why.Memory) ∷ [])) up
       ∙ some
+
+-- a halted machine refuses everything
+pub causes_halted : (machine : SideMachine) (causes more : List Cause)
+    → machine.journal.status ≡ Halted
+    → first_cause (causes_at machine causes ++ more) ≡ Some why.Halted
+causes_halted machine causes more is =
+    ap (λ s. first_cause ((is_halted s, why.Halted) ∷ causes ++ more)) is
 
 -- the reason is the first cause, or want of memory where there is none
 pub reason_is : (causes : List Cause) (reason : Refusal)

@@ -26,6 +26,8 @@ use Rattle.syn_model.specs.Refusal as why
 use Rattle.syn_recovery.specs.Calls.{armed_at, goes_on, goes_down, MadeCallsMeet, BrokenCallsMeet}
 use Rattle.syn_recovery.specs.Machines.{of_side}
 use Rattle.syn_recovery.specs.Meaning.{MayBeOf}
+use Rattle.syn_refusal.specs.Refusals.{cause_of}
+use Rattle.syn_refusal.specs.declared.refusal.Refusal.{Refusal as Code}
 use Rattle.syn_replica.specs.Disks.{DiskCompacted, DiskKeeps}
 use Rattle.syn_replica.specs.Replica.{IsHalted, KeepsOrCompacts, KeepsReadings, SameMemory, Stands}
 use Rattle.syn_replica.specs.Replica.{disk_of, generation_shown, journal_of, left_shown, pair_of}
@@ -34,7 +36,7 @@ use Rattle.syn_replica.specs.declared.replica.Replica.{Replica}
 use Rattle.syn_world.specs.Outcomes.{Acknowledges, refused_in}
 use Rattle.syn_world.specs.SideSteps.{Checkpoints, Journal, causes_at, checkpoints, refused_by}
 use Rattle.syn_world.specs.SideSteps.{refuses}
-use Rattle.syn_world.specs.Sides.{CheckpointsSo, RunsAs, Settles, Stops}
+use Rattle.syn_world.specs.Sides.{CheckpointsSo, IsHost, IsRefused, RunsAs, Settles, Stops}
 use Rattle.syn_world.specs.declared.outcome.Outcome.{Outcome}
 use Rattle.syn_world.specs.declared.outcome.Outcome.TheVariants.{Nothing}
 use Rattle.syn_world.specs.declared.side.SideCall.{SideCall}
@@ -267,3 +269,18 @@ compact_refused pair old new agent machine runs up stands readings same_tried ar
       is = behind.1 pair machine
           (stays pair old new agent machine runs up stands readings same_tried arms is_up);
     }
+
+-- it is refused before the replica is asked
+pub checkpoint_halted : {D : Type 0} {disk : Ghosts D} (pair : ℕ) (side : UpSide D disk)
+    (machine : SideMachine) → RunsAs pair side machine → (refusal : Code)
+    (call : SideCall D disk) → IsRefused side refusal call
+    → first_cause (causes_at machine (full_generation machine.journal.generation)
+    ++ (true, why.Memory) ∷ []) ≡ Some (cause_of refusal) → CheckpointsSo pair machine call
+checkpoint_halted pair side machine runs refusal call refused some = record {
+  next = machine;
+  checkpoints = subst (λ o. Checkpoints pair machine machine (refused_in o))
+      (sym refused.outcome_is)
+      (refuses (cause_of refusal) (not_down pair side machine runs) some);
+  acknowledges = subst (λ o. Acknowledges o []) (sym refused.outcome_is) refl;
+  is = subst (λ s. IsHost pair s machine) (sym refused.side_is) runs;
+}

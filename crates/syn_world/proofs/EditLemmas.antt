@@ -28,6 +28,7 @@ use Rattle.syn_recovery.specs.Calls.{BrokenCallsMeet}
 use Rattle.syn_recovery.specs.Machines.{of_side}
 use Rattle.syn_recovery.specs.Meaning.{MayBeOf}
 use Rattle.syn_refusal.specs.Refusals.{cause_of}
+use Rattle.syn_refusal.specs.declared.refusal.Refusal.{Refusal as Code}
 use Rattle.syn_replica.specs.Disks.{DiskKeeps, event_size}
 use Rattle.syn_replica.specs.Refusals.{IsOneOf, MakesIfDevice, outside_refusals, refusal_of}
 use Rattle.syn_replica.specs.Replica.{HasRecord, IsHalted, KeepsBeforeOrAfter, KeepsReadings}
@@ -40,7 +41,8 @@ use Rattle.syn_replica.specs.declared.error.ReplicaError.TheVariants.{Journal as
 use Rattle.syn_replica.specs.declared.replica.Replica.{Replica}
 use Rattle.syn_world.specs.Outcomes.{Acknowledges, refused_in}
 use Rattle.syn_world.specs.SideSteps.{Edits, Journal, causes_at, edits, refused_by, refuses}
-use Rattle.syn_world.specs.Sides.{EditsSo, IsHost, RunsAs, Settles, SettlesAdded, Stops}
+use Rattle.syn_world.specs.Sides.{EditsSo, IsHost, IsRefused, RunsAs, Settles, SettlesAdded}
+use Rattle.syn_world.specs.Sides.{Stops}
 use Rattle.syn_world.specs.declared.outcome.Outcome.{Outcome}
 use Rattle.syn_world.specs.declared.outcome.Outcome.TheVariants.{Nothing, Acknowledged, Refused}
 use Rattle.syn_world.specs.declared.side.SideCall.{SideCall}
@@ -276,3 +278,18 @@ module _ {D : Type 0} {disk : Ghosts D} (pair : ℕ) (old new : Replica D disk) 
         acknowledges = subst (λ o. Acknowledges o []) (sym behind.0) is_not;
         is = behind.1 pair machine stays;
       }
+
+-- it is refused before the replica is asked
+pub edit_halted : {D : Type 0} {disk : Ghosts D} (pair : ℕ) (side : UpSide D disk)
+    (machine : SideMachine) → RunsAs pair side machine → (event : Event) (refusal : Code)
+    (call : SideCall D disk) → IsRefused side refusal call
+    → first_cause (causes_at machine (causes_of pair machine event) ++ (true, why.Memory) ∷ [])
+    ≡ Some (cause_of refusal) → EditsSo pair machine event call
+edit_halted pair side machine runs event refusal call refused some = record {
+  next = machine;
+  events = [];
+  edits = subst (λ o. Edits pair machine event machine [] (refused_in o)) (sym refused.outcome_is)
+      (refuses (cause_of refusal) (not_down pair side machine runs) some);
+  acknowledges = subst (λ o. Acknowledges o []) (sym refused.outcome_is) refl;
+  is = subst (λ s. IsHost pair s machine) (sym refused.side_is) runs;
+}

@@ -2,3 +2,6 @@ mod CauseLemmas
 mod SideLemmas
 mod EditLemmas
 mod CheckpointLemmas
+mod ArmLemmas
+mod AnswerLemmas
+mod OpenLemmas
