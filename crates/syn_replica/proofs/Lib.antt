@@ -9,3 +9,4 @@ pub mod FormattedLemmas
 pub mod SessionLemmas
 pub mod GrowthLemmas
 pub mod ReopenLemmas
+mod LawfulLemmas

@@ -3,6 +3,7 @@ pub mod Edits
 pub mod Steps
 pub mod Replica
 pub mod Growth
+pub mod Lawful
 pub mod Growing
 pub mod Refusals
 pub mod inner
