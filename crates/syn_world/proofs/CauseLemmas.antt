@@ -6,6 +6,7 @@ use Rattle.std.proofs.lemmas.Bool.{eqb-true, false≢true}
 use Rattle.std.proofs.lemmas.Bool.Decides.{leb_tells}
 use Rattle.std.specs.Prelude.{◌||◌, ◌==◌, nat_le, nat_lt, length}
 use Rattle.syn_disk.specs.Arms.{Arms}
+use Rattle.syn_disk.specs.Calls.{MakesAtLeast}
 use Rattle.syn_headline.specs.SideMachine.{SideMachine, causes_of}
 use Rattle.syn_headline.specs.Machine.{Up, Halted}
 use Rattle.syn_headline.specs.World.{is_halted}
@@ -15,8 +16,8 @@ use Rattle.syn_model.specs.History.{History, event_causes}
 use Rattle.syn_model.specs.Refusal.{Refusal, Cause, first_cause, number}
 use Rattle.syn_model.specs.Refusal as why
 use Rattle.syn_model.specs.Spelling.{event_spelling}
-use Rattle.syn_replica.specs.Refusals.{IsOneOf, MakesIfDevice, checkpoint_refusals, outside_refusals}
-use Rattle.syn_replica.specs.Refusals.{refusal_of}
+use Rattle.syn_replica.specs.Refusals.{AfterReads, IsOneOf, MakesIfDevice, checkpoint_refusals}
+use Rattle.syn_replica.specs.Refusals.{outside_refusals, refusal_of}
 use Rattle.syn_replica.specs.Steps.{add_refusal, room_causes}
 use Rattle.syn_replica.specs.declared.error.ReplicaError.{ReplicaError}
 use Rattle.syn_replica.specs.declared.error.ReplicaError.TheVariants.{Tree, History as OfHistory}
@@ -110,6 +111,12 @@ pub no_calls : (e : ReplicaError) (most : ℕ) (old new : Arms) → refusal_of e
     → MakesIfDevice e most old new → new ≡ old
 no_calls (Journal journal.Device) most old new other calls = absurd (other refl)
 no_calls e most old new other calls = calls
+
+-- and so of an opening
+pub reads_made : (e : ReplicaError) (least : ℕ) (old new : Arms) → refusal_of e ≢ why.Device
+    → AfterReads least e old new → MakesAtLeast least old new
+reads_made (Journal journal.Device) least old new other calls = absurd (other refl)
+reads_made e least old new other calls = calls
 
 -- none of the causes is that of the refusal
 abbrev pub Never : Refusal → List Cause → Type 0

@@ -5,3 +5,4 @@ mod CheckpointLemmas
 mod ArmLemmas
 mod AnswerLemmas
 mod OpenLemmas
+mod ReopenLemmas

@@ -103,3 +103,16 @@ stopped machine = with_device machine Down unarmed 0
 -- with these arms
 abbrev pub with_arms : SideMachine → Arms → SideMachine
 with_arms machine arms = with_device machine machine.journal.status arms 0
+
+-- the device call with this number from now on is to fail
+pub data Fails (machine : SideMachine) (call : ℕ) : SideMachine → Type 0 where
+  is_down : machine.journal.status ≡ Down → Fails machine call machine
+  fails : machine.journal.status ≢ Down →
+      Fails machine call (with_arms machine (record machine.journal.arms { fail = call }))
+
+-- it stops at once, or behind so many device calls
+pub data StopsSide (machine : SideMachine) : ℕ → SideMachine → Type 0 where
+  is_down : (calls : ℕ) → machine.journal.status ≡ Down → StopsSide machine calls machine
+  at_once : machine.journal.status ≢ Down → StopsSide machine 0 (stopped machine)
+  behind : (calls : ℕ) → machine.journal.status ≢ Down → calls ≢ 0 →
+      StopsSide machine calls (with_arms machine (record machine.journal.arms { stop = calls }))

@@ -19,7 +19,8 @@ use Rattle.syn_refusal.specs.declared.refusal.Refusal.{Refusal}
 use Rattle.syn_replica.specs.Replica.{disk_of, position_shown, tried_shown}
 use Rattle.syn_replica.specs.declared.replica.Replica.{Replica}
 use Rattle.syn_world.specs.Outcomes.{Acknowledges, refused_in}
-use Rattle.syn_world.specs.SideSteps.{Answers, Checkpoints, Edits, OpensSide, ReopensSide}
+use Rattle.syn_world.specs.SideSteps.{Answers, Checkpoints, Edits, Fails, OpensSide, ReopensSide}
+use Rattle.syn_world.specs.SideSteps.{StopsSide}
 use Rattle.syn_world.specs.declared.outcome.Outcome.{Outcome}
 use Rattle.syn_world.specs.declared.outcome.Outcome.TheVariants.{Nothing, Refused}
 use Rattle.syn_world.specs.declared.side.DownSide.{DownSide}
@@ -166,3 +167,16 @@ pub record AnswersSo {D : Type 0} {disk : Ghosts D} (pair : ℕ) (machine : Side
   pub refuses : refused_in answer.call.outcome ≡ []
   pub acknowledges : Acknowledges answer.call.outcome events
   pub is : IsHost pair answer.call.side next
+
+-- what is armed at it is a step of the machine
+pub record FailsSo {D : Type 0} {disk : Ghosts D} (pair : ℕ) (machine : SideMachine) (call : ℕ)
+    (side : SideHost D disk) : Type 0 where
+  pub next : SideMachine
+  pub fails : Fails machine call next
+  pub is : IsHost pair side next
+
+pub record StopsSo {D : Type 0} {disk : Ghosts D} (pair : ℕ) (machine : SideMachine) (calls : ℕ)
+    (side : SideHost D disk) : Type 0 where
+  pub next : SideMachine
+  pub stops : StopsSide machine calls next
+  pub is : IsHost pair side next

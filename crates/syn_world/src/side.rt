@@ -10,6 +10,7 @@ mod answer;
 mod arm;
 mod checkpoint;
 mod edit;
+mod host;
 mod open;
 mod reopen;
 mod stop;

@@ -9,7 +9,7 @@ use crate::outcome::Outcome;
 use std::alloc::Global;
 use syn_agent::{Agent, machine_laws};
 use syn_recovery::{device_laws, opening_laws};
-use syn_replica::Replica;
+use syn_replica::{Replica, disk_laws};
 
 impl<D: SimulatedDisk> DownSide<D> {
     ghost use Rattle.syn_world.specs.Sides.{OpensSo, RestsAs};
@@ -24,6 +24,7 @@ impl<D: SimulatedDisk> DownSide<D> {
     {
         device_laws();
         opening_laws();
+        disk_laws();
         let DownSide {
             disk,
             position,
