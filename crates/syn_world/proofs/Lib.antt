@@ -6,3 +6,4 @@ mod ArmLemmas
 mod AnswerLemmas
 mod OpenLemmas
 mod ReopenLemmas
+mod HostLemmas
