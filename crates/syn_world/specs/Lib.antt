@@ -1,3 +1,5 @@
 pub mod Outcomes
 pub mod SideSteps
 pub mod Sides
+pub mod Coordinators
+pub mod Worlds

@@ -73,6 +73,12 @@ IsHost {D} {disk} pair (host.Up side) machine = RunsAs pair side machine
 IsHost {D} {disk} pair (host.Down side) machine = 
     RestsAs disk.arms disk.may_leave pair side machine
 
+-- the replica of a side that is up
+abbrev pub replica_of : {D : Type 0} → {disk : Ghosts D} → SideHost D disk →
+    Option (Replica D disk)
+replica_of (host.Up side) = Some side.replica
+replica_of (host.Down side) = None
+
 abbrev pub HasStopped : {D : Type 0} → {disk : Ghosts D} → UpSide D disk → Bool
 HasStopped {D} {disk} side = is_stopped (disk.arms (disk_of side.replica))
 

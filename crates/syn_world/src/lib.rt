@@ -4,11 +4,17 @@
 //! alone.
 #![tactic(auto)]
 
+mod coordinator;
 mod disk;
 mod lawful;
+mod lists;
 mod outcome;
 mod side;
+mod world;
 
+pub use coordinator::CoordinatorHost;
 pub use disk::SimulatedDisk;
+pub use lists::{Ack, Lists, Message};
 pub use outcome::Outcome;
 pub use side::{DownSide, SideAnswer, SideCall, SideHost, UpSide};
+pub use world::{Disks, World};

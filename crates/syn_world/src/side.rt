@@ -13,6 +13,7 @@ mod edit;
 mod host;
 mod open;
 mod reopen;
+mod start;
 mod stop;
 
 /// A side whose machine is up: its replica, and the agent of its connection.

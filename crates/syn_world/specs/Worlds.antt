@@ -1,0 +1,113 @@
+-- Which of the model's worlds a world is.
+use Rattle.std.specs.Prelude.{◌≡◌, ◌++◌, ℕ, List, map, MatchResult, Result}
+use Rattle.syn_disk.specs.declared.disk.Disk.{Ghosts}
+use Rattle.syn_headline.specs.Acknowledged as model
+use Rattle.syn_headline.specs.Acknowledged.{Happened, Kept_by}
+use Rattle.syn_headline.specs.Network.{Which, Answers, Message as Sent}
+use Rattle.syn_headline.specs.World.{World as ModelWorld, Step, Steps}
+use Rattle.syn_message.specs.Replies.{reply_of}
+use Rattle.syn_message.specs.Sides.{which_of}
+use Rattle.syn_message.specs.declared.side.Side.{Side}
+use Rattle.syn_model.specs.Archive.{Kept}
+use Rattle.syn_model.specs.Event.{Event}
+use Rattle.syn_model.specs.Path.{Bytes}
+use Rattle.syn_model.specs.Spelling.{event_spelling}
+use Rattle.syn_recovery.specs.Machines.{of_archive, of_side}
+use Rattle.syn_recovery.specs.Meaning.{MayBeOf}
+use Rattle.syn_refusal.specs.Refusals.{cause_of}
+use Rattle.syn_session.specs.Reports.{report_model}
+use Rattle.syn_session.specs.Sendings as sendings
+use Rattle.syn_wire.specs.Marks.{kept_of}
+use Rattle.syn_world.specs.Coordinators.{IsCoordinator}
+use Rattle.syn_world.specs.Outcomes.{Acknowledges, refused_in}
+use Rattle.syn_world.specs.Sides.{IsHost}
+use Rattle.syn_world.specs.declared.lists.Ack.{Ack}
+use Rattle.syn_world.specs.declared.lists.Ack.TheVariants as acks
+use Rattle.syn_world.specs.declared.lists.Lists.{Lists}
+use Rattle.syn_world.specs.declared.lists.Message.{Message}
+use Rattle.syn_world.specs.declared.lists.Message.TheVariants as messages
+use Rattle.syn_world.specs.declared.outcome.Outcome.{Outcome}
+use Rattle.syn_world.specs.declared.world.Disks.{Disks}
+use Rattle.syn_world.specs.declared.world.World.{World}
+
+-- what was acknowledged, an event as it is spelled
+pub data Told : Type 0 where
+  TellsEvent : Which → Bytes → Told
+  TellsKept : Kept → Told
+
+abbrev pub told_by : model.Ack → Told
+told_by (Happened side event) = TellsEvent side (event_spelling event)
+told_by (Kept_by kept) = TellsKept kept
+
+abbrev pub told_in : Ack → Told
+told_in (acks.Event side spelled) = TellsEvent (which_of side) spelled.items
+told_in (acks.Kept kept) = TellsKept (kept_of kept)
+
+abbrev pub message_of : Message → Sent
+message_of (messages.Asks sending) = sendings.message_of sending
+message_of (messages.Answers from answered) =
+    Answers (which_of from) answered.session answered.number (reply_of answered.reply)
+
+-- the lists are those of the model
+pub record IsListed (lists : Lists) (world : ModelWorld) : Type 0 where
+  pub sent : map message_of lists.sent.items ≡ world.sent
+  pub acknowledged : map told_in lists.acknowledged.items ≡ map told_by world.acknowledged
+  pub refusals : map cause_of lists.refusals.items ≡ world.refusals
+  pub reports : map (λ one. (report_model one.0, one.1)) lists.reports.items ≡ world.reports
+
+-- and so are the machines
+pub record RunsMachines {D : Type 0} {disk : Ghosts D} (world : World D disk)
+    (model : ModelWorld) : Type 0 where
+  pub pair : world.pair ≡ model.pair
+  pub left : IsHost model.pair world.left model.left
+  pub right : IsHost model.pair world.right model.right
+  pub coordinator : IsCoordinator model.pair world.coordinator model.coordinator
+
+-- the world is this one of the model
+pub record IsWorld {D : Type 0} {disk : Ghosts D} (world : World D disk)
+    (model : ModelWorld) : Type 0 where
+  pub machines : RunsMachines world model
+  pub lists : IsListed world.lists model
+
+-- whatever a stop may now leave on each of the disks may be its machine's
+pub record AreLeft {D : Type 0} (may_leave : D → Bytes → Type 0) (disks : Disks D)
+    (model : ModelWorld) : Type 0 where
+  pub left : (bytes : Bytes) → may_leave disks.left bytes →
+      MayBeOf (of_side model.pair) model.left.journal bytes
+  pub right : (bytes : Bytes) → may_leave disks.right bytes →
+      MayBeOf (of_side model.pair) model.right.journal bytes
+  pub archive : (bytes : Bytes) → may_leave disks.archive bytes →
+      MayBeOf (of_archive model.pair) model.coordinator.journal bytes
+
+-- A step ends so: the world is the model's; or a list of the world could not grow, and its disks
+-- come back as the step left them
+abbrev pub EndsSo : {D : Type 0} → {disk : Ghosts D} → Result (World D disk) (Disks D) →
+    ModelWorld → Type 0
+EndsSo {D} {disk} result model =
+    MatchResult result (λ world. IsWorld world model) (λ disks. AreLeft disk.may_leave disks model)
+
+-- a step of the world is one of the model
+pub record GoesSo {D : Type 0} {disk : Ghosts D} (old : ModelWorld) (step : Step)
+    (result : Result (World D disk) (Disks D)) : Type 0 where
+  pub new : ModelWorld
+  pub steps : Steps old step new
+  pub ends : EndsSo result new
+
+-- what came of a side's step is in the lists
+pub record Notes (old new : Lists) (side : Side) (outcome : Outcome) : Type 0 where
+  pub sent : new.sent ≡ old.sent
+  pub reports : new.reports ≡ old.reports
+  pub acknowledged : (events : List Event) → Acknowledges outcome events →
+      map told_in new.acknowledged.items ≡ map told_in old.acknowledged.items
+      ++ map (λ event. told_by (Happened (which_of side) event)) events
+  pub refusals : map cause_of new.refusals.items
+      ≡ map cause_of old.refusals.items ++ refused_in outcome
+
+-- the lists of a world behind a side's step that sent nothing
+pub record Grows (old new : ModelWorld) (side : Which) (events : List Event)
+    (outcome : Outcome) : Type 0 where
+  pub sent : new.sent ≡ old.sent
+  pub reports : new.reports ≡ old.reports
+  pub acknowledged : new.acknowledged
+      ≡ old.acknowledged ++ map (λ event. Happened side event) events
+  pub refusals : new.refusals ≡ old.refusals ++ refused_in outcome

@@ -1,0 +1,65 @@
+//! A world of two sides and a coordinator, and its steps.
+ghost use Rattle.std.specs.Prelude.{◌≡◌, ℕ, List};
+ghost use Rattle.syn_headline.specs.World.{World as ModelWorld};
+ghost use Rattle.syn_message.specs.Sides.{which_of};
+ghost use Rattle.syn_model.specs.Event.{Event};
+
+use crate::coordinator::CoordinatorHost;
+use crate::disk::SimulatedDisk;
+use crate::lists::Lists;
+use crate::outcome::Outcome;
+use crate::side::SideHost;
+use syn_disk::Disk;
+use syn_message::Side;
+
+mod sides;
+
+/// What three disks hold.
+#[derive(Drop)]
+pub struct Disks<D> {
+    pub left: D,
+    pub right: D,
+    pub archive: D,
+}
+
+/// A world of two sides and a coordinator. Each step takes it and gives it back, or its disks where
+/// a list of the world could not grow for want of memory.
+#[derive(Drop)]
+pub struct World<D: Disk> {
+    pub pair: u64,
+    pub left: SideHost<D>,
+    pub right: SideHost<D>,
+    pub coordinator: CoordinatorHost<D>,
+    pub lists: Lists,
+}
+
+impl<D: SimulatedDisk> World<D> {
+    ghost use Rattle.syn_world.specs.Outcomes.{Acknowledges};
+    ghost use Rattle.syn_world.specs.Worlds.{AreLeft, EndsSo, Grows, IsListed, RunsMachines};
+
+    /// The disks, as the last step left them.
+    pub fn into_disks(self) -> Disks<D>
+        ensures { (model : ModelWorld) → RunsMachines self model
+            → AreLeft D.Limit.may_leave result model }
+    {
+        Disks {
+            left: self.left.into_disk(),
+            right: self.right.into_disk(),
+            archive: self.coordinator.into_disk(),
+        }
+    }
+
+    /// The world behind a side's step, with what came of it.
+    fn noted(self, side: Side, outcome: Outcome) -> Result<World<D>, Disks<D>>
+        ensures { (old new : ModelWorld) (events : List Event) → RunsMachines self new
+            → IsListed self.lists old → Acknowledges outcome events
+            → Grows old new (which_of side) events outcome → EndsSo result new }
+    {
+        let mut world = self;
+        if world.lists.note(side, outcome) {
+            Ok(world)
+        } else {
+            Err(world.into_disks())
+        }
+    }
+}
