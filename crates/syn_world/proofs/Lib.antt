@@ -7,3 +7,5 @@ mod AnswerLemmas
 mod OpenLemmas
 mod ReopenLemmas
 mod HostLemmas
+mod StepLemmas
+mod WorldLemmas

@@ -111,3 +111,10 @@ pub record Grows (old new : ModelWorld) (side : Which) (events : List Event)
   pub acknowledged : new.acknowledged
       ≡ old.acknowledged ++ map (λ event. Happened side event) events
   pub refusals : new.refusals ≡ old.refusals ++ refused_in outcome
+
+-- one that takes no memory
+pub record StaysSo {D : Type 0} {disk : Ghosts D} (old : ModelWorld) (step : Step)
+    (world : World D disk) : Type 0 where
+  pub new : ModelWorld
+  pub steps : Steps old step new
+  pub is : IsWorld world new

@@ -11,7 +11,7 @@ use syn_message::Side;
 use syn_tree::Edit;
 
 impl<D: SimulatedDisk> World<D> {
-    ghost use Rattle.syn_world.specs.Worlds.{GoesSo, IsWorld};
+    ghost use Rattle.syn_world.specs.Worlds.{GoesSo, IsWorld, StaysSo};
 
     /// A user makes an edit at a side.
     pub fn edit(
@@ -29,12 +29,109 @@ impl<D: SimulatedDisk> World<D> {
             Side::Left => {
                 let call = world.left.edit(alloc, user, edit);
                 world.left = call.side;
-                world.noted(side, call.outcome)
+                world.noted(Side::Left, call.outcome)
             }
             Side::Right => {
                 let call = world.right.edit(alloc, user, edit);
                 world.right = call.side;
-                world.noted(side, call.outcome)
+                world.noted(Side::Right, call.outcome)
+            }
+        }
+    }
+
+    /// A side makes a checkpoint.
+    pub fn checkpoint_side(self, alloc: Global, side: Side) -> Result<World<D>, Disks<D>>
+        ensures { (model : ModelWorld) → IsWorld self model
+            → GoesSo model (Checkpoint (At (which_of side))) result }
+    {
+        let mut world = self;
+        match side {
+            Side::Left => {
+                let call = world.left.checkpoint(alloc);
+                world.left = call.side;
+                world.noted(Side::Left, call.outcome)
+            }
+            Side::Right => {
+                let call = world.right.checkpoint(alloc);
+                world.right = call.side;
+                world.noted(Side::Right, call.outcome)
+            }
+        }
+    }
+
+    /// A side's machine is started again, unless it is up.
+    pub fn open_side(self, alloc: Global, side: Side) -> Result<World<D>, Disks<D>>
+        ensures { (model : ModelWorld) → IsWorld self model
+            → GoesSo model (Open (At (which_of side))) result }
+    {
+        let mut world = self;
+        match side {
+            Side::Left => {
+                let call = world.left.open(alloc, world.pair);
+                world.left = call.side;
+                world.noted(Side::Left, call.outcome)
+            }
+            Side::Right => {
+                let call = world.right.open(alloc, world.pair);
+                world.right = call.side;
+                world.noted(Side::Right, call.outcome)
+            }
+        }
+    }
+
+    /// A side opens its own disk again, unless its machine is down.
+    pub fn reopen_side(self, alloc: Global, side: Side) -> Result<World<D>, Disks<D>>
+        ensures { (model : ModelWorld) → IsWorld self model
+            → GoesSo model (Reopen (At (which_of side))) result }
+    {
+        let mut world = self;
+        match side {
+            Side::Left => {
+                let call = world.left.reopen(alloc);
+                world.left = call.side;
+                world.noted(Side::Left, call.outcome)
+            }
+            Side::Right => {
+                let call = world.right.reopen(alloc);
+                world.right = call.side;
+                world.noted(Side::Right, call.outcome)
+            }
+        }
+    }
+
+    /// The device call of a side with this number from now on fails, and is not made; at 0 none does.
+    pub fn fail_side(self, side: Side, call: u64) -> World<D>
+        ensures { (model : ModelWorld) → IsWorld self model
+            → StaysSo model (Fail (At (which_of side)) call) result }
+    {
+        let mut world = self;
+        match side {
+            Side::Left => {
+                world.left = world.left.fail(call);
+                world
+            }
+            Side::Right => {
+                world.right = world.right.fail(call);
+                world
+            }
+        }
+    }
+
+    /// So many device calls of a side are still made, and its machine stops behind the last of them; at
+    /// 0 it stops at once.
+    pub fn stop_side(self, side: Side, calls: u64) -> World<D>
+        ensures { (model : ModelWorld) → IsWorld self model
+            → StaysSo model (Stop (At (which_of side)) calls) result }
+    {
+        let mut world = self;
+        match side {
+            Side::Left => {
+                world.left = world.left.stop(calls);
+                world
+            }
+            Side::Right => {
+                world.right = world.right.stop(calls);
+                world
             }
         }
     }

@@ -1,0 +1,91 @@
+-- What a side's step leaves of a world.
+use Rattle.std.proofs.Common.{◌≡◌, [], List, Result, refl}
+use Rattle.std.proofs.lemmas.List.{append-nil}
+use Rattle.syn_disk.specs.declared.disk.Disk.{Ghosts}
+use Rattle.syn_headline.specs.Network.{Left, Right, Which}
+use Rattle.syn_headline.specs.SideMachine.{SideMachine}
+use Rattle.syn_headline.specs.World.{World as ModelWorld, set_side}
+use Rattle.syn_model.specs.Event.{Event}
+use Rattle.syn_world.specs.Outcomes.{Acknowledges, refused_in}
+use Rattle.syn_world.specs.Sides.{IsHost}
+use Rattle.syn_world.specs.Worlds.{EndsSo, Grows, IsListed, IsWorld, RunsMachines}
+use Rattle.syn_world.specs.declared.side.SideCall.{SideCall}
+use Rattle.syn_world.specs.declared.side.SideHost.{SideHost}
+use Rattle.syn_world.specs.declared.world.Disks.{Disks}
+use Rattle.syn_world.specs.declared.world.World.{World}
+use Rattle.syn_world.proofs.StepLemmas.{side_next}
+
+module _ {D : Type 0} {disk : Ghosts D} (world : World D disk) (model : ModelWorld)
+    (is : IsWorld world model) (call : SideCall D disk) (next : SideMachine) (events : List Event)
+    (told : Acknowledges call.outcome events) (host : IsHost model.pair call.side next)
+    (result : Result (World D disk) (Disks D)) where
+  pub goes_left : ((old new : ModelWorld) (events : List Event)
+      → RunsMachines (record world { left = call.side }) new → IsListed world.lists old
+      → Acknowledges call.outcome events → Grows old new Left events call.outcome
+      → EndsSo result new)
+      → EndsSo result (side_next model Left next [] events (refused_in call.outcome))
+  goes_left noted = noted model (side_next model Left next [] events (refused_in call.outcome))
+      events (record {
+        pair = is.machines.pair;
+        left = host;
+        right = is.machines.right;
+        coordinator = is.machines.coordinator;
+      }) is.lists told (record {
+        sent = append-nil model.sent;
+        reports = refl;
+        acknowledged = refl;
+        refusals = refl;
+      })
+
+  pub goes_right : ((old new : ModelWorld) (events : List Event)
+      → RunsMachines (record world { right = call.side }) new → IsListed world.lists old
+      → Acknowledges call.outcome events → Grows old new Right events call.outcome
+      → EndsSo result new)
+      → EndsSo result (side_next model Right next [] events (refused_in call.outcome))
+  goes_right noted = noted model (side_next model Right next [] events (refused_in call.outcome))
+      events (record {
+        pair = is.machines.pair;
+        left = is.machines.left;
+        right = host;
+        coordinator = is.machines.coordinator;
+      }) is.lists told (record {
+        sent = append-nil model.sent;
+        reports = refl;
+        acknowledged = refl;
+        refusals = refl;
+      })
+
+module _ {D : Type 0} {disk : Ghosts D} (world : World D disk) (model : ModelWorld)
+    (is : IsWorld world model) (side : SideHost D disk) (next : SideMachine)
+    (host : IsHost model.pair side next) where
+  pub stays_left : IsWorld (record world { left = side }) (set_side model Left next)
+  stays_left = record {
+    machines = record {
+      pair = is.machines.pair;
+      left = host;
+      right = is.machines.right;
+      coordinator = is.machines.coordinator;
+    };
+    lists = record {
+      sent = is.lists.sent;
+      acknowledged = is.lists.acknowledged;
+      refusals = is.lists.refusals;
+      reports = is.lists.reports;
+    };
+  }
+
+  pub stays_right : IsWorld (record world { right = side }) (set_side model Right next)
+  stays_right = record {
+    machines = record {
+      pair = is.machines.pair;
+      left = is.machines.left;
+      right = host;
+      coordinator = is.machines.coordinator;
+    };
+    lists = record {
+      sent = is.lists.sent;
+      acknowledged = is.lists.acknowledged;
+      refusals = is.lists.refusals;
+      reports = is.lists.reports;
+    };
+  }
