@@ -2,19 +2,21 @@
 use Rattle.std.proofs.Common.{◌≡◌, ◌≢◌, ◌⊎◌, ◌∙◌, ◌++◌, ◌∷◌, [], ℕ, zero, suc, List, Some, None, true}
 use Rattle.std.proofs.Common.{if◌then◌else◌, ap, ap₂, inl, inr, refl, subst, sym, arith}
 use Rattle.std.proofs.lemmas.List.{append-nil}
-use Rattle.std.specs.Prelude.{map}
+use Rattle.std.specs.Prelude.{Option, map, slice_get}
 use Rattle.syn_headline.specs.Acknowledged.{Happened}
 use Rattle.syn_headline.specs.Machine.{Status, Up, Halted, Down, Arms, unarmed}
-use Rattle.syn_headline.specs.Network.{Which, Left, Right, Message}
+use Rattle.syn_headline.specs.Network.{Which, Left, Right, Message, Asks}
+use Rattle.syn_headline.specs.Side.{Reply, Request}
 use Rattle.syn_headline.specs.SideMachine.{SideMachine, with_journal}
-use Rattle.syn_headline.specs.World.{World, Steps, At, EditsSide, edits, CompactsMachine}
+use Rattle.syn_headline.specs.World.{World, Steps, At, Delivers, EditsSide, edits, CompactsMachine}
 use Rattle.syn_headline.specs.World.{compacts_side, OpensDown, Reopens, answered_by, is_halted}
 use Rattle.syn_headline.specs.World.{opens_side, fails_device, refuses_with, set_device, set_side}
 use Rattle.syn_headline.specs.World.{side_goes, side_of, side_writes, status_of}
 use Rattle.syn_headline.specs.World as world
 use Rattle.syn_model.specs.Event.{Edit, Edited, Event}
 use Rattle.syn_model.specs.Refusal.{Refusal, Device}
-use Rattle.syn_world.specs.SideSteps.{Checkpoints, Edits, Fails, Journal, OpensSide, ReopensSide}
+use Rattle.syn_world.specs.SideSteps.{Answers, Checkpoints, Edits, Fails, Journal, OpensSide}
+use Rattle.syn_world.specs.SideSteps.{ReopensSide}
 use Rattle.syn_world.specs.SideSteps.{StopsSide, refused_by, stopped, with_arms, with_device}
 use Rattle.syn_world.specs.SideSteps as step
 
@@ -194,3 +196,31 @@ lift_stop old side (suc n) _ (step.is_down calls down) = inl (down, eq_set old s
 lift_stop old side _ _ (step.at_once other) = inr (other, refl)
 lift_stop old side zero _ (step.behind calls other some) = absurd (some refl)
 lift_stop old side (suc n) _ (step.behind calls other some) = inr (other, refl)
+
+-- a request that was sent is taken
+eq_heard : (old : World) (side : Which) (next : SideMachine) (messages : List Message)
+    (events : List Event)
+    → side_next old side next messages events [] ≡ side_goes old side next messages events
+eq_heard old Left next messages events =
+    ap (λ r. record (side_goes old Left next messages events) { refusals = r })
+    (append-nil old.refusals)
+eq_heard old Right next messages events =
+    ap (λ r. record (side_goes old Right next messages events) { refusals = r })
+    (append-nil old.refusals)
+
+pub lift_deliver : (old : World) (side : Which) (message session number : ℕ)
+    (request : Request) (next : SideMachine) (reply : Option Reply) (events : List Event)
+    → slice_get old.sent message ≡ Some (Asks side session number request)
+    → Answers old.pair (side_of old side) session request next reply events
+    → Steps old (world.Deliver message)
+    (side_next old side next (world.says side session number reply) events [])
+lift_deliver old side message session number request _ _ _ is (step.is_down down) =
+    subst (λ o. Delivers old o (side_next old side (side_of old side) [] [] [])) (sym is)
+    (subst (λ w. Delivers old (Some (Asks side session number request)) w)
+    (sym (eq_same old side)) (world.to_no_side side session number request down))
+lift_deliver old side message session number request next reply events is (step.takes _ _ _ taken) =
+    let messages = world.says side session number reply in
+    subst (λ o. Delivers old o (side_next old side next messages events [])) (sym is)
+    (subst (λ w. Delivers old (Some (Asks side session number request)) w)
+    (sym (eq_heard old side next messages events))
+    (world.to_side side session number request next reply events taken))

@@ -2,13 +2,13 @@
 use Rattle.std.proofs.Common.{◌≡◌, [], List, Result, refl}
 use Rattle.std.proofs.lemmas.List.{append-nil}
 use Rattle.syn_disk.specs.declared.disk.Disk.{Ghosts}
-use Rattle.syn_headline.specs.Network.{Left, Right, Which}
+use Rattle.syn_headline.specs.Network.{Left, Message, Right}
 use Rattle.syn_headline.specs.SideMachine.{SideMachine}
 use Rattle.syn_headline.specs.World.{World as ModelWorld, set_side}
 use Rattle.syn_model.specs.Event.{Event}
 use Rattle.syn_world.specs.Outcomes.{Acknowledges, refused_in}
 use Rattle.syn_world.specs.Sides.{IsHost}
-use Rattle.syn_world.specs.Worlds.{EndsSo, Grows, IsListed, IsWorld, RunsMachines}
+use Rattle.syn_world.specs.Worlds.{EndsSo, Grows, GrowsBy, IsListed, IsWorld, RunsMachines}
 use Rattle.syn_world.specs.declared.side.SideCall.{SideCall}
 use Rattle.syn_world.specs.declared.side.SideHost.{SideHost}
 use Rattle.syn_world.specs.declared.world.Disks.{Disks}
@@ -89,3 +89,43 @@ module _ {D : Type 0} {disk : Ghosts D} (world : World D disk) (model : ModelWor
       reports = is.lists.reports;
     };
   }
+
+-- behind an answer
+module _ {D : Type 0} {disk : Ghosts D} (world : World D disk) (model : ModelWorld)
+    (is : IsWorld world model) (call : SideCall D disk) (next : SideMachine)
+    (messages : List Message) (events : List Event) (told : Acknowledges call.outcome events)
+    (none : refused_in call.outcome ≡ []) (host : IsHost model.pair call.side next)
+    (result : Result (World D disk) (Disks D)) where
+  pub hears_left : ((old new : ModelWorld) (events : List Event)
+      → RunsMachines (record world { left = call.side }) new → IsListed world.lists old
+      → Acknowledges call.outcome events → refused_in call.outcome ≡ []
+      → GrowsBy old new Left messages events → EndsSo result new)
+      → EndsSo result (side_next model Left next messages events [])
+  hears_left noted = noted model (side_next model Left next messages events []) events (record {
+    pair = is.machines.pair;
+    left = host;
+    right = is.machines.right;
+    coordinator = is.machines.coordinator;
+  }) is.lists told none (record {
+    sent = refl;
+    reports = refl;
+    acknowledged = refl;
+    refusals = append-nil model.refusals;
+  })
+
+  pub hears_right : ((old new : ModelWorld) (events : List Event)
+      → RunsMachines (record world { right = call.side }) new → IsListed world.lists old
+      → Acknowledges call.outcome events → refused_in call.outcome ≡ []
+      → GrowsBy old new Right messages events → EndsSo result new)
+      → EndsSo result (side_next model Right next messages events [])
+  hears_right noted = noted model (side_next model Right next messages events []) events (record {
+    pair = is.machines.pair;
+    right = host;
+    left = is.machines.left;
+    coordinator = is.machines.coordinator;
+  }) is.lists told none (record {
+    sent = refl;
+    reports = refl;
+    acknowledged = refl;
+    refusals = append-nil model.refusals;
+  })

@@ -1,12 +1,14 @@
 -- Which of the model's worlds a world is.
 use Rattle.std.specs.Prelude.{◌≡◌, ◌++◌, ℕ, List, map, MatchResult, Result}
+use Rattle.std.specs.Prelude.{Option, option_map}
 use Rattle.syn_disk.specs.declared.disk.Disk.{Ghosts}
 use Rattle.syn_headline.specs.Acknowledged as model
 use Rattle.syn_headline.specs.Acknowledged.{Happened, Kept_by}
 use Rattle.syn_headline.specs.Network.{Which, Answers, Message as Sent}
-use Rattle.syn_headline.specs.World.{World as ModelWorld, Step, Steps}
+use Rattle.syn_headline.specs.World.{World as ModelWorld, Step, Steps, says}
 use Rattle.syn_message.specs.Replies.{reply_of}
 use Rattle.syn_message.specs.Sides.{which_of}
+use Rattle.syn_message.specs.declared.reply.Reply.{Reply}
 use Rattle.syn_message.specs.declared.side.Side.{Side}
 use Rattle.syn_model.specs.Archive.{Kept}
 use Rattle.syn_model.specs.Event.{Event}
@@ -111,6 +113,24 @@ pub record Grows (old new : ModelWorld) (side : Which) (events : List Event)
   pub acknowledged : new.acknowledged
       ≡ old.acknowledged ++ map (λ event. Happened side event) events
   pub refusals : new.refusals ≡ old.refusals ++ refused_in outcome
+
+-- a side's reply is in the lists, if it said one
+pub record Hears (old new : Lists) (side : Side) (session number : ℕ)
+    (reply : Option Reply) : Type 0 where
+  pub sent : map message_of new.sent.items ≡ map message_of old.sent.items
+      ++ says (which_of side) session number (option_map reply_of reply)
+  pub acknowledged : new.acknowledged ≡ old.acknowledged
+  pub refusals : new.refusals ≡ old.refusals
+  pub reports : new.reports ≡ old.reports
+
+-- the lists of a world behind a side's answer
+pub record GrowsBy (old new : ModelWorld) (side : Which) (messages : List Sent)
+    (events : List Event) : Type 0 where
+  pub sent : new.sent ≡ old.sent ++ messages
+  pub reports : new.reports ≡ old.reports
+  pub acknowledged : new.acknowledged
+      ≡ old.acknowledged ++ map (λ event. Happened side event) events
+  pub refusals : new.refusals ≡ old.refusals
 
 -- one that takes no memory
 pub record StaysSo {D : Type 0} {disk : Ghosts D} (old : ModelWorld) (step : Step)

@@ -2,7 +2,7 @@
 ghost use Rattle.std.specs.Prelude.{◌≡◌, true};
 
 use crate::outcome::Outcome;
-use syn_message::{Answered, Side};
+use syn_message::{Answered, Reply, Side};
 use syn_refusal::Refusal;
 use syn_session::{Report, Sending};
 use syn_wire::Kept;
@@ -37,7 +37,7 @@ pub struct Lists {
 }
 
 impl Lists {
-    ghost use Rattle.syn_world.specs.Worlds.{Notes};
+    ghost use Rattle.syn_world.specs.Worlds.{Hears, Notes};
 
     /// Keeps what came of a side's step. Whether memory was there for it.
     pub(crate) fn note(&mut self, side: Side, outcome: Outcome) -> bool
@@ -49,6 +49,30 @@ impl Lists {
                 self.acknowledged.push(Ack::Event(side, spelled)).is_ok()
             }
             Outcome::Refused(why) => self.refusals.push(why).is_ok(),
+        }
+    }
+
+    /// Keeps what a side said to the request with that number, if it said anything. Whether memory
+    /// was there for it.
+    pub(crate) fn hear(
+        &mut self,
+        side: Side,
+        session: u64,
+        number: u32,
+        reply: Option<Reply>,
+    ) -> bool
+        ensures { result ≡ true → Hears self.old self.new side session number reply }
+    {
+        match reply {
+            None => true,
+            Some(reply) => {
+                let answered = Answered {
+                    session,
+                    number,
+                    reply,
+                };
+                self.sent.push(Message::Answers(side, answered)).is_ok()
+            }
         }
     }
 }

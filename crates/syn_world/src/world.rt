@@ -1,6 +1,7 @@
 //! A world of two sides and a coordinator, and its steps.
-ghost use Rattle.std.specs.Prelude.{◌≡◌, ℕ, List};
-ghost use Rattle.syn_headline.specs.World.{World as ModelWorld};
+ghost use Rattle.std.specs.Prelude.{◌≡◌, [], List, option_map};
+ghost use Rattle.syn_headline.specs.World.{World as ModelWorld, says};
+ghost use Rattle.syn_message.specs.Replies.{reply_of};
 ghost use Rattle.syn_message.specs.Sides.{which_of};
 ghost use Rattle.syn_model.specs.Event.{Event};
 
@@ -10,7 +11,7 @@ use crate::lists::Lists;
 use crate::outcome::Outcome;
 use crate::side::SideHost;
 use syn_disk::Disk;
-use syn_message::Side;
+use syn_message::{Reply, Side};
 
 mod sides;
 
@@ -34,8 +35,9 @@ pub struct World<D: Disk> {
 }
 
 impl<D: SimulatedDisk> World<D> {
-    ghost use Rattle.syn_world.specs.Outcomes.{Acknowledges};
-    ghost use Rattle.syn_world.specs.Worlds.{AreLeft, EndsSo, Grows, IsListed, RunsMachines};
+    ghost use Rattle.syn_world.specs.Outcomes.{Acknowledges, refused_in};
+    ghost use Rattle.syn_world.specs.Worlds.{AreLeft, EndsSo, Grows, GrowsBy, IsListed};
+    ghost use Rattle.syn_world.specs.Worlds.{RunsMachines};
 
     /// The disks, as the last step left them.
     pub fn into_disks(self) -> Disks<D>
@@ -57,6 +59,31 @@ impl<D: SimulatedDisk> World<D> {
     {
         let mut world = self;
         if world.lists.note(side, outcome) {
+            Ok(world)
+        } else {
+            Err(world.into_disks())
+        }
+    }
+
+    /// The world behind a side's answer to the request with that number.
+    fn heard(
+        self,
+        side: Side,
+        session: u64,
+        number: u32,
+        reply: Option<Reply>,
+        outcome: Outcome,
+    ) -> Result<World<D>, Disks<D>>
+        ensures { (old new : ModelWorld) (events : List Event) → RunsMachines self new
+            → IsListed self.lists old → Acknowledges outcome events → refused_in outcome ≡ []
+            → GrowsBy old new (which_of side)
+            (says (which_of side) session number (option_map reply_of reply)) events
+            → EndsSo result new }
+    {
+        let mut world = self;
+        let heard = world.lists.hear(side, session, number, reply);
+        let noted = world.lists.note(side, outcome);
+        if heard && noted {
             Ok(world)
         } else {
             Err(world.into_disks())

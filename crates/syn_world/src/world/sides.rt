@@ -1,13 +1,17 @@
 //! The steps of the world at a side.
-ghost use Rattle.syn_headline.specs.World.{World as ModelWorld, At, Edits, Checkpoint, Open};
+ghost use Rattle.std.specs.Prelude.{◌≡◌, ℕ, Some, slice_get};
+ghost use Rattle.syn_headline.specs.Network.{Asks};
+ghost use Rattle.syn_message.specs.Requests.{request_of};
+ghost use Rattle.syn_headline.specs.World.{World as ModelWorld, At, Edits, Checkpoint, Deliver, Open};
 ghost use Rattle.syn_headline.specs.World.{Fail, Reopen, Stop};
 ghost use Rattle.syn_message.specs.Sides.{which_of};
 ghost use Rattle.syn_tree.specs.Edits.{edit_of};
 
 use super::{Disks, World};
 use crate::disk::SimulatedDisk;
+use crate::side::SideAnswer;
 use std::alloc::Global;
-use syn_message::Side;
+use syn_message::{Request, Side};
 use syn_tree::Edit;
 
 impl<D: SimulatedDisk> World<D> {
@@ -132,6 +136,35 @@ impl<D: SimulatedDisk> World<D> {
             Side::Right => {
                 world.right = world.right.stop(calls);
                 world
+            }
+        }
+    }
+
+    /// A request that was sent is delivered to its side.
+    pub fn deliver_request(
+        self,
+        alloc: Global,
+        side: Side,
+        session: u64,
+        number: u32,
+        request: Request,
+    ) -> Result<World<D>, Disks<D>>
+        ensures { (model : ModelWorld) (message : ℕ) → IsWorld self model
+            → slice_get model.sent message
+            ≡ Some (Asks (which_of side) session number (request_of request))
+            → GoesSo model (Deliver message) result }
+    {
+        let mut world = self;
+        match side {
+            Side::Left => {
+                let SideAnswer { call, reply } = world.left.answer(alloc, session, request);
+                world.left = call.side;
+                world.heard(Side::Left, session, number, reply, call.outcome)
+            }
+            Side::Right => {
+                let SideAnswer { call, reply } = world.right.answer(alloc, session, request);
+                world.right = call.side;
+                world.heard(Side::Right, session, number, reply, call.outcome)
             }
         }
     }
