@@ -9,3 +9,4 @@ mod ReopenLemmas
 mod HostLemmas
 mod StepLemmas
 mod WorldLemmas
+mod CoordinatorLemmas

@@ -13,6 +13,7 @@ use crate::side::SideHost;
 use syn_disk::Disk;
 use syn_message::{Reply, Side};
 
+mod coordinators;
 mod sides;
 
 /// What three disks hold.

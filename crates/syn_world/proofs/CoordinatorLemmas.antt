@@ -1,0 +1,117 @@
+-- What is armed at a coordinator, and a stop of it, are steps of its machine and of the world.
+use Rattle.std.proofs.Common.{◌≡◌, ◌≢◌, ◌⊎◌, ◌∙◌, ℕ, zero, suc, None, Option, List, false, inl, inr}
+use Rattle.std.proofs.Common.{refl, sym, ap, subst}
+use Rattle.syn_disk.specs.Arms.{is_stopped}
+use Rattle.syn_disk.specs.declared.disk.Disk.{Ghosts}
+use Rattle.syn_headline.specs.Coordinator.{CoordinatorMachine, running_after, with_archive}
+use Rattle.syn_headline.specs.Machine.{Status, Up, Halted, Down, Arms, after_device, unarmed}
+use Rattle.syn_headline.specs.Session.{Running}
+use Rattle.syn_headline.specs.World.{World as ModelWorld, Steps, Coordinator, Fail, Stop}
+use Rattle.syn_model.specs.Path.{Bytes}
+use Rattle.syn_recovery.specs.Machines.{of_archive}
+use Rattle.syn_recovery.specs.Meaning.{MayBeOf, MayMean, as_kept, compacted, with_record}
+use Rattle.syn_journal.specs.Layout.{Value}
+use Rattle.syn_session.specs.Coordinators.{Stands, archive_of, with_arms}
+use Rattle.syn_session.specs.Machines.{Fails as HasFailed, Journal, Runs}
+use Rattle.syn_session.specs.declared.coordinator.Coordinator.{Coordinator as Session}
+use Rattle.syn_world.specs.Coordinators.{Fails, IsCoordinator, StopsMachine, at_once, behind}
+use Rattle.syn_world.specs.Coordinators.{fails, stopped, with_device_arms}
+use Rattle.syn_world.specs.Coordinators as step
+use Rattle.syn_world.specs.Worlds.{IsWorld}
+use Rattle.syn_world.specs.declared.coordinator.CoordinatorHost.{CoordinatorHost}
+use Rattle.syn_world.specs.declared.world.World.{World}
+use Rattle.syn_world.proofs.SideLemmas.{halted_not_down, up_not_down}
+
+-- device calls that write nothing leave what may be the machine's
+pub archive_still : (pair : ℕ) (machine : Journal) (status : Status) (arms : Arms) (failed : ℕ)
+    (bytes : Bytes) → MayBeOf (of_archive pair) machine bytes
+    → MayBeOf (of_archive pair) (after_device machine status arms failed) bytes
+archive_still pair machine status arms failed bytes may = record {
+  value = may.value;
+  generation = may.generation;
+  journal = may.journal;
+  means = still may.means;
+}
+  where
+    still : {value : Value} {generation : ℕ}
+        → MayMean (of_archive pair) machine value generation
+        → MayMean (of_archive pair) (after_device machine status arms failed) value generation
+    still (as_kept m) = as_kept (record {
+      stands = m.stands;
+      room = m.room;
+      numbered = m.numbered;
+    })
+    still (with_record m) = with_record (record {
+      added = m.added;
+      writing = m.writing;
+      can_add = m.can_add;
+      stands = m.stands;
+      room = m.room;
+      numbered = m.numbered;
+    })
+    still (compacted m) = compacted (record {
+      compacting = m.compacting;
+      stands = m.stands;
+      alone = m.alone;
+      numbered = m.numbered;
+    })
+
+module _ {D : Type 0} {disk : Ghosts D} (pair : ℕ) (coordinator : Session D disk)
+    (machine : CoordinatorMachine) (stands : Stands coordinator pair machine) where
+  pub is_not_down : machine.journal.status ≢ Down
+  is_not_down down = elim stands.journal.state [
+    | inl was ↦ up_not_down (sym was.up ∙ down)
+    | inr failed ↦ halted_not_down (sym failed.halted ∙ down)
+  ]
+
+still_runs : (status : Status) (running : Option Running) → status ≢ Down
+    → running ≡ running_after status running
+still_runs Up running other = refl
+still_runs Halted running other = refl
+still_runs Down running other = absurd (other refl)
+
+-- a machine that is not down keeps its session as its device is armed
+pub same_arms : (machine : CoordinatorMachine) (arms : Arms) → machine.journal.status ≢ Down
+    → with_arms machine arms ≡ with_device_arms machine arms
+same_arms machine arms other =
+    ap (λ r. record {
+      journal = after_device machine.journal machine.journal.status arms 0;
+      running = r;
+    }) (still_runs machine.journal.status machine.running other)
+
+-- the world goes so
+abbrev pub coordinator_is : ModelWorld → CoordinatorMachine → ModelWorld
+coordinator_is old machine = record old { coordinator = machine }
+
+pub lift_fail : (old : ModelWorld) (call : ℕ) (next : CoordinatorMachine)
+    → Fails old.coordinator call next → Steps old (Fail Coordinator call) (coordinator_is old next)
+lift_fail old call _ (step.is_down down) = inl (down, refl)
+lift_fail old call _ (step.fails other) = inr (other, refl)
+
+pub lift_stop : (old : ModelWorld) (calls : ℕ) (next : CoordinatorMachine)
+    → StopsMachine old.coordinator calls next
+    → Steps old (Stop Coordinator calls) (coordinator_is old next)
+lift_stop old zero _ (step.is_down calls down) = inl (down, refl)
+lift_stop old (suc n) _ (step.is_down calls down) = inl (down, refl)
+lift_stop old _ _ (step.at_once other) = inr (other, refl)
+lift_stop old zero _ (step.behind calls other some) = absurd (some refl)
+lift_stop old (suc n) _ (step.behind calls other some) = inr (other, refl)
+
+pub stays_coordinator : {D : Type 0} {disk : Ghosts D} (world : World D disk)
+    (model : ModelWorld) → IsWorld world model → (coordinator : CoordinatorHost D disk)
+    (next : CoordinatorMachine) → IsCoordinator model.pair coordinator next
+    → IsWorld (record world { coordinator = coordinator }) (coordinator_is model next)
+stays_coordinator world model is coordinator next host = record {
+  machines = record {
+    pair = is.machines.pair;
+    left = is.machines.left;
+    right = is.machines.right;
+    coordinator = host;
+  };
+  lists = record {
+    sent = is.lists.sent;
+    acknowledged = is.lists.acknowledged;
+    refusals = is.lists.refusals;
+    reports = is.lists.reports;
+  };
+}

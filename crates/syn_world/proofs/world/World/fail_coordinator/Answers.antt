@@ -1,0 +1,11 @@
+use Rattle.syn_world.proofs.CoordinatorLemmas.{coordinator_is, lift_fail, stays_coordinator}
+use Rattle.syn_world.proofs.world.World.fail_coordinator.Goals as goal
+
+pub returns : goal.returns
+returns g c model is =
+    let so = c.fail.ensures model.pair model.coordinator is.machines.coordinator in
+    record {
+      new = coordinator_is model so.next;
+      steps = lift_fail model c.args.call so.next so.fails;
+      is = stays_coordinator c.args.self model is c.fail.result so.next so.is;
+    }
