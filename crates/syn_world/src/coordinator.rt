@@ -1,5 +1,5 @@
 //! The coordinator of the world, whose machine is up or down.
-ghost use Rattle.std.specs.Prelude.{◌≡◌, ℕ, List, false};
+ghost use Rattle.std.specs.Prelude.{◌≡◌, ◌≢◌, ℕ, List, false, true};
 ghost use Rattle.syn_disk.specs.Armed.{armed};
 ghost use Rattle.syn_disk.specs.Arms.{is_stopped};
 ghost use Rattle.syn_headline.specs.Coordinator.{CoordinatorMachine};
@@ -7,9 +7,14 @@ ghost use Rattle.syn_recovery.specs.Calls.{armed_at};
 ghost use Rattle.syn_recovery.specs.Machines.{of_archive};
 ghost use Rattle.syn_recovery.specs.Meaning.{MayBeOf};
 ghost use Rattle.syn_session.specs.Coordinators.{Stands, device_of, with_arms};
+ghost use Rattle.syn_world.specs.CoordinatorSteps.{CheckpointsSo, Settles};
 
 use crate::disk::SimulatedDisk;
+use crate::outcome::Outcome;
+use std::alloc::Global;
+use syn_archive::ArchiveError;
 use syn_disk::{Arm, Disk};
+use syn_refusal::Refusal;
 use syn_session::Coordinator;
 
 /// The coordinator of the world.
@@ -79,4 +84,91 @@ fn armed_with<D: SimulatedDisk>(coordinator: Coordinator<D>, arm: Arm) -> Coordi
     let mut coordinator = coordinator;
     coordinator.arm(arm);
     coordinator
+}
+
+/// A coordinator behind a step, with what came of it.
+#[derive(Drop)]
+pub struct CoordinatorCall<D: Disk> {
+    pub coordinator: CoordinatorHost<D>,
+    pub outcome: Outcome,
+}
+
+impl<D: SimulatedDisk> CoordinatorHost<D> {
+    ghost use Rattle.syn_world.specs.Coordinators.{IsCoordinator};
+
+    /// The archive is written anew as one image. A session that runs goes on. Refused as a
+    /// checkpoint of the coordinator is.
+    pub fn checkpoint(self, alloc: Global) -> CoordinatorCall<D>
+        ensures { (pair : ℕ) (machine : CoordinatorMachine) → IsCoordinator pair self machine
+            → CheckpointsSo pair machine result }
+    {
+        match self {
+            CoordinatorHost::Up(coordinator) => compact(alloc, coordinator),
+            CoordinatorHost::Down(disk) => CoordinatorCall {
+                coordinator: CoordinatorHost::Down(disk),
+                outcome: Outcome::Nothing,
+            },
+        }
+    }
+}
+
+/// The checkpoint of a coordinator that is up.
+fn compact<D: SimulatedDisk>(alloc: Global, coordinator: Coordinator<D>) -> CoordinatorCall<D>
+    ensures { (pair : ℕ) (machine : CoordinatorMachine) → Stands coordinator pair machine
+        → CheckpointsSo pair machine result }
+{
+    let mut coordinator = coordinator;
+    match coordinator.checkpoint(alloc) {
+        Ok(()) => settle(coordinator),
+        Err(error) => {
+            if is_device(error) {
+                return settle(coordinator);
+            }
+            CoordinatorCall {
+                coordinator: CoordinatorHost::Up(coordinator),
+                outcome: Outcome::Refused(error.refusal()),
+            }
+        }
+    }
+}
+
+/// Whether a device call failed.
+fn is_device(error: ArchiveError) -> bool
+    ensures device { result ≡ true → error ≡ ArchiveError.Device }
+    ensures other { result ≡ false → error ≢ ArchiveError.Device }
+{
+    match error {
+        ArchiveError::Device => true,
+        ArchiveError::NoParent => false,
+        ArchiveError::Root => false,
+        ArchiveError::Full => false,
+        ArchiveError::JournalFull => false,
+        ArchiveError::Halted => false,
+        ArchiveError::Memory => false,
+        ArchiveError::NoImage => false,
+        ArchiveError::Damaged => false,
+        ArchiveError::WrongPair => false,
+    }
+}
+
+/// The coordinator behind a call that was made. Where the device failed in it, it is refused 9.
+fn settle<D: SimulatedDisk>(coordinator: Coordinator<D>) -> CoordinatorCall<D>
+    ensures { Settles coordinator result }
+{
+    if coordinator.is_cut() {
+        let disk = coordinator.into_archive().into_disk();
+        return CoordinatorCall {
+            coordinator: CoordinatorHost::Down(disk.after_stop()),
+            outcome: Outcome::Nothing,
+        };
+    }
+    let outcome = if coordinator.archive().is_halted() {
+        Outcome::Refused(Refusal::Device)
+    } else {
+        Outcome::Nothing
+    };
+    CoordinatorCall {
+        coordinator: CoordinatorHost::Up(coordinator),
+        outcome,
+    }
 }

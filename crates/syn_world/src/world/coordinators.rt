@@ -1,11 +1,14 @@
 //! The steps of the world at its coordinator.
-ghost use Rattle.syn_headline.specs.World.{World as ModelWorld, Coordinator, Fail, Stop};
+ghost use Rattle.syn_headline.specs.World.{World as ModelWorld, Checkpoint, Coordinator};
+ghost use Rattle.syn_headline.specs.World.{Fail, Stop};
 
-use super::World;
+use super::{Disks, World};
 use crate::disk::SimulatedDisk;
+use std::alloc::Global;
+use syn_message::Side;
 
 impl<D: SimulatedDisk> World<D> {
-    ghost use Rattle.syn_world.specs.Worlds.{IsWorld, StaysSo};
+    ghost use Rattle.syn_world.specs.Worlds.{GoesSo, IsWorld, StaysSo};
 
     /// The device call of the coordinator with this number from now on fails, and is not made; at 0
     /// none does.
@@ -27,5 +30,16 @@ impl<D: SimulatedDisk> World<D> {
         let mut world = self;
         world.coordinator = world.coordinator.stop(calls);
         world
+    }
+
+    /// The coordinator makes a checkpoint.
+    pub fn checkpoint_coordinator(self, alloc: Global) -> Result<World<D>, Disks<D>>
+        ensures { (model : ModelWorld) → IsWorld self model
+            → GoesSo model (Checkpoint Coordinator) result }
+    {
+        let mut world = self;
+        let call = world.coordinator.checkpoint(alloc);
+        world.coordinator = call.coordinator;
+        world.noted(Side::Left, call.outcome)
     }
 }

@@ -1,0 +1,18 @@
+use Rattle.std.proofs.Common.{refl, subst}
+use Rattle.syn_world.specs.Coordinators.{IsCoordinator}
+use Rattle.syn_world.specs.CoordinatorSteps as steps
+use Rattle.syn_world.proofs.coordinator.CoordinatorHost.checkpoint.Goals as goal
+
+pub returns-in-Up : goal.returns-in-Up
+returns-in-Up g c pair machine is =
+    c.compact.ensures pair machine (subst (λ s. IsCoordinator pair s machine) c.in-Up.is is)
+
+pub returns-in-Down : goal.returns-in-Down
+returns-in-Down g c pair machine is =
+    let rests = subst (λ s. IsCoordinator pair s machine) c.in-Down.is is in
+    record {
+      next = machine;
+      checkpoints = steps.is_down rests.down;
+      acknowledges = refl;
+      is = rests;
+    }
