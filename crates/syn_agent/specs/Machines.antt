@@ -57,6 +57,11 @@ pub record IsUpAs {D : Type 0} {disk : Ghosts D} (pair : ℕ) (replica : Replica
   pub runs : is_stopped (disk.arms (disk_of replica)) ≡ false
   pub staging : machine.staging ≡ staging_of agent
 
+-- such a replica is that of the machine: of each one on disks of this kind, with whatever agent
+abbrev pub UpIsOf : {D : Type 0} → {disk : Ghosts D} → Replica D disk → Type 0
+UpIsOf {D} {disk} _ = (pair : ℕ) (replica : Replica D disk) (agent : Agent) (machine : SideMachine)
+    → IsUpAs pair replica agent machine → IsOf pair replica agent machine
+
 -- the disk is stopped, and the machine is down
 pub record IsStopped {D : Type 0} {disk : Ghosts D} (pair : ℕ) (replica : Replica D disk)
     (machine : SideMachine) : Type 0 where

@@ -2,7 +2,8 @@
 ghost use Rattle.std.specs.Prelude.{ℕ};
 ghost use Rattle.syn_headline.specs.SideMachine.{SideMachine};
 ghost use Rattle.syn_model.specs.History.{History, IsHistory};
-ghost use Rattle.syn_agent.specs.Machines.{CompactedIsOf, IsOf, IsUpAs, WrittenIsOf};
+ghost use Rattle.syn_agent.specs.Machines.{CompactedIsOf, IsOf, IsUpAs, UpIsOf};
+ghost use Rattle.syn_agent.specs.Machines.{WrittenIsOf};
 ghost use Rattle.syn_agent.specs.inner.Lawful.{ListsLawfully};
 
 use crate::agent::Agent;
@@ -20,6 +21,16 @@ pub fn machine_laws<D: Disk>(replica: &Replica<D>, agent: &Agent)
 {
     let _ = replica;
     let _ = agent;
+}
+
+/// The same of each replica on disks of this kind, with whatever agent: what a replica's own calls
+/// leave, which no agent made.
+pub fn replica_laws<D: Disk>(replica: &Replica<D>)
+    ensures up { UpIsOf replica.now }
+    ensures written { WrittenIsOf }
+    ensures compacted { CompactedIsOf }
+{
+    let _ = replica;
 }
 
 /// What stands in a directory of a history is a listing that can be sent.

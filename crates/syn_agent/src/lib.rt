@@ -10,5 +10,5 @@ mod replace;
 mod staging;
 
 pub use agent::Agent;
-pub use laws::machine_laws;
+pub use laws::{machine_laws, replica_laws};
 pub use staging::{MAX_STAGED, Staging};

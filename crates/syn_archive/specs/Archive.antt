@@ -3,7 +3,7 @@ use Rattle.std.specs.Prelude.{◌≡◌, ◌⊎◌, ◌+◌, ◌-◌, List, ℕ}
 use Rattle.syn_disk.specs.declared.disk.Disk.{Ghosts}
 use Rattle.syn_journal.specs.Journal as journal
 use Rattle.syn_journal.specs.declared.journal.Journal.{Journal}
-use Rattle.syn_journal.specs.Layout.{Value}
+use Rattle.syn_journal.specs.Layout.{Value, HasJournal, bytes_left}
 use Rattle.syn_model.specs.Tree.{Tree}
 use Rattle.syn_model.specs.Archive as model
 use Rattle.syn_model.specs.Archive.{Kept, after_kept}
@@ -88,3 +88,9 @@ pub record KeepsReadings {D : Type 0} {disk : Ghosts D} (old new : Archive D dis
   pub memory : SameMemory old new
   pub left_is : left_shown new ≡ left_shown old
   pub generation : generation_shown new ≡ generation_shown old
+
+-- its journal shows what its disk has
+pub record ShowsDisk {D : Type 0} {disk : Ghosts D} (archive : Archive D disk) : Type 0 where
+  pub value : Value
+  pub journal : HasJournal (disk.seen (disk_of archive)) value (generation_shown archive)
+  pub left_is : bytes_left value ≡ left_shown archive

@@ -52,8 +52,11 @@ impl Framer {
     fn forget(&mut self)
         ensures { self.new ≡ self.old }
     {
+        if self.taken == 0 {
+            return;
+        }
         let left = self.buffer.len() - self.taken;
-        self.buffer.rotate_left(self.taken);
+        self.buffer.copy_within(self.taken.., 0);
         self.buffer.truncate(left);
         self.taken = 0;
     }

@@ -1,15 +1,17 @@
 -- How a replica goes on by its calls.
-use Rattle.std.proofs.Common.{◌≡◌, ◌≤◌, ◌⊎◌, ◌+◌, ℕ, List, [], ◌∷◌, ◌++◌, sym, ap, ◌∙◌, subst, inl, inr, le_refl, arith}
+use Rattle.std.proofs.Common.{◌≡◌, ◌≤◌, ◌⊎◌, ◌+◌, ℕ, List, [], ◌∷◌, ◌++◌, Option, Some, sym, ◌∙◌, subst, inl, inr, le_refl, arith}
 use mathlib.Core.List.{append-nil}
 use Rattle.syn_disk.specs.declared.disk.Disk.{Ghosts}
 use Rattle.syn_model.specs.Event.{Event}
 use Rattle.syn_model.specs.Standing.{Standing}
 use Rattle.syn_model.specs.History.{History}
 use Rattle.syn_model.specs.Image.{StandsFor}
+use Rattle.syn_model.specs.Path.{Bytes}
+use Rattle.syn_model.specs.Spelling.{event_spelling}
 use Rattle.syn_replica.specs.Disks.{DiskStands}
 use Rattle.syn_journal.specs.Journal as journal
-use Rattle.syn_replica.specs.Replica.{pair_of, standing_shown, position_shown, journal_of, disk_of, IsHalted, Remembers, Stands, KeepsBeforeOrAfter, KeepsOrCompacts}
-use Rattle.syn_replica.specs.Growth.{IsCutOff, KeepsUp, GoesOn, IsGrown}
+use Rattle.syn_replica.specs.Replica.{pair_of, standing_shown, position_shown, journal_of, disk_of, tried_shown, IsHalted, Remembers, Stands, KeepsBeforeOrAfter, KeepsOrCompacts}
+use Rattle.syn_replica.specs.Growth.{IsCutOff, KeepsUp, GoesOn, IsGrown, StandsOrTried}
 use Rattle.syn_replica.specs.declared.replica.Replica.{Replica}
 use Rattle.syn_replica.specs.Growing.{remembered, goes_on, stays, all_kept}
 use Rattle.syn_replica.proofs.StandLemmas.{keeps_now, keeps_stands}
@@ -30,24 +32,21 @@ module _ {D : Type 0} {disk : Ghosts D} where
       subst (λ (n : ℕ). DiskStands n (disk.seen (disk_of new)) history) (sym pair)
       (subst (λ (bytes : List ℕ). DiskStands (pair_of old) bytes history) (sym seen) d)
 
-  -- its disk stands for the history, or for that with one event
+  -- its disk stands for the history, or for that with the event that was tried
   pub disk_keeps : (replica : Replica D disk) (history : History) → KeepsUp replica history →
-      DiskStands (pair_of replica) (disk.seen (disk_of replica)) history
-      ⊎ ((event : Event) × DiskStands (pair_of replica) (disk.seen (disk_of replica)) (history ++ event ∷ []))
+      StandsOrTried (pair_of replica) (tried_shown replica) (disk.seen (disk_of replica)) history
   disk_keeps replica history (inl s) = inl (keeps_stands (keeps_now replica history s))
   disk_keeps replica history (inr c) = c.keeps
 
   -- nothing was written
-  pub unmoved : (old new : Replica D disk) → pair_of new ≡ pair_of old → standing_shown new ≡ standing_shown old → disk.seen (disk_of new) ≡ disk.seen (disk_of old) → (IsHalted old → IsHalted new) →
+  pub unmoved : (old new : Replica D disk) → pair_of new ≡ pair_of old → standing_shown new ≡ standing_shown old → tried_shown new ≡ tried_shown old → disk.seen (disk_of new) ≡ disk.seen (disk_of old) → (IsHalted old → IsHalted new) →
       ((history : History) → Stands old history → IsHalted new ⊎ Stands new history) → IsGrown old new
-  unmoved old new pair same seen halted stands = all_kept old new (record { pair = pair; position = same_position old new same; each = each })
+  unmoved old new pair same tried seen halted stands = all_kept old new (record { pair = pair; position = same_position old new same; each = each })
     where
-      keeps : (history : History) → KeepsUp old history →
-          DiskStands (pair_of new) (disk.seen (disk_of new)) history
-          ⊎ ((event : Event) × DiskStands (pair_of new) (disk.seen (disk_of new)) (history ++ event ∷ []))
+      keeps : (history : History) → KeepsUp old history → StandsOrTried (pair_of new) (tried_shown new) (disk.seen (disk_of new)) history
       keeps history k = elim (disk_keeps old history k) [
         | inl d ↦ inl (disk_same old new history pair seen d)
-        | inr d ↦ inr (d.0, disk_same old new (history ++ d.0 ∷ []) pair seen d.1)
+        | inr d ↦ inr (d.0, tried ∙ d.1, disk_same old new (history ++ d.0 ∷ []) pair seen d.2)
       ]
 
       cut : (history : History) → KeepsUp old history → IsHalted new → IsCutOff new history
@@ -61,20 +60,17 @@ module _ {D : Type 0} {disk : Ghosts D} where
       ]
 
   -- its journal is as it was
-  pub same_journal : (old new : Replica D disk) → pair_of new ≡ pair_of old → standing_shown new ≡ standing_shown old → journal_of new ≡ journal_of old → IsGrown old new
-  same_journal old new pair same e = unmoved old new pair same (ap (λ j. disk.seen (journal.disk_of j)) e)
-      (λ h. subst (λ j. journal.IsHalted j) (sym e) h)
-      (λ history s. inr (record {
-        remembers = remembers_same old new history same s.remembers;
-        value = s.value;
-        runs = subst (λ j. journal.Stands j s.value) (sym e) s.runs;
-        means = subst (λ (n : ℕ). StandsFor n s.value.image s.value.payloads history) (sym pair) s.means;
-      }))
+  pub stands_still : (old new : Replica D disk) → pair_of new ≡ pair_of old → standing_shown new ≡ standing_shown old → journal_of new ≡ journal_of old → (history : History) → Stands old history → Stands new history
+  stands_still old new pair same e history s = record {
+    remembers = remembers_same old new history same s.remembers;
+    value = s.value;
+    runs = subst (λ j. journal.Stands j s.value) (sym e) s.runs;
+    means = subst (λ (n : ℕ). StandsFor n s.value.image s.value.payloads history) (sym pair) s.means;
+  }
 
   -- a device call failed
-  pub failed : (old new : Replica D disk) → pair_of new ≡ pair_of old → standing_shown new ≡ standing_shown old → (IsHalted old → ⊥) → IsHalted new →
-      ((history : History) → Stands old history → DiskStands (pair_of old) (disk.seen (disk_of new)) history
-      ⊎ ((event : Event) × DiskStands (pair_of old) (disk.seen (disk_of new)) (history ++ event ∷ []))) → IsGrown old new
+  failed : (old new : Replica D disk) → pair_of new ≡ pair_of old → standing_shown new ≡ standing_shown old → (IsHalted old → ⊥) → IsHalted new →
+      ((history : History) → Stands old history → StandsOrTried (pair_of old) (tried_shown new) (disk.seen (disk_of new)) history) → IsGrown old new
   failed old new pair same running halted keeps = all_kept old new (record { pair = pair; position = same_position old new same; each = each })
     where
       each : (history : History) → KeepsUp old history → GoesOn new history
@@ -82,8 +78,7 @@ module _ {D : Type 0} {disk : Ghosts D} where
       each history (inl s) = stays new history (inr (record {
         halted = halted;
         remembers = remembers_same old new history same s.remembers;
-        keeps = subst (λ (n : ℕ). DiskStands n (disk.seen (disk_of new)) history
-            ⊎ ((event : Event) × DiskStands n (disk.seen (disk_of new)) (history ++ event ∷ []))) (sym pair) (keeps history s);
+        keeps = subst (λ (n : ℕ). StandsOrTried n (tried_shown new) (disk.seen (disk_of new)) history) (sym pair) (keeps history s);
       }))
 
   -- events were added, or none
@@ -106,24 +101,23 @@ module _ {D : Type 0} {disk : Ghosts D} where
       each : (history : History) → KeepsUp old history → GoesOn new history
       each history k = elim (disk_keeps old history k) [
         | inl d ↦ stays new history (inl (of_new history d))
-        | inr d ↦ goes_on new history (d.0 ∷ []) (inl (of_new (history ++ d.0 ∷ []) d.1))
+        | inr d ↦ goes_on new history (d.0 ∷ []) (inl (of_new (history ++ d.0 ∷ []) d.2))
       ]
-
-  -- a device call failed, or its journal is as it was
-  pub broken : (old new : Replica D disk) → pair_of new ≡ pair_of old → standing_shown new ≡ standing_shown old → (IsHalted old → ⊥) → IsHalted new ⊎ (journal_of new ≡ journal_of old) →
-      ((history : History) → Stands old history → DiskStands (pair_of old) (disk.seen (disk_of new)) history
-      ⊎ ((event : Event) × DiskStands (pair_of old) (disk.seen (disk_of new)) (history ++ event ∷ []))) → IsGrown old new
-  broken old new pair same running (inl halted) keeps = failed old new pair same running halted keeps
-  broken old new pair same running (inr e) keeps = same_journal old new pair same e
 
   -- its history is as it was
   pub kept : (old new : Replica D disk) → pair_of new ≡ pair_of old → standing_shown new ≡ standing_shown old → (IsHalted old → ⊥) → ((history : History) → Stands old history → Stands new history) → IsGrown old new
   kept old new pair same running stands = added old new [] pair (same_position old new same) running (λ history s. subst (λ (h : History). Stands new h) (sym (append-nil history)) (stands history s))
 
+  -- a device call failed, or its journal is as it was
+  pub broken : (old new : Replica D disk) → pair_of new ≡ pair_of old → standing_shown new ≡ standing_shown old → (IsHalted old → ⊥) → IsHalted new ⊎ (journal_of new ≡ journal_of old) →
+      (IsHalted new → (history : History) → Stands old history → StandsOrTried (pair_of old) (tried_shown new) (disk.seen (disk_of new)) history) → IsGrown old new
+  broken old new pair same running (inl halted) keeps = failed old new pair same running halted (keeps halted)
+  broken old new pair same running (inr e) keeps = kept old new pair same running (stands_still old new pair same e)
+
   -- its journal is as it was, though its disk was read, or is halted now
-  pub not_read : (old new : Replica D disk) → pair_of new ≡ pair_of old → standing_shown new ≡ standing_shown old → disk.seen (disk_of new) ≡ disk.seen (disk_of old) → IsHalted new ⊎ journal.IsAsBefore (journal_of old) (journal_of new) → IsGrown old new
-  not_read old new pair same seen (inl halted) = unmoved old new pair same seen (λ h. halted) (λ history s. inl halted)
-  not_read old new pair same seen (inr before) = unmoved old new pair same seen (λ h. before.readings.halted ∙ h) (λ history s. inr (record {
+  pub not_read : (old new : Replica D disk) → pair_of new ≡ pair_of old → standing_shown new ≡ standing_shown old → tried_shown new ≡ tried_shown old → disk.seen (disk_of new) ≡ disk.seen (disk_of old) → IsHalted new ⊎ journal.IsAsBefore (journal_of old) (journal_of new) → IsGrown old new
+  not_read old new pair same tried seen (inl halted) = unmoved old new pair same tried seen (λ h. halted) (λ history s. inl halted)
+  not_read old new pair same tried seen (inr before) = unmoved old new pair same tried seen (λ h. before.readings.halted ∙ h) (λ history s. inr (record {
     remembers = remembers_same old new history same s.remembers;
     value = s.value;
     runs = before.stands s.value s.runs;
@@ -131,12 +125,11 @@ module _ {D : Type 0} {disk : Ghosts D} where
   }))
 
   -- what a stop of a call may leave is kept
-  pub of_write : (replica : Replica D disk) (history : History) (event : Event) (bytes : List ℕ) → KeepsBeforeOrAfter replica history event bytes →
-      DiskStands (pair_of replica) bytes history ⊎ ((e : Event) × DiskStands (pair_of replica) bytes (history ++ e ∷ []))
-  of_write replica history event bytes (inl k) = inl (keeps_stands k)
-  of_write replica history event bytes (inr k) = inr (event, keeps_stands k)
+  pub of_write : (replica : Replica D disk) (history : History) (event : Event) (tried : Option Bytes) (bytes : List ℕ) → tried ≡ Some (event_spelling event) → KeepsBeforeOrAfter replica history event bytes →
+      StandsOrTried (pair_of replica) tried bytes history
+  of_write replica history event tried bytes is (inl k) = inl (keeps_stands k)
+  of_write replica history event tried bytes is (inr k) = inr (event, is, keeps_stands k)
 
-  pub of_checkpoint : (replica : Replica D disk) (history : History) (bytes : List ℕ) → KeepsOrCompacts replica history bytes →
-      DiskStands (pair_of replica) bytes history ⊎ ((e : Event) × DiskStands (pair_of replica) bytes (history ++ e ∷ []))
-  of_checkpoint replica history bytes (inl k) = inl (keeps_stands k)
-  of_checkpoint replica history bytes (inr k) = inl (record { value = _; means = k.journal.means; stands = k.stands })
+  pub of_checkpoint : (replica : Replica D disk) (history : History) (tried : Option Bytes) (bytes : List ℕ) → KeepsOrCompacts replica history bytes → StandsOrTried (pair_of replica) tried bytes history
+  of_checkpoint replica history tried bytes (inl k) = inl (keeps_stands k)
+  of_checkpoint replica history tried bytes (inr k) = inl (record { value = _; means = k.journal.means; stands = k.stands })

@@ -1,21 +1,20 @@
 -- Why a replica is not opened again, and what it stands for where it is.
-use Rattle.std.proofs.Common.{◌≡◌, ◌≤◌, ◌<◌, ◌⊎◌, ◌^◌, ℕ, List, [], ◌∷◌, ◌++◌, length, refl, sym, ap, ◌∙◌, subst, inl, inr, arith, Some, Ok}
+use Rattle.std.proofs.Common.{◌≡◌, ◌≤◌, ◌<◌, ◌^◌, ℕ, List, [], ◌∷◌, ◌++◌, length, refl, sym, ap, ◌∙◌, subst, inl, inr, arith, Some, Ok, Bool, true, false, true≢false}
 use Rattle.std.proofs.lemmas.List.{length-append}
 use Rattle.syn_disk.specs.declared.disk.Disk.{Ghosts}
 use Rattle.syn_journal.specs.Layout.{Value, meaning}
 use Rattle.syn_journal.specs.Refusals as journal
 use Rattle.syn_journal.specs.declared.error.JournalError.{JournalError}
 use Rattle.syn_journal.specs.declared.error.JournalError.TheVariants as refused
-use Rattle.syn_model.specs.Event.{Event}
 use Rattle.syn_model.specs.Standing.{Standing}
 use Rattle.syn_model.specs.History.{History, standing_of}
 use Rattle.syn_model.specs.Image.{Gives}
 use Rattle.syn_replica.specs.Disks.{DiskStands, IsOpenRefusal, IsReopenRefusal}
-use Rattle.syn_replica.specs.Growth.{KeepsUp}
+use Rattle.syn_replica.specs.Growth.{KeepsUp, WithTried}
 use Rattle.syn_replica.specs.Refusals.{IsOneOf, outside_refusals}
-use Rattle.syn_replica.specs.Replica.{pair_of, position_shown, disk_of, Stands}
+use Rattle.syn_replica.specs.Replica.{pair_of, position_shown, disk_of, tried_shown, Stands}
 use Rattle.syn_replica.specs.Growing.{remembered}
-use Rattle.syn_replica.specs.inner.Openings.{OneIsGiven}
+use Rattle.syn_replica.specs.inner.Openings.{OneIsGiven, IsOfMeaning}
 use Rattle.syn_replica.specs.declared.replica.Replica.{Replica}
 use Rattle.syn_replica.specs.declared.error.ReplicaError.{ReplicaError}
 use Rattle.syn_replica.specs.declared.error.ReplicaError.TheVariants.{Tree, History as OfHistory, Journal, Memory, Touched, OldSession, Damaged, WrongPair}
@@ -45,13 +44,39 @@ journal_outside refused.Memory pair bytes history d h = refl
 journal_outside refused.NoImage pair bytes history d h = absurd (no_value (meaning bytes) d.value _ d.means h)
 journal_outside refused.Damaged pair bytes history d h = absurd (no_value (meaning bytes) d.value _ d.means h)
 
+-- a replica that runs has a value on its disk, so want of memory and its device alone refuse to read it
+pub running_outside : (bytes : List ℕ) (value : Value) → meaning bytes ≡ Ok value → (e : JournalError) → journal.IsOpenRefusal e (meaning bytes) → IsOneOf outside_refusals (Journal e)
+running_outside bytes value means refused.Full h = absurd h
+running_outside bytes value means refused.JournalFull h = absurd h
+running_outside bytes value means refused.Device h = refl
+running_outside bytes value means refused.Halted h = absurd h
+running_outside bytes value means refused.Memory h = refl
+running_outside bytes value means refused.NoImage h = absurd (no_value (meaning bytes) value _ means h)
+running_outside bytes value means refused.Damaged h = absurd (no_value (meaning bytes) value _ means h)
+
+-- what shows that it is halted does not show it where it runs
+pub runs_on : (shown halted : Bool) → (shown ≡ true → halted ≡ true) → halted ≡ false → shown ≡ false
+runs_on true halted is runs = absurd (true≢false (sym (is refl) ∙ runs))
+runs_on false halted is runs = refl
+
+-- what is refused of a disk's meaning where memory and the device alone refuse
+pub memory_alone : (e : ReplicaError) → IsOfMeaning e → IsOneOf outside_refusals e → e ≡ Memory
+memory_alone (Tree e) of outside = absurd of
+memory_alone (OfHistory e) of outside = absurd of
+memory_alone (Journal e) of outside = absurd of
+memory_alone Memory of outside = refl
+memory_alone Touched of outside = absurd of
+memory_alone OldSession of outside = absurd of
+memory_alone Damaged of outside = cc
+memory_alone WrongPair of outside = cc
+
 -- what a disk gives that stands for a history
 module _ (one : OneIsGiven) (pair : ℕ) (bytes : List ℕ) (history : History) (fits : pair < 2 ^ 64) (d : DiskStands pair bytes history) where
   given : (value : Value) → meaning bytes ≡ Ok value → Gives pair value.image value.payloads (standing_of history)
   given value means = subst (λ (v : Value). Gives pair v.image v.payloads (standing_of history)) (one_value (meaning bytes) d.value value d.means means) d.stands.gives
 
   -- it is refused for want of memory, or where a device call fails
-  outside : (e : ReplicaError) (position : ℕ) → position ≤ length history → IsReopenRefusal e pair position bytes → IsOneOf outside_refusals e
+  pub outside : (e : ReplicaError) (position : ℕ) → position ≤ length history → IsReopenRefusal e pair position bytes → IsOneOf outside_refusals e
   outside (Tree e) position early h = absurd h
   outside (OfHistory e) position early h = absurd h
   outside (Journal refused.Full) position early h = absurd h
@@ -83,20 +108,20 @@ module _ {D : Type 0} {disk : Ghosts D} where
       elim (disk_keeps old history k) as (λ _. IsOneOf outside_refusals e) [
         | inl d ↦ outside one (pair_of old) (disk.seen (disk_of old)) history fits d e (position_shown old) (omega (arith, here)) h
         | inr d ↦ let more = length-append history (d.0 ∷ []) in
-            outside one (pair_of old) (disk.seen (disk_of old)) (history ++ d.0 ∷ []) fits d.1 e (position_shown old) (omega (arith, here, more)) h
+            outside one (pair_of old) (disk.seen (disk_of old)) (history ++ d.0 ∷ []) fits d.2 e (position_shown old) (omega (arith, here, more)) h
       ]
 
   pub not_read_outside : (old : Replica D disk) (history : History) → KeepsUp old history → (e : JournalError) → journal.IsOpenRefusal e (meaning (disk.seen (disk_of old))) → IsOneOf outside_refusals (Journal e)
   not_read_outside old history k e h = elim (disk_keeps old history k) as (λ _. IsOneOf outside_refusals (Journal e)) [
     | inl d ↦ journal_outside e (pair_of old) (disk.seen (disk_of old)) history d h
-    | inr d ↦ journal_outside e (pair_of old) (disk.seen (disk_of old)) (history ++ d.0 ∷ []) d.1 h
+    | inr d ↦ journal_outside e (pair_of old) (disk.seen (disk_of old)) (history ++ d.0 ∷ []) d.2 h
   ]
 
   pub stands_again : (old new : Replica D disk) (history : History) → pair_of new ≡ pair_of old → ((h : History) → DiskStands (pair_of new) (disk.seen (disk_of old)) h → Stands new h) → KeepsUp old history →
-      Stands new history ⊎ ((event : Event) × Stands new (history ++ event ∷ []))
+      WithTried (Stands new) (tried_shown old) history
   stands_again old new history pair stands k =
       let of_new : (h : History) → DiskStands (pair_of old) (disk.seen (disk_of old)) h → Stands new h = λ h d. stands h (subst (λ (n : ℕ). DiskStands n (disk.seen (disk_of old)) h) (sym pair) d) in
-      elim (disk_keeps old history k) as (λ _. Stands new history ⊎ ((event : Event) × Stands new (history ++ event ∷ []))) [
+      elim (disk_keeps old history k) as (λ _. WithTried (Stands new) (tried_shown old) history) [
         | inl d ↦ inl (of_new history d)
-        | inr d ↦ inr (d.0, of_new (history ++ d.0 ∷ []) d.1)
+        | inr d ↦ inr (d.0, d.1, of_new (history ++ d.0 ∷ []) d.2)
       ]

@@ -1,21 +1,32 @@
 -- How a replica goes on: no history that it keeps up with is lost or altered; events may follow.
-use Rattle.std.specs.Prelude.{◌≡◌, ◌≤◌, ◌⊎◌, ◌++◌, ◌∷◌, [], List}
+use Rattle.std.specs.Prelude.{◌≡◌, ◌≤◌, ◌⊎◌, ◌++◌, ◌∷◌, ℕ, [], List, Option, Some}
 use Rattle.syn_disk.specs.declared.disk.Disk.{Ghosts}
 use Rattle.syn_model.specs.Event.{Event}
 use Rattle.syn_model.specs.History.{History, AllAllowed}
+use Rattle.syn_model.specs.Path.{Bytes}
+use Rattle.syn_model.specs.Spelling.{event_spelling}
 use Rattle.syn_replica.specs.Disks.{DiskStands}
-use Rattle.syn_replica.specs.Replica.{pair_of, position_shown, disk_of, IsHalted, Remembers, Stands}
+use Rattle.syn_replica.specs.Replica.{pair_of, position_shown, disk_of, tried_shown, IsHalted}
+use Rattle.syn_replica.specs.Replica.{Remembers, Stands}
 use Rattle.syn_replica.specs.declared.replica.Replica.{Replica}
 
+-- the history, or that with the event which these bytes spell, is one of which this holds
+abbrev pub WithTried : (History → Type 0) → Option Bytes → History → Type 0
+WithTried Is tried history = Is history
+    ⊎ ((event : Event) × (tried ≡ Some (event_spelling event)) × Is (history ++ event ∷ []))
+
+-- the disk stands for the history, or for that with the event which these bytes spell
+abbrev pub StandsOrTried : ℕ → Option Bytes → List ℕ → History → Type 0
+StandsOrTried pair tried bytes history = WithTried (DiskStands pair bytes) tried history
+
 -- A device call failed as the replica stood for the history. Its disk has that, or that with the
--- one event that was being written
+-- event which was tried last
 pub record IsCutOff {D : Type 0} {disk : Ghosts D} (replica : Replica D disk) (history : History)
     : Type 0 where
   pub halted : IsHalted replica
   pub remembers : Remembers replica history
-  pub keeps : DiskStands (pair_of replica) (disk.seen (disk_of replica)) history
-      ⊎ ((event : Event)
-      × DiskStands (pair_of replica) (disk.seen (disk_of replica)) (history ++ event ∷ []))
+  pub keeps : StandsOrTried (pair_of replica) (tried_shown replica) (disk.seen (disk_of replica))
+      history
 
 -- it stands for the history, or was cut off there
 abbrev pub KeepsUp : {D : Type 0} → {disk : Ghosts D} → Replica D disk → History → Type 0

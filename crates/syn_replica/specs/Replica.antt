@@ -4,7 +4,7 @@ use Rattle.std.specs.Prelude.{Option, Some, option_map, Result, Ok, Err}
 use Rattle.syn_disk.specs.declared.disk.Disk.{Ghosts}
 use Rattle.syn_journal.specs.Journal as journal
 use Rattle.syn_journal.specs.declared.journal.Journal.{Journal}
-use Rattle.syn_journal.specs.Layout.{Value}
+use Rattle.syn_journal.specs.Layout.{Value, HasJournal, bytes_left}
 use Rattle.syn_model.specs.Tree.{Tree}
 use Rattle.syn_model.specs.Standing.{Standing}
 use Rattle.syn_model.specs.History.{History, IsHistory, standing_of}
@@ -115,3 +115,9 @@ pub record KeepsReadings {D : Type 0} {disk : Ghosts D} (old new : Replica D dis
   pub memory : SameMemory old new
   pub left_is : left_shown new ≡ left_shown old
   pub generation : generation_shown new ≡ generation_shown old
+
+-- its journal shows what its disk has
+pub record ShowsDisk {D : Type 0} {disk : Ghosts D} (replica : Replica D disk) : Type 0 where
+  pub value : Value
+  pub journal : HasJournal (disk.seen (disk_of replica)) value (generation_shown replica)
+  pub left_is : bytes_left value ≡ left_shown replica

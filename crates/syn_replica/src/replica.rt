@@ -332,6 +332,8 @@ impl<D: Disk> Replica<D> {
         ensures readings { IfErr result (λ _. KeepsReadings self.old self.new) }
         ensures unchanged { (history : History) → Stands self.old history
             → IfErr result (λ e. (refusal_of e ≡ Device) ⊎ Stands self.new history) }
+        ensures journal { IfErr result (λ e. (refusal_of e ≡ Device)
+            ⊎ (journal_of self.new ≡ journal_of self.old)) }
     {
         opening_laws();
         if self.journal.is_halted() {

@@ -1,5 +1,5 @@
 ghost use Rattle.std.specs.Prelude.{◌≡◌, ◌≢◌, ◌<◌, ◌∷◌, ◌++◌, [], true, false, OnOk, OnErr, IfOk};
-ghost use Rattle.std.specs.Prelude.{IfErr, IfSome, IfNone, length, not};
+ghost use Rattle.std.specs.Prelude.{IfErr, IfSome, IfNone, Ok, None, length, not};
 ghost use Rattle.std.specs.Ordering.{eq_by_cmp};
 ghost use Rattle.syn_model.specs.Path.{path_cmp, IsPath};
 ghost use Rattle.syn_model.specs.Dirty.{IsScanBy};
@@ -74,6 +74,9 @@ impl Scanner {
         ensures out { IfOk result (λ next. self.new.out ≡ handed_out self.old.out next) }
         ensures same { OnErr result (self.new ≡ self.old) }
         ensures memory { IfErr result (λ e. e ≡ ScanError.Memory) }
+
+        // Where each was answered no memory is taken.
+        ensures whole { IsWhole self.old.found → result ≡ Ok None }
     {
         let at = self.scan.first_open(self.passed);
         self.passed = at;
@@ -121,6 +124,11 @@ impl Scanner {
         ensures bad { IfErr result (λ e. e ≡ ScanError.BadMessage
             → (is_too_large self.old.found (contents_in entries.items) ≡ false)
             × ¬ Belongs self.old path.now (contents_in entries.items)) }
+
+        // Memory is taken for a path that was handed out, where no more nodes come than may be.
+        ensures memory { IfErr result (λ e. e ≡ ScanError.Memory
+            → (is_too_large self.old.found (contents_in entries.items) ≡ false)
+            × (is_out self.old.out path.now ≡ true)) }
         ensures same { OnErr result (self.new ≡ self.old) }
     {
         if self.scan.tree().node_count() + entries.len() > MOST_NODES {
@@ -146,6 +154,10 @@ impl Scanner {
         ensures belongs { OnOk result (is_out self.old.out path.now ≡ true) }
         ensures bad { IfErr result (λ e. e ≢ ScanError.Memory → (e ≡ ScanError.BadMessage)
             × (is_out self.old.out path.now ≡ false)) }
+
+        // Memory is taken for a path that was handed out.
+        ensures memory { IfErr result (λ e. e ≡ ScanError.Memory
+            → is_out self.old.out path.now ≡ true) }
         ensures same { OnErr result (self.new ≡ self.old) }
     {
         if !is_among(&self.out, path) {

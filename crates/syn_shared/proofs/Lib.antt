@@ -1,2 +1,6 @@
+pub mod CauseLemmas
+pub mod EventLemmas
 pub mod HoldLemmas
 pub mod StepLemmas
+pub mod UpkeepLemmas
+pub mod WorldLemmas

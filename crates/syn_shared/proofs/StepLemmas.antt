@@ -16,12 +16,12 @@ use Rattle.syn_model.specs.Path.{Path}
 use Rattle.syn_model.specs.Tree.{Tree as Model}
 use Rattle.syn_model.specs.History.{History}
 use Rattle.syn_model.specs.Image.{StandsFor}
+use Rattle.syn_model.specs.Spelling.{event_spelling}
 use Rattle.syn_model.specs.Refusal.{Refusal, number}
 use Rattle.syn_model.specs.Refusal as why
-use Rattle.syn_replica.specs.Disks.{DiskStands}
-use Rattle.syn_replica.specs.Growth.{IsCutOff}
+use Rattle.syn_replica.specs.Growth.{IsCutOff, StandsOrTried}
 use Rattle.syn_replica.specs.Refusals.{refusal_of, IsOneOf, outside_refusals, CountsFailures, MakesIfDevice}
-use Rattle.syn_replica.specs.Replica.{room_shown, pair_of, disk_of, journal_of, IsHalted, Stands, KeepsReadings, HasRecord, KeepsBeforeOrAfter}
+use Rattle.syn_replica.specs.Replica.{room_shown, pair_of, disk_of, journal_of, tried_shown, IsHalted, Stands, SameMemory, KeepsReadings, HasRecord, KeepsBeforeOrAfter, Tries}
 use Rattle.syn_replica.specs.Steps.{is_done, replaced, replace_refusal, MakesIfNew}
 use Rattle.syn_replica.specs.declared.error.ReplicaError.{ReplicaError}
 use Rattle.syn_replica.specs.declared.error.ReplicaError.TheVariants.{Tree, Journal, Memory, Touched, OldSession, Damaged, WrongPair}
@@ -32,7 +32,7 @@ use Rattle.syn_tree.specs.Refusals.{refusal_of as of_tree}
 use Rattle.syn_tree.specs.declared.error.TreeError.{TreeError}
 use Rattle.syn_tree.specs.declared.error.TreeError.TheVariants as tree_error
 
-outside_is : (r : Refusal) → list_any (λ w. number w == number r) outside_refusals ≡ true → (r ≡ why.Memory) ⊎ (r ≡ why.Device)
+pub outside_is : (r : Refusal) → list_any (λ w. number w == number r) outside_refusals ≡ true → (r ≡ why.Memory) ⊎ (r ≡ why.Device)
 outside_is why.BadPath h = cc h
 outside_is why.NoParent h = cc h
 outside_is why.IsDirectory h = cc h
@@ -59,7 +59,7 @@ outside_is why.BadMessage h = cc h
 outside_is why.NoSeat h = cc h
 outside_is why.NoAnswer h = cc h
 
-not_of_tree : (x : TreeError) → of_tree x ≡ why.Device → ⊥
+pub not_of_tree : (x : TreeError) → of_tree x ≡ why.Device → ⊥
 not_of_tree tree_error.NoParent h = cc h
 not_of_tree tree_error.IsDirectory h = cc h
 not_of_tree tree_error.Exists h = cc h
@@ -68,19 +68,24 @@ not_of_tree tree_error.Root h = cc h
 not_of_tree tree_error.Full h = cc h
 not_of_tree tree_error.Memory h = cc h
 
-not_of_history : (x : HistoryError) → of_history x ≡ why.Device → ⊥
+pub not_of_history : (x : HistoryError) → of_history x ≡ why.Device → ⊥
 not_of_history history_error.Full h = cc h
 not_of_history history_error.Memory h = cc h
 not_of_history history_error.BelowFloor h = cc h
 
 -- a replica whose journal and memory are as they were stands as it did
-pub stands_still : {D : Type 0} {disk : Ghosts D} (found left : Replica D disk) (history : History) → Stands found history → KeepsReadings found left → journal_of left ≡ journal_of found → Stands left history
-stands_still found left history s readings e = record {
-  remembers = record { lawful = s.remembers.lawful; standing = readings.memory.standing ∙ s.remembers.standing };
+pub stands_still : {D : Type 0} {disk : Ghosts D} (found left : Replica D disk) (history : History) → Stands found history → SameMemory found left → journal_of left ≡ journal_of found → Stands left history
+stands_still found left history s memory e = record {
+  remembers = record { lawful = s.remembers.lawful; standing = memory.standing ∙ s.remembers.standing };
   value = s.value;
   runs = subst (λ j. journal.Stands j s.value) (sym e) s.runs;
-  means = subst (λ (n : ℕ). StandsFor n s.value.image s.value.payloads history) (sym readings.memory.pair) s.means;
+  means = subst (λ (n : ℕ). StandsFor n s.value.image s.value.payloads history) (sym memory.pair) s.means;
 }
+
+-- where a device call failed the event was tried
+was_tried : {D : Type 0} {disk : Ghosts D} (found left : Replica D disk) (event : Event) (e : ReplicaError) → Tries {X = ℕ} found left event (Err e) → refusal_of e ≡ why.Device → tried_shown left ≡ Some (event_spelling event)
+was_tried found left event e (inl tries) device = tries.1
+was_tried found left event e (inr tries) device = absurd (tries.0 device)
 
 module _ {D : Type 0} {disk : Ghosts D} (found left : Replica D disk) (history : History) (event : Event) (cause : Option Refusal) (stands : Stands found history) where
   refused_step : (e : ReplicaError) → (refusal_of e ≡ why.Device → ⊥) → IsOneOf outside_refusals e ⊎ (cause ≡ Some (refusal_of e)) → (refusal_of e ≡ why.Device) ⊎ Stands left history →
@@ -96,44 +101,44 @@ module _ {D : Type 0} {disk : Ghosts D} (found left : Replica D disk) (history :
       ]
 
   -- the replica is cut off where a device call failed
-  cut_off : IsHalted left → KeepsReadings found left → KeepsBeforeOrAfter found history event (disk.seen (disk_of left)) → IsCutOff left history
-  cut_off halted readings seen = record {
+  cut_off : IsHalted left → tried_shown left ≡ Some (event_spelling event) → KeepsReadings found left → KeepsBeforeOrAfter found history event (disk.seen (disk_of left)) → IsCutOff left history
+  cut_off halted tried readings seen = record {
     halted = halted;
     remembers = record { lawful = stands.remembers.lawful; standing = readings.memory.standing ∙ stands.remembers.standing };
-    keeps = subst (λ (n : ℕ). DiskStands n (disk.seen (disk_of left)) history ⊎ ((x : Event) × DiskStands n (disk.seen (disk_of left)) (history ++ x ∷ []))) (sym readings.memory.pair)
-        (elim seen as (λ _. DiskStands (pair_of found) (disk.seen (disk_of left)) history ⊎ ((x : Event) × DiskStands (pair_of found) (disk.seen (disk_of left)) (history ++ x ∷ []))) [
+    keeps = subst (λ (n : ℕ). StandsOrTried n (tried_shown left) (disk.seen (disk_of left)) history) (sym readings.memory.pair)
+        (elim seen as (λ _. StandsOrTried (pair_of found) (tried_shown left) (disk.seen (disk_of left)) history) [
           | inl k ↦ inl (record { value = k.value; means = k.journal.means; stands = k.stands })
-          | inr k ↦ inr (event, record { value = k.value; means = k.journal.means; stands = k.stands })
+          | inr k ↦ inr (event, tried, record { value = k.value; means = k.journal.means; stands = k.stands })
         ]);
   }
 
-  refusal_step : (e : ReplicaError) → IsOneOf outside_refusals e ⊎ (cause ≡ Some (refusal_of e)) → (refusal_of e ≡ why.Device → IsHalted left) → (refusal_of e ≡ why.Device) ⊎ Stands left history → KeepsReadings found left →
+  refusal_step : (e : ReplicaError) → IsOneOf outside_refusals e ⊎ (cause ≡ Some (refusal_of e)) → (refusal_of e ≡ why.Device → IsHalted left) → (refusal_of e ≡ why.Device → tried_shown left ≡ Some (event_spelling event)) → (refusal_of e ≡ why.Device) ⊎ Stands left history → KeepsReadings found left →
       KeepsBeforeOrAfter found history event (disk.seen (disk_of left)) → MakesIfDevice e 4 (disk.arms (disk_of found)) (disk.arms (disk_of left)) → CountsFailures e (disk.failures (disk_of found)) (disk.failures (disk_of left)) →
       StepsBy found left history event cause (Err e)
-  refusal_step (Tree x) causes halts unchanged readings seen calls failures = refused_step (Tree x) (not_of_tree x) causes unchanged calls failures
-  refusal_step (replica_error.History x) causes halts unchanged readings seen calls failures = refused_step (replica_error.History x) (not_of_history x) causes unchanged calls failures
-  refusal_step (Journal journal_error.Device) causes halts unchanged readings seen calls failures = breaks (Journal journal_error.Device) refl (cut_off (halts refl) readings seen) readings calls failures
-  refusal_step (Journal journal_error.Full) causes halts unchanged readings seen calls failures = refused_step (Journal journal_error.Full) (λ d. cc d) causes unchanged calls failures
-  refusal_step (Journal journal_error.JournalFull) causes halts unchanged readings seen calls failures = refused_step (Journal journal_error.JournalFull) (λ d. cc d) causes unchanged calls failures
-  refusal_step (Journal journal_error.Halted) causes halts unchanged readings seen calls failures = refused_step (Journal journal_error.Halted) (λ d. cc d) causes unchanged calls failures
-  refusal_step (Journal journal_error.Memory) causes halts unchanged readings seen calls failures = refused_step (Journal journal_error.Memory) (λ d. cc d) causes unchanged calls failures
-  refusal_step (Journal journal_error.NoImage) causes halts unchanged readings seen calls failures = refused_step (Journal journal_error.NoImage) (λ d. cc d) causes unchanged calls failures
-  refusal_step (Journal journal_error.Damaged) causes halts unchanged readings seen calls failures = refused_step (Journal journal_error.Damaged) (λ d. cc d) causes unchanged calls failures
-  refusal_step Memory causes halts unchanged readings seen calls failures = refused_step Memory (λ d. cc d) causes unchanged calls failures
-  refusal_step Touched causes halts unchanged readings seen calls failures = refused_step Touched (λ d. cc d) causes unchanged calls failures
-  refusal_step OldSession causes halts unchanged readings seen calls failures = refused_step OldSession (λ d. cc d) causes unchanged calls failures
-  refusal_step Damaged causes halts unchanged readings seen calls failures = refused_step Damaged (λ d. cc d) causes unchanged calls failures
-  refusal_step WrongPair causes halts unchanged readings seen calls failures = refused_step WrongPair (λ d. cc d) causes unchanged calls failures
+  refusal_step (Tree x) causes halts tried unchanged readings seen calls failures = refused_step (Tree x) (not_of_tree x) causes unchanged calls failures
+  refusal_step (replica_error.History x) causes halts tried unchanged readings seen calls failures = refused_step (replica_error.History x) (not_of_history x) causes unchanged calls failures
+  refusal_step (Journal journal_error.Device) causes halts tried unchanged readings seen calls failures = breaks (Journal journal_error.Device) refl (cut_off (halts refl) (tried refl) readings seen) readings calls failures
+  refusal_step (Journal journal_error.Full) causes halts tried unchanged readings seen calls failures = refused_step (Journal journal_error.Full) (λ d. cc d) causes unchanged calls failures
+  refusal_step (Journal journal_error.JournalFull) causes halts tried unchanged readings seen calls failures = refused_step (Journal journal_error.JournalFull) (λ d. cc d) causes unchanged calls failures
+  refusal_step (Journal journal_error.Halted) causes halts tried unchanged readings seen calls failures = refused_step (Journal journal_error.Halted) (λ d. cc d) causes unchanged calls failures
+  refusal_step (Journal journal_error.Memory) causes halts tried unchanged readings seen calls failures = refused_step (Journal journal_error.Memory) (λ d. cc d) causes unchanged calls failures
+  refusal_step (Journal journal_error.NoImage) causes halts tried unchanged readings seen calls failures = refused_step (Journal journal_error.NoImage) (λ d. cc d) causes unchanged calls failures
+  refusal_step (Journal journal_error.Damaged) causes halts tried unchanged readings seen calls failures = refused_step (Journal journal_error.Damaged) (λ d. cc d) causes unchanged calls failures
+  refusal_step Memory causes halts tried unchanged readings seen calls failures = refused_step Memory (λ d. cc d) causes unchanged calls failures
+  refusal_step Touched causes halts tried unchanged readings seen calls failures = refused_step Touched (λ d. cc d) causes unchanged calls failures
+  refusal_step OldSession causes halts tried unchanged readings seen calls failures = refused_step OldSession (λ d. cc d) causes unchanged calls failures
+  refusal_step Damaged causes halts tried unchanged readings seen calls failures = refused_step Damaged (λ d. cc d) causes unchanged calls failures
+  refusal_step WrongPair causes halts tried unchanged readings seen calls failures = refused_step WrongPair (λ d. cc d) causes unchanged calls failures
 
   pub step_by : (answer : Result ℕ ReplicaError) → IfOk answer (λ position. (position ≡ length history + 1) × Stands left (history ++ event ∷ [])) → OnOk answer (HasRecord found left event) →
-      IfErr answer (λ e. IsOneOf outside_refusals e ⊎ (cause ≡ Some (refusal_of e))) → IfErr answer (λ e. refusal_of e ≡ why.Device → IsHalted left) → IfErr answer (λ e. (refusal_of e ≡ why.Device) ⊎ Stands left history) →
+      IfErr answer (λ e. IsOneOf outside_refusals e ⊎ (cause ≡ Some (refusal_of e))) → IfErr answer (λ e. refusal_of e ≡ why.Device → IsHalted left) → Tries found left event answer → IfErr answer (λ e. (refusal_of e ≡ why.Device) ⊎ Stands left history) →
       IfErr answer (λ _. KeepsReadings found left) → KeepsBeforeOrAfter found history event (disk.seen (disk_of left)) →
       MatchResult answer (λ _. Makes 4 (disk.arms (disk_of found)) (disk.arms (disk_of left))) (λ e. MakesIfDevice e 4 (disk.arms (disk_of found)) (disk.arms (disk_of left))) →
       MatchResult answer (λ _. disk.failures (disk_of left) ≡ disk.failures (disk_of found)) (λ e. CountsFailures e (disk.failures (disk_of found)) (disk.failures (disk_of left))) →
       StepsBy found left history event cause answer
-  step_by (Ok position) acknowledged record_is causes halts unchanged readings seen calls failures =
+  step_by (Ok position) acknowledged record_is causes halts tries unchanged readings seen calls failures =
       subst (λ (n : ℕ). StepsBy found left history event cause (Ok n)) (sym acknowledged.0) (adds acknowledged.1 record_is calls failures)
-  step_by (Err e) acknowledged record_is causes halts unchanged readings seen calls failures = refusal_step e causes halts unchanged readings seen calls failures
+  step_by (Err e) acknowledged record_is causes halts tries unchanged readings seen calls failures = refusal_step e causes halts (was_tried found left event e tries) unchanged readings seen calls failures
 
 -- a replacement under a token that is not done
 module _ {D : Type 0} {disk : Ghosts D} (found left : Replica D disk) (history : History) (token : Token) (path : Path) (since : ℕ) (new : Model) (stands : Stands found history) (open_is : is_done history token ≡ false) where
@@ -146,16 +151,16 @@ module _ {D : Type 0} {disk : Ghosts D} (found left : Replica D disk) (history :
 
   pub replaced_by : (answer : Result ℕ ReplicaError) → IfOk answer (λ position. (position ≡ length (replaced history token path since new)) × Stands left (replaced history token path since new)) →
       OnOk answer (HasRecord found left (Replaced token path since new)) → IfErr answer (λ e. IsOneOf outside_refusals e ⊎ (replace_refusal (room_shown found) history token path since new ≡ Some (refusal_of e))) →
-      IfErr answer (λ e. refusal_of e ≡ why.Device → IsHalted left) → IfErr answer (λ e. (refusal_of e ≡ why.Device) ⊎ (journal_of left ≡ journal_of found)) → IfErr answer (λ _. KeepsReadings found left) →
+      IfErr answer (λ e. refusal_of e ≡ why.Device → IsHalted left) → Tries found left (Replaced token path since new) answer → IfErr answer (λ e. (refusal_of e ≡ why.Device) ⊎ (journal_of left ≡ journal_of found)) → IfErr answer (λ _. KeepsReadings found left) →
       KeepsBeforeOrAfter found history (Replaced token path since new) (disk.seen (disk_of left)) →
       MatchResult answer (λ _. MakesIfNew (is_done history token) (disk.arms (disk_of found)) (disk.arms (disk_of left))) (λ e. MakesIfDevice e 4 (disk.arms (disk_of found)) (disk.arms (disk_of left))) →
       MatchResult answer (λ _. disk.failures (disk_of left) ≡ disk.failures (disk_of found)) (λ e. CountsFailures e (disk.failures (disk_of found)) (disk.failures (disk_of left))) →
       StepsBy found left history (Replaced token path since new) (replace_refusal (room_shown found) history token path since new) answer
   unfolding event
-  replaced_by (Ok position) acknowledged record_is causes halts unchanged readings seen calls failures =
+  replaced_by (Ok position) acknowledged record_is causes halts tries unchanged readings seen calls failures =
       let long : position ≡ length history + 1 = acknowledged.0 ∙ (ap length longer ∙ length-append history (event ∷ [])) in
       subst (λ (n : ℕ). StepsBy found left history event (replace_refusal (room_shown found) history token path since new) (Ok n)) (sym long)
       (adds (subst (λ (h : History). Stands left h) longer acknowledged.1) record_is (subst (λ (b : Bool). MakesIfNew b (disk.arms (disk_of found)) (disk.arms (disk_of left))) open_is calls) failures)
-  replaced_by (Err e) acknowledged record_is causes halts unchanged readings seen calls failures =
-      let still : (refusal_of e ≡ why.Device) ⊎ Stands left history = elim unchanged [ inl d ↦ inl d | inr same ↦ inr (stands_still found left history stands readings same) ] in
-      refusal_step found left history event (replace_refusal (room_shown found) history token path since new) stands e causes halts still readings seen calls failures
+  replaced_by (Err e) acknowledged record_is causes halts tries unchanged readings seen calls failures =
+      let still : (refusal_of e ≡ why.Device) ⊎ Stands left history = elim unchanged [ inl d ↦ inl d | inr same ↦ inr (stands_still found left history stands readings.memory same) ] in
+      refusal_step found left history event (replace_refusal (room_shown found) history token path since new) stands e causes halts (was_tried found left event e tries) still readings seen calls failures

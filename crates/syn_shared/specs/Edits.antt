@@ -1,9 +1,12 @@
 -- What the edit of one thread answers and leaves.
 use Rattle.std.specs.Prelude.{◌≡◌, ◌⊎◌, ◌↔◌, ◌+◌, ℕ, [], ◌∷◌, ◌++◌, length, Some, Result, Err}
 use Rattle.std.specs.Prelude.{IfOk, IfErr, OnOk, IsErrAnd, MatchResult}
+use Rattle.syn_agent.specs.Machines.{IsOf}
+use Rattle.syn_agent.specs.declared.agent.Agent.{Agent}
 use Rattle.syn_disk.specs.Calls.{Makes}
 use Rattle.syn_disk.specs.Stops.{LeavesOnly}
 use Rattle.syn_disk.specs.declared.disk.Disk.{Ghosts}
+use Rattle.syn_headline.specs.SideMachine.{SideMachine}
 use Rattle.syn_journal.specs.declared.error.JournalError.TheVariants.{Halted}
 use Rattle.syn_model.specs.Event.{Event}
 use Rattle.syn_model.specs.History.{History}
@@ -11,17 +14,21 @@ use Rattle.syn_model.specs.Refusal.{Refusal, Device}
 use Rattle.syn_replica.specs.Growth.{IsGrown}
 use Rattle.syn_replica.specs.Refusals.{refusal_of, IsOneOf, edit_refusals, outside_refusals}
 use Rattle.syn_replica.specs.Refusals.{CountsFailures, MakesIfDevice}
-use Rattle.syn_replica.specs.Replica.{disk_of, room_shown, IsHalted, Stands, KeepsReadings}
-use Rattle.syn_replica.specs.Replica.{HasRecord, KeepsBeforeOrAfter, Tries}
+use Rattle.syn_replica.specs.Replica.{disk_of, journal_of, room_shown, IsHalted, Stands}
+use Rattle.syn_replica.specs.Replica.{KeepsReadings, HasRecord, KeepsBeforeOrAfter, Tries}
 use Rattle.syn_replica.specs.Steps.{add_refusal}
 use Rattle.syn_replica.specs.declared.error.ReplicaError.{ReplicaError}
 use Rattle.syn_replica.specs.declared.error.ReplicaError.TheVariants.{Journal}
 use Rattle.syn_replica.specs.declared.replica.Replica.{Replica}
+use Rattle.syn_shared.specs.Machines.{EditsSide}
 use Rattle.syn_shared.specs.Steps.{StepsBy}
 
 -- an edit, as its event
 pub record Edits {D : Type 0} {disk : Ghosts D} (event : Event) (answer : Result ℕ ReplicaError)
     (found left : Replica D disk) : Type 0 where
+  -- the world's edit on the machine that the replica is
+  pub world : (pair : ℕ) (agent : Agent) (machine : SideMachine)
+      → IsOf pair found agent machine → EditsSide pair left agent machine event answer
   -- one step of a side
   pub step : (history : History) → Stands found history
       → StepsBy found left history event (add_refusal (room_shown found) history event) answer
@@ -51,6 +58,7 @@ pub record Edits {D : Type 0} {disk : Ghosts D} (event : Event) (answer : Result
   pub readings : IfErr answer (λ _. KeepsReadings found left)
   pub unchanged : (history : History) → Stands found history
       → IfErr answer (λ e. (refusal_of e ≡ Device) ⊎ Stands left history)
+  pub journal : IfErr answer (λ e. (refusal_of e ≡ Device) ⊎ (journal_of left ≡ journal_of found))
   -- what its device was asked
   pub failures : MatchResult answer
       (λ _. disk.failures (disk_of left) ≡ disk.failures (disk_of found))

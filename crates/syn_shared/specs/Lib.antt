@@ -2,6 +2,7 @@ pub mod Shared
 pub mod Refusals
 pub mod Reads
 pub mod Steps
+pub mod Machines
 pub mod Edits
 pub mod Replacements
 pub mod Upkeep

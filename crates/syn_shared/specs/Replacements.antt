@@ -1,8 +1,11 @@
 -- What the replacement of one thread answers and leaves.
-use Rattle.std.specs.Prelude.{◌≡◌, ◌⊎◌, ◌↔◌, ℕ, true, false, length, Some, Result, Ok, Err}
+use Rattle.std.specs.Prelude.{◌≡◌, ◌⊎◌, ◌↔◌, ℕ, true, false, length, Some, None, Result, Ok, Err}
 use Rattle.std.specs.Prelude.{IfOk, IfErr, OnOk, IsErrAnd, MatchResult}
+use Rattle.syn_agent.specs.Machines.{IsOf}
+use Rattle.syn_agent.specs.declared.agent.Agent.{Agent}
 use Rattle.syn_disk.specs.Stops.{LeavesOnly}
 use Rattle.syn_disk.specs.declared.disk.Disk.{Ghosts}
+use Rattle.syn_headline.specs.SideMachine.{SideMachine}
 use Rattle.syn_journal.specs.declared.error.JournalError.TheVariants.{Halted}
 use Rattle.syn_model.specs.Event.{Token, Replaced}
 use Rattle.syn_model.specs.History.{History}
@@ -18,11 +21,18 @@ use Rattle.syn_replica.specs.Steps.{is_done, replaced, replace_refusal, MakesIfN
 use Rattle.syn_replica.specs.declared.error.ReplicaError.{ReplicaError}
 use Rattle.syn_replica.specs.declared.error.ReplicaError.TheVariants.{Journal}
 use Rattle.syn_replica.specs.declared.replica.Replica.{Replica}
+use Rattle.syn_shared.specs.Machines.{WritesEvent, IsRefusedEarly}
 use Rattle.syn_shared.specs.Steps.{StepsBy}
 
 -- a replacement under a token
 pub record Replaces {D : Type 0} {disk : Ghosts D} (token : Token) (path : Path) (since : ℕ)
     (new : Tree) (answer : Result ℕ ReplicaError) (found left : Replica D disk) : Type 0 where
+  -- the world's write of the event on the machine that the replica is, where the token is not done
+  pub world : (pair : ℕ) (agent : Agent) (machine : SideMachine)
+      → IsOf pair found agent machine → is_done machine.journal.value token ≡ false
+      → let cause = replace_refusal (room_shown found) machine.journal.value token path since new in
+      WritesEvent pair left agent machine (Replaced token path since new) (cause ≡ None)
+      (IsRefusedEarly machine cause) answer
   -- one step of a side, where the token is not done
   pub step : (history : History) → Stands found history → is_done history token ≡ false
       → StepsBy found left history (Replaced token path since new)

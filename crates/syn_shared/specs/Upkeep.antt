@@ -1,12 +1,16 @@
 -- What the checkpoint and the reopening of one thread answer and leave.
-use Rattle.std.specs.Prelude.{◌≡◌, ◌⊎◌, ◌↔◌, ◌+◌, ◌^◌, ◌<◌, [], ◌∷◌, ◌++◌, length, None}
+use Rattle.std.specs.Prelude.{◌≡◌, ◌≢◌, ◌⊎◌, ◌↔◌, ◌+◌, ◌^◌, ◌<◌, ◌≤◌, ℕ, [], ◌∷◌, ◌++◌, length, None}
 use Rattle.std.specs.Prelude.{Result, Err}
 use Rattle.std.specs.Prelude.{IfErr, OnOk, IsErrAnd, MatchResult}
+use Rattle.syn_agent.specs.Machines.{IsOf}
+use Rattle.syn_agent.specs.declared.agent.Agent.{Agent}
 use Rattle.syn_disk.specs.Calls.{Makes, MakesAtLeast}
 use Rattle.syn_disk.specs.Stops.{LeavesOnly, Untouched}
 use Rattle.syn_disk.specs.declared.disk.Disk.{Ghosts}
+use Rattle.syn_headline.specs.SideMachine.{SideMachine}
 use Rattle.syn_journal.specs.Journal as journal
 use Rattle.syn_journal.specs.Layout.{image_alone, longest_image}
+use Rattle.syn_journal.specs.declared.error.JournalError.TheVariants as journal_error
 use Rattle.syn_journal.specs.declared.error.JournalError.TheVariants.{Halted}
 use Rattle.syn_model.specs.Event.{Event}
 use Rattle.syn_model.specs.History.{History}
@@ -14,20 +18,24 @@ use Rattle.syn_model.specs.Image.{image_spelling}
 use Rattle.syn_model.specs.Refusal.{Device, Full, Memory}
 use Rattle.syn_model.specs.Refusal as why
 use Rattle.syn_replica.specs.Disks.{DiskGives, DiskStands, IsReopenRefusal}
-use Rattle.syn_replica.specs.Growth.{IsGrown, KeepsUp}
+use Rattle.syn_replica.specs.Growth.{IsGrown, KeepsUp, WithTried}
 use Rattle.syn_replica.specs.Refusals.{refusal_of, IsOneOf, checkpoint_refusals, outside_refusals}
 use Rattle.syn_replica.specs.Refusals.{CountsFailures, MakesIfDevice, AfterReads}
 use Rattle.syn_replica.specs.Replica.{pair_of, standing_shown, position_shown, disk_of, journal_of}
 use Rattle.syn_replica.specs.Replica.{generation_shown, tried_shown, IsHalted, Stands, SameMemory}
-use Rattle.syn_replica.specs.Replica.{KeepsReadings, KeepsBeforeOrAfter, KeepsOrCompacts}
+use Rattle.syn_replica.specs.Replica.{KeepsReadings, KeepsBeforeOrAfter, KeepsOrCompacts, ShowsDisk}
 use Rattle.syn_replica.specs.declared.error.ReplicaError.{ReplicaError}
 use Rattle.syn_replica.specs.declared.error.ReplicaError.TheVariants.{Journal}
 use Rattle.syn_replica.specs.declared.replica.Replica.{Replica}
+use Rattle.syn_shared.specs.Machines.{CompactsSide, ReopensSide}
 
 module _ {D : Type 0} {disk : Ghosts D} (answer : Result Unit ReplicaError)
     (found left : Replica D disk) where
   -- a checkpoint of a side: the same history, by its image alone
   pub record Checkpoints : Type 0 where
+    -- the world's checkpoint of the machine that the replica is
+    pub world : (pair : ℕ) (agent : Agent) (machine : SideMachine)
+        → IsOf pair found agent machine → CompactsSide pair left agent machine answer
     pub acknowledged : (history : History) → Stands found history
         → OnOk answer (Stands left history)
     pub image : OnOk answer (journal.Stands (journal_of left)
@@ -50,6 +58,8 @@ module _ {D : Type 0} {disk : Ghosts D} (answer : Result Unit ReplicaError)
         (λ e. refusal_of e ≡ Full → generation_shown found + 1 ≡ 2 ^ 64)
     pub greatest : generation_shown found + 1 ≡ 2 ^ 64
         → IsErrAnd answer (IsOneOf (why.Halted ∷ Full ∷ Memory ∷ []))
+    pub first : generation_shown found + 1 ≡ 2 ^ 64 → ¬ IsHalted found
+        → answer ≡ Err (Journal journal_error.Full)
     pub refusals : IfErr answer (IsOneOf checkpoint_refusals)
     pub halted : (answer ≡ Err (Journal Halted)) ↔ IsHalted found
     pub halts : IfErr answer (λ e. refusal_of e ≡ Device → IsHalted left)
@@ -66,6 +76,9 @@ module _ {D : Type 0} {disk : Ghosts D} (answer : Result Unit ReplicaError)
 
   -- a reopening of a side: what its disk stands for
   pub record Reopens : Type 0 where
+    -- the world's opening of the machine that the replica is
+    pub world : (pair : ℕ) (agent : Agent) (machine : SideMachine)
+        → IsOf pair found agent machine → ReopensSide pair left agent machine answer
     pub given : OnOk answer
         (DiskGives (pair_of left) (disk.seen (disk_of found)) (standing_shown left))
     pub each : OnOk answer ((history : History)
@@ -73,19 +86,24 @@ module _ {D : Type 0} {disk : Ghosts D} (answer : Result Unit ReplicaError)
     pub pair : pair_of left ≡ pair_of found
     pub tried : MatchResult answer (λ _. tried_shown left ≡ None)
         (λ _. tried_shown left ≡ tried_shown found)
-    -- the history before the call that was refused 9, or with the event that was being written
+    -- the history before the call that was refused 9, or with the event that was tried
     pub before_or_after : (history : History) (event : Event)
         → KeepsBeforeOrAfter found history event (disk.seen (disk_of found))
         → OnOk answer (Stands left history ⊎ Stands left (history ++ event ∷ []))
     pub keeps_up : (history : History) → KeepsUp found history → MatchResult answer
-        (λ _. Stands left history ⊎ ((event : Event) × Stands left (history ++ event ∷ [])))
+        (λ _. WithTried (Stands left) (tried_shown found) history)
         (IsOneOf outside_refusals)
+    pub lawful : (history : History) → DiskStands (pair_of found) (disk.seen (disk_of found)) history
+        → position_shown found ≤ length history → IfErr answer (IsOneOf outside_refusals)
     pub grown : IsGrown found left
     -- refused
     pub refusals : IfErr answer (λ e. IsReopenRefusal e (pair_of found) (position_shown found)
         (disk.seen (disk_of found)))
-    pub halts : IfErr answer (λ e. refusal_of e ≡ Device → IsHalted left)
+    pub halts : IfErr answer (λ e. refusal_of e ≢ Memory → IsHalted left)
     pub memory : IfErr answer (λ _. SameMemory found left)
+    pub readings : IfErr answer (λ _. KeepsReadings found left ⊎ ShowsDisk left)
+    pub room : (history : History) → Stands found history
+        → IfErr answer (λ _. KeepsReadings found left)
     pub halted : IfErr answer (λ _. IsHalted found → IsHalted left)
     pub unchanged : (history : History) → Stands found history
         → IfErr answer (λ e. (refusal_of e ≡ Device) ⊎ Stands left history)

@@ -3,6 +3,7 @@
 
 mod edits;
 mod error;
+mod laws;
 mod reads;
 mod sessions;
 mod shared;

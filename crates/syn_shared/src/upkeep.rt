@@ -4,6 +4,7 @@ ghost use Rattle.syn_shared.specs.Refusals.{answer_in};
 ghost use Rattle.syn_shared.specs.Upkeep.{Checkpoints, Reopens};
 
 use crate::error::{SharedError, answered};
+use crate::laws::{is_long, step_laws};
 use crate::shared::SharedReplica;
 use std::alloc::Global;
 use syn_disk::Disk;
@@ -32,6 +33,8 @@ impl<D: Disk> SharedReplica<D> {
         let Ok(mut guard) = pass.try_enter(own) else {
             return Err(SharedError::Busy);
         };
+        step_laws(&guard);
+        is_long(guard.generation());
         let answer = guard.checkpoint(alloc);
         own.leave(guard);
         answered(answer)
@@ -53,6 +56,7 @@ impl<D: Disk> SharedReplica<D> {
         let Ok(mut guard) = pass.try_enter(own) else {
             return Err(SharedError::Busy);
         };
+        step_laws(&guard);
         let answer = guard.reopen(alloc);
         own.leave(guard);
         answered(answer)

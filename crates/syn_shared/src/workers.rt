@@ -1,8 +1,8 @@
 //! Workers that take their passes from a pool.
-ghost use Rattle.std.specs.Prelude.{◌≡◌, ◌⊎◌, IfErr, MatchResult};
+ghost use Rattle.std.specs.Prelude.{◌≡◌, ◌⊎◌, IfErr, MatchOption};
 ghost use Rattle.syn_lock.specs.Locks.{IsLock};
 ghost use Rattle.syn_shared.specs.Shared.{own_of, IsFor};
-ghost use Rattle.syn_shared.specs.Workers.{IsDone};
+ghost use Rattle.syn_shared.specs.Workers.{IsDone, IsNotDone};
 
 use crate::shared::SharedReplica;
 use std::alloc::Global;
@@ -47,21 +47,23 @@ pub fn fill<D: Disk, L: Naming<Replica<D>>>(
     Ok(PassPool::new(passes))
 }
 
-/// One worker, which borrows the replica and the pool: it draws a pass, does its work with it, and
-/// puts it back for the next.
+/// One worker, which borrows the replica and the pool: it does its work with the pass that was
+/// drawn from the pool, and puts the pass back for the next.
 ///
-/// Refused 24 where the pool has no pass left, and nothing was done. Refused 11 where memory is
-/// refused for the pass to go back: the work was done, and the pass is out for good.
+/// Refused 24 where none was drawn, and nothing was done. Refused 11 where memory is refused for
+/// the pass to go back: the work was done, and the pass is out for good.
 pub fn serve<R: Wait, D: Disk, L: Naming<Replica<D>>, W: Work<D>>(
     rt: &R,
     shared: &SharedReplica<D>,
     pool: &PassPool<Replica<D>, L>,
+    drawn: Option<NamedPass<Replica<D>, L>>,
     work: &mut W,
 ) -> Result<(), LockError>
     requires { IsLock L.lock L.origin (own_of shared.now) }
-    ensures { IsDone W.does work.old work.new result }
+    ensures { MatchOption drawn (IsNotDone work.old work.new result)
+        (λ _. IsDone W.does work.old work.new result) }
 {
-    let Some(named) = pool.draw(rt) else {
+    let Some(named) = drawn else {
         return Err(LockError::NoSeat);
     };
     let mut pass = named.into_pass();

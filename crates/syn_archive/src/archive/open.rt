@@ -19,7 +19,8 @@ use syn_wire::ArchiveImage;
 
 impl<D: Disk> Archive<D> {
     ghost use Rattle.syn_archive.specs.Archive.{pair_of, shown, disk_of};
-    ghost use Rattle.syn_archive.specs.Archive.{IsHalted, Stands, SameMemory, KeepsBeforeOrAfter};
+    ghost use Rattle.syn_archive.specs.Archive.{IsHalted, Stands, SameMemory, KeepsReadings};
+    ghost use Rattle.syn_archive.specs.Archive.{KeepsBeforeOrAfter, ShowsDisk};
 
     /// Opens what the disk holds.
     ///
@@ -112,6 +113,10 @@ impl<D: Disk> Archive<D> {
 
         // What stays after a refusal.
         ensures memory { IfErr result (λ _. SameMemory self.old self.new) }
+        ensures readings { IfErr result (λ _. KeepsReadings self.old self.new
+            ⊎ ShowsDisk self.new) }
+        ensures room { (kept : KeptArchive) → Stands self.old kept
+            → IfErr result (λ _. KeepsReadings self.old self.new) }
         ensures halted { IfErr result (λ _. IsHalted self.old → IsHalted self.new) }
         ensures unchanged { (kept : KeptArchive) → Stands self.old kept
             → IfErr result (λ e. (e ≡ ArchiveError.Device) ⊎ Stands self.new kept) }

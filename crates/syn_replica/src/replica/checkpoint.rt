@@ -49,11 +49,14 @@ impl<D: Disk> Replica<D> {
             → (generation_shown self.old + 1 ≡ 2 ^ 64) ⊎ (longest_image
             < length (image_spelling (pair_of self.old) (standing_shown self.old)))) }
 
-        // The image of a history is never too long, so that the generation alone is a cause.
+        // The image of a history is never too long, so that the generation alone is a cause. It is
+        // looked at before any memory is taken.
         ensures full { (history : History) → Stands self.old history → IfErr result
             (λ e. refusal_of e ≡ Full → generation_shown self.old + 1 ≡ 2 ^ 64) }
         ensures greatest { generation_shown self.old + 1 ≡ 2 ^ 64
             → IsErrAnd result (IsOneOf (Halted ∷ Full ∷ Memory ∷ [])) }
+        ensures first { generation_shown self.old + 1 ≡ 2 ^ 64 → ¬ IsHalted self.old
+            → result ≡ Err (ReplicaError.Journal JournalError.Full) }
         ensures refusals { IfErr result (IsOneOf checkpoint_refusals) }
         ensures halted { (result ≡ Err (ReplicaError.Journal JournalError.Halted))
             ↔ IsHalted self.old }
@@ -82,6 +85,9 @@ impl<D: Disk> Replica<D> {
         history_laws();
         if self.journal.is_halted() {
             return Err(ReplicaError::Journal(JournalError::Halted));
+        }
+        if self.journal.generation() == u64::MAX {
+            return Err(ReplicaError::Journal(JournalError::Full));
         }
         let image = encode_image(
             alloc,

@@ -1,11 +1,11 @@
 //! A reopening: a replica finds out anew what its own disk stands for.
-ghost use Rattle.std.specs.Prelude.{◌≡◌, ◌≤◌, ◌<◌, ◌^◌, ◌⊎◌, ◌++◌, ◌∷◌, [], None, Ok, IfOk};
-ghost use Rattle.std.specs.Prelude.{IfErr, OnOk, MatchResult, List, ℕ};
+ghost use Rattle.std.specs.Prelude.{◌≡◌, ◌≢◌, ◌≤◌, ◌<◌, ◌^◌, ◌⊎◌, ◌++◌, ◌∷◌, [], None, Ok, IfOk};
+ghost use Rattle.std.specs.Prelude.{IfErr, OnOk, MatchResult, List, ℕ, true, false, length};
 ghost use Rattle.syn_disk.specs.Calls.{MakesAtLeast};
 ghost use Rattle.syn_disk.specs.Stops.{Untouched};
 ghost use Rattle.syn_model.specs.Event.{Event};
 ghost use Rattle.syn_model.specs.History.{History};
-ghost use Rattle.syn_model.specs.Refusal.{Device};
+ghost use Rattle.syn_model.specs.Refusal.{Device, Memory};
 ghost use Rattle.syn_journal.specs.Layout.{meaning};
 ghost use Rattle.syn_journal.specs.Opened.{payloads_of, value_read};
 ghost use Rattle.syn_model.specs.Image.{Gives};
@@ -27,15 +27,16 @@ use syn_journal::Reopened;
 impl<D: Disk> Replica<D> {
     ghost use Rattle.syn_replica.specs.Replica.{pair_of, standing_shown, tried_shown, disk_of};
     ghost use Rattle.syn_replica.specs.Replica.{position_shown};
-    ghost use Rattle.syn_replica.specs.Growth.{KeepsUp, IsGrown};
-    ghost use Rattle.syn_replica.specs.Replica.{IsHalted, Stands, SameMemory, KeepsBeforeOrAfter};
+    ghost use Rattle.syn_replica.specs.Growth.{KeepsUp, IsGrown, WithTried};
+    ghost use Rattle.syn_replica.specs.Replica.{IsHalted, Stands, SameMemory, KeepsReadings};
+    ghost use Rattle.syn_replica.specs.Replica.{KeepsBeforeOrAfter, ShowsDisk};
 
     /// Opens the replica's own disk again. A replica that was halted runs again.
     ///
     /// Refused 9 where a device call fails, 18 where the disk holds no image, 19 where it means
     /// nothing that a replica of the pair holds or gives fewer events than the replica remembers,
-    /// 20 where it is of another pair, and 11 where memory is refused. After 9 the replica is
-    /// halted; after any other refusal it is as it was, halted or not. Nothing is written.
+    /// 20 where it is of another pair, and 11 where memory is refused. After 11 the replica is as
+    /// it was, halted or not; after any other refusal it is halted. Nothing is written.
     pub fn reopen(&mut self, alloc: Global) -> Result<(), ReplicaError>
         // It shows what the disk gives, and stands for each history that the disk stands for.
         ensures given { OnOk result
@@ -54,11 +55,17 @@ impl<D: Disk> Replica<D> {
             → OnOk result (Stands self.new history ⊎ Stands self.new (history ++ event ∷ [])) }
 
         // A replica that keeps up with a history stands for it again, or for it with the event that
-        // was being written. It is refused 9 and 11 alone.
+        // was tried last. It is refused 9 and 11 alone.
         ensures keeps_up { (history : History) → KeepsUp self.old history → MatchResult result
-            (λ _. Stands self.new history
-            ⊎ ((event : Event) × Stands self.new (history ++ event ∷ [])))
+            (λ _. WithTried (Stands self.new) (tried_shown self.old) history)
             (IsOneOf outside_refusals) }
+
+        // So is it wherever its disk stands for a history that is not shorter than what it
+        // remembers.
+        ensures lawful { (history : History)
+            → DiskStands (pair_of self.old) (D.seen (disk_of self.old)) history
+            → position_shown self.old ≤ length history
+            → IfErr result (IsOneOf outside_refusals) }
 
         // Whatever is answered, no history is lost.
         ensures grown { IsGrown self.old self.new }
@@ -66,10 +73,14 @@ impl<D: Disk> Replica<D> {
         // Each refusal has its cause.
         ensures refusals { IfErr result (λ e. IsReopenRefusal e (pair_of self.old)
             (position_shown self.old) (D.seen (disk_of self.old))) }
-        ensures halts { IfErr result (λ e. refusal_of e ≡ Device → IsHalted self.new) }
+        ensures halts { IfErr result (λ e. refusal_of e ≢ Memory → IsHalted self.new) }
 
         // What stays after a refusal.
         ensures memory { IfErr result (λ _. SameMemory self.old self.new) }
+        ensures readings { IfErr result (λ _. KeepsReadings self.old self.new
+            ⊎ ShowsDisk self.new) }
+        ensures room { (history : History) → Stands self.old history
+            → IfErr result (λ _. KeepsReadings self.old self.new) }
         ensures halted { IfErr result (λ _. IsHalted self.old → IsHalted self.new) }
         ensures unchanged { (history : History) → Stands self.old history
             → IfErr result (λ e. (refusal_of e ≡ Device) ⊎ Stands self.new history) }
@@ -96,11 +107,29 @@ impl<D: Disk> Replica<D> {
                 Ok(())
             }
             Err(error) => {
-                if was_halted {
-                    self.journal.halt();
-                }
+                self.settle(was_halted, error);
                 Err(error)
             }
+        }
+    }
+
+    /// Halts the replica where it was halted, or its disk does not give what it remembers. Where
+    /// memory was refused, one that ran goes on.
+    fn settle(&mut self, was_halted: bool, error: ReplicaError)
+        ensures halted { was_halted ≡ true → IsHalted self.new }
+        ensures halts { refusal_of error ≢ Memory → IsHalted self.new }
+        ensures goes_on { was_halted ≡ false → error ≡ ReplicaError.Memory → self.new ≡ self.old }
+        ensures disk { disk_of self.new ≡ disk_of self.old }
+        ensures readings { KeepsReadings self.old self.new }
+        ensures tried { tried_shown self.new ≡ tried_shown self.old }
+    {
+        if was_halted {
+            self.journal.halt();
+            return;
+        }
+        match error {
+            ReplicaError::Memory => {}
+            _ => self.journal.halt(),
         }
     }
 

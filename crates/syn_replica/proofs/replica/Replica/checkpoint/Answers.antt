@@ -87,9 +87,20 @@ returns-in_err-checkpoint-clause-grown g c =
       | inl device ↦ inl (c.checkpoint.ensures.halts (c.in_err-checkpoint.was ∙ ap (λ e. Err e) device))
       | inr same ↦ inr same
     ] in
-    broken old _ refl refl running how (λ history stands. of_checkpoint old history _ (returns-in_err-checkpoint-clause-seen g c history stands))
+    broken old _ refl refl running how (λ _ history stands. of_checkpoint old history _ _ (returns-in_err-checkpoint-clause-seen g c history stands))
 
 pub returns-clause-grown : goal.returns-clause-grown
 returns-clause-grown g c =
     let running : IsHalted c.args.self.now → ⊥ = λ halted. true≢false (sym (c.is_halted.ensures.halted.1 halted) ∙ c.if-is_halted.false) in
     kept c.args.self.now _ refl refl running (λ history stands. returns-clause-acknowledged g c history stands)
+
+-- its generation is the greatest
+pub returns-then-generation-clause-any_moment : goal.returns-then-generation-clause-any_moment
+returns-then-generation-clause-any_moment g c history stands =
+    not_written g.met.D.Disk.only_now c.args.self.now history stands _ (inl (keeps_now c.args.self.now history stands))
+
+pub returns-then-generation-clause-seen : goal.returns-then-generation-clause-seen
+returns-then-generation-clause-seen g c history stands = inl (keeps_now c.args.self.now history stands)
+
+pub returns-then-generation-clause-grown : goal.returns-then-generation-clause-grown
+returns-then-generation-clause-grown g c = itself c.args.self.now

@@ -1,13 +1,15 @@
-use Rattle.std.proofs.Common.{◌≡◌, ◌≤◌, ◌⊎◌, ◌+◌, ◌∷◌, ◌++◌, [], ap, ◌∙◌, sym, subst, refl, inl, inr, Err}
+use Rattle.std.proofs.Common.{◌≡◌, ◌≤◌, ◌⊎◌, ◌+◌, ◌∷◌, [], ap, ◌∙◌, sym, subst, refl, inl, inr, Err, Some}
+use denote.Enum.Bare.{same_false}
+use Rattle.syn_journal.specs.contracts.error.JournalError.{the_type}
+use Rattle.syn_journal.specs.declared.error.JournalError.TheVariants.{Device}
 use Rattle.syn_journal.specs.Journal as journal
 use Rattle.syn_model.specs.Standing.{Standing}
 use Rattle.syn_journal.specs.Layout.{with_payload, IsBeforeOrAfter}
-use Rattle.syn_replica.specs.Disks.{DiskStands}
+use Rattle.syn_replica.specs.Growth.{StandsOrTried}
 use Rattle.syn_replica.specs.Replica.{KeepsBeforeOrAfter, Stands, left_shown}
-use Rattle.syn_model.specs.Event.{Event}
 use Rattle.syn_model.specs.History.{History}
 use Rattle.syn_replica.proofs.StandLemmas.{seen_is_left, payload_stands, stop_keeps, left_behind, leaves_weaker, remembers_more}
-use Rattle.syn_replica.proofs.GrowthLemmas.{broken, added, of_write, one_more}
+use Rattle.syn_replica.proofs.GrowthLemmas.{broken, kept, stands_still, added, of_write, one_more}
 use Rattle.syn_replica.proofs.replica.Replica.commit.Goals as goal
 use Rattle.syn_replica.proofs.replica.Replica.commit.Goals.{then-eq, else-eq}
 
@@ -60,14 +62,16 @@ returns-in-Err-clause-grown g c event allowed e of =
       | inl device ↦ inl (c.append.ensures.halts (c.in-Err.is ∙ ap (λ e. Err e) device))
       | inr same ↦ inr same
     ] in
-    let keeps : (history : History) → Stands old history → DiskStands old.pair (g.D.Disk.seen c.append.new.self.disk) history ⊎ ((x : Event) × DiskStands old.pair (g.D.Disk.seen c.append.new.self.disk) (history ++ x ∷ [])) = λ history stands.
+    let keeps : (history : History) → Stands old history → StandsOrTried old.pair (Some c.args.payload.items) (g.D.Disk.seen c.append.new.self.disk) history = λ history stands.
     let left = leaves_weaker g.D.Disk.moment g.D.Disk.left_since _ _ (IsBeforeOrAfter stands.value old.journal.generation (with_payload stands.value payload) old.journal.generation) (KeepsBeforeOrAfter old history event)
     (stop_keeps c.history_laws.ensures.payload c.layout_laws.ensures.left old.pair stands.value payload history event (left_shown old) old.journal.generation stands.means (allowed history stands) spelled (left_behind old stands.value stands.runs))
     (c.append.ensures.any_moment stands.value stands.runs) in
-    of_write old history event _ (seen_is_left g.D.Disk.seen g.D.Disk.may_leave g.D.Disk.moment g.D.Disk.left_since g.met.D.Disk.seen_may_stay g.met.D.Disk.counts_now _ _ (KeepsBeforeOrAfter old history event) left) in
+    of_write old history event _ _ (ap Some e) (seen_is_left g.D.Disk.seen g.D.Disk.may_leave g.D.Disk.moment g.D.Disk.left_since g.met.D.Disk.seen_may_stay g.met.D.Disk.counts_now _ _ (KeepsBeforeOrAfter old history event) left) in
     elim c.if-eq.branch [
-      | then-eq w ↦ rw w.self-is (broken old _ refl refl c.requires.running how keeps)
-      | else-eq w ↦ rw w.self-is (broken old _ refl refl c.requires.running how keeps)
+      | then-eq w ↦ rw w.self-is (broken old _ refl refl c.requires.running how (λ _. keeps))
+      | else-eq w ↦
+          let same : c.append.new.self ≡ old.journal = elim c.in-Err.ensures.unchanged [ inl device ↦ absurd (same_false the_type c.in-Err.error Device (sym c.eq.ensures ∙ w.if-eq.false) device) | inr same ↦ same ] in
+          rw w.self-is (kept old _ refl refl c.requires.running (stands_still old _ refl refl same))
     ]
 
 pub returns-clause-grown : goal.returns-clause-grown

@@ -1,4 +1,4 @@
-use Rattle.std.proofs.Common.{◌≡◌, ◌<◌, ◌≤◌, true, ap, ◌∙◌, sym, subst, length, slice_index_or, ltb-true, ltb-false}
+use Rattle.std.proofs.Common.{◌≡◌, ◌<◌, ◌≤◌, true, true≢false, ap, ◌∙◌, sym, subst, refl, length, slice_index_or, ltb-true, ltb-false}
 use Rattle.std.specs.Prelude.{All}
 use Rattle.std.specs.FinMap.{entries}
 use Rattle.std.proofs.lemmas.List.Elements.{All-push}
@@ -8,7 +8,7 @@ use Rattle.syn_scan.specs.Asked.{Asked}
 use Rattle.syn_scan.specs.inner.Kept.{is_open_entry}
 use Rattle.syn_scan.proofs.FirstLemmas.{first_is, whole_is}
 use Rattle.syn_scan.proofs.scanner.Scanner.next_request.Goals as goal
-use Rattle.syn_scan.proofs.scanner.Scanner.next_request.Goals.{In_ok-path}
+use Rattle.syn_scan.proofs.scanner.Scanner.next_request.Goals.{In-Some, In_ok-path}
 
 pub returns-in_default-clause-none : goal.returns-in_default-clause-none
 returns-in_default-clause-none c =
@@ -47,3 +47,28 @@ pub returns-clause-shown : goal.returns-clause-shown
 returns-clause-shown c =
     let one = first (goal.at.returns-clause-shown c).In_ok-path in
     subst (λ f. IsShownIn f c.in_ok-path.path) (ap (λ (a : Asked). a.found) c.self.view_is) (shown_in c.self.inside.scan c.in_ok-path.path c.tree.ensures.found (opened c.self.inside.scan c.in_ok-path.path one.opened).directory)
+
+-- where a directory is open, not each was answered
+not_whole : (c : In-Some) → ¬ IsWhole c.args.self.now.found
+not_whole c whole =
+    let found = c.self.inside.scan in
+    let e = c.in-Some.next.now in
+    let n = c.first_open-at.result in
+    let all = c.as_slice.ensures.all ∙ ap entries c.tree.ensures.marks in
+    let l = subst (λ es. n < length es) all (ltb-true _ _ (sym c.in-Some.ensures.lookup.0)) in
+    let is = c.in-Some.ensures.lookup.1 ∙ ap (λ es. slice_index_or es n e) all in
+    let one = first_is found n e e.0 c.first_open-at.ensures.none l is (ap (is_open_entry found) is ∙ c.first_open-at.ensures.open e l) refl in
+    let same = ap (λ (a : Asked). is_open a.found e.0) c.self.view_is in
+    true≢false (sym one.opened ∙ (same ∙ whole e.0))
+
+pub returns-in_err-path-clause-whole : goal.returns-in_err-path-clause-whole
+returns-in_err-path-clause-whole c whole = absurd (not_whole (goal.at.returns-in_err-path-clause-whole c).In-Some whole)
+
+pub returns-in_err-copy-clause-whole : goal.returns-in_err-copy-clause-whole
+returns-in_err-copy-clause-whole c whole = absurd (not_whole (goal.at.returns-in_err-copy-clause-whole c).In-Some whole)
+
+pub returns-in_err-push-clause-whole : goal.returns-in_err-push-clause-whole
+returns-in_err-push-clause-whole c whole = absurd (not_whole (goal.at.returns-in_err-push-clause-whole c).In-Some whole)
+
+pub returns-clause-whole : goal.returns-clause-whole
+returns-clause-whole c whole = absurd (not_whole (goal.at.returns-clause-whole c).In-Some whole)
