@@ -48,7 +48,7 @@ module _ (one : OneIsGiven) (pair : ℕ) (bytes : List ℕ) (history : History) 
   lawful_opens WrongPair why =
       let other = why.other in
       let same = one why.value.image why.value.payloads pair other.pair _ other.standing fits
-          other.fits (stands_there why.value why.means).gives other.gives in
+      other.fits (stands_there why.value why.means).gives other.gives in
       let asked : pair ≡ other.asked = let k : Some pair ≡ Some other.asked = other.wanted_is in cc in
       absurd (other.differ (sym asked ∙ same.0))
   lawful_opens (Tree e) why = absurd why

@@ -2,14 +2,14 @@
 use Rattle.std.proofs.Common.{◌≡◌, ◌≢◌, ◌⊎◌, ◌∙◌, ◌+◌, ℕ, true, false, List, [], ◌∷◌, ◌++◌, Option}
 use Rattle.std.proofs.Common.{Some, None, inl, inr, refl, sym, ap, subst, arith, length-append}
 use Rattle.std.proofs.lemmas.Bool.{false≢true}
-use Rattle.std.specs.Prelude.{length, option_map}
+use Rattle.std.specs.Prelude.{length}
 use Rattle.syn_agent.specs.Answers.{IsUnchanged}
-use Rattle.syn_agent.specs.Machines.{IsLeftAs, IsOf, Takes, goes_on, heard, stops}
+use Rattle.syn_agent.specs.Machines.{IsOf, Takes, goes_on, heard, stops}
 use Rattle.syn_agent.specs.declared.agent.Agent.{Agent}
 use Rattle.syn_disk.specs.Arms.{is_stopped}
 use Rattle.syn_disk.specs.declared.disk.Disk.{Ghosts}
 use Rattle.syn_headline.specs.Machine.{Status, Up, Halted, Down, Arms, Meets, unarmed, Writes}
-use Rattle.syn_headline.specs.Machine.{all_made, one_fails, one_stops, idle, written, unwritten}
+use Rattle.syn_headline.specs.Machine.{one_stops, idle, written, unwritten}
 use Rattle.syn_headline.specs.Side.{Reply, Request}
 use Rattle.syn_headline.specs.SideMachine.{SideMachine, SideTakes, answers, adds, side_layout}
 use Rattle.syn_headline.specs.SideMachine.{staging_after, with_journal}
@@ -21,11 +21,9 @@ use Rattle.syn_replica.specs.Replica.{IsHalted, disk_of, position_shown, tried_s
 use Rattle.syn_replica.specs.declared.replica.Replica.{Replica}
 use Rattle.syn_world.specs.Outcomes.{Acknowledges, refused_in}
 use Rattle.syn_world.specs.SideSteps.{Journal, takes}
-use Rattle.syn_world.specs.Sides.{AnswersSo, RunsAs, Settles, SettlesAdded, StopsAs}
+use Rattle.syn_world.specs.Sides.{AnswersSo, RunsAs, Settles, SettlesAdded}
 use Rattle.syn_world.specs.declared.outcome.Outcome.TheVariants.{Nothing}
-use Rattle.syn_world.specs.declared.side.SideAnswer.{SideAnswer}
 use Rattle.syn_world.specs.declared.side.SideCall.{SideCall}
-use Rattle.syn_world.specs.declared.side.UpSide.{UpSide}
 use Rattle.syn_world.proofs.EditLemmas.{side_of}
 use Rattle.syn_world.proofs.SideLemmas.{halted_not_down, halted_not_up, none_not_some, not_down}
 use Rattle.syn_world.proofs.SideLemmas.{position_is, state, up_not_down}
@@ -65,8 +63,12 @@ module _ (pair : ℕ) (machine : SideMachine) (other : machine.journal.status �
         failures = machine.journal.failures + failed;
       })) []
   unwritten_becomes event status arms failed either meets up = record {
-    down = λ down. (refl, meets_down machine.journal.arms arms 4 failed status meets down,
-        staged_down status machine down, refl);
+    down = λ down. (
+      refl,
+      meets_down machine.journal.arms arms 4 failed status meets down,
+      staged_down status machine down,
+      refl,
+    );
     either = λ _. inl (refl, refl);
     idles = λ is _ _. elim either [
       | inl halted ↦ absurd (halted_not_up (sym halted ∙ is))
@@ -193,14 +195,14 @@ module _ {D : Type 0} {disk : Ghosts D} (pair : ℕ) (old new : Replica D disk)
             let other = not_down pair (side_of new after) takes_so.next now in
             let shown = position_is pair (side_of new after) takes_so.next now in
             let made = takes takes_so.next (Some (reply_of said)) takes_so.events
-                (subst (λ r. SideTakes pair machine session request takes_so.next r
-                takes_so.events) (says takes_so.next.journal.status other) takes_so.takes) in
+            (subst (λ r. SideTakes pair machine session request takes_so.next r
+            takes_so.events) (says takes_so.next.journal.status other) takes_so.takes) in
             elim (becomes.either other)
             as (λ _. AnswersSo pair machine session request
             (record { call = call; reply = Some said })) [
               | inl stays ↦
                   let behind = (same (position_now
-                      ∙ (ap length (sym stays.1) ∙ sym shown))).goes_on goes in
+                  ∙ (ap length (sym stays.1) ∙ sym shown))).goes_on goes in
                   record {
                     next = takes_so.next;
                     events = takes_so.events;
@@ -212,8 +214,8 @@ module _ {D : Type 0} {disk : Ghosts D} (pair : ℕ) (old new : Replica D disk)
                   }
               | inr grown ↦
                   let behind = (added (λ is. one_longer machine.journal.value grown.0
-                      (ap length (sym grown.2) ∙ (sym shown ∙ (sym is ∙ position_now))))).goes_on
-                      goes grown.0 (takes_so.added grown.0 grown.1) in
+                  (ap length (sym grown.2) ∙ (sym shown ∙ (sym is ∙ position_now))))).goes_on
+                  goes grown.0 (takes_so.added grown.0 grown.1) in
                   record {
                     next = takes_so.next;
                     events = takes_so.events;

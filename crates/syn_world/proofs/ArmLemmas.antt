@@ -1,5 +1,5 @@
 -- A side whose device alone changed.
-use Rattle.std.proofs.Common.{◌≡◌, ◌∙◌, ℕ, false, sym}
+use Rattle.std.proofs.Common.{◌≡◌, ◌∙◌, ℕ, false}
 use Rattle.syn_agent.specs.Machines.{StandsAs}
 use Rattle.syn_agent.specs.declared.agent.Agent.{Agent}
 use Rattle.syn_disk.specs.Arms.{is_stopped}
@@ -13,7 +13,7 @@ use Rattle.syn_replica.specs.Replica.{IsHalted, SameMemory, Stands, disk_of, gen
 use Rattle.syn_replica.specs.Replica.{left_shown, tried_shown}
 use Rattle.syn_replica.specs.declared.replica.Replica.{Replica}
 use Rattle.syn_world.specs.SideSteps.{with_device}
-use Rattle.syn_world.specs.Sides.{RunsAs, TriesWriting}
+use Rattle.syn_world.specs.Sides.{RunsAs}
 use Rattle.syn_world.proofs.EditLemmas.{side_of}
 use Rattle.syn_world.proofs.SideLemmas.{may_be_still, not_down, still_staged}
 
@@ -41,18 +41,18 @@ pub still_runs : {D : Type 0} {disk : Ghosts D} (pair : ℕ) (old new : Replica 
     → RunsAs pair (side_of new agent) (with_device machine machine.journal.status arms failed)
 still_runs pair old new agent machine arms failed runs same stands room generation armed goes tried
     nothing_new = record {
-  is = record {
-    pair_is = same.pair ∙ runs.is.pair_is;
-    stands = stands;
-    room = room;
-    generation = generation;
-    armed = armed;
-    runs = goes;
-    staging = still_staged machine.journal.status machine.staging
-        (not_down pair (side_of old agent) machine runs) ∙ runs.is.staging;
-    left = λ bytes may. may_be_still pair machine.journal machine.journal.status arms failed bytes
-        (runs.is.left bytes (nothing_new bytes may));
-  };
-  idle = runs.idle;
-  tries = λ told writing. tried ∙ runs.tries told writing;
-}
+      is = record {
+        pair_is = same.pair ∙ runs.is.pair_is;
+        stands = stands;
+        room = room;
+        generation = generation;
+        armed = armed;
+        runs = goes;
+        staging = still_staged machine.journal.status machine.staging
+            (not_down pair (side_of old agent) machine runs) ∙ runs.is.staging;
+        left = λ bytes may. may_be_still pair machine.journal machine.journal.status arms failed bytes
+            (runs.is.left bytes (nothing_new bytes may));
+      };
+      idle = runs.idle;
+      tries = λ told writing. tried ∙ runs.tries told writing;
+    }

@@ -72,9 +72,9 @@ of_checkpoint e is =
       | inl halted ↦ inl (halted_number (refusal_of e) (eqb-true _ _ halted))
       | inr more ↦ elim (or_cases (7 == number (refusal_of e)) ((11 == number (refusal_of e))
           || ((9 == number (refusal_of e)) || false)) more) [
-        | inl full ↦ inr (inl (full_number (refusal_of e) (eqb-true _ _ full)))
-        | inr rest ↦ inr (inr (outside e rest))
-      ]
+            | inl full ↦ inr (inl (full_number (refusal_of e) (eqb-true _ _ full)))
+            | inr rest ↦ inr (inr (outside e rest))
+          ]
     ]
 
 tree_is_none : (e : TreeError) → of_tree e ≢ why.Device
@@ -160,12 +160,27 @@ journal_full_not_device e = cc
 
 never_of : (room : ℕ) (past : History) (user : ℕ) (edit : Edit) → Never why.Device
     (event_causes past (Edited user edit) ++ room_causes room (Edited user edit))
-never_of room past user (Put path bytes) = (root_not_device, (no_parent_not_device,
-    (is_directory_not_device, (full_not_device, (full_not_device, (journal_full_not_device, tt))))))
-never_of room past user (MakeDir path) = (root_not_device, (no_parent_not_device,
-    (exists_not_device, (full_not_device, (full_not_device, (journal_full_not_device, tt))))))
-never_of room past user (Remove path) = (root_not_device, (no_parent_not_device,
-    (absent_not_device, (full_not_device, (full_not_device, (journal_full_not_device, tt))))))
+never_of room past user (Put path bytes) = (
+  root_not_device,
+  (
+    no_parent_not_device,
+    (is_directory_not_device, (full_not_device, (full_not_device, (journal_full_not_device, tt)))),
+  ),
+)
+never_of room past user (MakeDir path) = (
+  root_not_device,
+  (
+    no_parent_not_device,
+    (exists_not_device, (full_not_device, (full_not_device, (journal_full_not_device, tt)))),
+  ),
+)
+never_of room past user (Remove path) = (
+  root_not_device,
+  (
+    no_parent_not_device,
+    (absent_not_device, (full_not_device, (full_not_device, (journal_full_not_device, tt)))),
+  ),
+)
 
 -- a device call that fails is no cause of an edit
 pub never_device : (room : ℕ) (past : History) (user : ℕ) (edit : Edit) (other : Refusal)

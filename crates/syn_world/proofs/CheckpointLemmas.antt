@@ -1,10 +1,9 @@
 -- A checkpoint of a side is a step of its machine.
-use Rattle.std.proofs.Common.{◌≡◌, ◌≢◌, ◌⊎◌, ◌∙◌, ◌+◌, ◌-◌, ◌<◌, ◌≤◌, ℕ, suc, Bool, true, false}
-use Rattle.std.proofs.Common.{List, [], ◌∷◌, ◌++◌, Option, Some, None, Result, Ok, Err, arith, refl}
+use Rattle.std.proofs.Common.{◌≡◌, ◌⊎◌, ◌∙◌, ◌+◌, ◌-◌, ◌<◌, ◌≤◌, ℕ, suc, true, false}
+use Rattle.std.proofs.Common.{List, [], ◌∷◌, ◌++◌, Some, None, arith, refl}
 use Rattle.std.proofs.Common.{sym, ap, ap₂, subst, inl, inr}
-use Rattle.std.proofs.lemmas.Bool.{eqb-true, false≢true}
 use Rattle.std.proofs.lemmas.Bool.Decides.{nat_tests}
-use Rattle.std.specs.Prelude.{◌||◌, ◌==◌, ◌^◌, nat_le, length}
+use Rattle.std.specs.Prelude.{◌^◌, nat_le, length}
 use Rattle.syn_agent.specs.Machines.{CompactedIsOf, IsOf, IsUpAs}
 use Rattle.syn_agent.specs.declared.agent.Agent.{Agent}
 use Rattle.syn_disk.specs.Arms.{is_stopped}
@@ -16,7 +15,7 @@ use Rattle.syn_headline.specs.Machine.{after_device, with_image, compacted, not_
 use Rattle.syn_headline.specs.SideMachine.{SideMachine, side_layout, with_journal}
 use Rattle.syn_headline.specs.World.{full_generation}
 use Rattle.syn_journal.specs.Journal as journal
-use Rattle.syn_journal.specs.Layout.{bytes_left, image_alone}
+use Rattle.syn_journal.specs.Layout.{image_alone}
 use Rattle.syn_model.specs.History.{History, standing_of}
 use Rattle.syn_model.specs.Image.{image_spelling}
 use Rattle.syn_model.specs.Limits.{greatest}
@@ -160,8 +159,8 @@ module _ {D : Type 0} {disk : Ghosts D} (pair : ℕ) (old new : Replica D disk) 
         let behind = settles.goes_on goes in
         let next = with_journal machine with_it in
         let made : Checkpoints pair machine next (refused_by machine.journal.status) =
-            checkpoints with_it (not_down pair (side_of old agent) machine runs) none
-            (compacted arms_now meets) in
+        checkpoints with_it (not_down pair (side_of old agent) machine runs) none
+        (compacted arms_now meets) in
         record {
           next = next;
           checkpoints = subst (λ o. Checkpoints pair machine next (refused_in o)) (sym behind.0)
@@ -206,9 +205,9 @@ module _ {D : Type 0} {disk : Ghosts D} (pair : ℕ) (old new : Replica D disk) 
         let next = with_journal machine (under_way Halted arms_now 1) in
         let past = remembers pair (side_of old agent) machine runs in
         let made : Checkpoints pair machine next (why.Device ∷ []) =
-            checkpoints (under_way Halted arms_now 1)
-            (not_down pair (side_of old agent) machine runs) none
-            (not_compacted Halted arms_now 1 (inl refl) meets) in
+        checkpoints (under_way Halted arms_now 1)
+        (not_down pair (side_of old agent) machine runs) none
+        (not_compacted Halted arms_now 1 (inl refl) meets) in
         record {
           next = next;
           checkpoints = subst (λ o. Checkpoints pair machine next (refused_in o)) (sym behind.0)
@@ -260,7 +259,7 @@ compact_refused pair old new agent machine runs up stands readings same_tried ar
     reason call position settles is_refused is_not some =
     let behind = settles.goes_on (ap is_stopped arms ∙ runs.is.runs) in
     let made : Checkpoints pair machine machine (reason ∷ []) =
-        refuses reason (not_down pair (side_of old agent) machine runs) some in
+    refuses reason (not_down pair (side_of old agent) machine runs) some in
     record {
       next = machine;
       checkpoints = subst (λ o. Checkpoints pair machine machine (refused_in o)) (sym behind.0)

@@ -1,8 +1,7 @@
 -- What is armed at a coordinator, and a stop of it, are steps of its machine and of the world.
-use Rattle.std.proofs.Common.{◌≡◌, ◌≢◌, ◌⊎◌, ◌∙◌, ℕ, zero, suc, None, Option, List, false, inl, inr}
+use Rattle.std.proofs.Common.{◌≡◌, ◌≢◌, ◌∙◌, ℕ, zero, suc, None, Option, List, inl, inr}
 use Rattle.std.proofs.Common.{refl, sym, ap, ap₂, subst, [], ◌++◌, if◌then◌else◌}
 use Rattle.std.proofs.lemmas.List.{append-nil}
-use Rattle.syn_disk.specs.Arms.{is_stopped}
 use Rattle.syn_disk.specs.declared.disk.Disk.{Ghosts}
 use Rattle.syn_headline.specs.Coordinator.{CoordinatorMachine, archive_layout, running_after}
 use Rattle.syn_headline.specs.Coordinator.{with_archive}
@@ -20,7 +19,7 @@ use Rattle.syn_journal.specs.Layout.{Value}
 use Rattle.syn_session.specs.Coordinators.{Does, Stands, checkpoint_refusals, goes_down, goes_on}
 use Rattle.syn_session.specs.Coordinators.{Checkpoints as DoesCheckpoint, with_arms}
 use Rattle.syn_session.specs.Coordinators.{checkpoints as does_checkpoint}
-use Rattle.syn_session.specs.Machines.{Fails as HasFailed, Journal, Runs}
+use Rattle.syn_session.specs.Machines.{Journal}
 use Rattle.syn_session.specs.declared.coordinator.Coordinator.{Coordinator as Session}
 use Rattle.syn_world.specs.Coordinators.{Fails, IsCoordinator, StopsMachine, at_once, behind}
 use Rattle.syn_world.specs.Coordinators.{fails, stopped, with_device_arms}
@@ -164,7 +163,7 @@ module _ {D : Type 0} {disk : Ghosts D} (pair : ℕ) (old new : Session D disk)
         leaves = leaves;
       }) in
       let made : Checkpoints pair machine next (refused_by journal.status) =
-          steps.checkpoints journal other none compacts in
+      steps.checkpoints journal other none compacts in
       record {
         next = next;
         checkpoints = subst (λ o. Checkpoints pair machine next (refused_in o)) (sym behind.0)
@@ -213,5 +212,12 @@ lift_checkpoint old _ _ (steps.is_down down) =
 lift_checkpoint old _ _ (steps.refuses reason other some) =
     inr (other, inl (reason, some, refl))
 lift_checkpoint old _ _ (steps.checkpoints journal other none compacts) =
-    inr (other, inr (none, archive_writes old journal [], compacts_archive journal compacts,
-        eq_answered old journal))
+    inr (
+      other,
+      inr (
+        none,
+        archive_writes old journal [],
+        compacts_archive journal compacts,
+        eq_answered old journal,
+      ),
+    )

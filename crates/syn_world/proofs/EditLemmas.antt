@@ -1,54 +1,42 @@
 -- An edit of a side's user is a step of its machine.
-use Rattle.std.proofs.Common.{◌≡◌, ◌≢◌, ◌⊎◌, ◌∙◌, ◌+◌, ◌-◌, ◌≤◌, ℕ, suc, Bool, true, false, not}
-use Rattle.std.proofs.Common.{List, [], ◌∷◌, ◌++◌, Option, Some, None, Result, Ok, Err, arith, refl}
+use Rattle.std.proofs.Common.{◌≡◌, ◌⊎◌, ◌∙◌, ◌-◌, ◌≤◌, ℕ, true, false}
+use Rattle.std.proofs.Common.{List, [], ◌∷◌, ◌++◌, Option, Some, None, refl}
 use Rattle.std.proofs.Common.{sym, ap, subst, inl, inr}
-use Rattle.std.proofs.lemmas.Bool.{eqb-true, false≢true}
-use Rattle.std.proofs.lemmas.Bool.Decides.{leb_tells}
-use Rattle.std.specs.Prelude.{◌||◌, ◌==◌, ◌^◌, nat_le, nat_lt, length, IsErrAnd}
+use Rattle.std.specs.Prelude.{length}
 use Rattle.syn_agent.specs.Machines.{IsOf, IsUpAs, WrittenIsOf}
 use Rattle.syn_agent.specs.declared.agent.Agent.{Agent}
-use Rattle.syn_disk.specs.Arms.{Arms as DiskArms, is_stopped}
+use Rattle.syn_disk.specs.Arms.{is_stopped}
 use Rattle.syn_disk.specs.Calls.{Makes, Breaks}
 use Rattle.syn_disk.specs.Stops.{LeavesOnly}
 use Rattle.syn_disk.specs.declared.disk.Disk.{Ghosts}
-use Rattle.syn_headline.specs.Machine.{Status, Up, Halted, Down, Arms, Meets, unarmed, record_size}
+use Rattle.syn_headline.specs.Machine.{Status, Up, Halted, Down, Arms, Meets, unarmed}
 use Rattle.syn_headline.specs.Machine.{after_device, with_record, written, unwritten}
-use Rattle.syn_headline.specs.SideMachine.{SideMachine, causes_of, has_room_for, side_layout}
+use Rattle.syn_headline.specs.SideMachine.{SideMachine, causes_of, side_layout}
 use Rattle.syn_headline.specs.SideMachine.{with_journal}
-use Rattle.syn_headline.specs.World.{is_halted}
-use Rattle.syn_journal.specs.declared.error.JournalError.TheVariants as journal
-use Rattle.syn_model.specs.Event.{Edit, Put, MakeDir, Remove, Event, Edited, IsLawfulEvent}
-use Rattle.syn_model.specs.History.{History, event_causes}
+use Rattle.syn_model.specs.Event.{Event, IsLawfulEvent}
+use Rattle.syn_model.specs.History.{History}
 use Rattle.syn_model.specs.Path.{Bytes}
 use Rattle.syn_model.specs.Refusal.{Refusal, Cause, first_cause, number}
 use Rattle.syn_model.specs.Refusal as why
 use Rattle.syn_model.specs.Spelling.{event_spelling}
-use Rattle.syn_recovery.specs.Calls.{armed_at, CallsMeet, goes_on, goes_down, MadeCallsMeet}
+use Rattle.syn_recovery.specs.Calls.{armed_at, goes_on, goes_down, MadeCallsMeet}
 use Rattle.syn_recovery.specs.Calls.{BrokenCallsMeet}
 use Rattle.syn_recovery.specs.Machines.{of_side}
 use Rattle.syn_recovery.specs.Meaning.{MayBeOf}
 use Rattle.syn_refusal.specs.Refusals.{cause_of}
 use Rattle.syn_refusal.specs.declared.refusal.Refusal.{Refusal as Code}
 use Rattle.syn_replica.specs.Disks.{DiskKeeps, event_size}
-use Rattle.syn_replica.specs.Refusals.{IsOneOf, MakesIfDevice, outside_refusals, refusal_of}
 use Rattle.syn_replica.specs.Replica.{HasRecord, IsHalted, KeepsBeforeOrAfter, KeepsReadings}
-use Rattle.syn_replica.specs.Replica.{Remembers, Stands, Tries, disk_of, generation_shown}
-use Rattle.syn_replica.specs.Replica.{left_shown, pair_of, room_shown, tried_shown}
-use Rattle.syn_replica.specs.Steps.{add_refusal}
-use Rattle.syn_replica.specs.declared.error.ReplicaError.{ReplicaError}
-use Rattle.syn_replica.specs.declared.error.ReplicaError.TheVariants.{Tree, History as OfHistory}
-use Rattle.syn_replica.specs.declared.error.ReplicaError.TheVariants.{Journal as OfJournal}
+use Rattle.syn_replica.specs.Replica.{Stands, disk_of, generation_shown}
+use Rattle.syn_replica.specs.Replica.{left_shown, tried_shown}
 use Rattle.syn_replica.specs.declared.replica.Replica.{Replica}
 use Rattle.syn_world.specs.Outcomes.{Acknowledges, refused_in}
 use Rattle.syn_world.specs.SideSteps.{Edits, Journal, causes_at, edits, refused_by, refuses}
 use Rattle.syn_world.specs.Sides.{EditsSo, IsHost, IsRefused, RunsAs, Settles, SettlesAdded}
 use Rattle.syn_world.specs.Sides.{Stops}
 use Rattle.syn_world.specs.declared.outcome.Outcome.{Outcome}
-use Rattle.syn_world.specs.declared.outcome.Outcome.TheVariants.{Nothing, Acknowledged, Refused}
 use Rattle.syn_world.specs.declared.side.SideCall.{SideCall}
 use Rattle.syn_world.specs.declared.side.UpSide.{UpSide}
-use Rattle.syn_world.proofs.CauseLemmas.{causes_are, causes_none, causes_some, device_is}
-use Rattle.syn_world.proofs.CauseLemmas.{never_device, no_calls, none_of, outside, reason_is}
 use Rattle.syn_world.proofs.SideLemmas.{halted_not_up, none_not_some, not_down, remembers}
 use Rattle.syn_world.proofs.SideLemmas.{still_staged}
 
@@ -150,8 +138,8 @@ module _ {D : Type 0} {disk : Ghosts D} (pair : ℕ) (old new : Replica D disk) 
         let behind = settles.goes_on goes event tried in
         let next = with_journal machine with_it in
         let made : Edits pair machine event next (event ∷ []) (refused_by machine.journal.status) =
-            edits with_it (event ∷ []) (not_down pair (side_of old agent) machine runs) none lawful
-            (written arms_now refl meets) in
+        edits with_it (event ∷ []) (not_down pair (side_of old agent) machine runs) none lawful
+        (written arms_now refl meets) in
         record {
           next = next;
           events = event ∷ [];
@@ -197,8 +185,8 @@ module _ {D : Type 0} {disk : Ghosts D} (pair : ℕ) (old new : Replica D disk) 
         let next = with_journal machine (writing_it Halted arms_now 1) in
         let past = remembers pair (side_of old agent) machine runs in
         let made : Edits pair machine event next [] (why.Device ∷ []) =
-            edits (writing_it Halted arms_now 1) [] (not_down pair (side_of old agent) machine runs)
-            none lawful (unwritten Halted arms_now 1 refl (inl refl) meets) in
+        edits (writing_it Halted arms_now 1) [] (not_down pair (side_of old agent) machine runs)
+        none lawful (unwritten Halted arms_now 1 refl (inl refl) meets) in
         record {
           next = next;
           events = [];
@@ -269,7 +257,7 @@ module _ {D : Type 0} {disk : Ghosts D} (pair : ℕ) (old new : Replica D disk) 
   edit_refused event outcome reason call position settles is_refused is_not some =
       let behind = settles.goes_on (ap is_stopped arms ∙ runs.is.runs) in
       let made : Edits pair machine event machine [] (reason ∷ []) =
-          refuses reason (not_down pair (side_of old agent) machine runs) some in
+      refuses reason (not_down pair (side_of old agent) machine runs) some in
       record {
         next = machine;
         events = [];

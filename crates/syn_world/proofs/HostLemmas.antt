@@ -1,5 +1,5 @@
 -- A side whose machine is down, or is open already, stays as it is.
-use Rattle.std.proofs.Common.{◌≡◌, ◌≢◌, ◌∙◌, ℕ, [], None, refl, sym, subst}
+use Rattle.std.proofs.Common.{◌≡◌, ℕ, [], None, refl, sym, subst}
 use Rattle.syn_disk.specs.declared.disk.Disk.{Ghosts}
 use Rattle.syn_headline.specs.Machine.{Down}
 use Rattle.syn_headline.specs.Side.{Request}

@@ -1,5 +1,5 @@
 -- What an opening of a side's disk gives.
-use Rattle.std.proofs.Common.{◌≡◌, ◌≢◌, ◌⊎◌, ◌∙◌, ◌+◌, ◌-◌, ◌<◌, ◌≤◌, ℕ, suc, true, false, List}
+use Rattle.std.proofs.Common.{◌≡◌, ◌⊎◌, ◌∙◌, ◌-◌, ◌<◌, ℕ, suc, false, List}
 use Rattle.std.proofs.Common.{[], ◌∷◌, ◌++◌, Option, Some, None, Result, Ok, Err, inl, inr, refl}
 use Rattle.std.proofs.Common.{sym, ap, ap₂, subst, arith, length-append}
 use Rattle.std.specs.Prelude.{◌^◌, length}
@@ -12,9 +12,7 @@ use Rattle.syn_disk.specs.Stops.{Untouched}
 use Rattle.syn_headline.specs.Machine.{Status, Up, Halted, Down, Arms, Meets, unarmed, Opens, opened}
 use Rattle.syn_headline.specs.Machine.{recovered, one_stops, all_made, one_fails}
 use Rattle.syn_headline.specs.SideMachine.{SideMachine, side_layout, with_journal}
-use Rattle.syn_journal.specs.Journal as journal
-use Rattle.syn_journal.specs.Layout.{Fault, HasJournal, Value, bytes_left, generation_at, meaning}
-use Rattle.syn_journal.specs.declared.error.JournalError.TheVariants as error
+use Rattle.syn_journal.specs.Layout.{HasJournal, Value, bytes_left, generation_at}
 use Rattle.syn_journal.specs.declared.half.Half.{Half}
 use Rattle.syn_disk.specs.declared.disk.Disk.{Ghosts}
 use Rattle.syn_model.specs.Event.{Event}
@@ -35,7 +33,7 @@ use Rattle.syn_replica.specs.Disks.{DiskStands}
 use Rattle.syn_replica.specs.Replica.{Stands, disk_of, generation_shown, left_shown, pair_of}
 use Rattle.syn_replica.specs.Replica.{position_shown}
 use Rattle.syn_replica.specs.declared.replica.Replica.{Replica}
-use Rattle.syn_world.specs.Outcomes.{Acknowledges, refused_in}
+use Rattle.syn_world.specs.Outcomes.{Acknowledges}
 use Rattle.syn_world.specs.SideSteps.{Journal, OpensSide, no_memory, open_fails, opens, with_device}
 use Rattle.syn_world.specs.Sides.{Gains, OpensSo, RestsAs, TriesWriting}
 use Rattle.syn_world.specs.declared.outcome.Outcome.{Outcome}
@@ -125,10 +123,9 @@ pub knows : {D : Type 0} {disk : Ghosts D} (pair : ℕ) (replica : Replica D dis
     → (new.room ≡ left_shown replica) × (new.generation ≡ generation_shown replica)
 knows {D} {disk} pair replica bytes value generation new same has means stands =
     let here = subst (λ b. HasJournal b stands.value (generation_shown replica)) same
-        stands.runs.holds in
+    stands.runs.holds in
     let value_is = one_value bytes stands.value value (generation_shown replica) generation here
-        has in
-    (
+    has in (
       means.room ∙ (ap bytes_left (sym value_is)
           ∙ ap (λ n. 4194304 - 1 - n) (sym stands.runs.gate)),
       means.numbered ∙ sym (one_generation bytes stands.value value (generation_shown replica)
@@ -180,14 +177,14 @@ module _ {D : Type 0} (disk : Ghosts D) (pair : ℕ) (side : DownSide D) (machin
     opened_so calls goes meets =
         let arms_now = armed_at (disk.arms (disk_of replica)) in
         let found = sides pair machine.journal calls arms_now here.value here.generation meets
-            here.means in
+        here.means in
         let stood = each pair found.new.value fits (record {
           value = here.value;
           means = here.journal.means;
           stands = found.means.stands;
         }) in
         let known = knows pair replica (disk.seen side.disk) here.value here.generation found.new
-            untouched.same here.journal found.means stood.1 in
+        untouched.same here.journal found.means stood.1 in
         let next = with_journal machine found.new in
         record {
           next = next;
@@ -235,7 +232,7 @@ module _ {D : Type 0} (disk : Ghosts D) (pair : ℕ) (side : DownSide D) (machin
         (record { side = host.Down rest; outcome = Refused refusal })
     open_failed is_device broken breaks =
         let met = goes_so breaks.0 Halted 1 (disk.arms back)
-            (broken breaks.0 (disk.arms side.disk) (disk.arms back) rests.goes breaks.1) in
+        (broken breaks.0 (disk.arms side.disk) (disk.arms back) rests.goes breaks.1) in
         let next = with_device machine Down (armed_at (disk.arms back)) 1 in
         record {
           next = next;

@@ -1,6 +1,6 @@
 -- Another opening of a side's own disk is a step of its machine.
-use Rattle.std.proofs.Common.{◌≡◌, ◌≢◌, ◌⊎◌, ◌∙◌, ◌-◌, ◌<◌, ◌≤◌, ℕ, suc, zero, true, false, List, []}
-use Rattle.std.proofs.Common.{◌∷◌, ◌++◌, Option, Some, None, inl, inr, refl, sym, ap, ap₂, subst, arith}
+use Rattle.std.proofs.Common.{◌≡◌, ◌≢◌, ◌∙◌, ◌-◌, ◌≤◌, ℕ, suc, zero, true, false, []}
+use Rattle.std.proofs.Common.{◌∷◌, ◌++◌, Option, inl, inr, refl, sym, ap, ap₂, subst, arith}
 use Rattle.std.specs.Prelude.{length}
 use Rattle.syn_agent.specs.Machines.{IsOf, IsUpAs, StandsAs}
 use Rattle.syn_agent.specs.declared.agent.Agent.{Agent}
@@ -12,13 +12,11 @@ use Rattle.syn_headline.specs.Machine.{Status, Up, Halted, Down, Arms, Meets, un
 use Rattle.syn_headline.specs.Machine.{after_calls, all_made}
 use Rattle.syn_headline.specs.SideMachine.{SideMachine, with_journal}
 use Rattle.syn_journal.specs.Layout.{HasJournal, size_of}
-use Rattle.syn_model.specs.Event.{Event}
 use Rattle.syn_model.specs.History.{History}
 use Rattle.syn_model.specs.Image.{StandsFor}
 use Rattle.syn_model.specs.Path.{Bytes}
 use Rattle.syn_model.specs.Refusal.{Refusal}
 use Rattle.syn_model.specs.Refusal as why
-use Rattle.syn_model.specs.Spelling.{event_spelling}
 use Rattle.syn_recovery.specs.Calls.{BrokenCallsMeet, MadeReadsMeet, armed_at, goes_down, goes_on}
 use Rattle.syn_recovery.specs.Machines.{SidesOpen, of_side}
 use Rattle.syn_recovery.specs.Meaning.{MayBeOf}
@@ -30,18 +28,17 @@ use Rattle.syn_replica.specs.Replica.{IsHalted, SameMemory, Stands, disk_of, gen
 use Rattle.syn_replica.specs.Replica.{left_shown, pair_of, position_shown, tried_shown}
 use Rattle.syn_replica.specs.declared.replica.Replica.{Replica}
 use Rattle.syn_world.specs.Outcomes.{Acknowledges, refused_in}
-use Rattle.syn_world.specs.SideSteps.{Journal, ReopensSide, is_cut, no_memory, reopen_fails}
+use Rattle.syn_world.specs.SideSteps.{ReopensSide, is_cut, no_memory, reopen_fails}
 use Rattle.syn_world.specs.SideSteps.{reopens, with_device}
 use Rattle.syn_world.specs.Sides.{IsHost, IsRefused, ReopensSo, RunsAs, Settles, SettlesOpened}
 use Rattle.syn_world.specs.Sides.{Stops, TriesWriting}
 use Rattle.syn_world.specs.declared.outcome.Outcome.{Outcome}
 use Rattle.syn_world.specs.declared.side.SideCall.{SideCall}
-use Rattle.syn_world.specs.declared.side.UpSide.{UpSide}
 use Rattle.syn_world.proofs.ArmLemmas.{stands_as, still_runs}
 use Rattle.syn_world.proofs.EditLemmas.{side_of}
 use Rattle.syn_world.proofs.OpenLemmas.{gained_so, knows, one_generation, one_value, some_history}
 use Rattle.syn_world.proofs.SideLemmas.{halted_not_up, may_be_still, none_not_some, not_down}
-use Rattle.syn_world.proofs.SideLemmas.{position_is, remembers, state, still_staged, up_not_down}
+use Rattle.syn_world.proofs.SideLemmas.{remembers, state, still_staged, up_not_down}
 
 -- two replicas that stand over one disk show the same of it
 same_room : {D : Type 0} {disk : Ghosts D} (old new : Replica D disk) (a b : History)
@@ -51,8 +48,7 @@ same_room {D} {disk} old new a b same was now =
     let bytes = disk.seen (disk_of old) in
     let here = subst (λ c. HasJournal c now.value (generation_shown new)) same now.runs.holds in
     let value_is = one_value bytes now.value was.value (generation_shown new)
-        (generation_shown old) here was.runs.holds in
-    (
+    (generation_shown old) here was.runs.holds in (
       ap (λ n. 4194304 - 1 - n) (now.runs.gate ∙ (ap size_of value_is ∙ sym was.runs.gate)),
       one_generation bytes now.value was.value (generation_shown new) (generation_shown old) here
           was.runs.holds,
@@ -76,24 +72,23 @@ keeps_up {D} {disk} pair replica agent machine runs stays =
           inr (record {
             halted = halted.1;
             remembers = halted.2;
-            keeps = elim (some_history pair machine.journal here.value here.generation here.means)
-                [
-                  | inl same ↦ inl (record {
-                    value = here.value;
-                    means = here.journal.means;
-                    stands = subst (λ p. StandsFor p here.value.image here.value.payloads
-                        machine.journal.value) pair_is same;
-                  })
-                  | inr more ↦ inr (
-                    more.0,
-                    record {
-                      value = here.value;
-                      means = here.journal.means;
-                      stands = subst (λ p. StandsFor p here.value.image here.value.payloads
-                          (machine.journal.value ++ more.0 ∷ [])) pair_is more.1;
-                    },
-                  )
-                ];
+            keeps = elim (some_history pair machine.journal here.value here.generation here.means) [
+              | inl same ↦ inl (record {
+                value = here.value;
+                means = here.journal.means;
+                stands = subst (λ p. StandsFor p here.value.image here.value.payloads
+                    machine.journal.value) pair_is same;
+              })
+              | inr more ↦ inr (
+                more.0,
+                record {
+                  value = here.value;
+                  means = here.journal.means;
+                  stands = subst (λ p. StandsFor p here.value.image here.value.payloads
+                      (machine.journal.value ++ more.0 ∷ [])) pair_is more.1;
+                },
+              )
+            ];
           })
     ]
 
@@ -162,7 +157,7 @@ module _ {D : Type 0} {disk : Ghosts D} (pair : ℕ) (old new : Replica D disk) 
         let behind = settles.goes_on goes in
         let gains = behind.0 in
         let found = sides pair machine.journal calls arms_now here.value here.generation meets
-            here.means in
+        here.means in
         let stood = each found.new.value (record {
           value = here.value;
           means = here.journal.means;
@@ -170,7 +165,7 @@ module _ {D : Type 0} {disk : Ghosts D} (pair : ℕ) (old new : Replica D disk) 
               (sym (same_pair ∙ runs.is.pair_is)) found.means.stands;
         }) in
         let known = knows pair new (disk.seen (disk_of old)) here.value here.generation found.new
-            untouched.same here.journal found.means stood in
+        untouched.same here.journal found.means stood in
         let next = with_journal machine found.new in
         record {
           next = next;
@@ -203,7 +198,7 @@ module _ {D : Type 0} {disk : Ghosts D} (pair : ℕ) (old new : Replica D disk) 
         → ReopensSo pair machine call
     reopen_ok reads makes =
         let found = reads 1 (disk.arms (disk_of old)) (disk.arms (disk_of new)) runs.is.runs
-            makes in
+        makes in
         elim found.2 as (λ _. ReopensSo pair machine call) [
           | goes_on goes meets ↦ opened_so found.0 found.1 goes (met found.0 Up arms_now 0 meets)
           | goes_down stopped meets ↦ cut_so tried tries settles.stops found.0 0 stopped
@@ -228,7 +223,7 @@ module _ {D : Type 0} {disk : Ghosts D} (pair : ℕ) (old new : Replica D disk) 
               let next = with_device machine Halted arms_now 1 in
               let past = remembers pair (side_of old agent) machine runs in
               let made : ReopensSide pair machine next [] (why.Device ∷ []) =
-                  reopen_fails breaks.0 arms_now 1 other (met breaks.0 Halted arms_now 1 meets) in
+              reopen_fails breaks.0 arms_now 1 other (met breaks.0 Halted arms_now 1 meets) in
               record {
                 next = next;
                 events = [];
@@ -269,18 +264,18 @@ module _ {D : Type 0} {disk : Ghosts D} (pair : ℕ) (old new : Replica D disk) 
         → ReopensSo pair machine call
     reopen_refused is_refused unchanged halted reads makes =
         let found = reads 1 (disk.arms (disk_of old)) (disk.arms (disk_of new)) runs.is.runs
-            makes in
+        makes in
         elim found.2 as (λ _. ReopensSo pair machine call) [
           | goes_on goes meets ↦
               let behind = settles.goes_on goes in
               let next = with_device machine machine.journal.status arms_now 0 in
               let made : ReopensSide pair machine next [] (why.Memory ∷ []) =
-                  no_memory found.0 arms_now 0 other (met found.0 Up arms_now 0 meets) in
+              no_memory found.0 arms_now 0 other (met found.0 Up arms_now 0 meets) in
               let same : machine.journal.status ≡ Up → (left_shown new ≡ left_shown old)
-                  × (generation_shown new ≡ generation_shown old) =
-                  λ up. (let was = stands_up old machine.journal.value machine.journal.status up
-                  runs.is.stands in same_room old new machine.journal.value machine.journal.value
-                  untouched.same was (unchanged was)) in
+              × (generation_shown new ≡ generation_shown old) =
+              λ up. (let was = stands_up old machine.journal.value machine.journal.status up
+              runs.is.stands in same_room old new machine.journal.value machine.journal.value
+              untouched.same was (unchanged was)) in
               record {
                 next = next;
                 events = [];
@@ -314,7 +309,7 @@ pub reopen_early : {D : Type 0} {disk : Ghosts D} (pair : ℕ) (replica : Replic
 reopen_early pair replica agent machine runs refusal call refused is_memory =
     let arms = after_calls 0 machine.journal.arms in
     let same = ap₂ (λ f s. record { fail = f; stop = s }) (none_less machine.journal.arms.fail)
-        (none_less machine.journal.arms.stop) in
+    (none_less machine.journal.arms.stop) in
     let next = with_device machine machine.journal.status arms 0 in
     record {
       next = next;

@@ -1,10 +1,10 @@
 -- A side that runs as a machine, and what device calls leave of it.
-use Rattle.std.proofs.Common.{◌≡◌, ◌≢◌, ◌⊎◌, ◌∙◌, ◌≤◌, ℕ, List, Option, Some, None, refl, sym, ap}
+use Rattle.std.proofs.Common.{◌≡◌, ◌≢◌, ◌⊎◌, ◌∙◌, ℕ, Option, Some, None, refl, sym, ap}
 use Rattle.std.proofs.Common.{subst, inl, inr, false}
 use Rattle.std.specs.Prelude.{length}
 use Rattle.syn_agent.specs.Machines.{StandsAs}
 use Rattle.syn_disk.specs.declared.disk.Disk.{Ghosts}
-use Rattle.syn_headline.specs.Machine.{Status, Up, Halted, Down, Arms, Meets, after_device}
+use Rattle.syn_headline.specs.Machine.{Status, Up, Halted, Down, Arms, after_device}
 use Rattle.syn_headline.specs.SideMachine.{SideMachine, staging_after}
 use Rattle.syn_headline.specs.Side.{Staging}
 use Rattle.syn_model.specs.Event.{Event}

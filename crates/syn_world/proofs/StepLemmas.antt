@@ -1,10 +1,9 @@
 -- A step of a side's machine is a step of the world.
-use Rattle.std.proofs.Common.{◌≡◌, ◌≢◌, ◌⊎◌, ◌∙◌, ◌++◌, ◌∷◌, [], ℕ, zero, suc, List, Some, None, true}
-use Rattle.std.proofs.Common.{if◌then◌else◌, ap, ap₂, inl, inr, refl, subst, sym, arith}
+use Rattle.std.proofs.Common.{◌≡◌, ◌∙◌, ◌++◌, ◌∷◌, [], ℕ, zero, suc, List, Some}
+use Rattle.std.proofs.Common.{if◌then◌else◌, ap, ap₂, inl, inr, refl, subst, sym}
 use Rattle.std.proofs.lemmas.List.{append-nil}
-use Rattle.std.specs.Prelude.{Option, map, slice_get}
-use Rattle.syn_headline.specs.Acknowledged.{Happened}
-use Rattle.syn_headline.specs.Machine.{Status, Up, Halted, Down, Arms, unarmed}
+use Rattle.std.specs.Prelude.{Option, slice_get}
+use Rattle.syn_headline.specs.Machine.{Status, Up, Halted, Down, Arms}
 use Rattle.syn_headline.specs.Network.{Which, Left, Right, Message, Asks}
 use Rattle.syn_headline.specs.Side.{Reply, Request}
 use Rattle.syn_headline.specs.SideMachine.{SideMachine, with_journal}
@@ -120,8 +119,15 @@ module _ (old : World) (side : Which) where
   lift_edit user edit _ _ _ (step.refuses reason other some) =
       inr (other, inl (reason, some, eq_refused old side reason))
   lift_edit user edit _ _ _ (step.edits journal events other none lawful writes) =
-      inr (other, inr (none, side_writes old side journal events,
-          edits journal events lawful writes, eq_answered old side journal events))
+      inr (
+        other,
+        inr (
+          none,
+          side_writes old side journal events,
+          edits journal events lawful writes,
+          eq_answered old side journal events,
+        ),
+      )
 
   pub lift_checkpoint : (next : SideMachine) (refusals : List Refusal)
       → Checkpoints old.pair (side_of old side) next refusals
@@ -130,52 +136,80 @@ module _ (old : World) (side : Which) where
   lift_checkpoint _ _ (step.refuses reason other some) =
       inr (other, inl (reason, some, eq_refused old side reason))
   lift_checkpoint _ _ (step.checkpoints journal other none compacts) =
-      inr (other, inr (none, side_writes old side journal [],
-          compacts_side side journal compacts, eq_answered old side journal []))
+      inr (
+        other,
+        inr (
+          none,
+          side_writes old side journal [],
+          compacts_side side journal compacts,
+          eq_answered old side journal [],
+        ),
+      )
 
   pub lift_open : (next : SideMachine) (events : List Event) (refusals : List Refusal)
       → OpensSide old.pair (side_of old side) next events refusals
       → Steps old (world.Open (At side)) (side_next old side next [] events refusals)
   lift_open _ _ _ (step.is_open other) = inl (other, eq_same old side)
   lift_open _ _ _ (step.opens calls journal events down opens) =
-      inr (down, subst (λ w. OpensDown old (At side) w)
-          (sym (eq_writes old side journal events))
-          (world.opens calls (side_writes old side journal events)
-          (opens_side side journal events opens)))
+      inr (
+        down,
+        subst (λ w. OpensDown old (At side) w)
+            (sym (eq_writes old side journal events))
+            (world.opens calls (side_writes old side journal events)
+            (opens_side side journal events opens)),
+      )
   lift_open _ _ _ (step.open_fails calls arms failed down meets) =
-      inr (down, subst (λ w. OpensDown old (At side) w)
-          (sym (eq_device_refused old side Down arms failed Device))
-          (world.open_fails calls (set_device old (At side) Down arms failed)
-          (fails_device arms failed meets)))
+      inr (
+        down,
+        subst (λ w. OpensDown old (At side) w)
+            (sym (eq_device_refused old side Down arms failed Device))
+            (world.open_fails calls (set_device old (At side) Down arms failed)
+            (fails_device arms failed meets)),
+      )
   lift_open _ _ _ (step.no_memory down) =
-      inr (down, subst (λ w. OpensDown old (At side) w) (sym (eq_refused old side _))
-          world.no_memory_to_open)
+      inr (
+        down,
+        subst (λ w. OpensDown old (At side) w) (sym (eq_refused old side _))
+            world.no_memory_to_open,
+      )
 
   pub lift_reopen : (next : SideMachine) (events : List Event) (refusals : List Refusal)
       → ReopensSide old.pair (side_of old side) next events refusals
       → Steps old (world.Reopen (At side)) (side_next old side next [] events refusals)
   lift_reopen _ _ _ (step.is_down down) = inl (down, eq_same old side)
   lift_reopen _ _ _ (step.reopens calls journal events other least opens) =
-      inr (other, subst (λ w. Reopens old (At side) w)
-          (sym (eq_writes old side journal events))
-          (world.reopens calls (side_writes old side journal events) least
-          (opens_side side journal events opens)))
+      inr (
+        other,
+        subst (λ w. Reopens old (At side) w)
+            (sym (eq_writes old side journal events))
+            (world.reopens calls (side_writes old side journal events) least
+            (opens_side side journal events opens)),
+      )
   lift_reopen _ _ _ (step.reopen_fails calls arms failed other meets) =
-      inr (other, subst (λ w. Reopens old (At side) w)
-          (sym (eq_device_refused old side Halted arms failed Device))
-          (world.reopen_fails calls (set_device old (At side) Halted arms failed)
-          (fails_device arms failed meets)))
+      inr (
+        other,
+        subst (λ w. Reopens old (At side) w)
+            (sym (eq_device_refused old side Halted arms failed Device))
+            (world.reopen_fails calls (set_device old (At side) Halted arms failed)
+            (fails_device arms failed meets)),
+      )
   lift_reopen _ _ _ (step.is_cut calls arms failed other meets) =
-      inr (other, subst (λ w. Reopens old (At side) w)
-          (sym (eq_device old side Down arms failed))
-          (world.reopen_is_cut calls (set_device old (At side) Down arms failed)
-          (fails_device arms failed meets)))
+      inr (
+        other,
+        subst (λ w. Reopens old (At side) w)
+            (sym (eq_device old side Down arms failed))
+            (world.reopen_is_cut calls (set_device old (At side) Down arms failed)
+            (fails_device arms failed meets)),
+      )
   lift_reopen _ _ _ (step.no_memory calls arms failed other meets) =
-      inr (other, subst (λ w. Reopens old (At side) w)
-          (sym (eq_device_refused old side (side_of old side).journal.status arms failed _))
-          (world.no_memory_to_reopen calls
-          (set_device old (At side) (side_of old side).journal.status arms failed)
-          (fails_device arms failed meets)))
+      inr (
+        other,
+        subst (λ w. Reopens old (At side) w)
+            (sym (eq_device_refused old side (side_of old side).journal.status arms failed _))
+            (world.no_memory_to_reopen calls
+            (set_device old (At side) (side_of old side).journal.status arms failed)
+            (fails_device arms failed meets)),
+      )
 
 -- a step that changes no list
 eq_set : (old : World) (side : Which) → set_side old side (side_of old side) ≡ old

@@ -2,7 +2,6 @@
 use Rattle.std.specs.Prelude.{◌≡◌, ◌<◌, ◌≤◌, ℕ, Bool, true, false, List, [], ◌∷◌, Option, Some, None}
 use Rattle.std.specs.Prelude.{length, option_map}
 use Rattle.syn_agent.specs.Machines.{IsOf, MayLeave}
-use Rattle.syn_agent.specs.declared.agent.Agent.{Agent}
 use Rattle.syn_disk.specs.Arms.{Arms, is_stopped}
 use Rattle.syn_disk.specs.declared.disk.Disk.{Ghosts}
 use Rattle.syn_headline.specs.Machine.{Up, Down, unarmed}
@@ -70,7 +69,7 @@ pub record StopsAs {D : Type 0} {disk : Ghosts D} (pair position : ℕ) (tried :
 -- the side is the machine
 abbrev pub IsHost : {D : Type 0} → {disk : Ghosts D} → ℕ → SideHost D disk → SideMachine → Type 0
 IsHost {D} {disk} pair (host.Up side) machine = RunsAs pair side machine
-IsHost {D} {disk} pair (host.Down side) machine = 
+IsHost {D} {disk} pair (host.Down side) machine =
     RestsAs disk.arms disk.may_leave pair side machine
 
 -- the replica of a side that is up

@@ -21,7 +21,9 @@ impl<D: SimulatedDisk> UpSide<D> {
     {
         let mut side = self;
         let position = side.replica.position();
-        let reply = side.agent.answer(alloc, &mut side.replica, session, request);
+        let reply = side
+            .agent
+            .answer(alloc, &mut side.replica, session, request);
         if side.replica.is_cut() {
             return SideAnswer {
                 call: side.settle(position, Outcome::Nothing),

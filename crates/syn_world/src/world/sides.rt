@@ -2,7 +2,8 @@
 ghost use Rattle.std.specs.Prelude.{◌≡◌, ℕ, Some, slice_get};
 ghost use Rattle.syn_headline.specs.Network.{Asks};
 ghost use Rattle.syn_message.specs.Requests.{request_of};
-ghost use Rattle.syn_headline.specs.World.{World as ModelWorld, At, Edits, Checkpoint, Deliver, Open};
+ghost use Rattle.syn_headline.specs.World.{World as ModelWorld, At, Edits, Checkpoint};
+ghost use Rattle.syn_headline.specs.World.{Deliver, Open};
 ghost use Rattle.syn_headline.specs.World.{Fail, Reopen, Stop};
 ghost use Rattle.syn_message.specs.Sides.{which_of};
 ghost use Rattle.syn_tree.specs.Edits.{edit_of};
@@ -103,7 +104,8 @@ impl<D: SimulatedDisk> World<D> {
         }
     }
 
-    /// The device call of a side with this number from now on fails, and is not made; at 0 none does.
+    /// The device call of a side with this number from now on fails, and is not made; at 0 none
+    /// does.
     pub fn fail_side(self, side: Side, call: u64) -> World<D>
         ensures { (model : ModelWorld) → IsWorld self model
             → StaysSo model (Fail (At (which_of side)) call) result }
@@ -121,8 +123,8 @@ impl<D: SimulatedDisk> World<D> {
         }
     }
 
-    /// So many device calls of a side are still made, and its machine stops behind the last of them; at
-    /// 0 it stops at once.
+    /// So many device calls of a side are still made, and its machine stops behind the last of
+    /// them; at 0 it stops at once.
     pub fn stop_side(self, side: Side, calls: u64) -> World<D>
         ensures { (model : ModelWorld) → IsWorld self model
             → StaysSo model (Stop (At (which_of side)) calls) result }

@@ -22,7 +22,7 @@ pub returns-else-is_device : goal.returns-else-is_device
 returns-else-is_device g c pair machine stands =
     let told : c.is_device.result ≡ false = cc in
     let refused = c.in-Err.ensures.refused pair machine stands
-        (c.is_device.ensures.other told) in
+    (c.is_device.ensures.other told) in
     record {
       next = machine;
       checkpoints = subst (λ r. Checkpoints pair machine machine (r ∷ [])) (sym c.refusal.ensures)

@@ -42,8 +42,8 @@ returns-else-calls-eq0 g c pair machine is =
     let some : c.args.calls ≢ 0 = omega arith in
     let was = g.D.Disk.arms (device_of c.in-Up.coordinator) in
     let now = c.armed_with.ensures.arms
-        ∙ ap (λ b. if b then was else record was { stop = Some c.args.calls })
-        stands.journal.goes in
+    ∙ ap (λ b. if b then was else record was { stop = Some c.args.calls })
+    stands.journal.goes in
     record {
       next = with_device_arms machine (record machine.journal.arms { stop = c.args.calls });
       stops = step.behind c.args.calls other some;

@@ -1,7 +1,6 @@
-use Rattle.std.proofs.Common.{◌≡◌, ◌∙◌, ◌<◌, arith, sym, subst, inl, inr}
+use Rattle.std.proofs.Common.{◌∙◌, ◌<◌, arith, sym, subst, inl, inr}
 use Rattle.std.specs.Prelude.{◌^◌, option_map}
-use Rattle.syn_replica.specs.Refusals.{AfterReads, refusal_of}
-use Rattle.syn_replica.specs.Replica.{disk_of}
+use Rattle.syn_replica.specs.Refusals.{AfterReads}
 use Rattle.syn_world.specs.Sides.{Gains}
 use Rattle.syn_world.proofs.CauseLemmas.{device_is, memory_not_device, reads_made}
 use Rattle.syn_world.proofs.OpenLemmas.{open_failed, open_ok, open_refused, some_stands}
@@ -23,7 +22,7 @@ returns-in-Err g c machine rests =
     let fits : c.args.pair < 2 ^ 64 = omega arith in
     let bytes = g.D.Disk.seen c.args.self.disk in
     let found = some_stands c.args.pair machine.journal bytes
-        (rests.leaves bytes (g.met.D.Disk.seen_may_stay c.args.self.disk)) in
+    (rests.leaves bytes (g.met.D.Disk.seen_may_stay c.args.self.disk)) in
     elim (c.disk_laws.ensures c.args.pair bytes found.0 c.in-Err.error fits found.1
     c.in-Err.ensures.refusals) [
       | inl device ↦ open_failed g.D.Disk c.args.pair c.args.self machine rests

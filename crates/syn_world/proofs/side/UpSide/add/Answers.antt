@@ -1,6 +1,6 @@
-use Rattle.std.proofs.Common.{◌≡◌, ◌≢◌, ◌⊎◌, ◌∙◌, ◌-◌, None, Some, ap, arith, inl, inr, refl, subst, sym}
+use Rattle.std.proofs.Common.{◌≡◌, ◌⊎◌, ◌∙◌, ◌-◌, Some, ap, arith, inl, inr, refl, subst, sym}
 use Rattle.std.proofs.Common.{[], ◌∷◌}
-use Rattle.syn_headline.specs.SideMachine.{SideMachine, causes_of}
+use Rattle.syn_headline.specs.SideMachine.{causes_of}
 use Rattle.syn_model.specs.Refusal.{Refusal, first_cause}
 use Rattle.syn_model.specs.Refusal as why
 use Rattle.syn_replica.specs.Edits.{event_by}
@@ -22,10 +22,10 @@ returns-in-Ok g c pair machine runs =
     let is_up = when_up pair c.args.self machine runs c.requires.running in
     let room_is : room_shown old ≡ left_shown old - 5 = omega arith in
     let same = causes_are pair (room_shown old) (left_shown old) c.args.user
-        (edit_of c.args.edit) machine room_is (runs.is.room is_up.0) in
+    (edit_of c.args.edit) machine room_is (runs.is.room is_up.0) in
     let none = causes_none machine (causes_of pair machine event) is_up.0 (sym same
-        ∙ none_of (add_refusal (room_shown old) machine.journal.value event)
-        (λ why some. absurd (c.in-Ok.ensures.refused machine.journal.value why is_up.1 some))) in
+    ∙ none_of (add_refusal (room_shown old) machine.journal.value event)
+    (λ why some. absurd (c.in-Ok.ensures.refused machine.journal.value why is_up.1 some))) in
     edit_ok pair old c.edit.new.self c.args.self.agent machine event runs is_up.0
     c.requires.lawful c.settle_added.result _
     (c.position-position.ensures ∙ position_is pair c.args.self machine runs)
@@ -44,14 +44,14 @@ returns-in-Err g c pair machine runs =
     let is_up = when_up pair c.args.self machine runs c.requires.running in
     let room_is : room_shown old ≡ left_shown old - 5 = omega arith in
     let same = causes_are pair (room_shown old) (left_shown old) c.args.user
-        (edit_of c.args.edit) machine room_is (runs.is.room is_up.0) in
+    (edit_of c.args.edit) machine room_is (runs.is.room is_up.0) in
     let position_now = c.position-position.ensures ∙ position_is pair c.args.self machine runs in
     elim c.in-Err.ensures.tried as (λ _. EditsSo pair machine event c.settle.result) [
       | inl device ↦
           let none = causes_none machine (causes_of pair machine event) is_up.0 (sym same
-              ∙ none_of (add_refusal (room_shown old) value event)
-              (λ why some. never_device (room_shown old) value c.args.user (edit_of c.args.edit)
-              why some (sym (c.in-Err.ensures.refused value why is_up.1 some) ∙ device.0))) in
+          ∙ none_of (add_refusal (room_shown old) value event)
+          (λ why some. never_device (room_shown old) value c.args.user (edit_of c.args.edit)
+          why some (sym (c.in-Err.ensures.refused value why is_up.1 some) ∙ device.0))) in
           edit_failed pair old c.edit.new.self c.args.self.agent machine event runs is_up.0
           c.requires.lawful c.settle.result _ position_now g.met.D.Disk.counts_now
           c.machine_laws-in-Err.ensures.written
@@ -64,22 +64,22 @@ returns-in-Err g c pair machine runs =
           c.in-Err.ensures.calls)
       | inr other ↦
           let stands : Stands c.edit.new.self value =
-              elim (c.in-Err.ensures.unchanged value is_up.1) [
+          elim (c.in-Err.ensures.unchanged value is_up.1) [
             | inl device ↦ absurd (other.0 device)
             | inr stays ↦ stays
           ] in
           let either : (refusal_of e ≡ why.Memory)
-              ⊎ (first_cause (causes_of pair machine event) ≡ Some (refusal_of e)) =
-              elim (c.in-Err.ensures.cause value is_up.1) [
-                | inl out ↦ elim (outside e out) [
-                  | inl memory ↦ inl memory
-                  | inr device ↦ absurd (other.0 device)
-                ]
-                | inr some ↦ inr (sym same ∙ some)
-              ] in
+          ⊎ (first_cause (causes_of pair machine event) ≡ Some (refusal_of e)) =
+          elim (c.in-Err.ensures.cause value is_up.1) [
+            | inl out ↦ elim (outside e out) [
+              | inl memory ↦ inl memory
+              | inr device ↦ absurd (other.0 device)
+            ]
+            | inr some ↦ inr (sym same ∙ some)
+          ] in
           let some = causes_some machine (causes_of pair machine event) is_up.0 (refusal_of e)
-              (reason_is (causes_of pair machine event) (refusal_of e)
-              (λ found is. c.in-Err.ensures.refused value found is_up.1 (same ∙ is)) either) in
+          (reason_is (causes_of pair machine event) (refusal_of e)
+          (λ found is. c.in-Err.ensures.refused value found is_up.1 (same ∙ is)) either) in
           edit_refused pair old c.edit.new.self c.args.self.agent machine runs is_up.0 stands
           c.in-Err.ensures.readings other.1
           (no_calls e 4 _ _ other.0 c.in-Err.ensures.calls) (c.machine_laws-in-Err.ensures.up pair)

@@ -1,4 +1,4 @@
-use Rattle.std.proofs.Common.{◌≡◌, ◌∙◌, true, false, sym}
+use Rattle.std.proofs.Common.{◌≡◌, ◌∙◌, true, false}
 use Rattle.syn_message.specs.Requests.{request_of}
 use Rattle.syn_world.specs.Sides.{HasStopped}
 use Rattle.syn_world.proofs.AnswerLemmas.{answer_cut, answer_goes}

@@ -1,4 +1,4 @@
-use Rattle.std.proofs.Common.{◌≡◌, ◌∙◌, ◌-◌, ◌∷◌, [], Some, ap, arith, sym, subst, true, false}
+use Rattle.std.proofs.Common.{◌≡◌, ◌∙◌, ◌-◌, ◌∷◌, [], ap, arith, sym, true, false}
 use Rattle.std.proofs.lemmas.Bool.{false≢true}
 use Rattle.std.specs.Prelude.{◌^◌}
 use Rattle.syn_headline.specs.World.{full_generation}
@@ -22,7 +22,7 @@ pub returns-then-generation : goal.returns-then-generation
 returns-then-generation g c pair machine runs =
     let told : c.is_halted.result ≡ false = cc in
     let up = when_up pair c.args.self machine runs
-        (λ halted. false≢true (sym told ∙ c.is_halted.ensures.1 halted)) in
+    (λ halted. false≢true (sym told ∙ c.is_halted.ensures.1 halted)) in
     let is : generation_shown c.args.self.replica ≡ 2 ^ 64 - 1 = omega arith in
     let full = is_greatest machine.journal.generation (runs.is.generation up.0 ∙ is) in
     checkpoint_halted pair c.args.self machine runs _ c.refused-then-generation.result

@@ -1,4 +1,4 @@
-use Rattle.std.proofs.Common.{◌≡◌, ◌∙◌, ◌+◌, ◌<◌, ◌∷◌, [], None, Some, Err, ap, arith, inl, inr, refl}
+use Rattle.std.proofs.Common.{◌≡◌, ◌∙◌, ◌+◌, ◌<◌, ◌∷◌, [], Some, Err, ap, arith, inl, inr, refl}
 use Rattle.std.proofs.Common.{subst, sym, true}
 use Rattle.std.specs.Prelude.{◌^◌}
 use Rattle.syn_headline.specs.World.{full_generation}
@@ -20,7 +20,7 @@ returns-in-Ok g c pair machine runs =
     let is_up = when_up pair c.args.self machine runs c.requires.running in
     let less = subst (λ n. n + 1 < 2 ^ 64) (sym (runs.is.generation is_up.0)) c.requires.less in
     let none = causes_none machine (full_generation machine.journal.generation) is_up.0
-        (ap (λ b. first_cause ((b, why.Full) ∷ [])) (is_less machine.journal.generation less)) in
+    (ap (λ b. first_cause ((b, why.Full) ∷ [])) (is_less machine.journal.generation less)) in
     compact_ok pair old c.checkpoint.new.self c.args.self.agent machine runs is_up.0
     c.settle.result _ (c.position-position.ensures ∙ position_is pair c.args.self machine runs)
     none g.met.D.Disk.counts_now c.machine_laws.ensures.compacted c.in-Ok.ensures.memory
@@ -37,7 +37,7 @@ returns-in-Err g c pair machine runs =
     let is_up = when_up pair c.args.self machine runs c.requires.running in
     let less = subst (λ n. n + 1 < 2 ^ 64) (sym (runs.is.generation is_up.0)) c.requires.less in
     let full = ap (λ b. first_cause ((b, why.Full) ∷ []))
-        (is_less machine.journal.generation less) in
+    (is_less machine.journal.generation less) in
     let none = causes_none machine (full_generation machine.journal.generation) is_up.0 full in
     elim (of_checkpoint e c.in-Err.ensures.refusals)
     as (λ _. CheckpointsSo pair machine c.settle-in-Err.result) [
@@ -48,10 +48,10 @@ returns-in-Err g c pair machine runs =
           absurd (omega (arith, greatest, c.requires.less))
       | inr (inr (inl memory)) ↦
           let same : _ = elim c.in-Err.ensures.unchanged
-              as (λ _. ◌≡◌ (journal_of c.checkpoint.new.self) (journal_of old)) [
-                | inl device ↦ absurd (memory_not_device (sym memory ∙ device))
-                | inr same ↦ same
-              ] in
+          as (λ _. ◌≡◌ (journal_of c.checkpoint.new.self) (journal_of old)) [
+            | inl device ↦ absurd (memory_not_device (sym memory ∙ device))
+            | inr same ↦ same
+          ] in
           compact_refused pair old c.checkpoint.new.self c.args.self.agent machine runs is_up.0
           (still_stands old c.checkpoint.new.self value is_up.1 c.in-Err.ensures.memory same)
           c.in-Err.ensures.readings c.in-Err.ensures.tried

@@ -1,4 +1,4 @@
-use Rattle.std.proofs.Common.{◌∙◌, None, Some, ◌≢◌, Option, sym}
+use Rattle.std.proofs.Common.{◌∙◌, sym}
 use Rattle.syn_world.proofs.SideLemmas.{none_not_some}
 use Rattle.syn_world.proofs.side.UpSide.new.Goals as goal
 

@@ -1,6 +1,5 @@
-use Rattle.std.proofs.Common.{◌≡◌, ◌∙◌, ◌∷◌, [], ap, inl, inr, refl, subst, sym}
-use Rattle.std.specs.Prelude.{option_map}
-use Rattle.syn_replica.specs.Refusals.{AfterReads, refusal_of}
+use Rattle.std.proofs.Common.{◌∙◌, ◌∷◌, [], ap, inl, inr, refl, subst, sym}
+use Rattle.syn_replica.specs.Refusals.{AfterReads}
 use Rattle.syn_replica.specs.Replica.{Stands, disk_of}
 use Rattle.syn_world.specs.Sides.{ReopensSo}
 use Rattle.syn_world.proofs.CauseLemmas.{device_is, memory_not_device, outside, reads_made}
@@ -29,10 +28,10 @@ returns-in-Err g c pair machine runs =
     runs g.met.D.Disk.seen_may_stay))) as (λ _. ReopensSo pair machine c.settle.result) [
       | inl memory ↦
           let unchanged : Stands old value → Stands new value =
-              λ stands. elim (c.in-Err.ensures.unchanged value stands) as (λ _. Stands new value) [
-                | inl device ↦ absurd (memory_not_device (sym memory ∙ device))
-                | inr stays ↦ stays
-              ] in
+          λ stands. elim (c.in-Err.ensures.unchanged value stands) as (λ _. Stands new value) [
+            | inl device ↦ absurd (memory_not_device (sym memory ∙ device))
+            | inr stays ↦ stays
+          ] in
           reopen_refused pair old new c.args.self.agent machine runs c.settle.result _ position_now
           c.in-Err.ensures.untouched _ c.settle.ensures c.in-Err.ensures.tried
           c.in-Err.ensures.memory refl (ap (λ r. r ∷ []) (c.refusal.ensures ∙ memory)) unchanged

@@ -13,8 +13,8 @@ pub returns-in-Left : goal.returns-in-Left
 returns-in-Left g c model is =
     let call = c.open-call.result in
     let so = subst (λ p. OpensSo p model.left c.open-call.result) is.machines.pair
-        (c.open-call.ensures model.left (subst (λ p. IsHost p c.args.self.left model.left)
-        (sym is.machines.pair) is.machines.left)) in
+    (c.open-call.ensures model.left (subst (λ p. IsHost p c.args.self.left model.left)
+    (sym is.machines.pair) is.machines.left)) in
     subst (λ s. GoesSo model (Open (At (which_of s))) c.noted.result) (sym c.in-Left.is) (record {
       new = side_next model Left so.next [] so.events (refused_in call.outcome);
       steps = lift_open model Left so.next so.events (refused_in call.outcome) so.opens;
@@ -26,8 +26,8 @@ pub returns-in-Right : goal.returns-in-Right
 returns-in-Right g c model is =
     let call = c.open-call-in-Right.result in
     let so = subst (λ p. OpensSo p model.right c.open-call-in-Right.result) is.machines.pair
-        (c.open-call-in-Right.ensures model.right (subst (λ p. IsHost p c.args.self.right model.right)
-        (sym is.machines.pair) is.machines.right)) in
+    (c.open-call-in-Right.ensures model.right (subst (λ p. IsHost p c.args.self.right model.right)
+    (sym is.machines.pair) is.machines.right)) in
     subst (λ s. GoesSo model (Open (At (which_of s))) c.noted-in-Right.result) (sym c.in-Right.is) (record {
       new = side_next model Right so.next [] so.events (refused_in call.outcome);
       steps = lift_open model Right so.next so.events (refused_in call.outcome) so.opens;
