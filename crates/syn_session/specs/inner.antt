@@ -1,3 +1,5 @@
 -- Definitions that no public clause names.
 pub mod Sessions
 pub mod Steps
+pub mod Plans
+pub mod Due

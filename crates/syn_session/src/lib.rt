@@ -2,6 +2,7 @@
 #![tactic(auto)]
 
 mod coordinator;
+mod due;
 mod error;
 mod report;
 mod requests;
