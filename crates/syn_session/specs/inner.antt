@@ -1,5 +1,7 @@
 -- Definitions that no public clause names.
+pub mod Plans
+pub mod Stages
+pub mod Walking
 pub mod Sessions
 pub mod Steps
-pub mod Plans
 pub mod Due

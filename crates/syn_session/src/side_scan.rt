@@ -5,7 +5,7 @@ ghost use Rattle.syn_headline.specs.Network.{Which};
 ghost use Rattle.syn_headline.specs.Session.{IsShown, fault_of};
 ghost use Rattle.syn_headline.specs.Side.{ListAt};
 ghost use Rattle.syn_message.specs.Replies.{IsLawfulReply, reply_of};
-ghost use Rattle.syn_model.specs.Path.{Path as Names};
+ghost use Rattle.syn_model.specs.Path.{IsPath, Path as Names};
 ghost use Rattle.syn_model.specs.Refusal.{Memory};
 ghost use Rattle.syn_refusal.specs.Refusals.{cause_of};
 ghost use Rattle.syn_model.specs.Dirty.{IsScanBy};
@@ -50,11 +50,17 @@ impl SideScan {
         ensures new { IfOk result (λ next. IfSome next
             (λ path. ¬ WasAnswered (found_of self.old) path)) }
         ensures waits { IfOk result (λ next. IfSome next (λ path. WaitsFor self.new path)) }
+        ensures lawful { IfOk result (λ next. IfSome next IsPath) }
         ensures whole { IfOk result (λ next. IfNone next (IsWhole (found_of self.old))) }
         ensures found { found_of self.new ≡ found_of self.old }
         ensures memory { IfErr result (λ e. e ≡ SessionError.Memory) }
     {
-        Ok(self.scanner.next_request(alloc)?)
+        let next = self.scanner.next_request(alloc)?;
+        if let Some(path) = &next {
+            // Its type says that it is a path.
+            let _ = path.names();
+        }
+        Ok(next)
     }
 
     /// Takes the answer to the listing that waits.
@@ -91,16 +97,16 @@ impl SideScan {
         }
     }
 
-    /// What the side showed, once each directory was answered. It takes no memory.
-    pub fn finish(self) -> Scan
-        requires { IsWhole (found_of self) }
-        ensures found { result ≡ found_of self }
+    /// What the side showed so far: its scan, once each directory was answered.
+    pub fn found(&self) -> &Scan
+        ensures found { result.now ≡ found_of self.now }
 
-        // It is the scan by what the side answered.
-        ensures scan { (side : Which) (taken : Exchanges) → IsFoundIn (found_of self) side taken
-            → IsScanBy (WasListedAt taken side) (WasNoDirectoryAt taken side) (scan_of result)
-            (position_of result) }
+        // It is then the scan by what the side answered.
+        ensures scan { (side : Which) (taken : Exchanges) → IsWhole (found_of self.now)
+            → IsFoundIn (found_of self.now) side taken
+            → IsScanBy (WasListedAt taken side) (WasNoDirectoryAt taken side) (scan_of result.now)
+            (position_of result.now) }
     {
-        self.scanner.finish()
+        self.scanner.found()
     }
 }
