@@ -9,3 +9,4 @@ pub mod KeepLemmas
 pub mod TickLemmas
 pub mod ScanningLemmas
 pub mod SessionLemmas
+pub mod AnswerLemmas

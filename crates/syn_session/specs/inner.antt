@@ -3,5 +3,6 @@ pub mod Plans
 pub mod Stages
 pub mod Walking
 pub mod Sessions
+pub mod Answering
 pub mod Steps
 pub mod Due

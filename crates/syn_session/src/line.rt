@@ -1,7 +1,7 @@
 //! What a session asks of one side.
 ghost use Rattle.std.specs.Prelude.{◌≡◌, ◌+◌, ◌<◌, ◌^◌, [], ◌∷◌, ◌++◌, None, false, option_map};
 ghost use Rattle.std.specs.Prelude.{IfOk, IfErr, IfSome, OnOk};
-ghost use Rattle.syn_headline.specs.Coordinator.{asked_in, messages_to, once_more};
+ghost use Rattle.syn_headline.specs.Coordinator.{asked_in, messages_to, numbered, once_more};
 ghost use Rattle.syn_headline.specs.Network.{Which};
 ghost use Rattle.syn_message.specs.Requests.{request_of};
 ghost use Rattle.syn_message.specs.Sides.{which_of};
@@ -29,6 +29,7 @@ pub(crate) struct Line {
 
 impl Line {
     ghost use Rattle.syn_session.specs.inner.Sessions.{asks, begin_of, is_worn_out, waiting_of};
+    ghost use Rattle.syn_session.specs.inner.Answering.{IsAskedOn, ListsNext, requests_of};
     ghost use Rattle.syn_session.specs.inner.Stages.{asks_now};
 
     /// The side is to begin the session. Refused 11 where memory is refused.
@@ -88,6 +89,50 @@ impl Line {
         });
         self.asked += 1;
         Ok(())
+    }
+
+    /// The listing that is asked for next: none where a request waits, or where each directory was
+    /// answered. Refused 11 where memory is refused.
+    pub(crate) fn next_listing(&mut self, alloc: Global) -> Result<Option<Request>, SessionError>
+        ensures next { IfOk result (ListsNext self.old self.new) }
+        ensures waits { self.new.waiting ≡ self.old.waiting }
+        ensures asked { self.new.asked ≡ self.old.asked }
+        ensures found { found_of self.new.scan ≡ found_of self.old.scan }
+        ensures memory { IfErr result (λ e. e ≡ SessionError.Memory) }
+    {
+        if self.waiting.is_some() {
+            return Ok(None);
+        }
+        match self.scan.next(alloc)? {
+            Some(path) => {
+                // Its type says that it is a path.
+                let _ = path.names();
+                Ok(Some(Request::List { path }))
+            }
+            None => Ok(None),
+        }
+    }
+
+    /// Asks the side for what comes next, if anything does, and adds that to what is to be sent.
+    /// Refused 11 where memory is refused, or where its number would need more than four bytes.
+    pub(crate) fn ask_next(
+        &mut self,
+        alloc: Global,
+        sends: &mut Vec<Sending>,
+        to: Side,
+        session: u64,
+        next: Option<Request>,
+    ) -> Result<(), SessionError>
+        ensures asked { OnOk result (IsAskedOn self.old self.new (requests_of next)) }
+        ensures ok { OnOk result (messages_of sends.new.items ≡ messages_of sends.old.items
+            ++ messages_to session (which_of to) (numbered self.old.asked (requests_of next))) }
+        ensures memory { IfErr result (λ e. e ≡ SessionError.Memory) }
+    {
+        let Some(request) = next else {
+            return Ok(());
+        };
+        self.ask(request)?;
+        self.send(alloc, sends, to, session)
     }
 
     /// Adds the request that waits to what is to be sent. Refused 11 where memory is refused.

@@ -5,7 +5,7 @@ ghost use Rattle.syn_headline.specs.Network.{Which};
 ghost use Rattle.syn_headline.specs.Session.{IsShown, fault_of};
 ghost use Rattle.syn_headline.specs.Side.{ListAt};
 ghost use Rattle.syn_message.specs.Replies.{IsLawfulReply, reply_of};
-ghost use Rattle.syn_model.specs.Path.{IsPath, Path as Names};
+ghost use Rattle.syn_model.specs.Path.{Path as Names};
 ghost use Rattle.syn_model.specs.Refusal.{Memory};
 ghost use Rattle.syn_refusal.specs.Refusals.{cause_of};
 ghost use Rattle.syn_model.specs.Dirty.{IsScanBy};
@@ -50,29 +50,22 @@ impl SideScan {
         ensures new { IfOk result (λ next. IfSome next
             (λ path. ¬ WasAnswered (found_of self.old) path)) }
         ensures waits { IfOk result (λ next. IfSome next (λ path. WaitsFor self.new path)) }
-        ensures lawful { IfOk result (λ next. IfSome next IsPath) }
         ensures whole { IfOk result (λ next. IfNone next (IsWhole (found_of self.old))) }
         ensures found { found_of self.new ≡ found_of self.old }
         ensures memory { IfErr result (λ e. e ≡ SessionError.Memory) }
     {
-        let next = self.scanner.next_request(alloc)?;
-        if let Some(path) = &next {
-            // Its type says that it is a path.
-            let _ = path.names();
-        }
-        Ok(next)
+        Ok(self.scanner.next_request(alloc)?)
     }
 
-    /// Takes the answer to the listing that waits.
+    /// Takes the answer to a listing.
     ///
     /// Refused 22 where the scan would have more than 4,096 nodes; 23 where a path would pass the
     /// limits, or the answer is none to a listing; 11 where memory is refused; and with the number
     /// that the side refused the listing with.
     pub fn take(&mut self, alloc: Global, path: &Path, reply: Reply) -> Result<(), Refusal>
         requires lawful { IsLawfulReply (reply_of reply) }
-        requires waits { WaitsFor self.old path.now }
         // An answer is refused exactly where it ends its session, or for want of memory.
-        ensures step { (side : Which) (taken : Exchanges) (number : ℕ)
+        ensures step { (side : Which) (taken : Exchanges) (number : ℕ) → WaitsFor self.old path.now
             → IsFoundIn (found_of self.old) side taken
             → MatchResult result
             (λ _. (fault_of taken side (ListAt path.now) (reply_of reply) ≡ None)
