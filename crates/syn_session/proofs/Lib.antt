@@ -10,3 +10,4 @@ pub mod TickLemmas
 pub mod ScanningLemmas
 pub mod SessionLemmas
 pub mod AnswerLemmas
+pub mod AskLemmas
