@@ -11,3 +11,5 @@ pub mod ScanningLemmas
 pub mod SessionLemmas
 pub mod AnswerLemmas
 pub mod AskLemmas
+pub mod HearLemmas
+pub mod HearingLemmas
