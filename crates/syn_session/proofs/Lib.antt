@@ -8,3 +8,4 @@ pub mod StartLemmas
 pub mod KeepLemmas
 pub mod TickLemmas
 pub mod ScanningLemmas
+pub mod DueLemmas

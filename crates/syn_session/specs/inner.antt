@@ -3,3 +3,4 @@ pub mod Sessions
 pub mod Steps
 pub mod Plans
 pub mod Due
+pub mod Recording
