@@ -1,11 +1,10 @@
 -- A record that is due is what its machine does.
-use Rattle.std.proofs.Common.{◌≡◌, ◌≢◌, ◌⊎◌, ◌≤◌, ◌<◌, ◌+◌, ◌^◌, ℕ, Bool, true, false, nat_le, ◌||◌, if◌then◌else◌, List, [], ◌∷◌, ◌++◌, Option, Some, None, Result, Ok, Err, is_some, refl, sym, ap, ap₂, ◌∙◌, subst, inl, inr, arith}
+use Rattle.std.proofs.Common.{◌≡◌, ◌≢◌, ◌⊎◌, ◌≤◌, ◌<◌, ◌+◌, ◌^◌, ℕ, Bool, true, false, nat_le, ◌||◌, if◌then◌else◌, List, [], ◌∷◌, ◌++◌, Some, None, is_some, refl, sym, ap, ap₂, ◌∙◌, subst, inl, inr, arith}
 use Rattle.std.proofs.lemmas.Bool.{false≢true, true≢false}
 use Rattle.std.proofs.lemmas.Bool.Decides.{nat_tests}
 use Rattle.std.proofs.lemmas.Option.{none-some}
 use Rattle.std.specs.FinMap.{get, get-empty}
-use Rattle.std.specs.Prelude.{option_map}
-use Rattle.syn_archive.specs.Archive.{Stands, IsHalted, KeepsBeforeOrAfter, HasRecord, KeepsReadings, KeepsOrCompacts, SameMemory, pair_of, shown, disk_of, left_shown, marks_shown, generation_shown, journal_of}
+use Rattle.syn_archive.specs.Archive.{Stands, IsHalted, KeepsBeforeOrAfter, HasRecord, KeepsReadings, pair_of, shown, disk_of, left_shown, marks_shown, generation_shown, journal_of}
 use Rattle.syn_archive.specs.Disks.{DiskKeeps, kept_size}
 use Rattle.syn_archive.specs.Refusals.{MakesIfDevice}
 use Rattle.syn_archive.specs.declared.archive.Archive.{Archive}
@@ -26,18 +25,16 @@ use Rattle.syn_model.specs.Path.{Bytes, Path, path_cmp, is_root}
 use Rattle.syn_model.specs.Refusal.{Root, first_cause}
 use Rattle.syn_model.specs.Tree.{absent, IsPart, is_directory, replace, empty_directory}
 use Rattle.syn_recovery.specs.Calls.{MadeCallsMeet, StopsBehind, BrokenCallsMeet}
-use Rattle.syn_refusal.specs.Refusals.{cause_of}
 use Rattle.syn_refusal.specs.declared.refusal.Refusal.TheVariants as refusal
-use Rattle.syn_session.specs.Machines.{Journal, Runs, Fails, IsMachine}
+use Rattle.syn_session.specs.Machines.{Journal, Runs, IsMachine}
 use Rattle.syn_session.specs.declared.due.Due.{Due}
 use Rattle.syn_session.specs.declared.due.Due.TheVariants.{Ends}
-use Rattle.syn_session.specs.inner.Due.{IsReady, MakesRoom, has_some, makes_some, Settles, recorded, archive_refuses, no_checkpoint, failed_before, checkpoint_breaks, record_breaks, no_room_left, no_memory, no_memory_behind}
+use Rattle.syn_session.specs.inner.Due.{IsReady, MakesRoom, has_some, makes_some, Settles, recorded, no_checkpoint, checkpoint_breaks, record_breaks, no_memory, no_memory_behind}
 use Rattle.syn_session.specs.inner.Recording.{Writes, written, Checkpoints, at_greatest, MakesRoomNow, has_made, made_none, ended_by}
 use Rattle.syn_session.specs.inner.Recording as step
-use Rattle.syn_session.specs.inner.Steps.{KeepsSo, Moves, moves_on, moves_down}
+use Rattle.syn_session.specs.inner.Steps.{KeepsSo, moves_on, moves_down}
 use Rattle.syn_session.proofs.MachineLemmas.{kept_ok, kept_failed}
-use Rattle.syn_session.proofs.CheckpointLemmas.{compact_failed}
-use Rattle.syn_session.proofs.RefusedLemmas.{failed, device_not_full}
+use Rattle.syn_session.proofs.RefusedLemmas.{failed}
 use Rattle.syn_session.proofs.StayLemmas.{same_machine}
 
 -- ---- what is lawful

@@ -9,3 +9,5 @@ pub mod KeepLemmas
 pub mod TickLemmas
 pub mod ScanningLemmas
 pub mod DueLemmas
+pub mod TallyLemmas
+pub mod PlanLemmas
