@@ -11,3 +11,4 @@ pub mod ScanningLemmas
 pub mod DueLemmas
 pub mod TallyLemmas
 pub mod PlanLemmas
+pub mod AdvanceLemmas

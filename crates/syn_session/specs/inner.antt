@@ -4,3 +4,4 @@ pub mod Steps
 pub mod Plans
 pub mod Due
 pub mod Recording
+pub mod Advancing
