@@ -7,9 +7,11 @@ use Rattle.std.proofs.lemmas.List.{get_or-map, length-map}
 use Rattle.std.proofs.lemmas.List.Elements.{All-map}
 use Rattle.std.proofs.lemmas.Option.{none-some, same_Some, slice_get-map, slice_get_within, get_or_from_slice_get}
 use Rattle.syn_headline.specs.Network.{Which, Left, Right}
-use Rattle.syn_headline.specs.Planning.{Planned, SeesBoth}
+use Rattle.syn_headline.specs.Planning.{Planned, SeesBoth, SessionPlan}
+use Rattle.syn_headline.specs.Session.{BothBegun, MakesPlan, Running}
+use Rattle.syn_model.specs.Archive.{Archive}
 use Rattle.syn_model.specs.Decision.{Item, Decision, Clean, Do, DoAndGoOn, GoOn, ToLeft, ToRight, MarkSame, MarkDir, Conflict, path_of, decision}
-use Rattle.syn_model.specs.Dirty.{Scan, dirty, is_same_tree, is_unstable}
+use Rattle.syn_model.specs.Dirty.{IsScanBy, Scan, dirty, is_same_tree, is_unstable}
 use Rattle.syn_model.specs.Path.{Path}
 use Rattle.syn_model.specs.Plan.{IsDecided, IsOrderly, PlanIsOrderly, PlanIsDecided}
 use Rattle.syn_model.specs.Plan as model
@@ -17,6 +19,7 @@ use Rattle.syn_model.specs.Reconcile.{is_directory_in_both}
 use Rattle.syn_model.specs.Tree.{Tree, is_directory, subtree}
 use Rattle.syn_model.proofs.DirtyLemmas.{same_tree_is}
 use Rattle.syn_scan.specs.Found.{Found, position_of, scan_of}
+use Rattle.syn_session.specs.Scanning.{WasListedAt, WasNoDirectoryAt}
 use Rattle.syn_session.specs.inner.Plans.{planned_all, planned_by}
 use Rattle.syn_session.proofs.TallyLemmas.{NamedOnce}
 
@@ -123,3 +126,35 @@ module _ (left right : Found) (archive : Tree) (items : List Item) (is_plan : it
       let same = same_tree_is _ _ (decided_same (scan_of left) (scan_of right) archive path (is_same_item (decision (scan_of left) (scan_of right) archive) path one)) in
       let at_path = here.1 ∙ ap (planned_by left right) is in
       ap (λ p. p.left.marks) at_path ∙ (same ∙ sym (ap (λ p. p.right.marks) at_path))
+
+-- ---- the plan that a session makes
+
+-- with the scans and the archive that it was made of
+abbrev pub made_of : ℕ → Tree → Found → Found → List Item → SessionPlan
+made_of session archive left right items = record {
+  session = session;
+  preference = None;
+  scan = scans_by left right;
+  since = since_by left right;
+  archive = archive;
+  plan = planned_all left right items;
+}
+
+-- once both sides had begun, and each scan is that of what its side answered
+pub makes_plan : (running : Running) (archive : Archive) (left right : Found) (items : List Item) → items ≡ model.plan (scan_of left) (scan_of right) archive.marks → BothBegun running.taken →
+    IsScanBy (WasListedAt running.taken Left) (WasNoDirectoryAt running.taken Left) (scan_of left) (position_of left) →
+    IsScanBy (WasListedAt running.taken Right) (WasNoDirectoryAt running.taken Right) (scan_of right) (position_of right) →
+    MakesPlan running archive (made_of running.session archive.marks left right items)
+makes_plan running archive left right items is_plan begun on_left on_right = record {
+  of_session = refl;
+  prefers_none = refl;
+  archive_is = refl;
+  begun = begun;
+  scanned = scanned;
+  items = items_of_all left right items ∙ is_plan;
+  seen = sees_both left right items;
+}
+  where
+    scanned : (side : Which) → IsScanBy (WasListedAt running.taken side) (WasNoDirectoryAt running.taken side) (scans_by left right side) (since_by left right side)
+    scanned Left = on_left
+    scanned Right = on_right
