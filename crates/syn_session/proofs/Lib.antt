@@ -12,3 +12,5 @@ pub mod DueLemmas
 pub mod TallyLemmas
 pub mod PlanLemmas
 pub mod AdvanceLemmas
+pub mod SessionLemmas
+pub mod AnswerLemmas

@@ -1,7 +1,10 @@
 -- Definitions that no public clause names.
-pub mod Sessions
-pub mod Steps
 pub mod Plans
+pub mod Stages
+pub mod Walking
+pub mod Sessions
+pub mod Answering
+pub mod Steps
 pub mod Due
 pub mod Recording
 pub mod Advancing

@@ -2,8 +2,10 @@
 #![tactic(auto)]
 
 mod coordinator;
+mod course;
 mod due;
 mod error;
+mod line;
 mod report;
 mod requests;
 mod sending;
