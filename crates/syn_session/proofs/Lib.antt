@@ -14,3 +14,5 @@ pub mod PlanLemmas
 pub mod AdvanceLemmas
 pub mod SessionLemmas
 pub mod AnswerLemmas
+pub mod WalkLemmas
+pub mod CourseLemmas
