@@ -23,20 +23,10 @@ use Rattle.syn_session.specs.declared.course.Course.{Course}
 use Rattle.syn_session.specs.declared.due.Due.TheVariants as due
 use Rattle.syn_session.specs.declared.report.Ended.{Ended}
 use Rattle.syn_session.specs.declared.report.Ended.TheVariants.{Early}
-use Rattle.syn_session.specs.inner.Advancing.{Advanced, ended, kept_it, refused_it, stopped}
+use Rattle.syn_session.specs.inner.Advancing.{Advanced, kept_at, past_at, refused_at, ended, kept_it, refused_it, stopped}
 use Rattle.syn_session.specs.inner.Stages.{IsCourse, Reached}
 use Rattle.syn_session.specs.inner.Walking.{Comes, Ends, HasKept, Passes, ends, goes_down, plan_at, walk_at, ended_by}
 use Rattle.syn_session.proofs.AdvanceLemmas.{goes_further}
-
--- what was reached behind an item: it is past, kept so, or refused so
-abbrev pub past_at : Reached → Reached
-past_at reached = record reached { cursor = suc reached.cursor }
-
-abbrev pub kept_at : Reached → Kept → Reached
-kept_at reached what = record reached { cursor = suc reached.cursor; kept = reached.kept ++ what ∷ [] }
-
-abbrev pub refused_at : Reached → Refusal → Planned → Reached
-refused_at reached why planned = record reached { cursor = suc reached.cursor; refused = reached.refused ++ (why, path_of planned.item) ∷ [] }
 
 pub keeps_none : (reached : Reached) → HasKept reached reached []
 keeps_none reached = record { plan = refl; kept_is = sym (append-nil reached.kept) }

@@ -6,6 +6,7 @@ mod course;
 mod due;
 mod error;
 mod line;
+mod passing;
 mod report;
 mod requests;
 mod sending;

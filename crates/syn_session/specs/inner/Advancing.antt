@@ -1,5 +1,5 @@
 -- What a record that is due does to the walk of a session through its plan.
-use Rattle.std.specs.Prelude.{◌≡◌, ℕ, true, List, [], ◌∷◌, Some}
+use Rattle.std.specs.Prelude.{◌≡◌, ℕ, suc, true, List, [], ◌∷◌, ◌++◌, Some}
 use Rattle.syn_archive.specs.Archive.{disk_of}
 use Rattle.syn_archive.specs.declared.archive.Archive.{Archive}
 use Rattle.syn_disk.specs.Arms.{is_stopped}
@@ -9,11 +9,14 @@ use Rattle.syn_headline.specs.Coordinator.{plan_of, refusing}
 use Rattle.syn_headline.specs.Machine.{Down, Up}
 use Rattle.syn_headline.specs.Planning.{Planned}
 use Rattle.syn_model.specs.Archive.{Kept}
+use Rattle.syn_model.specs.Decision.{path_of}
+use Rattle.syn_model.specs.Refusal.{Refusal as Why}
 use Rattle.syn_refusal.specs.Refusals.{cause_of}
 use Rattle.syn_refusal.specs.declared.refusal.Refusal.{Refusal}
 use Rattle.syn_session.specs.Machines.{IsMachine, Journal, LeavesMachine}
 use Rattle.syn_session.specs.declared.due.Due.{Due}
 use Rattle.syn_session.specs.declared.due.Due.TheVariants.{Recorded, Refused, Ends}
+use Rattle.syn_session.specs.inner.Stages.{Reached}
 
 -- what was kept then
 abbrev pub kept_by : Kept → Due → List Kept
@@ -42,3 +45,19 @@ pub data Advanced {D : Type 0} {disk : Ghosts D} (new : Archive D disk) (pair : 
       is_stopped (disk.arms (disk_of new)) ≡ true →
       LeavesMachine disk (disk_of new) pair later.journal →
       Advanced new pair plan taken walk planned what due
+
+-- How far a session came behind an item: it is past, its record is kept, or it is refused so
+abbrev pub past_at : Reached → Reached
+past_at reached = record reached { cursor = suc reached.cursor }
+
+abbrev pub kept_at : Reached → Kept → Reached
+kept_at reached what = record reached {
+  cursor = suc reached.cursor;
+  kept = reached.kept ++ what ∷ [];
+}
+
+abbrev pub refused_at : Reached → Why → Planned → Reached
+refused_at reached why planned = record reached {
+  cursor = suc reached.cursor;
+  refused = reached.refused ++ (why, path_of planned.item) ∷ [];
+}
