@@ -8,8 +8,14 @@ pub mod StartLemmas
 pub mod KeepLemmas
 pub mod TickLemmas
 pub mod ScanningLemmas
+pub mod DueLemmas
+pub mod TallyLemmas
+pub mod PlanLemmas
+pub mod AdvanceLemmas
 pub mod SessionLemmas
 pub mod AnswerLemmas
 pub mod AskLemmas
 pub mod HearLemmas
 pub mod HearingLemmas
+pub mod WalkLemmas
+pub mod CourseLemmas

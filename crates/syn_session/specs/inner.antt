@@ -7,3 +7,5 @@ pub mod Answering
 pub mod Hearing
 pub mod Steps
 pub mod Due
+pub mod Recording
+pub mod Advancing

@@ -7,6 +7,7 @@ mod due;
 mod error;
 mod hearing;
 mod line;
+mod passing;
 mod report;
 mod requests;
 mod sending;
