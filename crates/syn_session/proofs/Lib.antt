@@ -17,5 +17,6 @@ pub mod AnswerLemmas
 pub mod AskLemmas
 pub mod HearLemmas
 pub mod HearingLemmas
+pub mod ReplyLemmas
 pub mod WalkLemmas
 pub mod CourseLemmas

@@ -5,6 +5,8 @@ pub mod Walking
 pub mod Sessions
 pub mod Answering
 pub mod Hearing
+pub mod Taking
+pub mod Answered
 pub mod Steps
 pub mod Due
 pub mod Recording

@@ -30,6 +30,7 @@ use syn_recovery::device_laws;
 use syn_refusal::Refusal;
 use syn_wire::Kept;
 
+mod answers;
 mod journal;
 
 /// How many bytes the record of a session takes behind its length.
