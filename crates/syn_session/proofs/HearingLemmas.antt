@@ -3,7 +3,7 @@ use Rattle.std.proofs.Common.{◌≡◌, ◌≢◌, ◌≤◌, ◌<◌, ◌^◌,
 use Rattle.std.specs.Prelude.{Contains, is_some, option_map, unwrap_or}
 use Rattle.std.proofs.lemmas.List.Elements.{Contains-append_left, Contains-push}
 use Rattle.std.proofs.lemmas.Option.{none-some}
-use Rattle.syn_headline.specs.Coordinator.{Exchange, Running, asked_in, hearing, is_not_dir, is_unstable, numbered}
+use Rattle.syn_headline.specs.Coordinator.{Exchange, Running, asked_in, hearing, is_last, is_not_dir, is_unstable, numbered}
 use Rattle.syn_headline.specs.Network.{Left, Right, Which, is_side, other}
 use Rattle.syn_headline.specs.Session.{BothBegun, WasTaken, entries_in, fault_of}
 use Rattle.syn_headline.specs.Side.{Begin, Begun, ListAt, Request}
@@ -117,6 +117,30 @@ module _ (kept : archive.Archive) (before now : Session) (running : Running) (si
         | inl (path, e, waits) ↦ no_list path (some_in _ _ (sym asked_now ∙ e))
         | inr (e, whole) ↦ none-some _ (sym e ∙ asked_now)
       ]
+
+  -- and an answer that does not end it is not the last to an item
+  pub not_last : fault_of running.taken side request reply ≡ None → is_last reply ≡ true → ⊥
+  not_last fault last = neither
+      (λ pair e. of_begin pair reply (subst (λ r. fault_of running.taken side r reply ≡ None) e fault) last)
+      (λ path e. of_list path reply (subst (λ r. fault_of running.taken side r reply ≡ None) e fault) last)
+    where
+      of_begin : (pair : ℕ) (said : model.Reply) → fault_of running.taken side (Begin pair) said ≡ None → is_last said ≡ true → ⊥
+      of_begin pair (model.Begun position) f l = Rattle.std.proofs.lemmas.Bool.false≢true l
+      of_begin pair (model.Listed position entries) f l = Rattle.std.proofs.lemmas.Bool.false≢true l
+      of_begin pair (model.NotDir position) f l = Rattle.std.proofs.lemmas.Bool.false≢true l
+      of_begin pair (model.Piece total bytes) f l = Rattle.std.proofs.lemmas.Bool.false≢true l
+      of_begin pair model.Staged f l = Rattle.std.proofs.lemmas.Bool.false≢true l
+      of_begin pair model.Done f l = none-some _ (sym f)
+      of_begin pair (model.Refused why) f l = none-some _ (sym f)
+
+      of_list : (path : Path) (said : model.Reply) → fault_of running.taken side (ListAt path) said ≡ None → is_last said ≡ true → ⊥
+      of_list path (model.Begun position) f l = Rattle.std.proofs.lemmas.Bool.false≢true l
+      of_list path (model.Listed position entries) f l = Rattle.std.proofs.lemmas.Bool.false≢true l
+      of_list path (model.NotDir position) f l = Rattle.std.proofs.lemmas.Bool.false≢true l
+      of_list path (model.Piece total bytes) f l = Rattle.std.proofs.lemmas.Bool.false≢true l
+      of_list path model.Staged f l = Rattle.std.proofs.lemmas.Bool.false≢true l
+      of_list path model.Done f l = none-some _ (sym f)
+      of_list path (model.Refused why) f l = none-some _ (sym f)
 
   -- what the other side showed stays
   found_across : IsFoundIn (found_on now (other side)) (other side) heard.taken

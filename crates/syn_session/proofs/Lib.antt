@@ -18,5 +18,6 @@ pub mod AskLemmas
 pub mod HearLemmas
 pub mod HearingLemmas
 pub mod ReplyLemmas
+pub mod TakeLemmas
 pub mod WalkLemmas
 pub mod CourseLemmas

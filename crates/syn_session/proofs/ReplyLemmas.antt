@@ -1,10 +1,10 @@
 -- An answer that is taken is the step of a coordinator that takes it.
 use Rattle.std.proofs.Common.{◌≡◌, ◌<◌, ◌^◌, ◌⊎◌, ℕ, Bool, true, false, not, if◌then◌else◌, List, [], ◌∷◌, ◌++◌, Option, Some, None, refl, sym, ap, ap₂, ◌∙◌, subst, inl, inr}
-use Rattle.std.specs.Prelude.{◌&&◌, is_some}
+use Rattle.std.specs.Prelude.{◌&&◌, is_some, unwrap_or}
 use Rattle.std.proofs.lemmas.Bool.{false≢true}
 use Rattle.syn_archive.specs.declared.archive.Archive.{Archive}
 use Rattle.syn_disk.specs.declared.disk.Disk.{Ghosts}
-use Rattle.syn_headline.specs.Coordinator.{AsksNext, CoordinatorMachine, CoordinatorTakes, EndsFor, Exchange, IsExpected, Running, Takes, asked_of, asking, behind, ignores, is_unstable, report_of, sent_now, takes}
+use Rattle.syn_headline.specs.Coordinator.{AsksNext, CoordinatorMachine, CoordinatorTakes, EndsFor, Exchange, IsExpected, Running, Takes, asked_in, asked_of, asking, behind, ignores, is_unstable, report_of, sent_now, takes}
 use Rattle.syn_headline.specs.Coordinator as model
 use Rattle.syn_headline.specs.Network.{Left, Message, Right, Which}
 use Rattle.syn_headline.specs.Side.{Reply, Request}
@@ -21,15 +21,17 @@ use Rattle.syn_session.specs.declared.report.Ended.TheVariants.{Early}
 use Rattle.syn_session.specs.declared.session.Asks.{Asks}
 use Rattle.syn_session.specs.declared.session.Session.{Session}
 use Rattle.syn_session.specs.inner.Answered.{Answered, goes_down, goes_on, reported}
-use Rattle.syn_session.specs.inner.Answering.{IsAskedOn, IsHeard, asks_of, exchange_of, messages_asked}
+use Rattle.syn_session.specs.inner.Answering.{IsAnswering, IsAskedOn, IsHeard, asks_of, exchange_of, messages_asked}
 use Rattle.syn_session.specs.inner.Hearing.{IsAsking, MayGoOn}
-use Rattle.syn_session.specs.inner.Sessions.{IsRunning, IsSession, Tells, TellsOf}
+use Rattle.syn_session.specs.inner.Sessions.{IsRunning, IsSession, Tells, TellsOf, waiting_of}
 use Rattle.syn_session.specs.inner.Stages.{Reached, line_of, reached_by}
 use Rattle.syn_session.specs.inner.Taking.{TakesEnd, TakesOn, Walks, reaching}
 use Rattle.syn_session.specs.inner.Taking as taking
 use Rattle.syn_session.specs.inner.Walking.{ended_by, walk_at}
 use Rattle.syn_session.proofs.AskLemmas.{asks_next, heard_asking, line_asked, sends_that, then_asking}
 use Rattle.syn_session.proofs.StartLemmas.{no_session}
+use Rattle.syn_session.proofs.TickLemmas.{run_alike, session_of}
+use Rattle.std.proofs.lemmas.Option.{none-some}
 
 -- what a session tells stays with its number, its plan and whether it is unstable
 pub tells_same : (old new : Session) (running : Running) → new.number ≡ old.number → new.is_unstable ≡ old.is_unstable → new.course ≡ old.course → Tells old running → Tells new running
@@ -139,14 +141,35 @@ module _ {D : Type 0} {disk : Ghosts D} (old new : Coordinator D disk) (pair : �
       does.goes_down now call (takes running request now call expected took) stopped down leaves same_kept
 
   -- it was not
-  pub ignored_does : Stands old pair machine → new.archive ≡ old.archive → new.running ≡ old.running → ((running : Running) (request : Request) → IsExpected machine from session number running request → ⊥) → Does old new pair (CoordinatorTakes pair machine from session number reply) [] []
-  ignored_does stands archive running unexpected =
+  pub ignored_does : Stands old pair machine → new.archive ≡ old.archive → new.running ≡ old.running → ((running : Running) (request : Request) → IsExpected machine from session number running request → ⊥) → (kept : List Kept) (messages : List Message) → kept ≡ [] → messages ≡ [] → Does old new pair (CoordinatorTakes pair machine from session number reply) kept messages
+  ignored_does stands archive running unexpected kept messages no_kept no_messages =
       does.goes_on machine model.no_call (ignores unexpected) (record {
         journal = subst (λ a. IsMachine a pair machine.journal) (sym archive) stands.journal;
         running = subst (λ s. IsRunning machine.journal.value s machine.running) (sym running) stands.running;
         quiet = stands.quiet;
-      }) refl refl (sym (ap (λ s. if runs old && not (is_some s) then in_report (report_shown new) else []) running ∙ by (runs old)))
+      }) (sym no_kept) (sym no_messages) (sym (ap (λ s. if runs old && not (is_some s) then in_report (report_shown new) else []) running ∙ by (runs old)))
     where
       by : (b : Bool) → (if b && not b then in_report (report_shown new) else []) ≡ []
       by true = refl
       by false = refl
+
+  -- no session runs, or no request waits for it
+  pub none_runs : Stands old pair machine → old.running ≡ None → (running : Running) (request : Request) → IsExpected machine from session number running request → ⊥
+  none_runs stands none running request expected =
+      false≢true (sym (run_alike machine.journal.value old.running machine.running stands.running ∙ ap is_some none) ∙ ap is_some expected.runs)
+
+  pub none_waits : Stands old pair machine → (ran : Session) → old.running ≡ Some ran → (ran.number ≡ session → asked_in (waiting_of (line_of ran from).waiting) number ≡ None) → (running : Running) (request : Request) → IsExpected machine from session number running request → ⊥
+  none_waits stands ran was silent running request expected =
+      let is = session_of machine.journal.value ran machine.running (subst (λ s. IsRunning machine.journal.value s machine.running) was stands.running) in
+      let same = some_is (sym is.1 ∙ expected.runs) in
+      let session_is = subst (λ r. IsSession machine.journal.value ran r) same is.2 in
+      none-some _ (sym (silent (sym session_is.number ∙ sym expected.of_session)) ∙ (ap (λ l. asked_in l number) (sym (session_is.line from).waits) ∙ expected.asked))
+    where
+      some_is : {a b : Running} → Some a ≡ Some b → a ≡ b
+      some_is {a} e = ap (λ o. unwrap_or o a) e
+
+  -- the session that runs, and what it expected
+  pub expects : Stands old pair machine → (ran next : Session) (request : Request) → old.running ≡ Some ran → ran.number ≡ session → IsAnswering ran next from number request → (running : Running) × IsExpected machine from session number running request × IsSession machine.journal.value ran running
+  expects stands ran next request was numbered answers =
+      let is = session_of machine.journal.value ran machine.running (subst (λ s. IsRunning machine.journal.value s machine.running) was stands.running) in
+      (is.0, record { runs = is.1; of_session = sym numbered ∙ sym is.2.number; asked = ap (λ l. asked_in l number) (is.2.line from).waits ∙ answers.asked }, is.2)

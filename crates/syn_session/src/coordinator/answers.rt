@@ -1,5 +1,5 @@
 //! The answers that come to a coordinator.
-ghost use Rattle.std.specs.Prelude.{◌≡◌, [], ℕ, IsSome, None, Some, option_map};
+ghost use Rattle.std.specs.Prelude.{◌≡◌, [], ℕ, None, Some, is_some, option_map, true};
 ghost use Rattle.syn_headline.specs.Coordinator.{CoordinatorMachine, CoordinatorTakes, Running};
 ghost use Rattle.syn_headline.specs.Coordinator.{Exchange, hearing, report_of};
 ghost use Rattle.syn_headline.specs.Session.{fault_of};
@@ -125,7 +125,7 @@ impl<D: Disk> Coordinator<D> {
         ensures step { (pair number : ℕ) (journal : Journal) (before : Ran) (running : Running)
             → IsMachine (archive_of self.old) pair journal → IsSession journal.value before running
             → IsAnswering before session.old (which_of from) number (request_of request)
-            → IsSome before.course
+            → is_some before.course ≡ true
             → written self.old ≡ [] → TakesSo (archive_of self.new) pair journal running
             (exchange_of (which_of from) number (request_of request) (reply_of reply)) session.new
             (written self.new) result }
