@@ -16,3 +16,4 @@ pub mod SessionLemmas
 pub mod AnswerLemmas
 pub mod WalkLemmas
 pub mod CourseLemmas
+pub mod FreshLemmas
