@@ -16,7 +16,7 @@ use Rattle.syn_model.specs.Archive as archive
 use Rattle.syn_session.specs.declared.line.Line.{Line}
 use Rattle.syn_session.specs.declared.requests.Waiting.{Waiting}
 use Rattle.syn_session.specs.declared.session.Session.{Session}
-use Rattle.syn_session.specs.inner.Answering.{IsAnswering, IsHeard}
+use Rattle.syn_session.specs.inner.Answering.{IsAnswering, IsHeard, exchange_of}
 use Rattle.syn_session.specs.inner.Sessions.{IsLine, IsSession, outstanding_of, waiting_of}
 use Rattle.syn_session.specs.inner.Stages.{line_of}
 
@@ -53,9 +53,6 @@ it_waited (Some one) number request is =
 
 count_then : (side : Which) (taken : List Exchange) (exchange : Exchange) → count_by (λ one. is_side side one.side) (taken ++ exchange ∷ []) ≡ count_by (λ one. is_side side one.side) taken + (0 + cond (is_side side exchange.side) 1 0)
 count_then side taken exchange = sum_by-append (λ one. cond (is_side side one.side) 1 0) taken (exchange ∷ [])
-
-abbrev pub exchange_of : Which → ℕ → Request → model.Reply → Exchange
-exchange_of side number request reply = record { side = side; number = number; request = request; reply = reply }
 
 module _ (kept : archive.Archive) (old new : Session) (running : Running) (side : Which) (number : ℕ) (request : Request) (reply : model.Reply) (is : IsSession kept old running) (answers : IsAnswering old new side number request) where
   abbrev exchange_now : Exchange

@@ -17,3 +17,6 @@ pub mod AnswerLemmas
 pub mod WalkLemmas
 pub mod CourseLemmas
 pub mod FreshLemmas
+pub mod AskLemmas
+pub mod HearLemmas
+pub mod HearingLemmas

@@ -4,6 +4,7 @@ pub mod Stages
 pub mod Walking
 pub mod Sessions
 pub mod Answering
+pub mod Hearing
 pub mod Steps
 pub mod Due
 pub mod Recording

@@ -5,6 +5,7 @@ mod coordinator;
 mod course;
 mod due;
 mod error;
+mod hearing;
 mod line;
 mod passing;
 mod report;

@@ -140,14 +140,23 @@ impl Session {
             (λ e. (cause_of e ≡ Memory) ⊎ (fault_of taken (which_of from) (ListAt path.now)
             (reply_of reply) ≡ Some (cause_of e))) }
         ensures keeps { KeepsRequests self.old self.new (which_of from) }
-        ensures unstable { self.new.is_unstable
-            ≡ (self.old.is_unstable || is_not_dir (reply_of reply)) }
+        ensures unstable { self.new.is_unstable ≡ self.old.is_unstable }
     {
-        self.is_unstable = either(self.is_unstable, is_no_directory(&reply));
         match from {
             Side::Left => self.left.scan.take(alloc, path, reply),
             Side::Right => self.right.scan.take(alloc, path, reply),
         }
+    }
+
+    /// Whether a path changed its kind, with an answer that was taken.
+    pub(crate) fn count_unstable(&mut self, is_no_directory: bool)
+        ensures unstable { self.new.is_unstable ≡ (self.old.is_unstable || is_no_directory) }
+        ensures left { self.new.left ≡ self.old.left }
+        ensures right { self.new.right ≡ self.old.right }
+        ensures number { self.new.number ≡ self.old.number }
+        ensures course { self.new.course ≡ self.old.course }
+    {
+        self.is_unstable = either(self.is_unstable, is_no_directory);
     }
 
     /// The listings that are asked for next, on each side where no request waits. Refused 11 where
@@ -219,7 +228,7 @@ fn either(one: bool, other: bool) -> bool
 }
 
 /// No directory is at the path that was to be listed.
-fn is_no_directory(reply: &Reply) -> bool
+pub(crate) fn is_no_directory(reply: &Reply) -> bool
     ensures { result ≡ is_not_dir (reply_of reply.now) }
 {
     matches!(reply, Reply::NotDir { .. })

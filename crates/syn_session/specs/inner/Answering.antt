@@ -1,11 +1,11 @@
 -- A session whose answer has come, and what it asks next.
-use Rattle.std.specs.Prelude.{◌≡◌, ◌≢◌, ◌⊎◌, ◌≤◌, ◌<◌, ◌^◌, ◌+◌, ℕ, length, List, [], ◌∷◌, ◌++◌, Option, Some}
+use Rattle.std.specs.Prelude.{◌≡◌, ◌≢◌, ◌⊎◌, ◌≤◌, ◌<◌, ◌^◌, ◌+◌, ℕ, true, is_some, length, List, [], ◌∷◌, ◌++◌, Option, Some}
 use Rattle.std.specs.Prelude.{None}
 use Rattle.syn_headline.specs.Coordinator.{AsksOnce, Exchange, Running, asked_in}
 use Rattle.syn_headline.specs.Coordinator.{messages_to, numbered}
 use Rattle.syn_headline.specs.Network.{Message, Which, Left, Right, other}
 use Rattle.syn_headline.specs.Session.{IsShown}
-use Rattle.syn_headline.specs.Side.{Request, ListAt}
+use Rattle.syn_headline.specs.Side.{ListAt, Reply, Request}
 use Rattle.syn_message.specs.Requests.{request_of}
 use Rattle.syn_message.specs.declared.request.Request.{Request as Asked}
 use Rattle.syn_model.specs.Path.{IsPath, Path}
@@ -40,9 +40,17 @@ abbrev pub requests_of : Option Asked → List Request
 requests_of None = []
 requests_of (Some request) = request_of request ∷ []
 
+abbrev pub next_of : Asks → Which → Option Asked
+next_of asks Left = asks.left
+next_of asks Right = asks.right
+
 abbrev pub asks_of : Asks → Which → List Request
-asks_of asks Left = requests_of asks.left
-asks_of asks Right = requests_of asks.right
+asks_of asks side = requests_of (next_of asks side)
+
+-- an answer of a side, to what it was asked
+abbrev pub exchange_of : Which → ℕ → Request → Reply → Exchange
+exchange_of side number request reply =
+    record { side = side; number = number; request = request; reply = reply }
 
 -- a listing that no other asked for: of a path that is shown
 pub record IsNextListing (old new : Line) (path : Path) : Type 0 where
@@ -72,6 +80,20 @@ abbrev pub messages_asked : Session → Asks → List Message
 messages_asked session asks =
     messages_to session.number Left (numbered session.left.asked (asks_of asks Left))
     ++ messages_to session.number Right (numbered session.right.asked (asks_of asks Right))
+
+-- the listings that are asked for next on both lines, and something waits then
+pub record ListsOn (old new : Session) (asks : Asks) : Type 0 where
+  pub left : ListsNext old.left new.left asks.left
+  pub right : ListsNext old.right new.right asks.right
+  pub some : ((is_some asks.left ≡ true) ⊎ (is_some asks.right ≡ true))
+      ⊎ ((is_some new.left.waiting ≡ true) ⊎ (is_some new.right.waiting ≡ true))
+
+-- nothing waits, and each directory of both sides was answered
+pub record IsListed (session : Session) : Type 0 where
+  pub left_silent : session.left.waiting ≡ None
+  pub right_silent : session.right.waiting ≡ None
+  pub left_whole : IsWhole (found_on session Left)
+  pub right_whole : IsWhole (found_on session Right)
 
 -- What stays of a session
 
