@@ -117,7 +117,7 @@ fn are_lawful(marks: Option<&MarkTree>)
 }
 
 /// Why the archive refuses the record of an item, but for its journal and its device.
-fn refusal_for<D: Disk>(archive: &Archive<D>, kept: &Kept) -> Option<Refusal>
+pub(crate) fn refusal_for<D: Disk>(archive: &Archive<D>, kept: &Kept) -> Option<Refusal>
     requires { IsOfItem (kept_of kept.now) }
     ensures { option_map cause_of result ≡ kept_refusal (shown archive.now) (kept_of kept.now) }
 {
