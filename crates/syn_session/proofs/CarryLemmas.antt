@@ -76,34 +76,3 @@ marks_of planned c item kept is recorded = by planned.item (source_of c) is.writ
     by (Conflict at) Left writes e = absurd writes
     by (Conflict at) Right writes e = absurd writes
 
-module _ (archive : model.Archive) (running : Running) (plan : List Planned) (planned : Planned) (c : Carriage) (kept : Kept) (has_plan : running.plan ≡ Some plan) (item : ℕ) (come : running.cursor ≡ item) (at : Rattle.std.specs.Prelude.slice_get plan item ≡ Some planned) (is : IsCarriageOf c planned item) (recorded : record_for planned planned.item ≡ Some kept) (can : kept_refusal archive kept ≡ None) where
-  here : Rattle.std.specs.Prelude.slice_get (option_map_or (λ p. p) running.plan []) running.cursor ≡ Some planned
-  here = ap₂ (λ p n. Rattle.std.specs.Prelude.slice_get (option_map_or (λ p. p) p []) n) has_plan come ∙ at
-
-  pub may_ask : (to : Which) (request : Request) → carrying.MayAsk c running.taken to request → MayAsk archive running to request
-  may_ask to (Begin pair) may = absurd may
-  may_ask to (ListAt path) may = absurd may
-  may_ask to (Fetch path since offset) may =
-      let of = may.0 in let same = may.1 in (
-        planned, here,
-        subst (λ p. WritesTo planned.item (other to) p) (sym same) (subst (λ w. WritesTo planned.item (other w) c.path) (sym of) is.writes),
-        may.2 ∙ (is.source_since ∙ ap (λ w. (seen_on planned w).since) (sym of)),
-        ap (kept_refusal archive) (ap₂ (λ p w. Recorded p (seen_on planned w).marks) same of ∙ sym (marks_of planned c item kept is recorded)) ∙ can,
-        subst (λ w. Rattle.syn_headline.specs.Session.IsStagedTo running (other w) offset) (sym of) (staged offset may.3),
-        ap (λ p. Rattle.syn_headline.specs.Session.is_wanted offset (Rattle.syn_headline.specs.Session.first_total running.taken p)) same ∙ may.4)
-    where
-      staged : (count : ℕ) → carrying.IsStagedTo c running.taken count → Rattle.syn_headline.specs.Session.IsStagedTo running (other (source_of c)) count
-      staged count (inl none) = inl none
-      staged count (inr (before, bytes, was, sum)) = inr (before, bytes, subst (λ n. Rattle.syn_headline.specs.Session.WasTaken running.taken (target_of c) (Stage n before bytes) Rattle.syn_headline.specs.Side.Staged) (is.item_is ∙ sym come) was, sum)
-  may_ask to (Stage at_item offset bytes) may =
-      let of = may.0 in (
-        may.1 ∙ (is.item_is ∙ sym come),
-        planned, here,
-        subst (λ w. WritesTo planned.item w (path_of planned.item)) (sym of) (subst (λ p. WritesTo planned.item (target_of c) p) is.path_is is.writes),
-        may.2,
-        subst (λ w. Rattle.syn_headline.specs.Session.WasTaken running.taken w (Fetch (path_of planned.item) (seen_on planned w).since offset) (Rattle.syn_headline.specs.Side.Piece may.2 bytes)) (sym (ap other of ∙ source_other c))
-            (ap₂ (λ p s. Rattle.syn_headline.specs.Session.WasTaken running.taken (source_of c) (Fetch p s offset) (Rattle.syn_headline.specs.Side.Piece may.2 bytes)) is.path_is is.source_since ▷ may.3))
-    where
-      ◌▷◌ : {A B : Type 0} → A ≡ B → A → B
-      ◌▷◌ e a = subst (λ x. x) e a
-  may_ask to (Replace at_item path since size) may = ?

@@ -21,3 +21,5 @@ pub mod ReplyLemmas
 pub mod TakeLemmas
 pub mod WalkLemmas
 pub mod CourseLemmas
+pub mod FreshLemmas
+pub mod CarryLemmas

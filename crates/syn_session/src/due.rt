@@ -1,6 +1,6 @@
 //! A record that is due for an item of the plan.
-ghost use Rattle.std.specs.Prelude.{◌≡◌, ◌||◌, ◌<◌, ◌^◌, ℕ, nat_le, IfOk, None, Some, false};
-ghost use Rattle.std.specs.Prelude.{option_map};
+ghost use Rattle.std.specs.Prelude.{◌≡◌, ◌||◌, ◌<◌, ◌^◌, ℕ, nat_le, IfErr, IfOk, None, Some};
+ghost use Rattle.std.specs.Prelude.{false, option_map};
 ghost use Rattle.syn_archive.specs.Archive.{disk_of, left_shown, marks_shown, pair_of, shown};
 ghost use Rattle.syn_archive.specs.Disks.{kept_size};
 ghost use Rattle.syn_disk.specs.Arms.{is_stopped};
@@ -117,7 +117,7 @@ fn are_lawful(marks: Option<&MarkTree>)
 }
 
 /// Why the archive refuses the record of an item, but for its journal and its device.
-fn refusal_for<D: Disk>(archive: &Archive<D>, kept: &Kept) -> Option<Refusal>
+pub(crate) fn refusal_for<D: Disk>(archive: &Archive<D>, kept: &Kept) -> Option<Refusal>
     requires { IsOfItem (kept_of kept.now) }
     ensures { option_map cause_of result ≡ kept_refusal (shown archive.now) (kept_of kept.now) }
 {
@@ -257,8 +257,9 @@ fn write<D: Disk>(alloc: Global, archive: &mut Archive<D>, kept: &Kept) -> Due
 
 /// Equal marks of their own, or none. Refused 11 where memory is refused.
 fn copied(alloc: Global, marks: Option<&MarkTree>) -> Result<Option<MarkTree>, TreeError>
-    ensures { IfOk result (λ copy. or_absent copy
+    ensures ok { IfOk result (λ copy. or_absent copy
         ≡ or_absent (option_map (λ there. there.now) marks.entry)) }
+    ensures memory { IfErr result (λ e. e ≡ TreeError.Memory) }
 {
     match marks {
         None => Ok(None),
