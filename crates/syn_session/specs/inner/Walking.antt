@@ -50,6 +50,9 @@ pub record HasKept (before after : Reached) (kept : List Kept) : Type 0 where
 pub record Passes (pair : ℕ) (taken : Exchange) (old : Journal) (before : Reached) (new : Journal)
     (after : Reached) (kept : List Kept) : Type 0 where
   pub status : new.status ≡ old.status
+
+  -- no record is cut off in it
+  pub quiet : old.writing ≡ None → new.writing ≡ None
   pub has : HasKept before after kept
   pub leads : (later : Walk) (rest : List Kept)
       → Advances pair (plan_at before) taken (walk_at new after) rest later

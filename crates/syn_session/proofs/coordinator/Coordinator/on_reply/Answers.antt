@@ -21,7 +21,7 @@ pub returns-in_default-answered : goal.returns-in_default-answered
 returns-in_default-answered g c = record {
   step = λ pair machine stands.
       let was = sym c.in-Some.ensures.value in
-      let none = c.in_default-answered.ensures.none c.in_default-answered.is in
+      let none = c.in_default-answered.ensures.none refl in
       ignored_does c.args.self.now _ pair machine (which_of c.args.from) c.args.session c.args.number (reply_of c.args.reply) stands refl (ap (λ s. Some s) none.0 ∙ sym was)
       (none_waits c.args.self.now c.args.self.now pair machine (which_of c.args.from) c.args.session c.args.number (reply_of c.args.reply) stands c.in-Some.running was none.1) _ _ (ap (map kept_of) c.new.ensures.items) (ap messages_of c.new-in_default-answered.ensures.items);
 }
