@@ -31,7 +31,7 @@ use Rattle.syn_session.specs.declared.course.Course.{Course}
 use Rattle.syn_session.specs.declared.report.Ended.{Ended}
 use Rattle.syn_session.specs.declared.session.Asks.{Asks}
 use Rattle.syn_session.specs.declared.session.Session.{Session}
-use Rattle.syn_session.specs.inner.Answering.{IsHeard, asks_of, next_of, requests_of}
+use Rattle.syn_session.specs.inner.Answering.{IsHeard, asks_of, asks_to}
 use Rattle.syn_session.specs.inner.Hearing.{IsAsking, IsFresh, MayGoOn}
 use Rattle.syn_session.specs.inner.Sessions.{IsLine, IsStage, Tells, TellsOf, waiting_of}
 use Rattle.syn_session.specs.declared.requests.Waiting.{Waiting}
@@ -45,11 +45,6 @@ use Rattle.syn_session.proofs.SessionLemmas.{asks_first, first_request}
 
 no_such : {T : Type 0} (x : T) → Contains [] x → ⊥
 no_such x has = omega (arith, has.1)
-
--- the request for a side, and nothing for the other
-abbrev pub asks_to : Side → Asked → Asks
-asks_to side_is.Left request = record { left = Some request; right = None }
-asks_to side_is.Right request = record { left = None; right = Some request }
 
 -- ---- what a transfer asks, a session may ask
 

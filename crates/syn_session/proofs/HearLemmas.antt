@@ -100,6 +100,7 @@ module _ (session new : Session) (heard : Running) (h : HasHeard session heard) 
     unstable = h.unstable ∙ sym keeps.unstable;
     scans = keeps.course ∙ h.scans;
     reached = h.reached;
+    of_scan = h.of_scan;
   }
 
   pub scanned_new : IsListed new → IsScanned new heard
@@ -190,6 +191,7 @@ module _ (session new : Session) (heard : Running) (h : HasHeard session heard) 
       some = some_then;
       stage = λ later asking. subst (λ c. IsStage archive later c heard.taken (reached_by heard)) (sym (asking.course ∙ (keeps.course ∙ h.scans))) (record {
         nothing = h.reached;
+        of_scan = h.of_scan;
         found = λ side. subst (λ s. IsFoundIn (found_of s) side heard.taken) (sym (asking.line side).scan) (found_new side);
         at = lists begun (λ side. to_list side later asking (next_of asks side) refl (next side));
       });

@@ -1,7 +1,7 @@
 -- A session that scans hears that a side has begun, or what it lists.
 use Rattle.std.proofs.Common.{◌≡◌, ◌≢◌, ◌≤◌, ◌<◌, ◌^◌, ◌⊎◌, ◌+◌, ℕ, Bool, true, false, ◌||◌, ◌==◌, if◌then◌else◌, List, [], ◌∷◌, ◌++◌, Option, Some, None, refl, sym, ap, ap₂, ◌∙◌, subst, inl, inr, arith}
 use Rattle.std.specs.Prelude.{Contains, is_some, option_map, unwrap_or}
-use Rattle.std.proofs.lemmas.List.Elements.{Contains-append_left, Contains-push}
+use Rattle.std.proofs.lemmas.List.Elements.{Contains-append_left, Contains-push, Contains-push_cases}
 use Rattle.std.proofs.lemmas.Option.{none-some}
 use Rattle.syn_headline.specs.Coordinator.{Exchange, Running, asked_in, hearing, is_last, is_not_dir, is_unstable, numbered}
 use Rattle.syn_headline.specs.Network.{Left, Right, Which, is_side, other}
@@ -25,7 +25,7 @@ use Rattle.syn_session.specs.inner.Hearing.{EndsHearing, HasHeard, Hears, IsAski
 use Rattle.syn_refusal.specs.declared.refusal.Refusal.{Refusal as Why}
 use Rattle.std.specs.Prelude.{IsErrAnd, Result, Ok, Err}
 use Rattle.syn_session.specs.inner.Sessions.{IsLine, IsSession, IsStage, Tells, TellsOf, waiting_of}
-use Rattle.syn_session.specs.inner.Stages.{IsBeginningOrListing, IsScanning, IsToBegin, IsToList, begins, lists, asks_now, found_on, line_of, nothing_reached, reached_by}
+use Rattle.syn_session.specs.inner.Stages.{AreOfScan, IsBeginningOrListing, IsOfScan, IsScanning, IsToBegin, IsToList, begins, lists, asks_now, found_on, line_of, nothing_reached, reached_by}
 use Rattle.syn_session.proofs.AnswerLemmas.{heard_so, unstable_then}
 use Rattle.syn_session.proofs.HearLemmas.{found_still}
 use Rattle.syn_session.proofs.SessionLemmas.{asks_first, first_request}
@@ -90,6 +90,13 @@ module _ (kept : archive.Archive) (before now : Session) (running : Running) (si
 
   asked_now : asks_now (line_of before side) ≡ Some request
   asked_now = asks_first (line_of before side).waiting ∙ asked_first (line_of before side).waiting number request answers.asked
+
+  -- it was begun or a listing, as what was asked before
+  of_scan_then : IsOfScan request → AreOfScan heard.taken
+  of_scan_then this one has = elim (Contains-push_cases running.taken exchange one has) as (λ _. IsOfScan one.request) [
+    | inl had ↦ scanning.of_scan one had
+    | inr is_now ↦ subst (λ (e : Exchange). IsOfScan e.request) is_now this
+  ]
 
   still_scans : now.course ≡ None
   still_scans = answers.course ∙ scans
@@ -156,6 +163,7 @@ module _ (kept : archive.Archive) (before now : Session) (running : Running) (si
       unstable = unstable_then kept before now running number request reply is side ∙ (ap (λ r. before.is_unstable || is_not_dir r) said ∙ (or_false before.is_unstable ∙ sym answers.unstable));
       scans = still_scans;
       reached = scanning.nothing;
+      of_scan = of_scan_then (subst IsOfScan (sym begin) tt);
     }
 
     each_begins : (on : Which) → IsToBegin before running.taken on
@@ -247,6 +255,7 @@ module _ (kept : archive.Archive) (before now : Session) (running : Running) (si
         some = λ later asking. one_of_two (other side) later (still_waits later asking);
         stage = λ later asking. subst (λ c. IsStage archive later c heard.taken (reached_by heard)) (sym (asking.course ∙ still_scans)) (record {
           nothing = scanning.nothing;
+          of_scan = of_scan_then (subst IsOfScan (sym begin) tt);
           found = λ on. subst (λ s. IsFoundIn (found_of s) on heard.taken) (sym (asking.line on).scan) (found_begun on);
           at = begins (to_begin later asking);
         });
@@ -306,6 +315,7 @@ module _ (kept : archive.Archive) (before now : Session) (running : Running) (si
             unstable = unstable_then kept before now running number request reply is side ∙ (ap (λ b. b || is_not_dir reply) (sym (unstable ∙ answers.unstable)) ∙ sym counted);
             scans = course ∙ (keeps.course ∙ still_scans);
             reached = scanning.nothing;
+            of_scan = of_scan_then (subst IsOfScan (sym listing) tt);
           }
 
       pub listed_found : (on : Which) → IsFoundIn (found_on after on) on heard.taken

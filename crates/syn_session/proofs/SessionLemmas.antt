@@ -62,6 +62,7 @@ module _ (archive : model.Archive) (session : Session) (number pair : ℕ) (numb
     unstable = sym stable;
     stage = subst (λ course. IsStage archive session course [] (record { plan = None; cursor = 0; kept = []; refused = [] })) (sym scans) (record {
       nothing = refl;
+      of_scan = λ exchange has. absurd (none_taken _ has);
       found = found;
       at = begins (λ side. inl (pair, asks_first (line_of session side).waiting ∙ ap first_request (waits side)));
     });
@@ -87,6 +88,7 @@ module _ (archive : model.Archive) (old new : Session) (taken : List Exchange) (
   stage_still : (course : Option Course) → IsStage archive old course taken reached → IsStage archive new course taken reached
   stage_still None is = record {
     nothing = is.nothing;
+    of_scan = is.of_scan;
     found = λ side. subst (λ s. IsFoundIn (found_of s) side taken) (sym (scan side)) (is.found side);
     at = at_still is.at;
   }

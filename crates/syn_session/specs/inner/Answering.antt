@@ -8,6 +8,8 @@ use Rattle.syn_headline.specs.Session.{IsShown}
 use Rattle.syn_headline.specs.Side.{ListAt, Reply, Request}
 use Rattle.syn_message.specs.Requests.{request_of}
 use Rattle.syn_message.specs.declared.request.Request.{Request as Asked}
+use Rattle.syn_message.specs.declared.side.Side.{Side}
+use Rattle.syn_message.specs.declared.side.Side.TheVariants as side
 use Rattle.syn_model.specs.Path.{IsPath, Path}
 use Rattle.syn_scan.specs.Found.{IsWhole}
 use Rattle.syn_session.specs.Scanning.{IsFoundIn, WaitsFor, WasAnswered, found_of}
@@ -46,6 +48,11 @@ next_of asks Right = asks.right
 
 abbrev pub asks_of : Asks → Which → List Request
 asks_of asks side = requests_of (next_of asks side)
+
+-- the request for a side, and nothing for the other
+abbrev pub asks_to : Side → Asked → Asks
+asks_to side.Left request = record { left = Some request; right = None }
+asks_to side.Right request = record { left = None; right = Some request }
 
 -- an answer of a side, to what it was asked
 abbrev pub exchange_of : Which → ℕ → Request → Reply → Exchange

@@ -16,7 +16,8 @@ use Rattle.syn_session.specs.declared.session.Asks.{Asks}
 use Rattle.syn_session.specs.declared.session.Session.{Session}
 use Rattle.syn_session.specs.inner.Answering.{IsAskedOn, IsHeard, asks_of, exchange_of}
 use Rattle.syn_session.specs.inner.Sessions.{IsStage, Tells}
-use Rattle.syn_session.specs.inner.Stages.{found_on, line_of, nothing_reached, reached_by}
+use Rattle.syn_session.specs.inner.Stages.{AreOfScan, found_on, line_of, nothing_reached}
+use Rattle.syn_session.specs.inner.Stages.{reached_by}
 
 -- a request that no other was before
 abbrev pub IsFresh : Running → Which → Request → Type 0
@@ -58,6 +59,7 @@ pub record HasHeard (session : Session) (heard : Running) : Type 0 where
   pub unstable : is_unstable heard ≡ session.is_unstable
   pub scans : session.course ≡ None
   pub reached : reached_by heard ≡ nothing_reached
+  pub of_scan : AreOfScan heard.taken
 
 -- the session ends with the answer at once; or behind it, for want of memory
 pub data EndsHearing (session : Session) (running : Running) (taken : Exchange) (why : Refusal)

@@ -85,9 +85,19 @@ pub data IsBeginningOrListing (session : Session) (taken : List Exchange) : Type
   lists : BothBegun taken → ((side : Which) → IsToList session side) →
       IsBeginningOrListing session taken
 
+-- nothing but begins and listings was asked for
+abbrev pub IsOfScan : Request → Type 0
+IsOfScan (Begin pair) = Unit {0}
+IsOfScan (ListAt path) = Unit {0}
+IsOfScan _ = ⊥
+
+abbrev pub AreOfScan : List Exchange → Type 0
+AreOfScan taken = (exchange : Exchange) → Contains taken exchange → IsOfScan exchange.request
+
 pub record IsScanning (session : Session) (taken : List Exchange) (reached : Reached)
     : Type 0 where
   pub nothing : reached ≡ nothing_reached
+  pub of_scan : AreOfScan taken
   pub found : (side : Which) → IsFoundIn (found_on session side) side taken
   pub at : IsBeginningOrListing session taken
 
