@@ -75,3 +75,4 @@ marks_of planned c item kept is recorded = by planned.item (source_of c) is.writ
     by (MarkDir at) Right writes e = absurd writes
     by (Conflict at) Left writes e = absurd writes
     by (Conflict at) Right writes e = absurd writes
+
