@@ -1,5 +1,5 @@
 -- How a call goes on through the plan: past an item, or to its end.
-use Rattle.std.proofs.Common.{◌≡◌, ◌⊎◌, ℕ, suc, true, List, [], ◌∷◌, ◌++◌, Some, refl, sym, ap, ◌∙◌, subst, inl, inr}
+use Rattle.std.proofs.Common.{◌≡◌, ◌⊎◌, ℕ, suc, true, List, [], ◌∷◌, ◌++◌, Some, None, refl, sym, ap, ◌∙◌, subst, inl, inr}
 use Rattle.std.specs.List.{slice_get}
 use Rattle.std.specs.Option.{option_map_or}
 use Rattle.std.proofs.lemmas.List.{append-nil, append_assoc}
@@ -27,6 +27,7 @@ use Rattle.syn_session.specs.inner.Advancing.{Advanced, kept_at, past_at, refuse
 use Rattle.syn_session.specs.inner.Stages.{IsCourse, Reached}
 use Rattle.syn_session.specs.inner.Walking.{Comes, Ends, HasKept, Passes, ends, goes_down, plan_at, walk_at, ended_by}
 use Rattle.syn_session.proofs.AdvanceLemmas.{goes_further}
+use Rattle.syn_session.proofs.DueLemmas.{when_up}
 
 pub keeps_none : (reached : Reached) → HasKept reached reached []
 keeps_none reached = record { plan = refl; kept_is = sym (append-nil reached.kept) }
@@ -44,7 +45,7 @@ module _ (pair : ℕ) (taken : Exchange) where
   -- ---- from item to item
 
   pub passes_none : (journal : Journal) (reached : Reached) → Passes pair taken journal reached journal reached []
-  passes_none journal reached = record { status = refl; has = keeps_none reached; leads = λ later rest more. more }
+  passes_none journal reached = record { status = refl; quiet = λ was. was; has = keeps_none reached; leads = λ later rest more. more }
 
   module _ (old middle : Journal) (before between : Reached) (kept : List Kept) (first : Passes pair taken old before middle between kept) where
     -- what it does from there on it does from here on
@@ -54,6 +55,7 @@ module _ (pair : ℕ) (taken : Exchange) where
     pub passes_more : (new : Journal) (after : Reached) (more : List Kept) → Passes pair taken middle between new after more → Passes pair taken old before new after (kept ++ more)
     passes_more new after more second = record {
       status = second.status ∙ first.status;
+      quiet = λ was. second.quiet (first.quiet was);
       has = keeps_more before between after kept more first.has second.has;
       leads = λ later rest further. subst (λ l. Advances pair (plan_at before) taken (walk_at old before) l later) (sym (append_assoc kept more rest))
           (led later (more ++ rest) (second.leads later rest (subst (λ p. Advances pair p taken (walk_at new after) rest later) (sym (same_plan before between kept first.has)) further)));
@@ -72,9 +74,10 @@ module _ (pair : ℕ) (taken : Exchange) where
   -- ---- one item
 
   module _ (old : Journal) (before : Reached) where
-    pub passes_by : (new : Journal) (after : Reached) (kept : List Kept) → new.status ≡ old.status → HasKept before after kept → Advances pair (plan_at before) taken (walk_at old before) kept (walk_at new after) → Passes pair taken old before new after kept
-    passes_by new after kept same has advances = record {
+    pub passes_by : (new : Journal) (after : Reached) (kept : List Kept) → new.status ≡ old.status → (old.writing ≡ None → new.writing ≡ None) → HasKept before after kept → Advances pair (plan_at before) taken (walk_at old before) kept (walk_at new after) → Passes pair taken old before new after kept
+    passes_by new after kept same quiet has advances = record {
       status = same;
+      quiet = quiet;
       has = has;
       leads = λ later rest more. goes_further pair (plan_at before) taken (walk_at old before) (walk_at new after) later kept rest advances same more;
     }
@@ -82,19 +85,19 @@ module _ (pair : ℕ) (taken : Exchange) where
     module _ (planned : Planned) (at : slice_get (plan_at before) before.cursor ≡ Some planned) where
       pub passes_conflict : (path : Path) → planned.item ≡ Conflict path → Passes pair taken old before old (past_at before) []
       passes_conflict path is =
-          passes_by old (past_at before) [] refl (record { plan = refl; kept_is = sym (append-nil before.kept) })
+          passes_by old (past_at before) [] refl (λ was. was) (record { plan = refl; kept_is = sym (append-nil before.kept) })
           (model.conflicts (walk_at old before) (walk_at old (past_at before)) [] planned path refl at is (model.stands (walk_at old (past_at before))))
 
       -- a side refused what was asked for the item
       pub passes_refused : (why : Refusal) → taken.reply ≡ Refused why → IsFor before.cursor planned taken.request → Passes pair taken old before old (refused_at before why planned) []
       passes_refused why refused asked =
-          passes_by old (refused_at before why planned) [] refl (record { plan = refl; kept_is = sym (append-nil before.kept) })
+          passes_by old (refused_at before why planned) [] refl (λ was. was) (record { plan = refl; kept_is = sym (append-nil before.kept) })
           (model.side_refuses (walk_at old before) (walk_at old (refused_at before why planned)) [] planned why refl at refused asked (model.stands (walk_at old (refused_at before why planned))))
 
       -- the archive refuses its record
       pub passes_unfit : (what : Kept) (why : Refusal) → record_for planned planned.item ≡ Some what → (is_carrying planned.item ≡ true) ⊎ (old.status ≡ Up) → kept_refusal old.value what ≡ Some why → Passes pair taken old before old (refused_at before why planned) []
       passes_unfit what why is up refused =
-          passes_by old (refused_at before why planned) [] refl (record { plan = refl; kept_is = sym (append-nil before.kept) })
+          passes_by old (refused_at before why planned) [] refl (λ was. was) (record { plan = refl; kept_is = sym (append-nil before.kept) })
           (model.archive_refuses (walk_at old before) (walk_at old (refused_at before why planned)) [] planned what why refl at is up refused (model.stands (walk_at old (refused_at before why planned))))
 
     -- ---- what became of its record
@@ -103,13 +106,13 @@ module _ (pair : ℕ) (taken : Exchange) where
       -- it is kept, or the machine is down
       pub passes_kept : old.status ≡ Up → Advanced new pair (plan_at before) taken (walk_at old before) planned what due.Recorded →
           ((journal : Journal) × Passes pair taken old before journal (kept_at before what) (what ∷ []) × IsMachine new pair journal) ⊎ ((how : Ended) → Ends new pair taken old before (what ∷ []) course left right how)
-      passes_kept was (kept_it journal advances up is) = inl (journal, passes_by journal (kept_at before what) (what ∷ []) (up ∙ sym was) (record { plan = refl; kept_is = refl }) advances, is)
+      passes_kept was (kept_it journal advances up is) = inl (journal, passes_by journal (kept_at before what) (what ∷ []) (up ∙ sym was) (λ _. (when_up new pair journal is up).idle) (record { plan = refl; kept_is = refl }) advances, is)
       passes_kept was (stopped became walk advances down cut leaves) = inr (λ how. goes_down walk advances cut down leaves)
 
       -- it is refused, or the session ends there, or the machine is down
       pub passes_due_refused : (why : Why) → Advanced new pair (plan_at before) taken (walk_at old before) planned what (due.Refused why) →
           (Passes pair taken old before old (refused_at before (cause_of why) planned) [] × IsMachine new pair old) ⊎ ((how : Ended) → Ends new pair taken old before [] course left right how)
-      passes_due_refused why (refused_it why' advances is) = inl (passes_by old (refused_at before (cause_of why) planned) [] refl (record { plan = refl; kept_is = sym (append-nil before.kept) }) advances, is)
+      passes_due_refused why (refused_it why' advances is) = inl (passes_by old (refused_at before (cause_of why) planned) [] refl (λ was. was) (record { plan = refl; kept_is = sym (append-nil before.kept) }) advances, is)
       passes_due_refused why (stopped became walk advances down cut leaves) = inr (λ how. goes_down walk advances cut down leaves)
 
       pub ends_at : (why : Why) → IsCourse course left right before → Advanced new pair (plan_at before) taken (walk_at old before) planned what (due.Ends why) → Ends new pair taken old before [] course left right (Early why)

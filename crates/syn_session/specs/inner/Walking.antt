@@ -28,6 +28,10 @@ use Rattle.syn_session.specs.inner.Stages.{AreAskedBefore, Carries, IsCourse, Re
 abbrev pub plan_at : Reached → Plan
 plan_at reached = option_map_or (λ plan. plan) reached.plan []
 
+-- a session that has just made its plan
+abbrev pub first_reached : Plan → Reached
+first_reached plan = record { plan = Some plan; cursor = 0; kept = []; refused = [] }
+
 abbrev pub walk_at : Journal → Reached → Walk
 walk_at journal reached = record {
   journal = journal;
@@ -50,8 +54,6 @@ pub record HasKept (before after : Reached) (kept : List Kept) : Type 0 where
 pub record Passes (pair : ℕ) (taken : Exchange) (old : Journal) (before : Reached) (new : Journal)
     (after : Reached) (kept : List Kept) : Type 0 where
   pub status : new.status ≡ old.status
-
-  -- no record is cut off in it
   pub quiet : old.writing ≡ None → new.writing ≡ None
   pub has : HasKept before after kept
   pub leads : (later : Walk) (rest : List Kept)
