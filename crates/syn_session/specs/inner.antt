@@ -10,4 +10,5 @@ pub mod Answered
 pub mod Steps
 pub mod Due
 pub mod Recording
+pub mod Doings
 pub mod Advancing

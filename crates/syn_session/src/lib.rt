@@ -4,6 +4,7 @@
 mod carried;
 mod coordinator;
 mod course;
+mod doing;
 mod due;
 mod error;
 mod hearing;
