@@ -350,6 +350,8 @@ impl<D: Disk> Archive<D> {
             (λ _. (D.arms (disk_of self.new) ≡ D.arms (disk_of self.old))
             ⊎ Makes 4 (D.arms (disk_of self.old)) (D.arms (disk_of self.new)))
             (λ e. MakesIfDevice e 4 (D.arms (disk_of self.old)) (D.arms (disk_of self.new))) }
+        ensures made { is_directory (marks_shown self.old) path.now ≡ false
+            → OnOk result (Makes 4 (D.arms (disk_of self.old)) (D.arms (disk_of self.new))) }
         ensures refusals { IfErr result IsOfRecord }
         ensures halted { (result ≡ Err ArchiveError.Halted) ↔ IsHalted self.old }
         ensures halts { result ≡ Err ArchiveError.Device → IsHalted self.new }

@@ -1,3 +1,4 @@
 mod AskLemmas
 mod CarryLemmas
+mod EndLemmas
 mod StepLemmas

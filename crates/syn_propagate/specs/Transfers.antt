@@ -1,14 +1,18 @@
 -- What a transfer asks for next, and what it answers.
-use Rattle.std.specs.Prelude.{◌≡◌, ◌⊎◌, ◌++◌, ℕ, [], ◌∷◌, Option, None, Some, IsSome, Result, Ok}
+use Rattle.std.specs.Prelude.{◌≡◌, ◌⊎◌, ◌++◌, ℕ, false, [], ◌∷◌, Option, None, Some, IsSome}
+use Rattle.std.specs.Prelude.{Result, Ok}
 use Rattle.std.specs.Prelude.{Err}
 use Rattle.syn_headline.specs.Network.{Which}
-use Rattle.syn_headline.specs.Side.{Request, IsLawfulBody}
+use Rattle.syn_headline.specs.Coordinator.{is_last}
+use Rattle.syn_headline.specs.Side.{Request, Fetch, Stage, Replace, IsLawfulBody}
 use Rattle.syn_headline.specs.Side as model
 use Rattle.syn_message.specs.Requests.{request_of}
 use Rattle.syn_message.specs.Sides.{which_of}
 use Rattle.syn_message.specs.declared.reply.Reply.{Reply}
 use Rattle.syn_message.specs.declared.reply.Reply.TheVariants as has
 use Rattle.syn_propagate.specs.Carrying.{Exchanges, IsNew, MayAsk, WasCarried}
+use Rattle.syn_propagate.specs.Carrying.{source_of, target_of}
+use Rattle.syn_propagate.specs.declared.carriage.Carriage.{Carriage}
 use Rattle.syn_propagate.specs.declared.error.TransferError.{TransferError}
 use Rattle.syn_propagate.specs.declared.error.TransferError.TheVariants.{BadMessage}
 use Rattle.syn_propagate.specs.declared.next.Next.{Next}
@@ -42,6 +46,33 @@ abbrev pub IsOverUnlessAsking : Transfer → Next → Type 0
 IsOverUnlessAsking transfer (Ask side request) = Unit {0}
 IsOverUnlessAsking transfer Done = IsOver transfer
 IsOverUnlessAsking transfer (Refused why) = IsOver transfer
+
+-- the request is for what is carried
+abbrev pub IsForItem : Carriage → Which → Request → Type 0
+IsForItem c to (Fetch path since offset) = (to ≡ source_of c) × (path ≡ c.path)
+IsForItem c to (Stage item offset bytes) = (to ≡ target_of c) × (item ≡ c.item)
+IsForItem c to (Replace item path since size) = (to ≡ target_of c) × (item ≡ c.item)
+    × (path ≡ c.path)
+IsForItem c to _ = ⊥
+
+-- what a transfer waits for is for what it carries
+abbrev pub WaitsForItem : Type 0
+WaitsForItem = (transfer : Transfer) (taken : Exchanges) (to : Which) (request : Request)
+    → WaitsFor transfer taken to request → IsForItem (carriage_of transfer) to request
+
+-- it asks for something
+abbrev pub IsAsking : Next → Type 0
+IsAsking (Ask side asked) = Unit {0}
+IsAsking Done = ⊥
+IsAsking (Refused why) = ⊥
+
+-- the last answer is that a side refused, or that the replacement is done: it goes on behind no
+-- other
+abbrev pub EndsBy : Carriage → Request → model.Reply → Next → Type 0
+EndsBy c request reply (Ask side asked) = is_last reply ≡ false
+EndsBy c request reply Done = (reply ≡ model.Done)
+    × (size : ℕ) × (request ≡ Replace c.item c.path c.target_since size)
+EndsBy c request reply (Refused why) = Unit {0}
 
 -- with the answer
 abbrev pub with_answer : Exchanges → Which → ℕ → Request → model.Reply → Exchanges

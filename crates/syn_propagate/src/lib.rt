@@ -11,4 +11,4 @@ mod transfer;
 pub use carriage::Carriage;
 pub use error::TransferError;
 pub use next::Next;
-pub use transfer::Transfer;
+pub use transfer::{Transfer, transfer_laws};

@@ -1,5 +1,6 @@
 //! A transfer, from what was answered last to what is asked next.
-ghost use Rattle.std.specs.Prelude.{◌≡◌, ◌≢◌, ◌⊎◌, ℕ, [], Some, None, Err, Ok, MatchResult};
+ghost use Rattle.std.specs.Prelude.{◌≡◌, ◌≢◌, ◌⊎◌, ℕ, [], Some, None, Err, Ok, IfOk};
+ghost use Rattle.std.specs.Prelude.{MatchResult};
 ghost use Rattle.syn_headline.specs.Network.{Which};
 ghost use Rattle.syn_headline.specs.Session.{fault_of, fits_piece};
 ghost use Rattle.syn_headline.specs.Side.{Request as Asked, Fetch, Piece};
@@ -10,7 +11,7 @@ ghost use Rattle.syn_refusal.specs.declared.refusal.Refusal.{Refusal as Why};
 ghost use Rattle.syn_propagate.specs.Refusals.{refusal_of};
 ghost use Rattle.syn_propagate.specs.Carrying.{Exchanges, IsFresh, IsUnreplaced, IsWhole};
 ghost use Rattle.syn_propagate.specs.Carrying.{source_of};
-ghost use Rattle.syn_propagate.specs.Transfers.{or_refused};
+ghost use Rattle.syn_propagate.specs.Transfers.{WaitsForItem, or_refused};
 
 use crate::carriage::Carriage;
 use crate::error::TransferError;
@@ -41,8 +42,10 @@ pub struct Transfer {
 }
 
 impl Transfer {
-    ghost use Rattle.syn_propagate.specs.Transfers.{Follows, FollowsAny, IsMisfit, IsOver};
-    ghost use Rattle.syn_propagate.specs.Transfers.{IsOverUnlessAsking, IsReady, TakesMemory};
+    ghost use Rattle.syn_propagate.specs.Transfers.{EndsBy, Follows, FollowsAny, IsMisfit};
+    ghost use Rattle.syn_propagate.specs.Transfers.{IsOver};
+    ghost use Rattle.syn_propagate.specs.Transfers.{IsAsking, IsOverUnlessAsking, IsReady};
+    ghost use Rattle.syn_propagate.specs.Transfers.{TakesMemory};
     ghost use Rattle.syn_propagate.specs.Transfers.{WaitsFor, carriage_of, with_answer};
     ghost use Rattle.syn_propagate.specs.inner.Progresses.{HasReached, HasStagedTo};
 
@@ -82,6 +85,11 @@ impl Transfer {
         ensures refused { (taken : Exchanges) (to : Which) (request : Asked) (why : Why)
             → reply ≡ Some (answer.Refused why) → WaitsFor self.old taken to request
             → result ≡ Ok (Next.Refused why) }
+
+        // It goes on behind no last answer, and is done behind that of its replacement alone.
+        ensures ends { (taken : Exchanges) (to : Which) (request : Asked) (answer : Answer)
+            → reply ≡ Some answer → WaitsFor self.old taken to request
+            → IfOk result (EndsBy (carriage_of self.old) request (reply_of answer)) }
 
         // Memory is refused only where what comes next takes some.
         ensures memory { result ≡ Err TransferError.Memory → TakesMemory reply }
@@ -142,6 +150,7 @@ impl Transfer {
         bytes: Vec<u8>,
     ) -> Result<Next, TransferError>
         ensures carriage { carriage_of self.new ≡ carriage_of self.old }
+        ensures asking { IfOk result IsAsking }
         ensures goes_on { (taken : Exchanges) (number : ℕ)
             → HasReached (carriage_of self.old) taken offset known
             → let c = carriage_of self.old in
@@ -169,6 +178,7 @@ impl Transfer {
     /// Goes on behind a piece that is staged.
     fn go_on(&mut self, alloc: Global, end: u32, total: u32) -> Result<Next, TransferError>
         ensures carriage { carriage_of self.new ≡ carriage_of self.old }
+        ensures asking { IfOk result IsAsking }
         ensures goes_on { (taken : Exchanges)
             → HasStagedTo (carriage_of self.old) taken end total
             → MatchResult result (FollowsAny self.new taken) (λ e. e ≡ TransferError.Memory) }
@@ -190,6 +200,7 @@ impl Transfer {
         total: Option<u32>,
     ) -> Result<Next, TransferError>
         ensures carriage { carriage_of self.new ≡ carriage_of self.old }
+        ensures asking { IfOk result IsAsking }
         ensures asks { (taken : Exchanges) → HasReached (carriage_of self.old) taken offset total
             → MatchResult result (FollowsAny self.new taken) (λ e. e ≡ TransferError.Memory) }
         ensures over { IsOver self.old
@@ -203,6 +214,7 @@ impl Transfer {
     /// Asks for the replacement by what is staged, which has so many bytes.
     fn replace(&mut self, alloc: Global, total: u32) -> Result<Next, TransferError>
         ensures carriage { carriage_of self.new ≡ carriage_of self.old }
+        ensures asking { IfOk result IsAsking }
         ensures asks { (taken : Exchanges) → IsWhole (carriage_of self.old) taken total
             → IsUnreplaced (carriage_of self.old) taken
             → MatchResult result (FollowsAny self.new taken) (λ e. e ≡ TransferError.Memory) }
@@ -235,3 +247,8 @@ fn fits_piece(known: Option<u32>, offset: u32, total: u32, count: usize) -> bool
     };
     as_told && offset <= total && count == MAX_PIECE.min((total - offset) as usize)
 }
+
+/// What a transfer waits for is for what it carries.
+pub fn transfer_laws()
+    ensures { WaitsForItem }
+{}

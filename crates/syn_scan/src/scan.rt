@@ -7,7 +7,7 @@ ghost use Rattle.syn_model.specs.Limits.{fits_archive};
 ghost use Rattle.syn_model.specs.Mark.{IsMarks};
 ghost use Rattle.syn_model.specs.Dirty.{has_unstable, is_unstable};
 ghost use Rattle.syn_tree.specs.Pairs.{within};
-ghost use Rattle.syn_scan.specs.Found.{scan_of, is_open, IsFound};
+ghost use Rattle.syn_scan.specs.Found.{scan_of, is_open, IsFound, position_of};
 ghost use Rattle.syn_scan.specs.Asked.{nothing_found, with_no_directory};
 ghost use Rattle.syn_scan.specs.inner.Kept.{IsFlat, with_tree, NoneOpen, is_open_entry};
 
@@ -87,6 +87,16 @@ impl Scan {
         ensures { result ≡ get self.now.listed (parent path.now) }
     {
         self.listed.get(parent_names(path))
+    }
+
+    /// The position of the answer for the path's parent, the root's for the root: 0 where none is
+    /// known. It takes no memory.
+    pub fn position(&self, path: &Path) -> u64
+        ensures { result ≡ position_of self.now (parent path.now) }
+    {
+        let names = parent_names(path);
+        let listed = self.listed.get(names);
+        listed.or(self.not_dirs.get(names)).unwrap_or(0)
     }
 
     /// A path at or below this one was answered as no directory.

@@ -168,6 +168,16 @@ impl Scanner {
         Ok(())
     }
 
+    /// What was found so far: the scan, once `next_request` gives nothing more.
+    pub fn found(&self) -> &Scan
+        ensures found { result.now ≡ self.now.found }
+        ensures scan { IsWhole self.now.found → IsScanBy (WasListedIn self.now.found)
+            (WasNoDirectoryIn self.now.found) (scan_of result.now) (position_of result.now) }
+    {
+        let _ = self.scan.tree();
+        &self.scan
+    }
+
     /// The scan, once `next_request` gives nothing more. It takes no memory.
     pub fn finish(self) -> Scan
         requires { IsWhole self.found }

@@ -1,16 +1,16 @@
 -- Why a checkpoint is refused, and what one does to the coordinator.
-use Rattle.std.proofs.Common.{◌≡◌, ◌≢◌, ◌⊎◌, ◌<◌, ◌^◌, ℕ, ◌+◌, Bool, true, false, not, nat_le, if◌then◌else◌, List, [], ◌∷◌, Some, Result, Ok, Err, refl, sym, ap, ◌∙◌, inl, inr, arith, None, ap₂}
+use Rattle.std.proofs.Common.{◌≡◌, ◌≢◌, ◌⊎◌, ◌<◌, ◌^◌, ℕ, ◌+◌, Bool, true, false, not, nat_le, if◌then◌else◌, List, [], ◌∷◌, Some, Result, Ok, Err, refl, sym, ap, ◌∙◌, inl, inr, arith, None, ap₂, subst, Option}
 use Rattle.std.proofs.lemmas.Bool.Decides.{nat_tests}
 use Rattle.std.proofs.lemmas.Bool.{false≢true}
-use Rattle.std.specs.Prelude.{◌↔◌, ◌&&◌, is_some, option_map}
+use Rattle.std.specs.Prelude.{◌↔◌, ◌&&◌, is_some}
 use Rattle.syn_archive.specs.Archive.{Stands as ArchiveStands, IsHalted, generation_shown}
 use Rattle.syn_archive.specs.Refusals.{refusal_of, IsOfCheckpoint}
 use Rattle.syn_archive.specs.declared.archive.Archive.{Archive}
 use Rattle.syn_archive.specs.declared.error.ArchiveError.{ArchiveError}
 use Rattle.syn_archive.specs.declared.error.ArchiveError.TheVariants as error
 use Rattle.syn_disk.specs.declared.disk.Disk.{Ghosts}
-use Rattle.syn_headline.specs.Coordinator.{CoordinatorMachine, archive_layout, running_after}
-use Rattle.syn_headline.specs.Machine.{Up, Halted, Down, Status, Compacts}
+use Rattle.syn_headline.specs.Coordinator.{CoordinatorMachine, Running, archive_layout, running_after, with_archive}
+use Rattle.syn_headline.specs.Machine.{Up, Halted, Down, Status, Compacts, compacted, not_compacted, opened, recovered}
 use Rattle.syn_headline.specs.World.{is_halted}
 use Rattle.syn_model.specs.Archive as model
 use Rattle.syn_model.specs.Limits.{greatest}
@@ -18,9 +18,11 @@ use Rattle.syn_model.specs.Refusal.{Refusal, first_cause}
 use Rattle.syn_model.specs.Refusal as why
 use Rattle.syn_model.specs.Archive.{Kept}
 use Rattle.syn_session.specs.Coordinators.{Checkpoints, checkpoints, Reopens, reopens, ReopensNot, reopens_not, Does, Stands, checkpoint_causes, checkpoint_refusals, ended_in, in_report, report_shown, runs, goes_on, goes_down}
-use Rattle.syn_session.specs.Machines.{Journal, Runs, Fails, IsMachine, Reopened, NotReopened}
+use Rattle.syn_session.specs.Machines.{Journal, Runs, Fails, IsMachine, Reopened, opened_again, cut_off, NotReopened, stayed, went_down}
 use Rattle.syn_session.specs.declared.coordinator.Coordinator.{Coordinator}
-use Rattle.syn_session.specs.inner.Sessions.{running_of}
+use Rattle.syn_session.specs.inner.Sessions.{IsRunning, IsSession}
+use Rattle.syn_session.specs.declared.session.Session.{Session}
+use Rattle.std.proofs.lemmas.Option.{none-some}
 use Rattle.syn_session.specs.inner.Steps.{Moves, moves_on, moves_down}
 
 -- by what each of the causes is
@@ -104,6 +106,28 @@ module _ {D : Type 0} {disk : Ghosts D} (archive : Archive D disk) (pair : ℕ) 
   refused_for T error.Damaged of other halted full = absurd of
   refused_for T error.WrongPair of other halted full = absurd of
 
+-- a checkpoint keeps the value, and no record is written in it
+compact_keeps : (pair : ℕ) (machine journal : Journal) → Compacts (archive_layout pair) machine journal → (journal.value ≡ machine.value) × (journal.writing ≡ machine.writing)
+compact_keeps pair machine journal (compacted arms meets) = (refl, refl)
+compact_keeps pair machine journal (not_compacted status arms failures is meets) = (refl, refl)
+
+-- where no record was being written, an opening gives the value
+open_keeps : (pair : ℕ) (machine journal : Journal) (kept : List Kept) → machine.writing ≡ None → Reopened pair machine journal kept → (journal.value ≡ machine.value) × (journal.writing ≡ None)
+open_keeps pair machine journal kept quiet (opened_again calls new now some (opened room generation arms meets left)) = (refl, refl)
+open_keeps pair machine journal kept quiet (opened_again calls new now some (recovered arms one meets writing can)) = absurd (none-some _ (sym quiet ∙ writing))
+open_keeps pair machine journal kept quiet (cut_off calls arms failures meets) = (refl, quiet)
+
+stay_keeps : (machine journal : Journal) (met left : Status) → NotReopened machine met left journal → (journal.value ≡ machine.value) × (journal.writing ≡ machine.writing)
+stay_keeps machine journal met left (stayed calls arms failures meets) = (refl, refl)
+stay_keeps machine journal met left (went_down calls arms failures meets) = (refl, refl)
+
+-- a session stays what it is where the archive of the machine does
+pub runs_still : (a b : model.Archive) (session : Option Session) (running : Option Running) → (is_some running ≡ true → b ≡ a) → IsRunning a session running → IsRunning b session running
+runs_still a b None None e is = tt
+runs_still a b None (Some running) e is = absurd is
+runs_still a b (Some session) None e is = absurd is
+runs_still a b (Some session) (Some running) e is = subst (λ v. IsSession v session running) (sym (e refl)) is
+
 module _ {D : Type 0} {disk : Ghosts D} (old new : Coordinator D disk) (pair : ℕ) (machine : CoordinatorMachine) (stands : Stands old pair machine) (same : new.running ≡ old.running) where
   -- a session that runs goes on, so that none ended
   goes_on_still : (b : Bool) → (if b && not b then in_report (report_shown new) else []) ≡ []
@@ -113,27 +137,35 @@ module _ {D : Type 0} {disk : Ghosts D} (old new : Coordinator D disk) (pair : �
   pub none_ended : [] ≡ ended_in old new
   none_ended = sym (ap (λ r. if runs old && not (is_some r) then in_report (report_shown new) else []) same ∙ goes_on_still (runs old))
 
-  still_runs : (status : Status) → status ≢ Down → (journal : Journal) → journal.status ≡ status → running_after journal.status machine.running ≡ option_map running_of new.running
-  still_runs status up journal is = ap (λ s. running_after s machine.running) is ∙ (goes status up ∙ (stands.running ∙ ap (option_map running_of) (sym same)))
+  still_running : (status : Status) → status ≢ Down → (journal : Journal) → journal.status ≡ status → running_after journal.status machine.running ≡ machine.running
+  still_running status up journal is = ap (λ s. running_after s machine.running) is ∙ goes status up
     where
       goes : (s : Status) → s ≢ Down → running_after s machine.running ≡ machine.running
       goes Up _ = refl
       goes Halted _ = refl
       goes Down never = absurd (never refl)
 
+  stands_with : (status : Status) → status ≢ Down → (journal : Journal) → journal.status ≡ status → IsMachine new.archive pair journal → (is_some machine.running ≡ true → (journal.value ≡ machine.journal.value) × (journal.writing ≡ None)) → Stands new pair (with_archive machine journal)
+  stands_with status up journal is_status is keeps =
+      let running = still_running status up journal is_status in record {
+        journal = is;
+        running = subst (λ r. IsRunning journal.value new.running r) (sym running) (subst (λ s. IsRunning journal.value s machine.running) (sym same) (runs_still machine.journal.value journal.value old.running machine.running (λ some. (keeps some).0) stands.running));
+        quiet = λ some. (keeps (sym (ap is_some running) ∙ some)).1;
+      }
+
   pub checkpoint_does : (status : Status) → status ≢ Down → Moves new.archive pair (Compacts (archive_layout pair) machine.journal) status → Does old new pair (Checkpoints pair machine) [] []
   checkpoint_does status up (moves_on journal compacts is_status is) =
-      goes_on _ _ (checkpoints journal compacts) (record { journal = is; running = still_runs status up journal is_status }) refl refl none_ended
+      goes_on _ _ (checkpoints journal compacts) (stands_with status up journal is_status is (λ some. ((compact_keeps pair _ _ compacts).0, (compact_keeps pair _ _ compacts).1 ∙ stands.quiet some))) refl refl none_ended
   checkpoint_does status up (moves_down journal compacts stopped down leaves) = goes_down _ _ (checkpoints journal compacts) stopped down leaves refl
 
   pub reopen_does : Moves new.archive pair (λ journal. (kept : List Kept) × Reopened pair machine.journal journal kept) Up → (kept : List Kept) × Does old new pair (Reopens pair machine) kept []
-  reopen_does (moves_on journal opened is_status is) =
-      (opened.0, goes_on _ _ (reopens journal opened.0 opened.1) (record { journal = is; running = still_runs Up up_not_down journal is_status }) refl refl none_ended)
-  reopen_does (moves_down journal opened stopped down leaves) = (opened.0, goes_down _ _ (reopens journal opened.0 opened.1) stopped down leaves refl)
+  reopen_does (moves_on journal again is_status is) =
+      (again.0, goes_on _ _ (reopens journal again.0 again.1) (stands_with Up up_not_down journal is_status is (λ some. open_keeps pair _ _ _ (stands.quiet some) again.1)) refl refl none_ended)
+  reopen_does (moves_down journal again stopped down leaves) = (again.0, goes_down _ _ (reopens journal again.0 again.1) stopped down leaves refl)
 
   pub not_reopened : (met left : Status) → left ≢ Down → Moves new.archive pair (NotReopened machine.journal met left) left → Does old new pair (ReopensNot machine met left) [] []
   not_reopened met left up (moves_on journal not_opened is_status is) =
-      goes_on _ _ (reopens_not journal not_opened) (record { journal = is; running = still_runs left up journal is_status }) refl refl none_ended
+      goes_on _ _ (reopens_not journal not_opened) (stands_with left up journal is_status is (λ some. ((stay_keeps _ _ _ _ not_opened).0, (stay_keeps _ _ _ _ not_opened).1 ∙ stands.quiet some))) refl refl none_ended
   not_reopened met left up (moves_down journal not_opened stopped down leaves) = goes_down _ _ (reopens_not journal not_opened) stopped down leaves refl
 
 pub error_is : {T : Type 0} (a b : ArchiveError) → failed T a ≡ failed T b → a ≡ b

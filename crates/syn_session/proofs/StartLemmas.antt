@@ -1,9 +1,9 @@
 -- A start is the step of a coordinator that starts.
-use Rattle.std.proofs.Common.{◌≡◌, ◌≢◌, ◌<◌, ◌^◌, ℕ, ◌-◌, ◌+◌, ◌==◌, Bool, true, false, not, nat_le, if◌then◌else◌, [], ◌∷◌, Option, Some, None, refl, sym, ap, ◌∙◌, arith, ◌++◌, List}
+use Rattle.std.proofs.Common.{◌≡◌, ◌≢◌, ◌<◌, ◌^◌, ℕ, ◌-◌, ◌+◌, ◌==◌, Bool, true, false, not, nat_le, if◌then◌else◌, [], ◌∷◌, Option, Some, None, refl, sym, ap, ◌∙◌, arith, ◌++◌, List, subst, inl, inr}
 use Rattle.std.proofs.lemmas.Bool.{false≢true}
 use Rattle.std.proofs.lemmas.Option.{none-some}
 use Rattle.std.proofs.lemmas.Bool.Decides.{nat_tests}
-use Rattle.std.specs.Prelude.{is_some, option_map, ◌&&◌}
+use Rattle.std.specs.Prelude.{is_some, ◌&&◌}
 use Rattle.syn_disk.specs.declared.disk.Disk.{Ghosts}
 use Rattle.syn_headline.specs.Coordinator.{CoordinatorMachine, CoordinatorStarts, starts, start_breaks, archive_layout, new_session, begins, sent_now}
 use Rattle.syn_headline.specs.Machine.{Up, Halted, Down, Status, has_room}
@@ -13,9 +13,12 @@ use Rattle.syn_model.specs.Archive.{CanKeep, Session}
 use Rattle.syn_model.specs.Limits.{greatest}
 use Rattle.syn_model.specs.Refusal.{Refusal, Full, BadMessage, first_cause, Cause}
 use Rattle.syn_model.specs.Refusal as why
-use Rattle.syn_session.specs.Coordinators.{Does, ended_in, in_report, report_shown, runs, all_causes, goes_on, goes_down}
+use Rattle.syn_session.specs.Coordinators.{Does, Stands, ended_in, in_report, report_shown, runs, all_causes, goes_on, goes_down}
 use Rattle.syn_session.specs.declared.coordinator.Coordinator.{Coordinator}
-use Rattle.syn_session.specs.inner.Sessions.{running_of, begun}
+use Rattle.syn_session.specs.inner.Sessions.{IsRunning, IsSession, begun}
+use Rattle.syn_session.specs.declared.session.Session.{Session as Ran}
+use Rattle.syn_session.specs.Machines.{IsMachine, Journal}
+use Rattle.syn_archive.specs.declared.archive.Archive.{Archive}
 use Rattle.syn_session.specs.inner.Steps.{KeepsSo, moves_on, moves_down}
 
 same : (n : ℕ) → (n == n) ≡ true
@@ -74,26 +77,45 @@ causes_are pair machine halted busy full no_room h b f r =
     ∙ (ap (λ x. first_of halted busy x (not (has_room (archive_layout pair) machine.journal (Session (machine.journal.value.last_session + 1))))) f
     ∙ ap (λ x. first_of halted busy full x) r))
 
-module _ {D : Type 0} {disk : Ghosts D} (old new : Coordinator D disk) (pair : ℕ) (machine : CoordinatorMachine) (no_session : runs old ≡ false) where
+-- a machine that is up makes no change
+pub idle_when_up : {D : Type 0} {disk : Ghosts D} (archive : Archive D disk) (pair : ℕ) (journal : Journal) → IsMachine archive pair journal → journal.status ≡ Up → journal.writing ≡ None
+idle_when_up archive pair journal is up = elim is.state as (λ _. journal.writing ≡ None) [
+  | inl runs ↦ runs.idle
+  | inr fails ↦ absurd (halted_not_up fails.halted up)
+]
+
+-- no session runs
+pub no_session : {D : Type 0} {disk : Ghosts D} (coordinator : Coordinator D disk) (pair : ℕ) (journal : Journal) → IsMachine coordinator.archive pair journal → coordinator.running ≡ None → Stands coordinator pair (record { journal = journal; running = None })
+no_session coordinator pair journal is running = record {
+  journal = is;
+  running = subst (λ s. IsRunning journal.value s None) (sym running) tt;
+  quiet = λ never. absurd (false≢true never);
+}
+
+module _ {D : Type 0} {disk : Ghosts D} (old new : Coordinator D disk) (pair : ℕ) (machine : CoordinatorMachine) (idle : runs old ≡ false) where
   -- no report stands for it
   no_report : [] ≡ ended_in old new
-  no_report = sym (ap (λ b. if b && not (runs new) then in_report (report_shown new) else []) no_session)
+  no_report = sym (ap (λ b. if b && not (runs new) then in_report (report_shown new) else []) idle)
 
   abbrev pub number : ℕ
   number = machine.journal.value.last_session + 1
 
   module _ (session_fits : number < 2 ^ 64) (pair_fits : pair < 2 ^ 64) where
     -- both sides are to begin the session
-    pub started : option_map running_of new.running ≡ Some (begun number pair) → KeepsSo new.archive pair machine.journal (Session number) (Session number ∷ []) Up →
+    pub started : (session : Ran) → new.running ≡ Some session → ((archive : model.Archive) → IsSession archive session (begun number pair)) → KeepsSo new.archive pair machine.journal (Session number) (Session number ∷ []) Up →
         Does old new pair (CoordinatorStarts pair machine) (Session number ∷ []) (sent_now (new_session number) (begins pair) (begins pair))
-    started running (moves_on journal keeps up is) =
-        goes_on _ _ (starts number journal refl (session_fits, pair_fits) keeps up) (record { journal = is; running = sym running }) refl refl no_report
-    started running (moves_down journal keeps stopped down leaves) =
+    started session running begins (moves_on journal keeps up is) =
+        goes_on _ _ (starts number journal refl (session_fits, pair_fits) keeps up) (record {
+          journal = is;
+          running = subst (λ s. IsRunning journal.value s (Some (begun number pair))) (sym running) (begins journal.value);
+          quiet = λ _. idle_when_up new.archive pair journal is up;
+        }) refl refl no_report
+    started session running begins (moves_down journal keeps stopped down leaves) =
         goes_down _ _ (start_breaks number journal (Session number ∷ []) refl keeps (not_up down)) stopped down leaves refl
 
   -- the device failed as the number was kept
-  pub start_failed : option_map running_of new.running ≡ None → KeepsSo new.archive pair machine.journal (Session number) [] Halted → Does old new pair (CoordinatorStarts pair machine) [] []
+  pub start_failed : new.running ≡ None → KeepsSo new.archive pair machine.journal (Session number) [] Halted → Does old new pair (CoordinatorStarts pair machine) [] []
   start_failed running (moves_on journal keeps halted is) =
-      goes_on _ _ (start_breaks number journal [] refl keeps (halted_not_up halted)) (record { journal = is; running = sym running }) refl refl no_report
+      goes_on _ _ (start_breaks number journal [] refl keeps (halted_not_up halted)) (no_session new pair journal is running) refl refl no_report
   start_failed running (moves_down journal keeps stopped down leaves) =
       goes_down _ _ (start_breaks number journal [] refl keeps (not_up down)) stopped down leaves refl

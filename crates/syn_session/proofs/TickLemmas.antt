@@ -1,44 +1,65 @@
 -- A tick is the step of a coordinator that ticks.
-use Rattle.std.proofs.Common.{◌≡◌, ◌⊎◌, ℕ, true, false, not, if◌then◌else◌, List, [], ◌++◌, Option, Some, None, refl, sym, ap, ap₂, ◌∙◌, subst}
-use Rattle.std.specs.Prelude.{is_some, option_map, ◌&&◌}
+use Rattle.std.proofs.Common.{◌≡◌, ◌⊎◌, ℕ, inl, inr, Bool, true, false, not, if◌then◌else◌, List, [], ◌++◌, Option, Some, None, refl, sym, ap, ap₂, ◌∙◌, subst}
+use Rattle.std.specs.Prelude.{is_some, ◌&&◌}
 use Rattle.syn_disk.specs.declared.disk.Disk.{Ghosts}
 use Rattle.syn_headline.specs.Coordinator.{CoordinatorMachine, CoordinatorTicks, no_session, resends, gives_up, Running, messages_to, is_resent, report_of}
 use Rattle.syn_headline.specs.Network.{Left, Right, Message}
 use Rattle.syn_model.specs.Refusal.{Refusal, NoAnswer, Memory}
-use Rattle.syn_session.specs.Coordinators.{Does, Stands, in_report, report_shown, runs, goes_on}
+use Rattle.syn_session.specs.Coordinators.{Does, Stands, ended_in, in_report, report_shown, runs, goes_on}
 use Rattle.syn_session.specs.Machines.{IsMachine}
 use Rattle.syn_session.specs.declared.coordinator.Coordinator.{Coordinator}
-use Rattle.syn_session.specs.inner.Sessions.{running_of, resent_once}
+use Rattle.syn_session.specs.inner.Sessions.{IsRunning, IsSession, Tells, is_worn_now, messages_now, resent_once, waiting_of}
+use Rattle.syn_session.specs.declared.session.Session.{Session as Ran}
+use Rattle.syn_session.proofs.SessionLemmas.{tells_now, worn_so}
+use Rattle.syn_session.proofs.StartLemmas.{is_none}
+use Rattle.syn_model.specs.Archive as model
+use Rattle.std.proofs.lemmas.Bool.{false≢true}
 
--- whether there is one is what the model says
-mapped : {A B : Type 0} (f : A → B) (o : Option A) → is_some (option_map f o) ≡ is_some o
-mapped f None = refl
-mapped f (Some a) = refl
+-- both run a session, or none does
+pub run_alike : (archive : model.Archive) (session : Option Ran) (running : Option Running) → IsRunning archive session running → is_some running ≡ is_some session
+run_alike archive None None is = refl
+run_alike archive None (Some running) is = absurd is
+run_alike archive (Some session) None is = absurd is
+run_alike archive (Some session) (Some running) is = refl
+
+-- the session of the model that this one is
+pub session_of : (archive : model.Archive) (session : Ran) (running : Option Running) → IsRunning archive (Some session) running → (now : Running) × (running ≡ Some now) × IsSession archive session now
+session_of archive session None is = absurd is
+session_of archive session (Some now) is = (now, refl, is)
 
 module _ {D : Type 0} {disk : Ghosts D} (old new : Coordinator D disk) (pair : ℕ) (machine : CoordinatorMachine) (stands : Stands old pair machine) (same : new.archive ≡ old.archive) (messages : List Message) where
   -- its archive stays
-  stays : (running : Option Running) → running ≡ option_map running_of new.running → Stands new pair (record machine { running = running })
-  stays running is = record { journal = subst (λ a. IsMachine a pair machine.journal) (sym same) stands.journal; running = is }
+  stays : (running : Option Running) → IsRunning machine.journal.value new.running running → (is_some running ≡ true → is_some machine.running ≡ true) → Stands new pair (record machine { running = running })
+  stays running is before = record { journal = subst (λ a. IsMachine a pair machine.journal) (sym same) stands.journal; running = is; quiet = λ some. stands.quiet (before some) }
 
-  did_run : (before : Option Running) → option_map running_of old.running ≡ before → runs old ≡ is_some before
-  did_run before e = sym (mapped running_of old.running) ∙ ap is_some e
+  ended_by : (was is : Bool) → runs old ≡ was → runs new ≡ is → ended_in old new ≡ (if was && not is then in_report (report_shown new) else [])
+  ended_by was is = λ o n. ap₂ (λ a b. if a && not b then in_report (report_shown new) else []) o n
 
-  will_run : (after : Option Running) → option_map running_of new.running ≡ after → runs new ≡ is_some after
-  will_run after e = sym (mapped running_of new.running) ∙ ap is_some e
-
-  pub tick_none : option_map running_of old.running ≡ None → option_map running_of new.running ≡ None → messages ≡ [] → Does old new pair (CoordinatorTicks machine) [] messages
+  pub tick_none : old.running ≡ None → new.running ≡ None → messages ≡ [] → Does old new pair (CoordinatorTicks machine) [] messages
   tick_none was is nothing =
-      goes_on _ _ (no_session (stands.running ∙ was)) (stays machine.running (stands.running ∙ (was ∙ sym is))) refl (sym nothing) (sym (ap (λ b. if b && not (runs new) then in_report (report_shown new) else []) (did_run None was)))
+      let none = is_none machine.running (run_alike machine.journal.value old.running machine.running stands.running ∙ ap is_some was) in
+      goes_on _ _ (no_session none) (stays machine.running (subst (λ s. IsRunning machine.journal.value s machine.running) (was ∙ sym is) stands.running) (λ some. some)) refl (sym nothing) (sym (ended_by false false (ap is_some was) (ap is_some is)))
 
-  module _ (running : Running) (was : option_map running_of old.running ≡ Some running) where
-    pub tick_again : is_resent running ≡ false → option_map running_of new.running ≡ Some (resent_once running) → messages ≡ messages_to running.session Left running.left ++ messages_to running.session Right running.right →
+  module _ (session : Ran) (was : old.running ≡ Some session) where
+    now : (running : Running) × (machine.running ≡ Some running) × IsSession machine.journal.value session running
+    now = session_of machine.journal.value session machine.running (subst (λ s. IsRunning machine.journal.value s machine.running) was stands.running)
+
+    pub tick_again : (again : Ran) → is_worn_now session ≡ false → new.running ≡ Some again → ((archive : model.Archive) (running : Running) → IsSession archive session running → IsSession archive again (resent_once running)) → messages ≡ messages_now session →
         Does old new pair (CoordinatorTicks machine) [] messages
-    tick_again fresh is sent =
-        goes_on _ _ (resends running (stands.running ∙ was) fresh) (stays (Some (resent_once running)) (sym is)) refl (sym sent)
-        (sym (ap₂ (λ a b. if a && not b then in_report (report_shown new) else []) (did_run (Some running) was) (will_run (Some (resent_once running)) is)))
+    tick_again again fresh is resent sent =
+        let running = now.0 in
+        let session_is = now.2 in
+        goes_on _ _ (resends running now.1 (worn_so machine.journal.value session running session_is ∙ fresh))
+        (stays (Some (resent_once running)) (subst (λ s. IsRunning machine.journal.value s (Some (resent_once running))) (sym is) (resent machine.journal.value running session_is)) (λ _. ap is_some now.1)) refl
+        (ap₂ (λ n m. messages_to n Left m ++ messages_to n Right running.right) session_is.number (session_is.line Left).waits ∙ (ap (λ m. messages_to session.number Left (waiting_of session.left.waiting) ++ messages_to session.number Right m) (session_is.line Right).waits ∙ sym sent))
+        (sym (ended_by true true (ap is_some was) (ap is_some is)))
 
-    pub tick_ends : (why : Refusal) → ((is_resent running ≡ true) × (why ≡ NoAnswer)) ⊎ ((is_resent running ≡ false) × (why ≡ Memory)) → option_map running_of new.running ≡ None → report_shown new ≡ Some (report_of running (Some why)) → messages ≡ [] →
+    pub tick_ends : (why : Refusal) → ((is_worn_now session ≡ true) × (why ≡ NoAnswer)) ⊎ ((is_worn_now session ≡ false) × (why ≡ Memory)) → new.running ≡ None → ((running : Running) → Tells session running → report_shown new ≡ Some (report_of running (Some why))) → messages ≡ [] →
         Does old new pair (CoordinatorTicks machine) [] messages
     tick_ends why cause is report nothing =
-        goes_on _ _ (gives_up running why (stands.running ∙ was) cause) (stays None (sym is)) refl (sym nothing)
-        (sym (ap₂ (λ a b. if a && not b then in_report (report_shown new) else []) (did_run (Some running) was) (will_run None is) ∙ ap in_report report))
+        let running = now.0 in
+        let session_is = now.2 in
+        let worn = worn_so machine.journal.value session running session_is in
+        goes_on _ _ (gives_up running why now.1 (elim cause as (λ _. ((is_resent running ≡ true) × (why ≡ NoAnswer)) ⊎ ((is_resent running ≡ false) × (why ≡ Memory))) [ inl often ↦ inl (worn ∙ often.0, often.1) | inr fresh ↦ inr (worn ∙ fresh.0, fresh.1) ]))
+        (stays None (subst (λ s. IsRunning machine.journal.value s None) (sym is) tt) (λ never. absurd (false≢true never))) refl (sym nothing)
+        (sym (ended_by true false (ap is_some was) (ap is_some is) ∙ ap in_report (report running (tells_now machine.journal.value session running session_is))))

@@ -19,7 +19,7 @@ use Rattle.syn_session.specs.Machines.{IsMachine, Journal, LeavesMachine, NotReo
 use Rattle.syn_session.specs.Machines.{Reopened}
 use Rattle.syn_session.specs.Reports.{report_model}
 use Rattle.syn_session.specs.declared.coordinator.Coordinator.{Coordinator}
-use Rattle.syn_session.specs.inner.Sessions.{running_of}
+use Rattle.syn_session.specs.inner.Sessions.{IsRunning}
 use Rattle.syn_wire.specs.Marks.{kept_of}
 
 module _ {D : Type 0} {disk : Ghosts D} (coordinator : Coordinator D disk) where
@@ -47,7 +47,10 @@ module _ {D : Type 0} {disk : Ghosts D} (coordinator : Coordinator D disk) where
   -- it is this machine of the pair
   pub record Stands (pair : ℕ) (machine : CoordinatorMachine) : Type 0 where
     pub journal : IsMachine coordinator.archive pair machine.journal
-    pub running : machine.running ≡ option_map running_of coordinator.running
+    pub running : IsRunning machine.journal.value coordinator.running machine.running
+
+    -- no record was cut off under a session that still runs
+    pub quiet : is_some machine.running ≡ true → machine.journal.writing ≡ None
 
 -- the report of a session that ended in a call
 abbrev pub in_report : Option Report → List Report

@@ -1,3 +1,14 @@
 -- Definitions that no public clause names.
+pub mod Plans
+pub mod Stages
+pub mod Walking
 pub mod Sessions
+pub mod Answering
+pub mod Hearing
+pub mod Taking
+pub mod Answered
 pub mod Steps
+pub mod Due
+pub mod Recording
+pub mod Doings
+pub mod Advancing

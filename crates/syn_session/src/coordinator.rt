@@ -1,19 +1,21 @@
 //! A coordinator over its archive.
 ghost use Rattle.std.specs.Prelude.{◌≡◌, ◌≢◌, ◌++◌, ◌∷◌, [], ℕ, true, is_some, Some, None};
-ghost use Rattle.std.specs.Prelude.{Err, IfErr, MatchResult, OnErr, OnOk, false, map, option_map};
+ghost use Rattle.std.specs.Prelude.{Err, IfErr, IfOk, MatchResult, OnErr, OnOk, false, map};
+ghost use Rattle.std.specs.Prelude.{option_map};
 ghost use Rattle.std.specs.Prelude.{◌+◌, ◌<◌, ◌^◌, ◌⊎◌, ◌&&◌, not};
 ghost use Rattle.syn_archive.specs.Archive.{IsHalted, session_shown};
 ghost use Rattle.syn_headline.specs.Coordinator.{CoordinatorMachine, CoordinatorStarts};
 ghost use Rattle.syn_headline.specs.Coordinator.{CoordinatorTicks, Running, report_of};
 ghost use Rattle.syn_headline.specs.Machine.{Halted, Up};
-ghost use Rattle.syn_model.specs.Archive.{Session as Begun};
+ghost use Rattle.syn_model.specs.Archive.{Archive as Keeping, Session as Begun};
 ghost use Rattle.syn_model.specs.Refusal.{Memory, first_cause};
 ghost use Rattle.syn_refusal.specs.Refusals.{cause_of};
 ghost use Rattle.syn_session.specs.Machines.{IsMachine, Journal};
 ghost use Rattle.syn_session.specs.Refusals.{CountsFailures, refusal_of};
 ghost use Rattle.syn_session.specs.Reports.{report_model};
 ghost use Rattle.syn_session.specs.Sendings.{messages_of};
-ghost use Rattle.syn_session.specs.inner.Sessions.{running_of};
+ghost use Rattle.syn_session.specs.declared.session.Session.{Session as Ran};
+ghost use Rattle.syn_session.specs.inner.Sessions.{IsSession, Tells, begin_messages, begun};
 ghost use Rattle.syn_session.specs.inner.Steps.{KeepsSo};
 ghost use Rattle.syn_wire.specs.Marks.{kept_of};
 
@@ -28,6 +30,7 @@ use syn_recovery::device_laws;
 use syn_refusal::Refusal;
 use syn_wire::Kept;
 
+mod answers;
 mod journal;
 
 /// How many bytes the record of a session takes behind its length.
@@ -145,10 +148,10 @@ impl<D: Disk> Coordinator<D> {
             → (written self.new ≡ written self.old) × (broken self.new ≡ broken self.old)) }
     {
         self.check_start()?;
-        let session = Session::new(self.archive.last_session() + 1, self.archive.pair());
-        let sends = session.waiting(alloc)?;
+        let number = self.archive.last_session() + 1;
         let mut written = Vec::new(alloc);
-        written.push(Kept::Session(session.number))?;
+        written.push(Kept::Session(number))?;
+        let (session, sends) = first_requests(alloc, number, self.archive.pair())?;
         self.keep_session(alloc, session, written)?;
         Ok(sends)
     }
@@ -249,7 +252,7 @@ impl<D: Disk> Coordinator<D> {
             return Vec::new(alloc);
         };
         if session.is_worn() {
-            self.end(alloc, Refusal::NoAnswer);
+            self.end(alloc, Some(Refusal::NoAnswer));
             return Vec::new(alloc);
         }
         match session.waiting(alloc) {
@@ -258,22 +261,43 @@ impl<D: Disk> Coordinator<D> {
                 sends
             }
             Err(_) => {
-                self.end(alloc, Refusal::Memory);
+                self.end(alloc, Some(Refusal::Memory));
                 Vec::new(alloc)
             }
         }
     }
 
     /// Ends the session that runs, if one does, and keeps its report. It takes no memory.
-    fn end(&mut self, alloc: Global, ended: Refusal)
+    fn end(&mut self, alloc: Global, ended: Option<Refusal>)
         ensures running { self.new.running ≡ None }
         ensures archive { self.new.archive ≡ self.old.archive }
         ensures kept { (self.new.written ≡ self.old.written) × (self.new.broken ≡ self.old.broken) }
-        ensures report { (session : Running) → option_map running_of self.old.running ≡ Some session
-            → report_shown self.new ≡ Some (report_of session (Some (cause_of ended))) }
+        ensures report { (session : Ran) (running : Running) → self.old.running ≡ Some session
+            → Tells session running
+            → report_shown self.new ≡ Some (report_of running (option_map cause_of ended)) }
     {
         if let Some(session) = self.running.take() {
             self.report = Some(session.into_report(alloc, ended));
         }
     }
+}
+
+/// A session of which nothing was answered, with its first requests. Refused 11 where memory is
+/// refused.
+fn first_requests(
+    alloc: Global,
+    number: u64,
+    pair: u64,
+) -> Result<(Session, Vec<Sending>), SessionError>
+    ensures begun { (archive : Keeping)
+        → IfOk result (λ first. IsSession archive first.0 (begun number pair)) }
+    ensures sends { IfOk result (λ first. messages_of first.1.items
+        ≡ begin_messages number pair) }
+    ensures number { IfOk result (λ first. first.0.number ≡ number) }
+    ensures fits { pair < 2 ^ 64 }
+    ensures memory { IfErr result (λ e. e ≡ SessionError.Memory) }
+{
+    let session = Session::new(alloc, number, pair)?;
+    let sends = session.waiting(alloc)?;
+    Ok((session, sends))
 }

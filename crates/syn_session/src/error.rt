@@ -6,6 +6,7 @@ ghost use Rattle.syn_session.specs.Refusals.{refusal_of};
 
 use std::alloc::{AllocError, AllocFailed};
 use std::fmt;
+use syn_recon::PlanError;
 use syn_refusal::Refusal;
 use syn_scan::ScanError;
 use syn_wire::WireError;
@@ -67,6 +68,17 @@ impl From<ScanError> for SessionError {
     ghost from_gives = { λ _ e. e ≡ Memory };
 
     fn from(_error: ScanError) -> SessionError {
+        SessionError::Memory
+    }
+}
+
+/// No plan is made for want of memory.
+impl From<PlanError> for SessionError {
+    ghost use Rattle.syn_session.specs.declared.error.SessionError.TheVariants.{Memory};
+
+    ghost from_gives = { λ _ e. e ≡ Memory };
+
+    fn from(_error: PlanError) -> SessionError {
         SessionError::Memory
     }
 }

@@ -1,8 +1,15 @@
 //! The coordinator of a pair: it runs sessions between the two replicas, over its archive.
 #![tactic(auto)]
 
+mod carried;
 mod coordinator;
+mod course;
+mod doing;
+mod due;
 mod error;
+mod hearing;
+mod line;
+mod passing;
 mod report;
 mod requests;
 mod sending;

@@ -1,44 +1,78 @@
 //! A session that runs.
-ghost use Rattle.std.specs.Prelude.{◌≡◌, ◌<◌, ◌^◌, ◌++◌, false, IfOk, IfErr, OnOk, Some};
-ghost use Rattle.std.specs.Prelude.{option_map};
-ghost use Rattle.syn_headline.specs.Coordinator.{is_resent, messages_to};
+ghost use Rattle.std.specs.Prelude.{◌≡◌, ◌<◌, ◌^◌, ◌⊎◌, ◌||◌, ℕ, None, Some, false, IfOk, IfErr};
+ghost use Rattle.std.specs.Prelude.{IfSome, MatchResult, OnOk, option_map};
+ghost use Rattle.syn_headline.specs.Coordinator.{Running, asked_in, is_not_dir, report_of};
+ghost use Rattle.syn_headline.specs.Network.{Left, Right};
+ghost use Rattle.syn_headline.specs.Session.{fault_of};
+ghost use Rattle.syn_headline.specs.Side.{ListAt};
+ghost use Rattle.syn_message.specs.Replies.{IsLawfulReply, reply_of};
+ghost use Rattle.syn_message.specs.Requests.{request_of};
 ghost use Rattle.syn_message.specs.Sides.{which_of};
+ghost use Rattle.syn_model.specs.Refusal.{Memory};
+ghost use Rattle.syn_model.specs.Archive.{Archive as Keeping};
 ghost use Rattle.syn_refusal.specs.Refusals.{cause_of};
-ghost use Rattle.syn_session.specs.Reports.{report_model};
+ghost use Rattle.syn_session.specs.Reports.{end_of, report_model};
 ghost use Rattle.syn_session.specs.Sendings.{messages_of};
-ghost use Rattle.syn_session.specs.inner.Sessions.{waiting_of};
+ghost use Rattle.syn_session.specs.inner.Sessions.{end_by};
 
+use crate::course::Course;
 use crate::error::SessionError;
+use crate::line::Line;
 use crate::report::{End, Report};
-use crate::requests::Waiting;
 use crate::sending::Sending;
 use std::alloc::Global;
-use syn_message::Side;
+use syn_message::{Reply, Request, Side};
+use syn_path::Path;
 use syn_refusal::Refusal;
 
-/// A session that runs: on each side one request waits for its answer at most.
+/// A session that runs.
 #[derive(Debug, Drop)]
 pub(crate) struct Session {
     pub(crate) number: u64,
-    pub(crate) left: Option<Waiting>,
-    pub(crate) right: Option<Waiting>,
+    pub(crate) left: Line,
+    pub(crate) right: Line,
+    /// A path changed its kind under the scan: it was answered as no directory.
+    pub(crate) is_unstable: bool,
+    /// Its plan, once both scans are whole.
+    pub(crate) course: Option<Course>,
+}
+
+/// What is asked of each side next.
+#[derive(Debug, Drop)]
+pub(crate) struct Asks {
+    pub(crate) left: Option<Request>,
+    pub(crate) right: Option<Request>,
 }
 
 impl Session {
-    ghost use Rattle.syn_headline.specs.Coordinator.{report_of};
-    ghost use Rattle.syn_session.specs.inner.Sessions.{begun, messages_now, resent_once};
-    ghost use Rattle.syn_session.specs.inner.Sessions.{running_of};
+    ghost use Rattle.syn_session.specs.inner.Answering.{IsAnswering, IsAskedOn, KeepsFound};
+    ghost use Rattle.syn_session.specs.inner.Answering.{KeepsRequests, ListsNext, asks_of};
+    ghost use Rattle.syn_session.specs.inner.Answering.{messages_asked};
+    ghost use Rattle.syn_session.specs.inner.Stages.{found_on, line_of};
+    ghost use Rattle.syn_session.specs.Scanning.{Exchanges, IsFoundIn, WaitsFor};
+    ghost use Rattle.syn_session.specs.Scanning.{with_listing_answered};
+    ghost use Rattle.syn_session.specs.inner.Sessions.{IsSession, Tells, begin_messages, begun};
+    ghost use Rattle.syn_session.specs.inner.Sessions.{is_worn_now, messages_now, resent_once};
+    ghost use Rattle.syn_session.specs.inner.Sessions.{waiting_of};
 
-    /// Both sides of the pair are to begin the session.
-    pub(crate) fn new(number: u64, pair: u64) -> Session
-        ensures begun { running_of result ≡ begun number pair }
+    /// Both sides of the pair are to begin the session. Refused 11 where memory is refused.
+    pub(crate) fn new(alloc: Global, number: u64, pair: u64) -> Result<Session, SessionError>
+        ensures begun { (archive : Keeping)
+            → IfOk result (λ session. IsSession archive session (begun number pair)) }
+        ensures sends { IfOk result (λ session. messages_now session ≡ begin_messages number pair) }
         ensures fits { pair < 2 ^ 64 }
+        ensures lawful { number < 2 ^ 64 }
+        ensures memory { IfErr result (λ e. e ≡ SessionError.Memory) }
     {
-        Session {
+        let left = Line::new(alloc, pair)?;
+        let right = Line::new(alloc, pair)?;
+        Ok(Session {
             number,
-            left: Some(Waiting::begin(pair)),
-            right: Some(Waiting::begin(pair)),
-        }
+            left,
+            right,
+            is_unstable: false,
+            course: None,
+        })
     }
 
     /// The requests that wait, for the left and then for the right. Refused 11 where memory is
@@ -48,77 +82,169 @@ impl Session {
         ensures memory { IfErr result (λ e. e ≡ SessionError.Memory) }
     {
         let mut sends = Vec::new(alloc);
-        add_waiting(
-            alloc,
-            &mut sends,
-            Side::Left,
-            self.number,
-            self.left.as_ref(),
-        )?;
-        add_waiting(
-            alloc,
-            &mut sends,
-            Side::Right,
-            self.number,
-            self.right.as_ref(),
-        )?;
+        self.left.send(alloc, &mut sends, Side::Left, self.number)?;
+        self.right
+            .send(alloc, &mut sends, Side::Right, self.number)?;
         Ok(sends)
     }
 
     /// Whether a request that waits was sent again as often as it may be.
     pub(crate) fn is_worn(&self) -> bool
-        ensures { result ≡ is_resent (running_of self.now) }
+        ensures { result ≡ is_worn_now self.now }
     {
-        let left = self.left.as_ref().is_some_and(|waiting| waiting.is_worn());
-        left || self.right.as_ref().is_some_and(|waiting| waiting.is_worn())
+        self.left.is_worn() || self.right.is_worn()
     }
 
     /// Each request that waits was sent once more.
     pub(crate) fn count_resend(&mut self)
-        requires { is_resent (running_of self.old) ≡ false }
-        ensures { running_of self.new ≡ resent_once (running_of self.old) }
+        requires { is_worn_now self.old ≡ false }
+        ensures { (archive : Keeping) (running : Running) → IsSession archive self.old running
+            → IsSession archive self.new (resent_once running) }
     {
-        if let Some(waiting) = &mut self.left {
-            waiting.count_resend();
+        self.left.count_resend();
+        self.right.count_resend();
+    }
+
+    /// The request that waits for the answer of that number from the side, in that session; none
+    /// where none does.
+    pub(crate) fn answered(&mut self, from: Side, session: u64, number: u32) -> Option<Request>
+        ensures some { IfSome result (λ request. (self.old.number ≡ session)
+            × IsAnswering self.old self.new (which_of from) number (request_of request)) }
+        ensures none { result ≡ None → (self.new ≡ self.old) × (self.old.number ≡ session
+            → asked_in (waiting_of (line_of self.old (which_of from)).waiting) number ≡ None) }
+    {
+        if self.number != session {
+            return None;
         }
-        if let Some(waiting) = &mut self.right {
-            waiting.count_resend();
+        match from {
+            Side::Left => self.left.answered(number),
+            Side::Right => self.right.answered(number),
         }
     }
 
-    /// What it reports where it ends early for this. It takes no memory.
-    pub(crate) fn into_report(self, alloc: Global, ended: Refusal) -> Report
-        ensures { report_model result ≡ report_of (running_of self) (Some (cause_of ended)) }
+    /// Takes the answer of a side to a listing. Refused as the scan of the side refuses it.
+    pub(crate) fn take_listing(
+        &mut self,
+        alloc: Global,
+        from: Side,
+        path: &Path,
+        reply: Reply,
+    ) -> Result<(), Refusal>
+        requires lawful { IsLawfulReply (reply_of reply) }
+        ensures step { (taken : Exchanges) (number : ℕ)
+            → WaitsFor (line_of self.old (which_of from)).scan path.now
+            → IsFoundIn (found_on self.old (which_of from)) (which_of from) taken
+            → MatchResult result
+            (λ _. (fault_of taken (which_of from) (ListAt path.now) (reply_of reply) ≡ None)
+            × IsFoundIn (found_on self.new (which_of from)) (which_of from)
+            (with_listing_answered taken (which_of from) number path.now (reply_of reply)))
+            (λ e. (cause_of e ≡ Memory) ⊎ (fault_of taken (which_of from) (ListAt path.now)
+            (reply_of reply) ≡ Some (cause_of e))) }
+        ensures keeps { KeepsRequests self.old self.new (which_of from) }
+        ensures unstable { self.new.is_unstable ≡ self.old.is_unstable }
     {
+        match from {
+            Side::Left => self.left.scan.take(alloc, path, reply),
+            Side::Right => self.right.scan.take(alloc, path, reply),
+        }
+    }
+
+    /// Whether a path changed its kind, with an answer that was taken.
+    pub(crate) fn count_unstable(&mut self, is_no_directory: bool)
+        ensures unstable { self.new.is_unstable ≡ (self.old.is_unstable || is_no_directory) }
+        ensures left { self.new.left ≡ self.old.left }
+        ensures right { self.new.right ≡ self.old.right }
+        ensures number { self.new.number ≡ self.old.number }
+        ensures course { self.new.course ≡ self.old.course }
+    {
+        self.is_unstable = either(self.is_unstable, is_no_directory);
+    }
+
+    /// The listings that are asked for next, on each side where no request waits. Refused 11 where
+    /// memory is refused.
+    pub(crate) fn next_listings(&mut self, alloc: Global) -> Result<Asks, SessionError>
+        ensures left { IfOk result (λ asks. ListsNext self.old.left self.new.left asks.left) }
+        ensures right { IfOk result (λ asks. ListsNext self.old.right self.new.right asks.right) }
+        ensures same { KeepsFound self.old self.new }
+        ensures memory { IfErr result (λ e. e ≡ SessionError.Memory) }
+    {
+        let left = self.left.next_listing(alloc)?;
+        let right = self.right.next_listing(alloc)?;
+        Ok(Asks { left, right })
+    }
+
+    /// Asks both sides for what comes next, and gives what is to be sent. Refused 11 where memory
+    /// is refused, or where a number would need more than four bytes.
+    pub(crate) fn ask(&mut self, alloc: Global, asks: Asks) -> Result<Vec<Sending>, SessionError>
+        ensures left { OnOk result (IsAskedOn self.old.left self.new.left (asks_of asks Left)) }
+        ensures right { OnOk result (IsAskedOn self.old.right self.new.right (asks_of asks Right)) }
+        ensures number { self.new.number ≡ self.old.number }
+        ensures unstable { self.new.is_unstable ≡ self.old.is_unstable }
+        ensures course { self.new.course ≡ self.old.course }
+        ensures sends { IfOk result (λ sends. messages_of sends.items
+            ≡ messages_asked self.old asks) }
+        ensures memory { IfErr result (λ e. e ≡ SessionError.Memory) }
+    {
+        let mut sends = Vec::new(alloc);
+        self.left
+            .ask_next(alloc, &mut sends, Side::Left, self.number, asks.left)?;
+        self.right
+            .ask_next(alloc, &mut sends, Side::Right, self.number, asks.right)?;
+        Ok(sends)
+    }
+
+    /// What it reports where it ends so: early for a refusal, or as it came through its plan. It
+    /// takes no memory.
+    pub(crate) fn into_report(self, alloc: Global, ended: Option<Refusal>) -> Report
+        ensures { (running : Running) → Tells self running
+            → report_model result ≡ report_of running (option_map cause_of ended) }
+    {
+        let course = self.course;
+        let Some(course) = course else {
+            return Report {
+                session: self.number,
+                end: end_for(ended, 0, self.is_unstable),
+                ended,
+                done: 0,
+                marked: 0,
+                conflicts: Vec::new(alloc),
+                refused: Vec::new(alloc),
+            };
+        };
         Report {
             session: self.number,
-            end: End::Incomplete,
-            ended: Some(ended),
-            done: 0,
-            marked: 0,
-            conflicts: Vec::new(alloc),
-            refused: Vec::new(alloc),
+            end: end_for(ended, course.refused.len(), self.is_unstable),
+            ended,
+            done: course.done,
+            marked: course.marked,
+            conflicts: course.conflicts,
+            refused: course.refused,
         }
     }
 }
 
-/// Adds the request that waits at a side, if one does. Refused 11 where memory is refused.
-fn add_waiting(
-    alloc: Global,
-    sends: &mut Vec<Sending>,
-    to: Side,
-    session: u64,
-    waiting: Option<&Waiting>,
-) -> Result<(), SessionError>
-    ensures ok { OnOk result (messages_of sends.new.items ≡ messages_of sends.old.items
-        ++ messages_to session (which_of to)
-        (waiting_of (option_map (λ there. there.now) waiting.entry))) }
-    ensures memory { IfErr result (λ e. e ≡ SessionError.Memory) }
+/// One of the two holds.
+fn either(one: bool, other: bool) -> bool
+    ensures { result ≡ (one || other) }
 {
-    let Some(waiting) = waiting else {
-        return Ok(());
-    };
-    let asked = waiting.asked(alloc, session)?;
-    sends.push(Sending { to, asked })?;
-    Ok(())
+    one || other
+}
+
+/// No directory is at the path that was to be listed.
+pub(crate) fn is_no_directory(reply: &Reply) -> bool
+    ensures { result ≡ is_not_dir (reply_of reply.now) }
+{
+    matches!(reply, Reply::NotDir { .. })
+}
+
+/// How a session ends, by what ended it early, how many items were refused, and whether a path was
+/// unstable.
+fn end_for(ended: Option<Refusal>, refused: usize, is_unstable: bool) -> End
+    ensures { end_of result ≡ end_by (option_map cause_of ended) refused is_unstable }
+{
+    if ended.is_none() && refused == 0 && !is_unstable {
+        End::Complete
+    } else {
+        End::Incomplete
+    }
 }

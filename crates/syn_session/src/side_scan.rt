@@ -57,16 +57,15 @@ impl SideScan {
         Ok(self.scanner.next_request(alloc)?)
     }
 
-    /// Takes the answer to the listing that waits.
+    /// Takes the answer to a listing.
     ///
     /// Refused 22 where the scan would have more than 4,096 nodes; 23 where a path would pass the
     /// limits, or the answer is none to a listing; 11 where memory is refused; and with the number
     /// that the side refused the listing with.
     pub fn take(&mut self, alloc: Global, path: &Path, reply: Reply) -> Result<(), Refusal>
         requires lawful { IsLawfulReply (reply_of reply) }
-        requires waits { WaitsFor self.old path.now }
         // An answer is refused exactly where it ends its session, or for want of memory.
-        ensures step { (side : Which) (taken : Exchanges) (number : ℕ)
+        ensures step { (side : Which) (taken : Exchanges) (number : ℕ) → WaitsFor self.old path.now
             → IsFoundIn (found_of self.old) side taken
             → MatchResult result
             (λ _. (fault_of taken side (ListAt path.now) (reply_of reply) ≡ None)
@@ -91,16 +90,16 @@ impl SideScan {
         }
     }
 
-    /// What the side showed, once each directory was answered. It takes no memory.
-    pub fn finish(self) -> Scan
-        requires { IsWhole (found_of self) }
-        ensures found { result ≡ found_of self }
+    /// What the side showed so far: its scan, once each directory was answered.
+    pub fn found(&self) -> &Scan
+        ensures found { result.now ≡ found_of self.now }
 
-        // It is the scan by what the side answered.
-        ensures scan { (side : Which) (taken : Exchanges) → IsFoundIn (found_of self) side taken
-            → IsScanBy (WasListedAt taken side) (WasNoDirectoryAt taken side) (scan_of result)
-            (position_of result) }
+        // It is then the scan by what the side answered.
+        ensures scan { (side : Which) (taken : Exchanges) → IsWhole (found_of self.now)
+            → IsFoundIn (found_of self.now) side taken
+            → IsScanBy (WasListedAt taken side) (WasNoDirectoryAt taken side) (scan_of result.now)
+            (position_of result.now) }
     {
-        self.scanner.finish()
+        self.scanner.found()
     }
 }

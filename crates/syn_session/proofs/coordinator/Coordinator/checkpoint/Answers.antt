@@ -27,6 +27,7 @@ returns-in-Err-clause-refused g c pair machine stands other = (
   record {
     journal = elim c.in-Err.ensures.unchanged [ inl device ↦ absurd (other device) | inr same ↦ same_machine c.args.self.now.archive c.checkpoint.new.self same c.in-Err.ensures.readings pair machine.journal stands.journal ];
     running = stands.running;
+    quiet = stands.quiet;
   },
 )
 

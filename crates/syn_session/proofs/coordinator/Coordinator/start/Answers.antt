@@ -1,7 +1,5 @@
-use Rattle.std.proofs.Common.{◌≡◌, ◌≢◌, ◌<◌, ◌^◌, ◌+◌, [], ◌∷◌, ◌++◌, Some, Err, inl, inr, sym, ap, ap₂, ◌∙◌, subst, map, true}
-use Rattle.std.specs.Prelude.{option_map}
-use Rattle.syn_headline.specs.Coordinator.{CoordinatorStarts, messages_to}
-use Rattle.syn_headline.specs.Network.{Left, Right}
+use Rattle.std.proofs.Common.{◌≡◌, ◌≢◌, ◌<◌, ◌^◌, ◌+◌, [], ◌∷◌, ◌++◌, Some, None, Err, inl, inr, sym, ap, ap₂, ◌∙◌, subst, map, true}
+use Rattle.syn_headline.specs.Coordinator.{CoordinatorStarts}
 use Rattle.syn_wire.specs.Marks.{kept_of}
 use Rattle.syn_wire.specs.declared.kept.Kept.TheVariants as has
 use Rattle.syn_headline.specs.Machine.{Up, Halted}
@@ -12,7 +10,8 @@ use Rattle.syn_session.specs.Coordinators.{Does, Stands, all_causes, archive_of,
 use Rattle.syn_session.specs.Refusals.{refusal_of}
 use Rattle.syn_session.specs.Sendings.{messages_of}
 use Rattle.syn_session.specs.declared.error.SessionError.TheVariants.{Device}
-use Rattle.syn_session.specs.inner.Sessions.{running_of, begun}
+use Rattle.syn_model.specs.Archive as model
+use Rattle.syn_session.specs.inner.Sessions.{IsSession, begin_messages, begun}
 use Rattle.syn_session.specs.inner.Steps.{KeepsSo}
 use Rattle.syn_session.proofs.ErrorLemmas.{passed, refused_so}
 use Rattle.syn_session.proofs.StartLemmas.{is_none, started, start_failed, still_first, then_memory}
@@ -30,7 +29,7 @@ returns-in_err-check_start-clause-refused g c pair machine stands =
 pub returns-in_err-keep_session-clause-step : goal.returns-in_err-keep_session-clause-step
 returns-in_err-keep_session-clause-step g c pair machine stands =
     passed (λ e. e ≡ Device → Does c.args.self.now c.keep_session.new.self pair (CoordinatorStarts pair machine) [] []) _ c.from_residual-in_err-keep_session.result _ c.from_residual-in_err-keep_session.ensures.1
-    (λ e. start_failed c.args.self.now c.keep_session.new.self pair machine c.in_ok-check_start.ensures.idle (ap (option_map running_of) (c.in_err-keep_session.ensures.stays ∙ is_none c.args.self.now.running c.in_ok-check_start.ensures.idle))
+    (λ e. start_failed c.args.self.now c.keep_session.new.self pair machine c.in_ok-check_start.ensures.idle (c.in_err-keep_session.ensures.stays ∙ is_none c.args.self.now.running c.in_ok-check_start.ensures.idle)
     (subst (λ n. KeepsSo (archive_of c.keep_session.new.self) pair machine.journal (Session (n + 1)) [] Halted) (ap (λ a. a.last_session) stands.journal.remembers) (c.in_err-keep_session.ensures.device pair machine stands (ap (λ e. Err e) e))))
 
 pub returns-in_err-keep_session-clause-refused : goal.returns-in_err-keep_session-clause-refused
@@ -44,21 +43,29 @@ returns-in_err-keep_session-clause-refused g c pair machine stands =
 pub returns-clause-step : goal.returns-clause-step
 returns-clause-step g c pair machine stands =
     let last = ap (λ a. a.last_session) stands.journal.remembers in
-    let begins = c.new-session.ensures.begun ∙ ap₂ begun (ap (λ n. n + 1) (c.last_session.ensures ∙ last)) (c.pair.ensures ∙ stands.journal.pair_is) in
-    let running = ap (option_map running_of) c.in_ok-keep_session.ensures.running ∙ ap (λ r. Some r) begins in
+    let numbered = ap (λ n. n + 1) (c.last_session-number.ensures ∙ last) in
+    let of_pair = c.pair.ensures ∙ stands.journal.pair_is in
+    let begins = λ (archive : model.Archive). subst (λ r. IsSession archive c.in_ok-session.session r) (ap₂ begun numbered of_pair) (c.in_ok-session.ensures.begun archive) in
     let kept = subst (λ n. KeepsSo (archive_of c.keep_session.new.self) pair machine.journal (Session (n + 1)) (Session (n + 1) ∷ []) Up) last (c.in_ok-keep_session.ensures.ok pair machine stands) in
-    let written_is = ap (λ v. map kept_of v.items) c.in_ok-keep_session.ensures.written ∙ (ap (map kept_of) c.in_ok-push.ensures.items ∙ (ap (λ l. map kept_of (l ++ has.Session c.new-session.result.number ∷ [])) c.new-written.ensures.items ∙ ap (λ r. Session r.session ∷ []) begins)) in
-    let sent = c.in_ok-sends.ensures.ok ∙ ap (λ r. messages_to r.session Left r.left ++ messages_to r.session Right r.right) begins in
-    subst (λ w. Does c.args.self.now c.keep_session.new.self pair (CoordinatorStarts pair machine) w (messages_of c.in_ok-sends.sends.items)) (sym written_is)
+    let written_is = ap (λ v. map kept_of v.items) c.in_ok-keep_session.ensures.written ∙ (ap (map kept_of) c.in_ok-push.ensures.items ∙ (ap (λ l. map kept_of (l ++ has.Session (c.last_session-number.result + 1) ∷ [])) c.new-written.ensures.items ∙ ap (λ n. Session n ∷ []) numbered)) in
+    let sent = c.in_ok-session.ensures.sends ∙ ap₂ begin_messages numbered of_pair in
+    subst (λ w. Does c.args.self.now c.keep_session.new.self pair (CoordinatorStarts pair machine) w (messages_of c.in_ok-session.sends.items)) (sym written_is)
     (subst (λ m. Does c.args.self.now c.keep_session.new.self pair (CoordinatorStarts pair machine) (Session (machine.journal.value.last_session + 1) ∷ []) m) (sym sent)
-    (started c.args.self.now c.keep_session.new.self pair machine c.in_ok-check_start.ensures.idle (subst (λ n. n + 1 < 2 ^ 64) last c.in_ok-check_start.ensures.fits) (subst (λ p. p < 2 ^ 64) (c.pair.ensures ∙ stands.journal.pair_is) c.new-session.ensures.fits) running kept))
+    (started c.args.self.now c.keep_session.new.self pair machine c.in_ok-check_start.ensures.idle (subst (λ n. n + 1 < 2 ^ 64) last c.in_ok-check_start.ensures.fits) (subst (λ p. p < 2 ^ 64) of_pair c.in_ok-session.ensures.fits) c.in_ok-session.session c.in_ok-keep_session.ensures.running begins kept))
 
-pub returns-in_err-sends-clause-refused : goal.returns-in_err-sends-clause-refused
-returns-in_err-sends-clause-refused g c pair machine stands =
-    refused_so (λ e. e ≢ Device → (first_cause (all_causes pair machine) ≡ Some (refusal_of e)) × Stands c.args.self.now pair machine) c.from_residual-in_err-sends.result _ c.from_residual-in_err-sends.ensures.1
-    (λ other. (then_memory (refusals_of pair machine) (c.in_ok-check_start.ensures.refused pair machine stands) ∙ ap (λ e. Some (refusal_of e)) (sym c.in_err-sends.ensures.memory), stands))
+pub returns-in_err-session-clause-refused : goal.returns-in_err-session-clause-refused
+returns-in_err-session-clause-refused g c pair machine stands =
+    refused_so (λ e. e ≢ Device → (first_cause (all_causes pair machine) ≡ Some (refusal_of e)) × Stands c.args.self.now pair machine) c.from_residual-in_err-session.result _ c.from_residual-in_err-session.ensures.1
+    (λ other. (then_memory (refusals_of pair machine) (c.in_ok-check_start.ensures.refused pair machine stands) ∙ ap (λ e. Some (refusal_of e)) (sym c.in_err-session.ensures.memory), stands))
 
 pub returns-in_err-push-clause-refused : goal.returns-in_err-push-clause-refused
 returns-in_err-push-clause-refused g c pair machine stands =
     refused_so (λ e. e ≢ Device → (first_cause (all_causes pair machine) ≡ Some (refusal_of e)) × Stands c.args.self.now pair machine) c.from_residual-in_err-push.result _ c.from_residual-in_err-push.ensures.1
     (λ other. (then_memory (refusals_of pair machine) (c.in_ok-check_start.ensures.refused pair machine stands), stands))
+
+pub returns-clause-allowed : goal.returns-clause-allowed
+returns-clause-allowed g c pair machine stands = c.in_ok-check_start.ensures.refused pair machine stands
+
+pub returns-in_err-keep_session-clause-allowed : goal.returns-in_err-keep_session-clause-allowed
+returns-in_err-keep_session-clause-allowed g c pair machine stands =
+    passed (λ e. e ≡ Device → first_cause (refusals_of pair machine) ≡ None) _ c.from_residual-in_err-keep_session.result _ c.from_residual-in_err-keep_session.ensures.1 (λ e. c.in_ok-check_start.ensures.refused pair machine stands)

@@ -1,0 +1,159 @@
+-- What becomes of a record that is due is a step of the session through its plan.
+use Rattle.std.proofs.Common.{◌≡◌, ◌≢◌, ℕ, true, false, List, [], ◌∷◌, ◌++◌, Option, Some, None, refl, sym, ap, ◌∙◌, subst, inr}
+use Rattle.std.specs.List.{slice_get}
+use Rattle.syn_archive.specs.declared.archive.Archive.{Archive}
+use Rattle.syn_disk.specs.declared.disk.Disk.{Ghosts}
+use Rattle.syn_headline.specs.Coordinator.{Advances, EndsFor, Exchange, HasNoRoom, IsDue, IsToKeep, Walk, past, making_room, plan_of, record_for, archive_layout}
+use Rattle.syn_headline.specs.Coordinator as model
+use Rattle.syn_headline.specs.Machine.{Up, Halted, Down, Status, has_room}
+use Rattle.syn_headline.specs.Network.{Which, Left, Right, other}
+use Rattle.syn_headline.specs.Planning.{Planned, seen_on, WritesTo}
+use Rattle.syn_headline.specs.Report.{is_record_of}
+use Rattle.syn_model.specs.Archive.{Kept, Recorded}
+use Rattle.syn_model.specs.Decision.{Item, ToLeft, ToRight, MarkSame, MarkDir, Conflict}
+use Rattle.syn_model.proofs.PathLemmas.{path_itself}
+use Rattle.syn_refusal.specs.declared.refusal.Refusal.TheVariants as refusal
+use Rattle.syn_session.specs.Machines.{Journal}
+use Rattle.syn_session.specs.declared.due.Due.{Due}
+use Rattle.syn_session.specs.inner.Advancing.{Advanced, kept_it, refused_it, ended, stopped}
+use Rattle.syn_session.specs.inner.Due as due
+use Rattle.syn_session.specs.inner.Due.{IsReady, MakesRoom, has_some, makes_some, Settles}
+use Rattle.syn_session.specs.inner.Recording.{IsOfItem}
+use Rattle.syn_session.specs.inner.Steps.{moves_on, moves_down}
+use Rattle.syn_session.proofs.DueLemmas.{ready_still}
+
+-- ---- which record is due
+
+-- what is due for an item is what is to be recorded for it
+pub record_due : (item : ℕ) (planned : Planned) (taken : Exchange) (kept : Kept) → IsDue item planned taken kept → record_for planned planned.item ≡ Some kept
+record_due item planned taken kept (model.done path since size is_done asked writes) = by planned.item taken.side writes
+  where
+    by : (item : Item) (side : Which) → WritesTo item side path → record_for planned item ≡ Some (Recorded path (seen_on planned (other side)).marks)
+    by (ToLeft at) Left same = ap (λ p. Some (Recorded p planned.right.marks)) same
+    by (ToRight at) Right same = ap (λ p. Some (Recorded p planned.left.marks)) same
+    by (ToLeft at) Right never = absurd never
+    by (ToRight at) Left never = absurd never
+    by (MarkSame at) side never = absurd never
+    by (MarkDir at) side never = absurd never
+    by (Conflict at) side never = absurd never
+record_due item planned taken kept (model.same path is same) = ap (record_for planned) is
+record_due item planned taken kept (model.directory path is) = ap (record_for planned) is
+
+-- and it is no session
+pub of_item : (planned : Planned) (item : Item) (kept : Kept) → record_for planned item ≡ Some kept → IsOfItem kept
+of_item planned item kept e = by item e
+  where
+    is_item : Option Kept → Type 0
+    is_item None = Unit {0}
+    is_item (Some kept) = IsOfItem kept
+
+    by : (item : Item) → record_for planned item ≡ Some kept → IsOfItem kept
+    by (ToLeft path) e = subst is_item e tt
+    by (ToRight path) e = subst is_item e tt
+    by (MarkSame path) e = subst is_item e tt
+    by (MarkDir path) e = subst is_item e tt
+    by (Conflict path) e = subst is_item e tt
+
+-- and is counted for its item
+pub record_is : (planned : Planned) (item : Item) (kept : Kept) → record_for planned item ≡ Some kept → is_record_of item kept ≡ true
+record_is planned item kept e = by item e
+  where
+    is_of : Item → Option Kept → Type 0
+    is_of item None = Unit {0}
+    is_of item (Some kept) = is_record_of item kept ≡ true
+
+    by : (item : Item) → record_for planned item ≡ Some kept → is_record_of item kept ≡ true
+    by (ToLeft path) e = subst (is_of (ToLeft path)) e (path_itself path)
+    by (ToRight path) e = subst (is_of (ToRight path)) e (path_itself path)
+    by (MarkSame path) e = subst (is_of (MarkSame path)) e (path_itself path)
+    by (MarkDir path) e = subst (is_of (MarkDir path)) e (path_itself path)
+    by (Conflict path) e = subst (is_of (Conflict path)) e tt
+
+-- ---- one walk after another
+
+module _ (pair : ℕ) (plan : List Planned) (taken : Exchange) where
+  -- where the status stays a walk goes on from where it came to
+  pub goes_further : (first middle last : Walk) (before behind : List Kept) → Advances pair plan taken first before middle → middle.journal.status ≡ first.journal.status → Advances pair plan taken middle behind last → Advances pair plan taken first (before ++ behind) last
+  goes_further first middle last before behind (model.stands walk) same rest = rest
+  goes_further first middle last before behind (model.conflicts walk later kept planned path fresh at is more) same rest =
+      model.conflicts walk last (kept ++ behind) planned path fresh at is (goes_further _ _ last kept behind more same rest)
+  goes_further first middle last before behind (model.side_refuses walk later kept planned why fresh at refused for more) same rest =
+      model.side_refuses walk last (kept ++ behind) planned why fresh at refused for (goes_further _ _ last kept behind more same rest)
+  goes_further first middle last before behind (model.archive_refuses walk later kept planned what why fresh at is up refused more) same rest =
+      model.archive_refuses walk last (kept ++ behind) planned what why fresh at is up refused (goes_further _ _ last kept behind more same rest)
+  goes_further first middle last before behind (model.no_checkpoint walk later kept what fresh full greatest more) same rest =
+      model.no_checkpoint walk last (kept ++ behind) what fresh full greatest (goes_further _ _ last kept behind more same rest)
+  goes_further first middle last before behind (model.checkpoints walk later kept what journal fresh full less compacts up more) same rest =
+      model.checkpoints walk last (kept ++ behind) what journal fresh full less compacts up (goes_further _ _ last kept behind more (same ∙ (full.to_keep.up ∙ sym up)) rest)
+  goes_further first middle last before behind (model.checkpoint_breaks walk what journal fresh full less compacts broken) same rest = absurd (broken (same ∙ full.to_keep.up))
+  goes_further first middle last before behind (model.keeps walk later what kept journal keep room kept_so up more) same rest =
+      model.keeps walk last what (kept ++ behind) journal keep room kept_so up (goes_further _ _ last kept behind more (same ∙ (keep.up ∙ sym up)) rest)
+  goes_further first middle last before behind (model.record_breaks walk what kept journal keep room kept_so broken) same rest = absurd (broken (same ∙ keep.up))
+
+not_up : {s : Status} → s ≡ Down → s ≢ Up
+not_up down up = cc
+
+halted_not_up : {s : Status} → s ≡ Halted → s ≢ Up
+halted_not_up halted up = cc
+
+-- ---- a step
+
+module _ {D : Type 0} {disk : Ghosts D} (new : Archive D disk) (pair : ℕ) (plan : List Planned) (taken : Exchange) (walk : Walk) (planned : Planned) (what : Kept)
+    (fresh : walk.made_room ≡ false) (at : slice_get plan walk.cursor ≡ Some planned) (is_due : IsDue walk.cursor planned taken what) where
+  to_keep : IsReady walk.journal what → IsToKeep plan taken walk what
+  to_keep ready = record { planned = planned; at = at; due = is_due; can = ready.can; up = ready.up }
+
+  no_room : IsReady walk.journal what → has_room (archive_layout pair) walk.journal what ≡ false → HasNoRoom pair plan taken walk what
+  no_room ready none = record { to_keep = to_keep ready; no_room = none }
+
+  room_made : IsReady walk.journal what → (between : Journal) → MakesRoom pair walk.journal what true between → IsToKeep plan taken (making_room walk between) what
+  room_made ready between (makes_some now none less compacts up) =
+      let still = ready_still new pair walk.journal what ready now compacts up in
+      record { planned = planned; at = at; due = is_due; can = still.can; up = still.up }
+
+  behind_room : IsReady walk.journal what → (between : Journal) → MakesRoom pair walk.journal what true between → (kept : List Kept) (later : Walk) → Advances pair plan taken (making_room walk between) kept later → Advances pair plan taken walk kept later
+  behind_room ready between (makes_some now none less compacts up) kept later more = model.checkpoints walk later kept what now fresh (no_room ready none) less compacts up more
+
+  pub advanced : (became : Due) → Settles new pair walk.journal what became → Advanced new pair plan taken walk planned what became
+  unfolding no_room to_keep
+  advanced became (due.recorded false between ready (has_some enough) has (moves_on journal keeps up is)) =
+      kept_it journal (model.keeps walk (past walk journal) what [] journal (to_keep ready) has keeps up (model.stands (past walk journal))) up is
+  advanced became (due.recorded true between ready room has (moves_on journal keeps up is)) =
+      kept_it journal (behind_room ready between room (what ∷ []) (past walk journal)
+      (model.keeps (making_room walk between) (past walk journal) what [] journal (room_made ready between room) has keeps up (model.stands (past walk journal)))) up is
+  advanced became (due.recorded false between ready (has_some enough) has (moves_down journal keeps cut down leaves)) =
+      stopped _ (record walk { journal = journal }) (model.record_breaks walk what (what ∷ []) journal (to_keep ready) has keeps (not_up down)) down cut leaves
+  advanced became (due.recorded true between ready room has (moves_down journal keeps cut down leaves)) =
+      stopped _ (record (making_room walk between) { journal = journal }) (behind_room ready between room (what ∷ []) (record (making_room walk between) { journal = journal })
+      (model.record_breaks (making_room walk between) what (what ∷ []) journal (room_made ready between room) has keeps (not_up down))) down cut leaves
+  advanced became (due.archive_refuses why up refused is) =
+      refused_it why (model.archive_refuses walk _ [] planned what _ fresh at (record_due walk.cursor planned taken what is_due) (inr up) refused (model.stands _)) is
+  advanced became (due.no_checkpoint ready none last is) =
+      refused_it refusal.Full (model.no_checkpoint walk _ [] what fresh (no_room ready none) last (model.stands _)) is
+  advanced became (due.failed_before halted is) =
+      ended refusal.Halted walk (model.stands walk) refl refl
+      (λ running same. model.failed_before planned what (subst (λ p. slice_get p walk.cursor ≡ Some planned) (sym same) at) is_due halted halted) is
+  advanced became (due.checkpoint_breaks ready none less (moves_on journal compacts halted is)) =
+      ended refusal.Device (record walk { journal = journal }) (model.checkpoint_breaks walk what journal fresh (no_room ready none) less compacts (halted_not_up halted)) refl refl
+      (λ running same. model.fails ready.up halted) is
+  advanced became (due.checkpoint_breaks ready none less (moves_down journal compacts cut down leaves)) =
+      stopped _ (record walk { journal = journal }) (model.checkpoint_breaks walk what journal fresh (no_room ready none) less compacts (not_up down)) down cut leaves
+  advanced became (due.record_breaks false between ready (has_some enough) has (moves_on journal keeps halted is)) =
+      ended refusal.Device (record walk { journal = journal }) (model.record_breaks walk what [] journal (to_keep ready) has keeps (halted_not_up halted)) refl refl
+      (λ running same. model.fails ready.up halted) is
+  advanced became (due.record_breaks true between ready room has (moves_on journal keeps halted is)) =
+      ended refusal.Device (record (making_room walk between) { journal = journal }) (behind_room ready between room [] (record (making_room walk between) { journal = journal })
+      (model.record_breaks (making_room walk between) what [] journal (room_made ready between room) has keeps (halted_not_up halted))) refl refl
+      (λ running same. model.fails ready.up halted) is
+  advanced became (due.record_breaks false between ready (has_some enough) has (moves_down journal keeps cut down leaves)) =
+      stopped _ (record walk { journal = journal }) (model.record_breaks walk what [] journal (to_keep ready) has keeps (not_up down)) down cut leaves
+  advanced became (due.record_breaks true between ready room has (moves_down journal keeps cut down leaves)) =
+      stopped _ (record (making_room walk between) { journal = journal }) (behind_room ready between room [] (record (making_room walk between) { journal = journal })
+      (model.record_breaks (making_room walk between) what [] journal (room_made ready between room) has keeps (not_up down))) down cut leaves
+  advanced became (due.no_room_left between ready room none is) =
+      ended refusal.JournalFull (making_room walk between) (behind_room ready between room [] (making_room walk between) (model.stands (making_room walk between))) refl refl
+      (λ running same. model.no_room_left what (subst (λ p. HasNoRoom pair p taken (making_room walk between) what) (sym same) (record { to_keep = room_made ready between room; no_room = none })) refl) is
+  advanced became (due.no_memory is) = ended refusal.Memory walk (model.stands walk) refl refl (λ running same. model.no_memory refl) is
+  advanced became (due.no_memory_behind between ready room is) =
+      ended refusal.Memory (making_room walk between) (behind_room ready between room [] (making_room walk between) (model.stands (making_room walk between))) refl refl
+      (λ running same. model.no_memory ((room_made ready between room).up ∙ sym ready.up)) is

@@ -1,0 +1,28 @@
+use Rattle.std.proofs.Common.{◌≡◌, [], refl}
+use Rattle.syn_headline.specs.Network.{Which, Left, Right}
+use Rattle.syn_session.specs.Scanning.{IsFoundIn, found_of}
+use Rattle.syn_session.specs.declared.line.Line.{Line}
+use Rattle.syn_session.specs.declared.session.Session.{Session}
+use Rattle.syn_session.specs.inner.Sessions.{begin_of, waiting_of}
+use Rattle.syn_session.specs.inner.Stages.{line_of}
+use Rattle.syn_session.proofs.SessionLemmas.{session_begins}
+use Rattle.syn_session.proofs.session.Session.new.Goals as goal
+
+pub returns-clause-begun : goal.returns-clause-begun
+returns-clause-begun c archive = session_begins archive _ c.args.number c.args.pair refl c.ranges.number.fits refl refl waits asked found
+  where
+    line : Which → Line
+    line Left = c.in_ok-left.left
+    line Right = c.in_ok-right.right
+
+    waits : (side : Which) → waiting_of (line side).waiting ≡ begin_of c.args.pair
+    waits Left = c.in_ok-left.ensures.waits
+    waits Right = c.in_ok-right.ensures.waits
+
+    asked : (side : Which) → (line side).asked ≡ 1
+    asked Left = c.in_ok-left.ensures.asked
+    asked Right = c.in_ok-right.ensures.asked
+
+    found : (side : Which) → IsFoundIn (found_of (line side).scan) side []
+    found Left = c.in_ok-left.ensures.found Left
+    found Right = c.in_ok-right.ensures.found Right

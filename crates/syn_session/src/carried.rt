@@ -1,0 +1,83 @@
+//! What is carried for an item of the plan.
+ghost use Rattle.std.specs.Prelude.{◌≡◌, IfErr, IfOk};
+ghost use Rattle.syn_model.specs.Archive.{Recorded};
+ghost use Rattle.syn_model.specs.Path.{parent};
+ghost use Rattle.syn_mark.specs.Marks.{or_absent};
+ghost use Rattle.syn_model.specs.Tree.{subtree};
+ghost use Rattle.syn_propagate.specs.Transfers.{IsReady, carriage_of};
+ghost use Rattle.syn_scan.specs.Found.{position_of};
+ghost use Rattle.syn_wire.specs.Marks.{kept_of};
+
+use crate::course::Carried;
+use crate::error::SessionError;
+use std::alloc::Global;
+use syn_mark::MarkTree;
+use syn_message::Side;
+use syn_path::Path;
+use syn_propagate::{Carriage, Transfer};
+use syn_scan::Scan;
+use syn_wire::Kept;
+
+impl Carried {
+    /// What stands at the path on the source is carried to the other side, for the item with this
+    /// number. Refused 11 where memory is refused.
+    pub(crate) fn new(
+        alloc: Global,
+        source: Side,
+        item: u32,
+        path: &Path,
+        from: &Scan,
+        to: &Scan,
+    ) -> Result<Carried, SessionError>
+        ensures item { IfOk result (λ carried. (carriage_of carried.transfer).item ≡ item) }
+        ensures source { IfOk result (λ carried. (carriage_of carried.transfer).source ≡ source) }
+        ensures path { IfOk result (λ carried. (carriage_of carried.transfer).path ≡ path.now) }
+        ensures source_since { IfOk result (λ carried.
+            (carriage_of carried.transfer).source_since ≡ position_of from.now (parent path.now)) }
+        ensures target_since { IfOk result (λ carried.
+            (carriage_of carried.transfer).target_since ≡ position_of to.now (parent path.now)) }
+        ensures record { IfOk result (λ carried. kept_of carried.record
+            ≡ Recorded path.now (subtree from.now.marks path.now)) }
+        ensures ready { IfOk result (λ carried. IsReady carried.transfer) }
+        ensures memory { IfErr result (λ e. e ≡ SessionError.Memory) }
+    {
+        let marks = copy_marks(alloc, from, path)?;
+        let carriage = Carriage {
+            source,
+            item,
+            path: copy_path(alloc, path)?,
+            source_since: from.position(path),
+            target_since: to.position(path),
+        };
+        Ok(Carried {
+            transfer: Transfer::new(carriage),
+            record: Kept::Record(copy_path(alloc, path)?, marks),
+        })
+    }
+}
+
+/// The marks at and below the path, or that nothing is there. Refused 11 where memory is refused.
+pub(crate) fn copy_marks(
+    alloc: Global,
+    from: &Scan,
+    path: &Path,
+) -> Result<Option<MarkTree>, SessionError>
+    ensures ok { IfOk result (λ marks. or_absent marks ≡ subtree from.now.marks path.now) }
+    ensures memory { IfErr result (λ e. e ≡ SessionError.Memory) }
+{
+    match from.tree().subtree(alloc, path) {
+        Ok(marks) => Ok(marks),
+        Err(_) => Err(SessionError::Memory),
+    }
+}
+
+/// The path once more. Refused 11 where memory is refused.
+pub(crate) fn copy_path(alloc: Global, path: &Path) -> Result<Path, SessionError>
+    ensures ok { IfOk result (λ copy. copy ≡ path.now) }
+    ensures memory { IfErr result (λ e. e ≡ SessionError.Memory) }
+{
+    match path.copy(alloc) {
+        Ok(path) => Ok(path),
+        Err(_) => Err(SessionError::Memory),
+    }
+}

@@ -1,0 +1,75 @@
+//! How a session goes through its plan.
+ghost use Rattle.std.specs.Prelude.{◌≡◌, IfErr, IfOk};
+ghost use Rattle.syn_model.specs.Plan.{plan};
+ghost use Rattle.syn_recon.specs.Items.{items_of};
+ghost use Rattle.syn_scan.specs.Found.{scan_of};
+
+use crate::error::SessionError;
+use std::alloc::Global;
+use syn_mark::MarkTree;
+use syn_path::Path;
+use syn_propagate::Transfer;
+use syn_recon::{Item, plan};
+use syn_refusal::Refusal;
+use syn_scan::Scan;
+use syn_wire::Kept;
+
+/// A plan of more items than this is refused.
+const MAX_ITEMS: usize = 0xffff_ffff;
+
+/// What is carried for an item, and what the archive is to have once that is done.
+#[derive(Debug, Drop)]
+pub(crate) struct Carried {
+    pub(crate) transfer: Transfer,
+    pub(crate) record: Kept,
+}
+
+/// The plan of a session, the item that it has come to, and what became of those before.
+#[derive(Debug, Drop)]
+pub(crate) struct Course {
+    pub(crate) items: Vec<Item>,
+    pub(crate) cursor: usize,
+    /// What is carried for the item at the cursor, while the session waits for an answer.
+    pub(crate) carried: Option<Carried>,
+    /// How many items were carried to the other side and recorded.
+    pub(crate) done: u32,
+    /// How many items were recorded since both sides agreed already.
+    pub(crate) marked: u32,
+    pub(crate) conflicts: Vec<Path>,
+    pub(crate) refused: Vec<(Refusal, Path)>,
+}
+
+impl Course {
+    ghost use Rattle.syn_session.specs.inner.Stages.{IsCourse, plan_in};
+    ghost use Rattle.syn_session.specs.inner.Walking.{first_reached};
+
+    /// The plan of two scans and the archive, of which nothing is carried out yet. Refused 11 where
+    /// memory is refused, or where the plan has 2^32 items or more.
+    pub(crate) fn new(
+        alloc: Global,
+        left: &Scan,
+        right: &Scan,
+        archive: &MarkTree,
+    ) -> Result<Course, SessionError>
+        ensures begun { IfOk result (λ course. IsCourse course left.now right.now
+            (first_reached (plan_in course left.now right.now))) }
+        ensures items { IfOk result (λ course. items_of course.items.items
+            ≡ plan (scan_of left.now) (scan_of right.now) archive.now) }
+        ensures cursor { IfOk result (λ course. course.cursor ≡ 0) }
+        ensures memory { IfErr result (λ e. e ≡ SessionError.Memory) }
+    {
+        let items = plan(alloc, left, right, archive)?;
+        if items.len() > MAX_ITEMS {
+            return Err(SessionError::Memory);
+        }
+        Ok(Course {
+            items,
+            cursor: 0,
+            carried: None,
+            done: 0,
+            marked: 0,
+            conflicts: Vec::new(alloc),
+            refused: Vec::new(alloc),
+        })
+    }
+}

@@ -1,0 +1,63 @@
+//! What is to be done for an item of the plan.
+ghost use Rattle.std.specs.Prelude.{◌≡◌, IfErr, IfOk};
+ghost use Rattle.syn_recon.specs.Items.{item_of};
+ghost use Rattle.syn_session.specs.inner.Doings.{IsDoingFor, IsMarked};
+
+use crate::carried::{copy_marks, copy_path};
+use crate::course::Carried;
+use crate::error::SessionError;
+use std::alloc::Global;
+use syn_message::Side;
+use syn_path::Path;
+use syn_recon::Item;
+use syn_scan::Scan;
+use syn_wire::Kept;
+
+/// What is to be done for the item that a session has come to.
+#[derive(Debug, Drop)]
+pub(crate) enum Doing {
+    /// No item is left.
+    Nothing,
+    /// Both sides changed there: nothing is done.
+    Conflict(Path),
+    /// The archive is to have what both sides have.
+    Mark(Kept),
+    /// A side is to have what the other has.
+    Carry(Carried),
+}
+
+/// What is to be done for the item with this number. Refused 11 where memory is refused.
+pub(crate) fn doing_for(
+    alloc: Global,
+    item: &Item,
+    number: u32,
+    left: &Scan,
+    right: &Scan,
+) -> Result<Doing, SessionError>
+    ensures ok { IfOk result (IsDoingFor (item_of item.now) number left.now right.now) }
+    ensures memory { IfErr result (λ e. e ≡ SessionError.Memory) }
+{
+    match item {
+        Item::Conflict(path) => Ok(Doing::Conflict(copy_path(alloc, path)?)),
+        Item::MarkSame(path) => mark(alloc, path, left),
+        Item::MarkDir(path) => Ok(Doing::Mark(Kept::Dir(copy_path(alloc, path)?))),
+        Item::ToLeft(path) => {
+            let carried = Carried::new(alloc, Side::Right, number, path, right, left)?;
+            Ok(Doing::Carry(carried))
+        }
+        Item::ToRight(path) => {
+            let carried = Carried::new(alloc, Side::Left, number, path, left, right)?;
+            Ok(Doing::Carry(carried))
+        }
+    }
+}
+
+/// The archive is to have what both sides have at the path. Refused 11 where memory is refused.
+fn mark(alloc: Global, path: &Path, left: &Scan) -> Result<Doing, SessionError>
+    ensures ok { IfOk result (IsMarked path.now left.now) }
+    ensures memory { IfErr result (λ e. e ≡ SessionError.Memory) }
+{
+    let marks = copy_marks(alloc, left, path)?;
+    let copy = copy_path(alloc, path)?;
+    Ok(Doing::Mark(Kept::Record(copy, marks)))
+}

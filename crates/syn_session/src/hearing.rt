@@ -1,0 +1,148 @@
+//! What a session that scans comes to with an answer.
+ghost use Rattle.std.specs.Prelude.{◌≡◌, ℕ, None, Some, IfErr, IfNone, IfOk, IfSome, MatchResult};
+ghost use Rattle.std.specs.Prelude.{is_some};
+ghost use Rattle.syn_headline.specs.Coordinator.{Running};
+ghost use Rattle.syn_headline.specs.Network.{Which, other};
+ghost use Rattle.syn_headline.specs.Session.{fault_of};
+ghost use Rattle.syn_headline.specs.Side.{Begin, Begun, ListAt};
+ghost use Rattle.syn_message.specs.Replies.{IsLawfulReply, reply_of};
+ghost use Rattle.syn_message.specs.Requests.{request_of};
+ghost use Rattle.syn_message.specs.Sides.{which_of};
+ghost use Rattle.syn_model.specs.Archive.{Archive as Keeping};
+ghost use Rattle.syn_refusal.specs.Refusals.{cause_of};
+ghost use Rattle.syn_session.specs.Scanning.{Exchanges};
+
+use crate::error::SessionError;
+use crate::session::{Asks, Session, is_no_directory};
+use std::alloc::Global;
+use syn_message::{Reply, Request, Side};
+use syn_path::Path;
+use syn_refusal::Refusal;
+
+impl Session {
+    ghost use Rattle.syn_session.specs.declared.session.Session.{Session as Ran};
+    ghost use Rattle.syn_session.specs.inner.Answering.{IsAnswering, IsListed, KeepsFound};
+    ghost use Rattle.syn_session.specs.inner.Answering.{ListsOn};
+    ghost use Rattle.syn_session.specs.inner.Hearing.{Hears};
+    ghost use Rattle.syn_session.specs.inner.Sessions.{IsSession};
+    ghost use Rattle.syn_session.specs.inner.Stages.{line_of};
+
+    /// What is listed next; none where nothing waits and each directory was answered. Refused 11
+    /// where memory is refused.
+    fn scan_on(&mut self, alloc: Global) -> Result<Option<Asks>, SessionError>
+        ensures some { IfOk result (λ next. IfSome next (ListsOn self.old self.new)) }
+        ensures none { IfOk result (λ next. IfNone next (IsListed self.new)) }
+        ensures same { KeepsFound self.old self.new }
+        ensures memory { IfErr result (λ e. e ≡ SessionError.Memory) }
+    {
+        let asks = self.next_listings(alloc)?;
+        if asks.left.is_some() || asks.right.is_some() {
+            return Ok(Some(asks));
+        }
+        if self.left.waiting.is_some() || self.right.waiting.is_some() {
+            return Ok(Some(asks));
+        }
+        Ok(None)
+    }
+
+    /// Takes it that a side answered the begin.
+    fn hear_begun(
+        &mut self,
+        alloc: Global,
+        from: Side,
+        reply: Reply,
+    ) -> Result<Option<Asks>, Refusal>
+        ensures step { (archive : Keeping) (before : Ran) (running : Running) (number pair : ℕ)
+            → IsSession archive before running
+            → IsAnswering before self.old (which_of from) number (Begin pair)
+            → before.course ≡ None
+            → Hears self.new running (which_of from) number (Begin pair) (reply_of reply) result }
+    {
+        check_begun(reply)?;
+        if self.waits_across(from) {
+            return Ok(Some(Asks {
+                left: None,
+                right: None,
+            }));
+        }
+        match self.scan_on(alloc) {
+            Ok(next) => Ok(next),
+            Err(_) => Err(Refusal::Memory),
+        }
+    }
+
+    /// Takes it that a side answered the listing.
+    fn hear_listed(
+        &mut self,
+        alloc: Global,
+        from: Side,
+        path: &Path,
+        reply: Reply,
+    ) -> Result<Option<Asks>, Refusal>
+        requires lawful { IsLawfulReply (reply_of reply) }
+        ensures step { (archive : Keeping) (before : Ran) (running : Running) (number : ℕ)
+            → IsSession archive before running
+            → IsAnswering before self.old (which_of from) number (ListAt path.now)
+            → before.course ≡ None
+            → Hears self.new running (which_of from) number (ListAt path.now) (reply_of reply)
+            result }
+    {
+        let is_no_directory = is_no_directory(&reply);
+        self.take_listing(alloc, from, path, reply)?;
+        self.count_unstable(is_no_directory);
+        match self.scan_on(alloc) {
+            Ok(next) => Ok(next),
+            Err(_) => Err(Refusal::Memory),
+        }
+    }
+
+    /// Whether a request waits on the other side.
+    fn waits_across(&self, side: Side) -> bool
+        ensures { result ≡ is_some (line_of self.now (other (which_of side))).waiting }
+    {
+        match side {
+            Side::Left => self.right.waiting.is_some(),
+            Side::Right => self.left.waiting.is_some(),
+        }
+    }
+
+    /// Takes the answer of a side to what a session asks before it has its plan. It gives what is
+    /// asked next; none where each directory of both sides was answered.
+    ///
+    /// Refused where the answer ends the session, and 11 where memory is refused.
+    pub(crate) fn hear(
+        &mut self,
+        alloc: Global,
+        from: Side,
+        request: Request,
+        reply: Reply,
+    ) -> Result<Option<Asks>, Refusal>
+        requires lawful { IsLawfulReply (reply_of reply) }
+        ensures step { (archive : Keeping) (before : Ran) (running : Running) (number : ℕ)
+            → IsSession archive before running
+            → IsAnswering before self.old (which_of from) number (request_of request)
+            → before.course ≡ None
+            → Hears self.new running (which_of from) number (request_of request) (reply_of reply)
+            result }
+    {
+        match request {
+            Request::Begin { pair: _ } => self.hear_begun(alloc, from, reply),
+            Request::List { path } => self.hear_listed(alloc, from, &path, reply),
+            _ => Err(Refusal::BadMessage),
+        }
+    }
+}
+
+/// The session has begun on the side. Refused as the side refuses it, and 23 for another answer.
+fn check_begun(reply: Reply) -> Result<(), Refusal>
+    ensures { (taken : Exchanges) (side : Which) (pair : ℕ) → MatchResult result
+        (λ _. (fault_of taken side (Begin pair) (reply_of reply) ≡ None)
+        × (position : ℕ) × (reply_of reply ≡ Begun position))
+        (λ e. fault_of taken side (Begin pair) (reply_of reply) ≡ Some (cause_of e)) }
+{
+    match reply {
+        Reply::Begun { position: _ } => Ok(()),
+        Reply::Refused(why) => Err(why),
+        _ => Err(Refusal::BadMessage),
+    }
+}

@@ -1,0 +1,101 @@
+//! How a session goes past the items of its plan.
+ghost use Rattle.std.specs.Prelude.{◌≡◌, ◌+◌, ◌<◌, ◌^◌, Some, IfErr, OnErr, OnOk, false};
+ghost use Rattle.std.specs.Prelude.{slice_get, true};
+ghost use Rattle.syn_headline.specs.Planning.{Planned};
+ghost use Rattle.syn_headline.specs.Report.{conflict_at, is_carrying};
+ghost use Rattle.syn_headline.specs.Session.{record_for};
+ghost use Rattle.syn_model.specs.Archive.{Kept};
+ghost use Rattle.syn_model.specs.Decision.{Conflict, path_of};
+ghost use Rattle.syn_refusal.specs.Refusals.{cause_of};
+ghost use Rattle.syn_scan.specs.Found.{Found};
+
+use crate::course::Course;
+use crate::error::SessionError;
+use syn_model::plan_laws;
+use syn_path::Path;
+use syn_refusal::Refusal;
+
+impl Course {
+    ghost use Rattle.std.specs.Prelude.{None};
+    ghost use Rattle.syn_session.specs.inner.Advancing.{kept_at, past_at, refused_at};
+    ghost use Rattle.syn_session.specs.inner.Stages.{IsCourse, Reached, plan_in};
+
+    /// Past an item that is a conflict. Refused 11 where memory is refused.
+    pub(crate) fn pass_conflict(&mut self, path: Path) -> Result<(), SessionError>
+        ensures passes { (left right : Found) (reached : Reached) (planned : Planned)
+            → IsCourse self.old left right reached
+            → slice_get (plan_in self.old left right) self.old.cursor ≡ Some planned
+            → planned.item ≡ Conflict path
+            → OnOk result (IsCourse self.new left right (past_at reached)) }
+        ensures stays { (left right : Found) (reached : Reached)
+            → IsCourse self.old left right reached
+            → OnErr result (IsCourse self.new left right reached) }
+        ensures memory { IfErr result (λ e. e ≡ SessionError.Memory) }
+    {
+        self.conflicts.push(path)?;
+        self.cursor = next_place(self.cursor);
+        Ok(())
+    }
+
+    /// Past an item that is refused so. Refused 11 where memory is refused.
+    pub(crate) fn pass_refused(&mut self, why: Refusal, path: Path) -> Result<(), SessionError>
+        ensures passes { (left right : Found) (reached : Reached) (planned : Planned)
+            → IsCourse self.old left right reached
+            → slice_get (plan_in self.old left right) self.old.cursor ≡ Some planned
+            → path_of planned.item ≡ path → conflict_at planned.item ≡ None
+            → OnOk result (IsCourse self.new left right
+            (refused_at reached (cause_of why) planned)) }
+        ensures stays { (left right : Found) (reached : Reached)
+            → IsCourse self.old left right reached
+            → OnErr result (IsCourse self.new left right reached) }
+        ensures memory { IfErr result (λ e. e ≡ SessionError.Memory) }
+    {
+        self.refused.push((why, path))?;
+        self.cursor = next_place(self.cursor);
+        Ok(())
+    }
+
+    /// Past an item that was carried, and whose record is kept.
+    pub(crate) fn pass_carried(&mut self)
+        ensures passes { (left right : Found) (reached : Reached) (planned : Planned) (what : Kept)
+            → IsCourse self.old left right reached
+            → slice_get (plan_in self.old left right) self.old.cursor ≡ Some planned
+            → record_for planned planned.item ≡ Some what → is_carrying planned.item ≡ true
+            → IsCourse self.new left right (kept_at reached what) }
+    {
+        plan_laws();
+        self.done = next_count(self.done);
+        self.cursor = next_place(self.cursor);
+    }
+
+    /// Past an item that both sides agreed on, and whose record is kept.
+    pub(crate) fn pass_marked(&mut self)
+        ensures passes { (left right : Found) (reached : Reached) (planned : Planned) (what : Kept)
+            → IsCourse self.old left right reached
+            → slice_get (plan_in self.old left right) self.old.cursor ≡ Some planned
+            → record_for planned planned.item ≡ Some what → is_carrying planned.item ≡ false
+            → IsCourse self.new left right (kept_at reached what) }
+    {
+        plan_laws();
+        self.marked = next_count(self.marked);
+        self.cursor = next_place(self.cursor);
+    }
+}
+
+/// One more, as far as that fits.
+fn next_count(count: u32) -> u32
+    ensures { count + 1 < 2 ^ 32 → result ≡ count + 1 }
+{
+    if count == u32::MAX { count } else { count + 1 }
+}
+
+/// The next place, as far as that fits.
+fn next_place(place: usize) -> usize
+    ensures { place < 2 ^ 32 → result ≡ place + 1 }
+{
+    if place == usize::MAX {
+        place
+    } else {
+        place + 1
+    }
+}
