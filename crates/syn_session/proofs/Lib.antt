@@ -23,3 +23,4 @@ pub mod WalkLemmas
 pub mod CourseLemmas
 pub mod FreshLemmas
 pub mod CarryLemmas
+pub mod DoingLemmas
