@@ -1,5 +1,5 @@
 -- What a record that is due for an item of a plan becomes, and where its session is then.
-use Rattle.std.proofs.Common.{◌≡◌, ℕ, suc, Bool, true, false, List, [], ◌∷◌, ◌++◌, Some, None, length, get_or, ◌<◌, refl, sym, ap, ◌∙◌, subst, inl, inr}
+use Rattle.std.proofs.Common.{◌≡◌, ℕ, suc, Bool, true, false, List, [], ◌∷◌, ◌++◌, Option, Some, None, length, get_or, ◌<◌, refl, sym, ap, ◌∙◌, subst, inl, inr}
 use Rattle.std.specs.List.{slice_get}
 use Rattle.std.specs.Option.{option_map_or}
 use Rattle.std.proofs.lemmas.Bool.{false≢true}
@@ -12,7 +12,16 @@ use Rattle.syn_disk.specs.declared.disk.Disk.{Ghosts}
 use Rattle.syn_headline.specs.Coordinator.{Advances, Exchange, IsDue, Running, plan_of, stands, no_memory}
 use Rattle.syn_headline.specs.Machine.{Up}
 use Rattle.syn_headline.specs.Planning.{Planned}
-use Rattle.syn_model.specs.Archive.{Kept}
+use Rattle.syn_headline.specs.Session.{record_for}
+use Rattle.syn_model.specs.Archive as model
+use Rattle.syn_model.specs.Archive.{Kept, kept_refusal}
+use Rattle.syn_model.specs.Plan.{PlanIsOrderly}
+use Rattle.syn_propagate.specs.Carrying.{IsFresh}
+use Rattle.syn_propagate.specs.Transfers.{carriage_of}
+use Rattle.syn_propagate.specs.declared.transfer.Transfer.{Transfer}
+use Rattle.syn_wire.specs.Marks.{kept_of}
+use Rattle.syn_session.specs.declared.course.Carried.{Carried}
+use Rattle.syn_session.proofs.FreshLemmas.{asked_past, is_fresh}
 use Rattle.syn_recon.specs.Items.{item_of, items_of}
 use Rattle.syn_recon.specs.declared.item.Item.{Item}
 use Rattle.syn_refusal.specs.Refusals.{cause_of}
@@ -28,11 +37,11 @@ use Rattle.syn_session.specs.declared.report.Ended.TheVariants.{Early}
 use Rattle.syn_session.specs.inner.Advancing.{Advanced, ended, kept_at, kept_by, kept_it, refused_at, refused_it, stopped}
 use Rattle.syn_session.specs.inner.Due.{Settles, recorded}
 use Rattle.syn_session.specs.inner.Plans.{planned_all}
-use Rattle.syn_session.specs.inner.Stages.{IsCourse, Reached, plan_in}
+use Rattle.syn_session.specs.inner.Stages.{AreAskedBefore, Carries, IsCarriageOf, IsCarriedFor, IsCourse, Reached, plan_in}
 use Rattle.syn_session.specs.inner.Walking.{Comes, Ends, HasKept, Passes, ends, ended_by, goes_down, plan_at, walk_at}
 use Rattle.syn_session.proofs.AdvanceLemmas.{advanced}
 use Rattle.syn_session.proofs.DueLemmas.{when_up}
-use Rattle.syn_session.proofs.PlanLemmas.{item_at}
+use Rattle.syn_session.proofs.PlanLemmas.{item_at, named_once}
 use Rattle.syn_session.proofs.WalkLemmas.{ends_at, keeps_none, passes_by}
 
 -- the item that stands at a place of a plan
@@ -106,3 +115,43 @@ module _ {D : Type 0} {disk : Ghosts D} (new : Archive D disk) (pair : ℕ) (tak
 
       pub is_ended : (why : Refusal) → Settles new pair journal what (due.Ends why) → Ends new pair taken journal before [] course left right (Early why)
       is_ended why settles = ends_at pair taken journal before new planned what course left right why is (became (due.Ends why) settles)
+
+-- ---- what is carried
+
+-- whatever is carried, the course is the same
+pub carrying_more : (course : Course) (carried : Option Carried) (left right : Found) (reached : Reached) → IsCourse course left right reached → IsCourse (record course { carried = carried }) left right reached
+carrying_more course carried left right reached is = record {
+  plan = is.plan;
+  made = is.made;
+  short = is.short;
+  cursor = is.cursor;
+  recorded = is.recorded;
+  done = is.done;
+  marked = is.marked;
+  conflicts = is.conflicts;
+  refused = is.refused;
+}
+
+-- nothing was asked yet for what is carried
+pub fresh_for : PlanIsOrderly → (archive : model.Archive) (course : Course) (left right : Found) (reached : Reached) (is : IsCourse course left right reached) (planned : Planned) (at : slice_get (plan_in course left right) course.cursor ≡ Some planned) (carried : Carried) → IsCarriedFor archive carried planned course.cursor → (all : List Exchange) → AreAskedBefore (plan_in course left right) course.cursor all → IsFresh (carriage_of carried.transfer) all
+fresh_for orderly archive course left right reached is planned at carried carries all asked =
+    is_fresh (plan_in course left right) (named_once left right is.made.0 (items_of course.items.items) is.made.1 orderly) course.cursor planned at (carriage_of carried.transfer) carries.carriage.item_is carries.carriage.path_is all asked
+
+-- it asks for what is carried
+pub carries_on : (archive : model.Archive) (course : Course) (left right : Found) (reached : Reached) → IsCourse course left right reached → (planned : Planned) → slice_get (plan_in course left right) course.cursor ≡ Some planned → (carried later : Carried) → carriage_of later.transfer ≡ carriage_of carried.transfer → later.record ≡ carried.record →
+    IsCarriedFor archive carried planned course.cursor → (all : List Exchange) → AreAskedBefore (plan_in course left right) (suc course.cursor) all → (Is : Transfer → Type 0) → Is later.transfer →
+    Carries archive (record course { carried = Some later }) left right all reached Is
+carries_on archive course left right reached is planned at carried later same_carriage same_record carries all asked Is asks = record {
+  course_is = carrying_more course (Some later) left right reached is;
+  carried = later;
+  is_carried = refl;
+  planned = planned;
+  at = at;
+  carries = record {
+    carriage = subst (λ c. IsCarriageOf c planned course.cursor) (sym same_carriage) carries.carriage;
+    record_is = subst (λ k. record_for planned planned.item ≡ Some (kept_of k)) (sym same_record) carries.record_is;
+    can = subst (λ k. kept_refusal archive (kept_of k) ≡ None) (sym same_record) carries.can;
+  };
+  asked = asked;
+  is = asks;
+}

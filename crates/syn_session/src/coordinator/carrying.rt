@@ -1,26 +1,35 @@
 //! How a coordinator carries out the plan of its session.
-ghost use Rattle.std.specs.Prelude.{◌≡◌, ◌++◌, ℕ, [], MatchResult, None, Some, slice_get};
+ghost use Rattle.std.specs.Prelude.{◌≡◌, ◌++◌, ℕ, List, [], MatchResult, None, Some, slice_get};
+ghost use Rattle.std.specs.Prelude.{IfErr, IfOk, OnErr};
 ghost use Rattle.syn_headline.specs.Coordinator.{Exchange, IsDue};
 ghost use Rattle.syn_headline.specs.Planning.{Planned};
 ghost use Rattle.syn_headline.specs.Report.{conflict_at, is_carrying};
+ghost use Rattle.syn_message.specs.Requests.{request_of};
+ghost use Rattle.syn_message.specs.Sides.{which_of};
+ghost use Rattle.syn_model.specs.Archive.{Archive as Keeping};
 ghost use Rattle.syn_model.specs.Decision.{Conflict};
+ghost use Rattle.syn_propagate.specs.Transfers.{Asks, IsReady};
 ghost use Rattle.syn_refusal.specs.Refusals.{cause_of};
 ghost use Rattle.syn_scan.specs.Found.{Found};
 ghost use Rattle.syn_session.specs.Machines.{IsMachine, Journal};
 ghost use Rattle.syn_session.specs.inner.Advancing.{kept_by, refused_at};
 ghost use Rattle.syn_session.specs.inner.Due.{Settles};
 ghost use Rattle.syn_session.specs.inner.Recording.{IsOfItem};
+ghost use Rattle.syn_session.specs.inner.Stages.{AreAskedBefore, Carries, IsCarriedFor};
 ghost use Rattle.syn_session.specs.inner.Stages.{IsCourse, Reached, plan_in};
 ghost use Rattle.syn_session.specs.inner.Walking.{Passes};
 ghost use Rattle.syn_wire.specs.Marks.{kept_of};
 
 use super::Coordinator;
-use crate::course::Course;
+use crate::course::{Carried, Course};
 use crate::due::{Due, keep_due};
 use crate::report::Ended;
 use std::alloc::Global;
 use syn_disk::Limit;
+use syn_message::{Request, Side};
+use syn_model::plan_laws;
 use syn_path::Path;
+use syn_propagate::Next;
 use syn_refusal::Refusal;
 use syn_wire::Kept;
 
@@ -125,5 +134,34 @@ impl<D: Limit> Coordinator<D> {
             Ok(()) => Ok(()),
             Err(_) => Err(Ended::Early(Refusal::Memory)),
         }
+    }
+}
+
+/// Asks for the first piece of the item that the session has come to, which is carried. The session
+/// ends 11 where memory is refused.
+fn ask_first(
+    alloc: Global,
+    course: &mut Course,
+    carried: Carried,
+) -> Result<(Side, Request), Ended>
+    ensures step { (archive : Keeping) (left right : Found) (all : List Exchange)
+        (before : Reached) (planned : Planned) → IsCourse course.old left right before
+        → slice_get (plan_in course.old left right) course.old.cursor ≡ Some planned
+        → IsCarriedFor archive carried planned course.old.cursor → IsReady carried.transfer
+        → AreAskedBefore (plan_in course.old left right) course.old.cursor all
+        → IfOk result (λ asks. Carries archive course.new left right all before
+        (λ transfer. Asks transfer all (which_of asks.0) (request_of asks.1))) }
+    ensures memory { IfErr result (λ ended. ended ≡ Ended.Early Refusal.Memory) }
+    ensures stays { OnErr result (course.new ≡ course.old) }
+{
+    plan_laws();
+    let mut carried = carried;
+    match carried.transfer.step(alloc, None) {
+        Ok(Next::Ask(side, request)) => {
+            course.carried = Some(carried);
+            Ok((side, request))
+        }
+        // A transfer that has asked for nothing yet is not done, and no side refused anything.
+        _ => Err(Ended::Early(Refusal::Memory)),
     }
 }
