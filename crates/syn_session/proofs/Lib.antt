@@ -21,5 +21,7 @@ pub mod ReplyLemmas
 pub mod TakeLemmas
 pub mod WalkLemmas
 pub mod CourseLemmas
+pub mod SettleLemmas
 pub mod FreshLemmas
 pub mod CarryLemmas
+pub mod DoingLemmas

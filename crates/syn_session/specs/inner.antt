@@ -2,6 +2,7 @@
 pub mod Plans
 pub mod Stages
 pub mod Walking
+pub mod Settling
 pub mod Sessions
 pub mod Answering
 pub mod Hearing

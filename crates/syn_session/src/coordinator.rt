@@ -31,6 +31,7 @@ use syn_refusal::Refusal;
 use syn_wire::Kept;
 
 mod answers;
+mod carrying;
 mod journal;
 
 /// How many bytes the record of a session takes behind its length.

@@ -4,10 +4,11 @@ ghost use Rattle.syn_recon.specs.Items.{item_of};
 ghost use Rattle.syn_session.specs.inner.Doings.{IsDoingFor, IsMarked};
 
 use crate::carried::{copy_marks, copy_path};
-use crate::course::Carried;
+use crate::course::{Carried, Course};
 use crate::error::SessionError;
 use std::alloc::Global;
 use syn_message::Side;
+use syn_model::plan_laws;
 use syn_path::Path;
 use syn_recon::Item;
 use syn_scan::Scan;
@@ -24,6 +25,32 @@ pub(crate) enum Doing {
     Mark(Kept),
     /// A side is to have what the other has.
     Carry(Carried),
+}
+
+impl Course {
+    ghost use Rattle.syn_session.specs.inner.Doings.{IsDoing};
+    ghost use Rattle.syn_session.specs.inner.Stages.{IsCourse, Reached};
+
+    /// What is to be done for the item at the cursor. Refused 11 where memory is refused.
+    pub(crate) fn doing(
+        &self,
+        alloc: Global,
+        left: &Scan,
+        right: &Scan,
+    ) -> Result<Doing, SessionError>
+        ensures ok { (reached : Reached) → IsCourse self.now left.now right.now reached
+            → IfOk result (IsDoing self.now left.now right.now) }
+        ensures memory { IfErr result (λ e. e ≡ SessionError.Memory) }
+    {
+        plan_laws();
+        let Some(item) = self.items.get(self.cursor) else {
+            return Ok(Doing::Nothing);
+        };
+        let Ok(number) = u32::try_from(self.cursor) else {
+            return Err(SessionError::Memory);
+        };
+        doing_for(alloc, item, number, left, right)
+    }
 }
 
 /// What is to be done for the item with this number. Refused 11 where memory is refused.

@@ -1,5 +1,5 @@
 //! How a session goes past the items of its plan.
-ghost use Rattle.std.specs.Prelude.{◌≡◌, ◌+◌, ◌<◌, ◌^◌, Some, IfErr, OnErr, OnOk, false};
+ghost use Rattle.std.specs.Prelude.{◌≡◌, ◌+◌, ◌<◌, ◌^◌, Some, IfErr, IfOk, OnErr, OnOk, false};
 ghost use Rattle.std.specs.Prelude.{slice_get, true};
 ghost use Rattle.syn_headline.specs.Planning.{Planned};
 ghost use Rattle.syn_headline.specs.Report.{conflict_at, is_carrying};
@@ -11,6 +11,7 @@ ghost use Rattle.syn_scan.specs.Found.{Found};
 
 use crate::course::Course;
 use crate::error::SessionError;
+use std::alloc::Global;
 use syn_model::plan_laws;
 use syn_path::Path;
 use syn_refusal::Refusal;
@@ -55,6 +56,41 @@ impl Course {
         Ok(())
     }
 
+    /// Past the item that it has come to, which is refused so. Refused 11 where memory is refused.
+    pub(crate) fn refuse(&mut self, alloc: Global, why: Refusal) -> Result<(), SessionError>
+        ensures passes { (left right : Found) (reached : Reached) (planned : Planned)
+            → IsCourse self.old left right reached
+            → slice_get (plan_in self.old left right) self.old.cursor ≡ Some planned
+            → conflict_at planned.item ≡ None → OnOk result (IsCourse self.new left right
+            (refused_at reached (cause_of why) planned)) }
+        ensures stays { (left right : Found) (reached : Reached)
+            → IsCourse self.old left right reached
+            → OnErr result (IsCourse self.new left right reached) }
+        ensures memory { IfErr result (λ e. e ≡ SessionError.Memory) }
+    {
+        let Some(item) = self.items.get(self.cursor) else {
+            return Err(SessionError::Memory);
+        };
+        let path = copied(alloc, item.path())?;
+        self.pass_refused(why, path)
+    }
+
+    /// Past an item whose record is kept, and that was carried, or only marked.
+    pub(crate) fn pass_kept(&mut self, was_carried: bool)
+        ensures passes { (left right : Found) (reached : Reached) (planned : Planned) (what : Kept)
+            → IsCourse self.old left right reached
+            → slice_get (plan_in self.old left right) self.old.cursor ≡ Some planned
+            → record_for planned planned.item ≡ Some what
+            → is_carrying planned.item ≡ was_carried
+            → IsCourse self.new left right (kept_at reached what) }
+    {
+        if was_carried {
+            self.pass_carried();
+        } else {
+            self.pass_marked();
+        }
+    }
+
     /// Past an item that was carried, and whose record is kept.
     pub(crate) fn pass_carried(&mut self)
         ensures passes { (left right : Found) (reached : Reached) (planned : Planned) (what : Kept)
@@ -79,6 +115,17 @@ impl Course {
         plan_laws();
         self.marked = next_count(self.marked);
         self.cursor = next_place(self.cursor);
+    }
+}
+
+/// The path once more. Refused 11 where memory is refused.
+fn copied(alloc: Global, path: &Path) -> Result<Path, SessionError>
+    ensures ok { IfOk result (λ copy. copy ≡ path.now) }
+    ensures memory { IfErr result (λ e. e ≡ SessionError.Memory) }
+{
+    match path.copy(alloc) {
+        Ok(copy) => Ok(copy),
+        Err(_) => Err(SessionError::Memory),
     }
 }
 

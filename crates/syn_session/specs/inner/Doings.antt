@@ -53,3 +53,19 @@ IsDoingFor item number left right (has.Carry carried) =
 abbrev pub IsMarked : Path → Found → Doing → Type 0
 IsMarked path left (has.Mark kept) = kept_of kept ≡ Recorded path (subtree left.marks path)
 IsMarked path left _ = ⊥
+
+-- and in the plan of a course
+abbrev pub IsDoing : Course → Found → Found → Doing → Type 0
+IsDoing course left right has.Nothing = slice_get (plan_in course left right) course.cursor ≡ None
+IsDoing course left right (has.Conflict path) = (planned : Planned)
+    × (slice_get (plan_in course left right) course.cursor ≡ Some planned)
+    × (planned.item ≡ Conflict path)
+IsDoing course left right (has.Mark kept) = (planned : Planned)
+    × (slice_get (plan_in course left right) course.cursor ≡ Some planned)
+    × (is_carrying planned.item ≡ false) × IsOfItem (kept_of kept)
+    × ((taken : Exchange) → IsDue course.cursor planned taken (kept_of kept))
+IsDoing course left right (has.Carry carried) = (planned : Planned)
+    × (slice_get (plan_in course left right) course.cursor ≡ Some planned)
+    × IsCarriageOf (carriage_of carried.transfer) planned course.cursor
+    × (record_for planned planned.item ≡ Some (kept_of carried.record))
+    × IsReady carried.transfer

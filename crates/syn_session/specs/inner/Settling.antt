@@ -1,0 +1,34 @@
+-- What a call that carries out a plan has come to, with what it wrote.
+use Rattle.std.specs.Prelude.{◌≡◌, ◌++◌, ℕ, suc, List}
+use Rattle.syn_disk.specs.declared.disk.Disk.{Ghosts}
+use Rattle.syn_headline.specs.Coordinator.{Exchange}
+use Rattle.syn_model.specs.Archive.{Kept}
+use Rattle.syn_scan.specs.Found.{Found}
+use Rattle.syn_session.specs.Coordinators.{archive_of, written}
+use Rattle.syn_session.specs.Machines.{Journal}
+use Rattle.syn_session.specs.declared.coordinator.Coordinator.{Coordinator}
+use Rattle.syn_session.specs.declared.course.Course.{Course}
+use Rattle.syn_session.specs.declared.report.Ended.{Ended}
+use Rattle.syn_session.specs.inner.Stages.{Reached}
+use Rattle.syn_session.specs.inner.Walking.{Comes, ComesToAsk, Ends}
+use Rattle.syn_message.specs.declared.request.Request.{Request as Asked}
+use Rattle.syn_message.specs.declared.side.Side.{Side}
+
+module _ {D : Type 0} {disk : Ghosts D} (old new : Coordinator D disk) (pair : ℕ)
+    (taken : Exchange) (journal : Journal) (before : Reached) (course : Course)
+    (left right : Found) where
+  -- it is past this item
+  abbrev pub IsPast : Type 0
+  IsPast = (kept : List Kept) × (written new ≡ written old ++ kept)
+      × (suc before.cursor ≡ course.cursor)
+      × Comes (archive_of new) pair taken journal before kept course left right
+
+  -- the session ends so
+  abbrev pub EndsSo : Ended → Type 0
+  EndsSo ended = (kept : List Kept) × (written new ≡ written old ++ kept)
+      × Ends (archive_of new) pair taken journal before kept course left right ended
+
+  -- it asks for this
+  abbrev pub AsksSo : List Exchange → Side × Asked → Type 0
+  AsksSo all asks = (kept : List Kept) × (written new ≡ written old ++ kept)
+      × ComesToAsk (archive_of new) pair taken journal before kept course left right all asks
