@@ -1,5 +1,6 @@
 -- What the checkpoint and the reopening of one thread answer and leave.
-use Rattle.std.specs.Prelude.{◌≡◌, ◌≢◌, ◌⊎◌, ◌↔◌, ◌+◌, ◌^◌, ◌<◌, ◌≤◌, ℕ, [], ◌∷◌, ◌++◌, length, None}
+use Rattle.std.specs.Prelude.{◌≡◌, ◌≢◌, ◌⊎◌, ◌↔◌, ◌+◌, ◌^◌, ◌<◌, ◌≤◌, ℕ, [], ◌∷◌, ◌++◌, length}
+use Rattle.std.specs.Prelude.{None}
 use Rattle.std.specs.Prelude.{Result, Err}
 use Rattle.std.specs.Prelude.{IfErr, OnOk, IsErrAnd, MatchResult}
 use Rattle.syn_agent.specs.Machines.{IsOf}
@@ -93,7 +94,8 @@ module _ {D : Type 0} {disk : Ghosts D} (answer : Result Unit ReplicaError)
     pub keeps_up : (history : History) → KeepsUp found history → MatchResult answer
         (λ _. WithTried (Stands left) (tried_shown found) history)
         (IsOneOf outside_refusals)
-    pub lawful : (history : History) → DiskStands (pair_of found) (disk.seen (disk_of found)) history
+    pub lawful : (history : History)
+        → DiskStands (pair_of found) (disk.seen (disk_of found)) history
         → position_shown found ≤ length history → IfErr answer (IsOneOf outside_refusals)
     pub grown : IsGrown found left
     -- refused

@@ -5,7 +5,8 @@ use Rattle.syn_disk.specs.declared.disk.Disk.{Ghosts}
 use Rattle.syn_headline.specs.Coordinator.{CoordinatorMachine, archive_layout, with_archive}
 use Rattle.syn_headline.specs.Machine.{Compacts, Down, unarmed}
 use Rattle.syn_model.specs.Refusal.{Refusal, first_cause}
-use Rattle.syn_session.specs.Coordinators.{Stands, checkpoint_causes, checkpoint_refusals, device_of}
+use Rattle.syn_session.specs.Coordinators.{Stands, checkpoint_causes, checkpoint_refusals}
+use Rattle.syn_session.specs.Coordinators.{device_of}
 use Rattle.syn_session.specs.Machines.{Journal, LeavesMachine}
 use Rattle.syn_session.specs.declared.coordinator.Coordinator.{Coordinator}
 use Rattle.syn_world.specs.Coordinators.{IsCoordinator}

@@ -1,5 +1,6 @@
 -- Which of the model's machines a side is, up or down, and what a call of it does.
-use Rattle.std.specs.Prelude.{◌≡◌, ◌<◌, ◌≤◌, ℕ, Bool, true, false, List, [], ◌∷◌, Option, Some, None}
+use Rattle.std.specs.Prelude.{◌≡◌, ◌<◌, ◌≤◌, ℕ, Bool, true, false, List, [], ◌∷◌, Option, Some}
+use Rattle.std.specs.Prelude.{None}
 use Rattle.std.specs.Prelude.{length, option_map}
 use Rattle.syn_agent.specs.Machines.{IsOf, MayLeave}
 use Rattle.syn_disk.specs.Arms.{Arms, is_stopped}

@@ -1,5 +1,6 @@
 -- A session whose answer has come, and what it asks next.
-use Rattle.std.specs.Prelude.{◌≡◌, ◌≢◌, ◌⊎◌, ◌≤◌, ◌<◌, ◌^◌, ◌+◌, ℕ, true, is_some, length, List, [], ◌∷◌, ◌++◌, Option, Some}
+use Rattle.std.specs.Prelude.{◌≡◌, ◌≢◌, ◌⊎◌, ◌≤◌, ◌<◌, ◌^◌, ◌+◌, ℕ, true, is_some, length, List, []}
+use Rattle.std.specs.Prelude.{◌∷◌, ◌++◌, Option, Some}
 use Rattle.std.specs.Prelude.{None}
 use Rattle.syn_headline.specs.Coordinator.{AsksOnce, Exchange, Running, asked_in}
 use Rattle.syn_headline.specs.Coordinator.{messages_to, numbered}

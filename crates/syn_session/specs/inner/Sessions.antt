@@ -74,7 +74,8 @@ IsRunning archive _ _ = ⊥
 -- what it tells of how far it came: nothing without a plan
 abbrev pub TellsOf : Option Course → Reached → Type 0
 TellsOf None reached = reached ≡ nothing_reached
-TellsOf (Some course) reached = (left : Found) × (right : Found) × IsCourse course left right reached
+TellsOf (Some course) reached =
+    (left : Found) × (right : Found) × IsCourse course left right reached
 
 pub record Tells (session : Session) (running : Running) : Type 0 where
   pub number : running.session ≡ session.number
