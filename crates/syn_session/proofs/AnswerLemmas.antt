@@ -47,9 +47,11 @@ same_number m n h = grind (arith, Rattle.std.proofs.lemmas.Bool.Decides.nat_test
 it_waited : (waiting : Option Waiting) (number : ℕ) (request : Request) → asked_in (waiting_of waiting) number ≡ Some request → (resent : ℕ) × Contains (waiting_of waiting) (record { number = number; request = request; resent = resent })
 it_waited None number request is = absurd (none-some _ is)
 it_waited (Some one) number request is =
-    let by = waits_with (outstanding_of one) number request (one.number == number) refl is in
-    (one.resent, subst (λ (n : ℕ). let waits : Outstanding = record { number = n; request = request; resent = one.resent } in Contains (outstanding_of one ∷ []) waits) (same_number one.number number by.2)
-        (subst (λ (r : Request). let waits : Outstanding = record { number = one.number; request = r; resent = one.resent } in Contains (outstanding_of one ∷ []) waits) by.0 (Contains-push [] (outstanding_of one))))
+    let by = waits_with (outstanding_of one) number request (one.number == number) refl is in (
+      one.resent,
+      subst (λ (n : ℕ). let waits : Outstanding = record { number = n; request = request; resent = one.resent } in Contains (outstanding_of one ∷ []) waits) (same_number one.number number by.2)
+          (subst (λ (r : Request). let waits : Outstanding = record { number = one.number; request = r; resent = one.resent } in Contains (outstanding_of one ∷ []) waits) by.0 (Contains-push [] (outstanding_of one))),
+    )
 
 count_then : (side : Which) (taken : List Exchange) (exchange : Exchange) → count_by (λ one. is_side side one.side) (taken ++ exchange ∷ []) ≡ count_by (λ one. is_side side one.side) taken + (0 + cond (is_side side exchange.side) 1 0)
 count_then side taken exchange = sum_by-append (λ one. cond (is_side side one.side) 1 0) taken (exchange ∷ [])

@@ -152,10 +152,14 @@ module _ (heard : Running) (old new : Session) (asks : Asks) (is : IsHeard old h
       length_on side = subst (λ n. n ≤ 1) (sym (ap length (line_asked side).waits)) (few_waiting (line_of new side).waiting)
 
       waits_then : Waits then_asking
-      waits_then = (elim some as (λ _. 1 ≤ length then_asking.left + length then_asking.right) [
-        | inl left ↦ let one = ap length (line_asked Left).waits ∙ some_waiting new.left.waiting left in omega (arith, one)
-        | inr right ↦ let one = ap length (line_asked Right).waits ∙ some_waiting new.right.waiting right in omega (arith, one)
-      ], length_on Left, length_on Right)
+      waits_then = (
+        elim some as (λ _. 1 ≤ length then_asking.left + length then_asking.right) [
+          | inl left ↦ let one = ap length (line_asked Left).waits ∙ some_waiting new.left.waiting left in omega (arith, one)
+          | inr right ↦ let one = ap length (line_asked Right).waits ∙ some_waiting new.right.waiting right in omega (arith, one)
+        ],
+        length_on Left,
+        length_on Right,
+      )
 
       -- so that it may go on with that
       pub asks_next : AsksNext archive heard (asks_of asks Left) (asks_of asks Right)

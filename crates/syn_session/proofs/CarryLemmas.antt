@@ -96,29 +96,43 @@ module _ (archive : model.Archive) (running : Running) (plan : List Planned) (pl
   may_ask to (ListAt path) may = absurd may
   may_ask to (Fetch path since offset) (of, same, from, staged, wanted) =
       let across : other to ≡ target_of c = ap other of in (
-        planned, here, (
+        planned,
+        here,
+        (
           subst (λ p. WritesTo planned.item (other to) p) (sym same) (writes_to (other to) across),
           from ∙ (is.source_since ∙ ap (λ w. (seen_on planned w).since) (sym of)),
           ap (kept_refusal archive) (ap₂ (λ p w. Recorded p (seen_on planned w).marks) same of ∙ sym (marks_of planned c item kept is recorded)) ∙ can,
           staged_on (other to) across offset staged,
           ap (λ p. is_wanted offset (first_total running.taken p)) same ∙ wanted,
-        ))
+        ),
+      )
   may_ask to (Stage at_item offset bytes) (of, same, total, was) = (
-      same ∙ (is.item_is ∙ sym come), (
-        planned, here, (
-          subst (λ p. WritesTo planned.item to p) is.path_is (writes_to to of),
-          total,
-          fetched_from (other to) (ap other of ∙ source_other c) total offset bytes was,
-        )))
+    same ∙ (is.item_is ∙ sym come),
+    (
+      planned,
+      here,
+      (
+        subst (λ p. WritesTo planned.item to p) is.path_is (writes_to to of),
+        total,
+        fetched_from (other to) (ap other of ∙ source_other c) total offset bytes was,
+      ),
+    ),
+  )
   may_ask to (Replace at_item path since size) (of, same, same_path, from, staged, whole) = (
-      same ∙ (is.item_is ∙ sym come), (
-        planned, here, (
-          subst (λ p. WritesTo planned.item to p) (sym same_path) (writes_to to of),
-          from ∙ (is.target_since ∙ ap (λ w. (seen_on planned w).since) (sym of)),
-          whole.offset, whole.last,
-          fetched_from (other to) (ap other of ∙ source_other c) size whole.offset whole.last whole.said,
-          staged_on to of size staged,
-        )))
+    same ∙ (is.item_is ∙ sym come),
+    (
+      planned,
+      here,
+      (
+        subst (λ p. WritesTo planned.item to p) (sym same_path) (writes_to to of),
+        from ∙ (is.target_since ∙ ap (λ w. (seen_on planned w).since) (sym of)),
+        whole.offset,
+        whole.last,
+        fetched_from (other to) (ap other of ∙ source_other c) size whole.offset whole.last whole.said,
+        staged_on to of size staged,
+      ),
+    ),
+  )
 
 -- ---- how far a session came is told apart from what waits
 

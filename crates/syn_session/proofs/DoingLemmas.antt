@@ -57,20 +57,34 @@ module _ (course : Course) (left right : Found) (reached : Reached) (is : IsCour
     doing_so has.Nothing never = absurd never
     doing_so (has.Conflict path) e = (planned, at, e)
     doing_so (has.Mark kept) (inl (path, e, recorded)) = (
-        planned, at, ap is_carrying e, subst IsOfItem (sym recorded) tt,
-        λ taken. subst (λ k. IsDue course.cursor planned taken k) (ap (λ p. Recorded path (subtree left.marks p)) (ap path_of e) ∙ sym recorded)
-            (same path e (same_marks left right is.made.0 (items_of course.items.items) is.made.1 decided course.cursor planned path at e)))
+      planned,
+      at,
+      ap is_carrying e,
+      subst IsOfItem (sym recorded) tt,
+      λ taken. subst (λ k. IsDue course.cursor planned taken k) (ap (λ p. Recorded path (subtree left.marks p)) (ap path_of e) ∙ sym recorded)
+          (same path e (same_marks left right is.made.0 (items_of course.items.items) is.made.1 decided course.cursor planned path at e)),
+    )
     doing_so (has.Mark kept) (inr (path, e, recorded)) = (
-        planned, at, ap is_carrying e, subst IsOfItem (sym recorded) tt,
-        λ taken. subst (λ k. IsDue course.cursor planned taken k) (sym recorded) (directory path e))
+      planned,
+      at,
+      ap is_carrying e,
+      subst IsOfItem (sym recorded) tt,
+      λ taken. subst (λ k. IsDue course.cursor planned taken k) (sym recorded) (directory path e),
+    )
     doing_so (has.Carry carried) (inl (path, e, from)) = (
-        planned, at, carried_to_left path (carriage_of carried.transfer) e from.carriage,
-        subst (λ i. record_for (planned_by left right i) i ≡ Some (kept_of carried.record)) (sym e) (ap (λ k. Some k) (sym from.record_is)),
-        from.ready)
+      planned,
+      at,
+      carried_to_left path (carriage_of carried.transfer) e from.carriage,
+      subst (λ i. record_for (planned_by left right i) i ≡ Some (kept_of carried.record)) (sym e) (ap (λ k. Some k) (sym from.record_is)),
+      from.ready,
+    )
     doing_so (has.Carry carried) (inr (path, e, from)) = (
-        planned, at, carried_to_right path (carriage_of carried.transfer) e from.carriage,
-        subst (λ i. record_for (planned_by left right i) i ≡ Some (kept_of carried.record)) (sym e) (ap (λ k. Some k) (sym from.record_is)),
-        from.ready)
+      planned,
+      at,
+      carried_to_right path (carriage_of carried.transfer) e from.carriage,
+      subst (λ i. record_for (planned_by left right i) i ≡ Some (kept_of carried.record)) (sym e) (ap (λ k. Some k) (sym from.record_is)),
+      from.ready,
+    )
 
 -- whatever is answered
 pub if_doing : (course : Course) (left right : Found) (reached : Reached) → IsCourse course left right reached → PlanIsDecided → (item : model.Item) → slice_get (items_of course.items.items) course.cursor ≡ Some item → (number : ℕ) → number ≡ course.cursor →

@@ -149,18 +149,23 @@ module _ (session new : Session) (heard : Running) (h : HasHeard session heard) 
     no_more (x ∷ l) = ap (λ m. x ∷ m) (no_more l)
 
     to_list : (side : Which) (later : Session) → IsAsking new later asks → (asked : Option Asked) → next_of asks side ≡ asked → ListsNext (line_of session side) (line_of new side) asked → IsToList later side
-    to_list side later asking (Some asked) e (path, is, listed) = inl (path,
-        now_of side later asking ∙ (ap₂ (λ w r. first_request (waiting_of w ++ numbered (line_of new side).asked (requests_of r))) (keeps.waits side ∙ listed.free) e ∙ ap (λ r. Some r) is),
-        subst (λ s. WaitsFor s path) (sym (asking.line side).scan) listed.waits)
+    to_list side later asking (Some asked) e (path, is, listed) = inl (
+      path,
+      now_of side later asking ∙ (ap₂ (λ w r. first_request (waiting_of w ++ numbered (line_of new side).asked (requests_of r))) (keeps.waits side ∙ listed.free) e ∙ ap (λ r. Some r) is),
+      subst (λ s. WaitsFor s path) (sym (asking.line side).scan) listed.waits,
+    )
     to_list side later asking None e (inl (waits, same)) = elim (lines side) as (λ _. IsToList later side) [
       | inl free ↦ absurd (waits free)
-      | inr it ↦ inl (it.0,
-          now_of side later asking ∙ (ap (λ r. first_request (waiting_of (line_of new side).waiting ++ numbered (line_of new side).asked (requests_of r))) e ∙ (ap first_request (no_more (waiting_of (line_of new side).waiting)) ∙ (ap (λ w. first_request (waiting_of w)) (keeps.waits side) ∙ (sym (asks_first (line_of session side).waiting) ∙ it.1)))),
-          subst (λ s. WaitsFor s it.0) (sym ((asking.line side).scan ∙ ap (λ (l : Line). l.scan) same)) it.2)
+      | inr it ↦ inl (
+        it.0,
+        now_of side later asking ∙ (ap (λ r. first_request (waiting_of (line_of new side).waiting ++ numbered (line_of new side).asked (requests_of r))) e ∙ (ap first_request (no_more (waiting_of (line_of new side).waiting)) ∙ (ap (λ w. first_request (waiting_of w)) (keeps.waits side) ∙ (sym (asks_first (line_of session side).waiting) ∙ it.1)))),
+        subst (λ s. WaitsFor s it.0) (sym ((asking.line side).scan ∙ ap (λ (l : Line). l.scan) same)) it.2,
+      )
     ]
     to_list side later asking None e (inr (free, whole)) = inr (
-        now_of side later asking ∙ ap₂ (λ w r. first_request (waiting_of w ++ numbered (line_of new side).asked (requests_of r))) (keeps.waits side ∙ free) e,
-        subst (λ s. IsWhole (found_of s)) (sym (asking.line side).scan) whole)
+      now_of side later asking ∙ ap₂ (λ w r. first_request (waiting_of w ++ numbered (line_of new side).asked (requests_of r))) (keeps.waits side ∙ free) e,
+      subst (λ s. IsWhole (found_of s)) (sym (asking.line side).scan) whole,
+    )
 
     some_then : (later : Session) → IsAsking new later asks → (is_some later.left.waiting ≡ true) ⊎ (is_some later.right.waiting ≡ true)
     some_then later asking = elim on.some as (λ _. (is_some later.left.waiting ≡ true) ⊎ (is_some later.right.waiting ≡ true)) [

@@ -120,8 +120,11 @@ was_once (Some one) n a k has = by (Contains-push_cases [] _ _ has)
   where
     by : Contains [] (waits_as n a k) ⊎ (waits_as one.number (request_of one.request) (suc one.resent) ≡ waits_as n a k) → (m : ℕ) × Contains (waiting_of (Some one)) (waits_as n a m)
     by (inl never) = absurd (none_taken _ never)
-    by (inr is) = (one.resent, subst (λ (r : Request). Contains (waiting_of (Some one)) (waits_as n r one.resent)) (ap (λ (o : Outstanding). o.request) is)
-        (subst (λ (m : ℕ). Contains (waiting_of (Some one)) (waits_as m (request_of one.request) one.resent)) (ap (λ (o : Outstanding). o.number) is) (Contains-push [] (outstanding_of one))))
+    by (inr is) = (
+      one.resent,
+      subst (λ (r : Request). Contains (waiting_of (Some one)) (waits_as n r one.resent)) (ap (λ (o : Outstanding). o.request) is)
+          (subst (λ (m : ℕ). Contains (waiting_of (Some one)) (waits_as m (request_of one.request) one.resent)) (ap (λ (o : Outstanding). o.number) is) (Contains-push [] (outstanding_of one))),
+    )
 
 module _ (archive : model.Archive) (old new : Session) (running : Running) (is : IsSession archive old running) (number : new.number ≡ old.number) (unstable : new.is_unstable ≡ old.is_unstable) (course : new.course ≡ old.course)
     (again : (side : Which) → SentAgain (line_of old side) (line_of new side)) where

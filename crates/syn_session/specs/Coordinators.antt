@@ -48,7 +48,6 @@ module _ {D : Type 0} {disk : Ghosts D} (coordinator : Coordinator D disk) where
   pub record Stands (pair : ℕ) (machine : CoordinatorMachine) : Type 0 where
     pub journal : IsMachine coordinator.archive pair machine.journal
     pub running : IsRunning machine.journal.value coordinator.running machine.running
-
     -- no record was cut off under a session that still runs
     pub quiet : is_some machine.running ≡ true → machine.journal.writing ≡ None
 

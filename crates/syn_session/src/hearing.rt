@@ -60,7 +60,10 @@ impl Session {
     {
         check_begun(reply)?;
         if self.waits_across(from) {
-            return Ok(Some(Asks { left: None, right: None }));
+            return Ok(Some(Asks {
+                left: None,
+                right: None,
+            }));
         }
         match self.scan_on(alloc) {
             Ok(next) => Ok(next),

@@ -159,7 +159,9 @@ impl Line {
     pub(crate) fn is_worn(&self) -> bool
         ensures { result ≡ is_worn_out (waiting_of self.now.waiting) }
     {
-        self.waiting.as_ref().is_some_and(|waiting| waiting.is_worn())
+        self.waiting
+            .as_ref()
+            .is_some_and(|waiting| waiting.is_worn())
     }
 
     /// The request that waits was sent once more.

@@ -83,7 +83,8 @@ impl Session {
     {
         let mut sends = Vec::new(alloc);
         self.left.send(alloc, &mut sends, Side::Left, self.number)?;
-        self.right.send(alloc, &mut sends, Side::Right, self.number)?;
+        self.right
+            .send(alloc, &mut sends, Side::Right, self.number)?;
         Ok(sends)
     }
 
@@ -185,8 +186,10 @@ impl Session {
         ensures memory { IfErr result (λ e. e ≡ SessionError.Memory) }
     {
         let mut sends = Vec::new(alloc);
-        self.left.ask_next(alloc, &mut sends, Side::Left, self.number, asks.left)?;
-        self.right.ask_next(alloc, &mut sends, Side::Right, self.number, asks.right)?;
+        self.left
+            .ask_next(alloc, &mut sends, Side::Left, self.number, asks.left)?;
+        self.right
+            .ask_next(alloc, &mut sends, Side::Right, self.number, asks.right)?;
         Ok(sends)
     }
 

@@ -139,11 +139,7 @@ impl<D: Limit> Coordinator<D> {
 
 /// Asks for the first piece of the item that the session has come to, which is carried. The session
 /// ends 11 where memory is refused.
-fn ask_first(
-    alloc: Global,
-    course: &mut Course,
-    carried: Carried,
-) -> Result<(Side, Request), Ended>
+fn ask_first(alloc: Global, course: &mut Course, carried: Carried) -> Result<(Side, Request), Ended>
     ensures step { (archive : Keeping) (left right : Found) (all : List Exchange)
         (before : Reached) (planned : Planned) → IsCourse course.old left right before
         → slice_get (plan_in course.old left right) course.old.cursor ≡ Some planned

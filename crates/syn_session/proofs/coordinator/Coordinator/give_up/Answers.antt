@@ -6,17 +6,24 @@ use Rattle.syn_session.proofs.SettleLemmas.{ends_for_memory}
 use Rattle.syn_session.proofs.coordinator.Coordinator.give_up.Goals as goal
 
 pub returns-in-Ok : goal.returns-in-Ok
-returns-in-Ok g c = record { step = λ pair journal left right taken before planned is course_is at none passes.
-    let later = c.in-Ok.ensures.passes left right before planned course_is at none in
-    ([], sym (append-nil _), later.cursor, record {
-      journal = journal;
-      after = refused_at before (cause_of c.args.why) planned;
-      passes = passes;
-      is = is;
-      course_is = later;
-    });
-  }
+returns-in-Ok g c = record {
+  step = λ pair journal left right taken before planned is course_is at none passes.
+      let later = c.in-Ok.ensures.passes left right before planned course_is at none in (
+        [],
+        sym (append-nil _),
+        later.cursor,
+        record {
+          journal = journal;
+          after = refused_at before (cause_of c.args.why) planned;
+          passes = passes;
+          is = is;
+          course_is = later;
+        },
+      );
+}
 
 pub returns-in-Err : goal.returns-in-Err
-returns-in-Err g c = record { step = λ pair journal left right taken before planned is course_is at none passes.
-    ([], sym (append-nil _), ends_for_memory c.args.self.now.archive pair taken journal before c.refuse.new.self left right is (c.in-Err.ensures.stays left right before course_is)); }
+returns-in-Err g c = record {
+  step = λ pair journal left right taken before planned is course_is at none passes.
+      ([], sym (append-nil _), ends_for_memory c.args.self.now.archive pair taken journal before c.refuse.new.self left right is (c.in-Err.ensures.stays left right before course_is));
+}
