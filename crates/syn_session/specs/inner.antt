@@ -1,4 +1,4 @@
--- Definitions that no public clause names.
+-- Definitions of what is private. Of the public ones only `Stands` is made of one, `IsRunning`.
 pub mod Plans
 pub mod Stages
 pub mod Walking

@@ -85,9 +85,10 @@ still_unarmed calls _ _ _ (one_stops made failed less before stop few same) = re
 pub some_history : (pair : ℕ) (machine : Journal) (value : Value) (generation : ℕ)
     → MayMean (of_side pair) machine value generation
     → (StandsFor pair value.image value.payloads machine.value)
-    ⊎ ((event : Event) × StandsFor pair value.image value.payloads (machine.value ++ event ∷ []))
+    ⊎ ((event : Event) × (machine.writing ≡ Some event)
+    × StandsFor pair value.image value.payloads (machine.value ++ event ∷ []))
 some_history pair machine value generation (as_kept m) = inl m.stands
-some_history pair machine value generation (with_record m) = inr (m.added, m.stands)
+some_history pair machine value generation (with_record m) = inr (m.added, m.writing, m.stands)
 some_history pair machine value generation (compacted m) = inl m.stands
 
 -- what an opening gives of the machine's events
@@ -290,6 +291,6 @@ some_stands pair machine bytes may =
       )
       | inr more ↦ (
         machine.value ++ more.0 ∷ [],
-        record { value = may.value; means = may.journal.means; stands = more.1 },
+        record { value = may.value; means = may.journal.means; stands = more.2 },
       )
     ]

@@ -81,11 +81,12 @@ keeps_up {D} {disk} pair replica agent machine runs stays =
               })
               | inr more ↦ inr (
                 more.0,
+                runs.tries more.0 more.1,
                 record {
                   value = here.value;
                   means = here.journal.means;
                   stands = subst (λ p. StandsFor p here.value.image here.value.payloads
-                      (machine.journal.value ++ more.0 ∷ [])) pair_is more.1;
+                      (machine.journal.value ++ more.0 ∷ [])) pair_is more.2;
                 },
               )
             ];

@@ -99,6 +99,7 @@ impl<D: Limit> Coordinator<D> {
         }
         due
     }
+
     /// Goes past the item that the session has come to, which is a conflict. The session ends 11
     /// where memory is refused.
     fn pass_conflict(&self, course: &mut Course, path: Path) -> Result<(), Ended>

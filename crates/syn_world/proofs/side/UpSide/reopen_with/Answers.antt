@@ -42,7 +42,8 @@ returns-in-Err g c pair machine runs =
           reopen_failed pair old new c.args.self.agent machine runs c.settle.result _ position_now
           c.in-Err.ensures.untouched _ c.settle.ensures c.in-Err.ensures.tried
           c.in-Err.ensures.memory refl (ap (λ r. r ∷ []) (c.refusal.ensures ∙ device))
-          (c.in-Err.ensures.halts device) c.device_laws.ensures.broken
+          (c.in-Err.ensures.halts (λ memory. memory_not_device (sym memory ∙ device)))
+          c.device_laws.ensures.broken
           (subst (λ e. AfterReads 1 e (g.D.Disk.arms (disk_of old)) (g.D.Disk.arms (disk_of new)))
           (device_is e device) c.in-Err.ensures.calls)
     ]
