@@ -22,7 +22,7 @@ use Rattle.syn_scan.specs.Found.{Found, position_of}
 use Rattle.syn_session.specs.declared.course.Course.{Course}
 use Rattle.syn_session.specs.declared.doing.Doing.{Doing}
 use Rattle.syn_session.specs.declared.doing.Doing.TheVariants as has
-use Rattle.syn_session.specs.inner.Doings.{IsCarriedFrom, IsDoing, IsDoingFor}
+use Rattle.syn_session.specs.inner.Doings.{IsCarriedFrom, IsDoing, IsDoingFor, KeepsOfItem}
 use Rattle.syn_session.specs.inner.Plans.{planned_by}
 use Rattle.syn_session.specs.inner.Recording.{IsOfItem}
 use Rattle.syn_session.specs.inner.Stages.{IsCarriageOf, IsCourse, Reached, plan_in}
@@ -91,3 +91,16 @@ pub if_doing : (course : Course) (left right : Found) (reached : Reached) → Is
     (result : Result Doing SessionError) → IfOk result (IsDoingFor item number left right) → IfOk result (IsDoing course left right)
 if_doing course left right reached is decided item there number same_number (Ok doing) so = doing_so course left right reached is decided item there doing (subst (λ n. IsDoingFor item n left right doing) same_number so)
 if_doing course left right reached is decided item there number same_number (Err e) so = tt
+
+-- what it would have kept is the record of an item
+keeps_of_item : (item : model.Item) (number : ℕ) (left right : Found) (doing : Doing) → IsDoingFor item number left right doing → KeepsOfItem doing
+keeps_of_item item number left right has.Nothing so = tt
+keeps_of_item item number left right (has.Conflict path) so = tt
+keeps_of_item item number left right (has.Mark kept) (inl (path, e, recorded)) = subst IsOfItem (sym recorded) tt
+keeps_of_item item number left right (has.Mark kept) (inr (path, e, recorded)) = subst IsOfItem (sym recorded) tt
+keeps_of_item item number left right (has.Carry carried) (inl (path, e, from)) = subst IsOfItem (sym from.record_is) tt
+keeps_of_item item number left right (has.Carry carried) (inr (path, e, from)) = subst IsOfItem (sym from.record_is) tt
+
+pub if_keeps : (item : model.Item) (number : ℕ) (left right : Found) (result : Result Doing SessionError) → IfOk result (IsDoingFor item number left right) → IfOk result KeepsOfItem
+if_keeps item number left right (Ok doing) so = keeps_of_item item number left right doing so
+if_keeps item number left right (Err e) so = tt

@@ -25,3 +25,4 @@ pub mod SettleLemmas
 pub mod FreshLemmas
 pub mod CarryLemmas
 pub mod DoingLemmas
+pub mod PassLemmas

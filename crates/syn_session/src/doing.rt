@@ -28,7 +28,7 @@ pub(crate) enum Doing {
 }
 
 impl Course {
-    ghost use Rattle.syn_session.specs.inner.Doings.{IsDoing};
+    ghost use Rattle.syn_session.specs.inner.Doings.{IsDoing, KeepsOfItem};
     ghost use Rattle.syn_session.specs.inner.Stages.{IsCourse, Reached};
 
     /// What is to be done for the item at the cursor. Refused 11 where memory is refused.
@@ -40,6 +40,7 @@ impl Course {
     ) -> Result<Doing, SessionError>
         ensures ok { (reached : Reached) → IsCourse self.now left.now right.now reached
             → IfOk result (IsDoing self.now left.now right.now) }
+        ensures record { IfOk result KeepsOfItem }
         ensures memory { IfErr result (λ e. e ≡ SessionError.Memory) }
     {
         plan_laws();

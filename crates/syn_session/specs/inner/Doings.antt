@@ -69,3 +69,9 @@ IsDoing course left right (has.Carry carried) = (planned : Planned)
     × IsCarriageOf (carriage_of carried.transfer) planned course.cursor
     × (record_for planned planned.item ≡ Some (kept_of carried.record))
     × IsReady carried.transfer
+
+-- what it would have kept is the record of an item
+abbrev pub KeepsOfItem : Doing → Type 0
+KeepsOfItem (has.Mark kept) = IsOfItem (kept_of kept)
+KeepsOfItem (has.Carry carried) = IsOfItem (kept_of carried.record)
+KeepsOfItem _ = Unit {0}

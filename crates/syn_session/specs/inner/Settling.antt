@@ -1,5 +1,5 @@
 -- What a call that carries out a plan has come to, with what it wrote.
-use Rattle.std.specs.Prelude.{◌≡◌, ◌++◌, ℕ, suc, List}
+use Rattle.std.specs.Prelude.{◌≡◌, ◌≤◌, ◌++◌, ℕ, suc, List, Option, None, Result, Ok, Err}
 use Rattle.syn_disk.specs.declared.disk.Disk.{Ghosts}
 use Rattle.syn_headline.specs.Coordinator.{Exchange}
 use Rattle.syn_model.specs.Archive.{Kept}
@@ -9,10 +9,15 @@ use Rattle.syn_session.specs.Machines.{Journal}
 use Rattle.syn_session.specs.declared.coordinator.Coordinator.{Coordinator}
 use Rattle.syn_session.specs.declared.course.Course.{Course}
 use Rattle.syn_session.specs.declared.report.Ended.{Ended}
-use Rattle.syn_session.specs.inner.Stages.{Reached}
+use Rattle.syn_session.specs.inner.Stages.{AreAskedBefore, Reached, plan_in}
 use Rattle.syn_session.specs.inner.Walking.{Comes, ComesToAsk, Ends}
 use Rattle.syn_message.specs.declared.request.Request.{Request as Asked}
 use Rattle.syn_message.specs.declared.side.Side.{Side}
+
+-- it asks for nothing: it is past an item, or it ends
+abbrev pub nothing_asked : {A : Type 0} → Result A Ended → Result (Option (Side × Asked)) Ended
+nothing_asked (Ok went) = Ok None
+nothing_asked (Err ended) = Err ended
 
 module _ {D : Type 0} {disk : Ghosts D} (old new : Coordinator D disk) (pair : ℕ)
     (taken : Exchange) (journal : Journal) (before : Reached) (course : Course)
@@ -32,3 +37,14 @@ module _ {D : Type 0} {disk : Ghosts D} (old new : Coordinator D disk) (pair : �
   abbrev pub AsksSo : List Exchange → Side × Asked → Type 0
   AsksSo all asks = (kept : List Kept) × (written new ≡ written old ++ kept)
       × ComesToAsk (archive_of new) pair taken journal before kept course left right all asks
+
+  -- it is past this item, and nothing was asked for the next
+  abbrev pub PassesOn : List Exchange → Type 0
+  PassesOn all = IsPast × AreAskedBefore (plan_in course left right) course.cursor all
+
+  -- it is past some items, and nothing was asked for the next
+  abbrev pub HasCome : List Exchange → Type 0
+  HasCome all = (kept : List Kept) × (written new ≡ written old ++ kept)
+      × Comes (archive_of new) pair taken journal before kept course left right
+      × (before.cursor ≤ course.cursor)
+      × AreAskedBefore (plan_in course left right) course.cursor all

@@ -1,6 +1,6 @@
 -- How a call goes through the plan of its session, and what it has come to then.
 use Rattle.std.specs.Option.{option_map_or}
-use Rattle.std.specs.Prelude.{◌≡◌, ℕ, true, false, List, [], ◌++◌, Option, Some, None}
+use Rattle.std.specs.Prelude.{◌≡◌, ◌≤◌, ℕ, true, false, List, [], ◌++◌, Option, Some, None}
 use Rattle.syn_archive.specs.Archive.{disk_of}
 use Rattle.syn_archive.specs.declared.archive.Archive.{Archive}
 use Rattle.syn_disk.specs.Arms.{is_stopped}
@@ -100,6 +100,7 @@ pub record ComesToAsk {D : Type 0} {disk : Ghosts D} (new : Archive D disk) (pai
   pub journal : Journal
   pub after : Reached
   pub passes : Passes pair taken old before journal after kept
+  pub onward : before.cursor ≤ after.cursor
   pub is : IsMachine new pair journal
   pub carries : Carries journal.value course left right all after
       (λ transfer. Asks transfer all (which_of asks.0) (request_of asks.1))

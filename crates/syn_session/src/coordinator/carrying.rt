@@ -1,28 +1,31 @@
 //! How a coordinator carries out the plan of its session.
 ghost use Rattle.std.specs.Prelude.{◌≡◌, ◌++◌, ℕ, List, [], MatchResult, None, Some, slice_get};
-ghost use Rattle.std.specs.Prelude.{IfErr, IfOk, OnErr};
+ghost use Rattle.std.specs.Prelude.{IfErr, IfOk, MatchOption, OnErr};
 ghost use Rattle.syn_headline.specs.Coordinator.{Exchange, IsDue};
 ghost use Rattle.syn_headline.specs.Planning.{Planned};
 ghost use Rattle.syn_headline.specs.Report.{conflict_at, is_carrying};
+ghost use Rattle.syn_headline.specs.Session.{record_for};
 ghost use Rattle.syn_message.specs.Requests.{request_of};
 ghost use Rattle.syn_message.specs.Sides.{which_of};
 ghost use Rattle.syn_model.specs.Archive.{Archive as Keeping};
 ghost use Rattle.syn_model.specs.Decision.{Conflict};
-ghost use Rattle.syn_propagate.specs.Transfers.{Asks, IsReady};
+ghost use Rattle.syn_propagate.specs.Transfers.{Asks, IsReady, carriage_of};
 ghost use Rattle.syn_refusal.specs.Refusals.{cause_of};
 ghost use Rattle.syn_scan.specs.Found.{Found};
 ghost use Rattle.syn_session.specs.Machines.{IsMachine, Journal};
 ghost use Rattle.syn_session.specs.inner.Advancing.{kept_by, refused_at};
 ghost use Rattle.syn_session.specs.inner.Due.{Settles};
 ghost use Rattle.syn_session.specs.inner.Recording.{IsOfItem};
+ghost use Rattle.syn_session.specs.inner.Settling.{nothing_asked};
 ghost use Rattle.syn_session.specs.inner.Stages.{AreAskedBefore, Carries, IsCarriedFor};
-ghost use Rattle.syn_session.specs.inner.Stages.{IsCourse, Reached, plan_in};
-ghost use Rattle.syn_session.specs.inner.Walking.{Passes};
+ghost use Rattle.syn_session.specs.inner.Stages.{IsCarriageOf, IsCourse, Reached, plan_in};
+ghost use Rattle.syn_session.specs.inner.Walking.{IsAtItem, Passes};
 ghost use Rattle.syn_wire.specs.Marks.{kept_of};
 
 use super::Coordinator;
 use crate::course::{Carried, Course};
-use crate::due::{Due, keep_due};
+use crate::doing::Doing;
+use crate::due::{Due, keep_due, refusal_for};
 use crate::report::Ended;
 use std::alloc::Global;
 use syn_disk::Limit;
@@ -31,11 +34,12 @@ use syn_model::plan_laws;
 use syn_path::Path;
 use syn_propagate::Next;
 use syn_refusal::Refusal;
+use syn_scan::Scan;
 use syn_wire::Kept;
 
 impl<D: Limit> Coordinator<D> {
     ghost use Rattle.syn_session.specs.Coordinators.{archive_of, written};
-    ghost use Rattle.syn_session.specs.inner.Settling.{EndsSo, IsPast};
+    ghost use Rattle.syn_session.specs.inner.Settling.{AsksSo, EndsSo, IsPast, PassesOn};
 
     /// Keeps in the archive what is due for the item that the session has come to, and goes past
     /// the item. The session ends as its record does, and 11 where memory is refused.
@@ -135,6 +139,106 @@ impl<D: Limit> Coordinator<D> {
             Ok(()) => Ok(()),
             Err(_) => Err(Ended::Early(Refusal::Memory)),
         }
+    }
+
+    /// Asks for the first piece of the item that the session has come to, which is carried; or goes
+    /// past the item where the archive refuses its record. The session ends 11 where memory is
+    /// refused.
+    fn carry(
+        &self,
+        alloc: Global,
+        course: &mut Course,
+        carried: Carried,
+    ) -> Result<Option<(Side, Request)>, Ended>
+        requires { IsOfItem (kept_of carried.record) }
+        ensures step { (pair : ℕ) (journal : Journal) (left right : Found) (taken : Exchange)
+            (all : List Exchange) (before : Reached) (planned : Planned)
+            → IsMachine (archive_of self.now) pair journal
+            → IsAtItem course.old left right all before
+            → slice_get (plan_in course.old left right) course.old.cursor ≡ Some planned
+            → IsCarriageOf (carriage_of carried.transfer) planned course.old.cursor
+            → record_for planned planned.item ≡ Some (kept_of carried.record)
+            → IsReady carried.transfer
+            → MatchResult result (λ next. MatchOption next
+            (IsPast self.now self.now pair taken journal before course.new left right)
+            (AsksSo self.now self.now pair taken journal before course.new left right all))
+            (EndsSo self.now self.now pair taken journal before course.new left right) }
+    {
+        if let Some(why) = refusal_for(&self.archive, &carried.record) {
+            return nothing_asked(self.give_up(alloc, course, why));
+        }
+        match ask_first(alloc, course, carried) {
+            Ok(asks) => Ok(Some(asks)),
+            Err(ended) => Err(ended),
+        }
+    }
+
+    /// Goes on through the plan, until it asks for the first piece of an item, or the session ends.
+    /// It ends without a refusal where no item is left, and else as an item ends it. It ends 11
+    /// behind 2^64 - 1 items, and no plan has as many.
+    pub(super) fn walk(
+        &mut self,
+        alloc: Global,
+        course: &mut Course,
+        left: &Scan,
+        right: &Scan,
+    ) -> Result<(Side, Request), Ended>
+        ensures step { (pair : ℕ) (journal : Journal) (taken : Exchange) (all : List Exchange)
+            (before : Reached) → IsMachine (archive_of self.old) pair journal
+            → IsAtItem course.old left.now right.now all before
+            → MatchResult result
+            (AsksSo self.old self.new pair taken journal before course.new left.now right.now all)
+            (EndsSo self.old self.new pair taken journal before course.new left.now right.now) }
+        ensures running { self.new.running ≡ self.old.running }
+        ensures report { self.new.report ≡ self.old.report }
+    {
+        for _ in 0..u64::MAX {
+            match self.pass(alloc, course, left, right) {
+                Ok(Some(asks)) => return Ok(asks),
+                Ok(None) => {}
+                Err(ended) => return Err(ended),
+            }
+        }
+        Err(Ended::Early(Refusal::Memory))
+    }
+
+    /// Goes past the item that the session has come to, or asks for its first piece. The session
+    /// ends without a refusal where no item is left, 11 where memory is refused, and else as the
+    /// record of the item does.
+    fn pass(
+        &mut self,
+        alloc: Global,
+        course: &mut Course,
+        left: &Scan,
+        right: &Scan,
+    ) -> Result<Option<(Side, Request)>, Ended>
+        ensures step { (pair : ℕ) (journal : Journal) (taken : Exchange) (all : List Exchange)
+            (before : Reached) → IsMachine (archive_of self.old) pair journal
+            → IsAtItem course.old left.now right.now all before
+            → MatchResult result (λ next. MatchOption next
+            (PassesOn self.old self.new pair taken journal before course.new left.now right.now all)
+            (AsksSo self.old self.new pair taken journal before course.new left.now right.now all))
+            (EndsSo self.old self.new pair taken journal before course.new left.now right.now) }
+        ensures running { self.new.running ≡ self.old.running }
+        ensures report { self.new.report ≡ self.old.report }
+    {
+        match course.doing(alloc, left, right) {
+            Ok(Doing::Nothing) => Err(Ended::Settled),
+            Ok(Doing::Conflict(path)) => nothing_asked(self.pass_conflict(course, path)),
+            Ok(Doing::Mark(kept)) => nothing_asked(self.settle(alloc, course, kept, false)),
+            Ok(Doing::Carry(carried)) => self.carry(alloc, course, carried),
+            Err(_) => Err(Ended::Early(Refusal::Memory)),
+        }
+    }
+}
+
+/// The session asks for nothing: it is past an item, or it ends.
+fn nothing_asked(went: Result<(), Ended>) -> Result<Option<(Side, Request)>, Ended>
+    ensures { result ≡ nothing_asked went }
+{
+    match went {
+        Ok(()) => Ok(None),
+        Err(ended) => Err(ended),
     }
 }
 
