@@ -48,7 +48,7 @@ no_such x has = omega (arith, has.1)
 
 -- ---- what a transfer asks, a session may ask
 
-source_other : (c : Carriage) → other (target_of c) ≡ source_of c
+pub source_other : (c : Carriage) → other (target_of c) ≡ source_of c
 source_other c = by (source_of c)
   where
     by : (w : Which) → other (other w) ≡ w
@@ -56,7 +56,7 @@ source_other c = by (source_of c)
     by Right = refl
 
 -- the record of an item that is carried has the marks of its source
-marks_of : (planned : Planned) (c : Carriage) (item : ℕ) (kept : Kept) → IsCarriageOf c planned item → record_for planned planned.item ≡ Some kept → kept ≡ Recorded c.path (seen_on planned (source_of c)).marks
+pub marks_of : (planned : Planned) (c : Carriage) (item : ℕ) (kept : Kept) → IsCarriageOf c planned item → record_for planned planned.item ≡ Some kept → kept ≡ Recorded c.path (seen_on planned (source_of c)).marks
 marks_of planned c item kept is recorded = by planned.item (source_of c) is.writes recorded
   where
     some_in : (a b : Kept) → Some a ≡ Some b → b ≡ a

@@ -26,3 +26,5 @@ pub mod FreshLemmas
 pub mod CarryLemmas
 pub mod DoingLemmas
 pub mod PassLemmas
+pub mod CarriedLemmas
+pub mod BeginLemmas

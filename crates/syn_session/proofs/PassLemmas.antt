@@ -73,7 +73,7 @@ is_carried planned carriage item is = by planned.item (target_of carriage) is.wr
     by (Conflict at) Left writes = absurd writes
     by (Conflict at) Right writes = absurd writes
 
-some_in : (a b : Plan) → Some a ≡ Some b → a ≡ b
+pub some_in : (a b : Plan) → Some a ≡ Some b → a ≡ b
 some_in a b e = ap (λ o. option_map_or (λ plan. plan) o []) e
 
 module _ {D : Type 0} {disk : Ghosts D} (pair : ℕ) (taken : Exchange) (journal : Journal) (before : Reached) (left right : Found) where
@@ -193,6 +193,11 @@ module _ {D : Type 0} {disk : Ghosts D} (pair : ℕ) (taken : Exchange) (journal
           carries = so.2.carries;
         },
       )
+
+      -- and stands where it then stands
+      pub turn_further : (asks : Side × Asked) (so : AsksSo middle last pair taken come.2.journal come.2.after later left right all asks) → (turn_asks asks so).2.after.cursor ≡ so.2.after.cursor
+      unfolding turn_asks
+      turn_further asks so = refl
 
       -- it ends
       pub turn_ends : (how : Ended) → EndsSo middle last pair taken come.2.journal come.2.after later left right how → EndsSo first last pair taken journal before later left right how

@@ -31,6 +31,7 @@ use syn_refusal::Refusal;
 use syn_wire::Kept;
 
 mod answers;
+mod carried;
 mod carrying;
 mod journal;
 

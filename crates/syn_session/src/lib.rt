@@ -1,6 +1,7 @@
 //! The coordinator of a pair: it runs sessions between the two replicas, over its archive.
 #![tactic(auto)]
 
+mod answering;
 mod carried;
 mod coordinator;
 mod course;

@@ -43,7 +43,7 @@ impl<D: Limit> Coordinator<D> {
 
     /// Keeps in the archive what is due for the item that the session has come to, and goes past
     /// the item. The session ends as its record does, and 11 where memory is refused.
-    fn settle(
+    pub(super) fn settle(
         &mut self,
         alloc: Global,
         course: &mut Course,
@@ -124,7 +124,7 @@ impl<D: Limit> Coordinator<D> {
 
     /// Goes past the item that the session has come to, which is refused so. The session ends 11
     /// where memory is refused.
-    fn give_up(&self, alloc: Global, course: &mut Course, why: Refusal) -> Result<(), Ended>
+    pub(super) fn give_up(&self, alloc: Global, course: &mut Course, why: Refusal) -> Result<(), Ended>
         ensures step { (pair : ℕ) (journal : Journal) (left right : Found) (taken : Exchange)
             (before : Reached) (planned : Planned) → IsMachine (archive_of self.now) pair journal
             → IsCourse course.old left right before
