@@ -25,7 +25,8 @@ use Rattle.syn_recon.specs.Items.{items_of}
 use Rattle.syn_refusal.specs.Refusals.{cause_of}
 use Rattle.syn_refusal.specs.declared.refusal.Refusal.{Refusal}
 use Rattle.syn_refusal.specs.declared.refusal.Refusal.TheVariants as refusal
-use Rattle.syn_scan.specs.Found.{Found, IsScanBy, position_of, scan_of}
+use Rattle.syn_model.specs.Dirty.{IsScanBy}
+use Rattle.syn_scan.specs.Found.{Found, position_of, scan_of}
 use Rattle.syn_session.specs.Coordinators.{written}
 use Rattle.syn_session.specs.Machines.{IsMachine, Journal}
 use Rattle.syn_session.specs.Scanning.{WasListedAt, WasNoDirectoryAt, found_of}
