@@ -1,6 +1,7 @@
 pub mod ErrorLemmas
 pub mod MachineLemmas
 pub mod StayLemmas
+pub mod TriedLemmas
 pub mod CheckpointLemmas
 pub mod ReopenLemmas
 pub mod RefusedLemmas

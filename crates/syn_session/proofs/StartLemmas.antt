@@ -5,7 +5,7 @@ use Rattle.std.proofs.lemmas.Option.{none-some}
 use Rattle.std.proofs.lemmas.Bool.Decides.{nat_tests}
 use Rattle.std.specs.Prelude.{is_some, ◌&&◌}
 use Rattle.syn_disk.specs.declared.disk.Disk.{Ghosts}
-use Rattle.syn_headline.specs.Coordinator.{CoordinatorMachine, CoordinatorStarts, starts, start_breaks, archive_layout, new_session, begins, sent_now}
+use Rattle.syn_headline.specs.Coordinator.{CoordinatorMachine, CoordinatorStarts, Keeps, starts, start_breaks, archive_layout, new_session, begins, sent_now}
 use Rattle.syn_headline.specs.Machine.{Up, Halted, Down, Status, has_room}
 use Rattle.syn_headline.specs.World.{is_halted}
 use Rattle.syn_model.specs.Archive as model
@@ -18,6 +18,8 @@ use Rattle.syn_session.specs.declared.coordinator.Coordinator.{Coordinator}
 use Rattle.syn_session.specs.inner.Sessions.{IsRunning, IsSession, begun}
 use Rattle.syn_session.specs.declared.session.Session.{Session as Ran}
 use Rattle.syn_session.specs.Machines.{IsMachine, Journal}
+use Rattle.syn_session.specs.Tries.{HoldsTried, Tries}
+use Rattle.syn_session.proofs.TriedLemmas.{failed_at, kept_quiet, tries_held, tries_none}
 use Rattle.syn_archive.specs.declared.archive.Archive.{Archive}
 use Rattle.syn_session.specs.inner.Steps.{KeepsSo, moves_on, moves_down}
 
@@ -85,11 +87,13 @@ idle_when_up archive pair journal is up = elim is.state as (λ _. journal.writin
 ]
 
 -- no session runs
-pub no_session : {D : Type 0} {disk : Ghosts D} (coordinator : Coordinator D disk) (pair : ℕ) (journal : Journal) → IsMachine coordinator.archive pair journal → coordinator.running ≡ None → Stands coordinator pair (record { journal = journal; running = None })
-no_session coordinator pair journal is running = record {
+pub no_session : {D : Type 0} {disk : Ghosts D} (coordinator : Coordinator D disk) (pair : ℕ) (journal : Journal) → IsMachine coordinator.archive pair journal → coordinator.running ≡ None → Tries pair coordinator.tried journal → Stands coordinator pair (record { journal = journal; running = None })
+no_session coordinator pair journal is running tries = record {
   journal = is;
   running = subst (λ s. IsRunning journal.value s None) (sym running) tt;
   quiet = λ never. absurd (false≢true never);
+  untried = λ never. absurd (false≢true never);
+  tries = tries;
 }
 
 module _ {D : Type 0} {disk : Ghosts D} (old new : Coordinator D disk) (pair : ℕ) (machine : CoordinatorMachine) (idle : runs old ≡ false) where
@@ -102,20 +106,26 @@ module _ {D : Type 0} {disk : Ghosts D} (old new : Coordinator D disk) (pair : �
 
   module _ (session_fits : number < 2 ^ 64) (pair_fits : pair < 2 ^ 64) where
     -- both sides are to begin the session
-    pub started : (session : Ran) → new.running ≡ Some session → ((archive : model.Archive) → IsSession archive session (begun number pair)) → KeepsSo new.archive pair machine.journal (Session number) (Session number ∷ []) Up →
+    pub started : machine.journal.writing ≡ None → new.tried ≡ None → (session : Ran) → new.running ≡ Some session → ((archive : model.Archive) → IsSession archive session (begun number pair)) → KeepsSo new.archive pair machine.journal (Session number) (Session number ∷ []) Up →
         Does old new pair (CoordinatorStarts pair machine) (Session number ∷ []) (sent_now (new_session number) (begins pair) (begins pair))
-    started session running begins (moves_on journal keeps up is) =
+    started quiet untried session running begins (moves_on journal keeps up is) =
         goes_on _ _ (starts number journal refl (session_fits, pair_fits) keeps up) (record {
           journal = is;
           running = subst (λ s. IsRunning journal.value s (Some (begun number pair))) (sym running) (begins journal.value);
           quiet = λ _. idle_when_up new.archive pair journal is up;
+          untried = λ _. untried;
+          tries = tries_none pair new.tried journal untried (idle_when_up new.archive pair journal is up);
         }) refl refl no_report
-    started session running begins (moves_down journal keeps stopped down leaves) =
-        goes_down _ _ (start_breaks number journal (Session number ∷ []) refl keeps (not_up down)) stopped down leaves refl
+    started quiet untried session running begins (moves_down journal keeps stopped down leaves) =
+        goes_down _ _ (start_breaks number journal (Session number ∷ []) refl keeps (not_up down)) stopped down leaves refl (tries_none pair new.tried journal untried (kept_quiet pair machine.journal journal (Session number) (Session number) keeps quiet))
+
+  -- and what was being written is remembered
+  remembers : (quiet : machine.journal.writing ≡ None) (held : HoldsTried new.archive (Session number) new.tried) (journal : Journal) → Keeps pair machine.journal (Session number) journal [] → journal.status ≢ Up → Tries pair new.tried journal
+  remembers quiet held journal keeps stops = tries_held pair new.archive (Session number) new.tried journal held stops (failed_at pair machine.journal journal (Session number) keeps quiet)
 
   -- the device failed as the number was kept
-  pub start_failed : new.running ≡ None → KeepsSo new.archive pair machine.journal (Session number) [] Halted → Does old new pair (CoordinatorStarts pair machine) [] []
-  start_failed running (moves_on journal keeps halted is) =
-      goes_on _ _ (start_breaks number journal [] refl keeps (halted_not_up halted)) (no_session new pair journal is running) refl refl no_report
-  start_failed running (moves_down journal keeps stopped down leaves) =
-      goes_down _ _ (start_breaks number journal [] refl keeps (not_up down)) stopped down leaves refl
+  pub start_failed : machine.journal.writing ≡ None → HoldsTried new.archive (Session number) new.tried → new.running ≡ None → KeepsSo new.archive pair machine.journal (Session number) [] Halted → Does old new pair (CoordinatorStarts pair machine) [] []
+  start_failed quiet held running (moves_on journal keeps halted is) =
+      goes_on _ _ (start_breaks number journal [] refl keeps (halted_not_up halted)) (no_session new pair journal is running (remembers quiet held journal keeps (halted_not_up halted))) refl refl no_report
+  start_failed quiet held running (moves_down journal keeps stopped down leaves) =
+      goes_down _ _ (start_breaks number journal [] refl keeps (not_up down)) stopped down leaves refl (remembers quiet held journal keeps (not_up down))

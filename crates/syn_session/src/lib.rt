@@ -16,9 +16,11 @@ mod requests;
 mod sending;
 mod session;
 mod side_scan;
+mod tried;
 
 pub use coordinator::Coordinator;
 pub use error::SessionError;
 pub use report::{End, Report};
 pub use sending::Sending;
 pub use side_scan::SideScan;
+pub use tried::Tried;

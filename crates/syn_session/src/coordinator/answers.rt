@@ -160,12 +160,12 @@ impl<D: Limit> Coordinator<D> {
 
 impl<D: Disk> Coordinator<D> {
     ghost use Rattle.syn_session.specs.Coordinators.{Does, Stands, archive_of, broken};
-    ghost use Rattle.syn_session.specs.Coordinators.{report_shown, runs, written};
+    ghost use Rattle.syn_session.specs.Coordinators.{report_shown, runs, tried_shown, written};
 
     /// Asks both sides for what comes next. Where memory is refused the session ends 11.
     fn ask(&mut self, alloc: Global, session: Session, asks: Asks) -> Vec<Sending>
         ensures step { (pair : ℕ) (machine : CoordinatorMachine) (running : Running)
-            (taken : Exchange) → machine.journal.writing ≡ None
+            (taken : Exchange) → machine.journal.writing ≡ None → tried_shown self.old ≡ None
             → TakesOn (archive_of self.old) pair machine.journal running taken session
             (written self.old) asks → Answered self.new pair machine running taken
             (written self.new) (messages_of result.items) }
@@ -187,7 +187,8 @@ impl<D: Disk> Coordinator<D> {
     fn finish(&mut self, alloc: Global, session: Session, ended: Ended)
         ensures running { self.new.running ≡ None }
         ensures archive { self.new.archive ≡ self.old.archive }
-        ensures kept { (self.new.written ≡ self.old.written) × (self.new.broken ≡ self.old.broken) }
+        ensures kept { (self.new.written ≡ self.old.written) × (self.new.broke ≡ self.old.broke)
+            × (self.new.tried ≡ self.old.tried) }
         ensures report { (running : Running) → Tells session running
             → report_shown self.new ≡ Some (report_of running (ended_by ended)) }
     {
