@@ -43,7 +43,7 @@ use Rattle.syn_session.specs.inner.Carrying as carrying
 use Rattle.syn_session.specs.inner.Hearing.{HasHeard, IsScanned, behind}
 use Rattle.syn_session.specs.inner.Plans.{Plan, planned_all}
 use Rattle.syn_session.specs.inner.Sessions.{IsLine, IsSession, IsStage, Tells, waiting_of}
-use Rattle.syn_session.specs.inner.Settling.{AsksSo, EndsSo}
+use Rattle.syn_session.specs.inner.Settling.{AsksSo, EndsSo, IsQuiet}
 use Rattle.syn_session.specs.inner.Stages.{Carries, IsAskedBefore, IsCarrying, IsCourse, IsOfScan, Reached, asks_now, found_on, line_of, plan_in, reached_by}
 use Rattle.syn_session.specs.inner.Taking.{TakesEnd, TakesOn, TakesSo}
 use Rattle.syn_session.specs.inner.Taking as taking
@@ -54,6 +54,7 @@ use Rattle.syn_session.proofs.HearingLemmas.{asked_first, by_sides, or_false, sc
 use Rattle.syn_session.proofs.PlanLemmas.{made_of, makes_plan}
 use Rattle.syn_session.proofs.SessionLemmas.{asks_first}
 use Rattle.syn_session.proofs.TakeLemmas.{hears_end}
+use Rattle.syn_session.proofs.TriedLemmas.{tries_none}
 use Rattle.syn_message.specs.Requests.{request_of}
 
 -- ---- whatever its plan, a session is heard alike
@@ -82,8 +83,8 @@ scanned_before plan cursor (Replace item path since size) this = absurd this
 module _ {D : Type 0} {disk : Ghosts D} (old : Coordinator D disk) (pair : ℕ) (journal : Journal) (running : Running) (taken : Exchange) (session : Session) (is_machine : IsMachine old.archive pair journal)
     (fault : fault_of running.taken taken.side taken.request taken.reply ≡ None) (heard : HasHeard session (hearing running taken)) (scanned : IsScanned session (hearing running taken)) (nothing : written old ≡ []) where
   -- there is no memory for it
-  pub no_plan : TakesEnd old.archive pair journal running taken session (written old) (Early refusal.Memory)
-  no_plan = hears_end old.archive pair journal running taken session is_machine (written old) nothing refusal.Memory (behind fault refl (tells_heard session (hearing running taken) heard))
+  pub no_plan : IsQuiet old journal → TakesEnd old.archive old.tried pair journal running taken session (written old) (Early refusal.Memory)
+  no_plan quiet = hears_end old.archive pair journal running taken session is_machine old.tried (tries_none pair old.tried journal quiet.0 quiet.1) (written old) nothing refusal.Memory (behind fault refl (tells_heard session (hearing running taken) heard))
 
   module _ (made : Course) (left right : Found) (same_left : left ≡ found_on session Left) (same_right : right ≡ found_on session Right) (course_is : IsCourse made left right (first_reached (plan_in made left right))) where
     abbrev first : Reached
@@ -114,13 +115,13 @@ module _ {D : Type 0} {disk : Ghosts D} (old : Coordinator D disk) (pair : ℕ) 
             (subst (λ l. ComesToAsk new.archive pair taken journal first so.0 course l right (running.taken ++ taken ∷ []) (side, request)) same_left so.2))
             (λ last. absurd (scans_further running.taken taken.side taken.request (heard.of_scan taken (Contains-push running.taken taken)) taken.reply fault last)))
 
-        pub begins_ending : (ended : Ended) → EndsSo old new pair taken journal first course left right ended → TakesEnd new.archive pair journal running taken later (written new) ended
+        pub begins_ending : (ended : Ended) → EndsSo old new pair taken journal first course left right ended → TakesEnd new.archive new.tried pair journal running taken later (written new) ended
         begins_ending ended so =
-            subst (λ k. TakesEnd new.archive pair journal running taken later k ended) (sym (so.1 ∙ ap (λ l. l ++ so.0) nothing))
+            subst (λ k. TakesEnd new.archive new.tried pair journal running taken later k ended) (sym (so.1 ∙ ap (λ l. l ++ so.0) nothing))
             (ends_course new.archive pair journal running taken later course refl (heard_with session (Some course) (hearing running taken) heard.heard_is) heard.unstable (silent_with session (Some course) scanned.silent) fault first
-            (sym (ap (λ (r : Reached). r.cursor) heard.reached)) (sym (ap (λ (r : Reached). r.refused) heard.reached)) (sym (ap (λ (r : Reached). r.kept) heard.reached)) _ made_it so.0 ended
-            (subst (λ r. Ends new.archive pair taken journal first so.0 course (found_on session Left) r ended) same_right
-            (subst (λ l. Ends new.archive pair taken journal first so.0 course l right ended) same_left so.2)))
+            (sym (ap (λ (r : Reached). r.cursor) heard.reached)) (sym (ap (λ (r : Reached). r.refused) heard.reached)) (sym (ap (λ (r : Reached). r.kept) heard.reached)) _ made_it new.tried so.0 ended
+            (subst (λ r. Ends new.archive new.tried pair taken journal first so.0 course (found_on session Left) r ended) same_right
+            (subst (λ l. Ends new.archive new.tried pair taken journal first so.0 course l right ended) same_left so.2)))
 
 -- ---- it goes on in its plan
 
@@ -215,10 +216,10 @@ module _ (pair : ℕ) (journal : Journal) (before session : Session) (running : 
           (subst (λ l. ComesToAsk new.archive pair taken journal (reached_by running) so.asks_so.0 later l right (running.taken ++ taken ∷ []) (asker, asks)) same_left so.asks_so.2))
           so.last)
 
-      pub carries_ending : (ended : Ended) → EndsCarrying old new pair taken journal (reached_by running) later left right running.taken ended → TakesEnd new.archive pair journal running taken next (written new) ended
-      carries_ending ended (carrying.at_once why fault same is_machine course_is) = taking.at_once why fault (tells_before course_is) is_machine (same ∙ nothing)
+      pub carries_ending : (ended : Ended) → EndsCarrying old new pair taken journal (reached_by running) later left right running.taken ended → TakesEnd new.archive new.tried pair journal running taken next (written new) ended
+      carries_ending ended (carrying.at_once why fault same is_machine quiet course_is) = taking.at_once why fault (tells_before course_is) is_machine (same ∙ nothing) (tries_none pair new.tried journal quiet.0 quiet.1)
       carries_ending ended (carrying.behind how fault so) =
-          subst (λ k. TakesEnd new.archive pair journal running taken next k ended) (sym (so.1 ∙ ap (λ l. l ++ so.0) nothing))
-          (ends_course new.archive pair journal running taken next later refl heard (unstable fault) (silent_with session (Some later) silent_now) fault (reached_by running) refl refl refl [] stays so.0 ended
-          (subst (λ r. Ends new.archive pair taken journal (reached_by running) so.0 later (found_on session Left) r ended) same_right
-          (subst (λ l. Ends new.archive pair taken journal (reached_by running) so.0 later l right ended) same_left so.2)))
+          subst (λ k. TakesEnd new.archive new.tried pair journal running taken next k ended) (sym (so.1 ∙ ap (λ l. l ++ so.0) nothing))
+          (ends_course new.archive pair journal running taken next later refl heard (unstable fault) (silent_with session (Some later) silent_now) fault (reached_by running) refl refl refl [] stays new.tried so.0 ended
+          (subst (λ r. Ends new.archive new.tried pair taken journal (reached_by running) so.0 later (found_on session Left) r ended) same_right
+          (subst (λ l. Ends new.archive new.tried pair taken journal (reached_by running) so.0 later l right ended) same_left so.2)))

@@ -39,7 +39,7 @@ use Rattle.syn_session.specs.inner.Answering.{exchange_of}
 use Rattle.syn_session.specs.inner.Advancing.{refused_at}
 use Rattle.syn_session.specs.inner.Carrying.{AsksLater, CarriesOn, EndsCarrying, IsCarriedOut, TakesAnswer, behind}
 use Rattle.syn_session.specs.inner.Plans.{Plan}
-use Rattle.syn_session.specs.inner.Settling.{AsksSo, EndsSo, HasCome, IsPast}
+use Rattle.syn_session.specs.inner.Settling.{AsksSo, EndsSo, HasCome, IsPast, IsQuiet}
 use Rattle.syn_session.specs.inner.Stages.{AreAskedBefore, Carries, IsAskedBefore, IsCarriageOf, IsCarriedFor, Reached, plan_in}
 use Rattle.syn_session.specs.declared.report.Ended.{Ended}
 use Rattle.syn_session.specs.inner.Walking.{IsAtItem, Passes}
@@ -149,13 +149,17 @@ module _ {D : Type 0} {disk : Ghosts D} (pair : ℕ) (taken : Exchange) (journal
     (out : IsCarriedOut was left right all before planned) (past : IsPast old middle pair taken journal before course left right) where
   -- it is past the item, and nothing was asked for the next
   come : HasCome old middle pair taken journal before course left right all
-  come = (past.0, past.1, past.3, omega (arith, past.2), subst (λ p. AreAskedBefore p course.cursor all) plans (subst (λ n. AreAskedBefore (plan_in was left right) n all) next out.asked))
+  come = (past.0, past.1, past.3, omega (arith, past.2), subst (λ p. AreAskedBefore p course.cursor all) plans (subst (λ n. AreAskedBefore (plan_in was left right) n all) next out.asked), past.4)
     where
       plans : plan_in was left right ≡ plan_in course left right
       plans = some_in _ _ (sym out.course_is.plan ∙ (sym past.3.passes.has.plan ∙ past.3.course_is.plan))
 
       next : suc was.cursor ≡ course.cursor
       next = ap suc (sym out.course_is.cursor) ∙ past.2
+
+  -- nothing is being written there
+  pub still_quiet : IsQuiet old journal → IsQuiet middle past.3.journal
+  still_quiet quiet = (past.4, past.3.passes.quiet quiet.1)
 
   pub at_next : IsAtItem course left right all past.3.after
   unfolding come
@@ -192,10 +196,10 @@ ended_with fault error why same (inr is) = inl (is ∙ ap (λ w. Some w) (sym sa
 
 module _ {D : Type 0} {disk : Ghosts D} (pair : ℕ) (taken : Exchange) (journal : Journal) (before : Reached) (left right : Found) (all : List Exchange) where
   -- it asks for the same item again
-  pub carries_further : (coordinator : Coordinator D disk) (course : Course) → IsMachine coordinator.archive pair journal → (side : Side) (request : Asked) → TakesAnswer journal.value left right all before taken course (Ok (carrying.Asks side request)) → CarriesOn coordinator coordinator pair taken journal before course left right all (side, request)
-  carries_further coordinator course is side request took = record {
+  pub carries_further : (coordinator : Coordinator D disk) (course : Course) → IsMachine coordinator.archive pair journal → IsQuiet coordinator journal → (side : Side) (request : Asked) → TakesAnswer journal.value left right all before taken course (Ok (carrying.Asks side request)) → CarriesOn coordinator coordinator pair taken journal before course left right all (side, request)
+  carries_further coordinator course is quiet side request took = record {
     fault = took.0;
-    asks_so = asks_here pair taken journal before left right coordinator is course (all ++ taken ∷ []) (side, request) took.1.1;
+    asks_so = asks_here pair taken journal before left right coordinator is quiet course (all ++ taken ∷ []) (side, request) took.1.1;
     last = λ last. absurd (false≢true (sym took.1.0 ∙ last));
   }
 

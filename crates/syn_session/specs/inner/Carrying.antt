@@ -24,7 +24,7 @@ use Rattle.syn_session.specs.declared.coordinator.Coordinator.{Coordinator}
 use Rattle.syn_session.specs.declared.course.Course.{Course}
 use Rattle.syn_session.specs.declared.report.Ended.{Ended}
 use Rattle.syn_session.specs.declared.report.Ended.TheVariants.{Early}
-use Rattle.syn_session.specs.inner.Settling.{AsksSo, EndsSo}
+use Rattle.syn_session.specs.inner.Settling.{AsksSo, EndsSo, IsQuiet}
 use Rattle.syn_session.specs.inner.Stages.{AreAskedBefore, Carries, IsCourse, Reached, plan_in}
 use Rattle.syn_wire.specs.Marks.{kept_of}
 
@@ -81,6 +81,6 @@ module _ {D : Type 0} {disk : Ghosts D} (old new : Coordinator D disk) (pair : �
         (fault_of all taken.side taken.request taken.reply ≡ Some (cause_of why))
         ⊎ (cause_of why ≡ Memory) →
         written new ≡ written old → IsMachine (archive_of new) pair journal →
-        IsCourse course left right before → EndsCarrying (Early why)
+        IsQuiet new journal → IsCourse course left right before → EndsCarrying (Early why)
     behind : (ended : Ended) → fault_of all taken.side taken.request taken.reply ≡ None →
         EndsSo old new pair taken journal before course left right ended → EndsCarrying ended

@@ -29,8 +29,9 @@ use syn_propagate::transfer_laws;
 use syn_refusal::Refusal;
 
 impl<D: Limit> Coordinator<D> {
-    ghost use Rattle.syn_session.specs.Coordinators.{Does, Stands, archive_of, broken};
-    ghost use Rattle.syn_session.specs.Coordinators.{report_shown, runs, written};
+    ghost use Rattle.syn_session.specs.Coordinators.{Does, Stands, archive_of};
+    ghost use Rattle.syn_session.specs.Coordinators.{tried_shown, written};
+    ghost use Rattle.syn_session.specs.inner.Settling.{IsQuiet};
 
     /// Takes an answer of a side, under the session and the number of its request. It goes on
     /// through the scans and the plan as far as it can, keeps what is due in the archive, and
@@ -57,7 +58,7 @@ impl<D: Limit> Coordinator<D> {
             number (reply_of reply)) (written self.new) (messages_of result.items) }
     {
         self.written = Vec::new(alloc);
-        self.broken = None;
+        self.broke = false;
         let Some(mut running) = self.running.take() else {
             return Vec::new(alloc);
         };
@@ -85,9 +86,11 @@ impl<D: Limit> Coordinator<D> {
     ) -> Result<Asks, Ended>
         requires lawful { IsLawfulReply (reply_of reply) }
         ensures step { (pair number : ℕ) (journal : Journal) (before : Ran) (running : Running)
-            → IsMachine (archive_of self.old) pair journal → IsSession journal.value before running
+            → IsMachine (archive_of self.old) pair journal → IsQuiet self.old journal
+            → IsSession journal.value before running
             → IsAnswering before session.old (which_of from) number (request_of request)
-            → written self.old ≡ [] → TakesSo (archive_of self.new) pair journal running
+            → written self.old ≡ [] → TakesSo (archive_of self.new) (tried_shown self.new) pair
+            journal running
             (exchange_of (which_of from) number (request_of request) (reply_of reply)) session.new
             (written self.new) result }
     {
@@ -104,12 +107,12 @@ impl<D: Limit> Coordinator<D> {
     /// Makes the plan of the session, both sides of which are scanned, and goes through it.
     fn begin_course(&mut self, alloc: Global, session: &mut Session) -> Result<Asks, Ended>
         ensures step { (pair : ℕ) (journal : Journal) (running : Running) (taken : Exchange)
-            → IsMachine (archive_of self.old) pair journal
+            → IsMachine (archive_of self.old) pair journal → IsQuiet self.old journal
             → fault_of running.taken taken.side taken.request taken.reply ≡ None
             → HasHeard session.old (hearing running taken)
             → IsScanned session.old (hearing running taken)
-            → written self.old ≡ [] → TakesSo (archive_of self.new) pair journal running taken
-            session.new (written self.new) result }
+            → written self.old ≡ [] → TakesSo (archive_of self.new) (tried_shown self.new) pair
+            journal running taken session.new (written self.new) result }
     {
         let left = session.left.scan.found();
         let right = session.right.scan.found();
@@ -135,10 +138,12 @@ impl<D: Limit> Coordinator<D> {
         reply: Reply,
     ) -> Result<Asks, Ended>
         ensures step { (pair number : ℕ) (journal : Journal) (before : Ran) (running : Running)
-            → IsMachine (archive_of self.old) pair journal → IsSession journal.value before running
+            → IsMachine (archive_of self.old) pair journal → IsQuiet self.old journal
+            → IsSession journal.value before running
             → IsAnswering before session.old (which_of from) number (request_of request)
             → is_some before.course ≡ true
-            → written self.old ≡ [] → TakesSo (archive_of self.new) pair journal running
+            → written self.old ≡ [] → TakesSo (archive_of self.new) (tried_shown self.new) pair
+            journal running
             (exchange_of (which_of from) number (request_of request) (reply_of reply)) session.new
             (written self.new) result }
     {

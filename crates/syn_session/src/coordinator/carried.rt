@@ -29,7 +29,7 @@ use syn_wire::Kept;
 impl<D: Limit> Coordinator<D> {
     ghost use Rattle.syn_session.specs.Coordinators.{archive_of};
     ghost use Rattle.syn_session.specs.inner.Carrying.{AsksLater, CarriesOn, EndsCarrying};
-    ghost use Rattle.syn_session.specs.inner.Settling.{EndsSo, IsPast};
+    ghost use Rattle.syn_session.specs.inner.Settling.{EndsSo, IsPast, IsQuiet};
 
     /// Takes the answer for the item that the session has come to, which is carried, and goes on
     /// through the plan until it asks for something, or the session ends.
@@ -46,7 +46,7 @@ impl<D: Limit> Coordinator<D> {
     ) -> Result<(Side, Request), Ended>
         ensures step { (pair : ℕ) (journal : Journal) (all : List Exchange) (before : Reached)
             (to : Which) (number : ℕ) (request : Asked)
-            → IsMachine (archive_of self.old) pair journal
+            → IsMachine (archive_of self.old) pair journal → IsQuiet self.old journal
             → Carries journal.value course.old left.now right.now all before
             (λ transfer. WaitsFor transfer all to request)
             → let taken = exchange_of to number request (reply_of reply) in MatchResult result
@@ -77,6 +77,7 @@ impl<D: Limit> Coordinator<D> {
     ) -> Result<(Side, Request), Ended>
         ensures step { (pair : ℕ) (journal : Journal) (taken : Exchange) (all : List Exchange)
             (before : Reached) (planned : Planned) → IsMachine (archive_of self.old) pair journal
+            → IsQuiet self.old journal
             → IsCarriedOut course.old left.now right.now all before planned
             → IsDue course.old.cursor planned taken (kept_of kept)
             → MatchResult result
@@ -103,6 +104,7 @@ impl<D: Limit> Coordinator<D> {
     ) -> Result<(Side, Request), Ended>
         ensures step { (pair : ℕ) (journal : Journal) (taken : Exchange) (all : List Exchange)
             (before : Reached) (planned : Planned) → IsMachine (archive_of self.old) pair journal
+            → IsQuiet self.old journal
             → IsCarriedOut course.old left.now right.now all before planned
             → taken.reply ≡ Refused (cause_of why)
             → IsFor course.old.cursor planned taken.request
@@ -128,6 +130,7 @@ impl<D: Limit> Coordinator<D> {
     ) -> Result<(), Ended>
         ensures step { (pair : ℕ) (journal : Journal) (left right : Found) (taken : Exchange)
             (before : Reached) (planned : Planned) → IsMachine (archive_of self.old) pair journal
+            → IsQuiet self.old journal
             → IsCourse course.old left right before
             → slice_get (plan_in course.old left right) course.old.cursor ≡ Some planned
             → IsDue course.old.cursor planned taken (kept_of kept)
