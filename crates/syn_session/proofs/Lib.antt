@@ -2,6 +2,7 @@ pub mod ErrorLemmas
 pub mod MachineLemmas
 pub mod StayLemmas
 pub mod TriedLemmas
+pub mod ArmLemmas
 pub mod CheckpointLemmas
 pub mod ReopenLemmas
 pub mod RefusedLemmas

@@ -27,7 +27,7 @@ use Rattle.syn_session.specs.declared.coordinator.Coordinator.{Coordinator}
 use Rattle.syn_session.specs.inner.Sessions.{IsRunning, IsSession}
 use Rattle.syn_session.specs.declared.session.Session.{Session}
 use Rattle.std.proofs.lemmas.Option.{none-some}
-use Rattle.syn_session.specs.inner.Steps.{Moves, moves_on, moves_down}
+use Rattle.syn_session.specs.inner.Steps.{CompactsSo, Moves, moves_on, moves_down}
 
 -- by what each of the causes is
 causes_with : (machine : CoordinatorMachine) (halted full : Bool) → is_halted machine.journal.status ≡ halted → nat_le greatest machine.journal.generation ≡ full →
@@ -185,10 +185,10 @@ module _ {D : Type 0} {disk : Ghosts D} (old new : Coordinator D disk) (pair : �
   tries_none_up was same_tried journal compacts =
       tries_none pair new.tried journal (same_tried ∙ untried_up pair old.tried machine.journal stands.tries was.up) ((compact_keeps pair machine.journal journal compacts).1 ∙ was.idle)
 
-  pub checkpoint_does : Runs old.archive machine.journal → new.tried ≡ old.tried → (status : Status) → status ≢ Down → Moves new.archive pair (Compacts (archive_layout pair) machine.journal) status → Does old new pair (Checkpoints pair machine) [] []
-  checkpoint_does was same_tried status up (moves_on journal compacts is_status is) =
+  pub checkpoint_does : Runs old.archive machine.journal → new.tried ≡ old.tried → (status : Status) → status ≢ Down → CompactsSo new.archive pair machine.journal status → Does old new pair (Checkpoints pair machine) [] []
+  checkpoint_does was same_tried status up (moves_on journal (compacts, shown) is_status is) =
       goes_on _ _ (checkpoints journal compacts) (stands_with status up journal is_status is (λ some. ((compact_keeps pair _ _ compacts).0, (compact_keeps pair _ _ compacts).1 ∙ stands.quiet some)) (λ some. same_tried ∙ stands.untried some) (tries_none_up was same_tried journal compacts)) refl refl none_ended
-  checkpoint_does was same_tried status up (moves_down journal compacts stopped down leaves) = goes_down _ _ (checkpoints journal compacts) stopped down leaves refl (tries_none_up was same_tried journal compacts)
+  checkpoint_does was same_tried status up (moves_down journal (compacts, shown) stopped down leaves) = goes_down _ _ (checkpoints journal compacts) stopped down leaves refl (tries_none_up was same_tried journal compacts)
 
   -- it forgets what was tried once it is opened again
   tries_again : (kept : List Kept) (journal : Journal) → Reopened pair machine.journal journal kept → journal.status ≡ Up → new.tried ≡ None → Tries pair new.tried journal

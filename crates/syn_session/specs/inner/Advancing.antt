@@ -36,7 +36,8 @@ pub data Advanced {D : Type 0} {disk : Ghosts D} (new : Archive D disk) (tried :
       Advanced new tried pair plan taken walk planned what Recorded
   refused_it : (why : Refusal) →
       Advances pair plan taken walk [] (refusing walk (cause_of why) planned) →
-      IsMachine new pair walk.journal → Advanced new tried pair plan taken walk planned what (Refused why)
+      IsMachine new pair walk.journal →
+      Advanced new tried pair plan taken walk planned what (Refused why)
   ended : (why : Refusal) (later : Walk) → Advances pair plan taken walk [] later →
       later.cursor ≡ walk.cursor → later.refused ≡ walk.refused →
       ((running : Running) → plan_of running ≡ plan →

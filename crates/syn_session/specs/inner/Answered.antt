@@ -29,4 +29,5 @@ pub data Answered {D : Type 0} {disk : Ghosts D} (new : Coordinator D disk) (pai
       Takes pair machine running taken now call →
       is_stopped (disk.arms (device_of new)) ≡ true → now.journal.status ≡ Down →
       LeavesMachine disk (device_of new) pair now.journal → call.kept ≡ kept →
-      Tries pair (tried_shown new) now.journal → Answered new pair machine running taken kept messages
+      Tries pair (tried_shown new) now.journal →
+      Answered new pair machine running taken kept messages

@@ -14,7 +14,7 @@ use Rattle.syn_session.specs.Tries.{HoldsTried}
 use Rattle.syn_session.specs.declared.due.Due.{Due}
 use Rattle.syn_session.specs.declared.due.Due.TheVariants.{Recorded, Refused, Ends}
 use Rattle.syn_session.specs.declared.tried.Tried.{Tried}
-use Rattle.syn_session.specs.inner.Steps.{KeepsSo, Moves}
+use Rattle.syn_session.specs.inner.Steps.{CompactsSo, KeepsSo}
 
 -- a record that was due is remembered where the device failed, and else nothing changes
 abbrev pub TriesBy : {D : Type 0} → {disk : Ghosts D} → Archive D disk → Kept → Option Tried →
@@ -53,7 +53,7 @@ pub data Settles {D : Type 0} {disk : Ghosts D} (new : Archive D disk) (pair : �
       Settles new pair machine kept (Ends refusal.Halted)
   checkpoint_breaks : IsReady machine kept → has_room (archive_layout pair) machine kept ≡ false →
       nat_le greatest machine.generation ≡ false →
-      Moves new pair (Compacts (archive_layout pair) machine) Halted →
+      CompactsSo new pair machine Halted →
       Settles new pair machine kept (Ends refusal.Device)
   record_breaks : (made : Bool) (between : Journal) → IsReady machine kept →
       MakesRoom pair machine kept made between →

@@ -70,13 +70,15 @@ pub data TakesEnd {D : Type 0} {disk : Ghosts D} (new : Archive D disk) (tried :
       (fault_of running.taken taken.side taken.request taken.reply ≡ Some (cause_of why))
       ⊎ (cause_of why ≡ Memory) →
       Tells session running → IsMachine new pair journal → kept ≡ [] →
-      Tries pair tried journal → TakesEnd new tried pair journal running taken session kept (Early why)
+      Tries pair tried journal →
+      TakesEnd new tried pair journal running taken session kept (Early why)
   ends : (ended : Ended) (walk : Walk) (after : Reached) →
       Walks pair journal running taken after kept walk →
       walk.cursor ≡ after.cursor → walk.refused ≡ after.refused →
       EndsFor pair (reaching running taken after) taken journal.status walk (ended_by ended) →
       IsMachine new pair walk.journal → Tells session (reaching running taken after) →
-      Tries pair tried walk.journal → TakesEnd new tried pair journal running taken session kept ended
+      Tries pair tried walk.journal →
+      TakesEnd new tried pair journal running taken session kept ended
   goes_down : (ended : Ended) (walk : Walk) (after : Reached) →
       Walks pair journal running taken after kept walk →
       is_stopped (disk.arms (disk_of new)) ≡ true → walk.journal.status ≡ Down →

@@ -82,7 +82,8 @@ pub data Ends {D : Type 0} {disk : Ghosts D} (new : Archive D disk) (tried : Opt
       ((running : Running) → running.plan ≡ before.plan →
       EndsFor pair running taken old.status walk (ended_by ended)) →
       IsMachine new pair walk.journal → IsCourse course left right after →
-      Tries pair tried walk.journal → Ends new tried pair taken old before kept course left right ended
+      Tries pair tried walk.journal →
+      Ends new tried pair taken old before kept course left right ended
   goes_down : (walk : Walk) →
       Advances pair (plan_at before) taken (walk_at old before) kept walk →
       is_stopped (disk.arms (disk_of new)) ≡ true → walk.journal.status ≡ Down →

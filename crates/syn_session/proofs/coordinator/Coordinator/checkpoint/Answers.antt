@@ -18,7 +18,7 @@ returns-in-Err-clause-step g c pair machine stands device =
     let is = stands.journal in
     let was = when_up c.args.self.now.archive pair machine is (subst (λ n. n < 2 ^ 64) c.generation-generation.ensures c.is_long.ensures) (λ h. device_not_halted _ _ device (c.in-Err.ensures.halted.1 h)) in
     checkpoint_does c.args.self.now _ pair machine stands refl was refl _ halted_not_down
-    (compact_failed c.args.self.now.archive _ pair machine.journal is was (c.in-Err.ensures.halts (ap (λ e. Err e) device)) c.in-Err.ensures.memory g.met.D.Disk.counts_now (c.in-Err.ensures.any_moment _ was.stands) c.device_laws.ensures.broken
+    (compact_failed c.args.self.now.archive _ pair machine.journal is was (c.in-Err.ensures.halts (ap (λ e. Err e) device)) c.in-Err.ensures.readings g.met.D.Disk.counts_now (c.in-Err.ensures.any_moment _ was.stands) c.device_laws.ensures.broken
     (subst (λ e. MakesIfDevice e 6 (g.D.Disk.arms (disk_of c.args.self.now.archive)) (g.D.Disk.arms (disk_of c.checkpoint.new.self))) device c.in-Err.ensures.calls))
 
 pub returns-in-Err-clause-refused : goal.returns-in-Err-clause-refused

@@ -16,7 +16,7 @@ use Rattle.syn_session.specs.inner.Steps.{KeepsSo}
 use Rattle.syn_session.specs.Tries.{HoldsTried}
 use Rattle.syn_session.proofs.DueLemmas.{when_runs}
 use Rattle.syn_session.proofs.ErrorLemmas.{passed, refused_so}
-use Rattle.syn_session.proofs.StartLemmas.{is_none, started, start_failed, still_first, then_memory}
+use Rattle.syn_session.proofs.StartLemmas.{is_none, room_for, started, start_failed, still_first, then_memory}
 use Rattle.syn_session.proofs.TriedLemmas.{untried_up}
 use Rattle.syn_session.proofs.coordinator.Coordinator.start.Goals as goal
 
@@ -33,7 +33,7 @@ pub returns-in_err-keep_session-clause-step : goal.returns-in_err-keep_session-c
 returns-in_err-keep_session-clause-step g c pair machine stands =
     passed (λ e. e ≡ Device → Does c.args.self.now c.keep_session.new.self pair (CoordinatorStarts pair machine) [] []) _ c.from_residual-in_err-keep_session.result _ c.from_residual-in_err-keep_session.ensures.1
     (λ e. start_failed c.args.self.now c.keep_session.new.self pair machine c.in_ok-check_start.ensures.idle (when_runs c.args.self.now.archive pair machine.journal stands.journal c.in_ok-check_start.ensures.up).idle
-    (subst (λ n. HoldsTried c.keep_session.new.self.archive (Session (n + 1)) c.keep_session.new.self.tried) (ap (λ a. a.last_session) stands.journal.remembers) (c.in_err-keep_session.ensures.tried (ap (λ e. Err e) e))) (c.in_err-keep_session.ensures.stays ∙ is_none c.args.self.now.running c.in_ok-check_start.ensures.idle)
+    (subst (λ n. HoldsTried c.keep_session.new.self.archive (Session (n + 1)) c.keep_session.new.self.tried) (ap (λ a. a.last_session) stands.journal.remembers) (c.in_err-keep_session.ensures.tried (ap (λ e. Err e) e))) (room_for pair machine (c.in_ok-check_start.ensures.refused pair machine stands)) (c.in_err-keep_session.ensures.stays ∙ is_none c.args.self.now.running c.in_ok-check_start.ensures.idle)
     (subst (λ n. KeepsSo (archive_of c.keep_session.new.self) pair machine.journal (Session (n + 1)) [] Halted) (ap (λ a. a.last_session) stands.journal.remembers) (c.in_err-keep_session.ensures.device pair machine stands (ap (λ e. Err e) e))))
 
 pub returns-in_err-keep_session-clause-refused : goal.returns-in_err-keep_session-clause-refused
