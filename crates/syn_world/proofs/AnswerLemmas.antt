@@ -13,7 +13,7 @@ use Rattle.syn_headline.specs.Machine.{one_stops, idle, written, unwritten}
 use Rattle.syn_headline.specs.Side.{Reply, Request}
 use Rattle.syn_headline.specs.SideMachine.{SideMachine, SideTakes, answers, adds, side_layout}
 use Rattle.syn_headline.specs.SideMachine.{staging_after, with_journal}
-use Rattle.syn_message.specs.Replies.{reply_of}
+use Rattle.syn_message.specs.Replies.{IsLawfulReply, reply_of}
 use Rattle.syn_message.specs.declared.reply.Reply.{Reply as Said}
 use Rattle.syn_model.specs.Event.{Event}
 use Rattle.syn_model.specs.Spelling.{event_spelling}
@@ -106,7 +106,7 @@ module _ (pair : ℕ) (machine : SideMachine) (other : machine.journal.status �
 module _ {D : Type 0} {disk : Ghosts D} (pair : ℕ) (old new : Replica D disk)
     (agent after : Agent) (machine : SideMachine) (session : ℕ) (request : Request) (said : Said)
     (runs : RunsAs pair (side_of old agent) machine)
-    (unchanged : IsHalted old → IsUnchanged old new)
+    (unchanged : IsHalted old → IsUnchanged old new) (lawful : IsLawfulReply (reply_of said))
     (takes_so : Takes pair new after machine session request (reply_of said)) where
   abbrev next : SideMachine
   next = takes_so.next
@@ -147,6 +147,7 @@ module _ {D : Type 0} {disk : Ghosts D} (pair : ℕ) (old new : Replica D disk)
                   (heard s (reply_of said)) takes_so.events) rests.down takes_so.takes);
               refuses = ap refused_in behind.0;
               acknowledges = subst (λ o. Acknowledges o takes_so.events) (sym behind.0) down.0;
+              lawful = tt;
               is = behind.1 pair takes_so.next (record {
                 down = rests.down;
                 unarmed_is = down.1;
@@ -210,6 +211,7 @@ module _ {D : Type 0} {disk : Ghosts D} (pair : ℕ) (old new : Replica D disk)
                     refuses = ap refused_in behind.0;
                     acknowledges = subst (λ o. Acknowledges o takes_so.events) (sym behind.0)
                         stays.0;
+                    lawful = lawful;
                     is = behind.1 pair takes_so.next now;
                   }
               | inr grown ↦
@@ -223,6 +225,7 @@ module _ {D : Type 0} {disk : Ghosts D} (pair : ℕ) (old new : Replica D disk)
                     refuses = behind.0;
                     acknowledges = subst (λ es. Acknowledges call.outcome es) (sym grown.1)
                         behind.1;
+                    lawful = lawful;
                     is = behind.2 pair takes_so.next grown.3 now;
                   }
             ]

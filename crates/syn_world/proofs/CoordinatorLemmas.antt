@@ -1,36 +1,20 @@
 -- What is armed at a coordinator, and a stop of it, are steps of its machine and of the world.
-use Rattle.std.proofs.Common.{◌≡◌, ◌≢◌, ◌∙◌, ℕ, zero, suc, None, Option, List, inl, inr}
-use Rattle.std.proofs.Common.{refl, sym, ap, ap₂, subst, [], ◌++◌, if◌then◌else◌}
-use Rattle.std.proofs.lemmas.List.{append-nil}
+use Rattle.std.proofs.Common.{◌≡◌, ◌≢◌, ◌∙◌, ℕ, zero, suc, Option, inl, inr, refl, sym, ap}
 use Rattle.syn_disk.specs.declared.disk.Disk.{Ghosts}
-use Rattle.syn_headline.specs.Coordinator.{CoordinatorMachine, archive_layout, running_after}
-use Rattle.syn_headline.specs.Coordinator.{with_archive}
-use Rattle.syn_headline.specs.Machine.{Status, Up, Halted, Down, Arms, after_device, unarmed}
-use Rattle.syn_headline.specs.Machine.{Compacts, compacted as made, not_compacted}
+use Rattle.syn_headline.specs.Coordinator.{CoordinatorMachine, running_after}
+use Rattle.syn_headline.specs.Machine.{Status, Up, Halted, Down, Arms, after_device}
 use Rattle.syn_headline.specs.Session.{Running}
-use Rattle.syn_headline.specs.World.{World as ModelWorld, Steps, Checkpoint, Coordinator, Fail}
-use Rattle.syn_headline.specs.World.{Stop, answered_by, archive_writes, compacts_archive}
-use Rattle.syn_headline.specs.World.{is_halted, refuses_with}
-use Rattle.syn_model.specs.Refusal.{Refusal, Device, first_cause}
+use Rattle.syn_headline.specs.World.{World as ModelWorld, Steps, Coordinator, Fail, Stop}
 use Rattle.syn_model.specs.Path.{Bytes}
 use Rattle.syn_recovery.specs.Machines.{of_archive}
 use Rattle.syn_recovery.specs.Meaning.{MayBeOf, MayMean, as_kept, compacted, with_record}
 use Rattle.syn_journal.specs.Layout.{Value}
-use Rattle.syn_session.specs.Coordinators.{Does, Stands, checkpoint_refusals, goes_down, goes_on}
-use Rattle.syn_session.specs.Coordinators.{Checkpoints as DoesCheckpoint, with_arms}
-use Rattle.syn_session.specs.Coordinators.{checkpoints as does_checkpoint}
+use Rattle.syn_session.specs.Coordinators.{Stands, with_arms}
 use Rattle.syn_session.specs.Machines.{Journal}
 use Rattle.syn_session.specs.declared.coordinator.Coordinator.{Coordinator as Session}
-use Rattle.syn_world.specs.Coordinators.{Fails, IsCoordinator, StopsMachine, at_once, behind}
-use Rattle.syn_world.specs.Coordinators.{fails, stopped, with_device_arms}
+use Rattle.syn_world.specs.Coordinators.{Fails, IsCoordinator, StopsMachine, with_device_arms}
 use Rattle.syn_world.specs.Coordinators as step
-use Rattle.syn_world.specs.CoordinatorSteps.{Checkpoints, CheckpointsSo, Settles}
-use Rattle.syn_world.specs.CoordinatorSteps as steps
-use Rattle.syn_world.specs.Outcomes.{Acknowledges, refused_in}
-use Rattle.syn_world.specs.SideSteps.{refused_by}
 use Rattle.syn_world.specs.Worlds.{IsWorld}
-use Rattle.syn_world.specs.declared.coordinator.CoordinatorCall.{CoordinatorCall}
-use Rattle.syn_world.proofs.AnswerLemmas.{meets_down}
 use Rattle.syn_world.specs.declared.coordinator.CoordinatorHost.{CoordinatorHost}
 use Rattle.syn_world.specs.declared.world.World.{World}
 use Rattle.syn_world.proofs.SideLemmas.{halted_not_down, up_not_down}
@@ -126,98 +110,6 @@ stays_coordinator world model is coordinator next host = record {
     acknowledged = is.lists.acknowledged;
     refusals = is.lists.refusals;
     reports = is.lists.reports;
+    lawful = is.lists.lawful;
   };
 }
-
--- the journal that a checkpoint left down has nothing armed
-compacts_down : (pair : ℕ) (machine journal : Journal) → machine.status ≢ Down
-    → Compacts (archive_layout pair) machine journal → journal.status ≡ Down
-    → journal.arms ≡ unarmed
-compacts_down pair machine _ other (made arms meets) down = absurd (other down)
-compacts_down pair machine _ other (not_compacted status arms failed either meets) down =
-    meets_down machine.arms arms 6 failed status meets down
-
-module _ {D : Type 0} {disk : Ghosts D} (pair : ℕ) (old new : Session D disk)
-    (machine : CoordinatorMachine) (stands : Stands old pair machine)
-    (call : CoordinatorCall D disk) (settles : Settles new call)
-    (none : first_cause (checkpoint_refusals machine) ≡ None) where
-  pub checkpoint_made : Does old new pair (DoesCheckpoint pair machine) [] []
-      → CheckpointsSo pair machine call
-  checkpoint_made (goes_on _ _ (does_checkpoint journal compacts) now kept messages reports) =
-      let next = with_archive machine journal in
-      let behind = settles.goes_on pair next now in
-      record {
-        next = next;
-        checkpoints = subst (λ r. Checkpoints pair machine next r) (sym behind.0)
-            (steps.checkpoints journal (is_not_down pair old machine stands) none compacts);
-        acknowledges = behind.1;
-        is = behind.2;
-      }
-  checkpoint_made (goes_down _ _ (does_checkpoint journal compacts) stopped down leaves kept) =
-      let next = with_archive machine journal in
-      let other = is_not_down pair old machine stands in
-      let behind = settles.stops stopped pair next (record {
-        down = down;
-        unarmed_is = compacts_down pair machine.journal journal other compacts down;
-        idle = ap (λ s. running_after s machine.running) down;
-        leaves = leaves;
-      }) in
-      let made : Checkpoints pair machine next (refused_by journal.status) =
-      steps.checkpoints journal other none compacts in
-      record {
-        next = next;
-        checkpoints = subst (λ o. Checkpoints pair machine next (refused_in o)) (sym behind.0)
-            (subst (λ s. Checkpoints pair machine next (refused_by s)) down made);
-        acknowledges = subst (λ o. Acknowledges o []) (sym behind.0) refl;
-        is = behind.1;
-      }
-
--- a checkpoint of the coordinator is a step of the world
-abbrev pub coordinator_next : ModelWorld → CoordinatorMachine → List Refusal → ModelWorld
-coordinator_next old machine refusals =
-    record old { coordinator = machine; refusals = old.refusals ++ refusals }
-
-eq_made : (old : ModelWorld) (journal : Journal)
-    → coordinator_is old (with_archive old.coordinator journal) ≡ archive_writes old journal []
-eq_made old journal =
-    ap₂ (λ s a. record (coordinator_is old (with_archive old.coordinator journal))
-    { sent = s; acknowledged = a }) (sym (append-nil old.sent)) (sym (append-nil old.acknowledged))
-    ∙ ap₂ (λ r l. record (coordinator_is old (with_archive old.coordinator journal)) {
-      sent = old.sent ++ [];
-      acknowledged = old.acknowledged ++ [];
-      reports = r;
-      log = l;
-    }) (sym (append-nil old.reports)) (sym (append-nil old.log))
-
-eq_answered : (old : ModelWorld) (journal : Journal)
-    → coordinator_next old (with_archive old.coordinator journal) (refused_by journal.status)
-    ≡ answered_by Coordinator (archive_writes old journal [])
-eq_answered old journal = by journal.status
-  where
-    by : (status : Status)
-        → coordinator_next old (with_archive old.coordinator journal) (refused_by status)
-        ≡ (if is_halted status then refuses_with (archive_writes old journal []) Device
-        else archive_writes old journal [])
-    by Up = ap (λ r. record (coordinator_is old (with_archive old.coordinator journal))
-        { refusals = r }) (append-nil old.refusals) ∙ eq_made old journal
-    by Halted = ap (λ w. refuses_with w Device) (eq_made old journal)
-    by Down = ap (λ r. record (coordinator_is old (with_archive old.coordinator journal))
-        { refusals = r }) (append-nil old.refusals) ∙ eq_made old journal
-
-pub lift_checkpoint : (old : ModelWorld) (next : CoordinatorMachine) (refusals : List Refusal)
-    → Checkpoints old.pair old.coordinator next refusals
-    → Steps old (Checkpoint Coordinator) (coordinator_next old next refusals)
-lift_checkpoint old _ _ (steps.is_down down) =
-    inl (down, ap (λ r. record old { refusals = r }) (append-nil old.refusals))
-lift_checkpoint old _ _ (steps.refuses reason other some) =
-    inr (other, inl (reason, some, refl))
-lift_checkpoint old _ _ (steps.checkpoints journal other none compacts) =
-    inr (
-      other,
-      inr (
-        none,
-        archive_writes old journal [],
-        compacts_archive journal compacts,
-        eq_answered old journal,
-      ),
-    )

@@ -78,6 +78,7 @@ module _ {D : Type 0} {disk : Ghosts D} (pair : ℕ) (self : SideHost D disk) (s
       answers = step.Answers.is_down down;
       refuses = subst (λ o. refused_in o ≡ []) (sym nothing) refl;
       acknowledges = none;
+      lawful = tt;
       is = still;
     }
 

@@ -10,3 +10,8 @@ mod HostLemmas
 mod StepLemmas
 mod WorldLemmas
 mod CoordinatorLemmas
+mod CallLemmas
+mod SessionLemmas
+mod ListLemmas
+mod ReplyLemmas
+mod ListingLemmas

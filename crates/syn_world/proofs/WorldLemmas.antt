@@ -71,6 +71,7 @@ module _ {D : Type 0} {disk : Ghosts D} (world : World D disk) (model : ModelWor
       acknowledged = is.lists.acknowledged;
       refusals = is.lists.refusals;
       reports = is.lists.reports;
+      lawful = is.lists.lawful;
     };
   }
 
@@ -87,6 +88,7 @@ module _ {D : Type 0} {disk : Ghosts D} (world : World D disk) (model : ModelWor
       acknowledged = is.lists.acknowledged;
       refusals = is.lists.refusals;
       reports = is.lists.reports;
+      lawful = is.lists.lawful;
     };
   }
 
@@ -95,10 +97,10 @@ module _ {D : Type 0} {disk : Ghosts D} (world : World D disk) (model : ModelWor
     (is : IsWorld world model) (call : SideCall D disk) (next : SideMachine)
     (messages : List Message) (events : List Event) (told : Acknowledges call.outcome events)
     (none : refused_in call.outcome ≡ []) (host : IsHost model.pair call.side next)
-    (result : Result (World D disk) (Disks D)) where
+    (Said : Type 0) (said : Said) (result : Result (World D disk) (Disks D)) where
   pub hears_left : ((old new : ModelWorld) (events : List Event)
       → RunsMachines (record world { left = call.side }) new → IsListed world.lists old
-      → Acknowledges call.outcome events → refused_in call.outcome ≡ []
+      → Acknowledges call.outcome events → refused_in call.outcome ≡ [] → Said
       → GrowsBy old new Left messages events → EndsSo result new)
       → EndsSo result (side_next model Left next messages events [])
   hears_left noted = noted model (side_next model Left next messages events []) events (record {
@@ -106,7 +108,7 @@ module _ {D : Type 0} {disk : Ghosts D} (world : World D disk) (model : ModelWor
     left = host;
     right = is.machines.right;
     coordinator = is.machines.coordinator;
-  }) is.lists told none (record {
+  }) is.lists told none said (record {
     sent = refl;
     reports = refl;
     acknowledged = refl;
@@ -115,7 +117,7 @@ module _ {D : Type 0} {disk : Ghosts D} (world : World D disk) (model : ModelWor
 
   pub hears_right : ((old new : ModelWorld) (events : List Event)
       → RunsMachines (record world { right = call.side }) new → IsListed world.lists old
-      → Acknowledges call.outcome events → refused_in call.outcome ≡ []
+      → Acknowledges call.outcome events → refused_in call.outcome ≡ [] → Said
       → GrowsBy old new Right messages events → EndsSo result new)
       → EndsSo result (side_next model Right next messages events [])
   hears_right noted = noted model (side_next model Right next messages events []) events (record {
@@ -123,7 +125,7 @@ module _ {D : Type 0} {disk : Ghosts D} (world : World D disk) (model : ModelWor
     right = host;
     left = is.machines.left;
     coordinator = is.machines.coordinator;
-  }) is.lists told none (record {
+  }) is.lists told none said (record {
     sent = refl;
     reports = refl;
     acknowledged = refl;

@@ -1,14 +1,13 @@
 -- Which of the model's machines a side is, up or down, and what a call of it does.
 use Rattle.std.specs.Prelude.{◌≡◌, ◌<◌, ◌≤◌, ℕ, Bool, true, false, List, [], ◌∷◌, Option, Some}
-use Rattle.std.specs.Prelude.{None}
-use Rattle.std.specs.Prelude.{length, option_map}
+use Rattle.std.specs.Prelude.{IfSome, None, length, option_map}
 use Rattle.syn_agent.specs.Machines.{IsOf, MayLeave}
 use Rattle.syn_disk.specs.Arms.{Arms, is_stopped}
 use Rattle.syn_disk.specs.declared.disk.Disk.{Ghosts}
 use Rattle.syn_headline.specs.Machine.{Up, Down, unarmed}
 use Rattle.syn_headline.specs.Side.{Request}
 use Rattle.syn_headline.specs.SideMachine.{SideMachine}
-use Rattle.syn_message.specs.Replies.{reply_of}
+use Rattle.syn_message.specs.Replies.{IsLawfulReply, reply_of}
 use Rattle.syn_model.specs.Event.{Event}
 use Rattle.syn_model.specs.Path.{Bytes}
 use Rattle.syn_model.specs.Spelling.{event_spelling}
@@ -172,6 +171,7 @@ pub record AnswersSo {D : Type 0} {disk : Ghosts D} (pair : ℕ) (machine : Side
   pub answers : Answers pair machine session request next (option_map reply_of answer.reply) events
   pub refuses : refused_in answer.call.outcome ≡ []
   pub acknowledges : Acknowledges answer.call.outcome events
+  pub lawful : IfSome answer.reply (λ said. IsLawfulReply (reply_of said))
   pub is : IsHost pair answer.call.side next
 
 -- what is armed at it is a step of the machine

@@ -1,33 +1,40 @@
 -- Which of the model's worlds a world is.
-use Rattle.std.specs.Prelude.{◌≡◌, ◌++◌, ℕ, List, map, MatchResult, Result}
+use Rattle.std.specs.Prelude.{◌≡◌, ◌++◌, ℕ, List, length, map, All, MatchResult, Result}
 use Rattle.std.specs.Prelude.{Option, option_map}
 use Rattle.syn_disk.specs.declared.disk.Disk.{Ghosts}
 use Rattle.syn_headline.specs.Acknowledged as model
 use Rattle.syn_headline.specs.Acknowledged.{Happened, Kept_by}
-use Rattle.syn_headline.specs.Network.{Which, Answers, Message as Sent}
+use Rattle.syn_headline.specs.Coordinator.{Call}
+use Rattle.syn_headline.specs.Network.{Which, Answers, Asks, Message as Sent}
+use Rattle.syn_headline.specs.Report.{Report as Reported}
 use Rattle.syn_headline.specs.World.{World as ModelWorld, Step, Steps, says}
-use Rattle.syn_message.specs.Replies.{reply_of}
+use Rattle.syn_message.specs.Replies.{IsLawfulReply, reply_of}
 use Rattle.syn_message.specs.Sides.{which_of}
 use Rattle.syn_message.specs.declared.reply.Reply.{Reply}
 use Rattle.syn_message.specs.declared.side.Side.{Side}
 use Rattle.syn_model.specs.Archive.{Kept}
 use Rattle.syn_model.specs.Event.{Event}
 use Rattle.syn_model.specs.Path.{Bytes}
+use Rattle.syn_model.specs.Refusal.{Refusal}
 use Rattle.syn_model.specs.Spelling.{event_spelling}
 use Rattle.syn_recovery.specs.Machines.{of_archive, of_side}
 use Rattle.syn_recovery.specs.Meaning.{MayBeOf}
 use Rattle.syn_refusal.specs.Refusals.{cause_of}
+use Rattle.syn_session.specs.Coordinators.{in_report}
 use Rattle.syn_session.specs.Reports.{report_model}
 use Rattle.syn_session.specs.Sendings as sendings
+use Rattle.syn_session.specs.declared.report.Report.{Report}
 use Rattle.syn_wire.specs.Marks.{kept_of}
+use Rattle.syn_wire.specs.declared.kept.Kept.{Kept as KeptBy}
 use Rattle.syn_world.specs.Coordinators.{IsCoordinator}
-use Rattle.syn_world.specs.Outcomes.{Acknowledges, refused_in}
+use Rattle.syn_world.specs.Outcomes.{Acknowledges, causes_in, refused_in}
 use Rattle.syn_world.specs.Sides.{IsHost}
 use Rattle.syn_world.specs.declared.lists.Ack.{Ack}
 use Rattle.syn_world.specs.declared.lists.Ack.TheVariants as acks
 use Rattle.syn_world.specs.declared.lists.Lists.{Lists}
 use Rattle.syn_world.specs.declared.lists.Message.{Message}
 use Rattle.syn_world.specs.declared.lists.Message.TheVariants as messages
+use Rattle.syn_world.specs.declared.outcome.CoordinatorOutcome.{CoordinatorOutcome}
 use Rattle.syn_world.specs.declared.outcome.Outcome.{Outcome}
 use Rattle.syn_world.specs.declared.world.Disks.{Disks}
 use Rattle.syn_world.specs.declared.world.World.{World}
@@ -45,17 +52,31 @@ abbrev pub told_in : Ack → Told
 told_in (acks.Event side spelled) = TellsEvent (which_of side) spelled.items
 told_in (acks.Kept kept) = TellsKept (kept_of kept)
 
+-- what an archive kept
+abbrev pub told_kept : KeptBy → Told
+told_kept kept = TellsKept (kept_of kept)
+
+-- a report with the number of acknowledgements up to it
+abbrev pub report_in : Report × ℕ → Reported × ℕ
+report_in one = (report_model one.0, one.1)
+
 abbrev pub message_of : Message → Sent
 message_of (messages.Asks sending) = sendings.message_of sending
 message_of (messages.Answers from answered) =
     Answers (which_of from) answered.session answered.number (reply_of answered.reply)
 
--- the lists are those of the model
+-- what a side said is a reply that can be sent
+abbrev pub CanBeSent : Sent → Type 0
+CanBeSent (Asks to session number request) = Unit {0}
+CanBeSent (Answers from session number reply) = IsLawfulReply reply
+
+-- The lists are those of the model, and each reply in them is lawful
 pub record IsListed (lists : Lists) (world : ModelWorld) : Type 0 where
   pub sent : map message_of lists.sent.items ≡ world.sent
   pub acknowledged : map told_in lists.acknowledged.items ≡ map told_by world.acknowledged
   pub refusals : map cause_of lists.refusals.items ≡ world.refusals
-  pub reports : map (λ one. (report_model one.0, one.1)) lists.reports.items ≡ world.reports
+  pub reports : map report_in lists.reports.items ≡ world.reports
+  pub lawful : All CanBeSent world.sent
 
 -- and so are the machines
 pub record RunsMachines {D : Type 0} {disk : Ghosts D} (world : World D disk)
@@ -122,6 +143,26 @@ pub record Hears (old new : Lists) (side : Side) (session number : ℕ)
   pub acknowledged : new.acknowledged ≡ old.acknowledged
   pub refusals : new.refusals ≡ old.refusals
   pub reports : new.reports ≡ old.reports
+
+-- what came of a step of the coordinator is in the lists
+pub record Takes (old new : Lists) (outcome : CoordinatorOutcome) : Type 0 where
+  pub sent : map message_of new.sent.items ≡ map message_of old.sent.items
+      ++ sendings.messages_of outcome.sent.items
+  pub acknowledged : map told_in new.acknowledged.items ≡ map told_in old.acknowledged.items
+      ++ map told_kept outcome.kept.items
+  pub reports : map report_in new.reports.items ≡ map report_in old.reports.items
+      ++ map (λ report. (report, length new.acknowledged.items))
+      (in_report (option_map report_model outcome.ended))
+  pub refusals : map cause_of new.refusals.items
+      ≡ map cause_of old.refusals.items ++ causes_in outcome.refused
+
+-- the lists of a world behind a step of the coordinator
+pub record Goes (old new : ModelWorld) (made : Call) (refusals : List Refusal) : Type 0 where
+  pub sent : new.sent ≡ old.sent ++ made.messages
+  pub acknowledged : new.acknowledged ≡ old.acknowledged ++ map Kept_by made.kept
+  pub reports : new.reports ≡ old.reports
+      ++ map (λ report. (report, length new.acknowledged)) made.reports
+  pub refusals_are : new.refusals ≡ old.refusals ++ refusals
 
 -- the lists of a world behind a side's answer
 pub record GrowsBy (old new : ModelWorld) (side : Which) (messages : List Sent)

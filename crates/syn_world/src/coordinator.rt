@@ -1,21 +1,28 @@
 //! The coordinator of the world, whose machine is up or down.
-ghost use Rattle.std.specs.Prelude.{◌≡◌, ◌≢◌, ℕ, List, false, true};
+ghost use Rattle.std.specs.Prelude.{◌≡◌, ◌≢◌, ℕ, List, IfSome, false, true};
 ghost use Rattle.syn_disk.specs.Armed.{armed};
 ghost use Rattle.syn_disk.specs.Arms.{is_stopped};
-ghost use Rattle.syn_headline.specs.Coordinator.{CoordinatorMachine};
+ghost use Rattle.syn_headline.specs.Coordinator.{CoordinatorMachine, no_call};
 ghost use Rattle.syn_recovery.specs.Calls.{armed_at};
 ghost use Rattle.syn_recovery.specs.Machines.{of_archive};
 ghost use Rattle.syn_recovery.specs.Meaning.{MayBeOf};
 ghost use Rattle.syn_session.specs.Coordinators.{Stands, device_of, with_arms};
-ghost use Rattle.syn_world.specs.CoordinatorSteps.{CheckpointsSo, Settles};
+ghost use Rattle.syn_world.specs.CoordinatorSteps.{CallsSo, Checkpoints, Settles};
+ghost use Rattle.syn_world.specs.Outcomes.{TellsRefused};
+ghost use Rattle.syn_world.specs.SideSteps.{refused_by};
 
+use crate::coordinator::settle::{down, halted, settle};
 use crate::disk::SimulatedDisk;
-use crate::outcome::Outcome;
+use crate::outcome::CoordinatorOutcome;
 use std::alloc::Global;
 use syn_archive::ArchiveError;
 use syn_disk::{Arm, Disk};
 use syn_refusal::Refusal;
 use syn_session::Coordinator;
+
+mod settle;
+mod start;
+mod tick;
 
 /// The coordinator of the world.
 #[derive(Drop)]
@@ -62,8 +69,7 @@ impl<D: SimulatedDisk> CoordinatorHost<D> {
         match self {
             CoordinatorHost::Up(coordinator) => {
                 if calls == 0 {
-                    let disk = coordinator.into_archive().into_disk();
-                    CoordinatorHost::Down(disk.after_stop())
+                    down(coordinator)
                 } else {
                     CoordinatorHost::Up(armed_with(coordinator, Arm::Stop(calls)))
                 }
@@ -86,11 +92,12 @@ fn armed_with<D: SimulatedDisk>(coordinator: Coordinator<D>, arm: Arm) -> Coordi
     coordinator
 }
 
-/// A coordinator behind a step, with what came of it.
+/// A coordinator behind a step, with what came of it. Of that nothing is told where memory for it is
+/// refused.
 #[derive(Drop)]
 pub struct CoordinatorCall<D: Disk> {
     pub coordinator: CoordinatorHost<D>,
-    pub outcome: Outcome,
+    pub outcome: Option<CoordinatorOutcome>,
 }
 
 impl<D: SimulatedDisk> CoordinatorHost<D> {
@@ -100,14 +107,22 @@ impl<D: SimulatedDisk> CoordinatorHost<D> {
     /// checkpoint of the coordinator is.
     pub fn checkpoint(self, alloc: Global) -> CoordinatorCall<D>
         ensures { (pair : ℕ) (machine : CoordinatorMachine) → IsCoordinator pair self machine
-            → CheckpointsSo pair machine result }
+            → CallsSo pair (Checkpoints pair machine) result }
     {
         match self {
             CoordinatorHost::Up(coordinator) => compact(alloc, coordinator),
-            CoordinatorHost::Down(disk) => CoordinatorCall {
-                coordinator: CoordinatorHost::Down(disk),
-                outcome: Outcome::Nothing,
-            },
+            CoordinatorHost::Down(disk) => CoordinatorHost::Down(disk).refused(alloc, None),
+        }
+    }
+
+    /// Nothing was done, and it was refused so, if it was refused.
+    pub(crate) fn refused(self, alloc: Global, refused: Option<Refusal>) -> CoordinatorCall<D>
+        ensures coordinator { result.coordinator ≡ self }
+        ensures outcome { IfSome result.outcome (λ told. TellsRefused told refused) }
+    {
+        CoordinatorCall {
+            coordinator: self,
+            outcome: Some(CoordinatorOutcome::refused_with(alloc, refused)),
         }
     }
 }
@@ -115,19 +130,16 @@ impl<D: SimulatedDisk> CoordinatorHost<D> {
 /// The checkpoint of a coordinator that is up.
 fn compact<D: SimulatedDisk>(alloc: Global, coordinator: Coordinator<D>) -> CoordinatorCall<D>
     ensures { (pair : ℕ) (machine : CoordinatorMachine) → Stands coordinator pair machine
-        → CheckpointsSo pair machine result }
+        → CallsSo pair (Checkpoints pair machine) result }
 {
     let mut coordinator = coordinator;
     match coordinator.checkpoint(alloc) {
-        Ok(()) => settle(coordinator),
+        Ok(()) => settle_compacted(alloc, coordinator),
         Err(error) => {
             if is_device(error) {
-                return settle(coordinator);
+                return settle_compacted(alloc, coordinator);
             }
-            CoordinatorCall {
-                coordinator: CoordinatorHost::Up(coordinator),
-                outcome: Outcome::Refused(error.refusal()),
-            }
+            CoordinatorHost::Up(coordinator).refused(alloc, Some(error.refusal()))
         }
     }
 }
@@ -151,24 +163,14 @@ fn is_device(error: ArchiveError) -> bool
     }
 }
 
-/// The coordinator behind a call that was made. Where the device failed in it, it is refused 9.
-fn settle<D: SimulatedDisk>(coordinator: Coordinator<D>) -> CoordinatorCall<D>
-    ensures { Settles coordinator result }
+/// The coordinator behind a checkpoint that was made. Where its device failed, it is refused 9.
+fn settle_compacted<D: SimulatedDisk>(
+    alloc: Global,
+    coordinator: Coordinator<D>,
+) -> CoordinatorCall<D>
+    ensures { Settles coordinator no_call refused_by result }
 {
-    if coordinator.is_cut() {
-        let disk = coordinator.into_archive().into_disk();
-        return CoordinatorCall {
-            coordinator: CoordinatorHost::Down(disk.after_stop()),
-            outcome: Outcome::Nothing,
-        };
-    }
-    let outcome = if coordinator.archive().is_halted() {
-        Outcome::Refused(Refusal::Device)
-    } else {
-        Outcome::Nothing
-    };
-    CoordinatorCall {
-        coordinator: CoordinatorHost::Up(coordinator),
-        outcome,
-    }
+    let refused = halted(&coordinator);
+    let outcome = CoordinatorOutcome::refused_with(alloc, refused);
+    settle(alloc, coordinator, Some(outcome))
 }

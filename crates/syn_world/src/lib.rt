@@ -5,16 +5,18 @@
 #![tactic(auto)]
 
 mod coordinator;
+mod copies;
 mod disk;
 mod lawful;
 mod lists;
 mod outcome;
+mod replies;
 mod side;
 mod world;
 
 pub use coordinator::{CoordinatorCall, CoordinatorHost};
 pub use disk::SimulatedDisk;
 pub use lists::{Ack, Lists, Message};
-pub use outcome::Outcome;
+pub use outcome::{CoordinatorOutcome, Outcome};
 pub use side::{DownSide, SideAnswer, SideCall, SideHost, UpSide};
 pub use world::{Disks, World};

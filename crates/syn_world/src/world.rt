@@ -1,19 +1,22 @@
 //! A world of two sides and a coordinator, and its steps.
-ghost use Rattle.std.specs.Prelude.{◌≡◌, [], List, option_map};
+ghost use Rattle.std.specs.Prelude.{◌≡◌, [], IfSome, List, option_map};
+ghost use Rattle.syn_headline.specs.Coordinator.{Call};
 ghost use Rattle.syn_headline.specs.World.{World as ModelWorld, says};
-ghost use Rattle.syn_message.specs.Replies.{reply_of};
+ghost use Rattle.syn_message.specs.Replies.{IsLawfulReply, reply_of};
 ghost use Rattle.syn_message.specs.Sides.{which_of};
 ghost use Rattle.syn_model.specs.Event.{Event};
+ghost use Rattle.syn_model.specs.Refusal.{Refusal as Cause};
 
 use crate::coordinator::CoordinatorHost;
 use crate::disk::SimulatedDisk;
 use crate::lists::Lists;
-use crate::outcome::Outcome;
+use crate::outcome::{CoordinatorOutcome, Outcome};
 use crate::side::SideHost;
 use syn_disk::Disk;
 use syn_message::{Reply, Side};
 
 mod coordinators;
+mod sessions;
 mod sides;
 
 /// What three disks hold.
@@ -36,8 +39,8 @@ pub struct World<D: Disk> {
 }
 
 impl<D: SimulatedDisk> World<D> {
-    ghost use Rattle.syn_world.specs.Outcomes.{Acknowledges, refused_in};
-    ghost use Rattle.syn_world.specs.Worlds.{AreLeft, EndsSo, Grows, GrowsBy, IsListed};
+    ghost use Rattle.syn_world.specs.Outcomes.{Acknowledges, Tells, refused_in};
+    ghost use Rattle.syn_world.specs.Worlds.{AreLeft, EndsSo, Goes, Grows, GrowsBy, IsListed};
     ghost use Rattle.syn_world.specs.Worlds.{RunsMachines};
 
     /// The disks, as the last step left them.
@@ -77,6 +80,7 @@ impl<D: SimulatedDisk> World<D> {
     ) -> Result<World<D>, Disks<D>>
         ensures { (old new : ModelWorld) (events : List Event) → RunsMachines self new
             → IsListed self.lists old → Acknowledges outcome events → refused_in outcome ≡ []
+            → IfSome reply (λ said. IsLawfulReply (reply_of said))
             → GrowsBy old new (which_of side)
             (says (which_of side) session number (option_map reply_of reply)) events
             → EndsSo result new }
@@ -88,6 +92,27 @@ impl<D: SimulatedDisk> World<D> {
             Ok(world)
         } else {
             Err(world.into_disks())
+        }
+    }
+
+    /// The world behind a step of its coordinator, with what came of it. Where memory for that was
+    /// refused already, the disks come back.
+    fn told(self, outcome: Option<CoordinatorOutcome>) -> Result<World<D>, Disks<D>>
+        ensures { (old new : ModelWorld) (made : Call) (refusals : List Cause)
+            → RunsMachines self new → IsListed self.lists old
+            → IfSome outcome (λ told. Tells told made refusals) → Goes old new made refusals
+            → EndsSo result new }
+    {
+        let mut world = self;
+        match outcome {
+            Some(outcome) => {
+                if world.lists.take(outcome) {
+                    Ok(world)
+                } else {
+                    Err(world.into_disks())
+                }
+            }
+            None => Err(world.into_disks()),
         }
     }
 }

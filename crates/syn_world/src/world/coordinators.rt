@@ -5,7 +5,6 @@ ghost use Rattle.syn_headline.specs.World.{Fail, Stop};
 use super::{Disks, World};
 use crate::disk::SimulatedDisk;
 use std::alloc::Global;
-use syn_message::Side;
 
 impl<D: SimulatedDisk> World<D> {
     ghost use Rattle.syn_world.specs.Worlds.{GoesSo, IsWorld, StaysSo};
@@ -40,6 +39,6 @@ impl<D: SimulatedDisk> World<D> {
         let mut world = self;
         let call = world.coordinator.checkpoint(alloc);
         world.coordinator = call.coordinator;
-        world.noted(Side::Left, call.outcome)
+        world.told(call.outcome)
     }
 }

@@ -1,6 +1,8 @@
 use Rattle.std.proofs.Common.{refl, subst}
 use Rattle.syn_world.specs.Coordinators.{IsCoordinator}
+use Rattle.syn_world.specs.CoordinatorSteps.{Checkpoints}
 use Rattle.syn_world.specs.CoordinatorSteps as steps
+use Rattle.syn_world.proofs.CallLemmas.{refused_call}
 use Rattle.syn_world.proofs.coordinator.CoordinatorHost.checkpoint.Goals as goal
 
 pub returns-in-Up : goal.returns-in-Up
@@ -10,9 +12,6 @@ returns-in-Up g c pair machine is =
 pub returns-in-Down : goal.returns-in-Down
 returns-in-Down g c pair machine is =
     let rests = subst (λ s. IsCoordinator pair s machine) c.in-Down.is is in
-    record {
-      next = machine;
-      checkpoints = steps.is_down rests.down;
-      acknowledges = refl;
-      is = rests;
-    }
+    refused_call pair machine _ c.refused.result _ _ (Checkpoints pair machine) rests
+    c.refused.ensures.coordinator c.refused.ensures.outcome refl
+    (steps.Checkpoints.is_down rests.down)

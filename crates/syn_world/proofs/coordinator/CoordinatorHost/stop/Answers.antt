@@ -1,7 +1,6 @@
 use Rattle.std.proofs.Common.{◌≡◌, ◌≢◌, ◌∙◌, ℕ, false, Some, ap, arith, refl, subst, sym}
 use Rattle.std.proofs.lemmas.Bool.Decides.{nat_tests}
 use Rattle.std.specs.Prelude.{◌==◌, if◌then◌else◌}
-use Rattle.syn_archive.specs.Archive.{disk_of}
 use Rattle.syn_disk.specs.Arms.{is_stopped}
 use Rattle.syn_headline.specs.Machine.{Arms, Down, unarmed}
 use Rattle.syn_recovery.specs.Calls.{armed_at}
@@ -22,17 +21,13 @@ returns-then-calls-eq0 g c pair machine is =
       next = stopped machine;
       stops = subst (λ n. StopsMachine machine n (stopped machine)) (sym none)
           (step.at_once (is_not_down pair c.in-Up.coordinator machine stands));
-      is = record {
+      is = c.down.ensures pair (stopped machine) (record {
         down = refl;
         unarmed_is = refl;
         idle = refl;
-        armed = ap armed_at c.after_stop.ensures.arms;
-        goes = ap is_stopped c.after_stop.ensures.arms;
         leaves = λ bytes may. archive_still pair machine.journal Down unarmed 0 bytes
-            (stands.journal.leaves bytes (subst (λ d. g.D.Disk.may_leave d bytes)
-            (c.into_disk-disk.ensures ∙ ap disk_of c.into_archive.ensures)
-            (c.after_stop.ensures.left bytes may)));
-      };
+            (stands.journal.leaves bytes may);
+      });
     }
 
 pub returns-else-calls-eq0 : goal.returns-else-calls-eq0

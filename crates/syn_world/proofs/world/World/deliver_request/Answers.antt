@@ -22,7 +22,7 @@ returns-in-Left g c model message is sent =
           (subst (λ s. slice_get model.sent message ≡ Some (Asks (which_of s) c.args.session
           c.args.number (request_of c.args.request))) c.in-Left.is sent) so.answers;
       ends = hears_left c.args.self model is answer.call so.next messages so.events
-          so.acknowledges so.refuses so.is c.heard.result c.heard.ensures;
+          so.acknowledges so.refuses so.is _ so.lawful c.heard.result c.heard.ensures;
     }
 
 pub returns-in-Right : goal.returns-in-Right
@@ -38,5 +38,6 @@ returns-in-Right g c model message is sent =
           (subst (λ s. slice_get model.sent message ≡ Some (Asks (which_of s) c.args.session
           c.args.number (request_of c.args.request))) c.in-Right.is sent) so.answers;
       ends = hears_right c.args.self model is answer.call so.next messages so.events
-          so.acknowledges so.refuses so.is c.heard-in-Right.result c.heard-in-Right.ensures;
+          so.acknowledges so.refuses so.is _ so.lawful
+          c.heard-in-Right.result c.heard-in-Right.ensures;
     }

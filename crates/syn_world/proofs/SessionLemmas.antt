@@ -1,0 +1,164 @@
+-- A call of the coordinator is a step of the world, and its lists grow so.
+use Rattle.std.proofs.Common.{◌≡◌, ◌∙◌, ◌++◌, ◌∷◌, [], ℕ, List, Some, ap, ap₂, if◌then◌else◌}
+use Rattle.std.proofs.Common.{inl, inr, refl, subst, sym}
+use Rattle.std.proofs.lemmas.List.{append-nil}
+use Rattle.std.specs.Prelude.{IfSome, Result, slice_get}
+use Rattle.syn_disk.specs.declared.disk.Disk.{Ghosts}
+use Rattle.syn_headline.specs.Coordinator.{Call, CoordinatorMachine, CoordinatorTakes}
+use Rattle.syn_headline.specs.Coordinator.{CoordinatorTicks, no_call, with_archive}
+use Rattle.syn_headline.specs.Machine.{Status, Up, Halted, Down}
+use Rattle.syn_headline.specs.Network.{Answers, Which}
+use Rattle.syn_headline.specs.Side.{Reply}
+use Rattle.syn_headline.specs.World.{World as ModelWorld, Checkpoint, Coordinator, Deliver, Delivers}
+use Rattle.syn_headline.specs.World.{Start, Steps, Tick, Ticks, answered_by, compacts_archive}
+use Rattle.syn_headline.specs.World.{coordinator_goes, is_halted, refuses_with, starts, ticks}
+use Rattle.syn_headline.specs.World.{to_coordinator}
+use Rattle.syn_model.specs.Refusal.{Refusal, Device}
+use Rattle.syn_world.specs.CoordinatorSteps.{CallStep, CallsSo, Checkpoints, Starts, Unrefused}
+use Rattle.syn_world.specs.CoordinatorSteps as steps
+use Rattle.syn_world.specs.Outcomes.{Tells}
+use Rattle.syn_world.specs.SideSteps.{refused_by}
+use Rattle.syn_world.specs.Worlds.{EndsSo, Goes, GoesSo, IsListed, IsWorld, RunsMachines}
+use Rattle.syn_headline.specs.World as model
+use Rattle.syn_world.specs.declared.coordinator.CoordinatorCall.{CoordinatorCall}
+use Rattle.syn_world.specs.declared.world.Disks.{Disks}
+use Rattle.syn_world.specs.declared.world.World.{World}
+
+-- the world behind a call of its coordinator
+abbrev pub coordinator_next : ModelWorld → CoordinatorMachine → Call → List Refusal → ModelWorld
+coordinator_next old machine made refusals =
+    record (coordinator_goes old machine made) { refusals = old.refusals ++ refusals }
+
+-- with these lists
+abbrev listed : ModelWorld → List Refusal → ModelWorld
+listed old refusals = record old {
+  sent = old.sent ++ [];
+  acknowledged = old.acknowledged ++ [];
+  reports = old.reports ++ [];
+  log = old.log ++ [];
+  refusals = refusals;
+}
+
+same_lists : (old : ModelWorld) (refusals : List Refusal)
+    → listed old refusals ≡ record old { refusals = refusals }
+same_lists old refusals =
+    ap₂ (λ s a. record (listed old refusals) { sent = s; acknowledged = a })
+    (append-nil old.sent) (append-nil old.acknowledged)
+    ∙ ap₂ (λ r l. record old { refusals = refusals; reports = r; log = l })
+    (append-nil old.reports) (append-nil old.log)
+
+-- nothing happened
+eq_same : (old : ModelWorld) → coordinator_next old old.coordinator no_call [] ≡ old
+eq_same old = same_lists old (old.refusals ++ [])
+    ∙ ap (λ r. record old { refusals = r }) (append-nil old.refusals)
+
+-- a user was refused
+eq_refused : (old : ModelWorld) (reason : Refusal)
+    → coordinator_next old old.coordinator no_call (reason ∷ []) ≡ refuses_with old reason
+eq_refused old reason = same_lists old (old.refusals ++ reason ∷ [])
+
+-- no user was
+eq_goes : (old : ModelWorld) (next : CoordinatorMachine) (made : Call)
+    → coordinator_next old next made [] ≡ coordinator_goes old next made
+eq_goes old next made =
+    ap (λ r. record (coordinator_goes old next made) { refusals = r }) (append-nil old.refusals)
+
+-- a call that leaves the machine halted is refused so
+eq_answered : (old : ModelWorld) (next : CoordinatorMachine) (made : Call)
+    → coordinator_next old next made (refused_by next.journal.status)
+    ≡ answered_by Coordinator (coordinator_goes old next made)
+eq_answered old next made = by next.journal.status
+  where
+    by : (status : Status) → coordinator_next old next made (refused_by status)
+        ≡ (if is_halted status then refuses_with (coordinator_goes old next made) Device
+        else coordinator_goes old next made)
+    by Up = eq_goes old next made
+    by Halted = refl
+    by Down = eq_goes old next made
+
+module _ (old : ModelWorld) (next : CoordinatorMachine) (made : Call)
+    (refusals : List Refusal) where
+  abbrev new : ModelWorld
+  new = coordinator_next old next made refusals
+
+  -- a step that refuses nothing
+  unrefused : (none : refusals ≡ []) → new ≡ coordinator_goes old next made
+  unrefused none = ap (coordinator_next old next made) none ∙ eq_goes old next made
+
+  pub lift_tick : Unrefused (CoordinatorTicks old.coordinator) next made refusals
+      → Steps old Tick (coordinator_next old next made refusals)
+  lift_tick ticked = subst (Ticks old) (sym (unrefused ticked.none)) (ticks next made ticked.step)
+
+  pub lift_reply : (message : ℕ) (from : Which) (session number : ℕ) (reply : Reply)
+      → slice_get old.sent message ≡ Some (Answers from session number reply)
+      → Unrefused (CoordinatorTakes old.pair old.coordinator from session number reply) next made
+      refusals
+      → Steps old (Deliver message) (coordinator_next old next made refusals)
+  lift_reply message from session number reply is taken =
+      subst (λ o. Delivers old o new) (sym is)
+      (subst (Delivers old (Some (Answers from session number reply)))
+      (sym (unrefused taken.none))
+      (to_coordinator from session number reply next made taken.step))
+
+pub lift_start : (old : ModelWorld) (next : CoordinatorMachine) (made : Call)
+    (refusals : List Refusal) → Starts old.pair old.coordinator next made refusals
+    → Steps old Start (coordinator_next old next made refusals)
+lift_start old _ _ _ (steps.Starts.is_down down) = inl (down, eq_same old)
+lift_start old _ _ _ (steps.Starts.refuses reason other some) =
+    inr (other, inl (reason, some, eq_refused old reason))
+lift_start old _ _ _ (steps.Starts.starts next made other none started) =
+    inr (
+      other,
+      inr (
+        none,
+        coordinator_goes old next made,
+        starts next made started,
+        eq_answered old next made,
+      ),
+    )
+
+pub lift_checkpoint : (old : ModelWorld) (next : CoordinatorMachine) (made : Call)
+    (refusals : List Refusal) → Checkpoints old.pair old.coordinator next made refusals
+    → Steps old (Checkpoint Coordinator) (coordinator_next old next made refusals)
+lift_checkpoint old _ _ _ (steps.Checkpoints.is_down down) = inl (down, eq_same old)
+lift_checkpoint old _ _ _ (steps.Checkpoints.refuses reason other some) =
+    inr (other, inl (reason, some, eq_refused old reason))
+lift_checkpoint old _ _ _ (steps.Checkpoints.checkpoints journal other none compacts) =
+    let next = with_archive old.coordinator journal in
+    inr (
+      other,
+      inr (
+        none,
+        coordinator_goes old next no_call,
+        compacts_archive journal compacts,
+        eq_answered old next no_call,
+      ),
+    )
+
+-- the world behind a call is one of the model's
+module _ {D : Type 0} {disk : Ghosts D} (world : World D disk) (old : ModelWorld)
+    (is : IsWorld world old) (Whole : CallStep) (call : CoordinatorCall D disk)
+    (so : CallsSo old.pair Whole call) (result : Result (World D disk) (Disks D)) where
+  pub goes_coordinator : (step : model.Step)
+      → (Whole so.next so.made so.refusals
+      → Steps old step (coordinator_next old so.next so.made so.refusals))
+      → ((was new : ModelWorld) (made : Call) (refusals : List Refusal)
+      → RunsMachines (record world { coordinator = call.coordinator }) new
+      → IsListed world.lists was → IfSome call.outcome (λ told. Tells told made refusals)
+      → Goes was new made refusals → EndsSo result new)
+      → GoesSo old step result
+  goes_coordinator step lift told = record {
+    new = coordinator_next old so.next so.made so.refusals;
+    steps = lift so.step;
+    ends = told old (coordinator_next old so.next so.made so.refusals) so.made so.refusals (record {
+      pair = is.machines.pair;
+      left = is.machines.left;
+      right = is.machines.right;
+      coordinator = so.is;
+    }) is.lists so.tells (record {
+      sent = refl;
+      acknowledged = refl;
+      reports = refl;
+      refusals_are = refl;
+    });
+  }

@@ -1,0 +1,11 @@
+use Rattle.syn_headline.specs.World.{Start}
+use Rattle.syn_world.specs.CoordinatorSteps.{Starts}
+use Rattle.syn_world.proofs.SessionLemmas.{goes_coordinator, lift_start}
+use Rattle.syn_world.proofs.world.World.start.Goals as goal
+
+pub returns : goal.returns
+returns g c model is =
+    goes_coordinator c.args.self model is (Starts model.pair model.coordinator)
+    c.start-call.result
+    (c.start-call.ensures model.pair model.coordinator is.machines.coordinator)
+    c.told.result Start (lift_start model _ _ _) c.told.ensures

@@ -1,0 +1,112 @@
+//! Which replies of a side can be sent.
+ghost use Rattle.std.specs.Prelude.{◌≡◌, ◌↔◌, ◌<◌, ◌^◌, All, IsTrue, length};
+ghost use Rattle.syn_mark.specs.Marks.{IsDigestOrDirectory, content_of};
+ghost use Rattle.syn_message.specs.Listings.{AreRising, IsEntry, IsListing, entries_of, entry_of};
+ghost use Rattle.syn_message.specs.Replies.{IsFetchedBytes, IsLawfulReply, reply_of};
+ghost use Rattle.syn_model.specs.Event.{AreBytes};
+
+use syn_mark::Mark;
+use syn_message::Reply;
+use syn_path::Name;
+
+/// The most names of a directory.
+const MOST_ENTRIES: usize = 256;
+
+/// The most bytes of a piece.
+const MOST_BYTES: usize = 32768;
+
+/// Whether it is a reply that can be sent: a directory has not too many names, and in their order,
+/// and a piece not too many bytes.
+pub(crate) fn can_be_sent(reply: &Reply) -> bool
+    ensures { IsTrue result ↔ IsLawfulReply (reply_of reply.now) }
+{
+    match reply {
+        Reply::Begun { position } => is_long(*position),
+        Reply::Listed { position, entries } => is_long(*position) && is_listing(entries),
+        Reply::NotDir { position } => is_long(*position),
+        Reply::Piece { total, bytes } => is_short(*total) && is_piece(bytes),
+        Reply::Staged => true,
+        Reply::Done => true,
+        Reply::Refused(_) => true,
+    }
+}
+
+/// Eight bytes spell it.
+fn is_long(number: u64) -> bool
+    ensures { IsTrue result ↔ (number < 2 ^ 64) }
+{
+    let _ = number;
+    true
+}
+
+/// Four bytes spell it.
+fn is_short(number: u32) -> bool
+    ensures { IsTrue result ↔ (number < 2 ^ 32) }
+{
+    let _ = number;
+    true
+}
+
+/// Not more bytes than are fetched at a time.
+fn is_piece(bytes: &[u8]) -> bool
+    ensures { IsTrue result ↔ IsFetchedBytes bytes.now }
+{
+    bytes.len() <= MOST_BYTES
+}
+
+/// As many entries as a directory may have, their names strictly rising.
+fn is_listing(entries: &[(Name, Mark)]) -> bool
+    ensures { IsTrue result ↔ IsListing (entries_of entries.now) }
+{
+    are_entries(entries);
+    entries.len() <= MOST_ENTRIES && are_rising(entries)
+}
+
+/// Each has a lawful name and mark, by its type.
+fn are_entries(entries: &[(Name, Mark)])
+    ensures { All (λ entry. IsEntry (entry_of entry)) entries.now }
+{
+    for (name, mark) in entries {
+        is_entry(name, *mark);
+    }
+}
+
+/// A name with a mark is an entry.
+fn is_entry(name: &Name, mark: Mark)
+    ensures { IsEntry (name.now, content_of mark) }
+{
+    let _ = name.as_str();
+    is_mark(mark);
+}
+
+/// The digest of a file has 32 bytes.
+fn is_mark(mark: Mark)
+    ensures { IsDigestOrDirectory (content_of mark) }
+{
+    match mark {
+        Mark::File(digest) => is_digest(digest),
+        Mark::Dir => {}
+    }
+}
+
+/// It is 32 bytes.
+fn is_digest(digest: [u8; 32])
+    ensures bytes { AreBytes digest }
+    ensures length { length digest ≡ 32 }
+{
+    are_bytes(digest.as_slice());
+}
+
+/// Each byte is below 256.
+fn are_bytes(bytes: &[u8])
+    ensures { AreBytes bytes.now }
+{
+    let _ = bytes;
+}
+
+/// Each name is below the next.
+fn are_rising(entries: &[(Name, Mark)]) -> bool
+    ensures { IsTrue result ↔ AreRising (entries_of entries.now) }
+{
+    entries.is_sorted_by(|entry, next| entry.0 < next.0)
+}
