@@ -1,5 +1,5 @@
 -- Laws of the lines of a script.
-use Rattle.std.proofs.Common.{◌≡◌, ◌<◌, ◌∙◌, ◌+◌, ℕ, List, [], ◌∷◌, ◌++◌, ◌⊎◌, inl, inr, length, map, drop, get_or, take, refl, sym, ap, arith}
+use Rattle.std.proofs.Common.{◌<◌, ◌∙◌, ◌+◌, ℕ, List, [], ◌∷◌, ◌++◌, inl, inr, length, map, drop, get_or, take, refl, sym, ap, arith}
 use Rattle.std.specs.Prelude.{All}
 use Rattle.std.specs.Str.{IsUtf8}
 use Rattle.std.proofs.lemmas.List.{append_assoc, length-map, length-take-le, map-append, map_more, take-append-drop}
@@ -22,9 +22,9 @@ say_step (first ∷ lines) steps line step said utf8 says = (said.0, elim said.1
 pub said_fit : (lines : List Text) (steps : List Line) → Say lines steps → All IsFit lines
 said_fit [] steps said = All-nil IsFit
 said_fit (first ∷ lines) steps said = elim said.1 [
-  inl s ↦ All-cons IsFit first lines (said.0, inl s.0) (said_fit lines steps s.1)
+  | inl s ↦ All-cons IsFit first lines (said.0, inl s.0) (said_fit lines steps s.1)
   | inr s ↦ All-cons IsFit first lines (said.0, inr (s.0, s.3)) (said_fit lines s.1 s.4)
-  ]
+]
 
 -- the first line that is not fit, behind lines that say steps
 pub first_fault : {W : Type 0} (text : W → Text) (lines : List W) (i : ℕ) (d : W) (steps : List Line) → i < length lines → Say (map text (take i lines)) steps → ¬ IsFit (text (get_or lines i d)) → IsFirstFault (map text lines) (i + 1)

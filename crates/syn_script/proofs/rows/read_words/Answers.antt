@@ -1,4 +1,4 @@
-use Rattle.std.proofs.Common.{◌∙◌, ◌∷◌, [], Bor, List, ℕ, arith, ap, map, get_or, take, drop, ◌-◌, length}
+use Rattle.std.proofs.Common.{◌∙◌, ◌∷◌, [], Bor, List, ℕ, arith, ap, map, take, drop, ◌-◌, length}
 use Rattle.std.proofs.lemmas.Result.{IfErr-weaker}
 use Rattle.syn_script.proofs.WordLemmas.{first_word}
 use Rattle.syn_script.proofs.VerbLemmas.{nothing_said, no_verb}

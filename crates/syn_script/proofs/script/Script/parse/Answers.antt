@@ -1,4 +1,4 @@
-use Rattle.std.proofs.Common.{◌≡◌, ◌∙◌, ◌+◌, [], Bor, List, ℕ, Option, arith, ap, sym, subst, length, map, get_or, take}
+use Rattle.std.proofs.Common.{◌≡◌, ◌∙◌, ◌+◌, [], Bor, List, ℕ, Option, arith, ap, sym, subst, map, get_or}
 use Rattle.std.proofs.lemmas.Result.{err_from_is_err_and}
 use Rattle.syn_script.proofs.ScriptLemmas.{first_fault, said_more, said_no_more}
 use Rattle.syn_script.specs.Scripts.{IsFirstFault, lines_of}
@@ -17,11 +17,11 @@ returns-in_err-step-clause-bad c =
     let p = err_from_is_err_and c.from_residual-in_err-step.result c.from_residual-in_err-step.ensures.1 in
     let bad = c.in_err-step.ensures.bad in
     rw (p.1, p.2) (λ n e.
-      let fault = first_fault text lines i d c.loop-line.steps.items (omega arith) c.loop-line.invariant.said (bad n e).1 in
-      let at : n ≡ i + 1 = let b = (bad n e).0 in omega arith in
-      let P : List Text → Type 0 = λ ls. IsFirstFault ls n in
-      let Q : ℕ → Type 0 = IsFirstFault (map text lines) in
-      subst P whole (subst Q (sym at) fault))
+    let fault = first_fault text lines i d c.loop-line.steps.items (omega arith) c.loop-line.invariant.said (bad n e).1 in
+    let at : n ≡ i + 1 = let b = (bad n e).0 in omega arith in
+    let P : List Text → Type 0 = λ ls. IsFirstFault ls n in
+    let Q : ℕ → Type 0 = IsFirstFault (map text lines) in
+    subst P whole (subst Q (sym at) fault))
 
 pub loop-line-preserved-in_default : goal.loop-line-preserved-in_default
 loop-line-preserved-in_default c =
