@@ -138,7 +138,8 @@ fn deliver(words: &[&str]) -> Option<Line>
 fn checkpoint(words: &[&str]) -> Option<Line>
     ensures some { IfSome result (λ line.
         SayBehind verb.Checkpoint (map (λ word. word.now) words.now) line) }
-    ensures none { IfNone result (NothingBehind verb.Checkpoint (map (λ word. word.now) words.now)) }
+    ensures none { IfNone result
+        (NothingBehind verb.Checkpoint (map (λ word. word.now) words.now)) }
 {
     let [word] = words else {
         return None;

@@ -1,5 +1,5 @@
 //! Reads a script.
-ghost use Rattle.std.specs.Prelude.{◌≡◌, ℕ, IfOk, IfErr, map};
+ghost use Rattle.std.specs.Prelude.{◌≡◌, ◌≢◌, ℕ, [], Err, IfOk, IfErr, map};
 ghost use Rattle.syn_script.specs.Scripts.{IsFirstFault, IsFit, lines_of as lines_in};
 ghost use Rattle.syn_script.specs.Scripts.{Say as SayAll};
 ghost use Rattle.syn_script.specs.Words.{Says};
@@ -23,7 +23,13 @@ impl Script {
         ensures ok { IfOk result (λ steps. SayAll (lines_in text.now) steps.items) }
         ensures bad { IfErr result (λ e. (number : ℕ) → e ≡ ScriptError.Line number
             → IsFirstFault (lines_in text.now) number) }
+
+        // Where there is no text, no memory is taken.
+        ensures memory { result ≡ Err ScriptError.Memory → text.now ≢ [] }
     {
+        if text.is_empty() {
+            return Ok(Vec::new(alloc));
+        }
         let lines = lines_of(alloc, text)?;
         let mut steps = Vec::new(alloc);
         let mut number = 0;
