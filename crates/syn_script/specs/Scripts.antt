@@ -16,11 +16,11 @@ IsSilent [] = Unit {0}
 IsSilent (b ∷ bs) = b ≡ 35
 
 -- the lines say these steps, in their order
-abbrev pub Say : List Text → List Line → Type 0
-Say [] steps = steps ≡ []
-Say (line ∷ lines) steps = IsUtf8 line × ((IsSilent line × Say lines steps)
+abbrev pub SaySteps : List Text → List Line → Type 0
+SaySteps [] steps = steps ≡ []
+SaySteps (line ∷ lines) steps = IsUtf8 line × ((IsSilent line × SaySteps lines steps)
     ⊎ ((step : Line) × (rest : List Line) × (steps ≡ step ∷ rest) × Says line step
-    × Say lines rest))
+    × SaySteps lines rest))
 
 -- the line is UTF-8, and says a step or nothing
 abbrev pub IsFit : Text → Type 0

@@ -1,7 +1,6 @@
 //! Reads a script.
 ghost use Rattle.std.specs.Prelude.{◌≡◌, ◌≢◌, ℕ, [], Err, IfOk, IfErr, map};
-ghost use Rattle.syn_script.specs.Scripts.{IsFirstFault, IsFit, lines_of as lines_in};
-ghost use Rattle.syn_script.specs.Scripts.{Say as SayAll};
+ghost use Rattle.syn_script.specs.Scripts.{IsFirstFault, IsFit, SaySteps, lines_of as lines_in};
 ghost use Rattle.syn_script.specs.Words.{Says};
 ghost use Rattle.syn_script.specs.inner.Rows.{SaysMaybe};
 
@@ -20,7 +19,7 @@ impl Script {
     /// Refused with the number of the first line that says no step and is not silent, and 11 where
     /// memory is refused.
     pub fn parse(alloc: Global, text: &[u8]) -> Result<Vec<Line>, ScriptError>
-        ensures ok { IfOk result (λ steps. SayAll (lines_in text.now) steps.items) }
+        ensures ok { IfOk result (λ steps. SaySteps (lines_in text.now) steps.items) }
         ensures bad { IfErr result (λ e. (number : ℕ) → e ≡ ScriptError.Line number
             → IsFirstFault (lines_in text.now) number) }
 

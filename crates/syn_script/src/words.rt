@@ -4,7 +4,7 @@ ghost use Rattle.std.specs.List.{join_with_byte};
 ghost use Rattle.syn_script.specs.Words.{IsNumber, leaves_word, machine_word, side_word};
 ghost use Rattle.syn_script.specs.Words.{words_of as words_in};
 ghost use Rattle.syn_script.specs.declared.line.Machine.{Machine as Where};
-ghost use Rattle.syn_disk.specs.declared.simulated.leaves.Leaves.{Leaves as Left};
+ghost use Rattle.syn_disk.specs.declared.simulated.leaves.Leaves.{Leaves as Mode};
 ghost use Rattle.syn_message.specs.declared.side.Side.{Side as Which};
 
 use crate::line::Machine;
@@ -62,7 +62,7 @@ pub(crate) fn machine(word: &str) -> Option<Machine>
 /// What a stop leaves, by its word.
 pub(crate) fn leaves(word: &str) -> Option<Leaves>
     ensures some { IfSome result (λ leaves. word.now ≡ leaves_word leaves) }
-    ensures none { IfNone result ((leaves : Left) → word.now ≢ leaves_word leaves) }
+    ensures none { IfNone result ((leaves : Mode) → word.now ≢ leaves_word leaves) }
 {
     match word {
         "lose" => Some(Leaves::Lose),

@@ -45,11 +45,11 @@ SayBehind verb.Stop words (has.Stop m call leaves) = (number : Text)
     × (words ≡ machine_word m ∷ number ∷ leaves_word leaves ∷ []) × IsNumber 64 number call
 SayBehind verb.Open words (has.Open m) = words ≡ machine_word m ∷ []
 SayBehind verb.Reopen words (has.Reopen m) = words ≡ machine_word m ∷ []
-SayBehind verb words line = ⊥
+SayBehind other words line = ⊥
 
 -- the words behind the first say no step
 abbrev pub NothingBehind : Verb → List Text → Type 0
-NothingBehind verb words = (line : Line) → ¬ SayBehind verb words line
+NothingBehind first words = (line : Line) → ¬ SayBehind first words line
 
 -- the words say no edit
 abbrev pub NoEdit : List Text → Type 0
