@@ -1,0 +1,24 @@
+//! Scripts for simulated machines: a text with one step a line.
+//!
+//! The words of a line are parted by one space. SIDE is `left` or `right`, M is a SIDE or
+//! `coordinator`, and numbers are decimal digits alone. An empty line, or one that begins with
+//! `#`, says nothing.
+//!
+//! - `edit SIDE USER put PATH TEXT`, where TEXT is the rest of the line, and may be missing
+//! - `edit SIDE USER mkdir PATH`, `edit SIDE USER rm PATH`
+//! - `start`, `tick`, `drain`
+//! - `deliver A`, `deliver A B`
+//! - `checkpoint M`, `open M`, `reopen M`
+//! - `fail M J`, `stop M J MODE`, where MODE is `lose`, `keep` or `noise`
+#![tactic(auto)]
+
+mod error;
+mod line;
+mod rows;
+mod script;
+mod verb;
+mod words;
+
+pub use error::ScriptError;
+pub use line::{Line, Machine};
+pub use script::Script;

@@ -1,0 +1,38 @@
+//! What a line of a script says.
+use syn_disk::Leaves;
+use syn_message::Side;
+use syn_tree::Edit;
+
+/// A machine of the simulated world.
+#[derive(Clone, Copy, Debug, PartialEq, Eq)]
+pub enum Machine {
+    /// The machine that has the replica of a side.
+    Side(Side),
+    /// The machine that keeps the archive and runs the sessions.
+    Coordinator,
+}
+
+/// A step of a script.
+#[derive(Debug, Drop)]
+pub enum Line {
+    /// A user makes the edit on a side.
+    Edit(Side, u32, Edit),
+    /// A session begins.
+    Start,
+    /// Time passes.
+    Tick,
+    /// The messages from the first number to the last are delivered, none if the last is lower.
+    Deliver(u64, u64),
+    /// Each message that was not delivered yet is, the lowest number first.
+    Drain,
+    /// The machine writes a checkpoint.
+    Checkpoint(Machine),
+    /// So many calls from now on, a call of the machine's device fails.
+    Fail(Machine, u64),
+    /// At that call of its device the machine stops, and its disk is left so.
+    Stop(Machine, u64, Leaves),
+    /// The machine opens its image.
+    Open(Machine),
+    /// The machine opens its image again.
+    Reopen(Machine),
+}
