@@ -1,11 +1,11 @@
 -- What becomes of a record that is due is a step of the session through its plan.
-use Rattle.std.proofs.Common.{◌≡◌, ◌≢◌, ℕ, true, false, List, [], ◌∷◌, ◌++◌, Option, Some, None, refl, sym, ap, ◌∙◌, subst, inr}
+use Rattle.std.proofs.Common.{◌≡◌, ◌≢◌, ℕ, Bool, true, false, List, [], ◌∷◌, ◌++◌, Option, Some, None, refl, sym, ap, ◌∙◌, subst, inr}
 use Rattle.std.specs.List.{slice_get}
 use Rattle.syn_archive.specs.declared.archive.Archive.{Archive}
 use Rattle.syn_disk.specs.declared.disk.Disk.{Ghosts}
-use Rattle.syn_headline.specs.Coordinator.{Advances, EndsFor, Exchange, HasNoRoom, IsDue, IsToKeep, Walk, past, making_room, plan_of, record_for, archive_layout}
+use Rattle.syn_headline.specs.Coordinator.{Advances, EndsFor, Exchange, HasNoRoom, IsDue, IsToKeep, Keeps, Walk, past, making_room, plan_of, record_for, archive_layout}
 use Rattle.syn_headline.specs.Coordinator as model
-use Rattle.syn_headline.specs.Machine.{Up, Halted, Down, Status, has_room}
+use Rattle.syn_headline.specs.Machine.{Compacts, Up, Halted, Down, Status, has_room}
 use Rattle.syn_headline.specs.Network.{Which, Left, Right, other}
 use Rattle.syn_headline.specs.Planning.{Planned, seen_on, WritesTo}
 use Rattle.syn_headline.specs.Report.{is_record_of}
@@ -14,10 +14,14 @@ use Rattle.syn_model.specs.Decision.{Item, ToLeft, ToRight, MarkSame, MarkDir, C
 use Rattle.syn_model.proofs.PathLemmas.{path_itself}
 use Rattle.syn_refusal.specs.declared.refusal.Refusal.TheVariants as refusal
 use Rattle.syn_session.specs.Machines.{Journal}
+use Rattle.syn_session.specs.Tries.{HoldsTried, IsShown, Tries}
 use Rattle.syn_session.specs.declared.due.Due.{Due}
+use Rattle.syn_session.specs.declared.tried.Tried.{Tried}
+use Rattle.syn_session.proofs.TriedLemmas.{compact_writes, failed_at, fits_in, kept_quiet, tries_held, tries_none}
+use Rattle.std.proofs.lemmas.Option.{none-some}
 use Rattle.syn_session.specs.inner.Advancing.{Advanced, kept_it, refused_it, ended, stopped}
 use Rattle.syn_session.specs.inner.Due as due
-use Rattle.syn_session.specs.inner.Due.{IsReady, MakesRoom, has_some, makes_some, Settles}
+use Rattle.syn_session.specs.inner.Due.{IsReady, MakesRoom, TriesBy, has_some, makes_some, Settles}
 use Rattle.syn_session.specs.inner.Recording.{IsOfItem}
 use Rattle.syn_session.specs.inner.Steps.{moves_on, moves_down}
 use Rattle.syn_session.proofs.DueLemmas.{ready_still}
@@ -98,7 +102,7 @@ halted_not_up halted up = cc
 
 -- ---- a step
 
-module _ {D : Type 0} {disk : Ghosts D} (new : Archive D disk) (pair : ℕ) (plan : List Planned) (taken : Exchange) (walk : Walk) (planned : Planned) (what : Kept)
+module _ {D : Type 0} {disk : Ghosts D} (new : Archive D disk) (tried : Option Tried) (pair : ℕ) (plan : List Planned) (taken : Exchange) (walk : Walk) (planned : Planned) (what : Kept)
     (fresh : walk.made_room ≡ false) (at : slice_get plan walk.cursor ≡ Some planned) (is_due : IsDue walk.cursor planned taken what) where
   to_keep : IsReady walk.journal what → IsToKeep plan taken walk what
   to_keep ready = record { planned = planned; at = at; due = is_due; can = ready.can; up = ready.up }
@@ -114,46 +118,65 @@ module _ {D : Type 0} {disk : Ghosts D} (new : Archive D disk) (pair : ℕ) (pla
   behind_room : IsReady walk.journal what → (between : Journal) → MakesRoom pair walk.journal what true between → (kept : List Kept) (later : Walk) → Advances pair plan taken (making_room walk between) kept later → Advances pair plan taken walk kept later
   behind_room ready between (makes_some now none less compacts up) kept later more = model.checkpoints walk later kept what now fresh (no_room ready none) less compacts up more
 
-  pub advanced : (became : Due) → Settles new pair walk.journal what became → Advanced new pair plan taken walk planned what became
+  -- a checkpoint that makes room writes no record
+  quiet_between : (made : Bool) (between : Journal) → MakesRoom pair walk.journal what made between → walk.journal.writing ≡ None → between.writing ≡ None
+  quiet_between made between (has_some enough) quiet = quiet
+  quiet_between made between (makes_some now none less compacts up) quiet = compact_writes pair walk.journal now compacts ∙ quiet
+
+  -- the record that is kept is not remembered
+  tries_kept : (between journal : Journal) → Keeps pair between what journal (what ∷ []) → between.writing ≡ None → tried ≡ None → Tries pair tried journal
+  tries_kept between journal keeps quiet none = tries_none pair tried journal none (kept_quiet pair between journal what what keeps quiet)
+
+  -- the record whose device failed is
+  tries_failed : (between journal : Journal) → Keeps pair between what journal [] → IsShown new pair journal → has_room (archive_layout pair) between what ≡ true → between.writing ≡ None → journal.status ≢ Up → HoldsTried new what tried → Tries pair tried journal
+  tries_failed between journal keeps shown has quiet stops held = tries_held pair new what tried journal held stops shown (failed_at pair between journal what keeps quiet) (fits_in pair between journal what keeps quiet has)
+
+  -- the checkpoint for it failed
+  tries_unmade : (journal : Journal) → Compacts (archive_layout pair) walk.journal journal → IsShown new pair journal → walk.journal.writing ≡ None → journal.status ≢ Up → HoldsTried new what tried → Tries pair tried journal
+  tries_unmade journal compacts shown quiet stops held =
+      let none : (kept : Kept) → journal.writing ≡ Some kept → ⊥ = λ kept is. none-some _ (sym (compact_writes pair walk.journal journal compacts ∙ quiet) ∙ is) in
+      tries_held pair new what tried journal held stops shown (λ kept is. absurd (none kept is)) (λ kept is. absurd (none kept is))
+
+  pub advanced : (became : Due) → Settles new pair walk.journal what became → walk.journal.writing ≡ None → TriesBy new what None tried became → Advanced new tried pair plan taken walk planned what became
   unfolding no_room to_keep
-  advanced became (due.recorded false between ready (has_some enough) has (moves_on journal keeps up is)) =
+  advanced became (due.recorded false between ready (has_some enough) has (moves_on journal (keeps, shown) up is)) quiet tries =
       kept_it journal (model.keeps walk (past walk journal) what [] journal (to_keep ready) has keeps up (model.stands (past walk journal))) up is
-  advanced became (due.recorded true between ready room has (moves_on journal keeps up is)) =
+  advanced became (due.recorded true between ready room has (moves_on journal (keeps, shown) up is)) quiet tries =
       kept_it journal (behind_room ready between room (what ∷ []) (past walk journal)
       (model.keeps (making_room walk between) (past walk journal) what [] journal (room_made ready between room) has keeps up (model.stands (past walk journal)))) up is
-  advanced became (due.recorded false between ready (has_some enough) has (moves_down journal keeps cut down leaves)) =
-      stopped _ (record walk { journal = journal }) (model.record_breaks walk what (what ∷ []) journal (to_keep ready) has keeps (not_up down)) down cut leaves
-  advanced became (due.recorded true between ready room has (moves_down journal keeps cut down leaves)) =
+  advanced became (due.recorded false between ready (has_some enough) has (moves_down journal (keeps, shown) cut down leaves)) quiet tries =
+      stopped _ (record walk { journal = journal }) (model.record_breaks walk what (what ∷ []) journal (to_keep ready) has keeps (not_up down)) down cut leaves (tries_kept walk.journal journal keeps quiet tries)
+  advanced became (due.recorded true between ready room has (moves_down journal (keeps, shown) cut down leaves)) quiet tries =
       stopped _ (record (making_room walk between) { journal = journal }) (behind_room ready between room (what ∷ []) (record (making_room walk between) { journal = journal })
-      (model.record_breaks (making_room walk between) what (what ∷ []) journal (room_made ready between room) has keeps (not_up down))) down cut leaves
-  advanced became (due.archive_refuses why up refused is) =
+      (model.record_breaks (making_room walk between) what (what ∷ []) journal (room_made ready between room) has keeps (not_up down))) down cut leaves (tries_kept between journal keeps (quiet_between true between room quiet) tries)
+  advanced became (due.archive_refuses why up refused is) quiet tries =
       refused_it why (model.archive_refuses walk _ [] planned what _ fresh at (record_due walk.cursor planned taken what is_due) (inr up) refused (model.stands _)) is
-  advanced became (due.no_checkpoint ready none last is) =
+  advanced became (due.no_checkpoint ready none last is) quiet tries =
       refused_it refusal.Full (model.no_checkpoint walk _ [] what fresh (no_room ready none) last (model.stands _)) is
-  advanced became (due.failed_before halted is) =
+  advanced became (due.failed_before halted is) quiet tries =
       ended refusal.Halted walk (model.stands walk) refl refl
-      (λ running same. model.failed_before planned what (subst (λ p. slice_get p walk.cursor ≡ Some planned) (sym same) at) is_due halted halted) is
-  advanced became (due.checkpoint_breaks ready none less (moves_on journal compacts halted is)) =
+      (λ running same. model.failed_before planned what (subst (λ p. slice_get p walk.cursor ≡ Some planned) (sym same) at) is_due halted halted) is (tries_none pair tried _ tries quiet)
+  advanced became (due.checkpoint_breaks ready none less (moves_on journal (compacts, shown) halted is)) quiet tries =
       ended refusal.Device (record walk { journal = journal }) (model.checkpoint_breaks walk what journal fresh (no_room ready none) less compacts (halted_not_up halted)) refl refl
-      (λ running same. model.fails ready.up halted) is
-  advanced became (due.checkpoint_breaks ready none less (moves_down journal compacts cut down leaves)) =
-      stopped _ (record walk { journal = journal }) (model.checkpoint_breaks walk what journal fresh (no_room ready none) less compacts (not_up down)) down cut leaves
-  advanced became (due.record_breaks false between ready (has_some enough) has (moves_on journal keeps halted is)) =
+      (λ running same. model.fails ready.up halted) is (tries_unmade journal compacts shown quiet (halted_not_up halted) tries)
+  advanced became (due.checkpoint_breaks ready none less (moves_down journal (compacts, shown) cut down leaves)) quiet tries =
+      stopped _ (record walk { journal = journal }) (model.checkpoint_breaks walk what journal fresh (no_room ready none) less compacts (not_up down)) down cut leaves (tries_unmade journal compacts shown quiet (not_up down) tries)
+  advanced became (due.record_breaks false between ready (has_some enough) has (moves_on journal (keeps, shown) halted is)) quiet tries =
       ended refusal.Device (record walk { journal = journal }) (model.record_breaks walk what [] journal (to_keep ready) has keeps (halted_not_up halted)) refl refl
-      (λ running same. model.fails ready.up halted) is
-  advanced became (due.record_breaks true between ready room has (moves_on journal keeps halted is)) =
+      (λ running same. model.fails ready.up halted) is (tries_failed walk.journal journal keeps shown enough quiet (halted_not_up halted) tries)
+  advanced became (due.record_breaks true between ready room has (moves_on journal (keeps, shown) halted is)) quiet tries =
       ended refusal.Device (record (making_room walk between) { journal = journal }) (behind_room ready between room [] (record (making_room walk between) { journal = journal })
       (model.record_breaks (making_room walk between) what [] journal (room_made ready between room) has keeps (halted_not_up halted))) refl refl
-      (λ running same. model.fails ready.up halted) is
-  advanced became (due.record_breaks false between ready (has_some enough) has (moves_down journal keeps cut down leaves)) =
-      stopped _ (record walk { journal = journal }) (model.record_breaks walk what [] journal (to_keep ready) has keeps (not_up down)) down cut leaves
-  advanced became (due.record_breaks true between ready room has (moves_down journal keeps cut down leaves)) =
+      (λ running same. model.fails ready.up halted) is (tries_failed between journal keeps shown has (quiet_between true between room quiet) (halted_not_up halted) tries)
+  advanced became (due.record_breaks false between ready (has_some enough) has (moves_down journal (keeps, shown) cut down leaves)) quiet tries =
+      stopped _ (record walk { journal = journal }) (model.record_breaks walk what [] journal (to_keep ready) has keeps (not_up down)) down cut leaves (tries_failed walk.journal journal keeps shown enough quiet (not_up down) tries)
+  advanced became (due.record_breaks true between ready room has (moves_down journal (keeps, shown) cut down leaves)) quiet tries =
       stopped _ (record (making_room walk between) { journal = journal }) (behind_room ready between room [] (record (making_room walk between) { journal = journal })
-      (model.record_breaks (making_room walk between) what [] journal (room_made ready between room) has keeps (not_up down))) down cut leaves
-  advanced became (due.no_room_left between ready room none is) =
+      (model.record_breaks (making_room walk between) what [] journal (room_made ready between room) has keeps (not_up down))) down cut leaves (tries_failed between journal keeps shown has (quiet_between true between room quiet) (not_up down) tries)
+  advanced became (due.no_room_left between ready room none is) quiet tries =
       ended refusal.JournalFull (making_room walk between) (behind_room ready between room [] (making_room walk between) (model.stands (making_room walk between))) refl refl
-      (λ running same. model.no_room_left what (subst (λ p. HasNoRoom pair p taken (making_room walk between) what) (sym same) (record { to_keep = room_made ready between room; no_room = none })) refl) is
-  advanced became (due.no_memory is) = ended refusal.Memory walk (model.stands walk) refl refl (λ running same. model.no_memory refl) is
-  advanced became (due.no_memory_behind between ready room is) =
+      (λ running same. model.no_room_left what (subst (λ p. HasNoRoom pair p taken (making_room walk between) what) (sym same) (record { to_keep = room_made ready between room; no_room = none })) refl) is (tries_none pair tried _ tries (quiet_between true between room quiet))
+  advanced became (due.no_memory is) quiet tries = ended refusal.Memory walk (model.stands walk) refl refl (λ running same. model.no_memory refl) is (tries_none pair tried _ tries quiet)
+  advanced became (due.no_memory_behind between ready room is) quiet tries =
       ended refusal.Memory (making_room walk between) (behind_room ready between room [] (making_room walk between) (model.stands (making_room walk between))) refl refl
-      (λ running same. model.no_memory ((room_made ready between room).up ∙ sym ready.up)) is
+      (λ running same. model.no_memory ((room_made ready between room).up ∙ sym ready.up)) is (tries_none pair tried _ tries (quiet_between true between room quiet))

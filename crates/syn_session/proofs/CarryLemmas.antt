@@ -31,6 +31,7 @@ use Rattle.syn_session.specs.declared.course.Course.{Course}
 use Rattle.syn_session.specs.declared.report.Ended.{Ended}
 use Rattle.syn_session.specs.declared.session.Asks.{Asks}
 use Rattle.syn_session.specs.declared.session.Session.{Session}
+use Rattle.syn_session.specs.declared.tried.Tried.{Tried}
 use Rattle.syn_session.specs.inner.Answering.{IsHeard, asks_of, asks_to}
 use Rattle.syn_session.specs.inner.Hearing.{IsAsking, IsFresh, MayGoOn}
 use Rattle.syn_session.specs.inner.Sessions.{IsLine, IsStage, Tells, TellsOf, waiting_of}
@@ -48,7 +49,7 @@ no_such x has = omega (arith, has.1)
 
 -- ---- what a transfer asks, a session may ask
 
-source_other : (c : Carriage) → other (target_of c) ≡ source_of c
+pub source_other : (c : Carriage) → other (target_of c) ≡ source_of c
 source_other c = by (source_of c)
   where
     by : (w : Which) → other (other w) ≡ w
@@ -56,7 +57,7 @@ source_other c = by (source_of c)
     by Right = refl
 
 -- the record of an item that is carried has the marks of its source
-marks_of : (planned : Planned) (c : Carriage) (item : ℕ) (kept : Kept) → IsCarriageOf c planned item → record_for planned planned.item ≡ Some kept → kept ≡ Recorded c.path (seen_on planned (source_of c)).marks
+pub marks_of : (planned : Planned) (c : Carriage) (item : ℕ) (kept : Kept) → IsCarriageOf c planned item → record_for planned planned.item ≡ Some kept → kept ≡ Recorded c.path (seen_on planned (source_of c)).marks
 marks_of planned c item kept is recorded = by planned.item (source_of c) is.writes recorded
   where
     some_in : (a b : Kept) → Some a ≡ Some b → b ≡ a
@@ -167,11 +168,11 @@ module _ {D : Type 0} {disk : Ghosts D} (new : Archive D disk) (pair : ℕ) (jou
   }
 
   -- it comes to its end
-  pub ends_course : (kept : List Kept) (ended : Ended) → Ends new pair taken journal before kept course (found_on session Left) (found_on session Right) ended → TakesEnd new pair journal running taken session kept ended
-  ends_course kept ended (ends walk after goes cursor refused has_kept why is is_at) =
-      taking.ends ended walk after (walks_so after kept walk has_kept goes) cursor refused (why (reaching running taken after) has_kept.plan) is (tells_course after is_at)
-  ends_course kept ended (goes_down walk goes stopped down leaves) =
-      taking.goes_down ended walk (record before { kept = before.kept ++ kept }) (walks_so (record before { kept = before.kept ++ kept }) kept walk (record { plan = refl; kept_is = refl }) goes) stopped down leaves
+  pub ends_course : (tried : Option Tried) (kept : List Kept) (ended : Ended) → Ends new tried pair taken journal before kept course (found_on session Left) (found_on session Right) ended → TakesEnd new tried pair journal running taken session kept ended
+  ends_course tried kept ended (ends walk after goes cursor refused has_kept why is is_at tries) =
+      taking.ends ended walk after (walks_so after kept walk has_kept goes) cursor refused (why (reaching running taken after) has_kept.plan) is (tells_course after is_at) tries
+  ends_course tried kept ended (goes_down walk goes stopped down leaves tries) =
+      taking.goes_down ended walk (record before { kept = before.kept ++ kept }) (walks_so (record before { kept = before.kept ++ kept }) kept walk (record { plan = refl; kept_is = refl }) goes) stopped down leaves tries
 
   -- it asks a side for what comes next
   module _ (kept : List Kept) (asks : Side × Asked) (comes : ComesToAsk new pair taken journal before kept course (found_on session Left) (found_on session Right) (running.taken ++ taken ∷ []) asks) where

@@ -1,7 +1,7 @@
 -- A checkpoint of the archive is what its machine does.
 use Rattle.std.proofs.Common.{◌≡◌, ◌⊎◌, ◌≤◌, ℕ, suc, ◌-◌, ◌+◌, true, List, Result, Ok, Err, refl, sym, ap, ap₂, ◌∙◌, subst, inl, inr, arith}
 use Rattle.std.specs.Prelude.{length}
-use Rattle.syn_archive.specs.Archive.{Stands, IsHalted, KeepsOrCompacts, SameMemory, pair_of, shown, disk_of, left_shown, generation_shown, journal_of}
+use Rattle.syn_archive.specs.Archive.{Stands, IsHalted, KeepsOrCompacts, KeepsReadings, SameMemory, pair_of, shown, disk_of, left_shown, generation_shown, journal_of}
 use Rattle.syn_archive.specs.Disks.{DiskKeeps, DiskCompacted}
 use Rattle.syn_archive.specs.declared.archive.Archive.{Archive}
 use Rattle.syn_disk.specs.Calls.{Makes, Breaks}
@@ -18,7 +18,9 @@ use Rattle.syn_recovery.specs.Calls.{armed_at, goes_on, goes_down, MadeCallsMeet
 use Rattle.syn_recovery.specs.Machines.{of_archive}
 use Rattle.syn_recovery.specs.Meaning.{MayBeOf, compacted as is_compacted}
 use Rattle.syn_session.specs.Machines.{Journal, LeavesMachine, Runs, IsMachine}
-use Rattle.syn_session.specs.inner.Steps.{Moves, moves_on, moves_down}
+use Rattle.syn_session.specs.Tries.{IsShown}
+use Rattle.syn_session.specs.inner.Steps.{CompactsSo, moves_on, moves_down}
+use Rattle.std.proofs.lemmas.Option.{none-some}
 use Rattle.syn_session.proofs.MachineLemmas.{may_be}
 
 -- one disk has one value
@@ -74,9 +76,9 @@ module _ {D : Type 0} {disk : Ghosts D} (old new : Archive D disk) (pair : ℕ) 
       stands = subst (λ v. ArchiveStandsFor pair v.image v.payloads machine.value) (value_is bytes left) (of_pair bytes left).stands;
     }
 
-    pub compact_ok : MadeCallsMeet → Makes 6 (disk.arms (disk_of old)) (disk.arms (disk_of new)) → Moves new pair (Compacts (archive_layout pair) machine) Up
-    compact_ok made makes = elim (made 6 (disk.arms (disk_of old)) (disk.arms (disk_of new)) is.goes makes) as (λ _. Moves new pair (Compacts (archive_layout pair) machine) Up) [
-      | goes_on goes meets ↦ moves_on (with_image (archive_layout pair) machine (armed_at (disk.arms (disk_of new)))) (compacted _ (subst (λ a. Meets a 6 Up (armed_at (disk.arms (disk_of new))) 0) is.armed meets)) was.up (record {
+    pub compact_ok : MadeCallsMeet → Makes 6 (disk.arms (disk_of old)) (disk.arms (disk_of new)) → CompactsSo new pair machine Up
+    compact_ok made makes = elim (made 6 (disk.arms (disk_of old)) (disk.arms (disk_of new)) is.goes makes) as (λ _. CompactsSo new pair machine Up) [
+      | goes_on goes meets ↦ moves_on (with_image (archive_layout pair) machine (armed_at (disk.arms (disk_of new)))) (compacted _ (subst (λ a. Meets a 6 Up (armed_at (disk.arms (disk_of new))) 0) is.armed meets), record { as_left = inl (room_is, next); exactly = λ what writing. absurd (none-some _ (sym was.idle ∙ writing)) }) was.up (record {
         pair_is = memory.pair ∙ is.pair_is;
         remembers = stands.remembers;
         armed = refl;
@@ -84,7 +86,7 @@ module _ {D : Type 0} {disk : Ghosts D} (old new : Archive D disk) (pair : ℕ) 
         state = inl (record { up = was.up; stands = stands; room = room_is; generation = next; idle = was.idle; settled = was.settled });
         leaves = λ bytes left. may_be pair (with_image (archive_layout pair) machine (armed_at (disk.arms (disk_of new)))) (left_shown new) (generation_shown new) bytes (of_pair bytes left) room_is next;
       })
-      | goes_down down meets ↦ moves_down (after_device (record machine { compacting = true }) Down unarmed 0) (not_compacted Down unarmed 0 (inr refl) (subst (λ a. Meets a 6 Down unarmed 0) is.armed meets)) down refl
+      | goes_down down meets ↦ moves_down (after_device (record machine { compacting = true }) Down unarmed 0) (not_compacted Down unarmed 0 (inr refl) (subst (λ a. Meets a 6 Down unarmed 0) is.armed meets), record { as_left = inr (refl, room_is, next); exactly = λ what writing. absurd (none-some _ (sym was.idle ∙ writing)) }) down refl
           (λ bytes left. may_be_compacted pair (after_device (record machine { compacting = true }) Down unarmed 0) bytes (generation_shown new) refl (sym next) (by_image bytes left))
     ]
       where
@@ -94,7 +96,7 @@ module _ {D : Type 0} {disk : Ghosts D} (old new : Archive D disk) (pair : ℕ) 
             one_more : (n : ℕ) → n + 1 ≡ suc n
             one_more n = omega arith
 
-  module _ (halted : IsHalted new) (memory : SameMemory old new)
+  module _ (halted : IsHalted new) (readings : KeepsReadings old new)
       (counts : (d : D) (t : ℕ) (c : List ℕ) → t ≤ disk.moment d → disk.may_leave d c → disk.left_since d t c)
       (moments : LeavesOnly disk.moment disk.left_since (disk_of old) (disk_of new) (KeepsOrCompacts old machine.value)) where
     leaves_either : (now : Journal) → now.value ≡ machine.value → now.room ≡ machine.room → now.generation ≡ machine.generation → now.compacting ≡ true → LeavesMachine disk (disk_of new) pair now
@@ -108,15 +110,21 @@ module _ {D : Type 0} {disk : Ghosts D} (old new : Archive D disk) (pair : ℕ) 
         one_more : (n : ℕ) → suc n ≡ n + 1
         one_more n = omega arith
 
-    pub compact_failed : BrokenCallsMeet → Breaks 6 (disk.arms (disk_of old)) (disk.arms (disk_of new)) → Moves new pair (Compacts (archive_layout pair) machine) Halted
-    compact_failed broken breaks = elim (broken 6 (disk.arms (disk_of old)) (disk.arms (disk_of new)) is.goes breaks) as (λ _. Moves new pair (Compacts (archive_layout pair) machine) Halted) [
-      | goes_on goes meets ↦ moves_on (after_device (record machine { compacting = true }) Halted (armed_at (disk.arms (disk_of new))) 1) (not_compacted Halted _ 1 (inl refl) (subst (λ a. Meets a 6 Halted (armed_at (disk.arms (disk_of new))) 1) is.armed meets)) refl (record {
-        pair_is = memory.pair ∙ is.pair_is;
-        remembers = memory.archive ∙ is.remembers;
+    -- its journal shows what it showed
+    shows_still : (now : Journal) → now.room ≡ machine.room → now.generation ≡ machine.generation → IsShown new pair now
+    shows_still now room generation =
+        let same : (left_shown new ≡ now.room) × (generation_shown new ≡ now.generation) = (readings.left_is ∙ (was.room ∙ sym room), readings.generation ∙ (was.generation ∙ sym generation)) in
+        record { as_left = inl same; exactly = λ what writing. same }
+
+    pub compact_failed : BrokenCallsMeet → Breaks 6 (disk.arms (disk_of old)) (disk.arms (disk_of new)) → CompactsSo new pair machine Halted
+    compact_failed broken breaks = elim (broken 6 (disk.arms (disk_of old)) (disk.arms (disk_of new)) is.goes breaks) as (λ _. CompactsSo new pair machine Halted) [
+      | goes_on goes meets ↦ moves_on (after_device (record machine { compacting = true }) Halted (armed_at (disk.arms (disk_of new))) 1) (not_compacted Halted _ 1 (inl refl) (subst (λ a. Meets a 6 Halted (armed_at (disk.arms (disk_of new))) 1) is.armed meets), shows_still _ refl refl) refl (record {
+        pair_is = readings.memory.pair ∙ is.pair_is;
+        remembers = readings.memory.archive ∙ is.remembers;
         armed = refl;
         goes = goes;
         state = inr (record { halted = refl; is_halted = halted });
         leaves = leaves_either _ refl refl refl refl;
       })
-      | goes_down down meets ↦ moves_down (after_device (record machine { compacting = true }) Down unarmed 1) (not_compacted Down unarmed 1 (inr refl) (subst (λ a. Meets a 6 Down unarmed 1) is.armed meets)) down refl (leaves_either _ refl refl refl refl)
+      | goes_down down meets ↦ moves_down (after_device (record machine { compacting = true }) Down unarmed 1) (not_compacted Down unarmed 1 (inr refl) (subst (λ a. Meets a 6 Down unarmed 1) is.armed meets), shows_still _ refl refl) down refl (leaves_either _ refl refl refl refl)
     ]

@@ -32,6 +32,7 @@ use Rattle.syn_session.specs.declared.due.Due.TheVariants.{Ends}
 use Rattle.syn_session.specs.inner.Due.{IsReady, MakesRoom, has_some, makes_some, Settles, recorded, no_checkpoint, checkpoint_breaks, record_breaks, no_memory, no_memory_behind}
 use Rattle.syn_session.specs.inner.Recording.{Writes, written, Checkpoints, at_greatest, MakesRoomNow, has_made, made_none, ended_by}
 use Rattle.syn_session.specs.inner.Recording as step
+use Rattle.syn_session.specs.Tries.{IsShown}
 use Rattle.syn_session.specs.inner.Steps.{KeepsSo, moves_on, moves_down}
 use Rattle.syn_session.proofs.MachineLemmas.{kept_ok, kept_failed}
 use Rattle.syn_session.proofs.RefusedLemmas.{failed}
@@ -151,11 +152,18 @@ module _ {D : Type 0} {disk : Ghosts D} (old new : Archive D disk) (pair : ℕ) 
     pub idle_is : is_directory (marks_shown old) path ≡ (archive_layout pair).is_idle machine.value (RecordedDir path)
     idle_is = ap (λ a. is_directory a.marks path) is.remembers
 
+    -- its journal shows what it showed
+    shows_alone : new ≡ old → (now : Journal) → now.room ≡ machine.room → now.generation ≡ machine.generation → IsShown new pair now
+    shows_alone same now room generation =
+        let was = when_up old pair machine is ready.up in
+        let readings : (left_shown new ≡ now.room) × (generation_shown new ≡ now.generation) = (ap left_shown same ∙ (was.room ∙ sym room), ap generation_shown same ∙ (was.generation ∙ sym generation)) in
+        record { as_left = inl readings; exactly = λ what writing. readings }
+
     pub left_alone : is_directory (marks_shown old) path ≡ true → new ≡ old → KeepsSo new pair machine (RecordedDir path) (RecordedDir path ∷ []) Up
     left_alone there same =
         let here = sym idle_is ∙ there in
         let value : after_kept machine.value (RecordedDir path) ≡ machine.value = ap (λ b. if b then machine.value else record machine.value { marks = replace machine.value.marks path empty_directory }) here in
-        moves_on (record machine { value = after_kept machine.value (RecordedDir path) }) (writes _ _ (idle here)) ready.up
+        moves_on (record machine { value = after_kept machine.value (RecordedDir path) }) (writes _ _ (idle here), shows_alone same _ refl refl) ready.up
         (subst (λ v. IsMachine new pair (record machine { value = v })) (sym value) (subst (λ a. IsMachine a pair machine) (sym same) is))
 
     -- it fails only where none is recorded
@@ -204,5 +212,5 @@ module _ {D : Type 0} {disk : Ghosts D} (new : Archive D disk) (pair : ℕ) (mac
   stopped_behind stopped (step.made less (moves_down between compacts cut down leaves)) = step.breaks less (moves_down between compacts cut down leaves)
 
   pub goes_on_behind : is_stopped (disk.arms (disk_of new)) ≡ false → Checkpoints new pair machine None → MakesRoomNow new pair machine None
-  goes_on_behind goes (step.made less (moves_on between compacts up is)) = has_made between less compacts up is
+  goes_on_behind goes (step.made less (moves_on between (compacts, shown) up is)) = has_made between less compacts up is
   goes_on_behind goes (step.made less (moves_down between compacts cut down leaves)) = absurd (false≢true (sym goes ∙ cut))

@@ -2,11 +2,12 @@
 use Rattle.std.proofs.Common.{◌≡◌, ◌≢◌, ◌≤◌, ◌<◌, ◌^◌, ◌⊎◌, ◌+◌, ℕ, Bool, true, false, ◌||◌, ◌==◌, if◌then◌else◌, List, [], ◌∷◌, ◌++◌, Option, Some, None, refl, sym, ap, ap₂, ◌∙◌, subst, inl, inr, arith}
 use Rattle.std.specs.Prelude.{Contains, is_some, option_map, unwrap_or}
 use Rattle.std.proofs.lemmas.List.Elements.{Contains-append_left, Contains-push, Contains-push_cases}
+use Rattle.std.proofs.lemmas.Bool.{false≢true}
 use Rattle.std.proofs.lemmas.Option.{none-some}
 use Rattle.syn_headline.specs.Coordinator.{Exchange, Running, asked_in, hearing, is_last, is_not_dir, is_unstable, numbered}
 use Rattle.syn_headline.specs.Network.{Left, Right, Which, is_side, other}
 use Rattle.syn_headline.specs.Session.{BothBegun, WasTaken, entries_in, fault_of}
-use Rattle.syn_headline.specs.Side.{Begin, Begun, ListAt, Request}
+use Rattle.syn_headline.specs.Side.{Begin, Begun, Fetch, ListAt, Replace, Request, Stage}
 use Rattle.syn_headline.specs.Side as model
 use Rattle.syn_message.specs.Requests.{request_of}
 use Rattle.syn_message.specs.declared.request.Request.{Request as Asked}
@@ -31,13 +32,13 @@ use Rattle.syn_session.proofs.HearLemmas.{found_still}
 use Rattle.syn_session.proofs.SessionLemmas.{asks_first, first_request}
 
 -- of a side and the one across
-by_sides : (P : Which → Type 0) (side : Which) → P side → P (other side) → (on : Which) → P on
+pub by_sides : (P : Which → Type 0) (side : Which) → P side → P (other side) → (on : Which) → P on
 by_sides P Left own across Left = own
 by_sides P Left own across Right = across
 by_sides P Right own across Left = across
 by_sides P Right own across Right = own
 
-asked_first : (waiting : Option Waiting) (number : ℕ) (request : Request) → asked_in (waiting_of waiting) number ≡ Some request → first_request (waiting_of waiting) ≡ Some request
+pub asked_first : (waiting : Option Waiting) (number : ℕ) (request : Request) → asked_in (waiting_of waiting) number ≡ Some request → first_request (waiting_of waiting) ≡ Some request
 asked_first None number request is = absurd (none-some _ is)
 asked_first (Some one) number request is = by (one.number == number) is
   where
@@ -55,7 +56,7 @@ no_waiting : (waiting : Option Waiting) → option_map (λ one. request_of one.r
 no_waiting None e = refl
 no_waiting (Some one) e = absurd (none-some _ (sym e))
 
-or_false : (b : Bool) → (b || false) ≡ b
+pub or_false : (b : Bool) → (b || false) ≡ b
 or_false true = refl
 or_false false = refl
 
@@ -68,8 +69,8 @@ not_across Left = refl
 not_across Right = refl
 
 other_side : (side : Which) → side ≡ other side → ⊥
-other_side Left e = Rattle.std.proofs.lemmas.Bool.false≢true (sym (ap (is_side Left) e))
-other_side Right e = Rattle.std.proofs.lemmas.Bool.false≢true (sym (ap (is_side Right) e))
+other_side Left e = false≢true (sym (ap (is_side Left) e))
+other_side Right e = false≢true (sym (ap (is_side Right) e))
 
 -- what a session tells that has no plan
 pub tells_nothing : (session : Session) (running : Running) → running.session ≡ session.number → is_unstable running ≡ session.is_unstable → session.course ≡ None → reached_by running ≡ nothing_reached → Tells session running
@@ -77,6 +78,26 @@ tells_nothing session running number unstable scans nothing = record { number = 
 
 pub tells_heard : (session : Session) (heard : Running) → HasHeard session heard → Tells session heard
 tells_heard session heard h = tells_nothing session heard h.heard_is.number h.unstable h.scans h.reached
+
+-- an answer to a begin or a listing that does not end the session is not the last to an item
+pub scans_further : (taken : List Exchange) (side : Which) (request : Request) → IsOfScan request → (reply : model.Reply) → fault_of taken side request reply ≡ None → is_last reply ≡ true → ⊥
+scans_further taken side (Begin pair) this (model.Begun position) f l = false≢true l
+scans_further taken side (Begin pair) this (model.Listed position entries) f l = false≢true l
+scans_further taken side (Begin pair) this (model.NotDir position) f l = false≢true l
+scans_further taken side (Begin pair) this (model.Piece total bytes) f l = false≢true l
+scans_further taken side (Begin pair) this model.Staged f l = false≢true l
+scans_further taken side (Begin pair) this model.Done f l = none-some _ (sym f)
+scans_further taken side (Begin pair) this (model.Refused why) f l = none-some _ (sym f)
+scans_further taken side (ListAt path) this (model.Begun position) f l = false≢true l
+scans_further taken side (ListAt path) this (model.Listed position entries) f l = false≢true l
+scans_further taken side (ListAt path) this (model.NotDir position) f l = false≢true l
+scans_further taken side (ListAt path) this (model.Piece total bytes) f l = false≢true l
+scans_further taken side (ListAt path) this model.Staged f l = false≢true l
+scans_further taken side (ListAt path) this model.Done f l = none-some _ (sym f)
+scans_further taken side (ListAt path) this (model.Refused why) f l = none-some _ (sym f)
+scans_further taken side (Fetch path since offset) this reply f l = absurd this
+scans_further taken side (Stage item offset bytes) this reply f l = absurd this
+scans_further taken side (Replace item path since size) this reply f l = absurd this
 
 module _ (kept : archive.Archive) (before now : Session) (running : Running) (side : Which) (number : ℕ) (request : Request) (reply : model.Reply) (is : IsSession kept before running) (answers : IsAnswering before now side number request) (scans : before.course ≡ None) where
   abbrev exchange : Exchange
@@ -128,26 +149,8 @@ module _ (kept : archive.Archive) (before now : Session) (running : Running) (si
   -- and an answer that does not end it is not the last to an item
   pub not_last : fault_of running.taken side request reply ≡ None → is_last reply ≡ true → ⊥
   not_last fault last = neither
-      (λ pair e. of_begin pair reply (subst (λ r. fault_of running.taken side r reply ≡ None) e fault) last)
-      (λ path e. of_list path reply (subst (λ r. fault_of running.taken side r reply ≡ None) e fault) last)
-    where
-      of_begin : (pair : ℕ) (said : model.Reply) → fault_of running.taken side (Begin pair) said ≡ None → is_last said ≡ true → ⊥
-      of_begin pair (model.Begun position) f l = Rattle.std.proofs.lemmas.Bool.false≢true l
-      of_begin pair (model.Listed position entries) f l = Rattle.std.proofs.lemmas.Bool.false≢true l
-      of_begin pair (model.NotDir position) f l = Rattle.std.proofs.lemmas.Bool.false≢true l
-      of_begin pair (model.Piece total bytes) f l = Rattle.std.proofs.lemmas.Bool.false≢true l
-      of_begin pair model.Staged f l = Rattle.std.proofs.lemmas.Bool.false≢true l
-      of_begin pair model.Done f l = none-some _ (sym f)
-      of_begin pair (model.Refused why) f l = none-some _ (sym f)
-
-      of_list : (path : Path) (said : model.Reply) → fault_of running.taken side (ListAt path) said ≡ None → is_last said ≡ true → ⊥
-      of_list path (model.Begun position) f l = Rattle.std.proofs.lemmas.Bool.false≢true l
-      of_list path (model.Listed position entries) f l = Rattle.std.proofs.lemmas.Bool.false≢true l
-      of_list path (model.NotDir position) f l = Rattle.std.proofs.lemmas.Bool.false≢true l
-      of_list path (model.Piece total bytes) f l = Rattle.std.proofs.lemmas.Bool.false≢true l
-      of_list path model.Staged f l = Rattle.std.proofs.lemmas.Bool.false≢true l
-      of_list path model.Done f l = none-some _ (sym f)
-      of_list path (model.Refused why) f l = none-some _ (sym f)
+      (λ pair e. scans_further running.taken side (Begin pair) tt reply (subst (λ r. fault_of running.taken side r reply ≡ None) e fault) last)
+      (λ path e. scans_further running.taken side (ListAt path) tt reply (subst (λ r. fault_of running.taken side r reply ≡ None) e fault) last)
 
   -- what the other side showed stays
   found_across : IsFoundIn (found_on now (other side)) (other side) heard.taken

@@ -1,8 +1,11 @@
 -- A session's number is kept in the archive.
-use Rattle.std.proofs.Common.{◌≡◌, ◌≤◌, ◌<◌, ◌^◌, ℕ, ◌+◌, List, [], ◌∷◌, refl, sym, ap, ◌∙◌, subst, inl, inr, arith}
+use Rattle.std.proofs.Common.{◌≡◌, ◌≢◌, ◌≤◌, ◌<◌, ◌^◌, ℕ, ◌+◌, List, [], ◌∷◌, refl, sym, ap, ◌∙◌, subst, inl, inr, arith}
 use Rattle.syn_archive.specs.Archive.{Stands as ArchiveStands, IsHalted, HasRecord, KeepsReadings, KeepsBeforeOrAfter, disk_of, pair_of, session_shown, left_shown, generation_shown}
 use Rattle.syn_archive.specs.Disks.{DiskKeeps}
+use Rattle.syn_archive.specs.Refusals.{CountsFailures}
 use Rattle.syn_archive.specs.declared.archive.Archive.{Archive}
+use Rattle.syn_archive.specs.declared.error.ArchiveError.{ArchiveError}
+use Rattle.syn_archive.specs.declared.error.ArchiveError.TheVariants as error
 use Rattle.syn_disk.specs.Calls.{Makes, Breaks}
 use Rattle.syn_disk.specs.Stops.{LeavesOnly}
 use Rattle.syn_disk.specs.declared.disk.Disk.{Ghosts}
@@ -15,6 +18,19 @@ use Rattle.syn_session.specs.Machines.{Journal, Runs, IsMachine}
 use Rattle.syn_session.specs.inner.Steps.{KeepsSo}
 use Rattle.syn_session.proofs.MachineLemmas.{kept_ok, kept_failed}
 use Rattle.syn_session.proofs.StartLemmas.{can_begin}
+
+-- where no device call failed, none is counted
+pub counts_none : (e : ArchiveError) (old new : ℕ) → e ≢ error.Device → CountsFailures e old new → new ≡ old
+counts_none error.Device old new other counts = absurd (other refl)
+counts_none error.NoParent old new other counts = counts
+counts_none error.Root old new other counts = counts
+counts_none error.Full old new other counts = counts
+counts_none error.JournalFull old new other counts = counts
+counts_none error.Halted old new other counts = counts
+counts_none error.Memory old new other counts = counts
+counts_none error.NoImage old new other counts = counts
+counts_none error.Damaged old new other counts = counts
+counts_none error.WrongPair old new other counts = counts
 
 module _ {D : Type 0} {disk : Ghosts D} (old new : Archive D disk) (pair : ℕ) (machine : Journal) (is : IsMachine old pair machine) (up : IsHalted old → ⊥) where
   running : Runs old machine

@@ -1,6 +1,8 @@
 pub mod ErrorLemmas
 pub mod MachineLemmas
 pub mod StayLemmas
+pub mod TriedLemmas
+pub mod ArmLemmas
 pub mod CheckpointLemmas
 pub mod ReopenLemmas
 pub mod RefusedLemmas
@@ -26,3 +28,5 @@ pub mod FreshLemmas
 pub mod CarryLemmas
 pub mod DoingLemmas
 pub mod PassLemmas
+pub mod CarriedLemmas
+pub mod BeginLemmas

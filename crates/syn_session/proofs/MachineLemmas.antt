@@ -1,5 +1,5 @@
 -- A call of an archive is what its machine does.
-use Rattle.std.proofs.Common.{◌≡◌, ◌⊎◌, ◌≤◌, ℕ, ◌-◌, false, List, [], ◌∷◌, Some, refl, sym, ap, ◌∙◌, subst, inl, inr}
+use Rattle.std.proofs.Common.{◌≡◌, ◌⊎◌, ◌≤◌, ℕ, ◌-◌, false, List, [], ◌∷◌, Some, None, refl, sym, ap, ◌∙◌, subst, inl, inr}
 use Rattle.syn_archive.specs.Archive.{Stands, IsHalted, KeepsBeforeOrAfter, HasRecord, KeepsReadings, pair_of, disk_of, left_shown, generation_shown}
 use Rattle.syn_archive.specs.Disks.{DiskKeeps, kept_size}
 use Rattle.syn_archive.specs.declared.archive.Archive.{Archive}
@@ -14,7 +14,9 @@ use Rattle.syn_recovery.specs.Calls.{armed_at, goes_on, goes_down, MadeCallsMeet
 use Rattle.syn_recovery.specs.Machines.{of_archive}
 use Rattle.syn_recovery.specs.Meaning.{MayBeOf, as_kept, with_record as has_record}
 use Rattle.syn_session.specs.Machines.{Journal, LeavesMachine, Runs, IsMachine}
+use Rattle.syn_session.specs.Tries.{IsShown}
 use Rattle.syn_session.specs.inner.Steps.{KeepsSo, moves_on, moves_down}
+use Rattle.std.proofs.lemmas.Option.{none-some}
 
 -- what a disk keeps may be the machine's, as it was kept
 pub may_be : (pair : ℕ) (machine : Journal) (left generation : ℕ) (bytes : Bytes) → DiskKeeps pair machine.value left generation bytes → left ≡ machine.room → generation ≡ machine.generation → MayBeOf (of_archive pair) machine bytes
@@ -60,9 +62,16 @@ module _ {D : Type 0} {disk : Ghosts D} (old new : Archive D disk) (pair : ℕ) 
         (subst (λ v. DiskKeeps pair v (left_shown new) (generation_shown new) bytes) (sym value) keeps)
         (left_is ∙ sym room) (has.generation ∙ (was.generation ∙ sym generation))
 
+    -- its journal shows itself so, and writes nothing more
+    shows_record : (machine_new : Journal) → machine_new.room ≡ machine.room - kept_size kept → machine_new.generation ≡ machine.generation → machine_new.writing ≡ None → IsShown new pair machine_new
+    shows_record machine_new room generation idle = record {
+      as_left = inl (left_is ∙ sym room, has.generation ∙ (was.generation ∙ sym generation));
+      exactly = λ what is. absurd (none-some _ (sym idle ∙ is));
+    }
+
     pub kept_ok : MadeCallsMeet → StopsBehind → Makes 4 (disk.arms (disk_of old)) (disk.arms (disk_of new)) → KeepsSo new pair machine kept (kept ∷ []) Up
     kept_ok made behind makes = elim (made 4 (disk.arms (disk_of old)) (disk.arms (disk_of new)) is.goes makes) as (λ _. KeepsSo new pair machine kept (kept ∷ []) Up) [
-      | goes_on goes meets ↦ moves_on (with_record (archive_layout pair) machine kept (armed_at (disk.arms (disk_of new)))) (writes _ _ (written _ written_now (armed_old meets))) was.up (record {
+      | goes_on goes meets ↦ moves_on (with_record (archive_layout pair) machine kept (armed_at (disk.arms (disk_of new)))) (writes _ _ (written _ written_now (armed_old meets)), shows_record _ refl refl was.idle) was.up (record {
         pair_is = has.pair ∙ is.pair_is;
         remembers = stands.remembers;
         armed = refl;
@@ -72,7 +81,7 @@ module _ {D : Type 0} {disk : Ghosts D} (old new : Archive D disk) (pair : ℕ) 
       })
       | goes_down down meets ↦
           let stop = behind 4 (disk.arms (disk_of old)) (disk.arms (disk_of new)) is.goes makes down in
-          moves_down (cut (with_record (archive_layout pair) machine kept unarmed)) (cut_behind written_now (subst (λ a. IsBefore 4 a.fail) is.armed stop.1) (ap (λ a. a.stop) (sym is.armed) ∙ stop.0)) down refl (leaves_record _ refl refl refl)
+          moves_down (cut (with_record (archive_layout pair) machine kept unarmed)) (cut_behind written_now (subst (λ a. IsBefore 4 a.fail) is.armed stop.1) (ap (λ a. a.stop) (sym is.armed) ∙ stop.0), shows_record _ refl refl was.idle) down refl (leaves_record _ refl refl refl)
     ]
 
   -- the device failed as it was written
@@ -86,9 +95,15 @@ module _ {D : Type 0} {disk : Ghosts D} (old new : Archive D disk) (pair : ℕ) 
         may_have pair machine_new kept (left_shown old) (generation_shown old) bytes writing (subst (λ v. CanKeep v kept) (sym value) can) (was.room ∙ sym room) (was.generation ∙ sym generation)
         (subst (λ v. DiskKeeps pair v (left_shown old) (generation_shown old) bytes ⊎ DiskKeeps pair (after_kept v kept) (left_shown old - kept_size kept) (generation_shown old) bytes) (sym value) of_pair)
 
+    -- its journal shows what it showed
+    shows_still : (machine_new : Journal) → machine_new.room ≡ machine.room → machine_new.generation ≡ machine.generation → IsShown new pair machine_new
+    shows_still machine_new room generation =
+        let same : (left_shown new ≡ machine_new.room) × (generation_shown new ≡ machine_new.generation) = (readings.left_is ∙ (was.room ∙ sym room), readings.generation ∙ (was.generation ∙ sym generation)) in
+        record { as_left = inl same; exactly = λ what is. same }
+
     pub kept_failed : BrokenCallsMeet → Breaks 4 (disk.arms (disk_of old)) (disk.arms (disk_of new)) → KeepsSo new pair machine kept [] Halted
     kept_failed broken breaks = elim (broken 4 (disk.arms (disk_of old)) (disk.arms (disk_of new)) is.goes breaks) as (λ _. KeepsSo new pair machine kept [] Halted) [
-      | goes_on goes meets ↦ moves_on (after_device (record machine { writing = Some kept }) Halted (armed_at (disk.arms (disk_of new))) 1) (writes _ _ (unwritten Halted _ 1 written_now (inl refl) (armed_old meets))) refl (record {
+      | goes_on goes meets ↦ moves_on (after_device (record machine { writing = Some kept }) Halted (armed_at (disk.arms (disk_of new))) 1) (writes _ _ (unwritten Halted _ 1 written_now (inl refl) (armed_old meets)), shows_still _ refl refl) refl (record {
         pair_is = readings.memory.pair ∙ is.pair_is;
         remembers = readings.memory.archive ∙ is.remembers;
         armed = refl;
@@ -96,5 +111,5 @@ module _ {D : Type 0} {disk : Ghosts D} (old new : Archive D disk) (pair : ℕ) 
         state = inr (record { halted = refl; is_halted = halted });
         leaves = leaves_either _ refl refl refl refl;
       })
-      | goes_down down meets ↦ moves_down (after_device (record machine { writing = Some kept }) Down unarmed 1) (writes _ _ (unwritten Down unarmed 1 written_now (inr refl) (armed_old meets))) down refl (leaves_either _ refl refl refl refl)
+      | goes_down down meets ↦ moves_down (after_device (record machine { writing = Some kept }) Down unarmed 1) (writes _ _ (unwritten Down unarmed 1 written_now (inr refl) (armed_old meets)), shows_still _ refl refl) down refl (leaves_either _ refl refl refl refl)
     ]

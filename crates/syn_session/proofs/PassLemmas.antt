@@ -35,7 +35,9 @@ use Rattle.syn_session.specs.declared.report.Ended.{Ended}
 use Rattle.syn_session.specs.declared.report.Ended.TheVariants.{Early, Settled}
 use Rattle.syn_session.specs.inner.Advancing.{refused_at}
 use Rattle.syn_session.specs.inner.Plans.{Plan}
-use Rattle.syn_session.specs.inner.Settling.{AsksSo, EndsSo, HasCome, IsPast, PassesOn, nothing_asked}
+use Rattle.syn_session.specs.inner.Settling.{AsksSo, EndsSo, HasCome, IsPast, IsQuiet, PassesOn, nothing_asked}
+use Rattle.syn_session.specs.declared.tried.Tried.{Tried}
+use Rattle.syn_session.proofs.TriedLemmas.{tries_none}
 use Rattle.syn_session.specs.inner.Stages.{AreAskedBefore, Carries, IsCarriageOf, IsCourse, Reached, plan_in}
 use Rattle.syn_session.specs.inner.Walking.{Ends, IsAtItem, Passes, ends, walk_at}
 use Rattle.syn_session.proofs.FreshLemmas.{asked_past}
@@ -73,7 +75,7 @@ is_carried planned carriage item is = by planned.item (target_of carriage) is.wr
     by (Conflict at) Left writes = absurd writes
     by (Conflict at) Right writes = absurd writes
 
-some_in : (a b : Plan) → Some a ≡ Some b → a ≡ b
+pub some_in : (a b : Plan) → Some a ≡ Some b → a ≡ b
 some_in a b e = ap (λ o. option_map_or (λ plan. plan) o []) e
 
 module _ {D : Type 0} {disk : Ghosts D} (pair : ℕ) (taken : Exchange) (journal : Journal) (before : Reached) (left right : Found) where
@@ -81,16 +83,16 @@ module _ {D : Type 0} {disk : Ghosts D} (pair : ℕ) (taken : Exchange) (journal
   pub carried_unfit : (archive : Archive D disk) → IsMachine archive pair journal → (course : Course) → IsCourse course left right before → (planned : Planned) → slice_get (plan_in course left right) course.cursor ≡ Some planned → (carried : Carried) → IsCarriageOf (carriage_of carried.transfer) planned course.cursor → record_for planned planned.item ≡ Some (kept_of carried.record) →
       (why : Refusal) → Some (cause_of why) ≡ kept_refusal (shown archive) (kept_of carried.record) → Passes pair taken journal before journal (refused_at before (cause_of why) planned) []
   carried_unfit archive is course course_is planned at carried carriage record_is why refused =
-      passes_unfit pair taken journal before planned (at_walk archive pair taken journal before course left right course_is planned at) (kept_of carried.record) (cause_of why) record_is
+      passes_unfit pair taken journal before planned (at_walk before course left right course_is planned at) (kept_of carried.record) (cause_of why) record_is
       (inl (is_carried planned (carriage_of carried.transfer) course.cursor carriage)) (ap (λ a. kept_refusal a (kept_of carried.record)) (sym is.remembers) ∙ sym refused)
 
   -- no item is left
-  pub ends_settled : (archive : Archive D disk) → IsMachine archive pair journal → (course : Course) → IsCourse course left right before → slice_get (plan_in course left right) course.cursor ≡ None → Ends archive pair taken journal before [] course left right Settled
-  ends_settled archive is course course_is none =
+  pub ends_settled : (archive : Archive D disk) (tried : Option Tried) → IsMachine archive pair journal → tried ≡ None → journal.writing ≡ None → (course : Course) → IsCourse course left right before → slice_get (plan_in course left right) course.cursor ≡ None → Ends archive tried pair taken journal before [] course left right Settled
+  ends_settled archive tried is untried quiet course course_is none =
       ends (walk_at journal before) before (stands (walk_at journal before)) refl refl (keeps_none before)
       (λ running same. settled (subst IsSome (sym (same ∙ course_is.plan)) refl)
       (ap (λ p. slice_get (option_map_or (λ plan. plan) p []) before.cursor) (same ∙ course_is.plan) ∙ (ap (slice_get (plan_in course left right)) course_is.cursor ∙ none)) refl)
-      is course_is
+      is course_is (tries_none pair tried journal untried quiet)
 
   module _ (old new : Coordinator D disk) (was later : Course) (all : List Exchange) (at : IsAtItem was left right all before) where
     -- nothing was asked for the item behind
@@ -104,18 +106,18 @@ module _ {D : Type 0} {disk : Ghosts D} (pair : ℕ) (taken : Exchange) (journal
         next = ap suc (sym at.course_is.cursor) ∙ past.2
 
   -- memory is refused, and the course stays
-  pub ends_here : (coordinator : Coordinator D disk) → IsMachine coordinator.archive pair journal → (was later : Course) → IsCourse was left right before → later ≡ was → (how : Ended) → how ≡ Early refusal.Memory → EndsSo coordinator coordinator pair taken journal before later left right how
-  ends_here coordinator is was later course_is same how memory = (
+  pub ends_here : (coordinator : Coordinator D disk) → IsMachine coordinator.archive pair journal → IsQuiet coordinator journal → (was later : Course) → IsCourse was left right before → later ≡ was → (how : Ended) → how ≡ Early refusal.Memory → EndsSo coordinator coordinator pair taken journal before later left right how
+  ends_here coordinator is quiet was later course_is same how memory = (
     [],
     sym (append-nil _),
-    subst (λ e. Ends coordinator.archive pair taken journal before [] later left right e) (sym memory)
-        (subst (λ c. Ends coordinator.archive pair taken journal before [] c left right (Early refusal.Memory)) (sym same)
-        (ends_for_memory coordinator.archive pair taken journal before was left right is course_is)),
+    subst (λ e. Ends coordinator.archive coordinator.tried pair taken journal before [] later left right e) (sym memory)
+        (subst (λ c. Ends coordinator.archive coordinator.tried pair taken journal before [] c left right (Early refusal.Memory)) (sym same)
+        (ends_for_memory coordinator.archive coordinator.tried pair taken journal before was left right is quiet.0 quiet.1 course_is)),
   )
 
   -- it asks for the item that it has come to
-  pub asks_here : (coordinator : Coordinator D disk) → IsMachine coordinator.archive pair journal → (course : Course) (all : List Exchange) (asks : Side × Asked) → Carries journal.value course left right all before (λ transfer. Asks transfer all (which_of asks.0) (request_of asks.1)) → AsksSo coordinator coordinator pair taken journal before course left right all asks
-  asks_here coordinator is course all asks carries = (
+  pub asks_here : (coordinator : Coordinator D disk) → IsMachine coordinator.archive pair journal → IsQuiet coordinator journal → (course : Course) (all : List Exchange) (asks : Side × Asked) → Carries journal.value course left right all before (λ transfer. Asks transfer all (which_of asks.0) (request_of asks.1)) → AsksSo coordinator coordinator pair taken journal before course left right all asks
+  asks_here coordinator is quiet course all asks carries = (
     [],
     sym (append-nil _),
     record {
@@ -126,6 +128,7 @@ module _ {D : Type 0} {disk : Ghosts D} (pair : ℕ) (taken : Exchange) (journal
       is = is;
       carries = carries;
     },
+    quiet.0,
   )
     where
       at_most : (n : ℕ) → n ≤ n
@@ -135,8 +138,8 @@ module _ {D : Type 0} {disk : Ghosts D} (pair : ℕ) (taken : Exchange) (journal
 
 module _ {D : Type 0} {disk : Ghosts D} (pair : ℕ) (taken : Exchange) (journal : Journal) (before : Reached) (left right : Found) (all : List Exchange) where
   -- before the first
-  pub no_turn : (coordinator : Coordinator D disk) → IsMachine coordinator.archive pair journal → (course : Course) → IsAtItem course left right all before → HasCome coordinator coordinator pair taken journal before course left right all
-  no_turn coordinator is course at = (
+  pub no_turn : (coordinator : Coordinator D disk) → IsMachine coordinator.archive pair journal → IsQuiet coordinator journal → (course : Course) → IsAtItem course left right all before → HasCome coordinator coordinator pair taken journal before course left right all
+  no_turn coordinator is quiet course at = (
     [],
     sym (append-nil _),
     record {
@@ -148,6 +151,7 @@ module _ {D : Type 0} {disk : Ghosts D} (pair : ℕ) (taken : Exchange) (journal
     },
     omega (arith, at.course_is.cursor),
     at.asked,
+    quiet.0,
   )
 
   module _ (first middle : Coordinator D disk) (course : Course) (come : HasCome first middle pair taken journal before course left right all) where
@@ -155,14 +159,18 @@ module _ {D : Type 0} {disk : Ghosts D} (pair : ℕ) (taken : Exchange) (journal
     pub at_turn : IsAtItem course left right all come.2.after
     at_turn = record { course_is = come.2.course_is; asked = come.4 }
 
+    -- and nothing is being written there
+    pub still_quiet : journal.writing ≡ None → IsQuiet middle come.2.journal
+    still_quiet quiet = (come.5, come.2.passes.quiet quiet)
+
     -- it runs out of turns
-    pub no_turn_left : (how : Ended) → how ≡ Early refusal.Memory → EndsSo first middle pair taken journal before course left right how
-    no_turn_left how memory = (
+    pub no_turn_left : journal.writing ≡ None → (how : Ended) → how ≡ Early refusal.Memory → EndsSo first middle pair taken journal before course left right how
+    no_turn_left quiet how memory = (
       come.0,
       come.1,
-      subst (λ l. Ends middle.archive pair taken journal before l course left right how) (append-nil come.0)
-          (ends_behind pair taken journal come.2.journal before come.2.after come.0 come.2.passes middle.archive [] course left right how
-          (subst (λ e. Ends middle.archive pair taken come.2.journal come.2.after [] course left right e) (sym memory) (ends_for_memory middle.archive pair taken come.2.journal come.2.after course left right come.2.is come.2.course_is))),
+      subst (λ l. Ends middle.archive middle.tried pair taken journal before l course left right how) (append-nil come.0)
+          (ends_behind pair taken journal come.2.journal before come.2.after come.0 come.2.passes middle.archive [] course left right middle.tried how
+          (subst (λ e. Ends middle.archive middle.tried pair taken come.2.journal come.2.after [] course left right e) (sym memory) (ends_for_memory middle.archive middle.tried pair taken come.2.journal come.2.after course left right come.2.is come.5 (come.2.passes.quiet quiet) come.2.course_is))),
     )
 
     module _ (last : Coordinator D disk) (later : Course) where
@@ -177,6 +185,7 @@ module _ {D : Type 0} {disk : Ghosts D} (pair : ℕ) (taken : Exchange) (journal
         comes_behind pair taken journal come.2.journal before come.2.after come.0 come.2.passes last.archive past.0.0 later left right past.0.3,
         omega (arith, come.3, come.2.course_is.cursor, past.0.2),
         past.1,
+        past.0.4,
       )
 
       -- it asks
@@ -192,8 +201,14 @@ module _ {D : Type 0} {disk : Ghosts D} (pair : ℕ) (taken : Exchange) (journal
           is = so.2.is;
           carries = so.2.carries;
         },
+        so.3,
       )
+
+      -- and stands where it then stands
+      pub turn_further : (asks : Side × Asked) (so : AsksSo middle last pair taken come.2.journal come.2.after later left right all asks) → (turn_asks asks so).2.after.cursor ≡ so.2.after.cursor
+      unfolding turn_asks
+      turn_further asks so = refl
 
       -- it ends
       pub turn_ends : (how : Ended) → EndsSo middle last pair taken come.2.journal come.2.after later left right how → EndsSo first last pair taken journal before later left right how
-      turn_ends how so = (come.0 ++ so.0, both so.0 so.1, ends_behind pair taken journal come.2.journal before come.2.after come.0 come.2.passes last.archive so.0 later left right how so.2)
+      turn_ends how so = (come.0 ++ so.0, both so.0 so.1, ends_behind pair taken journal come.2.journal before come.2.after come.0 come.2.passes last.archive so.0 later left right last.tried how so.2)

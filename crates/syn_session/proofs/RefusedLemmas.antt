@@ -8,6 +8,7 @@ use Rattle.syn_archive.specs.Refusals.{refusal_of, IsOfCheckpoint}
 use Rattle.syn_archive.specs.declared.archive.Archive.{Archive}
 use Rattle.syn_archive.specs.declared.error.ArchiveError.{ArchiveError}
 use Rattle.syn_archive.specs.declared.error.ArchiveError.TheVariants as error
+use Rattle.syn_disk.specs.Arms.{is_stopped}
 use Rattle.syn_disk.specs.declared.disk.Disk.{Ghosts}
 use Rattle.syn_headline.specs.Coordinator.{CoordinatorMachine, Running, archive_layout, running_after, with_archive}
 use Rattle.syn_headline.specs.Machine.{Up, Halted, Down, Status, Compacts, compacted, not_compacted, opened, recovered}
@@ -17,13 +18,16 @@ use Rattle.syn_model.specs.Limits.{greatest}
 use Rattle.syn_model.specs.Refusal.{Refusal, first_cause}
 use Rattle.syn_model.specs.Refusal as why
 use Rattle.syn_model.specs.Archive.{Kept}
-use Rattle.syn_session.specs.Coordinators.{Checkpoints, checkpoints, Reopens, reopens, ReopensNot, reopens_not, Does, Stands, checkpoint_causes, checkpoint_refusals, ended_in, in_report, report_shown, runs, goes_on, goes_down}
+use Rattle.syn_session.specs.Coordinators.{Checkpoints, checkpoints, Reopens, reopens, ReopensNot, reopens_not, Does, Stands, checkpoint_causes, checkpoint_refusals, device_of, ended_in, in_report, report_shown, runs, goes_on, goes_down}
+use Rattle.syn_session.specs.Tries.{Tries}
+use Rattle.syn_session.specs.declared.tried.Tried.{Tried}
+use Rattle.syn_session.proofs.TriedLemmas.{tries_none, tries_still, untried_up}
 use Rattle.syn_session.specs.Machines.{Journal, Runs, Fails, IsMachine, Reopened, opened_again, cut_off, NotReopened, stayed, went_down}
 use Rattle.syn_session.specs.declared.coordinator.Coordinator.{Coordinator}
 use Rattle.syn_session.specs.inner.Sessions.{IsRunning, IsSession}
 use Rattle.syn_session.specs.declared.session.Session.{Session}
 use Rattle.std.proofs.lemmas.Option.{none-some}
-use Rattle.syn_session.specs.inner.Steps.{Moves, moves_on, moves_down}
+use Rattle.syn_session.specs.inner.Steps.{CompactsSo, Moves, moves_on, moves_down}
 
 -- by what each of the causes is
 causes_with : (machine : CoordinatorMachine) (halted full : Bool) → is_halted machine.journal.status ≡ halted → nat_le greatest machine.journal.generation ≡ full →
@@ -40,6 +44,12 @@ is_less n h other = grind (arith, nat_tests)
 
 pub up_not_down : Up ≢ Down
 up_not_down e = cc
+
+pub halted_not_up : Halted ≢ Up
+halted_not_up e = cc
+
+down_not_up : Down ≢ Up
+down_not_up e = cc
 
 pub halted_not_down : Halted ≢ Down
 halted_not_down e = cc
@@ -121,6 +131,21 @@ stay_keeps : (machine journal : Journal) (met left : Status) → NotReopened mac
 stay_keeps machine journal met left (stayed calls arms failures meets) = (refl, refl)
 stay_keeps machine journal met left (went_down calls arms failures meets) = (refl, refl)
 
+-- an opening that is made leaves nothing being written, and one that was cut off what was
+opened_quiet : (pair : ℕ) (machine journal : Journal) (kept : List Kept) → Reopened pair machine journal kept → journal.status ≡ Up → journal.writing ≡ None
+opened_quiet pair machine journal kept (opened_again calls new now some (opened room generation arms meets left)) up = refl
+opened_quiet pair machine journal kept (opened_again calls new now some (recovered arms one meets writing can)) up = refl
+opened_quiet pair machine journal kept (cut_off calls arms failures meets) up = absurd (up_not_down (sym up))
+
+cut_tries : (pair : ℕ) (tried : Option Tried) (machine journal : Journal) (kept : List Kept) → Reopened pair machine journal kept → journal.status ≡ Down → Tries pair tried machine → Tries pair tried journal
+cut_tries pair tried machine journal kept (opened_again calls new now some (opened room generation arms meets left)) down tries = absurd (up_not_down down)
+cut_tries pair tried machine journal kept (opened_again calls new now some (recovered arms one meets writing can)) down tries = absurd (up_not_down down)
+cut_tries pair tried machine journal kept (cut_off calls arms failures meets) down tries = tries_still pair tried machine Down arms failures (λ _. down_not_up) tries
+
+unopened_tries : (pair : ℕ) (tried : Option Tried) (machine journal : Journal) (met left : Status) → (machine.status ≢ Up → left ≢ Up) → NotReopened machine met left journal → Tries pair tried machine → Tries pair tried journal
+unopened_tries pair tried machine journal met left stops (stayed calls arms failures meets) tries = tries_still pair tried machine left arms failures stops tries
+unopened_tries pair tried machine journal met left stops (went_down calls arms failures meets) tries = tries_still pair tried machine Down arms failures (λ _. down_not_up) tries
+
 -- a session stays what it is where the archive of the machine does
 pub runs_still : (a b : model.Archive) (session : Option Session) (running : Option Running) → (is_some running ≡ true → b ≡ a) → IsRunning a session running → IsRunning b session running
 runs_still a b None None e is = tt
@@ -145,28 +170,45 @@ module _ {D : Type 0} {disk : Ghosts D} (old new : Coordinator D disk) (pair : �
       goes Halted _ = refl
       goes Down never = absurd (never refl)
 
-  stands_with : (status : Status) → status ≢ Down → (journal : Journal) → journal.status ≡ status → IsMachine new.archive pair journal → (is_some machine.running ≡ true → (journal.value ≡ machine.journal.value) × (journal.writing ≡ None)) → Stands new pair (with_archive machine journal)
-  stands_with status up journal is_status is keeps =
+  stands_with : (status : Status) → status ≢ Down → (journal : Journal) → journal.status ≡ status → IsMachine new.archive pair journal → (is_some machine.running ≡ true → (journal.value ≡ machine.journal.value) × (journal.writing ≡ None)) → (is_some machine.running ≡ true → new.tried ≡ None) → Tries pair new.tried journal → Stands new pair (with_archive machine journal)
+  stands_with status up journal is_status is keeps untried tries =
       let running = still_running status up journal is_status in record {
         journal = is;
         running = subst (λ r. IsRunning journal.value new.running r) (sym running) (subst (λ s. IsRunning journal.value s machine.running) (sym same) (runs_still machine.journal.value journal.value old.running machine.running (λ some. (keeps some).0) stands.running));
         quiet = λ some. (keeps (sym (ap is_some running) ∙ some)).1;
+        untried = λ some. untried (sym (ap is_some running) ∙ some);
+        tries = tries;
       }
 
-  pub checkpoint_does : (status : Status) → status ≢ Down → Moves new.archive pair (Compacts (archive_layout pair) machine.journal) status → Does old new pair (Checkpoints pair machine) [] []
-  checkpoint_does status up (moves_on journal compacts is_status is) =
-      goes_on _ _ (checkpoints journal compacts) (stands_with status up journal is_status is (λ some. ((compact_keeps pair _ _ compacts).0, (compact_keeps pair _ _ compacts).1 ∙ stands.quiet some))) refl refl none_ended
-  checkpoint_does status up (moves_down journal compacts stopped down leaves) = goes_down _ _ (checkpoints journal compacts) stopped down leaves refl
+  -- nothing was tried at a machine that is up, and a checkpoint writes no record
+  tries_none_up : Runs old.archive machine.journal → new.tried ≡ old.tried → (journal : Journal) → Compacts (archive_layout pair) machine.journal journal → Tries pair new.tried journal
+  tries_none_up was same_tried journal compacts =
+      tries_none pair new.tried journal (same_tried ∙ untried_up pair old.tried machine.journal stands.tries was.up) ((compact_keeps pair machine.journal journal compacts).1 ∙ was.idle)
 
-  pub reopen_does : Moves new.archive pair (λ journal. (kept : List Kept) × Reopened pair machine.journal journal kept) Up → (kept : List Kept) × Does old new pair (Reopens pair machine) kept []
-  reopen_does (moves_on journal again is_status is) =
-      (again.0, goes_on _ _ (reopens journal again.0 again.1) (stands_with Up up_not_down journal is_status is (λ some. open_keeps pair _ _ _ (stands.quiet some) again.1)) refl refl none_ended)
-  reopen_does (moves_down journal again stopped down leaves) = (again.0, goes_down _ _ (reopens journal again.0 again.1) stopped down leaves refl)
+  pub checkpoint_does : Runs old.archive machine.journal → new.tried ≡ old.tried → (status : Status) → status ≢ Down → CompactsSo new.archive pair machine.journal status → Does old new pair (Checkpoints pair machine) [] []
+  checkpoint_does was same_tried status up (moves_on journal (compacts, shown) is_status is) =
+      goes_on _ _ (checkpoints journal compacts) (stands_with status up journal is_status is (λ some. ((compact_keeps pair _ _ compacts).0, (compact_keeps pair _ _ compacts).1 ∙ stands.quiet some)) (λ some. same_tried ∙ stands.untried some) (tries_none_up was same_tried journal compacts)) refl refl none_ended
+  checkpoint_does was same_tried status up (moves_down journal (compacts, shown) stopped down leaves) = goes_down _ _ (checkpoints journal compacts) stopped down leaves refl (tries_none_up was same_tried journal compacts)
 
-  pub not_reopened : (met left : Status) → left ≢ Down → Moves new.archive pair (NotReopened machine.journal met left) left → Does old new pair (ReopensNot machine met left) [] []
-  not_reopened met left up (moves_on journal not_opened is_status is) =
-      goes_on _ _ (reopens_not journal not_opened) (stands_with left up journal is_status is (λ some. ((stay_keeps _ _ _ _ not_opened).0, (stay_keeps _ _ _ _ not_opened).1 ∙ stands.quiet some))) refl refl none_ended
-  not_reopened met left up (moves_down journal not_opened stopped down leaves) = goes_down _ _ (reopens_not journal not_opened) stopped down leaves refl
+  -- it forgets what was tried once it is opened again
+  tries_again : (kept : List Kept) (journal : Journal) → Reopened pair machine.journal journal kept → journal.status ≡ Up → new.tried ≡ None → Tries pair new.tried journal
+  tries_again kept journal again up forgets = tries_none pair new.tried journal forgets (opened_quiet pair machine.journal journal kept again up)
+
+  tries_cut : (kept : List Kept) (journal : Journal) → Reopened pair machine.journal journal kept → journal.status ≡ Down → new.tried ≡ old.tried → Tries pair new.tried journal
+  tries_cut kept journal again down same_tried = subst (λ t. Tries pair t journal) (sym same_tried) (cut_tries pair old.tried machine.journal journal kept again down stands.tries)
+
+  tries_unopened : (met left : Status) → (machine.journal.status ≢ Up → left ≢ Up) → (journal : Journal) → NotReopened machine.journal met left journal → new.tried ≡ old.tried → Tries pair new.tried journal
+  tries_unopened met left stops journal not_opened same_tried = subst (λ t. Tries pair t journal) (sym same_tried) (unopened_tries pair old.tried machine.journal journal met left stops not_opened stands.tries)
+
+  pub reopen_does : (is_stopped (disk.arms (device_of new)) ≡ false → new.tried ≡ None) → (is_stopped (disk.arms (device_of new)) ≡ true → new.tried ≡ old.tried) → Moves new.archive pair (λ journal. (kept : List Kept) × Reopened pair machine.journal journal kept) Up → (kept : List Kept) × Does old new pair (Reopens pair machine) kept []
+  reopen_does forgets stays (moves_on journal again is_status is) =
+      (again.0, goes_on _ _ (reopens journal again.0 again.1) (stands_with Up up_not_down journal is_status is (λ some. open_keeps pair _ _ _ (stands.quiet some) again.1) (λ some. forgets is.goes) (tries_again again.0 journal again.1 is_status (forgets is.goes))) refl refl none_ended)
+  reopen_does forgets stays (moves_down journal again stopped down leaves) = (again.0, goes_down _ _ (reopens journal again.0 again.1) stopped down leaves refl (tries_cut again.0 journal again.1 down (stays stopped)))
+
+  pub not_reopened : new.tried ≡ old.tried → (met left : Status) → left ≢ Down → (machine.journal.status ≢ Up → left ≢ Up) → Moves new.archive pair (NotReopened machine.journal met left) left → Does old new pair (ReopensNot machine met left) [] []
+  not_reopened same_tried met left up stops (moves_on journal not_opened is_status is) =
+      goes_on _ _ (reopens_not journal not_opened) (stands_with left up journal is_status is (λ some. ((stay_keeps _ _ _ _ not_opened).0, (stay_keeps _ _ _ _ not_opened).1 ∙ stands.quiet some)) (λ some. same_tried ∙ stands.untried some) (tries_unopened met left stops journal not_opened same_tried)) refl refl none_ended
+  not_reopened same_tried met left up stops (moves_down journal not_opened stopped down leaves) = goes_down _ _ (reopens_not journal not_opened) stopped down leaves refl (tries_unopened met left stops journal not_opened same_tried)
 
 pub error_is : {T : Type 0} (a b : ArchiveError) → failed T a ≡ failed T b → a ≡ b
 error_is a b e = cc

@@ -16,10 +16,12 @@ use Rattle.syn_session.specs.Coordinators.{Does, Stands, ended_in, in_report, re
 use Rattle.syn_session.specs.Coordinators as does
 use Rattle.syn_session.specs.Machines.{IsMachine}
 use Rattle.syn_session.specs.declared.coordinator.Coordinator.{Coordinator}
+use Rattle.syn_session.specs.Tries.{Tries}
 use Rattle.syn_session.specs.declared.report.Ended.{Ended}
 use Rattle.syn_session.specs.declared.report.Ended.TheVariants.{Early}
 use Rattle.syn_session.specs.declared.session.Asks.{Asks}
 use Rattle.syn_session.specs.declared.session.Session.{Session}
+use Rattle.syn_session.specs.declared.tried.Tried.{Tried}
 use Rattle.syn_session.specs.inner.Answered.{Answered, goes_down, goes_on, reported}
 use Rattle.syn_session.specs.inner.Answering.{IsAnswering, IsAskedOn, IsHeard, asks_of, exchange_of, messages_asked}
 use Rattle.syn_session.specs.inner.Hearing.{IsAsking, MayGoOn}
@@ -31,6 +33,7 @@ use Rattle.syn_session.specs.inner.Walking.{ended_by, walk_at}
 use Rattle.syn_session.proofs.AskLemmas.{asks_next, heard_asking, line_asked, sends_that, then_asking}
 use Rattle.syn_session.proofs.StartLemmas.{no_session}
 use Rattle.syn_session.proofs.TickLemmas.{run_alike, session_of}
+use Rattle.syn_session.proofs.TriedLemmas.{tries_none}
 use Rattle.std.proofs.lemmas.Option.{none-some}
 
 -- what a session tells stays with its number, its plan and whether it is unstable
@@ -78,14 +81,16 @@ module _ (pair : ℕ) (machine : CoordinatorMachine) (running : Running) (taken 
     may_ask = asks_next heard session next asks on.heard asked number on.may.free on.may.fresh on.now.value on.may.may (on.may.some next asks_it)
 
     -- it asks both sides for what comes next
-    pub asked_so : new.running ≡ Some next → (messages : List Message) → messages ≡ messages_asked session asks → Answered new pair machine running taken kept messages
-    asked_so runs_it messages sent =
+    pub asked_so : new.tried ≡ None → new.running ≡ Some next → (messages : List Message) → messages ≡ messages_asked session asks → Answered new pair machine running taken kept messages
+    asked_so untried runs_it messages sent =
         goes_on _ _ (model.goes_on on.after.plan on.walks.logged (walk_at on.now on.after) kept (asks_of asks Left) (asks_of asks Right) on.walks.fault on.walks.has on.walks.goes refl on.status on.last
         (subst (λ r. AsksNext on.now.value r (asks_of asks Left) (asks_of asks Right)) (sym same) may_ask))
         (record {
           journal = on.is;
           running = subst (λ s. IsRunning on.now.value s (Some (says (behind running taken on.after.plan (walk_at on.now on.after) kept)))) (sym runs_it) (subst (λ r. IsSession on.now.value next (says r)) (sym same) is_session);
           quiet = λ _. on.quiet quiet;
+          untried = λ _. untried;
+          tries = tries_none pair new.tried on.now untried (on.quiet quiet);
         }) refl
         (ap (λ r. sent_now r (asks_of asks Left) (asks_of asks Right)) same ∙ (sym (sends_that heard session next asks on.heard asked number on.may.free) ∙ sym sent))
         (sym (ap (λ s. if is_some s then [] else in_report (report_shown new)) runs_it))
@@ -97,33 +102,33 @@ module _ (pair : ℕ) (machine : CoordinatorMachine) (running : Running) (taken 
     report_is now why told = sym (ap₂ (λ s r. if is_some s then [] else in_report r) is_over told)
 
     -- memory is refused as it asks
-    asks_none : (session : Session) (kept : List Kept) (asks : Asks) → TakesOn new.archive pair machine.journal running taken session kept asks →
+    asks_none : (session : Session) (kept : List Kept) (asks : Asks) → machine.journal.writing ≡ None → new.tried ≡ None → TakesOn new.archive pair machine.journal running taken session kept asks →
         ((now : Running) → Tells session now → report_shown new ≡ Some (report_of now (Some Memory))) → Answered new pair machine running taken kept []
-    asks_none session kept asks on told =
+    asks_none session kept asks quiet untried on told =
         let same = come_to on.after kept (walk_at on.now on.after) on.walks refl refl in
-        goes_on _ _ (model.ends on.after.plan on.walks.logged (walk_at on.now on.after) kept (Some Memory) on.walks.fault on.walks.has on.walks.goes (model.no_memory on.status)) (no_session new pair on.now on.is is_over) refl refl
+        goes_on _ _ (model.ends on.after.plan on.walks.logged (walk_at on.now on.after) kept (Some Memory) on.walks.fault on.walks.has on.walks.goes (model.no_memory on.status)) (no_session new pair on.now on.is is_over (tries_none pair new.tried on.now untried (on.quiet quiet))) refl refl
         (ap (λ r. report_of r (Some Memory) ∷ []) same ∙ report_is (reaching running taken on.after) (Some Memory) (told _ on.tells))
 
-    pub asks_no_more : (archive : Archive D disk) (session : Session) (had kept : List Kept) (asks : Asks) (messages : List Message) → new.archive ≡ archive → kept ≡ had → messages ≡ [] → TakesOn archive pair machine.journal running taken session had asks →
+    pub asks_no_more : machine.journal.writing ≡ None → new.tried ≡ None → (archive : Archive D disk) (session : Session) (had kept : List Kept) (asks : Asks) (messages : List Message) → new.archive ≡ archive → kept ≡ had → messages ≡ [] → TakesOn archive pair machine.journal running taken session had asks →
         ((now : Running) → Tells session now → report_shown new ≡ Some (report_of now (Some Memory))) → Answered new pair machine running taken kept messages
-    asks_no_more archive session had kept asks messages same same_kept nothing on told =
-        subst (λ m. Answered new pair machine running taken kept m) (sym nothing) (subst (λ k. Answered new pair machine running taken k []) (sym same_kept) (asks_none session had asks (subst (λ a. TakesOn a pair machine.journal running taken session had asks) (sym same) on) told))
+    asks_no_more quiet untried archive session had kept asks messages same same_kept nothing on told =
+        subst (λ m. Answered new pair machine running taken kept m) (sym nothing) (subst (λ k. Answered new pair machine running taken k []) (sym same_kept) (asks_none session had asks quiet untried (subst (λ a. TakesOn a pair machine.journal running taken session had asks) (sym same) on) told))
 
-    ends_now : (session : Session) (kept : List Kept) (ended : Ended) → TakesEnd new.archive pair machine.journal running taken session kept ended →
+    ends_now : (session : Session) (kept : List Kept) (ended : Ended) → TakesEnd new.archive new.tried pair machine.journal running taken session kept ended →
         ((now : Running) → Tells session now → report_shown new ≡ Some (report_of now (ended_by ended))) → Answered new pair machine running taken kept []
-    ends_now session kept _ (taking.at_once why fault tells is nothing) told =
-        goes_on _ _ (model.ends_at_once (cause_of why) fault) (no_session new pair machine.journal is is_over) (sym nothing) refl (report_is running (Some (cause_of why)) (told running tells))
-    ends_now session kept _ (taking.ends ended walk after walks cursor refused why is tells) told =
+    ends_now session kept _ (taking.at_once why fault tells is nothing tries) told =
+        goes_on _ _ (model.ends_at_once (cause_of why) fault) (no_session new pair machine.journal is is_over tries) (sym nothing) refl (report_is running (Some (cause_of why)) (told running tells))
+    ends_now session kept _ (taking.ends ended walk after walks cursor refused why is tells tries) told =
         let same = come_to after kept walk walks cursor refused in
-        goes_on _ _ (model.ends after.plan walks.logged walk kept (ended_by ended) walks.fault walks.has walks.goes (subst (λ r. EndsFor pair r taken machine.journal.status walk (ended_by ended)) (sym same) why)) (no_session new pair walk.journal is is_over) refl refl
+        goes_on _ _ (model.ends after.plan walks.logged walk kept (ended_by ended) walks.fault walks.has walks.goes (subst (λ r. EndsFor pair r taken machine.journal.status walk (ended_by ended)) (sym same) why)) (no_session new pair walk.journal is is_over tries) refl refl
         (ap (λ r. report_of r (ended_by ended) ∷ []) same ∙ report_is (reaching running taken after) (ended_by ended) (told _ tells))
-    ends_now session kept _ (taking.goes_down ended walk after walks stopped down leaves) told =
-        goes_down _ _ (model.stops after.plan walks.logged walk kept walks.fault walks.has walks.goes down) stopped down leaves refl
+    ends_now session kept _ (taking.goes_down ended walk after walks stopped down leaves tries) told =
+        goes_down _ _ (model.stops after.plan walks.logged walk kept walks.fault walks.has walks.goes down) stopped down leaves refl tries
 
-    pub ends_so : (archive : Archive D disk) (session : Session) (had kept : List Kept) (ended : Ended) (messages : List Message) → new.archive ≡ archive → kept ≡ had → messages ≡ [] → TakesEnd archive pair machine.journal running taken session had ended →
+    pub ends_so : (archive : Archive D disk) (tried : Option Tried) (session : Session) (had kept : List Kept) (ended : Ended) (messages : List Message) → new.archive ≡ archive → new.tried ≡ tried → kept ≡ had → messages ≡ [] → TakesEnd archive tried pair machine.journal running taken session had ended →
         ((now : Running) → Tells session now → report_shown new ≡ Some (report_of now (ended_by ended))) → Answered new pair machine running taken kept messages
-    ends_so archive session had kept ended messages same same_kept nothing takes_end told =
-        subst (λ m. Answered new pair machine running taken kept m) (sym nothing) (subst (λ k. Answered new pair machine running taken k []) (sym same_kept) (ends_now session had ended (subst (λ a. TakesEnd a pair machine.journal running taken session had ended) (sym same) takes_end) told))
+    ends_so archive tried session had kept ended messages same same_tried same_kept nothing takes_end told =
+        subst (λ m. Answered new pair machine running taken kept m) (sym nothing) (subst (λ k. Answered new pair machine running taken k []) (sym same_kept) (ends_now session had ended (subst (λ t. TakesEnd new.archive t pair machine.journal running taken session had ended) (sym same_tried) (subst (λ a. TakesEnd a tried pair machine.journal running taken session had ended) (sym same) takes_end)) told))
 
 -- ---- an answer that comes
 
@@ -137,16 +142,18 @@ module _ {D : Type 0} {disk : Ghosts D} (old new : Coordinator D disk) (pair : �
       by : (b : Bool) → (if runs old && not b then in_report (report_shown new) else []) ≡ (if b then [] else in_report (report_shown new))
       by true = ap (λ a. if a && false then in_report (report_shown new) else []) ran
       by false = ap (λ a. if a && true then in_report (report_shown new) else []) ran
-  answered_does running request kept messages ran expected (goes_down now call took stopped down leaves same_kept) =
-      does.goes_down now call (takes running request now call expected took) stopped down leaves same_kept
+  answered_does running request kept messages ran expected (goes_down now call took stopped down leaves same_kept tries) =
+      does.goes_down now call (takes running request now call expected took) stopped down leaves same_kept tries
 
   -- it was not
-  pub ignored_does : Stands old pair machine → new.archive ≡ old.archive → new.running ≡ old.running → ((running : Running) (request : Request) → IsExpected machine from session number running request → ⊥) → (kept : List Kept) (messages : List Message) → kept ≡ [] → messages ≡ [] → Does old new pair (CoordinatorTakes pair machine from session number reply) kept messages
-  ignored_does stands archive running unexpected kept messages no_kept no_messages =
+  pub ignored_does : Stands old pair machine → new.archive ≡ old.archive → new.running ≡ old.running → new.tried ≡ old.tried → ((running : Running) (request : Request) → IsExpected machine from session number running request → ⊥) → (kept : List Kept) (messages : List Message) → kept ≡ [] → messages ≡ [] → Does old new pair (CoordinatorTakes pair machine from session number reply) kept messages
+  ignored_does stands archive running tried unexpected kept messages no_kept no_messages =
       does.goes_on machine model.no_call (ignores unexpected) (record {
         journal = subst (λ a. IsMachine a pair machine.journal) (sym archive) stands.journal;
         running = subst (λ s. IsRunning machine.journal.value s machine.running) (sym running) stands.running;
         quiet = stands.quiet;
+        untried = λ some. tried ∙ stands.untried some;
+        tries = subst (λ t. Tries pair t machine.journal) (sym tried) stands.tries;
       }) (sym no_kept) (sym no_messages) (sym (ap (λ s. if runs old && not (is_some s) then in_report (report_shown new) else []) running ∙ by (runs old)))
     where
       by : (b : Bool) → (if b && not b then in_report (report_shown new) else []) ≡ []

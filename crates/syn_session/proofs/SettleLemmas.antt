@@ -34,8 +34,10 @@ use Rattle.syn_session.specs.declared.due.Due.{Due}
 use Rattle.syn_session.specs.declared.due.Due.TheVariants as due
 use Rattle.syn_session.specs.declared.report.Ended.{Ended}
 use Rattle.syn_session.specs.declared.report.Ended.TheVariants.{Early}
+use Rattle.syn_session.specs.declared.tried.Tried.{Tried}
+use Rattle.syn_session.proofs.TriedLemmas.{tries_none}
 use Rattle.syn_session.specs.inner.Advancing.{Advanced, ended, kept_at, kept_by, kept_it, refused_at, refused_it, stopped}
-use Rattle.syn_session.specs.inner.Due.{Settles, recorded}
+use Rattle.syn_session.specs.inner.Due.{Settles, TriesBy, recorded}
 use Rattle.syn_session.specs.inner.Plans.{planned_all}
 use Rattle.syn_session.specs.inner.Stages.{AreAskedBefore, Carries, IsCarriageOf, IsCarriedFor, IsCourse, Reached, plan_in}
 use Rattle.syn_session.specs.inner.Walking.{Comes, Ends, HasKept, Passes, ends, ended_by, goes_down, plan_at, walk_at}
@@ -50,39 +52,44 @@ stands_at left right items at planned there item less is =
     sym (get_or_from_slice_get (items_of items) at planned.item (item_of item) (item_at left right (items_of items) at planned there).0)
     ∙ (get_or-map item_of items at item (item_of item) less ∙ ap item_of (sym is))
 
-module _ {D : Type 0} {disk : Ghosts D} (new : Archive D disk) (pair : ℕ) (taken : Exchange) (journal : Journal) (before : Reached) where
+-- where nothing was remembered before
+pub tries_by : {D : Type 0} {disk : Ghosts D} (new : Archive D disk) (what : Kept) (old tried : Option Tried) (due : Due) → old ≡ None → TriesBy new what old tried due → TriesBy new what None tried due
+tries_by new what old tried due none tries = subst (λ o. TriesBy new what o tried due) none tries
+
+-- the item of the plan that the walk has come to
+pub at_walk : (before : Reached) (course : Course) (left right : Found) → IsCourse course left right before → (planned : Planned) → slice_get (plan_in course left right) course.cursor ≡ Some planned → slice_get (plan_at before) before.cursor ≡ Some planned
+at_walk before course left right is planned at = ap (λ p. slice_get (option_map_or (λ plan. plan) p []) before.cursor) is.plan ∙ (ap (slice_get (plan_in course left right)) is.cursor ∙ at)
+
+module _ {D : Type 0} {disk : Ghosts D} (new : Archive D disk) (tried : Option Tried) (pair : ℕ) (taken : Exchange) (journal : Journal) (before : Reached) where
   -- want of memory ends it where it is
-  pub ends_for_memory : (course : Course) (left right : Found) → IsMachine new pair journal → IsCourse course left right before → Ends new pair taken journal before [] course left right (Early refusal.Memory)
-  ends_for_memory course left right is course_is =
-      ends (walk_at journal before) before (stands (walk_at journal before)) refl refl (keeps_none before) (λ running same. no_memory refl) is course_is
+  pub ends_for_memory : (course : Course) (left right : Found) → IsMachine new pair journal → tried ≡ None → journal.writing ≡ None → IsCourse course left right before → Ends new tried pair taken journal before [] course left right (Early refusal.Memory)
+  ends_for_memory course left right is untried quiet course_is =
+      ends (walk_at journal before) before (stands (walk_at journal before)) refl refl (keeps_none before) (λ running same. no_memory refl) is course_is (tries_none pair tried journal untried quiet)
 
   module _ (course : Course) (left right : Found) (is : IsCourse course left right before) (planned : Planned) (at : slice_get (plan_in course left right) course.cursor ≡ Some planned) where
-    pub at_walk : slice_get (plan_at before) before.cursor ≡ Some planned
-    at_walk = ap (λ p. slice_get (option_map_or (λ plan. plan) p []) before.cursor) is.plan ∙ (ap (slice_get (plan_in course left right)) is.cursor ∙ at)
-
-    module _ (what : Kept) (is_due : IsDue course.cursor planned taken what) where
-      pub became : (due : Due) → Settles new pair journal what due → Advanced new pair (plan_at before) taken (walk_at journal before) planned what due
-      became due settles = advanced new pair (plan_at before) taken (walk_at journal before) planned what refl at_walk (subst (λ n. IsDue n planned taken what) (sym is.cursor) is_due) due settles
+    module _ (what : Kept) (is_due : IsDue course.cursor planned taken what) (quiet : journal.writing ≡ None) where
+      pub became : (due : Due) → Settles new pair journal what due → TriesBy new what None tried due → Advanced new tried pair (plan_at before) taken (walk_at journal before) planned what due
+      became due settles tries = advanced new tried pair (plan_at before) taken (walk_at journal before) planned what refl (at_walk before course left right is planned at) (subst (λ n. IsDue n planned taken what) (sym is.cursor) is_due) due settles quiet tries
 
       -- the machine is down
-      pub is_cut_off : (due : Due) → Settles new pair journal what due → is_stopped (disk.arms (disk_of new)) ≡ true → (course : Course) (how : Ended) → Ends new pair taken journal before (kept_by what due) course left right how
-      is_cut_off due settles cut course how = by due (became due settles)
+      pub is_cut_off : (due : Due) → Settles new pair journal what due → TriesBy new what None tried due → is_stopped (disk.arms (disk_of new)) ≡ true → (course : Course) (how : Ended) → Ends new tried pair taken journal before (kept_by what due) course left right how
+      is_cut_off due settles tries cut course how = by due (became due settles tries)
         where
-          by : (due : Due) → Advanced new pair (plan_at before) taken (walk_at journal before) planned what due → Ends new pair taken journal before (kept_by what due) course left right how
+          by : (due : Due) → Advanced new tried pair (plan_at before) taken (walk_at journal before) planned what due → Ends new tried pair taken journal before (kept_by what due) course left right how
           by due (kept_it journal advances up is) = absurd (false≢true (sym is.goes ∙ cut))
           by due (refused_it why advances is) = absurd (false≢true (sym is.goes ∙ cut))
-          by due (ended why later advances cursor refused for is) = absurd (false≢true (sym is.goes ∙ cut))
-          by due (stopped became later advances down cut leaves) = goes_down later advances cut down leaves
+          by due (ended why later advances cursor refused for is tries) = absurd (false≢true (sym is.goes ∙ cut))
+          by due (stopped became later advances down cut leaves tries) = goes_down later advances cut down leaves tries
 
       was_up : Settles new pair journal what due.Recorded → journal.status ≡ Up
       was_up (recorded made between ready room has keeps) = ready.up
 
       -- it is kept, or refused, and the machine goes on
       module _ (goes : is_stopped (disk.arms (disk_of new)) ≡ false) where
-        pub is_kept : Settles new pair journal what due.Recorded → (later : Course) → IsCourse later left right (kept_at before what) → Comes new pair taken journal before (what ∷ []) later left right
-        is_kept settles later course_is = by (became due.Recorded settles)
+        pub is_kept : Settles new pair journal what due.Recorded → tried ≡ None → (later : Course) → IsCourse later left right (kept_at before what) → Comes new pair taken journal before (what ∷ []) later left right
+        is_kept settles tries later course_is = by (became due.Recorded settles tries)
           where
-            by : Advanced new pair (plan_at before) taken (walk_at journal before) planned what due.Recorded → Comes new pair taken journal before (what ∷ []) later left right
+            by : Advanced new tried pair (plan_at before) taken (walk_at journal before) planned what due.Recorded → Comes new pair taken journal before (what ∷ []) later left right
             by (kept_it now advances up is) = record {
               journal = now;
               after = kept_at before what;
@@ -90,20 +97,20 @@ module _ {D : Type 0} {disk : Ghosts D} (new : Archive D disk) (pair : ℕ) (tak
               is = is;
               course_is = course_is;
             }
-            by (stopped became later advances down cut leaves) = absurd (false≢true (sym goes ∙ cut))
+            by (stopped became later advances down cut leaves tries) = absurd (false≢true (sym goes ∙ cut))
 
-        module _ (why : Refusal) (settles : Settles new pair journal what (due.Refused why)) where
+        module _ (why : Refusal) (settles : Settles new pair journal what (due.Refused why)) (tries : tried ≡ None) where
           pub still_is : IsMachine new pair journal
-          still_is = by (became (due.Refused why) settles)
+          still_is = by (became (due.Refused why) settles tries)
             where
-              by : Advanced new pair (plan_at before) taken (walk_at journal before) planned what (due.Refused why) → IsMachine new pair journal
+              by : Advanced new tried pair (plan_at before) taken (walk_at journal before) planned what (due.Refused why) → IsMachine new pair journal
               by (refused_it why advances is) = is
-              by (stopped became later advances down cut leaves) = absurd (false≢true (sym goes ∙ cut))
+              by (stopped became later advances down cut leaves tries) = absurd (false≢true (sym goes ∙ cut))
 
           pub is_refused : (later : Course) → IsCourse later left right (refused_at before (cause_of why) planned) → Comes new pair taken journal before [] later left right
-          is_refused later course_is = by (became (due.Refused why) settles)
+          is_refused later course_is = by (became (due.Refused why) settles tries)
             where
-              by : Advanced new pair (plan_at before) taken (walk_at journal before) planned what (due.Refused why) → Comes new pair taken journal before [] later left right
+              by : Advanced new tried pair (plan_at before) taken (walk_at journal before) planned what (due.Refused why) → Comes new pair taken journal before [] later left right
               by (refused_it why' advances is) = record {
                 journal = journal;
                 after = refused_at before (cause_of why) planned;
@@ -111,10 +118,10 @@ module _ {D : Type 0} {disk : Ghosts D} (new : Archive D disk) (pair : ℕ) (tak
                 is = is;
                 course_is = course_is;
               }
-              by (stopped became later advances down cut leaves) = absurd (false≢true (sym goes ∙ cut))
+              by (stopped became later advances down cut leaves tries) = absurd (false≢true (sym goes ∙ cut))
 
-      pub is_ended : (why : Refusal) → Settles new pair journal what (due.Ends why) → Ends new pair taken journal before [] course left right (Early why)
-      is_ended why settles = ends_at pair taken journal before new planned what course left right why is (became (due.Ends why) settles)
+      pub is_ended : (why : Refusal) → Settles new pair journal what (due.Ends why) → TriesBy new what None tried (due.Ends why) → Ends new tried pair taken journal before [] course left right (Early why)
+      is_ended why settles tries = ends_at pair taken journal before new tried planned what course left right why is (became (due.Ends why) settles tries)
 
 -- ---- what is carried
 

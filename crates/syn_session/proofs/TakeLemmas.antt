@@ -8,9 +8,11 @@ use Rattle.syn_model.specs.Archive.{Kept}
 use Rattle.syn_model.specs.Archive as model
 use Rattle.syn_refusal.specs.declared.refusal.Refusal.{Refusal}
 use Rattle.syn_session.specs.Machines.{IsMachine, Journal}
+use Rattle.syn_session.specs.Tries.{Tries}
 use Rattle.syn_session.specs.declared.report.Ended.TheVariants.{Early}
 use Rattle.syn_session.specs.declared.session.Asks.{Asks}
 use Rattle.syn_session.specs.declared.session.Session.{Session}
+use Rattle.syn_session.specs.declared.tried.Tried.{Tried}
 use Rattle.syn_session.specs.inner.Hearing.{EndsHearing, HasHeard, MayGoOn, at_once, behind}
 use Rattle.syn_session.specs.inner.Stages.{reached_by}
 use Rattle.syn_session.specs.inner.Taking.{TakesEnd, TakesOn, Walks, reaching}
@@ -37,8 +39,8 @@ module _ {D : Type 0} {disk : Ghosts D} (new : Archive D disk) (pair : ℕ) (jou
     may = may journal.value;
   })
 
-  pub hears_end : (kept : List Kept) → kept ≡ [] → (why : Refusal) → EndsHearing session running taken why → TakesEnd new pair journal running taken session kept (Early why)
-  hears_end kept nothing why (at_once fault tells) = taking.at_once why fault tells is nothing
-  hears_end kept nothing why (behind fault memory tells) = subst (λ k. TakesEnd new pair journal running taken session k (Early why)) (sym nothing)
+  pub hears_end : (tried : Option Tried) → Tries pair tried journal → (kept : List Kept) → kept ≡ [] → (why : Refusal) → EndsHearing session running taken why → TakesEnd new tried pair journal running taken session kept (Early why)
+  hears_end tried tries kept nothing why (at_once fault tells) = taking.at_once why fault tells is nothing tries
+  hears_end tried tries kept nothing why (behind fault memory tells) = subst (λ k. TakesEnd new tried pair journal running taken session k (Early why)) (sym nothing)
       (taking.ends (Early why) (walk_at journal (reached_by running)) (reached_by running) (walks_none fault) refl refl
-      (subst (λ w. EndsFor pair (reaching running taken (reached_by running)) taken journal.status (walk_at journal (reached_by running)) (Some w)) (sym memory) (no_memory refl)) is tells)
+      (subst (λ w. EndsFor pair (reaching running taken (reached_by running)) taken journal.status (walk_at journal (reached_by running)) (Some w)) (sym memory) (no_memory refl)) is tells tries)

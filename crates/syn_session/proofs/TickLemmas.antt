@@ -7,6 +7,7 @@ use Rattle.syn_headline.specs.Network.{Left, Right, Message}
 use Rattle.syn_model.specs.Refusal.{Refusal, NoAnswer, Memory}
 use Rattle.syn_session.specs.Coordinators.{Does, Stands, ended_in, in_report, report_shown, runs, goes_on}
 use Rattle.syn_session.specs.Machines.{IsMachine}
+use Rattle.syn_session.specs.Tries.{Tries}
 use Rattle.syn_session.specs.declared.coordinator.Coordinator.{Coordinator}
 use Rattle.syn_session.specs.inner.Sessions.{IsRunning, IsSession, Tells, is_worn_now, messages_now, resent_once, waiting_of}
 use Rattle.syn_session.specs.declared.session.Session.{Session as Ran}
@@ -27,10 +28,10 @@ pub session_of : (archive : model.Archive) (session : Ran) (running : Option Run
 session_of archive session None is = absurd is
 session_of archive session (Some now) is = (now, refl, is)
 
-module _ {D : Type 0} {disk : Ghosts D} (old new : Coordinator D disk) (pair : ℕ) (machine : CoordinatorMachine) (stands : Stands old pair machine) (same : new.archive ≡ old.archive) (messages : List Message) where
+module _ {D : Type 0} {disk : Ghosts D} (old new : Coordinator D disk) (pair : ℕ) (machine : CoordinatorMachine) (stands : Stands old pair machine) (same : new.archive ≡ old.archive) (same_tried : new.tried ≡ old.tried) (messages : List Message) where
   -- its archive stays
   stays : (running : Option Running) → IsRunning machine.journal.value new.running running → (is_some running ≡ true → is_some machine.running ≡ true) → Stands new pair (record machine { running = running })
-  stays running is before = record { journal = subst (λ a. IsMachine a pair machine.journal) (sym same) stands.journal; running = is; quiet = λ some. stands.quiet (before some) }
+  stays running is before = record { journal = subst (λ a. IsMachine a pair machine.journal) (sym same) stands.journal; running = is; quiet = λ some. stands.quiet (before some); untried = λ some. same_tried ∙ stands.untried (before some); tries = subst (λ t. Tries pair t machine.journal) (sym same_tried) stands.tries }
 
   ended_by : (was is : Bool) → runs old ≡ was → runs new ≡ is → ended_in old new ≡ (if was && not is then in_report (report_shown new) else [])
   ended_by was is = λ o n. ap₂ (λ a b. if a && not b then in_report (report_shown new) else []) o n

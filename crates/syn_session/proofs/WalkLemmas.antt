@@ -1,5 +1,5 @@
 -- How a call goes on through the plan: past an item, or to its end.
-use Rattle.std.proofs.Common.{◌≡◌, ◌⊎◌, ℕ, suc, true, List, [], ◌∷◌, ◌++◌, Some, None, refl, sym, ap, ◌∙◌, subst, inl, inr}
+use Rattle.std.proofs.Common.{◌≡◌, ◌⊎◌, ℕ, suc, true, List, [], ◌∷◌, ◌++◌, Option, Some, None, refl, sym, ap, ◌∙◌, subst, inl, inr}
 use Rattle.std.specs.List.{slice_get}
 use Rattle.std.specs.Option.{option_map_or}
 use Rattle.std.proofs.lemmas.List.{append-nil, append_assoc}
@@ -23,6 +23,7 @@ use Rattle.syn_session.specs.declared.course.Course.{Course}
 use Rattle.syn_session.specs.declared.due.Due.TheVariants as due
 use Rattle.syn_session.specs.declared.report.Ended.{Ended}
 use Rattle.syn_session.specs.declared.report.Ended.TheVariants.{Early}
+use Rattle.syn_session.specs.declared.tried.Tried.{Tried}
 use Rattle.syn_session.specs.inner.Advancing.{Advanced, kept_at, past_at, refused_at, ended, kept_it, refused_it, stopped}
 use Rattle.syn_session.specs.inner.Stages.{IsCourse, Reached}
 use Rattle.syn_session.specs.inner.Walking.{Comes, Ends, HasKept, Passes, ends, goes_down, plan_at, walk_at, ended_by}
@@ -65,11 +66,11 @@ module _ (pair : ℕ) (taken : Exchange) where
       pub comes_behind : Comes new pair taken middle between more course left right → Comes new pair taken old before (kept ++ more) course left right
       comes_behind comes = record { journal = comes.journal; after = comes.after; passes = passes_more comes.journal comes.after more comes.passes; is = comes.is; course_is = comes.course_is }
 
-      pub ends_behind : (how : Ended) → Ends new pair taken middle between more course left right how → Ends new pair taken old before (kept ++ more) course left right how
-      ends_behind how (ends walk after advances cursor refused has why is course_is) =
+      pub ends_behind : (tried : Option Tried) (how : Ended) → Ends new tried pair taken middle between more course left right how → Ends new tried pair taken old before (kept ++ more) course left right how
+      ends_behind tried how (ends walk after advances cursor refused has why is course_is tries) =
           ends walk after (led walk more advances) cursor refused (keeps_more before between after kept more first.has has)
-          (λ running same. subst (λ s. EndsFor pair running taken s walk (ended_by how)) first.status (why running (same ∙ sym first.has.plan))) is course_is
-      ends_behind how (goes_down walk advances cut down leaves) = goes_down walk (led walk more advances) cut down leaves
+          (λ running same. subst (λ s. EndsFor pair running taken s walk (ended_by how)) first.status (why running (same ∙ sym first.has.plan))) is course_is tries
+      ends_behind tried how (goes_down walk advances cut down leaves tries) = goes_down walk (led walk more advances) cut down leaves tries
 
   -- ---- one item
 
@@ -102,20 +103,20 @@ module _ (pair : ℕ) (taken : Exchange) where
 
     -- ---- what became of its record
 
-    module _ {D : Type 0} {disk : Ghosts D} (new : Archive D disk) (planned : Planned) (what : Kept) (course : Course) (left right : Found) where
+    module _ {D : Type 0} {disk : Ghosts D} (new : Archive D disk) (tried : Option Tried) (planned : Planned) (what : Kept) (course : Course) (left right : Found) where
       -- it is kept, or the machine is down
-      pub passes_kept : old.status ≡ Up → Advanced new pair (plan_at before) taken (walk_at old before) planned what due.Recorded →
-          ((journal : Journal) × Passes pair taken old before journal (kept_at before what) (what ∷ []) × IsMachine new pair journal) ⊎ ((how : Ended) → Ends new pair taken old before (what ∷ []) course left right how)
+      pub passes_kept : old.status ≡ Up → Advanced new tried pair (plan_at before) taken (walk_at old before) planned what due.Recorded →
+          ((journal : Journal) × Passes pair taken old before journal (kept_at before what) (what ∷ []) × IsMachine new pair journal) ⊎ ((how : Ended) → Ends new tried pair taken old before (what ∷ []) course left right how)
       passes_kept was (kept_it journal advances up is) = inl (journal, passes_by journal (kept_at before what) (what ∷ []) (up ∙ sym was) (λ _. (when_up new pair journal is up).idle) (record { plan = refl; kept_is = refl }) advances, is)
-      passes_kept was (stopped became walk advances down cut leaves) = inr (λ how. goes_down walk advances cut down leaves)
+      passes_kept was (stopped became walk advances down cut leaves tries) = inr (λ how. goes_down walk advances cut down leaves tries)
 
       -- it is refused, or the session ends there, or the machine is down
-      pub passes_due_refused : (why : Why) → Advanced new pair (plan_at before) taken (walk_at old before) planned what (due.Refused why) →
-          (Passes pair taken old before old (refused_at before (cause_of why) planned) [] × IsMachine new pair old) ⊎ ((how : Ended) → Ends new pair taken old before [] course left right how)
+      pub passes_due_refused : (why : Why) → Advanced new tried pair (plan_at before) taken (walk_at old before) planned what (due.Refused why) →
+          (Passes pair taken old before old (refused_at before (cause_of why) planned) [] × IsMachine new pair old) ⊎ ((how : Ended) → Ends new tried pair taken old before [] course left right how)
       passes_due_refused why (refused_it why' advances is) = inl (passes_by old (refused_at before (cause_of why) planned) [] refl (λ was. was) (record { plan = refl; kept_is = sym (append-nil before.kept) }) advances, is)
-      passes_due_refused why (stopped became walk advances down cut leaves) = inr (λ how. goes_down walk advances cut down leaves)
+      passes_due_refused why (stopped became walk advances down cut leaves tries) = inr (λ how. goes_down walk advances cut down leaves tries)
 
-      pub ends_at : (why : Why) → IsCourse course left right before → Advanced new pair (plan_at before) taken (walk_at old before) planned what (due.Ends why) → Ends new pair taken old before [] course left right (Early why)
-      ends_at why course_is (ended why' walk advances cursor refused for is) =
-          ends walk before advances cursor refused (keeps_none before) (λ running same. for running (ap (λ plan. option_map_or (λ plan. plan) plan []) same)) is course_is
-      ends_at why course_is (stopped became walk advances down cut leaves) = goes_down walk advances cut down leaves
+      pub ends_at : (why : Why) → IsCourse course left right before → Advanced new tried pair (plan_at before) taken (walk_at old before) planned what (due.Ends why) → Ends new tried pair taken old before [] course left right (Early why)
+      ends_at why course_is (ended why' walk advances cursor refused for is tries) =
+          ends walk before advances cursor refused (keeps_none before) (λ running same. for running (ap (λ plan. option_map_or (λ plan. plan) plan []) same)) is course_is tries
+      ends_at why course_is (stopped became walk advances down cut leaves tries) = goes_down walk advances cut down leaves tries

@@ -18,7 +18,9 @@ use Rattle.syn_model.specs.Refusal as why
 use Rattle.syn_session.specs.Machines.{IsMachine, Journal, LeavesMachine, NotReopened}
 use Rattle.syn_session.specs.Machines.{Reopened}
 use Rattle.syn_session.specs.Reports.{report_model}
+use Rattle.syn_session.specs.Tries.{Tries, record_of}
 use Rattle.syn_session.specs.declared.coordinator.Coordinator.{Coordinator}
+use Rattle.syn_session.specs.declared.tried.Tried.{Tried}
 use Rattle.syn_session.specs.inner.Sessions.{IsRunning}
 use Rattle.syn_wire.specs.Marks.{kept_of}
 
@@ -38,7 +40,11 @@ module _ {D : Type 0} {disk : Ghosts D} (coordinator : Coordinator D disk) where
   written = map kept_of coordinator.written.items
 
   abbrev pub broken : Option Kept
-  broken = option_map kept_of coordinator.broken
+  broken = if coordinator.broke then option_map record_of coordinator.tried else None
+
+  -- the record that was tried last and not kept, until the archive is opened again
+  abbrev pub tried_shown : Option Tried
+  tried_shown = coordinator.tried
 
   -- a session runs
   abbrev pub runs : Bool
@@ -50,6 +56,9 @@ module _ {D : Type 0} {disk : Ghosts D} (coordinator : Coordinator D disk) where
     pub running : IsRunning machine.journal.value coordinator.running machine.running
     -- no record was cut off under a session that still runs
     pub quiet : is_some machine.running ≡ true → machine.journal.writing ≡ None
+    pub untried : is_some machine.running ≡ true → tried_shown ≡ None
+    -- and it remembers one that was
+    pub tries : Tries pair tried_shown machine.journal
 
 -- the report of a session that ended in a call
 abbrev pub in_report : Option Report → List Report
@@ -71,7 +80,7 @@ pub data Does {D : Type 0} {disk : Ghosts D} (old new : Coordinator D disk) (pai
   goes_down : (machine : CoordinatorMachine) (call : Call) → Step machine call →
       is_stopped (disk.arms (device_of new)) ≡ true → machine.journal.status ≡ Down →
       LeavesMachine disk (device_of new) pair machine.journal → call.kept ≡ kept →
-      Does old new pair Step kept messages
+      Tries pair (tried_shown new) machine.journal → Does old new pair Step kept messages
 
 -- what a call answers of reports and of what was kept stays, and so does the session that runs
 pub record KeepsReadings {D : Type 0} {disk : Ghosts D} (old new : Coordinator D disk)
@@ -79,6 +88,7 @@ pub record KeepsReadings {D : Type 0} {disk : Ghosts D} (old new : Coordinator D
   pub report : report_shown new ≡ report_shown old
   pub written_is : written new ≡ written old
   pub broken_is : broken new ≡ broken old
+  pub tried_is : tried_shown new ≡ tried_shown old
   pub runs_still : runs new ≡ runs old
 
 -- why a start is refused, and then for want of memory

@@ -3,5 +3,6 @@ pub mod Reports
 pub mod Sendings
 pub mod Scanning
 pub mod Machines
+pub mod Tries
 pub mod Coordinators
 pub mod inner

@@ -3,6 +3,7 @@ pub mod Plans
 pub mod Stages
 pub mod Walking
 pub mod Settling
+pub mod Carrying
 pub mod Sessions
 pub mod Answering
 pub mod Hearing

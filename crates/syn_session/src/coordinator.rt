@@ -23,6 +23,7 @@ use crate::error::SessionError;
 use crate::report::Report;
 use crate::sending::Sending;
 use crate::session::Session;
+use crate::tried::Tried;
 use std::alloc::Global;
 use syn_archive::{Archive, ArchiveError};
 use syn_disk::Disk;
@@ -31,6 +32,7 @@ use syn_refusal::Refusal;
 use syn_wire::Kept;
 
 mod answers;
+mod carried;
 mod carrying;
 mod journal;
 
@@ -45,28 +47,36 @@ pub struct Coordinator<D: Disk> {
     running: Option<Session>,
     report: Option<Report>,
     written: Vec<Kept>,
-    broken: Option<Kept>,
+    /// What was tried last and not kept, until the archive is opened again.
+    tried: Option<Tried>,
+    /// Whether that was in the last call that could write.
+    broke: bool,
 }
 
 impl<D: Disk> Coordinator<D> {
     ghost use Rattle.syn_session.specs.Coordinators.{Does, Stands, all_causes, archive_of, broken};
     ghost use Rattle.syn_session.specs.Coordinators.{device_of, refusals_of, report_shown, runs};
-    ghost use Rattle.syn_session.specs.Coordinators.{written};
+    ghost use Rattle.syn_session.specs.Coordinators.{tried_shown, written};
+    ghost use Rattle.syn_session.specs.Tries.{HoldsTried};
 
     /// A coordinator over the archive, with no session. It takes no memory.
     pub fn new(alloc: Global, archive: Archive<D>) -> Coordinator<D>
         ensures archive { archive_of result ≡ archive }
+        // An archive that was just opened is writing nothing.
         ensures stands { (pair : ℕ) (journal : Journal) → IsMachine archive pair journal
+            → journal.writing ≡ None
             → Stands result pair (record { journal = journal; running = None }) }
         ensures report { report_shown result ≡ None }
         ensures kept { (written result ≡ []) × (broken result ≡ None) }
+        ensures tried { tried_shown result ≡ None }
     {
         Coordinator {
             archive,
             running: None,
             report: None,
             written: Vec::new(alloc),
-            broken: None,
+            tried: None,
+            broke: false,
         }
     }
 
@@ -105,7 +115,25 @@ impl<D: Disk> Coordinator<D> {
         ensures written { map kept_of result.0.now ≡ written self.now }
         ensures broken { option_map (λ kept. kept_of kept.now) result.1 ≡ broken self.now }
     {
-        (&self.written, self.broken.as_ref())
+        (&self.written, self.last_broken())
+    }
+
+    /// What was answered 9 in the last call that could write.
+    fn last_broken(&self) -> Option<&Kept>
+        ensures { option_map (λ kept. kept_of kept.now) result ≡ broken self.now }
+    {
+        match &self.tried {
+            Some(tried) if self.broke => Some(tried.kept()),
+            _ => None,
+        }
+    }
+
+    /// The record that was being written as a device call failed or the machine stopped, until the
+    /// archive is opened again.
+    pub fn tried(&self) -> Option<&Tried>
+        ensures { option_map (λ tried. tried.now) result ≡ tried_shown self.now }
+    {
+        self.tried.as_ref()
     }
 
     /// Starts a session: its number is kept in the archive, and both sides are to begin it. It
@@ -146,7 +174,8 @@ impl<D: Disk> Coordinator<D> {
         ensures breaks { result ≡ Err SessionError.Device → (written self.new ≡ [])
             × (broken self.new ≡ Some (Begun (session_shown (archive_of self.old) + 1))) }
         ensures stays { IfErr result (λ e. e ≢ SessionError.Device
-            → (written self.new ≡ written self.old) × (broken self.new ≡ broken self.old)) }
+            → (written self.new ≡ written self.old) × (broken self.new ≡ broken self.old)
+            × (tried_shown self.new ≡ tried_shown self.old)) }
     {
         self.check_start()?;
         let number = self.archive.last_session() + 1;
@@ -216,7 +245,12 @@ impl<D: Disk> Coordinator<D> {
         ensures breaks { result ≡ Err SessionError.Device → (written self.new ≡ [])
             × (broken self.new ≡ Some (Begun (session_shown (archive_of self.old) + 1))) }
         ensures kept { IfErr result (λ e. e ≢ SessionError.Device
-            → (self.new.written ≡ self.old.written) × (self.new.broken ≡ self.old.broken)) }
+            → (self.new.written ≡ self.old.written) × (self.new.broke ≡ self.old.broke)
+            × (self.new.tried ≡ self.old.tried)) }
+        ensures untried { OnOk result (self.new.tried ≡ self.old.tried) }
+        ensures tried { result ≡ Err SessionError.Device
+            → HoldsTried (archive_of self.new) (Begun (session_shown (archive_of self.old) + 1))
+            (tried_shown self.new) }
     {
         device_laws();
         match self.archive.next_session(alloc) {
@@ -225,16 +259,19 @@ impl<D: Disk> Coordinator<D> {
                 self.running = Some(session);
                 self.report = None;
                 self.written = records;
-                self.broken = None;
+                self.broke = false;
                 Ok(())
             }
-            Err(ArchiveError::Device) => {
-                self.written = Vec::new(alloc);
-                self.broken = Some(Kept::Session(session.number));
-                Err(SessionError::Device)
+            Err(error) => {
+                if is_device(error) {
+                    self.written = Vec::new(alloc);
+                    self.tried = Some(Tried::new(Kept::Session(session.number), &self.archive));
+                    self.broke = true;
+                    return Err(SessionError::Device);
+                }
+                // What else refuses a session was looked at before.
+                Err(SessionError::Memory)
             }
-            // What else refuses a session was looked at before.
-            Err(_) => Err(SessionError::Memory),
         }
     }
 
@@ -247,7 +284,8 @@ impl<D: Disk> Coordinator<D> {
         ensures archive { archive_of self.new ≡ archive_of self.old }
         ensures report { (runs self.old && not (runs self.new)) ≡ false
             → report_shown self.new ≡ report_shown self.old }
-        ensures kept { (written self.new ≡ written self.old) × (broken self.new ≡ broken self.old) }
+        ensures kept { (written self.new ≡ written self.old) × (broken self.new ≡ broken self.old)
+            × (tried_shown self.new ≡ tried_shown self.old) }
     {
         let Some(session) = &mut self.running else {
             return Vec::new(alloc);
@@ -272,7 +310,8 @@ impl<D: Disk> Coordinator<D> {
     fn end(&mut self, alloc: Global, ended: Option<Refusal>)
         ensures running { self.new.running ≡ None }
         ensures archive { self.new.archive ≡ self.old.archive }
-        ensures kept { (self.new.written ≡ self.old.written) × (self.new.broken ≡ self.old.broken) }
+        ensures kept { (self.new.written ≡ self.old.written) × (self.new.broke ≡ self.old.broke)
+            × (self.new.tried ≡ self.old.tried) }
         ensures report { (session : Ran) (running : Running) → self.old.running ≡ Some session
             → Tells session running
             → report_shown self.new ≡ Some (report_of running (option_map cause_of ended)) }
@@ -280,6 +319,25 @@ impl<D: Disk> Coordinator<D> {
         if let Some(session) = self.running.take() {
             self.report = Some(session.into_report(alloc, ended));
         }
+    }
+}
+
+/// Whether a device call failed.
+fn is_device(error: ArchiveError) -> bool
+    ensures device { result ≡ true → error ≡ ArchiveError.Device }
+    ensures other { result ≡ false → error ≢ ArchiveError.Device }
+{
+    match error {
+        ArchiveError::Device => true,
+        ArchiveError::NoParent => false,
+        ArchiveError::Root => false,
+        ArchiveError::Full => false,
+        ArchiveError::JournalFull => false,
+        ArchiveError::Halted => false,
+        ArchiveError::Memory => false,
+        ArchiveError::NoImage => false,
+        ArchiveError::Damaged => false,
+        ArchiveError::WrongPair => false,
     }
 }
 

@@ -1,6 +1,7 @@
 //! The coordinator of a pair: it runs sessions between the two replicas, over its archive.
 #![tactic(auto)]
 
+mod answering;
 mod carried;
 mod coordinator;
 mod course;
@@ -15,9 +16,11 @@ mod requests;
 mod sending;
 mod session;
 mod side_scan;
+mod tried;
 
 pub use coordinator::Coordinator;
 pub use error::SessionError;
 pub use report::{End, Report};
 pub use sending::Sending;
 pub use side_scan::SideScan;
+pub use tried::Tried;

@@ -1,5 +1,5 @@
 -- What a record that is due does to the walk of a session through its plan.
-use Rattle.std.specs.Prelude.{◌≡◌, ℕ, suc, true, List, [], ◌∷◌, ◌++◌, Some}
+use Rattle.std.specs.Prelude.{◌≡◌, ℕ, suc, true, List, [], ◌∷◌, ◌++◌, Option, Some}
 use Rattle.syn_archive.specs.Archive.{disk_of}
 use Rattle.syn_archive.specs.declared.archive.Archive.{Archive}
 use Rattle.syn_disk.specs.Arms.{is_stopped}
@@ -14,8 +14,10 @@ use Rattle.syn_model.specs.Refusal.{Refusal as Why}
 use Rattle.syn_refusal.specs.Refusals.{cause_of}
 use Rattle.syn_refusal.specs.declared.refusal.Refusal.{Refusal}
 use Rattle.syn_session.specs.Machines.{IsMachine, Journal, LeavesMachine}
+use Rattle.syn_session.specs.Tries.{Tries}
 use Rattle.syn_session.specs.declared.due.Due.{Due}
 use Rattle.syn_session.specs.declared.due.Due.TheVariants.{Recorded, Refused, Ends}
+use Rattle.syn_session.specs.declared.tried.Tried.{Tried}
 use Rattle.syn_session.specs.inner.Stages.{Reached}
 
 -- what was kept then
@@ -26,25 +28,27 @@ kept_by what (Ends why) = []
 
 -- It goes past the item, whose record is kept or refused; or the session ends at it; or the machine
 -- was stopped there
-pub data Advanced {D : Type 0} {disk : Ghosts D} (new : Archive D disk) (pair : ℕ)
-    (plan : List Planned) (taken : Exchange) (walk : Walk) (planned : Planned)
-    (what : Kept) : Due → Type 0 where
+pub data Advanced {D : Type 0} {disk : Ghosts D} (new : Archive D disk) (tried : Option Tried)
+    (pair : ℕ) (plan : List Planned) (taken : Exchange) (walk : Walk)
+    (planned : Planned) (what : Kept) : Due → Type 0 where
   kept_it : (journal : Journal) → Advances pair plan taken walk (what ∷ []) (past walk journal) →
       journal.status ≡ Up → IsMachine new pair journal →
-      Advanced new pair plan taken walk planned what Recorded
+      Advanced new tried pair plan taken walk planned what Recorded
   refused_it : (why : Refusal) →
       Advances pair plan taken walk [] (refusing walk (cause_of why) planned) →
-      IsMachine new pair walk.journal → Advanced new pair plan taken walk planned what (Refused why)
+      IsMachine new pair walk.journal →
+      Advanced new tried pair plan taken walk planned what (Refused why)
   ended : (why : Refusal) (later : Walk) → Advances pair plan taken walk [] later →
       later.cursor ≡ walk.cursor → later.refused ≡ walk.refused →
       ((running : Running) → plan_of running ≡ plan →
       EndsFor pair running taken walk.journal.status later (Some (cause_of why))) →
-      IsMachine new pair later.journal → Advanced new pair plan taken walk planned what (Ends why)
+      IsMachine new pair later.journal → Tries pair tried later.journal →
+      Advanced new tried pair plan taken walk planned what (Ends why)
   stopped : (due : Due) (later : Walk) →
       Advances pair plan taken walk (kept_by what due) later → later.journal.status ≡ Down →
       is_stopped (disk.arms (disk_of new)) ≡ true →
-      LeavesMachine disk (disk_of new) pair later.journal →
-      Advanced new pair plan taken walk planned what due
+      LeavesMachine disk (disk_of new) pair later.journal → Tries pair tried later.journal →
+      Advanced new tried pair plan taken walk planned what due
 
 -- How far a session came behind an item: it is past, its record is kept, or it is refused so
 abbrev pub past_at : Reached → Reached

@@ -8,7 +8,9 @@ use Rattle.syn_headline.specs.Network.{Message}
 use Rattle.syn_headline.specs.Report.{Report}
 use Rattle.syn_model.specs.Archive.{Kept}
 use Rattle.syn_session.specs.Coordinators.{Stands, device_of, in_report, report_shown, runs}
+use Rattle.syn_session.specs.Coordinators.{tried_shown}
 use Rattle.syn_session.specs.Machines.{LeavesMachine}
+use Rattle.syn_session.specs.Tries.{Tries}
 use Rattle.syn_session.specs.declared.coordinator.Coordinator.{Coordinator}
 
 -- what a session reported that is over
@@ -27,4 +29,5 @@ pub data Answered {D : Type 0} {disk : Ghosts D} (new : Coordinator D disk) (pai
       Takes pair machine running taken now call →
       is_stopped (disk.arms (device_of new)) ≡ true → now.journal.status ≡ Down →
       LeavesMachine disk (device_of new) pair now.journal → call.kept ≡ kept →
+      Tries pair (tried_shown new) now.journal →
       Answered new pair machine running taken kept messages

@@ -1,5 +1,5 @@
 -- What becomes of a record that is due.
-use Rattle.std.specs.Prelude.{◌≡◌, ℕ, Bool, true, false, nat_le, [], ◌∷◌, Some}
+use Rattle.std.specs.Prelude.{◌≡◌, ℕ, Bool, true, false, nat_le, [], ◌∷◌, Option, Some}
 use Rattle.syn_archive.specs.declared.archive.Archive.{Archive}
 use Rattle.syn_disk.specs.declared.disk.Disk.{Ghosts}
 use Rattle.syn_headline.specs.Coordinator.{archive_layout}
@@ -10,9 +10,17 @@ use Rattle.syn_refusal.specs.Refusals.{cause_of}
 use Rattle.syn_refusal.specs.declared.refusal.Refusal.{Refusal}
 use Rattle.syn_refusal.specs.declared.refusal.Refusal.TheVariants as refusal
 use Rattle.syn_session.specs.Machines.{IsMachine, Journal}
+use Rattle.syn_session.specs.Tries.{HoldsTried}
 use Rattle.syn_session.specs.declared.due.Due.{Due}
 use Rattle.syn_session.specs.declared.due.Due.TheVariants.{Recorded, Refused, Ends}
-use Rattle.syn_session.specs.inner.Steps.{KeepsSo, Moves}
+use Rattle.syn_session.specs.declared.tried.Tried.{Tried}
+use Rattle.syn_session.specs.inner.Steps.{CompactsSo, KeepsSo}
+
+-- a record that was due is remembered where the device failed, and else nothing changes
+abbrev pub TriesBy : {D : Type 0} → {disk : Ghosts D} → Archive D disk → Kept → Option Tried →
+    Option Tried → Due → Type 0
+TriesBy archive kept old new (Ends refusal.Device) = HoldsTried archive kept new
+TriesBy archive kept old new _ = new ≡ old
 
 -- the machine runs, and its archive does not refuse the record
 pub record IsReady (machine : Journal) (kept : Kept) : Type 0 where
@@ -45,7 +53,7 @@ pub data Settles {D : Type 0} {disk : Ghosts D} (new : Archive D disk) (pair : �
       Settles new pair machine kept (Ends refusal.Halted)
   checkpoint_breaks : IsReady machine kept → has_room (archive_layout pair) machine kept ≡ false →
       nat_le greatest machine.generation ≡ false →
-      Moves new pair (Compacts (archive_layout pair) machine) Halted →
+      CompactsSo new pair machine Halted →
       Settles new pair machine kept (Ends refusal.Device)
   record_breaks : (made : Bool) (between : Journal) → IsReady machine kept →
       MakesRoom pair machine kept made between →

@@ -13,7 +13,7 @@ use Rattle.syn_refusal.specs.declared.refusal.Refusal.TheVariants as refusal
 use Rattle.syn_session.specs.Machines.{IsMachine, Journal}
 use Rattle.syn_session.specs.declared.due.Due.{Due}
 use Rattle.syn_session.specs.declared.due.Due.TheVariants.{Recorded as IsRecorded, Refused, Ends}
-use Rattle.syn_session.specs.inner.Steps.{KeepsSo, Moves}
+use Rattle.syn_session.specs.inner.Steps.{CompactsSo, KeepsSo}
 
 -- a session is no record of an item
 abbrev pub IsOfItem : Kept → Type 0
@@ -48,12 +48,12 @@ pub data Writes {D : Type 0} {disk : Ghosts D} (new : Archive D disk) (pair : �
 pub data Checkpoints {D : Type 0} {disk : Ghosts D} (new : Archive D disk) (pair : ℕ)
     (machine : Journal) : Option Due → Type 0 where
   made : nat_le greatest machine.generation ≡ false →
-      Moves new pair (Compacts (archive_layout pair) machine) Up →
+      CompactsSo new pair machine Up →
       Checkpoints new pair machine None
   at_greatest : nat_le greatest machine.generation ≡ true → IsMachine new pair machine →
       Checkpoints new pair machine (Some (Refused refusal.Full))
   breaks : nat_le greatest machine.generation ≡ false →
-      Moves new pair (Compacts (archive_layout pair) machine) Halted →
+      CompactsSo new pair machine Halted →
       Checkpoints new pair machine (Some (Ends refusal.Device))
   no_memory : IsMachine new pair machine →
       Checkpoints new pair machine (Some (Ends refusal.Memory))

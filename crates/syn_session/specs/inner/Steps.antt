@@ -4,10 +4,11 @@ use Rattle.syn_archive.specs.Archive.{disk_of}
 use Rattle.syn_archive.specs.declared.archive.Archive.{Archive}
 use Rattle.syn_disk.specs.Arms.{is_stopped}
 use Rattle.syn_disk.specs.declared.disk.Disk.{Ghosts}
-use Rattle.syn_headline.specs.Coordinator.{Keeps}
-use Rattle.syn_headline.specs.Machine.{Down, Status}
+use Rattle.syn_headline.specs.Coordinator.{Keeps, archive_layout}
+use Rattle.syn_headline.specs.Machine.{Compacts, Down, Status}
 use Rattle.syn_model.specs.Archive.{Kept}
 use Rattle.syn_session.specs.Machines.{IsMachine, Journal, LeavesMachine}
+use Rattle.syn_session.specs.Tries.{IsShown}
 
 -- The machine moved so: it goes on with this status, or it is down
 pub data Moves {D : Type 0} {disk : Ghosts D} (new : Archive D disk) (pair : ℕ)
@@ -22,4 +23,10 @@ pub data Moves {D : Type 0} {disk : Ghosts D} (new : Archive D disk) (pair : ℕ
 abbrev pub KeepsSo : {D : Type 0} → {disk : Ghosts D} → Archive D disk → ℕ → Journal → Kept →
     List Kept → Status → Type 0
 KeepsSo new pair machine kept done =
-    Moves new pair (λ journal. Keeps pair machine kept journal done)
+    Moves new pair (λ journal. Keeps pair machine kept journal done × IsShown new pair journal)
+
+-- it wrote an image, or tried to
+abbrev pub CompactsSo : {D : Type 0} → {disk : Ghosts D} → Archive D disk → ℕ → Journal → Status →
+    Type 0
+CompactsSo new pair machine = Moves new pair
+    (λ journal. Compacts (archive_layout pair) machine journal × IsShown new pair journal)

@@ -15,10 +15,12 @@ use Rattle.syn_model.specs.Refusal.{Memory}
 use Rattle.syn_refusal.specs.Refusals.{cause_of}
 use Rattle.syn_refusal.specs.declared.refusal.Refusal.{Refusal}
 use Rattle.syn_session.specs.Machines.{IsMachine, Journal, LeavesMachine}
+use Rattle.syn_session.specs.Tries.{Tries}
 use Rattle.syn_session.specs.declared.report.Ended.{Ended}
 use Rattle.syn_session.specs.declared.report.Ended.TheVariants.{Early}
 use Rattle.syn_session.specs.declared.session.Asks.{Asks}
 use Rattle.syn_session.specs.declared.session.Session.{Session}
+use Rattle.syn_session.specs.declared.tried.Tried.{Tried}
 use Rattle.syn_session.specs.inner.Answering.{IsHeard}
 use Rattle.syn_session.specs.inner.Hearing.{MayGoOn}
 use Rattle.syn_session.specs.inner.Sessions.{Tells}
@@ -59,30 +61,33 @@ pub record TakesOn {D : Type 0} {disk : Ghosts D} (new : Archive D disk) (pair :
   pub tells : Tells session (reaching running taken after)
   pub may : MayGoOn now.value session (reaching running taken after) asks
 
--- it ends with the answer at once; or behind it; or the machine is down
-pub data TakesEnd {D : Type 0} {disk : Ghosts D} (new : Archive D disk) (pair : ℕ)
-    (journal : Journal) (running : Running) (taken : Exchange) (session : Session)
+-- It ends with the answer at once; or behind it; or the machine is down. It remembers what could
+-- not be kept
+pub data TakesEnd {D : Type 0} {disk : Ghosts D} (new : Archive D disk) (tried : Option Tried)
+    (pair : ℕ) (journal : Journal) (running : Running) (taken : Exchange) (session : Session)
     (kept : List Kept) : Ended → Type 0 where
   at_once : (why : Refusal) →
       (fault_of running.taken taken.side taken.request taken.reply ≡ Some (cause_of why))
       ⊎ (cause_of why ≡ Memory) →
       Tells session running → IsMachine new pair journal → kept ≡ [] →
-      TakesEnd new pair journal running taken session kept (Early why)
+      Tries pair tried journal →
+      TakesEnd new tried pair journal running taken session kept (Early why)
   ends : (ended : Ended) (walk : Walk) (after : Reached) →
       Walks pair journal running taken after kept walk →
       walk.cursor ≡ after.cursor → walk.refused ≡ after.refused →
       EndsFor pair (reaching running taken after) taken journal.status walk (ended_by ended) →
       IsMachine new pair walk.journal → Tells session (reaching running taken after) →
-      TakesEnd new pair journal running taken session kept ended
+      Tries pair tried walk.journal →
+      TakesEnd new tried pair journal running taken session kept ended
   goes_down : (ended : Ended) (walk : Walk) (after : Reached) →
       Walks pair journal running taken after kept walk →
       is_stopped (disk.arms (disk_of new)) ≡ true → walk.journal.status ≡ Down →
-      LeavesMachine disk (disk_of new) pair walk.journal →
-      TakesEnd new pair journal running taken session kept ended
+      LeavesMachine disk (disk_of new) pair walk.journal → Tries pair tried walk.journal →
+      TakesEnd new tried pair journal running taken session kept ended
 
-abbrev pub TakesSo : {D : Type 0} → {disk : Ghosts D} → Archive D disk → ℕ → Journal → Running →
-    Exchange → Session → List Kept → Result Asks Ended → Type 0
-TakesSo new pair journal running taken session kept (Ok asks) =
-    TakesOn new pair journal running taken session kept asks
-TakesSo new pair journal running taken session kept (Err ended) =
-    TakesEnd new pair journal running taken session kept ended
+abbrev pub TakesSo : {D : Type 0} → {disk : Ghosts D} → Archive D disk → Option Tried → ℕ →
+    Journal → Running → Exchange → Session → List Kept → Result Asks Ended → Type 0
+TakesSo new tried pair journal running taken session kept (Ok asks) =
+    TakesOn new pair journal running taken session kept asks × (tried ≡ None)
+TakesSo new tried pair journal running taken session kept (Err ended) =
+    TakesEnd new tried pair journal running taken session kept ended

@@ -19,9 +19,11 @@ use Rattle.syn_propagate.specs.Transfers.{Asks}
 use Rattle.syn_refusal.specs.Refusals.{cause_of}
 use Rattle.syn_scan.specs.Found.{Found}
 use Rattle.syn_session.specs.Machines.{IsMachine, Journal, LeavesMachine}
+use Rattle.syn_session.specs.Tries.{Tries}
 use Rattle.syn_session.specs.declared.course.Course.{Course}
 use Rattle.syn_session.specs.declared.report.Ended.{Ended}
 use Rattle.syn_session.specs.declared.report.Ended.TheVariants.{Early, Settled}
+use Rattle.syn_session.specs.declared.tried.Tried.{Tried}
 use Rattle.syn_session.specs.inner.Plans.{Plan}
 use Rattle.syn_session.specs.inner.Stages.{AreAskedBefore, Carries, IsCourse, Reached, plan_in}
 
@@ -70,22 +72,23 @@ pub record Comes {D : Type 0} {disk : Ghosts D} (new : Archive D disk) (pair : �
   pub is : IsMachine new pair journal
   pub course_is : IsCourse course left right after
 
--- The session ends so; or the machine is down
-pub data Ends {D : Type 0} {disk : Ghosts D} (new : Archive D disk) (pair : ℕ) (taken : Exchange)
-    (old : Journal) (before : Reached) (kept : List Kept) (course : Course) (left right : Found)
-    (ended : Ended) : Type 0 where
+-- The session ends so; or the machine is down. It remembers what could not be kept
+pub data Ends {D : Type 0} {disk : Ghosts D} (new : Archive D disk) (tried : Option Tried)
+    (pair : ℕ) (taken : Exchange) (old : Journal) (before : Reached) (kept : List Kept)
+    (course : Course) (left right : Found) (ended : Ended) : Type 0 where
   ends : (walk : Walk) (after : Reached) →
       Advances pair (plan_at before) taken (walk_at old before) kept walk →
       walk.cursor ≡ after.cursor → walk.refused ≡ after.refused → HasKept before after kept →
       ((running : Running) → running.plan ≡ before.plan →
       EndsFor pair running taken old.status walk (ended_by ended)) →
       IsMachine new pair walk.journal → IsCourse course left right after →
-      Ends new pair taken old before kept course left right ended
+      Tries pair tried walk.journal →
+      Ends new tried pair taken old before kept course left right ended
   goes_down : (walk : Walk) →
       Advances pair (plan_at before) taken (walk_at old before) kept walk →
       is_stopped (disk.arms (disk_of new)) ≡ true → walk.journal.status ≡ Down →
-      LeavesMachine disk (disk_of new) pair walk.journal →
-      Ends new pair taken old before kept course left right ended
+      LeavesMachine disk (disk_of new) pair walk.journal → Tries pair tried walk.journal →
+      Ends new tried pair taken old before kept course left right ended
 
 -- no request is out for the item that it has come to, or for a later one
 pub record IsAtItem (course : Course) (left right : Found) (taken : List Exchange)

@@ -14,7 +14,7 @@ ghost use Rattle.syn_refusal.specs.Refusals.{cause_of};
 ghost use Rattle.syn_scan.specs.Found.{Found};
 ghost use Rattle.syn_session.specs.Machines.{IsMachine, Journal};
 ghost use Rattle.syn_session.specs.inner.Advancing.{kept_by, refused_at};
-ghost use Rattle.syn_session.specs.inner.Due.{Settles};
+ghost use Rattle.syn_session.specs.inner.Due.{Settles, TriesBy};
 ghost use Rattle.syn_session.specs.inner.Recording.{IsOfItem};
 ghost use Rattle.syn_session.specs.inner.Settling.{nothing_asked};
 ghost use Rattle.syn_session.specs.inner.Stages.{AreAskedBefore, Carries, IsCarriedFor};
@@ -27,6 +27,7 @@ use crate::course::{Carried, Course};
 use crate::doing::Doing;
 use crate::due::{Due, keep_due, refusal_for};
 use crate::report::Ended;
+use crate::tried::Tried;
 use std::alloc::Global;
 use syn_disk::Limit;
 use syn_message::{Request, Side};
@@ -38,12 +39,12 @@ use syn_scan::Scan;
 use syn_wire::Kept;
 
 impl<D: Limit> Coordinator<D> {
-    ghost use Rattle.syn_session.specs.Coordinators.{archive_of, written};
-    ghost use Rattle.syn_session.specs.inner.Settling.{AsksSo, EndsSo, IsPast, PassesOn};
+    ghost use Rattle.syn_session.specs.Coordinators.{archive_of, tried_shown, written};
+    ghost use Rattle.syn_session.specs.inner.Settling.{AsksSo, EndsSo, IsPast, IsQuiet, PassesOn};
 
     /// Keeps in the archive what is due for the item that the session has come to, and goes past
     /// the item. The session ends as its record does, and 11 where memory is refused.
-    fn settle(
+    pub(super) fn settle(
         &mut self,
         alloc: Global,
         course: &mut Course,
@@ -53,7 +54,7 @@ impl<D: Limit> Coordinator<D> {
         requires { IsOfItem (kept_of kept) }
         ensures step { (pair : ℕ) (journal : Journal) (left right : Found) (taken : Exchange)
             (before : Reached) (planned : Planned) → IsMachine (archive_of self.old) pair journal
-            → IsCourse course.old left right before
+            → IsQuiet self.old journal → IsCourse course.old left right before
             → slice_get (plan_in course.old left right) course.old.cursor ≡ Some planned
             → IsDue course.old.cursor planned taken (kept_of kept)
             → is_carrying planned.item ≡ was_carried
@@ -88,6 +89,8 @@ impl<D: Limit> Coordinator<D> {
             → IsMachine (archive_of self.old) pair journal
             → Settles (archive_of self.new) pair journal (kept_of kept) result }
         ensures written { written self.new ≡ written self.old ++ kept_by (kept_of kept) result }
+        ensures tried { TriesBy (archive_of self.new) (kept_of kept) (tried_shown self.old)
+            (tried_shown self.new) result }
         ensures running { self.new.running ≡ self.old.running }
         ensures report { self.new.report ≡ self.old.report }
     {
@@ -98,7 +101,10 @@ impl<D: Limit> Coordinator<D> {
         match due {
             Due::Recorded => self.written.push_reserved(kept),
             Due::Refused(_) => {}
-            Due::Ends(Refusal::Device) => self.broken = Some(kept),
+            Due::Ends(Refusal::Device) => {
+                self.tried = Some(Tried::new(kept, &self.archive));
+                self.broke = true;
+            }
             Due::Ends(_) => {}
         }
         due
@@ -109,7 +115,7 @@ impl<D: Limit> Coordinator<D> {
     fn pass_conflict(&self, course: &mut Course, path: Path) -> Result<(), Ended>
         ensures step { (pair : ℕ) (journal : Journal) (left right : Found) (taken : Exchange)
             (before : Reached) (planned : Planned) → IsMachine (archive_of self.now) pair journal
-            → IsCourse course.old left right before
+            → IsQuiet self.now journal → IsCourse course.old left right before
             → slice_get (plan_in course.old left right) course.old.cursor ≡ Some planned
             → planned.item ≡ Conflict path
             → MatchResult result
@@ -124,10 +130,10 @@ impl<D: Limit> Coordinator<D> {
 
     /// Goes past the item that the session has come to, which is refused so. The session ends 11
     /// where memory is refused.
-    fn give_up(&self, alloc: Global, course: &mut Course, why: Refusal) -> Result<(), Ended>
+    pub(super) fn give_up(&self, alloc: Global, course: &mut Course, why: Refusal) -> Result<(), Ended>
         ensures step { (pair : ℕ) (journal : Journal) (left right : Found) (taken : Exchange)
             (before : Reached) (planned : Planned) → IsMachine (archive_of self.now) pair journal
-            → IsCourse course.old left right before
+            → IsQuiet self.now journal → IsCourse course.old left right before
             → slice_get (plan_in course.old left right) course.old.cursor ≡ Some planned
             → conflict_at planned.item ≡ None → Passes pair taken journal before journal
             (refused_at before (cause_of why) planned) []
@@ -153,7 +159,7 @@ impl<D: Limit> Coordinator<D> {
         requires { IsOfItem (kept_of carried.record) }
         ensures step { (pair : ℕ) (journal : Journal) (left right : Found) (taken : Exchange)
             (all : List Exchange) (before : Reached) (planned : Planned)
-            → IsMachine (archive_of self.now) pair journal
+            → IsMachine (archive_of self.now) pair journal → IsQuiet self.now journal
             → IsAtItem course.old left right all before
             → slice_get (plan_in course.old left right) course.old.cursor ≡ Some planned
             → IsCarriageOf (carriage_of carried.transfer) planned course.old.cursor
@@ -185,7 +191,7 @@ impl<D: Limit> Coordinator<D> {
     ) -> Result<(Side, Request), Ended>
         ensures step { (pair : ℕ) (journal : Journal) (taken : Exchange) (all : List Exchange)
             (before : Reached) → IsMachine (archive_of self.old) pair journal
-            → IsAtItem course.old left.now right.now all before
+            → IsQuiet self.old journal → IsAtItem course.old left.now right.now all before
             → MatchResult result
             (AsksSo self.old self.new pair taken journal before course.new left.now right.now all)
             (EndsSo self.old self.new pair taken journal before course.new left.now right.now) }
@@ -214,7 +220,7 @@ impl<D: Limit> Coordinator<D> {
     ) -> Result<Option<(Side, Request)>, Ended>
         ensures step { (pair : ℕ) (journal : Journal) (taken : Exchange) (all : List Exchange)
             (before : Reached) → IsMachine (archive_of self.old) pair journal
-            → IsAtItem course.old left.now right.now all before
+            → IsQuiet self.old journal → IsAtItem course.old left.now right.now all before
             → MatchResult result (λ next. MatchOption next
             (PassesOn self.old self.new pair taken journal before course.new left.now right.now all)
             (AsksSo self.old self.new pair taken journal before course.new left.now right.now all))

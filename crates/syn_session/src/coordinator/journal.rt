@@ -1,5 +1,5 @@
 //! The coordinator's archive as a whole: a checkpoint, another opening, and the arms of its device.
-ghost use Rattle.std.specs.Prelude.{◌≡◌, ◌≢◌, ◌<◌, ◌^◌, [], ℕ, List, false, Err, IfErr, OnOk};
+ghost use Rattle.std.specs.Prelude.{◌≡◌, ◌≢◌, ◌<◌, ◌^◌, [], ℕ, List, true, false, Err, IfErr, OnOk};
 ghost use Rattle.std.specs.Prelude.{MatchResult, None, Some};
 ghost use Rattle.syn_disk.specs.Armed.{armed};
 ghost use Rattle.syn_disk.specs.Arms.{is_stopped};
@@ -20,7 +20,7 @@ use syn_model::archive_laws;
 use syn_recovery::{device_laws, opening_laws};
 
 impl<D: Disk> Coordinator<D> {
-    ghost use Rattle.syn_session.specs.Coordinators.{Checkpoints, Does, Reopens, ReopensNot};
+    ghost use Rattle.syn_session.specs.Coordinators.{Checkpoints, Does};
     ghost use Rattle.syn_session.specs.Coordinators.{KeepsReadings, Stands, checkpoint_causes};
     ghost use Rattle.syn_session.specs.Coordinators.{checkpoint_refusals, device_of};
 
@@ -66,12 +66,19 @@ impl<D: Disk> Coordinator<D> {
             Err(error) => Err(error),
         }
     }
+}
+
+impl<D: Limit> Coordinator<D> {
+    ghost use Rattle.syn_session.specs.Coordinators.{Does, KeepsReadings, Reopens, ReopensNot};
+    ghost use Rattle.syn_session.specs.Coordinators.{Stands, device_of, report_shown, runs};
+    ghost use Rattle.syn_session.specs.Coordinators.{tried_shown, written};
 
     /// Opens the archive's own disk again. A session that runs goes on; an archive that was halted
     /// runs again.
     ///
     /// Refused 9 where a device call fails, and 11 where memory is refused. After 9 the archive is
-    /// halted; after 11 it is as it was. Nothing is written.
+    /// halted; after 11 it is as it was. Nothing is written. What was tried is forgotten once the
+    /// archive is open, unless the machine stopped in the call.
     pub fn reopen(&mut self, alloc: Global) -> Result<(), ArchiveError>
         // It is another opening of the machine. What it keeps there is a record that was being
         // written when its device failed.
@@ -85,11 +92,15 @@ impl<D: Disk> Coordinator<D> {
             → IfErr result (λ e. e ≢ ArchiveError.Device → (e ≡ ArchiveError.Memory)
             × Does self.old self.new pair
             (ReopensNot machine Up machine.journal.status) [] []) }
-        ensures same { KeepsReadings self.old self.new }
+        ensures same { IfErr result (λ _. KeepsReadings self.old self.new) }
+        ensures again { OnOk result ((report_shown self.new ≡ report_shown self.old)
+            × (written self.new ≡ written self.old) × (runs self.new ≡ runs self.old)) }
+        ensures forgets { OnOk result (is_stopped (D.Disk.arms (device_of self.new)) ≡ false
+            → tried_shown self.new ≡ None) }
         ensures failures { MatchResult result
-            (λ _. D.failures (device_of self.new) ≡ D.failures (device_of self.old))
-            (λ e. CountsFailures e (D.failures (device_of self.old))
-            (D.failures (device_of self.new))) }
+            (λ _. D.Disk.failures (device_of self.new) ≡ D.Disk.failures (device_of self.old))
+            (λ e. CountsFailures e (D.Disk.failures (device_of self.old))
+            (D.Disk.failures (device_of self.new))) }
     {
         device_laws();
         opening_laws();
@@ -97,6 +108,7 @@ impl<D: Disk> Coordinator<D> {
         match self.archive.reopen(alloc) {
             Ok(()) => {
                 self.archive.keeps_on_disk();
+                self.forget();
                 Ok(())
             }
             Err(error) => {
@@ -105,10 +117,22 @@ impl<D: Disk> Coordinator<D> {
             }
         }
     }
-}
 
-impl<D: Limit> Coordinator<D> {
-    ghost use Rattle.syn_session.specs.Coordinators.{device_of, KeepsReadings, Stands};
+    /// Forgets what was tried, unless the machine is stopped.
+    fn forget(&mut self)
+        ensures goes { is_stopped (D.Disk.arms (device_of self.new)) ≡ false
+            → tried_shown self.new ≡ None }
+        ensures stopped { is_stopped (D.Disk.arms (device_of self.new)) ≡ true
+            → tried_shown self.new ≡ tried_shown self.old }
+        ensures archive { self.new.archive ≡ self.old.archive }
+        ensures running { self.new.running ≡ self.old.running }
+        ensures report { self.new.report ≡ self.old.report }
+        ensures written { self.new.written ≡ self.old.written }
+    {
+        if !self.archive.is_cut() {
+            self.tried = None;
+        }
+    }
 
     /// Arms the archive's disk. It takes the place of an arm of its kind that is still to come.
     pub fn arm(&mut self, arm: Arm)

@@ -32,7 +32,7 @@ returns-in-Err-clause-made g c pair machine is =
           let was = when_runs c.args.archive.now pair machine is (λ h. device_not_halted _ _ device (c.in-Err.ensures.halted.1 h)) in
           subst (λ x. Checkpoints c.checkpoint.new.self pair machine (Some (ended_by x))) (sym device)
           (breaks (not_greatest c.args.archive.now c.checkpoint.new.self pair machine is fits was (λ e. device_not_full _ _ device ((c.in-Err.ensures.greatest _ was.stands).1 e)))
-          (compact_failed c.args.archive.now c.checkpoint.new.self pair machine is was (c.in-Err.ensures.halts (ap (failed (Unit {0})) device)) c.in-Err.ensures.memory g.met.D.Disk.counts_now (c.in-Err.ensures.any_moment _ was.stands) c.device_laws.ensures.broken
+          (compact_failed c.args.archive.now c.checkpoint.new.self pair machine is was (c.in-Err.ensures.halts (ap (failed (Unit {0})) device)) c.in-Err.ensures.readings g.met.D.Disk.counts_now (c.in-Err.ensures.any_moment _ was.stands) c.device_laws.ensures.broken
           (subst (λ x. MakesIfDevice x 6 (g.D.Disk.arms (disk_of c.args.archive.now)) (g.D.Disk.arms (disk_of c.checkpoint.new.self))) device c.in-Err.ensures.calls)))
       | inr other ↦ subst (λ due. Checkpoints c.checkpoint.new.self pair machine (Some due)) (sym other.1) (no_memory (stays c.args.archive.now c.checkpoint.new.self pair machine is c.in-Err.error other.0 c.in-Err.ensures.unchanged c.in-Err.ensures.readings))
     ])

@@ -10,15 +10,15 @@ pub returns-in-Ok-clause-step : goal.returns-in-Ok-clause-step
 returns-in-Ok-clause-step g c pair machine stands =
     let is = stands.journal in
     let was = when_up c.args.self.now.archive pair machine is (subst (λ n. n < 2 ^ 64) c.generation-generation.ensures c.is_long.ensures) (λ h. ok_not_halted _ _ refl (c.in-Ok.ensures.halted.1 h)) in
-    checkpoint_does c.args.self.now _ pair machine stands refl _ up_not_down
+    checkpoint_does c.args.self.now _ pair machine stands refl was refl _ up_not_down
     (compact_ok c.args.self.now.archive _ pair machine.journal is was c.in-Ok.ensures.memory (c.in-Ok.ensures.acknowledged _ was.stands) c.in-Ok.ensures.generation c.in-Ok.ensures.image g.met.D.Disk.seen_may_stay (c.keeps_on_disk.ensures _ (c.in-Ok.ensures.acknowledged _ was.stands)) c.device_laws.ensures.made c.in-Ok.ensures.calls)
 
 pub returns-in-Err-clause-step : goal.returns-in-Err-clause-step
 returns-in-Err-clause-step g c pair machine stands device =
     let is = stands.journal in
     let was = when_up c.args.self.now.archive pair machine is (subst (λ n. n < 2 ^ 64) c.generation-generation.ensures c.is_long.ensures) (λ h. device_not_halted _ _ device (c.in-Err.ensures.halted.1 h)) in
-    checkpoint_does c.args.self.now _ pair machine stands refl _ halted_not_down
-    (compact_failed c.args.self.now.archive _ pair machine.journal is was (c.in-Err.ensures.halts (ap (λ e. Err e) device)) c.in-Err.ensures.memory g.met.D.Disk.counts_now (c.in-Err.ensures.any_moment _ was.stands) c.device_laws.ensures.broken
+    checkpoint_does c.args.self.now _ pair machine stands refl was refl _ halted_not_down
+    (compact_failed c.args.self.now.archive _ pair machine.journal is was (c.in-Err.ensures.halts (ap (λ e. Err e) device)) c.in-Err.ensures.readings g.met.D.Disk.counts_now (c.in-Err.ensures.any_moment _ was.stands) c.device_laws.ensures.broken
     (subst (λ e. MakesIfDevice e 6 (g.D.Disk.arms (disk_of c.args.self.now.archive)) (g.D.Disk.arms (disk_of c.checkpoint.new.self))) device c.in-Err.ensures.calls))
 
 pub returns-in-Err-clause-refused : goal.returns-in-Err-clause-refused
@@ -28,6 +28,8 @@ returns-in-Err-clause-refused g c pair machine stands other = (
     journal = elim c.in-Err.ensures.unchanged [ inl device ↦ absurd (other device) | inr same ↦ same_machine c.args.self.now.archive c.checkpoint.new.self same c.in-Err.ensures.readings pair machine.journal stands.journal ];
     running = stands.running;
     quiet = stands.quiet;
+    untried = stands.untried;
+    tries = stands.tries;
   },
 )
 

@@ -13,8 +13,11 @@ use Rattle.syn_session.specs.declared.error.SessionError.TheVariants.{Device}
 use Rattle.syn_model.specs.Archive as model
 use Rattle.syn_session.specs.inner.Sessions.{IsSession, begin_messages, begun}
 use Rattle.syn_session.specs.inner.Steps.{KeepsSo}
+use Rattle.syn_session.specs.Tries.{HoldsTried}
+use Rattle.syn_session.proofs.DueLemmas.{when_runs}
 use Rattle.syn_session.proofs.ErrorLemmas.{passed, refused_so}
-use Rattle.syn_session.proofs.StartLemmas.{is_none, started, start_failed, still_first, then_memory}
+use Rattle.syn_session.proofs.StartLemmas.{is_none, room_for, started, start_failed, still_first, then_memory}
+use Rattle.syn_session.proofs.TriedLemmas.{untried_up}
 use Rattle.syn_session.proofs.coordinator.Coordinator.start.Goals as goal
 
 pub returns-in_err-check_start-clause-step : goal.returns-in_err-check_start-clause-step
@@ -29,7 +32,8 @@ returns-in_err-check_start-clause-refused g c pair machine stands =
 pub returns-in_err-keep_session-clause-step : goal.returns-in_err-keep_session-clause-step
 returns-in_err-keep_session-clause-step g c pair machine stands =
     passed (λ e. e ≡ Device → Does c.args.self.now c.keep_session.new.self pair (CoordinatorStarts pair machine) [] []) _ c.from_residual-in_err-keep_session.result _ c.from_residual-in_err-keep_session.ensures.1
-    (λ e. start_failed c.args.self.now c.keep_session.new.self pair machine c.in_ok-check_start.ensures.idle (c.in_err-keep_session.ensures.stays ∙ is_none c.args.self.now.running c.in_ok-check_start.ensures.idle)
+    (λ e. start_failed c.args.self.now c.keep_session.new.self pair machine c.in_ok-check_start.ensures.idle (when_runs c.args.self.now.archive pair machine.journal stands.journal c.in_ok-check_start.ensures.up).idle
+    (subst (λ n. HoldsTried c.keep_session.new.self.archive (Session (n + 1)) c.keep_session.new.self.tried) (ap (λ a. a.last_session) stands.journal.remembers) (c.in_err-keep_session.ensures.tried (ap (λ e. Err e) e))) (room_for pair machine (c.in_ok-check_start.ensures.refused pair machine stands)) (c.in_err-keep_session.ensures.stays ∙ is_none c.args.self.now.running c.in_ok-check_start.ensures.idle)
     (subst (λ n. KeepsSo (archive_of c.keep_session.new.self) pair machine.journal (Session (n + 1)) [] Halted) (ap (λ a. a.last_session) stands.journal.remembers) (c.in_err-keep_session.ensures.device pair machine stands (ap (λ e. Err e) e))))
 
 pub returns-in_err-keep_session-clause-refused : goal.returns-in_err-keep_session-clause-refused
@@ -42,6 +46,7 @@ returns-in_err-keep_session-clause-refused g c pair machine stands =
 
 pub returns-clause-step : goal.returns-clause-step
 returns-clause-step g c pair machine stands =
+    let was = when_runs c.args.self.now.archive pair machine.journal stands.journal c.in_ok-check_start.ensures.up in
     let last = ap (λ a. a.last_session) stands.journal.remembers in
     let numbered = ap (λ n. n + 1) (c.last_session-number.ensures ∙ last) in
     let of_pair = c.pair.ensures ∙ stands.journal.pair_is in
@@ -51,7 +56,7 @@ returns-clause-step g c pair machine stands =
     let sent = c.in_ok-session.ensures.sends ∙ ap₂ begin_messages numbered of_pair in
     subst (λ w. Does c.args.self.now c.keep_session.new.self pair (CoordinatorStarts pair machine) w (messages_of c.in_ok-session.sends.items)) (sym written_is)
     (subst (λ m. Does c.args.self.now c.keep_session.new.self pair (CoordinatorStarts pair machine) (Session (machine.journal.value.last_session + 1) ∷ []) m) (sym sent)
-    (started c.args.self.now c.keep_session.new.self pair machine c.in_ok-check_start.ensures.idle (subst (λ n. n + 1 < 2 ^ 64) last c.in_ok-check_start.ensures.fits) (subst (λ p. p < 2 ^ 64) of_pair c.in_ok-session.ensures.fits) c.in_ok-session.session c.in_ok-keep_session.ensures.running begins kept))
+    (started c.args.self.now c.keep_session.new.self pair machine c.in_ok-check_start.ensures.idle (subst (λ n. n + 1 < 2 ^ 64) last c.in_ok-check_start.ensures.fits) (subst (λ p. p < 2 ^ 64) of_pair c.in_ok-session.ensures.fits) was.idle (c.in_ok-keep_session.ensures.untried ∙ untried_up pair c.args.self.now.tried machine.journal stands.tries was.up) c.in_ok-session.session c.in_ok-keep_session.ensures.running begins kept))
 
 pub returns-in_err-session-clause-refused : goal.returns-in_err-session-clause-refused
 returns-in_err-session-clause-refused g c pair machine stands =

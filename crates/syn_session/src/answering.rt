@@ -1,0 +1,64 @@
+//! What an answer for the item that is carried comes to.
+ghost use Rattle.std.specs.Prelude.{◌≡◌, ℕ, List};
+ghost use Rattle.syn_headline.specs.Coordinator.{Exchange};
+ghost use Rattle.syn_headline.specs.Network.{Which};
+ghost use Rattle.syn_headline.specs.Side.{Request as Asked};
+ghost use Rattle.syn_message.specs.Replies.{reply_of};
+ghost use Rattle.syn_model.specs.Archive.{Archive as Keeping};
+ghost use Rattle.syn_propagate.specs.Transfers.{WaitsFor};
+ghost use Rattle.syn_scan.specs.Found.{Found};
+ghost use Rattle.syn_session.specs.inner.Answering.{exchange_of};
+
+use crate::course::{Carried, Course};
+use std::alloc::Global;
+use syn_message::{Reply, Request, Side};
+use syn_propagate::{Next, transfer_laws};
+use syn_refusal::Refusal;
+use syn_wire::Kept;
+
+/// What an answer for the item that is carried comes to.
+#[derive(Debug, Drop)]
+pub(crate) enum Carrying {
+    /// The side is to be asked for this next.
+    Asks(Side, Request),
+    /// The item is in its place on the other side, and the archive is to have this.
+    Done(Kept),
+    /// A side refused what it was asked.
+    Refused(Refusal),
+}
+
+impl Course {
+    ghost use Rattle.syn_session.specs.inner.Carrying.{TakesAnswer};
+    ghost use Rattle.syn_session.specs.inner.Stages.{Carries, Reached};
+
+    /// Takes the answer for the item that is carried. Refused 23 where it does not belong to what
+    /// was asked, and 11 where memory is refused.
+    pub(crate) fn take_answer(
+        &mut self,
+        alloc: Global,
+        reply: Reply,
+    ) -> Result<Carrying, Refusal>
+        ensures step { (archive : Keeping) (left right : Found) (all : List Exchange)
+            (before : Reached) (to : Which) (number : ℕ) (request : Asked)
+            → Carries archive self.old left right all before
+            (λ transfer. WaitsFor transfer all to request)
+            → TakesAnswer archive left right all before
+            (exchange_of to number request (reply_of reply)) self.new result }
+    {
+        transfer_laws();
+        let Some(taken) = self.carried.take() else {
+            return Err(Refusal::BadMessage);
+        };
+        let Carried { transfer, record } = taken;
+        let mut transfer = transfer;
+        match transfer.step(alloc, Some(reply)) {
+            Ok(Next::Ask(side, request)) => {
+                self.carried = Some(Carried { transfer, record });
+                Ok(Carrying::Asks(side, request))
+            }
+            Ok(Next::Done) => Ok(Carrying::Done(record)),
+            Ok(Next::Refused(why)) => Ok(Carrying::Refused(why)),
+            Err(error) => Err(error.refusal()),
+        }
+    }
+}

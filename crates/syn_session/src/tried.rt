@@ -1,0 +1,37 @@
+//! A record that could not be kept.
+ghost use Rattle.std.specs.Prelude.{◌≡◌};
+ghost use Rattle.syn_session.specs.Tries.{IsTriedBy, record_of};
+ghost use Rattle.syn_wire.specs.Marks.{kept_of};
+
+use syn_archive::Archive;
+use syn_disk::Disk;
+use syn_wire::Kept;
+
+/// A record that was being written as a device call failed, with what the archive's journal showed
+/// behind it. Whether the disk has the record shows when it is opened again.
+#[derive(Debug, Drop)]
+pub struct Tried {
+    pub(crate) kept: Kept,
+    pub(crate) room: usize,
+    pub(crate) generation: u64,
+}
+
+impl Tried {
+    /// The record, tried in this archive now.
+    pub(crate) fn new<D: Disk>(kept: Kept, archive: &Archive<D>) -> Tried
+        ensures { IsTriedBy archive.now (kept_of kept) result }
+    {
+        Tried {
+            kept,
+            room: archive.room(),
+            generation: archive.generation(),
+        }
+    }
+
+    /// The record.
+    pub fn kept(&self) -> &Kept
+        ensures { kept_of result.now ≡ record_of self.now }
+    {
+        &self.kept
+    }
+}
