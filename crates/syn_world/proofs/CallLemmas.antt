@@ -87,7 +87,7 @@ module _ {D : Type 0} {disk : Ghosts D} (old new : Session D disk) (pair : ℕ)
             (sym (same next made step reports)) refl behind.0;
         is = behind.1;
       }
-  does_call (goes_down next made step stopped down leaves kept) =
+  does_call (goes_down next made step stopped down leaves kept tried) =
       let cut = cuts next made step down in
       let behind = settles.stops stopped pair next (record {
         down = down;

@@ -2,8 +2,9 @@
 use Rattle.std.proofs.Common.{◌≡◌, ◌∙◌, ◌++◌, ◌∷◌, [], ℕ, List, Option, Some, None, ap, ap₂, refl}
 use Rattle.std.proofs.Common.{subst, sym, length, map}
 use Rattle.std.proofs.lemmas.List.{append-nil, length-map, map-append}
-use Rattle.std.proofs.lemmas.List.Elements.{All-append, All-cons, All-nil}
-use Rattle.std.specs.Prelude.{All, IfSome, option_map}
+use Rattle.std.proofs.lemmas.List.Elements.{All-append, All-cons, All-get_or, All-nil}
+use Rattle.std.proofs.lemmas.Option.{get_or_from_slice_get, slice_get_within}
+use Rattle.std.specs.Prelude.{All, IfSome, option_map, slice_get}
 use Rattle.syn_headline.specs.Acknowledged.{Ack, Happened, Kept_by}
 use Rattle.syn_headline.specs.Coordinator.{Call}
 use Rattle.syn_headline.specs.Network.{Answers, Message, Which}
@@ -121,3 +122,10 @@ module _ (side : Side) (session number : ℕ) (reply : Option Reply) (events : L
         (All-append CanBeSent was.sent said listed.lawful
         (says_can (which_of side) session number reply lawful));
   }
+
+-- what is in the list can be sent
+pub sent_can : (sent : List Message) (message : ℕ) (one : Message) → All CanBeSent sent
+    → slice_get sent message ≡ Some one → CanBeSent one
+sent_can sent message one can is =
+    subst CanBeSent (get_or_from_slice_get sent message one one is)
+    (All-get_or CanBeSent sent message one (slice_get_within sent message one is) can)

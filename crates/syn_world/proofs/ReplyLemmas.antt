@@ -1,16 +1,22 @@
 -- A call of a coordinator that takes an answer, and leaves its machine down.
-use Rattle.std.proofs.Common.{◌≡◌, ◌≢◌, ◌∙◌, ℕ, List, Option, refl, sym}
+use Rattle.std.proofs.Common.{◌≡◌, ◌≢◌, ◌∙◌, ℕ, List, None, Option, Some, refl, sym}
+use Rattle.syn_disk.specs.declared.disk.Disk.{Ghosts}
 use Rattle.syn_headline.specs.Coordinator.{Advances, CoordinatorMachine, CoordinatorTakes, EndsFor}
-use Rattle.syn_headline.specs.Coordinator.{Exchange, Takes, Walk, ignores, takes}
+use Rattle.syn_headline.specs.Coordinator.{Exchange, Takes, Walk, ignores, no_call, takes}
 use Rattle.syn_headline.specs.Coordinator as walk
 use Rattle.syn_headline.specs.Machine.{Status, Down, unarmed}
-use Rattle.syn_headline.specs.Network.{Which}
+use Rattle.syn_headline.specs.Network.{Message, Which}
 use Rattle.syn_headline.specs.Planning.{Planned}
 use Rattle.syn_headline.specs.Session.{Running}
 use Rattle.syn_headline.specs.Side.{Reply}
 use Rattle.syn_model.specs.Archive.{Kept}
 use Rattle.syn_model.specs.Refusal.{Refusal}
-use Rattle.syn_world.proofs.CallLemmas.{IsCutSo, compacts_down, keeps_down}
+use Rattle.syn_session.specs.Coordinators.{Does, Stands, ended_in, written}
+use Rattle.syn_session.specs.declared.coordinator.Coordinator.{Coordinator as Session}
+use Rattle.syn_world.specs.CoordinatorSteps.{CallsSo, Settles, Unrefused, refuses_nothing}
+use Rattle.syn_world.specs.declared.coordinator.CoordinatorCall.{CoordinatorCall}
+use Rattle.syn_world.proofs.CallLemmas.{IsCutSo, compacts_down, does_call, keeps_down}
+use Rattle.syn_world.proofs.CoordinatorLemmas.{is_not_down}
 use Rattle.syn_world.proofs.SideLemmas.{halted_not_down, up_not_down}
 
 module _ (pair : ℕ) (plan : List Planned) (taken : Exchange) where
@@ -72,3 +78,33 @@ module _ (pair : ℕ) (machine : CoordinatorMachine)
   reply_is_cut from session number reply next made (takes running request _ _ expected taken)
       down = takes_is_cut running _ next made taken down
   reply_is_cut from session number reply _ _ (ignores none) down = absurd (other down)
+
+-- a machine that runs no session takes no answer
+pub takes_none : (pair : ℕ) (machine : CoordinatorMachine) (from : Which)
+    (session number : ℕ) (reply : Reply) → machine.running ≡ None
+    → CoordinatorTakes pair machine from session number reply machine no_call
+takes_none pair machine from session number reply idle = ignores
+    (λ running request expected. absurd (never running (sym idle ∙ expected.runs)))
+  where
+    never : (running : Running) → ◌≢◌ {A = Option Running} None (Some running)
+    never running e = cc
+
+pub reply_call : {D : Type 0} {disk : Ghosts D} (old new : Session D disk) (pair : ℕ)
+    (machine : CoordinatorMachine) → Stands old pair machine → (call : CoordinatorCall D disk)
+    (from : Which) (session number : ℕ) (reply : Reply) (messages : List Message)
+    → Settles new (record no_call {
+      kept = written new;
+      messages = messages;
+      reports = ended_in old new;
+    }) refuses_nothing call
+    → Does old new pair (CoordinatorTakes pair machine from session number reply) (written new)
+    messages
+    → CallsSo pair (Unrefused (CoordinatorTakes pair machine from session number reply)) call
+reply_call old new pair machine stands call from session number reply messages settles does =
+    does_call old new pair (CoordinatorTakes pair machine from session number reply)
+    (record no_call { kept = written new; messages = messages; reports = ended_in old new })
+    refuses_nothing refl call settles
+    (reply_is_cut pair machine (is_not_down pair old machine stands) from session number reply)
+    (λ next made step is. is)
+    (Unrefused (CoordinatorTakes pair machine from session number reply))
+    (λ next made step. record { step = step; none = refl }) does

@@ -20,6 +20,7 @@ use syn_disk::{Arm, Disk};
 use syn_refusal::Refusal;
 use syn_session::Coordinator;
 
+mod hear;
 mod settle;
 mod start;
 mod tick;

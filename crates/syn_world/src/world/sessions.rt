@@ -1,9 +1,15 @@
 //! The sessions of the world's coordinator.
-ghost use Rattle.syn_headline.specs.World.{World as ModelWorld, Start, Tick};
+ghost use Rattle.std.specs.Prelude.{◌≡◌, ℕ, Some, slice_get};
+ghost use Rattle.syn_headline.specs.Network.{Answers};
+ghost use Rattle.syn_headline.specs.World.{World as ModelWorld, Deliver, Start, Tick};
+ghost use Rattle.syn_message.specs.Replies.{reply_of};
+ghost use Rattle.syn_message.specs.Sides.{which_of};
 
 use super::{Disks, World};
 use crate::disk::SimulatedDisk;
+use crate::replies::can_be_sent;
 use std::alloc::Global;
+use syn_message::{Reply, Side};
 
 impl<D: SimulatedDisk> World<D> {
     ghost use Rattle.syn_world.specs.Worlds.{GoesSo, IsWorld};
@@ -24,6 +30,32 @@ impl<D: SimulatedDisk> World<D> {
     {
         let mut world = self;
         let call = world.coordinator.tick(alloc);
+        world.coordinator = call.coordinator;
+        world.told(call.outcome)
+    }
+
+    /// An answer that a side gave is delivered to the coordinator, as the list has it.
+    pub fn deliver_reply(
+        self,
+        alloc: Global,
+        from: Side,
+        session: u64,
+        number: u32,
+        reply: Reply,
+    ) -> Result<World<D>, Disks<D>>
+        ensures { (model : ModelWorld) (message : ℕ) → IsWorld self model
+            → slice_get model.sent message
+            ≡ Some (Answers (which_of from) session number (reply_of reply))
+            → GoesSo model (Deliver message) result }
+    {
+        // What no side may say is not in the list.
+        if !can_be_sent(&reply) {
+            return Ok(self);
+        }
+        let mut world = self;
+        let call = world
+            .coordinator
+            .hear(alloc, from, session, number, reply);
         world.coordinator = call.coordinator;
         world.told(call.outcome)
     }
