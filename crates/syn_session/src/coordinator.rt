@@ -93,6 +93,14 @@ impl<D: Disk> Coordinator<D> {
         self.archive
     }
 
+    /// The archive, and what was tried and not kept. A session that runs is given up.
+    pub fn into_parts(self) -> (Archive<D>, Option<Tried>)
+        ensures archive { result.0 ≡ archive_of self }
+        ensures tried { result.1 ≡ tried_shown self }
+    {
+        (self.archive, self.tried)
+    }
+
     /// Whether a session runs.
     pub fn is_running(&self) -> bool
         ensures { result ≡ runs self.now }
