@@ -4,6 +4,7 @@ pub mod StayLemmas
 pub mod TriedLemmas
 pub mod ArmLemmas
 pub mod OpeningLemmas
+pub mod DownLemmas
 pub mod CheckpointLemmas
 pub mod ReopenLemmas
 pub mod RefusedLemmas

@@ -34,6 +34,7 @@ use syn_wire::Kept;
 mod answers;
 mod carrying;
 mod journal;
+mod opening;
 
 /// How many bytes the record of a session takes behind its length.
 const SESSION_RECORD: usize = 9;
