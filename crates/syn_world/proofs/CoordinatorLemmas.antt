@@ -1,5 +1,5 @@
 -- What is armed at a coordinator, and a stop of it, are steps of its machine and of the world.
-use Rattle.std.proofs.Common.{◌≡◌, ◌≢◌, ◌∙◌, ℕ, zero, suc, None, Option, List, inl, inr}
+use Rattle.std.proofs.Common.{◌≡◌, ◌≢◌, ◌∙◌, ℕ, zero, suc, None, Option, Some, List, inl, inr}
 use Rattle.std.proofs.Common.{refl, sym, ap, ap₂, subst, [], ◌++◌, if◌then◌else◌}
 use Rattle.std.proofs.lemmas.List.{append-nil}
 use Rattle.syn_disk.specs.declared.disk.Disk.{Ghosts}
@@ -20,6 +20,8 @@ use Rattle.syn_session.specs.Coordinators.{Does, Stands, checkpoint_refusals, go
 use Rattle.syn_session.specs.Coordinators.{Checkpoints as DoesCheckpoint, with_arms}
 use Rattle.syn_session.specs.Coordinators.{checkpoints as does_checkpoint}
 use Rattle.syn_session.specs.Machines.{Journal}
+use Rattle.syn_session.specs.Tries.{Tries}
+use Rattle.syn_session.specs.declared.tried.Tried.{Tried}
 use Rattle.syn_session.specs.declared.coordinator.Coordinator.{Coordinator as Session}
 use Rattle.syn_world.specs.Coordinators.{Fails, IsCoordinator, StopsMachine, at_once, behind}
 use Rattle.syn_world.specs.Coordinators.{fails, stopped, with_device_arms}
@@ -68,6 +70,39 @@ archive_still pair machine status arms failed bytes may = record {
       alone = m.alone;
       numbered = m.numbered;
     })
+
+down_not_up : Down ≢ Up
+down_not_up e = up_not_down (sym e)
+
+-- what was tried is remembered as its machine stops
+pub tries_stopped : (pair : ℕ) (tried : Option Tried) (machine : Journal)
+    → Tries pair tried machine → Tries pair tried (after_device machine Down unarmed 0)
+tries_stopped pair None machine tries = tries
+tries_stopped pair (Some tried) machine tries = record {
+  stopped = down_not_up;
+  left = tries.left;
+  room_is = tries.room_is;
+  as_left = tries.as_left;
+  writing = λ kept is. let was = tries.writing kept is in record {
+    kept_is = was.kept_is;
+    left_is = was.left_is;
+    generation_is = was.generation_is;
+    fits = was.fits;
+  };
+}
+
+-- a machine that runs no session runs none behind an opening
+pub with_journal_alone : (machine : CoordinatorMachine) (journal : Journal)
+    → machine.running ≡ None
+    → record { journal = journal; running = None } ≡ with_archive machine journal
+with_journal_alone machine journal idle =
+    ap (λ r. record { journal = journal; running = r })
+    (sym (ap (λ r. running_after journal.status r) idle ∙ none_runs journal.status))
+  where
+    none_runs : (status : Status) → running_after status None ≡ None
+    none_runs Up = refl
+    none_runs Halted = refl
+    none_runs Down = refl
 
 module _ {D : Type 0} {disk : Ghosts D} (pair : ℕ) (coordinator : Session D disk)
     (machine : CoordinatorMachine) (stands : Stands coordinator pair machine) where
@@ -153,7 +188,7 @@ module _ {D : Type 0} {disk : Ghosts D} (pair : ℕ) (old new : Session D disk)
         acknowledges = behind.1;
         is = behind.2;
       }
-  checkpoint_made (goes_down _ _ (does_checkpoint journal compacts) stopped down leaves kept) =
+  checkpoint_made (goes_down _ _ (does_checkpoint journal compacts) stopped down leaves kept tries) =
       let next = with_archive machine journal in
       let other = is_not_down pair old machine stands in
       let behind = settles.stops stopped pair next (record {
@@ -161,6 +196,7 @@ module _ {D : Type 0} {disk : Ghosts D} (pair : ℕ) (old new : Session D disk)
         unarmed_is = compacts_down pair machine.journal journal other compacts down;
         idle = ap (λ s. running_after s machine.running) down;
         leaves = leaves;
+        tries = tries;
       }) in
       let made : Checkpoints pair machine next (refused_by journal.status) =
       steps.checkpoints journal other none compacts in

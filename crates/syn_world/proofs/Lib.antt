@@ -10,3 +10,4 @@ mod HostLemmas
 mod StepLemmas
 mod WorldLemmas
 mod CoordinatorLemmas
+mod CoordinatorOpenLemmas

@@ -6,7 +6,8 @@ use Rattle.syn_headline.specs.Coordinator.{CoordinatorMachine, archive_layout, w
 use Rattle.syn_headline.specs.Machine.{Compacts, Down, unarmed}
 use Rattle.syn_model.specs.Refusal.{Refusal, first_cause}
 use Rattle.syn_session.specs.Coordinators.{Stands, checkpoint_causes, checkpoint_refusals}
-use Rattle.syn_session.specs.Coordinators.{device_of}
+use Rattle.syn_session.specs.Coordinators.{device_of, tried_shown}
+use Rattle.syn_session.specs.Tries.{Tries}
 use Rattle.syn_session.specs.Machines.{Journal, LeavesMachine}
 use Rattle.syn_session.specs.declared.coordinator.Coordinator.{Coordinator}
 use Rattle.syn_world.specs.Coordinators.{IsCoordinator}
@@ -41,6 +42,7 @@ pub record StopsAs {D : Type 0} {disk : Ghosts D} (coordinator : Coordinator D d
   pub unarmed_is : machine.journal.arms ≡ unarmed
   pub idle : machine.running ≡ None
   pub leaves : LeavesMachine disk (device_of coordinator) pair machine.journal
+  pub tries : Tries pair (tried_shown coordinator) machine.journal
 
 -- a coordinator behind a call that was made: it goes on, and is refused 9 where it is halted; or
 -- its machine stopped

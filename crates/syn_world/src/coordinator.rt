@@ -15,14 +15,25 @@ use std::alloc::Global;
 use syn_archive::ArchiveError;
 use syn_disk::{Arm, Disk};
 use syn_refusal::Refusal;
-use syn_session::Coordinator;
+use syn_session::{Coordinator, Tried};
+
+mod open;
+
+pub use open::CoordinatorOpening;
 
 /// The coordinator of the world.
 #[derive(Drop)]
 pub enum CoordinatorHost<D: Disk> {
     Up(Coordinator<D>),
-    /// The machine is down: this is its disk.
-    Down(D),
+    Down(DownCoordinator<D>),
+}
+
+/// A coordinator whose machine is down.
+#[derive(Drop)]
+pub struct DownCoordinator<D> {
+    pub disk: D,
+    /// The record that was being written as a device call failed or the machine stopped.
+    pub tried: Option<Tried>,
 }
 
 impl<D: SimulatedDisk> CoordinatorHost<D> {
@@ -36,7 +47,7 @@ impl<D: SimulatedDisk> CoordinatorHost<D> {
     {
         match self {
             CoordinatorHost::Up(coordinator) => coordinator.into_archive().into_disk(),
-            CoordinatorHost::Down(disk) => disk,
+            CoordinatorHost::Down(down) => down.disk,
         }
     }
 
@@ -49,7 +60,7 @@ impl<D: SimulatedDisk> CoordinatorHost<D> {
             CoordinatorHost::Up(coordinator) => {
                 CoordinatorHost::Up(armed_with(coordinator, Arm::Fail(call)))
             }
-            CoordinatorHost::Down(disk) => CoordinatorHost::Down(disk),
+            CoordinatorHost::Down(down) => CoordinatorHost::Down(down),
         }
     }
 
@@ -62,13 +73,17 @@ impl<D: SimulatedDisk> CoordinatorHost<D> {
         match self {
             CoordinatorHost::Up(coordinator) => {
                 if calls == 0 {
-                    let disk = coordinator.into_archive().into_disk();
-                    CoordinatorHost::Down(disk.after_stop())
+                    let (archive, tried) = coordinator.into_parts();
+                    let disk = archive.into_disk();
+                    CoordinatorHost::Down(DownCoordinator {
+                        disk: disk.after_stop(),
+                        tried,
+                    })
                 } else {
                     CoordinatorHost::Up(armed_with(coordinator, Arm::Stop(calls)))
                 }
             }
-            CoordinatorHost::Down(disk) => CoordinatorHost::Down(disk),
+            CoordinatorHost::Down(down) => CoordinatorHost::Down(down),
         }
     }
 }
@@ -104,8 +119,8 @@ impl<D: SimulatedDisk> CoordinatorHost<D> {
     {
         match self {
             CoordinatorHost::Up(coordinator) => compact(alloc, coordinator),
-            CoordinatorHost::Down(disk) => CoordinatorCall {
-                coordinator: CoordinatorHost::Down(disk),
+            CoordinatorHost::Down(down) => CoordinatorCall {
+                coordinator: CoordinatorHost::Down(down),
                 outcome: Outcome::Nothing,
             },
         }
@@ -156,9 +171,13 @@ fn settle<D: SimulatedDisk>(coordinator: Coordinator<D>) -> CoordinatorCall<D>
     ensures { Settles coordinator result }
 {
     if coordinator.is_cut() {
-        let disk = coordinator.into_archive().into_disk();
+        let (archive, tried) = coordinator.into_parts();
+        let disk = archive.into_disk();
         return CoordinatorCall {
-            coordinator: CoordinatorHost::Down(disk.after_stop()),
+            coordinator: CoordinatorHost::Down(DownCoordinator {
+                disk: disk.after_stop(),
+                tried,
+            }),
             outcome: Outcome::Nothing,
         };
     }

@@ -12,7 +12,7 @@ mod outcome;
 mod side;
 mod world;
 
-pub use coordinator::{CoordinatorCall, CoordinatorHost};
+pub use coordinator::{CoordinatorCall, CoordinatorHost, CoordinatorOpening, DownCoordinator};
 pub use disk::SimulatedDisk;
 pub use lists::{Ack, Lists, Message};
 pub use outcome::Outcome;

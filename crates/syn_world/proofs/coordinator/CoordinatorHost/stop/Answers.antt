@@ -6,9 +6,10 @@ use Rattle.syn_disk.specs.Arms.{is_stopped}
 use Rattle.syn_headline.specs.Machine.{Arms, Down, unarmed}
 use Rattle.syn_recovery.specs.Calls.{armed_at}
 use Rattle.syn_session.specs.Coordinators.{Stands, device_of}
+use Rattle.syn_session.specs.Tries.{Tries}
 use Rattle.syn_world.specs.Coordinators.{IsCoordinator, StopsMachine, stopped, with_device_arms}
 use Rattle.syn_world.specs.Coordinators as step
-use Rattle.syn_world.proofs.CoordinatorLemmas.{archive_still, is_not_down, same_arms}
+use Rattle.syn_world.proofs.CoordinatorLemmas.{archive_still, is_not_down, same_arms, tries_stopped}
 use Rattle.syn_world.proofs.coordinator.CoordinatorHost.stop.Goals as goal
 
 not_zero : (n : ℕ) → n ≢ 0 → (n == 0) ≡ false
@@ -30,8 +31,10 @@ returns-then-calls-eq0 g c pair machine is =
         goes = ap is_stopped c.after_stop.ensures.arms;
         leaves = λ bytes may. archive_still pair machine.journal Down unarmed 0 bytes
             (stands.journal.leaves bytes (subst (λ d. g.D.Disk.may_leave d bytes)
-            (c.into_disk-disk.ensures ∙ ap disk_of c.into_archive.ensures)
+            (c.into_disk-disk.ensures ∙ ap disk_of c.into_parts-archive.ensures.archive)
             (c.after_stop.ensures.left bytes may)));
+        tries = subst (λ t. Tries pair t (stopped machine).journal) (sym c.into_parts-archive.ensures.tried)
+            (tries_stopped pair c.in-Up.coordinator.tried machine.journal stands.tries);
       };
     }
 
