@@ -83,7 +83,7 @@ module _ {D : Type 0} (disk : Ghosts D) (pair : ℕ) (device : D) (tried : Optio
         let stood = each pair found.new.value fits (record { value = here.value; means = here.journal.means; stands = found.means.stands }) in
         let stands = stood.1 in
         let of_pair : (bytes : Bytes) → disk.may_leave (disk_of archive) bytes → DiskKeeps pair found.new.value (left_shown archive) (generation_shown archive) bytes =
-            λ bytes left. subst (λ p. DiskKeeps p found.new.value (left_shown archive) (generation_shown archive) bytes) (sym stood.0) (on_disk found.new.value stands bytes left) in
+        λ bytes left. subst (λ p. DiskKeeps p found.new.value (left_shown archive) (generation_shown archive) bytes) (sym stood.0) (on_disk found.new.value stands bytes left) in
         let read = subst (DiskKeeps pair found.new.value (left_shown archive) (generation_shown archive)) untouched.same (of_pair (disk.seen (disk_of archive)) (stays (disk_of archive))) in
         let value = one_value (disk.seen device) read.value here.value _ _ read.journal here.journal in
         let room : left_shown archive ≡ found.new.room = sym read.left_is ∙ (ap bytes_left value ∙ sym found.means.room) in
@@ -91,14 +91,18 @@ module _ {D : Type 0} (disk : Ghosts D) (pair : ℕ) (device : D) (tried : Optio
         let runs : Runs archive found.new = record { up = found.opened.up; stands = stands; room = room; generation = generation; idle = found.opened.idle; settled = found.opened.settled } in (
           found.new,
           found.added,
-          (found.opens, record {
-            pair_is = sym stood.0;
-            remembers = stands.remembers;
-            armed = sym found.armed;
-            goes = goes;
-            state = inl runs;
-            leaves = λ bytes left. may_be pair found.new (left_shown archive) (generation_shown archive) bytes (of_pair bytes left) room generation;
-          }, runs),
+          (
+            found.opens,
+            record {
+              pair_is = sym stood.0;
+              remembers = stands.remembers;
+              armed = sym found.armed;
+              goes = goes;
+              state = inl runs;
+              leaves = λ bytes left. may_be pair found.new (left_shown archive) (generation_shown archive) bytes (of_pair bytes left) room generation;
+            },
+            runs,
+          ),
         )
 
     pub open_ok : (coordinator : Coordinator D disk) (found : Option Kept) → found ≡ found_in tried archive →
