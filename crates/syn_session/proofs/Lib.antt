@@ -3,6 +3,8 @@ pub mod MachineLemmas
 pub mod StayLemmas
 pub mod TriedLemmas
 pub mod ArmLemmas
+pub mod OpeningLemmas
+pub mod DownLemmas
 pub mod CheckpointLemmas
 pub mod ReopenLemmas
 pub mod RefusedLemmas

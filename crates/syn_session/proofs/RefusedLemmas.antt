@@ -11,15 +11,16 @@ use Rattle.syn_archive.specs.declared.error.ArchiveError.TheVariants as error
 use Rattle.syn_disk.specs.Arms.{is_stopped}
 use Rattle.syn_disk.specs.declared.disk.Disk.{Ghosts}
 use Rattle.syn_headline.specs.Coordinator.{CoordinatorMachine, Running, archive_layout, running_after, with_archive}
-use Rattle.syn_headline.specs.Machine.{Up, Halted, Down, Status, Compacts, compacted, not_compacted, opened, recovered}
+use Rattle.syn_headline.specs.Machine.{Up, Halted, Down, Status, Compacts, Opens, compacted, not_compacted, opened, recovered}
 use Rattle.syn_headline.specs.World.{is_halted}
 use Rattle.syn_model.specs.Archive as model
 use Rattle.syn_model.specs.Limits.{greatest}
 use Rattle.syn_model.specs.Refusal.{Refusal, first_cause}
 use Rattle.syn_model.specs.Refusal as why
-use Rattle.syn_model.specs.Archive.{Kept}
+use Rattle.syn_model.specs.Archive.{CanKeep, Kept}
 use Rattle.syn_session.specs.Coordinators.{Checkpoints, checkpoints, Reopens, reopens, ReopensNot, reopens_not, Does, Stands, checkpoint_causes, checkpoint_refusals, device_of, ended_in, in_report, report_shown, runs, goes_on, goes_down}
-use Rattle.syn_session.specs.Tries.{Tries}
+use Rattle.syn_session.specs.Tries.{Tries, found_in, listed}
+use Rattle.syn_session.proofs.OpeningLemmas.{found_is}
 use Rattle.syn_session.specs.declared.tried.Tried.{Tried}
 use Rattle.syn_session.proofs.TriedLemmas.{tries_none, tries_still, untried_up}
 use Rattle.syn_session.specs.Machines.{Journal, Runs, Fails, IsMachine, Reopened, opened_again, cut_off, NotReopened, stayed, went_down}
@@ -137,6 +138,14 @@ opened_quiet pair machine journal kept (opened_again calls new now some (opened 
 opened_quiet pair machine journal kept (opened_again calls new now some (recovered arms one meets writing can)) up = refl
 opened_quiet pair machine journal kept (cut_off calls arms failures meets) up = absurd (up_not_down (sym up))
 
+opens_up : (pair : ℕ) (machine journal : Journal) (kept : List Kept) (calls : ℕ) → Opens (archive_layout pair) CanKeep machine calls journal kept → journal.status ≡ Up
+opens_up pair machine journal kept calls (opened room generation arms meets left) = refl
+opens_up pair machine journal kept calls (recovered arms one meets writing can) = refl
+
+-- a machine that is up runs
+runs_up : {D : Type 0} {disk : Ghosts D} (archive : Archive D disk) (pair : ℕ) (journal : Journal) → IsMachine archive pair journal → journal.status ≡ Up → Runs archive journal
+runs_up archive pair journal is up = elim is.state as (λ _. Runs archive journal) [ inl runs ↦ runs | inr fails ↦ absurd (halted_not_up (sym fails.halted ∙ up)) ]
+
 cut_tries : (pair : ℕ) (tried : Option Tried) (machine journal : Journal) (kept : List Kept) → Reopened pair machine journal kept → journal.status ≡ Down → Tries pair tried machine → Tries pair tried journal
 cut_tries pair tried machine journal kept (opened_again calls new now some (opened room generation arms meets left)) down tries = absurd (up_not_down down)
 cut_tries pair tried machine journal kept (opened_again calls new now some (recovered arms one meets writing can)) down tries = absurd (up_not_down down)
@@ -200,10 +209,21 @@ module _ {D : Type 0} {disk : Ghosts D} (old new : Coordinator D disk) (pair : �
   tries_unopened : (met left : Status) → (machine.journal.status ≢ Up → left ≢ Up) → (journal : Journal) → NotReopened machine.journal met left journal → new.tried ≡ old.tried → Tries pair new.tried journal
   tries_unopened met left stops journal not_opened same_tried = subst (λ t. Tries pair t journal) (sym same_tried) (unopened_tries pair old.tried machine.journal journal met left stops not_opened stands.tries)
 
-  pub reopen_does : (is_stopped (disk.arms (device_of new)) ≡ false → new.tried ≡ None) → (is_stopped (disk.arms (device_of new)) ≡ true → new.tried ≡ old.tried) → Moves new.archive pair (λ journal. (kept : List Kept) × Reopened pair machine.journal journal kept) Up → (kept : List Kept) × Does old new pair (Reopens pair machine) kept []
-  reopen_does forgets stays (moves_on journal again is_status is) =
-      (again.0, goes_on _ _ (reopens journal again.0 again.1) (stands_with Up up_not_down journal is_status is (λ some. open_keeps pair _ _ _ (stands.quiet some) again.1) (λ some. forgets is.goes) (tries_again again.0 journal again.1 is_status (forgets is.goes))) refl refl none_ended)
-  reopen_does forgets stays (moves_down journal again stopped down leaves) = (again.0, goes_down _ _ (reopens journal again.0 again.1) stopped down leaves refl (tries_cut again.0 journal again.1 down (stays stopped)))
+  -- what it gave is what the archive shows
+  gives : (found : Option Kept) (kept : List Kept) (journal : Journal) → Reopened pair machine.journal journal kept → journal.status ≡ Up → IsMachine new.archive pair journal → found ≡ found_in old.tried new.archive → kept ≡ listed found
+  gives found kept journal (opened_again calls now some least opens) up is e =
+      let runs = runs_up new.archive pair journal is up in
+      found_is new.archive pair machine.journal old.tried calls journal kept stands.tries opens runs.room runs.generation ∙ ap listed (sym e)
+  gives found kept journal (cut_off calls arms failures meets) up is e = absurd (up_not_down (sym up))
+
+  gives_none : (found : Option Kept) (kept : List Kept) (journal : Journal) → Reopened pair machine.journal journal kept → journal.status ≡ Down → found ≡ None → kept ≡ listed found
+  gives_none found kept journal (opened_again calls now some least opens) down none = absurd (up_not_down (sym (opens_up pair machine.journal journal kept calls opens) ∙ down))
+  gives_none found kept journal (cut_off calls arms failures meets) down none = ap listed (sym none)
+
+  pub reopen_does : (found : Option Kept) → (is_stopped (disk.arms (device_of new)) ≡ false → (new.tried ≡ None) × (found ≡ found_in old.tried new.archive)) → (is_stopped (disk.arms (device_of new)) ≡ true → (new.tried ≡ old.tried) × (found ≡ None)) → Moves new.archive pair (λ journal. (kept : List Kept) × Reopened pair machine.journal journal kept) Up → Does old new pair (Reopens pair machine) (listed found) []
+  reopen_does found forgets stays (moves_on journal again is_status is) =
+      goes_on _ _ (reopens journal again.0 again.1) (stands_with Up up_not_down journal is_status is (λ some. open_keeps pair _ _ _ (stands.quiet some) again.1) (λ some. (forgets is.goes).0) (tries_again again.0 journal again.1 is_status (forgets is.goes).0)) (gives found again.0 journal again.1 is_status is (forgets is.goes).1) refl none_ended
+  reopen_does found forgets stays (moves_down journal again stopped down leaves) = goes_down _ _ (reopens journal again.0 again.1) stopped down leaves (gives_none found again.0 journal again.1 down (stays stopped).1) (tries_cut again.0 journal again.1 down (stays stopped).0)
 
   pub not_reopened : new.tried ≡ old.tried → (met left : Status) → left ≢ Down → (machine.journal.status ≢ Up → left ≢ Up) → Moves new.archive pair (NotReopened machine.journal met left) left → Does old new pair (ReopensNot machine met left) [] []
   not_reopened same_tried met left up stops (moves_on journal not_opened is_status is) =

@@ -25,7 +25,7 @@ use Rattle.syn_session.proofs.CheckpointLemmas.{one_value}
 use Rattle.syn_session.proofs.MachineLemmas.{may_be}
 
 -- one disk has one generation
-one_generation : (bytes : Bytes) (a b : Value) (m n : ℕ) → HasJournal bytes a m → HasJournal bytes b n → m ≡ n
+pub one_generation : (bytes : Bytes) (a b : Value) (m n : ℕ) → HasJournal bytes a m → HasJournal bytes b n → m ≡ n
 one_generation bytes a b m n first second =
     sym first.numbered ∙ (ap (λ h. generation_at bytes h) (ap half_in (sym first.is_current ∙ second.is_current)) ∙ second.numbered)
   where
@@ -48,7 +48,7 @@ may_be_still pair machine status arms failed bytes may = record {
     still (compacted m) = compacted (record { compacting = m.compacting; stands = m.stands; alone = m.alone; numbered = m.numbered })
 
 -- it means some archive
-some_archive : (pair : ℕ) (machine : Journal) (value : Value) (generation : ℕ) → MayMean (of_archive pair) machine value generation → (archive : model.Archive) × ArchiveStandsFor pair value.image value.payloads archive
+pub some_archive : (pair : ℕ) (machine : Journal) (value : Value) (generation : ℕ) → MayMean (of_archive pair) machine value generation → (archive : model.Archive) × ArchiveStandsFor pair value.image value.payloads archive
 some_archive pair machine value generation (as_kept m) = (machine.value, m.stands)
 some_archive pair machine value generation (with_record m) = (_, m.stands)
 some_archive pair machine value generation (compacted m) = (machine.value, m.stands)

@@ -5,4 +5,5 @@ pub mod Scanning
 pub mod Machines
 pub mod Tries
 pub mod Coordinators
+pub mod Openings
 pub mod inner

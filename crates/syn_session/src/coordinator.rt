@@ -35,6 +35,7 @@ mod answers;
 mod carried;
 mod carrying;
 mod journal;
+mod opening;
 
 /// How many bytes the record of a session takes behind its length.
 const SESSION_RECORD: usize = 9;
@@ -92,6 +93,14 @@ impl<D: Disk> Coordinator<D> {
         ensures { result ≡ archive_of self }
     {
         self.archive
+    }
+
+    /// The archive, and what was tried and not kept. A session that runs is given up.
+    pub fn into_parts(self) -> (Archive<D>, Option<Tried>)
+        ensures archive { result.0 ≡ archive_of self }
+        ensures tried { result.1 ≡ tried_shown self }
+    {
+        (self.archive, self.tried)
     }
 
     /// Whether a session runs.

@@ -1,6 +1,6 @@
 //! A record that could not be kept.
-ghost use Rattle.std.specs.Prelude.{◌≡◌};
-ghost use Rattle.syn_session.specs.Tries.{IsTriedBy, record_of};
+ghost use Rattle.std.specs.Prelude.{◌≡◌, option_map};
+ghost use Rattle.syn_session.specs.Tries.{IsTriedBy, found_in, is_in, record_of};
 ghost use Rattle.syn_wire.specs.Marks.{kept_of};
 
 use syn_archive::Archive;
@@ -28,10 +28,33 @@ impl Tried {
         }
     }
 
+    /// Whether the archive, which was opened again, has the record.
+    fn is_in<D: Disk>(&self, archive: &Archive<D>) -> bool
+        ensures { result ≡ is_in self.now archive.now }
+    {
+        archive.generation() == self.generation && archive.room() < self.room
+    }
+
     /// The record.
     pub fn kept(&self) -> &Kept
         ensures { kept_of result.now ≡ record_of self.now }
     {
         &self.kept
+    }
+}
+
+/// The record that was tried, where the archive, which was opened again, has it.
+pub(crate) fn found<D: Disk>(tried: Option<Tried>, archive: &Archive<D>) -> Option<Kept>
+    ensures { option_map kept_of result ≡ found_in tried archive.now }
+{
+    match tried {
+        Some(tried) => {
+            if tried.is_in(archive) {
+                Some(tried.kept)
+            } else {
+                None
+            }
+        }
+        None => None,
     }
 }

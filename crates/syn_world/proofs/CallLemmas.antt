@@ -94,6 +94,7 @@ module _ {D : Type 0} {disk : Ghosts D} (old new : Session D disk) (pair : ℕ)
         unarmed_is = cut.unarmed_is;
         idle = cut.idle;
         leaves = leaves;
+        tries = tried;
       }) in
       record {
         next = next;

@@ -1,5 +1,5 @@
 -- What is armed at a coordinator, and a stop of it, are steps of its machine and of the world.
-use Rattle.std.proofs.Common.{◌≡◌, ◌≢◌, ◌∙◌, ℕ, zero, suc, Option, inl, inr, refl, sym, ap}
+use Rattle.std.proofs.Common.{◌≡◌, ◌≢◌, ◌∙◌, ℕ, zero, suc, None, Option, Some, inl, inr, refl, sym, ap, subst}
 use Rattle.syn_disk.specs.declared.disk.Disk.{Ghosts}
 use Rattle.syn_headline.specs.Coordinator.{CoordinatorMachine, running_after}
 use Rattle.syn_headline.specs.Machine.{Status, Up, Halted, Down, Arms, after_device}
@@ -11,6 +11,8 @@ use Rattle.syn_recovery.specs.Meaning.{MayBeOf, MayMean, as_kept, compacted, wit
 use Rattle.syn_journal.specs.Layout.{Value}
 use Rattle.syn_session.specs.Coordinators.{Stands, with_arms}
 use Rattle.syn_session.specs.Machines.{Journal}
+use Rattle.syn_session.specs.Tries.{Tries}
+use Rattle.syn_session.specs.declared.tried.Tried.{Tried}
 use Rattle.syn_session.specs.declared.coordinator.Coordinator.{Coordinator as Session}
 use Rattle.syn_world.specs.Coordinators.{Fails, IsCoordinator, StopsMachine, with_device_arms}
 use Rattle.syn_world.specs.Coordinators as step
@@ -52,6 +54,39 @@ archive_still pair machine status arms failed bytes may = record {
       alone = m.alone;
       numbered = m.numbered;
     })
+
+down_not_up : Down ≢ Up
+down_not_up e = up_not_down (sym e)
+
+-- what was tried is remembered as its machine stops
+pub tries_stopped : (pair : ℕ) (tried : Option Tried) (machine : Journal)
+    → Tries pair tried machine → Tries pair tried (after_device machine Down unarmed 0)
+tries_stopped pair None machine tries = tries
+tries_stopped pair (Some tried) machine tries = record {
+  stopped = down_not_up;
+  left = tries.left;
+  room_is = tries.room_is;
+  as_left = tries.as_left;
+  writing = λ kept is. let was = tries.writing kept is in record {
+    kept_is = was.kept_is;
+    left_is = was.left_is;
+    generation_is = was.generation_is;
+    fits = was.fits;
+  };
+}
+
+-- a machine that runs no session runs none behind an opening
+pub with_journal_alone : (machine : CoordinatorMachine) (journal : Journal)
+    → machine.running ≡ None
+    → record { journal = journal; running = None } ≡ with_archive machine journal
+with_journal_alone machine journal idle =
+    ap (λ r. record { journal = journal; running = r })
+    (sym (ap (λ r. running_after journal.status r) idle ∙ none_runs journal.status))
+  where
+    none_runs : (status : Status) → running_after status None ≡ None
+    none_runs Up = refl
+    none_runs Halted = refl
+    none_runs Down = refl
 
 module _ {D : Type 0} {disk : Ghosts D} (pair : ℕ) (coordinator : Session D disk)
     (machine : CoordinatorMachine) (stands : Stands coordinator pair machine) where

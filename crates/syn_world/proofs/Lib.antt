@@ -15,3 +15,4 @@ mod SessionLemmas
 mod ListLemmas
 mod ReplyLemmas
 mod ListingLemmas
+mod CoordinatorOpenLemmas

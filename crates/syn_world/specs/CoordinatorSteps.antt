@@ -9,7 +9,8 @@ use Rattle.syn_headline.specs.Machine.{Compacts, Down, Status, unarmed}
 use Rattle.syn_model.specs.Refusal.{Refusal, first_cause}
 use Rattle.syn_session.specs.Coordinators.{Stands, all_causes, checkpoint_causes}
 use Rattle.syn_session.specs.Coordinators.{checkpoint_refusals, device_of, in_report}
-use Rattle.syn_session.specs.Coordinators.{refusals_of}
+use Rattle.syn_session.specs.Coordinators.{refusals_of, tried_shown}
+use Rattle.syn_session.specs.Tries.{Tries}
 use Rattle.syn_session.specs.Machines.{Journal, LeavesMachine}
 use Rattle.syn_session.specs.Reports.{report_model}
 use Rattle.syn_session.specs.Sendings.{messages_of}
@@ -73,6 +74,7 @@ pub record StopsAs {D : Type 0} {disk : Ghosts D} (coordinator : Coordinator D d
   pub unarmed_is : machine.journal.arms ≡ unarmed
   pub idle : machine.running ≡ None
   pub leaves : LeavesMachine disk (device_of coordinator) pair machine.journal
+  pub tries : Tries pair (tried_shown coordinator) machine.journal
 
 -- The outcome of a call of the coordinator, as long as it goes on: this was kept, sent and reported,
 -- and a user was refused so, by the status that the call left

@@ -3,4 +3,5 @@ pub mod SideSteps
 pub mod Sides
 pub mod Coordinators
 pub mod CoordinatorSteps
+pub mod CoordinatorOpenings
 pub mod Worlds

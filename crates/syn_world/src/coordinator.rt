@@ -18,19 +18,29 @@ use std::alloc::Global;
 use syn_archive::ArchiveError;
 use syn_disk::{Arm, Disk};
 use syn_refusal::Refusal;
-use syn_session::Coordinator;
+use syn_session::{Coordinator, Tried};
 
 mod hear;
+mod open;
 mod settle;
 mod start;
 mod tick;
+
+pub use open::CoordinatorOpening;
 
 /// The coordinator of the world.
 #[derive(Drop)]
 pub enum CoordinatorHost<D: Disk> {
     Up(Coordinator<D>),
-    /// The machine is down: this is its disk.
-    Down(D),
+    Down(DownCoordinator<D>),
+}
+
+/// A coordinator whose machine is down.
+#[derive(Drop)]
+pub struct DownCoordinator<D> {
+    pub disk: D,
+    /// The record that was being written as a device call failed or the machine stopped.
+    pub tried: Option<Tried>,
 }
 
 impl<D: SimulatedDisk> CoordinatorHost<D> {
@@ -44,7 +54,7 @@ impl<D: SimulatedDisk> CoordinatorHost<D> {
     {
         match self {
             CoordinatorHost::Up(coordinator) => coordinator.into_archive().into_disk(),
-            CoordinatorHost::Down(disk) => disk,
+            CoordinatorHost::Down(down) => down.disk,
         }
     }
 
@@ -57,7 +67,7 @@ impl<D: SimulatedDisk> CoordinatorHost<D> {
             CoordinatorHost::Up(coordinator) => {
                 CoordinatorHost::Up(armed_with(coordinator, Arm::Fail(call)))
             }
-            CoordinatorHost::Down(disk) => CoordinatorHost::Down(disk),
+            CoordinatorHost::Down(down) => CoordinatorHost::Down(down),
         }
     }
 
@@ -75,7 +85,7 @@ impl<D: SimulatedDisk> CoordinatorHost<D> {
                     CoordinatorHost::Up(armed_with(coordinator, Arm::Stop(calls)))
                 }
             }
-            CoordinatorHost::Down(disk) => CoordinatorHost::Down(disk),
+            CoordinatorHost::Down(down) => CoordinatorHost::Down(down),
         }
     }
 }
@@ -112,7 +122,7 @@ impl<D: SimulatedDisk> CoordinatorHost<D> {
     {
         match self {
             CoordinatorHost::Up(coordinator) => compact(alloc, coordinator),
-            CoordinatorHost::Down(disk) => CoordinatorHost::Down(disk).refused(alloc, None),
+            CoordinatorHost::Down(rest) => CoordinatorHost::Down(rest).refused(alloc, None),
         }
     }
 

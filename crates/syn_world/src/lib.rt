@@ -14,7 +14,7 @@ mod replies;
 mod side;
 mod world;
 
-pub use coordinator::{CoordinatorCall, CoordinatorHost};
+pub use coordinator::{CoordinatorCall, CoordinatorHost, CoordinatorOpening, DownCoordinator};
 pub use disk::SimulatedDisk;
 pub use lists::{Ack, Lists, Message};
 pub use outcome::{CoordinatorOutcome, Outcome};

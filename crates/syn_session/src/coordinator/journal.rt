@@ -1,6 +1,6 @@
 //! The coordinator's archive as a whole: a checkpoint, another opening, and the arms of its device.
-ghost use Rattle.std.specs.Prelude.{◌≡◌, ◌≢◌, ◌<◌, ◌^◌, [], ℕ, List, true, false, Err, IfErr, OnOk};
-ghost use Rattle.std.specs.Prelude.{MatchResult, None, Some};
+ghost use Rattle.std.specs.Prelude.{◌≡◌, ◌≢◌, ◌<◌, ◌^◌, [], ℕ, true, false, Err, IfErr, OnOk};
+ghost use Rattle.std.specs.Prelude.{IfOk, MatchResult, None, Some, option_map};
 ghost use Rattle.syn_disk.specs.Armed.{armed};
 ghost use Rattle.syn_disk.specs.Arms.{is_stopped};
 ghost use Rattle.syn_recovery.specs.Calls.{armed_at};
@@ -9,15 +9,16 @@ ghost use Rattle.syn_archive.specs.Refusals.{CountsFailures, refusal_of};
 ghost use Rattle.syn_disk.specs.Disk.{SameOutcomes};
 ghost use Rattle.syn_headline.specs.Coordinator.{CoordinatorMachine};
 ghost use Rattle.syn_headline.specs.Machine.{Halted, Up};
-ghost use Rattle.syn_model.specs.Archive.{Kept};
 ghost use Rattle.syn_model.specs.Refusal.{first_cause};
 
 use super::Coordinator;
+use crate::tried::found;
 use std::alloc::Global;
 use syn_archive::ArchiveError;
 use syn_disk::{Arm, Disk, Limit};
 use syn_model::archive_laws;
 use syn_recovery::{device_laws, opening_laws};
+use syn_wire::Kept;
 
 impl<D: Disk> Coordinator<D> {
     ghost use Rattle.syn_session.specs.Coordinators.{Checkpoints, Does};
@@ -70,21 +71,23 @@ impl<D: Disk> Coordinator<D> {
 
 impl<D: Limit> Coordinator<D> {
     ghost use Rattle.syn_session.specs.Coordinators.{Does, KeepsReadings, Reopens, ReopensNot};
-    ghost use Rattle.syn_session.specs.Coordinators.{Stands, device_of, report_shown, runs};
-    ghost use Rattle.syn_session.specs.Coordinators.{tried_shown, written};
+    ghost use Rattle.syn_session.specs.Coordinators.{Stands, archive_of, device_of, report_shown};
+    ghost use Rattle.syn_session.specs.Coordinators.{runs, tried_shown, written};
+    ghost use Rattle.syn_session.specs.Tries.{found_in, listed};
+    ghost use Rattle.syn_wire.specs.Marks.{kept_of};
 
     /// Opens the archive's own disk again. A session that runs goes on; an archive that was halted
-    /// runs again.
+    /// runs again. It answers the record that was being written as the device failed, if the disk
+    /// has it.
     ///
     /// Refused 9 where a device call fails, and 11 where memory is refused. After 9 the archive is
     /// halted; after 11 it is as it was. Nothing is written. What was tried is forgotten once the
     /// archive is open, unless the machine stopped in the call.
-    pub fn reopen(&mut self, alloc: Global) -> Result<(), ArchiveError>
-        // It is another opening of the machine. What it keeps there is a record that was being
-        // written when its device failed.
+    pub fn reopen(&mut self, alloc: Global) -> Result<Option<Kept>, ArchiveError>
+        // It is another opening of the machine, and answers the record that it found.
         ensures ok { (pair : ℕ) (machine : CoordinatorMachine) → Stands self.old pair machine
-            → OnOk result ((kept : List Kept)
-            × Does self.old self.new pair (Reopens pair machine) kept []) }
+            → IfOk result (λ found. Does self.old self.new pair (Reopens pair machine)
+            (listed (option_map kept_of found)) []) }
         ensures device { (pair : ℕ) (machine : CoordinatorMachine) → Stands self.old pair machine
             → result ≡ Err ArchiveError.Device
             → Does self.old self.new pair (ReopensNot machine Halted Halted) [] [] }
@@ -108,8 +111,7 @@ impl<D: Limit> Coordinator<D> {
         match self.archive.reopen(alloc) {
             Ok(()) => {
                 self.archive.keeps_on_disk();
-                self.forget();
-                Ok(())
+                Ok(self.recovered())
             }
             Err(error) => {
                 self.archive.keeps_on_disk();
@@ -118,20 +120,24 @@ impl<D: Limit> Coordinator<D> {
         }
     }
 
-    /// Forgets what was tried, unless the machine is stopped.
-    fn forget(&mut self)
+    /// What was tried, where the archive has it now; and it is forgotten. Where the machine is
+    /// stopped it is still remembered, and nothing is answered.
+    fn recovered(&mut self) -> Option<Kept>
         ensures goes { is_stopped (D.Disk.arms (device_of self.new)) ≡ false
-            → tried_shown self.new ≡ None }
+            → (tried_shown self.new ≡ None) × (option_map kept_of result
+            ≡ found_in (tried_shown self.old) (archive_of self.new)) }
         ensures stopped { is_stopped (D.Disk.arms (device_of self.new)) ≡ true
-            → tried_shown self.new ≡ tried_shown self.old }
+            → (tried_shown self.new ≡ tried_shown self.old)
+            × (option_map kept_of result ≡ None) }
         ensures archive { self.new.archive ≡ self.old.archive }
         ensures running { self.new.running ≡ self.old.running }
         ensures report { self.new.report ≡ self.old.report }
         ensures written { self.new.written ≡ self.old.written }
     {
-        if !self.archive.is_cut() {
-            self.tried = None;
+        if self.archive.is_cut() {
+            return None;
         }
+        found(self.tried.take(), &self.archive)
     }
 
     /// Arms the archive's disk. It takes the place of an arm of its kind that is still to come.

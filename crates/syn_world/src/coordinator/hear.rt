@@ -37,7 +37,7 @@ impl<D: SimulatedDisk> CoordinatorHost<D> {
             CoordinatorHost::Up(coordinator) => {
                 take(alloc, coordinator, from, session, number, reply)
             }
-            CoordinatorHost::Down(disk) => CoordinatorHost::Down(disk).refused(alloc, None),
+            CoordinatorHost::Down(rest) => CoordinatorHost::Down(rest).refused(alloc, None),
         }
     }
 }

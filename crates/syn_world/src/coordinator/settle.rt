@@ -11,7 +11,7 @@ ghost use Rattle.syn_world.specs.Coordinators.{IsCoordinator};
 ghost use Rattle.syn_world.specs.Outcomes.{TellsKeptOf, causes_in};
 ghost use Rattle.syn_world.specs.SideSteps.{refused_by};
 
-use super::{CoordinatorCall, CoordinatorHost};
+use super::{CoordinatorCall, CoordinatorHost, DownCoordinator};
 use crate::disk::SimulatedDisk;
 use crate::outcome::CoordinatorOutcome;
 use std::alloc::Global;
@@ -24,8 +24,12 @@ pub(crate) fn down<D: SimulatedDisk>(coordinator: Coordinator<D>) -> Coordinator
     ensures { (pair : ℕ) (machine : CoordinatorMachine) → StopsAs coordinator pair machine
         → IsCoordinator pair result machine }
 {
-    let disk = coordinator.into_archive().into_disk();
-    CoordinatorHost::Down(disk.after_stop())
+    let (archive, tried) = coordinator.into_parts();
+    let disk = archive.into_disk();
+    CoordinatorHost::Down(DownCoordinator {
+        disk: disk.after_stop(),
+        tried,
+    })
 }
 
 /// The coordinator behind a call that was made, of which this is to be told. Where its machine

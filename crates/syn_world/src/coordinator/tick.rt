@@ -23,7 +23,7 @@ impl<D: SimulatedDisk> CoordinatorHost<D> {
     {
         match self {
             CoordinatorHost::Up(coordinator) => resend(alloc, coordinator),
-            CoordinatorHost::Down(disk) => CoordinatorHost::Down(disk).refused(alloc, None),
+            CoordinatorHost::Down(rest) => CoordinatorHost::Down(rest).refused(alloc, None),
         }
     }
 }

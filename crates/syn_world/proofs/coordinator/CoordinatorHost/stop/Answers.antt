@@ -5,9 +5,10 @@ use Rattle.syn_disk.specs.Arms.{is_stopped}
 use Rattle.syn_headline.specs.Machine.{Arms, Down, unarmed}
 use Rattle.syn_recovery.specs.Calls.{armed_at}
 use Rattle.syn_session.specs.Coordinators.{Stands, device_of}
+use Rattle.syn_session.specs.Tries.{Tries}
 use Rattle.syn_world.specs.Coordinators.{IsCoordinator, StopsMachine, stopped, with_device_arms}
 use Rattle.syn_world.specs.Coordinators as step
-use Rattle.syn_world.proofs.CoordinatorLemmas.{archive_still, is_not_down, same_arms}
+use Rattle.syn_world.proofs.CoordinatorLemmas.{archive_still, is_not_down, same_arms, tries_stopped}
 use Rattle.syn_world.proofs.coordinator.CoordinatorHost.stop.Goals as goal
 
 not_zero : (n : ℕ) → n ≢ 0 → (n == 0) ≡ false
@@ -27,6 +28,7 @@ returns-then-calls-eq0 g c pair machine is =
         idle = refl;
         leaves = λ bytes may. archive_still pair machine.journal Down unarmed 0 bytes
             (stands.journal.leaves bytes may);
+        tries = tries_stopped pair c.in-Up.coordinator.tried machine.journal stands.tries;
       });
     }
 
