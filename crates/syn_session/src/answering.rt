@@ -33,11 +33,7 @@ impl Course {
 
     /// Takes the answer for the item that is carried. Refused 23 where it does not belong to what
     /// was asked, and 11 where memory is refused.
-    pub(crate) fn take_answer(
-        &mut self,
-        alloc: Global,
-        reply: Reply,
-    ) -> Result<Carrying, Refusal>
+    pub(crate) fn take_answer(&mut self, alloc: Global, reply: Reply) -> Result<Carrying, Refusal>
         ensures step { (archive : Keeping) (left right : Found) (all : List Exchange)
             (before : Reached) (to : Which) (number : ℕ) (request : Asked)
             → Carries archive self.old left right all before

@@ -1,8 +1,8 @@
 -- What is armed at a coordinator, and a stop of it, are steps of its machine and of the world.
 use Rattle.std.proofs.Common.{◌≡◌, ◌≢◌, ◌∙◌, ℕ, zero, suc, None, Option, Some, inl, inr, refl, sym, ap, subst}
 use Rattle.syn_disk.specs.declared.disk.Disk.{Ghosts}
-use Rattle.syn_headline.specs.Coordinator.{CoordinatorMachine, running_after}
-use Rattle.syn_headline.specs.Machine.{Status, Up, Halted, Down, Arms, after_device}
+use Rattle.syn_headline.specs.Coordinator.{CoordinatorMachine, running_after, with_archive}
+use Rattle.syn_headline.specs.Machine.{Status, Up, Halted, Down, Arms, after_device, unarmed}
 use Rattle.syn_headline.specs.Session.{Running}
 use Rattle.syn_headline.specs.World.{World as ModelWorld, Steps, Coordinator, Fail, Stop}
 use Rattle.syn_model.specs.Path.{Bytes}

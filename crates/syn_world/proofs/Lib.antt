@@ -15,4 +15,5 @@ mod SessionLemmas
 mod ListLemmas
 mod ReplyLemmas
 mod ListingLemmas
+mod RunLemmas
 mod CoordinatorOpenLemmas

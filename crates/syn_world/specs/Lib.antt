@@ -5,3 +5,5 @@ pub mod Coordinators
 pub mod CoordinatorSteps
 pub mod CoordinatorOpenings
 pub mod Worlds
+pub mod Steps
+pub mod Runs

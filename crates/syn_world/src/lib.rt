@@ -12,6 +12,7 @@ mod lists;
 mod outcome;
 mod replies;
 mod side;
+mod step;
 mod world;
 
 pub use coordinator::{CoordinatorCall, CoordinatorHost, CoordinatorOpening, DownCoordinator};
@@ -19,4 +20,5 @@ pub use disk::SimulatedDisk;
 pub use lists::{Ack, Lists, Message};
 pub use outcome::{CoordinatorOutcome, Outcome};
 pub use side::{DownSide, SideAnswer, SideCall, SideHost, UpSide};
+pub use step::{Machine, Step};
 pub use world::{Disks, World};

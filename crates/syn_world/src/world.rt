@@ -16,6 +16,7 @@ use syn_disk::Disk;
 use syn_message::{Reply, Side};
 
 mod coordinators;
+mod deliver;
 mod sessions;
 mod sides;
 

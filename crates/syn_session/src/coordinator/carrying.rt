@@ -130,7 +130,12 @@ impl<D: Limit> Coordinator<D> {
 
     /// Goes past the item that the session has come to, which is refused so. The session ends 11
     /// where memory is refused.
-    pub(super) fn give_up(&self, alloc: Global, course: &mut Course, why: Refusal) -> Result<(), Ended>
+    pub(super) fn give_up(
+        &self,
+        alloc: Global,
+        course: &mut Course,
+        why: Refusal,
+    ) -> Result<(), Ended>
         ensures step { (pair : ℕ) (journal : Journal) (left right : Found) (taken : Exchange)
             (before : Reached) (planned : Planned) → IsMachine (archive_of self.now) pair journal
             → IsQuiet self.now journal → IsCourse course.old left right before

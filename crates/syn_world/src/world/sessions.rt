@@ -53,9 +53,7 @@ impl<D: SimulatedDisk> World<D> {
             return Ok(self);
         }
         let mut world = self;
-        let call = world
-            .coordinator
-            .hear(alloc, from, session, number, reply);
+        let call = world.coordinator.hear(alloc, from, session, number, reply);
         world.coordinator = call.coordinator;
         world.told(call.outcome)
     }

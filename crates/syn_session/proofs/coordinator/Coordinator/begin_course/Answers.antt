@@ -27,14 +27,13 @@ returns-in-Ok-asks g c = record {
       let same_left = c.found-left.ensures.found in
       let same_right = c.found-right.ensures.found in
       let marks = c.tree.ensures ∙ ap (λ (a : Archive). a.marks) is.remembers in
-      let walked = c.in-Ok-asks.ensures.step pair journal taken (running.taken ++ taken ∷ []) (first_reached (plan_in made left right)) is quiet (at_first self pair journal running taken session is fault heard scanned nothing made left right same_left same_right c.in-Ok.ensures.begun) in
-      (
-      subst (TakesOn c.walk-asks.new.self.archive pair journal running taken (record session { course = Some c.walk-asks.new.course }) (written c.walk-asks.new.self)) (sym c.asks_to.ensures)
-      (begins_asking self pair journal running taken session is fault heard scanned nothing made left right same_left same_right c.in-Ok.ensures.begun
-      (c.in-Ok.ensures.items ∙ ap (plan (scan_of left) (scan_of right)) marks)
-      (c.found-left.ensures.scan Left (running.taken ++ taken ∷ []) (scanned.whole Left) (scanned.found Left))
-      (c.found-right.ensures.scan Right (running.taken ++ taken ∷ []) (scanned.whole Right) (scanned.found Right))
-      c.walk-asks.new.self c.walk-asks.new.course c.in-Ok-asks.side c.in-Ok-asks.request walked),
+      let walked = c.in-Ok-asks.ensures.step pair journal taken (running.taken ++ taken ∷ []) (first_reached (plan_in made left right)) is quiet (at_first self pair journal running taken session is fault heard scanned nothing made left right same_left same_right c.in-Ok.ensures.begun) in (
+        subst (TakesOn c.walk-asks.new.self.archive pair journal running taken (record session { course = Some c.walk-asks.new.course }) (written c.walk-asks.new.self)) (sym c.asks_to.ensures)
+            (begins_asking self pair journal running taken session is fault heard scanned nothing made left right same_left same_right c.in-Ok.ensures.begun
+            (c.in-Ok.ensures.items ∙ ap (plan (scan_of left) (scan_of right)) marks)
+            (c.found-left.ensures.scan Left (running.taken ++ taken ∷ []) (scanned.whole Left) (scanned.found Left))
+            (c.found-right.ensures.scan Right (running.taken ++ taken ∷ []) (scanned.whole Right) (scanned.found Right))
+            c.walk-asks.new.self c.walk-asks.new.course c.in-Ok-asks.side c.in-Ok-asks.request walked),
         walked.3,
       );
 }

@@ -22,10 +22,9 @@ pub returns-in-Ok-Some : goal.returns-in-Ok-Some
 returns-in-Ok-Some g c = record {
   step = λ pair number journal before running is quiet session answers nothing.
       let scans = is_none before.course (ap is_some (sym answers.course) ∙ (sym c.is_some.ensures ∙ c.if-is_some.false)) in
-      let heard = c.in-Ok-Some.ensures.step journal.value before running number session answers scans in
-      (
-      hears_on _ pair journal running (exchange_of (which_of c.args.from) number (request_of c.args.request) (reply_of c.args.reply)) c.hear.new.self is _ nothing c.in-Ok-Some.asks heard.0 heard.1 (subst (ScansOn c.hear.new.self (hearing running (exchange_of (which_of c.args.from) number (request_of c.args.request) (reply_of c.args.reply)))) c.in-Ok-Some.field-0-is heard.2)
-      (not_last journal.value before c.args.session.now running (which_of c.args.from) number (request_of c.args.request) (reply_of c.args.reply) session answers scans heard.0),
+      let heard = c.in-Ok-Some.ensures.step journal.value before running number session answers scans in (
+        hears_on _ pair journal running (exchange_of (which_of c.args.from) number (request_of c.args.request) (reply_of c.args.reply)) c.hear.new.self is _ nothing c.in-Ok-Some.asks heard.0 heard.1 (subst (ScansOn c.hear.new.self (hearing running (exchange_of (which_of c.args.from) number (request_of c.args.request) (reply_of c.args.reply)))) c.in-Ok-Some.field-0-is heard.2)
+            (not_last journal.value before c.args.session.now running (which_of c.args.from) number (request_of c.args.request) (reply_of c.args.reply) session answers scans heard.0),
         quiet.0,
       );
 }

@@ -1,0 +1,35 @@
+//! The steps of a world.
+
+use syn_message::Side;
+use syn_tree::Edit;
+
+/// A machine of the world.
+#[derive(Clone, Copy, Debug)]
+pub enum Machine {
+    Side(Side),
+    Coordinator,
+}
+
+/// A step of the world. On a machine that is down it does nothing, unless it opens it.
+#[derive(Debug, Drop)]
+pub enum Step {
+    /// A user, who has this number, makes an edit at a side.
+    Edit(Side, u32, Edit),
+    /// The coordinator starts a session.
+    Start,
+    /// The message that was sent with this number is delivered, again if it was before. The first
+    /// has the number 0. One that was never sent does nothing.
+    Deliver(usize),
+    /// Some time goes by at the coordinator without an answer.
+    Tick,
+    /// The machine makes a checkpoint.
+    Checkpoint(Machine),
+    /// The device call of the machine with this number from now on fails; at 0 none does.
+    Fail(Machine, u64),
+    /// So many device calls of the machine are still made, and it stops behind the last of them.
+    Stop(Machine, u64),
+    /// The machine is started again, unless it is up.
+    Open(Machine),
+    /// The machine opens its own disk again, unless it is down.
+    Reopen(Machine),
+}
