@@ -17,3 +17,5 @@ mod ReplyLemmas
 mod ListingLemmas
 mod RunLemmas
 mod CoordinatorOpenLemmas
+mod CoordinatorReopenLemmas
+mod OpeningLemmas

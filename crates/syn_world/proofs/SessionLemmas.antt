@@ -48,17 +48,17 @@ same_lists old refusals =
     (append-nil old.reports) (append-nil old.log)
 
 -- nothing happened
-eq_same : (old : ModelWorld) → coordinator_next old old.coordinator no_call [] ≡ old
+pub eq_same : (old : ModelWorld) → coordinator_next old old.coordinator no_call [] ≡ old
 eq_same old = same_lists old (old.refusals ++ [])
     ∙ ap (λ r. record old { refusals = r }) (append-nil old.refusals)
 
 -- a user was refused
-eq_refused : (old : ModelWorld) (reason : Refusal)
+pub eq_refused : (old : ModelWorld) (reason : Refusal)
     → coordinator_next old old.coordinator no_call (reason ∷ []) ≡ refuses_with old reason
 eq_refused old reason = same_lists old (old.refusals ++ reason ∷ [])
 
 -- no user was
-eq_goes : (old : ModelWorld) (next : CoordinatorMachine) (made : Call)
+pub eq_goes : (old : ModelWorld) (next : CoordinatorMachine) (made : Call)
     → coordinator_next old next made [] ≡ coordinator_goes old next made
 eq_goes old next made =
     ap (λ r. record (coordinator_goes old next made) { refusals = r }) (append-nil old.refusals)

@@ -10,6 +10,7 @@ use Rattle.syn_refusal.specs.declared.refusal.Refusal.{Refusal}
 use Rattle.syn_session.specs.Coordinators.{in_report}
 use Rattle.syn_session.specs.Reports.{report_model}
 use Rattle.syn_session.specs.Sendings.{messages_of}
+use Rattle.syn_session.specs.Tries.{listed}
 use Rattle.syn_wire.specs.Marks.{kept_of}
 use Rattle.syn_wire.specs.declared.kept.Kept.{Kept}
 use Rattle.syn_world.specs.declared.outcome.CoordinatorOutcome.{CoordinatorOutcome}
@@ -52,6 +53,14 @@ pub record TellsKept (outcome : CoordinatorOutcome) (kept : Vec Kept) : Type 0 w
 -- it was refused so, if it was, and nothing else came of it
 pub record TellsRefused (outcome : CoordinatorOutcome) (refused : Option Refusal) : Type 0 where
   pub kept : outcome.kept.items ≡ []
+  pub sent : outcome.sent.items ≡ []
+  pub ended : outcome.ended ≡ None
+  pub refused_is : outcome.refused ≡ refused
+
+-- an opening found this and was refused so, if it was, and nothing else came of it
+pub record TellsFound (outcome : CoordinatorOutcome) (found : Option Kept)
+    (refused : Option Refusal) : Type 0 where
+  pub kept : map kept_of outcome.kept.items ≡ listed (option_map kept_of found)
   pub sent : outcome.sent.items ≡ []
   pub ended : outcome.ended ≡ None
   pub refused_is : outcome.refused ≡ refused

@@ -22,6 +22,7 @@ use syn_session::{Coordinator, Tried};
 
 mod hear;
 mod open;
+mod reopen;
 mod settle;
 mod start;
 mod tick;

@@ -35,7 +35,7 @@ pub struct CoordinatorOutcome {
 }
 
 impl CoordinatorOutcome {
-    ghost use Rattle.syn_world.specs.Outcomes.{TellsKept, TellsRefused};
+    ghost use Rattle.syn_world.specs.Outcomes.{TellsFound, TellsKept, TellsRefused};
 
     /// Nothing was kept, sent or reported. It takes no memory.
     pub(crate) fn refused_with(alloc: Global, refused: Option<Refusal>) -> CoordinatorOutcome
@@ -47,6 +47,29 @@ impl CoordinatorOutcome {
             ended: None,
             refused,
         }
+    }
+
+    /// What came of an opening that found this record, or none, and was refused so, if it was. None
+    /// where memory for it is refused.
+    pub(crate) fn opened_with(
+        alloc: Global,
+        found: Option<Kept>,
+        refused: Option<Refusal>,
+    ) -> Option<CoordinatorOutcome>
+        ensures { IfSome result (λ outcome. TellsFound outcome found refused) }
+    {
+        let mut kept = Vec::new(alloc);
+        if let Some(record) = found {
+            if kept.push(record).is_err() {
+                return None;
+            }
+        }
+        Some(CoordinatorOutcome {
+            kept,
+            sent: Vec::new(alloc),
+            ended: None,
+            refused,
+        })
     }
 
     /// What is heard where the machine stopped in that step: what was kept before. It takes no

@@ -17,6 +17,7 @@ use syn_message::{Reply, Side};
 
 mod coordinators;
 mod deliver;
+mod openings;
 mod sessions;
 mod sides;
 
