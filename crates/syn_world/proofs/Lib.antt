@@ -15,3 +15,5 @@ mod SessionLemmas
 mod ListLemmas
 mod ReplyLemmas
 mod ListingLemmas
+mod OpeningLemmas
+mod WorldOpenLemmas

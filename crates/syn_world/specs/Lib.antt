@@ -4,3 +4,4 @@ pub mod Sides
 pub mod Coordinators
 pub mod CoordinatorSteps
 pub mod Worlds
+pub mod Openings
