@@ -1,5 +1,5 @@
 -- What an opening of a disk gives that stands for something, with nothing armed at it.
-use Rattle.std.proofs.Common.{◌≡◌, ◌⊎◌, ◌∙◌, ◌<◌, ℕ, false, Option, Some, None, inl, inr, refl}
+use Rattle.std.proofs.Common.{◌≡◌, ◌∙◌, ◌<◌, ℕ, false, Option, Some, None, inl, inr, refl}
 use Rattle.std.proofs.Common.{sym, ap, subst}
 use Rattle.std.specs.Prelude.{◌^◌}
 use Rattle.syn_agent.specs.Agents.{staging_of}
@@ -9,19 +9,18 @@ use Rattle.syn_archive.specs.Archive as archives
 use Rattle.syn_archive.specs.Disks.{DiskKeeps, IsWanted}
 use Rattle.syn_archive.specs.Disks as archive_disks
 use Rattle.syn_archive.specs.declared.archive.Archive.{Archive}
-use Rattle.syn_disk.specs.Arms.{Arms as DiskArms, is_stopped}
+use Rattle.syn_disk.specs.Arms.{Arms as DiskArms}
 use Rattle.syn_disk.specs.Calls.{MakesAtLeast}
 use Rattle.syn_disk.specs.Stops.{Untouched}
 use Rattle.syn_disk.specs.declared.disk.Disk.{Ghosts}
 use Rattle.syn_headline.specs.Machine.{Status, Up, Down, Journaled, Meets, unarmed}
 use Rattle.syn_headline.specs.SideMachine.{SideMachine}
-use Rattle.syn_journal.specs.Layout.{HasJournal, Value, bytes_left}
+use Rattle.syn_journal.specs.Layout.{Value, bytes_left}
 use Rattle.syn_journal.specs.declared.error.JournalError.{JournalError}
 use Rattle.syn_journal.specs.declared.error.JournalError.TheVariants as error
 use Rattle.syn_model.specs.Archive.{Archive as KeptArchive}
 use Rattle.syn_model.specs.History.{History}
 use Rattle.syn_model.specs.Path.{Bytes}
-use Rattle.syn_model.specs.Refusal as why
 use Rattle.syn_recovery.specs.Calls.{CallsMeet, MadeReadsMeet, armed_at, goes_down, goes_on}
 use Rattle.syn_recovery.specs.Machines.{of_archive, of_side}
 use Rattle.syn_recovery.specs.Meaning.{MayBeOf, MeansAsKept, as_kept}

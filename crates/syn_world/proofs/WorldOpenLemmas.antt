@@ -50,66 +50,66 @@ module _ {D : Type 0} (disk : Ghosts D) (pair : ℕ) (disks : Disks D) (stores :
       (on_left : StartsSide pair (disk.seen disks.left) stores.left left)
       (on_right : StartsSide pair (disk.seen disks.right) stores.right right)
       (on_archive : StartsCoordinator pair (disk.seen disks.archive) stores.archive coordinator)
-      where
-    abbrev model : ModelWorld
-    model = record {
-      pair = pair;
-      left = on_left.machine;
-      right = on_right.machine;
-      coordinator = record { journal = on_archive.journal; running = None };
-      sent = [];
-      acknowledged = [];
-      refusals = [];
-      reports = [];
-      log = [];
-    }
+    where
+      abbrev model : ModelWorld
+      model = record {
+        pair = pair;
+        left = on_left.machine;
+        right = on_right.machine;
+        coordinator = record { journal = on_archive.journal; running = None };
+        sent = [];
+        acknowledged = [];
+        refusals = [];
+        reports = [];
+        log = [];
+      }
 
-    stores_are : stores_of model ≡ stores
-    stores_are = same_stores stores on_left.machine.journal.value on_right.machine.journal.value
-        on_archive.journal.value on_left.value_is on_right.value_is on_archive.value_is
+      stores_are : stores_of model ≡ stores
+      stores_are = same_stores stores on_left.machine.journal.value on_right.machine.journal.value
+          on_archive.journal.value on_left.value_is on_right.value_is on_archive.value_is
 
-    side_is : (which : Which) → IsOf (of_side pair) (side_of model which).journal
-        (disk_of (shown_on disk.seen disks) which)
-    side_is Left = on_left.is
-    side_is Right = on_right.is
+      side_is : (which : Which) → IsOf (of_side pair) (side_of model which).journal
+          (disk_of (shown_on disk.seen disks) which)
+      side_is Left = on_left.is
+      side_is Right = on_right.is
 
-    pub world_opens : (number : ℕ) (lists : Lists) → number ≡ pair → lists.sent.items ≡ []
-        → lists.acknowledged.items ≡ [] → lists.refusals.items ≡ [] → lists.reports.items ≡ []
-        → OpensFrom {D = D} {disk = disk} pair (shown_on disk.seen disks) stores (record {
-          pair = number;
-          left = host.Up left;
-          right = host.Up right;
-          coordinator = machine.Up coordinator;
-          lists = lists;
-        })
-    world_opens number lists same sent acknowledged refusals reports = record {
-      model = model;
-      is = record {
-        machines = record {
-          pair = same;
-          left = on_left.runs;
-          right = on_right.runs;
-          coordinator = on_archive.stands;
+      pub world_opens : (number : ℕ) (lists : Lists) → number ≡ pair → lists.sent.items ≡ []
+          → lists.acknowledged.items ≡ [] → lists.refusals.items ≡ [] → lists.reports.items ≡ []
+          → OpensFrom {D = D} {disk = disk} pair (shown_on disk.seen disks) stores (record {
+            pair = number;
+            left = host.Up left;
+            right = host.Up right;
+            coordinator = machine.Up coordinator;
+            lists = lists;
+          })
+      world_opens number lists same sent acknowledged refusals reports = record {
+        model = model;
+        is = record {
+          machines = record {
+            pair = same;
+            left = on_left.runs;
+            right = on_right.runs;
+            coordinator = on_archive.stands;
+          };
+          lists = record {
+            sent = ap (map message_of) sent;
+            acknowledged = ap (map told_in) acknowledged;
+            refusals = ap (map cause_of) refusals;
+            reports = ap (map report_in) reports;
+            lawful = λ k one less. absurd (let none : k < 0 = less in omega (arith, none));
+          };
         };
-        lists = record {
-          sent = ap (map message_of) sent;
-          acknowledged = ap (map told_in) acknowledged;
-          refusals = ap (map cause_of) refusals;
-          reports = ap (map report_in) reports;
-          lawful = λ k one less. absurd (let none : k < 0 = less in omega (arith, none));
+        opened = record {
+          pair_is = refl;
+          start = record {
+            pair = subst IsPair (sym stores_are) all.stand.is_pair;
+            left = (on_left.fresh, on_left.unstaged);
+            right = (on_right.fresh, on_right.unstaged);
+            coordinator = (on_archive.fresh, refl);
+            nothing_yet = (refl, refl, refl, refl);
+          };
+          side = side_is;
+          archive = on_archive.is;
         };
-      };
-      opened = record {
-        pair_is = refl;
-        start = record {
-          pair = subst IsPair (sym stores_are) all.stand.is_pair;
-          left = (on_left.fresh, on_left.unstaged);
-          right = (on_right.fresh, on_right.unstaged);
-          coordinator = (on_archive.fresh, refl);
-          nothing_yet = (refl, refl, refl, refl);
-        };
-        side = side_is;
-        archive = on_archive.is;
-      };
-      stores_are = stores_are;
-    }
+        stores_are = stores_are;
+      }

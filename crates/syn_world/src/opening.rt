@@ -43,22 +43,28 @@ impl<D: SimulatedDisk> World<D> {
         let left = match start_side(alloc, disks.left, None) {
             Ok(left) => left,
             Err((why, left)) => {
-                return Err((why, Disks {
-                    left,
-                    right: disks.right,
-                    archive: disks.archive,
-                }));
+                return Err((
+                    why,
+                    Disks {
+                        left,
+                        right: disks.right,
+                        archive: disks.archive,
+                    },
+                ));
             }
         };
         let pair = left.replica.pair();
         let right = match start_side(alloc, disks.right, Some(pair)) {
             Ok(right) => right,
             Err((why, right)) => {
-                return Err((why, Disks {
-                    left: left.replica.into_disk(),
-                    right,
-                    archive: disks.archive,
-                }));
+                return Err((
+                    why,
+                    Disks {
+                        left: left.replica.into_disk(),
+                        right,
+                        archive: disks.archive,
+                    },
+                ));
             }
         };
         match start_coordinator(alloc, disks.archive, pair) {
@@ -69,11 +75,14 @@ impl<D: SimulatedDisk> World<D> {
                 coordinator: CoordinatorHost::Up(coordinator),
                 lists: no_lists(alloc),
             }),
-            Err((why, archive)) => Err((why, Disks {
-                left: left.replica.into_disk(),
-                right: right.replica.into_disk(),
-                archive,
-            })),
+            Err((why, archive)) => Err((
+                why,
+                Disks {
+                    left: left.replica.into_disk(),
+                    right: right.replica.into_disk(),
+                    archive,
+                },
+            )),
         }
     }
 }
