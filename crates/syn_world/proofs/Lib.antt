@@ -15,5 +15,5 @@ mod SessionLemmas
 mod ListLemmas
 mod ReplyLemmas
 mod ListingLemmas
-mod OpeningLemmas
+mod StartLemmas
 mod WorldOpenLemmas

@@ -1,7 +1,7 @@
 use Rattle.std.proofs.Common.{◌<◌, ◌∙◌, ap, arith, inl, inr, refl}
 use Rattle.std.specs.Prelude.{◌^◌}
 use Rattle.syn_archive.specs.Refusals.{refusal_of}
-use Rattle.syn_world.proofs.OpeningLemmas.{archive_stands_for, coordinator_starts}
+use Rattle.syn_world.proofs.StartLemmas.{archive_stands_for, coordinator_starts}
 use Rattle.syn_world.proofs.opening.start_coordinator.Goals as goal
 
 pub returns-in-Ok-clause-starts : goal.returns-in-Ok-clause-starts

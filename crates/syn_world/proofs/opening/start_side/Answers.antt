@@ -1,5 +1,5 @@
 use Rattle.std.proofs.Common.{◌∙◌, inl, inr}
-use Rattle.syn_world.proofs.OpeningLemmas.{as_wanted, side_starts, stands_for}
+use Rattle.syn_world.proofs.StartLemmas.{as_wanted, side_starts, stands_for}
 use Rattle.syn_world.proofs.opening.start_side.Goals as goal
 
 pub returns-in-Ok-clause-starts : goal.returns-in-Ok-clause-starts
