@@ -19,3 +19,5 @@ mod RunLemmas
 mod CoordinatorOpenLemmas
 mod CoordinatorReopenLemmas
 mod OpeningLemmas
+mod StartLemmas
+mod WorldOpenLemmas

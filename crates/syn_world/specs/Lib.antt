@@ -7,3 +7,4 @@ pub mod CoordinatorOpenings
 pub mod Worlds
 pub mod Steps
 pub mod Runs
+pub mod Openings

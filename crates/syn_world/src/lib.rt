@@ -9,6 +9,7 @@ mod copies;
 mod disk;
 mod lawful;
 mod lists;
+mod opening;
 mod outcome;
 mod replies;
 mod side;

@@ -1,0 +1,47 @@
+use Rattle.std.proofs.Common.{◌∙◌, Some, ap, inl, inr, refl, subst, sym}
+use Rattle.syn_recovery.specs.Machines.{of_archive}
+use Rattle.syn_world.specs.Openings.{CanStart, StartsCoordinator}
+use Rattle.syn_world.proofs.WorldOpenLemmas.{archive_can, left_can, right_can, world_opens}
+use Rattle.syn_world.proofs.world.World.open.Goals as goal
+
+pub returns-in-Err-clause-refused : goal.returns-in-Err-clause-refused
+returns-in-Err-clause-refused g c pair stores all =
+    c.in-Err.ensures.refused pair stores.left all.fits (inl refl)
+    (left_can g.D.Disk pair c.args.disks stores all)
+
+pub returns-in-Err-start_side-clause-refused : goal.returns-in-Err-start_side-clause-refused
+returns-in-Err-start_side-clause-refused g c pair stores all =
+    let left = c.in-Ok.ensures.starts pair stores.left all.fits
+    (left_can g.D.Disk pair c.args.disks stores all) in
+    c.in-Err-start_side.ensures.refused pair stores.right all.fits
+    (inr (ap Some (c.pair-pair.ensures ∙ left.runs.is.pair_is)))
+    (right_can g.D.Disk pair c.args.disks stores all)
+
+pub returns-in-Ok-start_coordinator-clause-opened :
+    goal.returns-in-Ok-start_coordinator-clause-opened
+returns-in-Ok-start_coordinator-clause-opened g c pair stores all =
+    let left = c.in-Ok.ensures.starts pair stores.left all.fits
+    (left_can g.D.Disk pair c.args.disks stores all) in
+    let right = c.in-Ok-start_side.ensures.starts pair stores.right all.fits
+    (right_can g.D.Disk pair c.args.disks stores all) in
+    let same = c.pair-pair.ensures ∙ left.runs.is.pair_is in
+    let bytes = g.D.Disk.seen c.args.disks.archive in
+    let made = c.in-Ok-start_coordinator.coordinator in
+    let archive = subst (λ p. StartsCoordinator p bytes stores.archive made) same
+    (c.in-Ok-start_coordinator.ensures.starts stores.archive
+    (subst (λ p. CanStart (of_archive p) (g.D.Disk.arms c.args.disks.archive) bytes stores.archive)
+    (sym same) (archive_can g.D.Disk pair c.args.disks stores all))) in
+    world_opens g.D.Disk pair c.args.disks stores all c.in-Ok.left c.in-Ok-start_side.right made
+    left right archive c.pair-pair.result c.no_lists.result same c.no_lists.ensures.sent
+    c.no_lists.ensures.acknowledged c.no_lists.ensures.refusals c.no_lists.ensures.reports
+
+pub returns-in-Err-start_coordinator-clause-refused :
+    goal.returns-in-Err-start_coordinator-clause-refused
+returns-in-Err-start_coordinator-clause-refused g c pair stores all =
+    let left = c.in-Ok.ensures.starts pair stores.left all.fits
+    (left_can g.D.Disk pair c.args.disks stores all) in
+    let same = c.pair-pair.ensures ∙ left.runs.is.pair_is in
+    let bytes = g.D.Disk.seen c.args.disks.archive in
+    c.in-Err-start_coordinator.ensures.refused stores.archive
+    (subst (λ p. CanStart (of_archive p) (g.D.Disk.arms c.args.disks.archive) bytes stores.archive)
+    (sym same) (archive_can g.D.Disk pair c.args.disks stores all))
