@@ -17,7 +17,9 @@ use syn_message::{Reply, Side};
 
 mod coordinators;
 mod deliver;
+mod machines;
 mod openings;
+mod run;
 mod sessions;
 mod sides;
 

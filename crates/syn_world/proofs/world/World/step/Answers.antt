@@ -1,0 +1,20 @@
+use Rattle.std.proofs.Common.{Ok, subst, sym}
+use Rattle.syn_world.specs.Runs.{StepsSo}
+use Rattle.syn_world.specs.Steps.{step_of}
+use Rattle.syn_world.proofs.RunLemmas.{stays_so}
+use Rattle.syn_world.proofs.world.World.step.Goals as goal
+
+pub returns-in-Deliver : goal.returns-in-Deliver
+returns-in-Deliver g c model is =
+    subst (λ s. StepsSo model (step_of s) c.deliver.result) (sym c.in-Deliver.is)
+    (c.deliver.ensures model is)
+
+pub returns-in-Fail : goal.returns-in-Fail
+returns-in-Fail g c model is =
+    subst (λ s. StepsSo model (step_of s) (Ok c.fail.result)) (sym c.in-Fail.is)
+    (stays_so model _ _ (c.fail.ensures model is))
+
+pub returns-in-Stop : goal.returns-in-Stop
+returns-in-Stop g c model is =
+    subst (λ s. StepsSo model (step_of s) (Ok c.stop.result)) (sym c.in-Stop.is)
+    (stays_so model _ _ (c.stop.ensures model is))
