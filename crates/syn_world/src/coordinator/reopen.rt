@@ -35,10 +35,7 @@ impl<D: SimulatedDisk> CoordinatorHost<D> {
 }
 
 /// Another opening of a machine that is up.
-fn reopen_up<D: SimulatedDisk>(
-    alloc: Global,
-    coordinator: Coordinator<D>,
-) -> CoordinatorOpening<D>
+fn reopen_up<D: SimulatedDisk>(alloc: Global, coordinator: Coordinator<D>) -> CoordinatorOpening<D>
     ensures { (pair : ℕ) (machine : CoordinatorMachine) → Stands coordinator pair machine
         → ReopensSo pair machine result }
 {

@@ -18,11 +18,7 @@ impl<D: SimulatedDisk> World<D> {
         let mut world = self;
         let opening = world.coordinator.open(alloc, world.pair);
         world.coordinator = opening.coordinator;
-        world.told(CoordinatorOutcome::opened_with(
-            alloc,
-            opening.found,
-            opening.refused,
-        ))
+        world.told(CoordinatorOutcome::opened_with(alloc, opening.found, opening.refused))
     }
 
     /// The coordinator opens its own disk again, unless its machine is down. The record that was
@@ -34,10 +30,6 @@ impl<D: SimulatedDisk> World<D> {
         let mut world = self;
         let opening = world.coordinator.reopen(alloc);
         world.coordinator = opening.coordinator;
-        world.told(CoordinatorOutcome::opened_with(
-            alloc,
-            opening.found,
-            opening.refused,
-        ))
+        world.told(CoordinatorOutcome::opened_with(alloc, opening.found, opening.refused))
     }
 }
