@@ -2,5 +2,4 @@ pub mod GivenLemmas
 pub mod InputLemmas
 pub mod LineLemmas
 pub mod EditLemmas
-pub mod ShowLemmas
 pub mod WrongLemmas

@@ -10,7 +10,7 @@ use Rattle.clap.specs.declared.parser.matches.ArgMatches.TheViews.{out-ArgMatche
 use Rattle.clap.proofs.OnLiterals.{clap_on_literals}
 use Rattle.clap.proofs.WalkLemmas.{first_value-rows}
 use Rattle.syn.specs.App.{syn_app}
-use Rattle.syn.specs.Reads.{Asks, AsksHelp, HasText, IfUsage, IsMistake, IsRequest, IsFormat, IsEdit, IsEditName, IsRight, IsValue, IsWanting, IfValue, Lacks, NothingReads, Reads, ReadsRows}
+use Rattle.syn.specs.Reads.{Asks, AsksHelp, HasText, IfUsage, IsMistake, IsRequest, IsFormat, IsEdit, IsEditName, IsValue, IfValue, NothingReads, Reads, ReadsRows}
 use Rattle.syn.specs.Asked.{word_of}
 use Rattle.syn.specs.declared.line.Change.{Change}
 use Rattle.syn.specs.declared.line.Change.TheVariants as change

@@ -1,7 +1,6 @@
 -- Where `clap` finds no fault in the program's words, they name a command with each value that it requires, so a value is wrong
 -- where no line is what they say.
-use Rattle.std.proofs.Common.{◌≡◌, ◌⊎◌, ◌&&◌, ◌||◌, ◌∙◌, ℕ, Bool, cond, true, false, not, List, [], ◌∷◌, length, Option, Some, None, is_some, option_map, slice_index, codes, inl, inr, refl, sym, ap, subst, arith, true≢false, IfSome}
-use Rattle.std.specs.Borrow.{Bor}
+use Rattle.std.proofs.Common.{◌≡◌, ◌&&◌, ◌||◌, ◌∙◌, ℕ, Bool, cond, true, false, not, List, [], ◌∷◌, length, Option, Some, None, is_some, option_map, slice_index, codes, inl, inr, refl, sym, ap, subst, arith, true≢false, IfSome}
 use Rattle.std.specs.List.{find, fold, list_any}
 use Rattle.std.specs.Option.{option_map_or}
 use Rattle.std.specs.Str.{bytes_eq}
@@ -11,7 +10,7 @@ use Rattle.clap.specs.Faults.{built_fault, check_fault, entered_fault, fault_of,
 use Rattle.clap.specs.Kinds.{Kinds, check_kinds, or_else}
 use Rattle.clap.specs.Simple.{App, Shape, argument_words, built, built_leaf, entered, help_shape, inherited, label_of, marked_built, names_of, rows_at, subcommand_of, with_leaf_noted}
 use Rattle.clap.specs.Takes.{is_given}
-use Rattle.clap.specs.Walk.{Held, Names, Outcome, Row, Rule, Step, Text, Waiting, Walk, after_flag, after_step, answers_to, arg_by_index, done, idle, long_or_other, next, nothing_held, option, plain, plain_word, positional, refused, rows_after, settled, short_or_plain, subcommand, subcommand_met, subcommand_or_other, first_of, to_positional, trailing, value, waits, walk, walk_from, walked, walked_from, word_met}
+use Rattle.clap.specs.Walk.{Held, Names, Outcome, Row, Rule, Step, Text, Waiting, Walk, after_flag, after_step, answers_to, arg_by_index, done, idle, long_or_other, next, nothing_held, option, plain, plain_word, positional, refused, rows_after, settled, short_or_plain, subcommand, subcommand_met, subcommand_or_other, to_positional, trailing, value, waits, walk, walk_from, walked, walked_from, word_met}
 use Rattle.clap.specs.declared.error.kind.ErrorKind.TheVariants.{DisplayHelp, InvalidSubcommand}
 use Rattle.clap.proofs.OnLiterals.{clap_on_literals}
 use Rattle.syn.specs.App.{check_app, edit_app, format_app, show_app, syn_app}

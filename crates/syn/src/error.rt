@@ -11,6 +11,7 @@ use syn_disk::OpenError;
 use syn_path::PathError;
 use syn_refusal::Refusal;
 use syn_replica::ReplicaError;
+use syn_show::ShowError;
 use thiserror::Error;
 
 /// Why a command is refused, by what refused it.
@@ -114,6 +115,19 @@ impl From<io::Error> for CommandError {
         match error.kind() {
             io::ErrorKind::OutOfMemory => CommandError::Memory,
             _ => CommandError::Device(error),
+        }
+    }
+}
+
+impl From<ShowError> for CommandError {
+    ghost use Rattle.syn.specs.Errors.{IsOfStream};
+
+    ghost from_gives = { λ _ e. IsOfStream e };
+
+    fn from(error: ShowError) -> CommandError {
+        match error {
+            ShowError::Device(error) => CommandError::Device(error),
+            ShowError::Memory => CommandError::Memory,
         }
     }
 }

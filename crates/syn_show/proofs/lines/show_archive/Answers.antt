@@ -5,12 +5,12 @@ use Rattle.std.specs.Io.KnownBytes.{Appends}
 use Rattle.syn_archive.specs.Archive.{pair_of, session_shown, marks_shown}
 use Rattle.syn_model.specs.Tree.{Tree}
 use Rattle.syn_tree.specs.Pairs.{is_below}
-use Rattle.syn.specs.Printed.{archive_line, lines_of_marks}
-use Rattle.syn.proofs.ShowLemmas.{appends_more}
-use Rattle.syn.proofs.show.show_archive.Goals as goal
+use Rattle.syn_show.specs.Printed.{archive_line, lines_of_marks}
+use Rattle.syn_show.proofs.ShowLemmas.{appends_more}
+use Rattle.syn_show.proofs.lines.show_archive.Goals as goal
 
-pub returns-clause-printed : goal.returns-clause-printed
-returns-clause-printed g c =
+pub returns : goal.returns
+returns g c =
     let archive = c.args.archive.now in
     let line = archive_line (pair_of archive) (session_shown archive) in
     let marks = lines_of_marks (filter (is_below []) (entries (marks_shown archive))) in
@@ -27,4 +27,4 @@ returns-clause-printed g c =
     on_ok_weaker c.show_marks.result (λ shown.
     appends_more old middle new line marks
     (subst (λ xs. Appends old middle xs) first c.in_ok-write_all.ensures.bytes)
-    (subst (λ xs. Appends middle new xs) lines shown)) c.show_marks.ensures.printed
+    (subst (λ xs. Appends middle new xs) lines shown)) c.show_marks.ensures

@@ -3,7 +3,7 @@ use Rattle.std.proofs.lemmas.Result.{IfOk-weaker}
 use Rattle.std.specs.String.{string_bytes}
 use Rattle.hex.specs.Hex.{encode_lower}
 use Rattle.sha2.specs.Sha256.{sha256}
-use Rattle.syn.proofs.show.file_line.Goals as goal
+use Rattle.syn_show.proofs.lines.file_line.Goals as goal
 
 pub returns : goal.returns
 returns c =

@@ -2,12 +2,12 @@ use Rattle.std.proofs.Common.{◌≡◌, ◌∙◌, [], ap₂, subst}
 use Rattle.std.proofs.lemmas.Result.{on_ok_weaker}
 use Rattle.std.specs.Io.KnownBytes.{Appends}
 use Rattle.syn_replica.specs.Replica.{pair_of, position_shown, tree_shown}
-use Rattle.syn.specs.Printed.{replica_line, lines_below}
-use Rattle.syn.proofs.ShowLemmas.{appends_more}
-use Rattle.syn.proofs.show.show_replica.Goals as goal
+use Rattle.syn_show.specs.Printed.{replica_line, lines_below}
+use Rattle.syn_show.proofs.ShowLemmas.{appends_more}
+use Rattle.syn_show.proofs.lines.show_replica.Goals as goal
 
-pub returns-clause-printed : goal.returns-clause-printed
-returns-clause-printed g c =
+pub returns : goal.returns
+returns g c =
     let replica = c.args.replica.now in
     let line = replica_line (pair_of replica) (position_shown replica) in
     let below = lines_below (tree_shown replica) [] in
@@ -21,4 +21,4 @@ returns-clause-printed g c =
     on_ok_weaker c.show_below-2.result (λ shown.
     appends_more old middle new line below
     (subst (λ xs. Appends old middle xs) first c.in_ok-write_all.ensures.bytes)
-    (subst (λ xs. Appends middle new xs) lines shown)) c.show_below-2.ensures.printed
+    (subst (λ xs. Appends middle new xs) lines shown)) c.show_below-2.ensures

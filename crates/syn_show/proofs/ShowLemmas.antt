@@ -1,9 +1,9 @@
 -- The lines of entries, one after the other.
-use Rattle.std.proofs.Common.{◌≡◌, ◌++◌, ◌∷◌, ◌∙◌, ℕ, [], List, Option, Some, None, append_assoc, append-nil, sym, ap}
+use Rattle.std.proofs.Common.{◌≡◌, ◌++◌, ◌∷◌, ◌∙◌, ℕ, [], List, Option, Some, None, append_assoc, append-nil, ap}
 use Rattle.std.proofs.lemmas.Grind.{flat_map-append}
 use Rattle.std.specs.Io.KnownBytes.{Appends}
 use Rattle.syn_model.specs.Tree.{Pair}
-use Rattle.syn.specs.Printed.{content_line, lines_of, lines_of_marks, mark_line}
+use Rattle.syn_show.specs.Printed.{content_line, lines_of, lines_of_marks, mark_line}
 
 -- what was appended twice was appended in a row
 pub appends_more : (a b c : Option (List ℕ)) (xs ys : List ℕ) → Appends a b xs → Appends b c ys → Appends a c (xs ++ ys)

@@ -1,0 +1,55 @@
+-- The lines that are printed of an image.
+use Rattle.std.specs.Prelude.{ℕ, List, length, filter, flat_map, ◌++◌, codes}
+use Rattle.std.specs.Fmt.{decimal}
+use Rattle.std.specs.FinMap.{entries}
+use Rattle.hex.specs.Hex.{encode_lower}
+use Rattle.sha2.specs.Sha256.{sha256}
+use Rattle.syn_model.specs.Path.{Path}
+use Rattle.syn_model.specs.Tree.{Tree, Pair, Content, Directory, File}
+use Rattle.syn_tree.specs.Pairs.{is_below}
+use Rattle.syn_path.specs.Paths.{printed_form}
+
+-- the line of a file: its path, its length, and its digest in lower case hexadecimal digits
+abbrev pub file_line : List (List ℕ) → List ℕ → List ℕ
+file_line path bytes = codes "f " ++
+    (printed_form path ++ (codes " " ++
+    (decimal (length bytes) ++ (codes " " ++ (encode_lower (sha256 bytes) ++ codes "\n")))))
+
+-- the line of a directory
+abbrev pub directory_line : List (List ℕ) → List ℕ
+directory_line path = codes "d " ++ (printed_form path ++ codes "\n")
+
+abbrev pub content_line : Path → Content → List ℕ
+content_line path Directory = directory_line path
+content_line path (File contents) = file_line path contents.bytes
+
+-- the lines of these pairs, in their order
+abbrev pub lines_of : List Pair → List ℕ
+lines_of pairs = flat_map (λ pair. content_line pair.0 pair.1) pairs
+
+-- the lines of all that stands strictly below a path, in path order
+abbrev pub lines_below : Tree → Path → List ℕ
+lines_below tree at = lines_of (filter (is_below at) (entries tree))
+
+-- the first line of a replica
+abbrev pub replica_line : ℕ → ℕ → List ℕ
+replica_line pair position = codes "replica pair "
+    ++ (decimal pair ++ (codes " position " ++ (decimal position ++ codes "\n")))
+
+-- the line of a file in an archive: its path, and its digest in lower case hexadecimal digits
+abbrev pub digest_line : List (List ℕ) → List ℕ → List ℕ
+digest_line path digest = codes "f " ++
+    (printed_form path ++ (codes " " ++ (encode_lower digest ++ codes "\n")))
+
+abbrev pub mark_line : Path → Content → List ℕ
+mark_line path Directory = directory_line path
+mark_line path (File digest) = digest_line path digest.bytes
+
+-- the lines of marks, in their order
+abbrev pub lines_of_marks : List Pair → List ℕ
+lines_of_marks pairs = flat_map (λ pair. mark_line pair.0 pair.1) pairs
+
+-- the first line of an archive
+abbrev pub archive_line : ℕ → ℕ → List ℕ
+archive_line pair session = codes "archive pair "
+    ++ (decimal pair ++ (codes " session " ++ (decimal session ++ codes "\n")))
