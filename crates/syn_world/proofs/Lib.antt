@@ -21,3 +21,5 @@ mod CoordinatorReopenLemmas
 mod OpeningLemmas
 mod StartLemmas
 mod WorldOpenLemmas
+mod PairLemmas
+mod HeadlineLemmas

@@ -76,8 +76,8 @@ pub record StopsAs {D : Type 0} {disk : Ghosts D} (coordinator : Coordinator D d
   pub leaves : LeavesMachine disk (device_of coordinator) pair machine.journal
   pub tries : Tries pair (tried_shown coordinator) machine.journal
 
--- The outcome of a call of the coordinator, as long as it goes on: this was kept, sent and reported,
--- and a user was refused so, by the status that the call left
+-- The outcome of a call of the coordinator, as long as it goes on: this was kept, sent and
+-- reported, and a user was refused so, by the status that the call left
 pub record IsToTell {D : Type 0} {disk : Ghosts D} (coordinator : Coordinator D disk)
     (outcome : CoordinatorOutcome) (told : Call) (refusals_at : Status → List Refusal)
     : Type 0 where

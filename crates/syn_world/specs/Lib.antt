@@ -8,3 +8,4 @@ pub mod Worlds
 pub mod Steps
 pub mod Runs
 pub mod Openings
+pub mod Headlines

@@ -46,10 +46,12 @@ pub struct DownCoordinator<D> {
 
 impl<D: SimulatedDisk> CoordinatorHost<D> {
     ghost use Rattle.syn_world.specs.Coordinators.{FailsSo, IsCoordinator, StopsSo};
+    ghost use Rattle.syn_world.specs.Headlines.{archive_disk};
 
     /// The disk, as the last step left it.
     pub fn into_disk(self) -> D
-        ensures { (pair : ℕ) (machine : CoordinatorMachine) → IsCoordinator pair self machine
+        ensures disk { result ≡ archive_disk self }
+        ensures left { (pair : ℕ) (machine : CoordinatorMachine) → IsCoordinator pair self machine
             → (bytes : List ℕ) → D.Limit.may_leave result bytes
             → MayBeOf (of_archive pair) machine.journal bytes }
     {
@@ -104,8 +106,8 @@ fn armed_with<D: SimulatedDisk>(coordinator: Coordinator<D>, arm: Arm) -> Coordi
     coordinator
 }
 
-/// A coordinator behind a step, with what came of it. Of that nothing is told where memory for it is
-/// refused.
+/// A coordinator behind a step, with what came of it. Of that nothing is told where memory for it
+/// is refused.
 #[derive(Drop)]
 pub struct CoordinatorCall<D: Disk> {
     pub coordinator: CoordinatorHost<D>,

@@ -7,6 +7,7 @@
 mod coordinator;
 mod copies;
 mod disk;
+mod headline;
 mod lawful;
 mod lists;
 mod opening;
@@ -18,6 +19,7 @@ mod world;
 
 pub use coordinator::{CoordinatorCall, CoordinatorHost, CoordinatorOpening, DownCoordinator};
 pub use disk::SimulatedDisk;
+pub use headline::{recover, run};
 pub use lists::{Ack, Lists, Message};
 pub use outcome::{CoordinatorOutcome, Outcome};
 pub use side::{DownSide, SideAnswer, SideCall, SideHost, UpSide};

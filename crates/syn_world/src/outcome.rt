@@ -85,8 +85,8 @@ impl CoordinatorOutcome {
         }
     }
 
-    /// What came of a call, of which the coordinator lends what was kept and the report of a session
-    /// that ended. None where memory for it is refused.
+    /// What came of a call, of which the coordinator lends what was kept and the report of a
+    /// session that ended. None where memory for it is refused.
     pub(crate) fn gathered(
         alloc: Global,
         kept: &[Kept],

@@ -43,13 +43,15 @@ pub struct World<D: Disk> {
 }
 
 impl<D: SimulatedDisk> World<D> {
+    ghost use Rattle.syn_world.specs.Headlines.{disks_of};
     ghost use Rattle.syn_world.specs.Outcomes.{Acknowledges, Tells, refused_in};
     ghost use Rattle.syn_world.specs.Worlds.{AreLeft, EndsSo, Goes, Grows, GrowsBy, IsListed};
     ghost use Rattle.syn_world.specs.Worlds.{RunsMachines};
 
     /// The disks, as the last step left them.
     pub fn into_disks(self) -> Disks<D>
-        ensures { (model : ModelWorld) → RunsMachines self model
+        ensures disks { result ≡ disks_of self }
+        ensures left { (model : ModelWorld) → RunsMachines self model
             → AreLeft D.Limit.may_leave result model }
     {
         Disks {

@@ -46,8 +46,8 @@ fn reopen_up<D: SimulatedDisk>(alloc: Global, coordinator: Coordinator<D>) -> Co
     }
 }
 
-/// The coordinator behind another opening, of which this is to be told. Where its machine stopped in
-/// the call, nothing is told.
+/// The coordinator behind another opening, of which this is to be told. Where its machine stopped
+/// in the call, nothing is told.
 fn settle_found<D: SimulatedDisk>(
     coordinator: Coordinator<D>,
     found: Option<Kept>,

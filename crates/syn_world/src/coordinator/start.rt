@@ -19,8 +19,8 @@ impl<D: SimulatedDisk> CoordinatorHost<D> {
     /// A session starts, unless the machine is down. Its number is acknowledged, and both sides are
     /// asked to begin it.
     ///
-    /// Refused 10 while the archive is halted, 12 while a session runs, 7 where the last session has
-    /// the greatest number, 8 where its record does not fit in the archive's journal, 11 where
+    /// Refused 10 while the archive is halted, 12 while a session runs, 7 where the last session
+    /// has the greatest number, 8 where its record does not fit in the archive's journal, 11 where
     /// memory is refused, and 9 where a device call fails.
     pub fn start(self, alloc: Global) -> CoordinatorCall<D>
         ensures { (pair : ℕ) (machine : CoordinatorMachine) → IsCoordinator pair self machine

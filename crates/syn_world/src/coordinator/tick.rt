@@ -15,8 +15,8 @@ impl<D: SimulatedDisk> CoordinatorHost<D> {
     ghost use Rattle.syn_world.specs.Coordinators.{IsCoordinator};
 
     /// Some time went by without an answer. Each request that waits is sent again; or the session
-    /// ends, 25 where one was sent again eight times already and 11 where memory is refused. Without
-    /// a session nothing is done.
+    /// ends, 25 where one was sent again eight times already and 11 where memory is refused.
+    /// Without a session nothing is done.
     pub fn tick(self, alloc: Global) -> CoordinatorCall<D>
         ensures { (pair : ℕ) (machine : CoordinatorMachine) → IsCoordinator pair self machine
             → CallsSo pair (Unrefused (CoordinatorTicks machine)) result }

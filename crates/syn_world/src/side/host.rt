@@ -15,6 +15,7 @@ use syn_message::Request;
 use syn_tree::Edit;
 
 impl<D: SimulatedDisk> SideHost<D> {
+    ghost use Rattle.syn_world.specs.Headlines.{side_disk};
     ghost use Rattle.syn_world.specs.Sides.{AnswersSo, CheckpointsSo, EditsSo, FailsSo, IsHost};
     ghost use Rattle.syn_world.specs.Sides.{OpensSo, ReopensSo, StopsSo};
 
@@ -107,7 +108,8 @@ impl<D: SimulatedDisk> SideHost<D> {
 
     /// The disk, as the last step left it.
     pub fn into_disk(self) -> D
-        ensures { (pair : ℕ) (machine : SideMachine) → IsHost pair self machine
+        ensures disk { result ≡ side_disk self }
+        ensures left { (pair : ℕ) (machine : SideMachine) → IsHost pair self machine
             → (bytes : List ℕ) → D.Limit.may_leave result bytes
             → MayBeOf (of_side pair) machine.journal bytes }
     {

@@ -32,7 +32,7 @@ returns-in-Ok g c model is =
     ∙ ap (λ r. Some (Asks (which_of sending.to) asked.session asked.number r)) (sym c.in-Ok.ensures)))
 
 pub returns-in-Err : goal.returns-in-Err
-returns-in-Err g c model is = no_memory c.into_disks.result refl (c.into_disks.ensures model is.machines)
+returns-in-Err g c model is = no_memory c.into_disks.result refl (c.into_disks.ensures.left model is.machines)
 
 pub returns-in-Ok-copy : goal.returns-in-Ok-copy
 returns-in-Ok-copy g c model is =
@@ -49,4 +49,4 @@ returns-in-Ok-copy g c model is =
 
 pub returns-in-Err-copy : goal.returns-in-Err-copy
 returns-in-Err-copy g c model is =
-    no_memory c.into_disks-in-Err-copy.result refl (c.into_disks-in-Err-copy.ensures model is.machines)
+    no_memory c.into_disks-in-Err-copy.result refl (c.into_disks-in-Err-copy.ensures.left model is.machines)

@@ -1,0 +1,144 @@
+-- A run of a world from three disks, and the opening behind it.
+use Rattle.std.proofs.Common.{◌≡◌, ◌∙◌, ◌<◌, ℕ, List, Result, Ok, Err, refl, subst, sym}
+use Rattle.std.specs.Prelude.{◌^◌}
+use Rattle.std.specs.Prelude.{IfErr, IfOk}
+use Rattle.syn_disk.specs.Arms.{Arms, no_arms}
+use Rattle.syn_disk.specs.declared.disk.Disk.{Ghosts}
+use Rattle.syn_headline.specs.Acknowledged.{Stores}
+use Rattle.syn_headline.specs.Coordinator.{CoordinatorMachine}
+use Rattle.syn_headline.specs.Headline.{stores_of}
+use Rattle.syn_headline.specs.Network.{Left, Right, Which}
+use Rattle.syn_headline.specs.SideMachine.{SideMachine}
+use Rattle.syn_headline.specs.World.{World as ModelWorld, Runs, Step, side_of}
+use Rattle.syn_model.specs.Path.{Bytes}
+use Rattle.syn_recovery.specs.Headline.{Disks as Shown, Headline, IsCrashSafe, IsOpenedFrom}
+use Rattle.syn_recovery.specs.Headline.{MayBeLeft, disk_of}
+use Rattle.syn_recovery.specs.Machines.{of_archive, of_side}
+use Rattle.syn_recovery.specs.Meaning.{MayBeOf}
+use Rattle.syn_world.specs.Coordinators.{IsCoordinator}
+use Rattle.syn_world.specs.Headlines.{AreSafe, IsSafeRun, MayHold, Recovers, archive_disk, disks_of}
+use Rattle.syn_world.specs.Headlines.{side_disk}
+use Rattle.syn_world.specs.Openings.{ComeBack, IsFree, OpensFrom, StandFor, shown_on}
+use Rattle.syn_world.specs.Sides.{IsHost}
+use Rattle.syn_world.specs.Worlds.{AreLeft, RunsMachines}
+use Rattle.syn_world.specs.declared.coordinator.CoordinatorHost.{CoordinatorHost}
+use Rattle.syn_world.specs.declared.coordinator.CoordinatorHost.TheVariants as machine
+use Rattle.syn_world.specs.declared.side.SideHost.{SideHost}
+use Rattle.syn_world.specs.declared.side.SideHost.TheVariants as host
+use Rattle.syn_world.specs.declared.world.Disks.{Disks}
+use Rattle.syn_world.specs.declared.world.World.{World}
+use Rattle.syn_world.proofs.PairLemmas.{run_keeps_pair}
+
+module _ {D : Type 0} {disk : Ghosts D} (pair : ℕ) where
+  -- what a stop may leave on the disk of a machine, up or down, may be the machine's
+  side_left : (side : SideHost D disk) (model : SideMachine) → IsHost pair side model
+      → (bytes : Bytes) → disk.may_leave (side_disk side) bytes
+      → MayBeOf (of_side pair) model.journal bytes
+  side_left (host.Up side) model runs bytes left = runs.is.left bytes left
+  side_left (host.Down side) model rests bytes left = rests.leaves bytes left
+
+  archive_left : (coordinator : CoordinatorHost D disk) (model : CoordinatorMachine)
+      → IsCoordinator pair coordinator model → (bytes : Bytes)
+      → disk.may_leave (archive_disk coordinator) bytes
+      → MayBeOf (of_archive pair) model.journal bytes
+  archive_left (machine.Up coordinator) model stands bytes left = stands.journal.leaves bytes left
+  archive_left (machine.Down rest) model rests bytes left = rests.leaves bytes left
+
+-- and so of a world
+pub world_left : {D : Type 0} {disk : Ghosts D} (world : World D disk) (model : ModelWorld)
+    → RunsMachines world model → AreLeft disk.may_leave (disks_of world) model
+world_left world model is = record {
+  left = side_left model.pair world.left model.left is.left;
+  right = side_left model.pair world.right model.right is.right;
+  archive = archive_left model.pair world.coordinator model.coordinator is.coordinator;
+}
+
+module _ {D : Type 0} (may_leave : D → Bytes → Type 0) (disks : Disks D) (model : ModelWorld)
+    (left : AreLeft may_leave disks model) (shown : Shown)
+    (holds : MayHold may_leave disks shown) where
+  side_may_be : (which : Which) → MayBeOf (of_side model.pair)
+      (side_of model which).journal (disk_of shown which)
+  side_may_be Left = left.left shown.left holds.left
+  side_may_be Right = left.right shown.right holds.right
+
+  may_be_left : MayBeLeft shown model
+  may_be_left = record {
+    side = side_may_be;
+    archive = left.archive shown.archive holds.archive;
+  }
+
+-- a run of the model's from what the disks showed is safe
+pub safe_run : {D : Type 0} (disk : Ghosts D) (pair : ℕ) (disks later : Disks D)
+    (stores : Stores) (steps : List Step) (old new : ModelWorld) → Headline
+    → IsOpenedFrom pair (shown_on disk.seen disks) old → stores_of old ≡ stores
+    → Runs old steps new → AreLeft disk.may_leave later new
+    → IsSafeRun disk pair disks later stores steps new
+safe_run disk pair disks later stores steps old new headline opened same runs left = record {
+  old = old;
+  opened = opened;
+  stores_are = same;
+  runs = runs;
+  pair_is = run_keeps_pair old steps new runs ∙ opened.pair_is;
+  safe = λ shown holds. subst (λ s. IsCrashSafe s new shown) same
+      (headline pair (shown_on disk.seen disks) shown old new steps opened runs
+      (may_be_left disk.may_leave later new left shown holds));
+}
+
+-- a disk as it is found after a stop
+free : (arms : Arms) → arms ≡ no_arms → IsFree arms
+free arms none = subst IsFree (sym none) (record { goes = refl; unarmed_is = refl })
+
+-- disks as they are found after a stop
+pub record AreStopped {D : Type 0} (disk : Ghosts D) (disks stopped : Disks D) : Type 0 where
+  pub back : ComeBack disk.may_leave disks stopped
+  pub left : disk.arms stopped.left ≡ no_arms
+  pub right : disk.arms stopped.right ≡ no_arms
+  pub archive : disk.arms stopped.archive ≡ no_arms
+
+module _ {D : Type 0} (disk : Ghosts D) (disks stopped : Disks D)
+    (is : AreStopped disk disks stopped) (before : Stores) (run : ModelWorld)
+    (fits : run.pair < 2 ^ 64) (safe : AreSafe disk.may_leave before disks run)
+    (stays : (one : D) → disk.may_leave one (disk.seen one)) where
+  abbrev pub shown : Shown
+  shown = shown_on disk.seen stopped
+
+  pub might_hold : MayHold disk.may_leave disks shown
+  might_hold = record {
+    left = is.back.left shown.left (stays stopped.left);
+    right = is.back.right shown.right (stays stopped.right);
+    archive = is.back.archive shown.archive (stays stopped.archive);
+  }
+
+  abbrev pub found : IsCrashSafe before run shown
+  found = safe shown might_hold
+
+  -- it stands for the stores of the run
+  pub stand : StandFor disk.seen disk.arms run.pair stopped found.now
+  stand = record {
+    fits = fits;
+    left = free (disk.arms stopped.left) is.left;
+    right = free (disk.arms stopped.right) is.right;
+    archive = free (disk.arms stopped.archive) is.archive;
+    stand = found.recovered.stand;
+  }
+
+  -- so what is opened from them recovers the run
+  pub recovers : (world : World D disk) → OpensFrom run.pair shown found.now world
+      → Recovers disks before run world
+  recovers world opens = record {
+    shown = shown;
+    might_hold = might_hold;
+    safe = found;
+    opens = opens;
+  }
+
+-- what holds of a value or an error, whatever else does
+pub if_ok : {T E : Type 0} {P Q : T → Type 0} (one : Result T E) → IfOk one P
+    → ((value : T) → P value → Q value) → IfOk one Q
+if_ok (Ok value) holds goes = goes value holds
+if_ok (Err error) holds goes = tt
+
+pub if_err : {T E : Type 0} {P Q : E → Type 0} (one : Result T E) → IfErr one P
+    → ((error : E) → P error → Q error) → IfErr one Q
+if_err (Ok value) holds goes = tt
+if_err (Err error) holds goes = goes error holds

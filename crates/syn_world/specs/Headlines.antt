@@ -1,0 +1,101 @@
+-- The headline of the code: from three disks to whatever a stop may leave on them after a run.
+use Rattle.std.specs.Prelude.{◌≡◌, ◌⊎◌, ◌++◌, ℕ, List, Result, Ok, Err}
+use Rattle.syn_disk.specs.declared.disk.Disk.{Ghosts}
+use Rattle.syn_headline.specs.Acknowledged.{Stores}
+use Rattle.syn_headline.specs.Headline.{stores_of}
+use Rattle.syn_headline.specs.World.{World as ModelWorld, Step, Runs}
+use Rattle.syn_model.specs.Path.{Bytes}
+use Rattle.syn_model.specs.Refusal as why
+use Rattle.syn_recovery.specs.Headline.{Disks as Shown, IsCrashSafe, IsOpenedFrom}
+use Rattle.syn_refusal.specs.Refusals.{cause_of}
+use Rattle.syn_refusal.specs.declared.refusal.Refusal.{Refusal}
+use Rattle.syn_replica.specs.Replica.{disk_of}
+use Rattle.syn_session.specs.Coordinators.{device_of}
+use Rattle.syn_world.specs.Openings.{ComeBack, IsFromOutside, OpensFrom, shown_on}
+use Rattle.syn_world.specs.Worlds.{IsWorld}
+use Rattle.syn_world.specs.declared.coordinator.CoordinatorHost.{CoordinatorHost}
+use Rattle.syn_world.specs.declared.coordinator.CoordinatorHost.TheVariants as machine
+use Rattle.syn_world.specs.declared.side.SideHost.{SideHost}
+use Rattle.syn_world.specs.declared.side.SideHost.TheVariants as host
+use Rattle.syn_world.specs.declared.world.Disks.{Disks}
+use Rattle.syn_world.specs.declared.world.World.{World}
+
+-- the disk of a machine, up or down
+abbrev pub side_disk : {D : Type 0} → {disk : Ghosts D} → SideHost D disk → D
+side_disk (host.Up side) = disk_of side.replica
+side_disk (host.Down side) = side.disk
+
+abbrev pub archive_disk : {D : Type 0} → {disk : Ghosts D} → CoordinatorHost D disk → D
+archive_disk (machine.Up coordinator) = device_of coordinator
+archive_disk (machine.Down rest) = rest.disk
+
+-- the three disks of a world
+abbrev pub disks_of : {D : Type 0} → {disk : Ghosts D} → World D disk → Disks D
+disks_of world = record {
+  left = side_disk world.left;
+  right = side_disk world.right;
+  archive = archive_disk world.coordinator;
+}
+
+-- a stop may now leave these bytes on the disks
+pub record MayHold {D : Type 0} (may_leave : D → Bytes → Type 0) (disks : Disks D)
+    (shown : Shown) : Type 0 where
+  pub left : may_leave disks.left shown.left
+  pub right : may_leave disks.right shown.right
+  pub archive : may_leave disks.archive shown.archive
+
+-- whatever a stop may now leave on the disks, the world is crash safe with it
+abbrev pub AreSafe : {D : Type 0} → (D → Bytes → Type 0) → Stores → Disks D → ModelWorld → Type 0
+AreSafe may_leave before disks world =
+    (shown : Shown) → MayHold may_leave disks shown → IsCrashSafe before world shown
+
+-- A world that was opened from the disks went by these steps to this one, and whatever a stop may
+-- then leave on the later disks is safe
+pub record IsSafeRun {D : Type 0} (disk : Ghosts D) (pair : ℕ) (disks later : Disks D)
+    (stores : Stores) (steps : List Step) (new : ModelWorld) : Type 0 where
+  pub old : ModelWorld
+  pub opened : IsOpenedFrom pair (shown_on disk.seen disks) old
+  pub stores_are : stores_of old ≡ stores
+  pub runs : Runs old steps new
+  pub pair_is : new.pair ≡ pair
+  pub safe : AreSafe disk.may_leave stores later new
+
+-- the world went by all of the steps
+pub record HasRunSafely {D : Type 0} {disk : Ghosts D} (pair : ℕ) (disks : Disks D)
+    (stores : Stores) (steps : List Step) (world : World D disk) : Type 0 where
+  pub new : ModelWorld
+  pub is : IsWorld world new
+  pub run : IsSafeRun disk pair disks (disks_of world) stores steps new
+
+-- no world was opened, for no cause that lies in the disks' bytes, and the disks come back
+pub record IsNotOpened {D : Type 0} (may_leave : D → Bytes → Type 0) (disks : Disks D)
+    (refused : Refusal × Disks D) : Type 0 where
+  pub cause : IsFromOutside refused.0
+  pub back : ComeBack may_leave disks refused.1
+
+-- memory was refused behind the first of the steps, and the disks come back as those left them
+pub record IsCutShort {D : Type 0} (disk : Ghosts D) (pair : ℕ) (disks : Disks D)
+    (stores : Stores) (steps : List Step) (refused : Refusal × Disks D) : Type 0 where
+  pub memory : cause_of refused.0 ≡ why.Memory
+  pub made : List Step
+  pub rest : List Step
+  pub all : made ++ rest ≡ steps
+  pub new : ModelWorld
+  pub run : IsSafeRun disk pair disks refused.1 stores made new
+
+-- A run from disks of a pair that stand for these stores
+abbrev pub RunsSafely : {D : Type 0} → {disk : Ghosts D} → ℕ → Disks D → Stores → List Step →
+    Result (World D disk) (Refusal × Disks D) → Type 0
+RunsSafely {D} {disk} pair disks stores steps (Ok world) =
+    HasRunSafely pair disks stores steps world
+RunsSafely {D} {disk} pair disks stores steps (Err refused) =
+    IsNotOpened disk.may_leave disks refused ⊎ IsCutShort disk pair disks stores steps refused
+
+-- A world was opened from disks as a stop might have left them behind a run. It stands for what the
+-- run acknowledged, with at most the change that each machine was making
+pub record Recovers {D : Type 0} {disk : Ghosts D} (disks : Disks D) (before : Stores)
+    (run : ModelWorld) (world : World D disk) : Type 0 where
+  pub shown : Shown
+  pub might_hold : MayHold disk.may_leave disks shown
+  pub safe : IsCrashSafe before run shown
+  pub opens : OpensFrom run.pair shown safe.now world
