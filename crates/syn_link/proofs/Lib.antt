@@ -1,3 +1,4 @@
 mod FrameLemmas
+mod ReadLemmas
 mod StreamLemmas
 mod WriteLemmas

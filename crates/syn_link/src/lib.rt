@@ -15,7 +15,7 @@ mod stream;
 pub use error::LinkError;
 pub use framer::Framer;
 pub use frames::{MAX_BODY, frame};
-pub use stream::{read_some, write_frame};
+pub use stream::{read_body, read_some, write_frame};
 
 /// The same bytes are the same bodies and the same rest, wherever the stream was cut.
 pub fn stream_laws()

@@ -1,13 +1,15 @@
 //! Frames over a reader and a writer.
 ghost use Rattle.std.specs.Prelude.{◌≡◌, ◌≢◌, ◌↔◌, ◌⊎◌, ◌<◌, ◌≤◌, ◌++◌, ℕ, List, Ok, Err, length};
-ghost use Rattle.std.specs.Prelude.{take, IfOk, IfErr, OnOk, OnErr};
+ghost use Rattle.std.specs.Prelude.{take, IfOk, IfErr, IfSome, IfNone, OnOk, OnErr, Some};
 ghost use Rattle.std.specs.Io.KnownBytes.{Appends, Consumes, IsAtEnd, Keeps};
 ghost use Rattle.syn_link.specs.declared.frames.TheConstants.{MAX_BODY};
 ghost use Rattle.syn_link.specs.Frames.{IsBody, frame_of, AppendsSome};
+ghost use Rattle.syn_link.specs.Streams.{Comes, EndsBefore, ComesAtFault};
 
 use crate::error::LinkError;
 use crate::framer::Framer;
 use crate::frames::{check_length, spelled_length};
+use std::alloc::Global;
 use std::io::{ErrorKind, Read, Write};
 
 /// The most bytes that one call reads.
@@ -89,4 +91,36 @@ pub fn read_some<R: Read>(reader: &mut R, framer: &mut Framer) -> Result<usize, 
         }
         Err(_) => Err(LinkError::Device),
     }
+}
+
+/// Reads until a whole frame came, and hands out its body; none where the stream ended before.
+///
+/// Refused 21 and 22 as `Framer::next`, 9 where a read fails, and 11 where memory is refused. What
+/// came before stays in the framer, but for what a read gave that met no memory.
+pub fn read_body<R: Read>(
+    alloc: Global,
+    reader: &mut R,
+    framer: &mut Framer,
+) -> Result<Option<Vec<u8>>, LinkError>
+    ensures body { IfOk result (λ found. IfSome found (λ body.
+        Comes (R.remaining reader.old) (R.remaining reader.new) framer.old framer.new
+        (Some body.items))) }
+    ensures end { IfOk result (λ found. IfNone found
+        (EndsBefore (R.remaining reader.old) (R.remaining reader.new) framer.old framer.new)) }
+    ensures fault { IfErr result
+        (ComesAtFault (R.remaining reader.old) (R.remaining reader.new) framer.old framer.new) }
+{
+    for _ in 0..u64::MAX {
+        match framer.next(alloc) {
+            Ok(Some(body)) => return Ok(Some(body)),
+            Ok(None) => {}
+            Err(fault) => return Err(fault),
+        }
+        match read_some(reader, framer) {
+            Ok(0) => return Ok(None),
+            Ok(_) => {}
+            Err(error) => return Err(error),
+        }
+    }
+    Err(LinkError::Device)
 }
