@@ -1,0 +1,4 @@
+//! Scripts that run on three machines in memory.
+#![tactic(auto)]
+
+mod disks;
