@@ -1,6 +1,7 @@
 -- What the disks of a script's machines leave at their stops.
 use Rattle.std.specs.Global.{Vec}
-use Rattle.std.specs.Prelude.{◌≡◌, List, [], ◌∷◌, flat_map, Option, Some, None, Bool, true, false, if◌then◌else◌}
+use Rattle.std.specs.Prelude.{◌≡◌, List, [], ◌∷◌, flat_map, Option, Some, None, Bool, true, false}
+use Rattle.std.specs.Prelude.{if◌then◌else◌}
 use Rattle.syn_disk.specs.declared.simulated.leaves.Leaves.{Leaves}
 use Rattle.syn_message.specs.declared.side.Side.{Side}
 use Rattle.syn_message.specs.declared.side.Side.TheVariants.{Left, Right}
