@@ -1,1 +1,3 @@
+mod CollectLemmas
+mod OrderLemmas
 mod ShowLemmas

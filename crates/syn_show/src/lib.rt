@@ -1,12 +1,19 @@
-//! What is printed of a replica, of a directory of it, and of an archive.
+//! What is printed of a replica, of a directory of it, of an archive, and of a session that ended.
 //!
 //! A line says which image it is, with its pair and its numbers. Then each path has a line, in path
 //! order: `d PATH` is a directory, `f PATH LENGTH DIGEST` a file of a replica and `f PATH DIGEST`
 //! a file that an archive keeps, with the SHA-256 digest in hexadecimal digits.
+//!
+//! Of a session a line says how it ended, and one has its numbers. Then, in path order,
+//! `conflict PATH` is a conflict and `refused NUMBER PATH` an item that was refused, with the
+//! refusal's number. At last `ended NUMBER` says what ended it early, if anything did.
 #![tactic(auto)]
 
 mod error;
 mod lines;
+mod named;
+mod report;
 
 pub use error::ShowError;
 pub use lines::{show_archive, show_below, show_replica};
+pub use report::show_report;
