@@ -64,7 +64,10 @@ fn tell<O: Write, E: Write>(error: &LineError, output: &mut O, errors: &mut E) -
     ensures usage { result ≡ Status.Usage → IsMistake error.now }
 {
     match error {
-        LineError::Memory => return report(None, &Err(Failure::Refused(CommandError::Memory)), errors),
+        LineError::Memory => {
+            let failure = Failure::Refused(CommandError::Memory);
+            return report(None, &Err(failure), errors);
+        }
         LineError::Usage(asked) => match asked.kind() {
             ErrorKind::DisplayHelp | ErrorKind::DisplayVersion => {
                 return report(None, &help(asked, output), errors);
@@ -112,7 +115,9 @@ where
             path: Some(path),
         } => show(alloc, files, file, path, output)?,
         Line::Check { file } => print_numbers(alloc, files, file, output)?,
-        Line::Simulate { script } => run_script(alloc, files, script, output)?,
+        Line::Simulate { script } => {
+            run_script(alloc, files, script, output)?;
+        }
     }
     Ok(output.flush()?)
 }

@@ -4,6 +4,8 @@ ghost use Rattle.syn.specs.declared.failure.Failure.TheVariants.{Refused};
 
 use crate::error::CommandError;
 use std::io;
+use syn_show::ShowError;
+use syn_simulate::SimulateError;
 
 /// Why a command was not done.
 #[derive(Debug, Drop)]
@@ -25,5 +27,21 @@ impl From<CommandError> for Failure {
 impl From<io::Error> for Failure {
     fn from(error: io::Error) -> Failure {
         Failure::Refused(CommandError::from(error))
+    }
+}
+
+impl From<ShowError> for Failure {
+    fn from(error: ShowError) -> Failure {
+        Failure::Refused(CommandError::from(error))
+    }
+}
+
+impl From<SimulateError> for Failure {
+    fn from(error: SimulateError) -> Failure {
+        match error {
+            SimulateError::Script(number) => Failure::Line(number),
+            SimulateError::Refused(why) => Failure::Refused(CommandError::Machine(why)),
+            SimulateError::Memory => Failure::Refused(CommandError::Memory),
+        }
     }
 }
