@@ -21,9 +21,13 @@ returns c =
     let cause_and_path : Refusal × Path → Cause × Path = λ one. (cause_of one.0, one.1) in
     let refused_at : Cause × Path → Named = λ one. record { path = one.1; refused = Some one.0 } in
     IfOk-weaker c.collect.result _ _
-    (λ items told. told ∙ ap (λ more. map conflict report.conflicts.items ++ more) (sym (map-map refused_at cause_and_path report.refused.items)))
+    (λ items told. told ∙ ap (λ more. map conflict report.conflicts.items ++ more)
+    (sym (map-map refused_at cause_and_path report.refused.items)))
     (read_from_collect c.collect.result c.collect.ensures.ran
     (YieldsList-from_chain
-    (YieldsList-from_map_by _ named_of conflict (YieldsList-from_slice report.conflicts.items cc) c.map-conflicts.ensures.closure (λ x r q k. search rules))
-    (YieldsList-from_map_by _ named_of (λ one. refused_at (cause_and_path one)) (YieldsList-from_slice report.refused.items cc) c.map-refused.ensures.closure (λ x r q k. search rules))
+    (YieldsList-from_map_by _ named_of conflict (YieldsList-from_slice report.conflicts.items cc)
+    c.map-conflicts.ensures.closure (λ x r q k. search rules))
+    (YieldsList-from_map_by _ named_of (λ one. refused_at (cause_and_path one))
+    (YieldsList-from_slice report.refused.items cc) c.map-refused.ensures.closure
+    (λ x r q k. search rules))
     c.chain.ensures.first_done c.chain.ensures.second_done))
