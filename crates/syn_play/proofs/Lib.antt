@@ -1,3 +1,4 @@
 mod MoveLemmas
 mod LineLemmas
 mod PlayerLemmas
+mod LoopLemmas

@@ -4,7 +4,7 @@ use Rattle.std.proofs.Common.{Result, Ok, Err, refl, sym, ap, ◌∙◌, subst}
 use Rattle.std.proofs.lemmas.List.{append_assoc, length-map}
 use Rattle.std.specs.Global.{Vec}
 use Rattle.syn_disk.specs.declared.disk.Disk.{Ghosts}
-use Rattle.syn_headline.specs.World.{World as ModelWorld, Step, Runs}
+use Rattle.syn_headline.specs.World.{World as ModelWorld, Step, Steps}
 use Rattle.syn_play.specs.Lines.{Begins, Plays, PlaysAll, Said, Says, said}
 use Rattle.syn_play.specs.Players.{AreFlags, EndsIn, HasBegun, HasPlayed, HasPlayedAll, IsPlayer}
 use Rattle.syn_play.specs.States.{Goes, Moves, State, noted}
@@ -16,6 +16,14 @@ use Rattle.syn_world.specs.Runs.{StepsSo, no_memory, steps}
 use Rattle.syn_world.specs.Worlds.{AreLeft, GoesSo, IsWorld, message_of}
 use Rattle.syn_world.specs.declared.world.Disks.{Disks}
 use Rattle.syn_world.specs.declared.world.World.{World}
+
+-- the state behind a step
+abbrev behind : State → Step → ModelWorld → State
+behind old step world = record { world = world; delivered = noted old step }
+
+one : (old : State) (step : Step) (new : ModelWorld) → Steps old.world step new
+    → Moves old (step ∷ []) (behind old step new)
+one old step new goes = (behind old step new, record { steps = goes; delivered = refl }, refl)
 
 module _ {D : Type 0} {disk : Ghosts D} where
   -- as many were sent as the list has
@@ -46,14 +54,6 @@ module _ {D : Type 0} {disk : Ghosts D} where
       left = left;
     }
 
-    -- the state behind a step
-    behind : (step : Step) → ModelWorld → State
-    behind step world = record { world = world; delivered = noted old step }
-
-    one : (step : Step) (so : (new : ModelWorld) × Goes old step (behind step new))
-        → Moves old (step ∷ []) (behind step so.0)
-    one step so = (behind step so.0, so.1, refl)
-
     -- the world behind a step, and what is then delivered
     pub step_made : (step : Step) (player : Player D disk) (world : World D disk)
         (flags : Vec Bool) → IsPlayer player old
@@ -61,8 +61,8 @@ module _ {D : Type 0} {disk : Ghosts D} where
         → HasPlayed (Says (step ∷ [])) old
         (record { world = world; delivered = flags; lowest = player.lowest })
     step_made step player world flags was (steps so) are =
-        has_played (Says (step ∷ [])) (step ∷ []) (behind step so.new) _
-        (refl, one step (so.new, record { steps = so.steps; delivered = refl }))
+        has_played (Says (step ∷ [])) (step ∷ []) (behind old step so.new) _
+        (refl, one old step so.new so.steps)
         (record {
           world = so.ends;
           flags = are;
@@ -89,8 +89,8 @@ module _ {D : Type 0} {disk : Ghosts D} where
         → StepsSo {D = D} {disk = disk} old.world step (Err disks)
         → HasBegun disk (Says (step ∷ [])) old disks
     step_cut step disks (steps so) =
-        has_begun (Says (step ∷ [])) (step ∷ []) (behind step so.new) disks
-        ([], refl, one step (so.new, record { steps = so.steps; delivered = refl })) so.ends
+        has_begun (Says (step ∷ [])) (step ∷ []) (behind old step so.new) disks
+        ([], refl, one old step so.new so.steps) so.ends
     step_cut step disks (no_memory back is left) =
         step_none step disks
         (subst (λ d. AreLeft disk.may_leave d old.world) (back_is disks back is) left)

@@ -15,10 +15,13 @@ pub(crate) fn note_step(lists: &Lists, delivered: Vec<bool>, step: &Step) -> Opt
     ensures { (state : State) → IsListed lists.now state.world → AreFlags delivered state.delivered
         → IfSome result (λ flags. AreFlags flags (noted state (step_of step.now))) }
 {
-    match step {
-        Step::Deliver(number) if *number < lists.sent.len() => note(delivered, *number),
-        _ => Some(delivered),
+    let Step::Deliver(number) = step else {
+        return Some(delivered);
+    };
+    if *number >= lists.sent.len() {
+        return Some(delivered);
     }
+    note(delivered, *number)
 }
 
 /// The flags with that of the number set. None where memory for it is refused.

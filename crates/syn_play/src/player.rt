@@ -63,11 +63,15 @@ impl<D: SimulatedDisk> Player<D> {
         ensures { (state : State) → IsPlayer self state
             → PlaysTo (Says (step_of step ∷ [])) state result }
     {
-        let lowest = self.lowest;
-        let Some(delivered) = note_step(&self.world.lists, self.delivered, &step) else {
-            return Err(self.world.into_disks());
+        let Player {
+            world,
+            delivered,
+            lowest,
+        } = self;
+        let Some(delivered) = note_step(&world.lists, delivered, &step) else {
+            return Err(world.into_disks());
         };
-        match self.world.step(alloc, step) {
+        match world.step(alloc, step) {
             Ok(world) => Ok(Player {
                 world,
                 delivered,
@@ -121,7 +125,7 @@ impl<D: SimulatedDisk> Player<D> {
         for _ in 0..MOST_DRAINED {
             player.lowest = next_unset(player.delivered.as_slice(), player.lowest);
             let number = player.lowest;
-            if number >= player.world.lists.sent.len() {
+            if player.world.lists.sent.len() <= number {
                 return Ok(player);
             }
             match player.deliver(alloc, number) {
