@@ -1,13 +1,16 @@
 -- Steps and lines that are played one after another.
-use Rattle.std.proofs.Common.{◌≡◌, ◌<◌, ◌≤◌, ◌+◌, ℕ, Bool, true, false, List, [], ◌∷◌, ◌++◌}
+use Rattle.std.proofs.Common.{◌≡◌, ◌<◌, ◌≤◌, ◌+◌, ◌-◌, ℕ, suc, Bool, true, false, List, [], ◌∷◌, ◌++◌}
 use Rattle.std.proofs.Common.{length, map, slice_index_or, refl, sym, ap, ◌∙◌, subst, arith, inl, inr}
 use Rattle.std.proofs.lemmas.Bool.{cases_lt}
 use Rattle.std.proofs.lemmas.List.{append_assoc, length_push, map-append}
+use Rattle.std.proofs.lemmas.List.FromFn.{map-range_with_len_more}
+use Rattle.std.specs.Prelude.{IfSome, Option, Some, None}
 use Rattle.std.specs.List.{range_with_len}
 use Rattle.syn_disk.specs.declared.disk.Disk.{Ghosts}
 use Rattle.syn_headline.specs.World.{Step, Runs, Deliver}
-use Rattle.syn_play.specs.Drains.{DeliversLowest, Drains, IsLowest}
-use Rattle.syn_play.specs.Lines.{Begins, Plays, PlaysAll, Said, Says, ToDrain, said}
+use Rattle.syn_play.specs.Drains.{DeliversLowest, Drains, IsLowest, IsNextLeft, NoneIsLeft}
+use Rattle.syn_play.specs.Lines.{Begins, Plays, PlaysAll, Said, Says, ToDrain, deliveries}
+use Rattle.syn_play.specs.Lines.{said}
 use Rattle.syn_play.specs.Players.{EndsIn, HasBegun, HasPlayed, HasPlayedAll, IsPlayer, world_of}
 use Rattle.syn_play.specs.States.{Goes, Moves, State}
 use Rattle.syn_play.specs.declared.player.Player.{Player}
@@ -94,20 +97,27 @@ module _ {D : Type 0} {disk : Ghosts D} (old : State) where
     is = played.is;
   }
 
+  -- what is below the lowest that is left was delivered
+  abbrev pub drained_from : (count number : ℕ) (player : Player D disk) (had : HasDrained old count player)
+      → IsLowest had.new number → HasDrained old count (record player { lowest = number })
+  drained_from count number player had low = record {
+    made = had.made;
+    new = had.new;
+    lowest = had.lowest;
+    counted = had.counted;
+    is = record { world = had.is.world; flags = had.is.flags; below = low.below };
+  }
+
   -- none is left
   pub drained_all : (count : ℕ) (player : Player D disk) (had : HasDrained old count player)
-      → count ≤ MOST_DRAINED → length (world_of player).lists.sent.items ≤ player.lowest
-      → HasPlayed ToDrain old player
-  drained_all count player had most past =
-      let sent : length (world_of player).lists.sent.items ≡ length had.new.world.sent =
-          sent_count (world_of player) had.new.world had.is.world in
+      → count ≤ MOST_DRAINED → NoneIsLeft had.new → HasPlayed ToDrain old player
+  drained_all count player had most none =
       let counted : length had.made ≡ count = had.counted in
       has_played old ToDrain had.made had.new player
       (record {
         lowest = had.lowest;
         most = omega arith;
-        ends = λ less number was.
-            let below : number < player.lowest = omega arith in had.is.below number below;
+        ends = λ less. none;
       })
       had.is
 
@@ -212,3 +222,89 @@ module _ {D : Type 0} {disk : Ghosts D} (player : Player D disk) (state : State)
         undelivered = sym (is.flags number) ∙ unset;
         below = below;
       }
+
+-- the next that is left, by what was found
+module _ {D : Type 0} {disk : Ghosts D} (player : Player D disk) (state : State)
+    (is : IsPlayer player state) (flags : List Bool) (same : flags ≡ player.delivered.items)
+    (limit : ℕ) (counted : limit ≡ length (world_of player).lists.sent.items) where
+  flag_is : (number : ℕ) → slice_index_or player.delivered.items number false
+      ≡ slice_index_or flags number false
+  flag_is number = ap (λ l. slice_index_or l number false) (sym same)
+
+  pub next_left_is : (found : Option ℕ)
+      → (found ≡ None → (other : ℕ) → player.lowest ≤ other → other < limit
+      → slice_index_or flags other false ≡ true)
+      → IfSome found (λ n. n < limit) → IfSome found (λ n. slice_index_or flags n false ≡ false)
+      → IfSome found (λ n. (other : ℕ) → player.lowest ≤ other → other < n
+      → slice_index_or flags other false ≡ true)
+      → IsNextLeft state found
+  next_left_is None none limited unset set = λ number within.
+      let sent : length (world_of player).lists.sent.items ≡ length state.world.sent =
+          sent_count (world_of player) state.world is.world in
+      let less : number < limit = omega arith in
+      elim (cases_lt number player.lowest) [ inl before ↦ is.below number before
+      | inr behind ↦ sym (is.flags number) ∙ (flag_is number ∙ none refl number behind less) ]
+  next_left_is (Some n) none limited unset set =
+      lowest_left player state n is (flag_is n ∙ unset)
+      (λ other from low. flag_is other ∙ set other from low) (omega arith)
+
+-- a range of deliveries about one of them
+pub about : (first number last : ℕ) → first ≤ number → number ≤ last
+    → map Deliver (range_with_len first (number - first))
+    ++ Deliver number ∷ map Deliver (range_with_len (number + 1) (last - number))
+    ≡ deliveries first last
+about first number last from upto =
+    let low : ℕ = number - first in
+    let high : ℕ = last - number in
+    let here : first + low ≡ number = omega arith in
+    let long : low + suc high ≡ last + 1 - first = omega arith in
+    ap (λ n. map Deliver (range_with_len first low)
+    ++ Deliver n ∷ map Deliver (range_with_len (n + 1) high)) (sym here)
+    ∙ (sym (map-append Deliver (range_with_len first low)
+    (range_with_len (first + low) (suc high)))
+    ∙ (ap (λ l. map Deliver l) (sym (range_parts first low (suc high)))
+    ∙ ap (λ n. map Deliver (range_with_len first n)) long))
+
+module _ {D : Type 0} {disk : Ghosts D} (old : State) (first number last : ℕ)
+    (player : Player D disk)
+    (had : HasMoved old (map Deliver (range_with_len first (number - first))) player) where
+  -- one number more
+  pub number_on : first ≤ number → (next : Player D disk)
+      → HasPlayed (Says (Deliver number ∷ [])) had.new next
+      → HasMoved old (map Deliver (range_with_len first (number + 1 - first))) next
+  number_on from next played =
+      let more : number - first + 1 ≡ number + 1 - first = omega arith in
+      let here : first + (number - first) ≡ number = omega arith in
+      subst (λ n. HasMoved old (map Deliver (range_with_len first n)) next) more
+      (subst (λ l. HasMoved old l next)
+      (sym (map-range_with_len_more Deliver first (number - first) number here))
+      (moved_on old (map Deliver (range_with_len first (number - first))) (Deliver number)
+      player next had played))
+
+  -- it was cut
+  pub number_cut : first ≤ number → number ≤ last → (disks : Disks D)
+      → HasBegun disk (Says (Deliver number ∷ [])) had.new disks
+      → HasBegun disk (Says (deliveries first last)) old disks
+  number_cut from upto disks begun =
+      subst (λ l. HasBegun disk (Says l) old disks) (about first number last from upto)
+      (moved_cut old (map Deliver (range_with_len first (number - first))) (Deliver number)
+      (map Deliver (range_with_len (number + 1) (last - number))) player disks had begun)
+
+  -- nothing was sent with it
+  pub number_unsent : first ≤ number → number ≤ last
+      → length (world_of player).lists.sent.items ≤ number
+      → HasPlayed (Says (deliveries first last)) old player
+  number_unsent from upto past =
+      let low : ℕ = number - first in
+      let long : low + (last + 1 - number) ≡ last + 1 - first = omega arith in
+      let beyond : length (world_of player).lists.sent.items ≤ first + low = omega arith in
+      subst (λ n. HasPlayed (Says (map Deliver (range_with_len first n))) old player) long
+      (moved_idle old first low (last + 1 - number) player had beyond)
+
+  -- each was delivered
+  pub number_end : number - first ≡ last + 1 - first
+      → HasPlayed (Says (deliveries first last)) old player
+  number_end all =
+      let whole = subst (λ n. HasMoved old (map Deliver (range_with_len first n)) player) all had in
+      has_played old (Says (deliveries first last)) (deliveries first last) whole.new player
+      (refl, whole.moves) whole.is

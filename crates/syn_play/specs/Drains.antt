@@ -1,5 +1,6 @@
 -- What draining is.
 use Rattle.std.specs.Prelude.{◌≡◌, ◌<◌, ◌≤◌, ℕ, true, false, List, [], ◌∷◌, length}
+use Rattle.std.specs.Prelude.{Option, Some, None}
 use Rattle.syn_headline.specs.World.{Step, Deliver}
 use Rattle.syn_play.specs.States.{Goes, State}
 use Rattle.syn_play.specs.declared.player.TheConstants.{MOST_DRAINED}
@@ -14,6 +15,11 @@ pub record IsLowest (state : State) (number : ℕ) : Type 0 where
 abbrev pub NoneIsLeft : State → Type 0
 NoneIsLeft state =
     (number : ℕ) → number < length state.world.sent → state.delivered number ≡ true
+
+-- the lowest that is left, or none is
+abbrev pub IsNextLeft : State → Option ℕ → Type 0
+IsNextLeft state None = NoneIsLeft state
+IsNextLeft state (Some number) = IsLowest state number
 
 -- these steps deliver one message after another, each time the lowest that is left
 abbrev pub DeliversLowest : State → List Step → State → Type 0

@@ -1,5 +1,5 @@
 //! Which messages were delivered already.
-ghost use Rattle.std.specs.Prelude.{◌≡◌, ◌==◌, ◌||◌, ◌<◌, ◌≤◌, ℕ, false, true, vec_len, IfSome};
+ghost use Rattle.std.specs.Prelude.{◌≡◌, ◌==◌, ◌||◌, ◌<◌, ◌≤◌, ℕ, false, true, vec_len, None, IfSome};
 ghost use Rattle.std.specs.Prelude.{slice_index_or};
 ghost use Rattle.syn_headline.specs.World.{World as ModelWorld};
 ghost use Rattle.syn_play.specs.Players.{AreFlags};
@@ -39,8 +39,25 @@ fn note(delivered: Vec<bool>, number: usize) -> Option<Vec<bool>>
     Some(flags)
 }
 
+/// The lowest number from that one on whose flag is not set, if it is below the limit.
+pub(crate) fn lowest_unset(flags: &[bool], from: usize, limit: usize) -> Option<usize>
+    ensures none { result ≡ None → (other : ℕ) → from ≤ other → other < limit
+        → slice_index_or flags.now other false ≡ true }
+    ensures below { IfSome result (λ number. number < limit) }
+    ensures unset { IfSome result (λ number. slice_index_or flags.now number false ≡ false) }
+    ensures set { IfSome result (λ number. (other : ℕ) → from ≤ other → other < number
+        → slice_index_or flags.now other false ≡ true) }
+{
+    let number = next_unset(flags, from);
+    if number < limit {
+        Some(number)
+    } else {
+        None
+    }
+}
+
 /// The lowest number from that one on whose flag is not set.
-pub(crate) fn next_unset(flags: &[bool], from: usize) -> usize
+fn next_unset(flags: &[bool], from: usize) -> usize
     ensures unset { slice_index_or flags.now result false ≡ false }
     ensures set { (other : ℕ) → from ≤ other → other < result
         → slice_index_or flags.now other false ≡ true }

@@ -1,6 +1,7 @@
 //! A world on which lines are played.
-ghost use Rattle.std.specs.Prelude.{◌≡◌, ◌∷◌, []};
+ghost use Rattle.std.specs.Prelude.{◌≡◌, ◌≤◌, ◌↔◌, ◌∷◌, [], true, vec_len};
 ghost use Rattle.syn_headline.specs.World.{World as ModelWorld, Deliver};
+ghost use Rattle.syn_play.specs.Drains.{IsNextLeft};
 ghost use Rattle.syn_play.specs.Lines.{Says, ToDrain, deliveries, said};
 ghost use Rattle.syn_play.specs.Players.{PlaysAllTo, PlaysTo, IsPlayer, world_of};
 ghost use Rattle.syn_play.specs.States.{State, fresh};
@@ -8,7 +9,7 @@ ghost use Rattle.syn_world.specs.Steps.{step_of};
 ghost use Rattle.syn_world.specs.Worlds.{IsWorld};
 
 use crate::line::machine_of;
-use crate::notes::{next_unset, note_step};
+use crate::notes::{lowest_unset, note_step};
 use std::alloc::Global;
 use syn_disk::Disk;
 use syn_script::Line;
@@ -105,7 +106,7 @@ impl<D: SimulatedDisk> Player<D> {
     {
         let mut player = self;
         for number in first..=last {
-            if number >= player.world.lists.sent.len() {
+            if player.is_unsent(number) {
                 return Ok(player);
             }
             match player.deliver(alloc, number) {
@@ -122,18 +123,31 @@ impl<D: SimulatedDisk> Player<D> {
         ensures { (state : State) → IsPlayer self state → PlaysTo ToDrain state result }
     {
         let mut player = self;
-        for _ in 0..MOST_DRAINED {
-            player.lowest = next_unset(player.delivered.as_slice(), player.lowest);
-            let number = player.lowest;
-            if player.world.lists.sent.len() <= number {
+        for _drained in 0..MOST_DRAINED {
+            let Some(number) = player.next_left() else {
                 return Ok(player);
-            }
+            };
+            player.lowest = number;
             match player.deliver(alloc, number) {
                 Ok(next) => player = next,
                 Err(disks) => return Err(disks),
             }
         }
         Ok(player)
+    }
+
+    /// The lowest number of a message that was sent and not delivered yet, if there is one.
+    fn next_left(&self) -> Option<usize>
+        ensures { (state : State) → IsPlayer self.now state → IsNextLeft state result }
+    {
+        lowest_unset(self.delivered.as_slice(), self.lowest, self.world.lists.sent.len())
+    }
+
+    /// Whether no message was sent with the number yet.
+    fn is_unsent(&self, number: usize) -> bool
+        ensures { (result ≡ true) ↔ (vec_len (world_of self.now).lists.sent ≤ number) }
+    {
+        self.world.lists.sent.len() <= number
     }
 
     /// Plays a line. What a stop leaves on a disk is the disk's own concern.
