@@ -7,6 +7,7 @@ use Rattle.syn_play.specs.Lines.{Says, deliveries}
 use Rattle.syn_play.specs.Players.{HasPlayed}
 use Rattle.syn_play.proofs.player.Player.deliver_all.Goals as goal
 use Rattle.syn_play.proofs.player.Player.deliver_all.Goals.{else-loop-number-test}
+use Rattle.syn_play.proofs.player.Player.deliver_all.Goals.{then-loop-number-test+else-is_unsent+in-Ok+else-number-last}
 
 pub loop-number-init : goal.loop-number-init
 loop-number-init g c = record {
@@ -58,4 +59,11 @@ returns g c state is =
       (number_end state c.args.first c.loop-number.number c.args.last c.loop-number.player had
       (elim c.loop-number.invariant.upto
       [ inl same ↦ omega (arith, same, w.loop-number-test.false)
-      | inr upto ↦ omega (arith, upto, c.loop-number.invariant.from, w.loop-number-test.false) ])) ]
+      | inr upto ↦ omega (arith, upto, c.loop-number.invariant.from, w.loop-number-test.false) ]))
+    | then-loop-number-test+else-is_unsent+in-Ok+else-number-last w ↦
+      subst (λ p. HasPlayed (Says (deliveries c.args.first c.args.last)) state p)
+      (sym w.player-is)
+      (number_end state c.args.first (c.loop-number.number + 1) c.args.last w.in-Ok.next
+      (number_on state c.args.first c.loop-number.number c.args.last c.loop-number.player had
+      c.loop-number.invariant.from w.in-Ok.next (w.in-Ok.ensures had.new had.is))
+      (omega (arith, c.loop-number.invariant.from))) ]
