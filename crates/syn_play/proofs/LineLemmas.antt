@@ -29,11 +29,20 @@ all_moves (line ∷ lines) old new steps (first, rest, between, joined, plays, o
 pub all_on : (lines : List Line) (line : Line) (old middle new : State) (made more : List Step)
     → PlaysAll lines old made middle → PlaysLine line middle more new
     → PlaysAll (lines ++ line ∷ []) old (made ++ more) new
-all_on [] line old middle new made more (none, same) plays =
-    (more, [], new, append-nil more ∙ sym (ap (λ s. s ++ more) none),
-    subst (λ s. PlaysLine line s more new) same plays, (refl, refl))
+all_on [] line old middle new made more (none, same) plays = (
+  more,
+  [],
+  new,
+  append-nil more ∙ sym (ap (λ s. s ++ more) none),
+  subst (λ s. PlaysLine line s more new) same plays,
+  (refl, refl),
+)
 all_on (one ∷ lines) line old middle new made more (first, rest, between, joined, begins, others)
-    plays =
-    (first, rest ++ more, between,
-    sym (append_assoc first rest more) ∙ ap (λ s. s ++ more) joined, begins,
-    all_on lines line between middle new rest more others plays)
+    plays = (
+      first,
+      rest ++ more,
+      between,
+      sym (append_assoc first rest more) ∙ ap (λ s. s ++ more) joined,
+      begins,
+      all_on lines line between middle new rest more others plays,
+    )

@@ -7,15 +7,15 @@ use Rattle.std.proofs.lemmas.List.FromFn.{map-range_with_len_more}
 use Rattle.std.specs.Prelude.{IfSome, Option, Some, None}
 use Rattle.std.specs.List.{range_with_len}
 use Rattle.syn_disk.specs.declared.disk.Disk.{Ghosts}
-use Rattle.syn_headline.specs.World.{Step, Runs, Deliver}
-use Rattle.syn_play.specs.Drains.{DeliversLowest, Drains, IsLowest, IsNextLeft, NoneIsLeft}
-use Rattle.syn_play.specs.Lines.{Begins, Plays, PlaysAll, Said, Says, ToDrain, deliveries}
+use Rattle.syn_headline.specs.World.{Step, Deliver}
+use Rattle.syn_play.specs.Drains.{DeliversLowest, IsLowest, IsNextLeft, NoneIsLeft}
+use Rattle.syn_play.specs.Lines.{PlaysAll, Says, ToDrain, deliveries}
 use Rattle.syn_play.specs.Lines.{said}
 use Rattle.syn_play.specs.Players.{EndsIn, HasBegun, HasPlayed, HasPlayedAll, IsPlayer, world_of}
-use Rattle.syn_play.specs.States.{Goes, Moves, State}
+use Rattle.syn_play.specs.States.{Moves, State}
 use Rattle.syn_play.specs.declared.player.Player.{Player}
 use Rattle.syn_play.specs.declared.player.TheConstants.{MOST_DRAINED}
-use Rattle.syn_play.proofs.LineLemmas.{all_moves, all_on, begins_moves, plays_moves}
+use Rattle.syn_play.proofs.LineLemmas.{all_moves, all_on, begins_moves}
 use Rattle.syn_play.proofs.MoveLemmas.{idle_all, lowest_on, lowest_same, moves_on, moves_run}
 use Rattle.syn_play.proofs.MoveLemmas.{one_goes, range_parts}
 use Rattle.syn_play.proofs.PlayerLemmas.{has_begun, has_played, sent_count}
@@ -55,12 +55,13 @@ module _ {D : Type 0} {disk : Ghosts D} (old : State) where
       → HasBegun disk (Says (made ++ step ∷ tail)) old disks
   moved_cut made step tail player disks had begun =
       let rest : List Step = begun.begins.0 in
-      has_begun old (Says (made ++ step ∷ tail)) (made ++ begun.made) begun.new disks
-      (rest ++ tail,
-      append_assoc made begun.made (rest ++ tail)
-      ∙ ap (λ l. made ++ l) (sym (append_assoc begun.made rest tail)
-      ∙ ap (λ l. l ++ tail) begun.begins.1),
-      moves_on old had.new begun.new made begun.made had.moves begun.begins.2)
+      has_begun old (Says (made ++ step ∷ tail)) (made ++ begun.made) begun.new disks (
+        rest ++ tail,
+        append_assoc made begun.made (rest ++ tail)
+            ∙ ap (λ l. made ++ l) (sym (append_assoc begun.made rest tail)
+            ∙ ap (λ l. l ++ tail) begun.begins.1),
+        moves_on old had.new begun.new made begun.made had.moves begun.begins.2,
+      )
       begun.left
 
   -- the numbers behind those that were sent
@@ -70,17 +71,19 @@ module _ {D : Type 0} {disk : Ghosts D} (old : State) where
       → HasPlayed (Says (map Deliver (range_with_len first (low + high)))) old player
   moved_idle first low high player had past =
       let sent : length (world_of player).lists.sent.items ≡ length had.new.world.sent =
-          sent_count (world_of player) had.new.world had.is.world in
+      sent_count (world_of player) had.new.world had.is.world in
       let beyond : length had.new.world.sent ≤ first + low = omega arith in
       let parts : map Deliver (range_with_len first low)
-          ++ map Deliver (range_with_len (first + low) high)
-          ≡ map Deliver (range_with_len first (low + high)) =
-          sym (ap (λ l. map Deliver l) (range_parts first low high)
-          ∙ map-append Deliver (range_with_len first low) (range_with_len (first + low) high)) in
+      ++ map Deliver (range_with_len (first + low) high)
+      ≡ map Deliver (range_with_len first (low + high)) =
+      sym (ap (λ l. map Deliver l) (range_parts first low high)
+      ∙ map-append Deliver (range_with_len first low) (range_with_len (first + low) high)) in
       has_played old (Says (map Deliver (range_with_len first (low + high))))
-      (map Deliver (range_with_len first (low + high))) had.new player
-      (refl, subst (λ l. Moves old l had.new) parts
-      (moves_on old had.new had.new _ _ had.moves (idle_all had.new (first + low) high beyond)))
+      (map Deliver (range_with_len first (low + high))) had.new player (
+        refl,
+        subst (λ l. Moves old l had.new) parts
+            (moves_on old had.new had.new _ _ had.moves (idle_all had.new (first + low) high beyond)),
+      )
       had.is
 
   -- one message more is delivered
@@ -153,11 +156,13 @@ module _ {D : Type 0} {disk : Ghosts D} (old : State) where
       by_made (step ∷ []) rest joined moves =
           let is : step ≡ Deliver number = cc in
           let pushed : length (had.made ++ Deliver number ∷ []) ≡ length had.made + 1 =
-              length_push had.made (Deliver number) in
-          has_begun old ToDrain (had.made ++ Deliver number ∷ []) begun.new disks
-          (lowest_on old had.new begun.new had.made number had.lowest low
-          (one_goes had.new begun.new (Deliver number)
-          (subst (λ s. Moves had.new (s ∷ []) begun.new) is moves)), omega arith)
+          length_push had.made (Deliver number) in
+          has_begun old ToDrain (had.made ++ Deliver number ∷ []) begun.new disks (
+            lowest_on old had.new begun.new had.made number had.lowest low
+                (one_goes had.new begun.new (Deliver number)
+                (subst (λ s. Moves had.new (s ∷ []) begun.new) is moves)),
+            omega arith,
+          )
           begun.left
       by_made (step ∷ other ∷ made) rest joined moves = absurd cc
 
@@ -167,7 +172,7 @@ module _ {D : Type 0} {disk : Ghosts D} (old : State) where
       → HasPlayedAll (lines ++ line ∷ []) old next
   all_played lines line player next had played =
       let plays : PlaysAll (lines ++ line ∷ []) old (had.steps ++ played.steps) played.new =
-          all_on lines line old had.new played.new had.steps played.steps had.plays played.plays in
+      all_on lines line old had.new played.new had.steps played.steps had.plays played.plays in
       record {
         steps = had.steps ++ played.steps;
         new = played.new;
@@ -207,8 +212,10 @@ module _ {D : Type 0} {disk : Ghosts D} (player : Player D disk) (state : State)
     → slice_index_or player.delivered.items other false ≡ true) where
   below : (other : ℕ) → other < number → state.delivered other ≡ true
   below other low =
-      elim (cases_lt other player.lowest) [ inl before ↦ is.below other before
-      | inr behind ↦ sym (is.flags other) ∙ set other behind low ]
+      elim (cases_lt other player.lowest) [
+        | inl before ↦ is.below other before
+        | inr behind ↦ sym (is.flags other) ∙ set other behind low
+      ]
 
   pub passed : IsPlayer (record player { lowest = number }) state
   passed = record { world = is.world; flags = is.flags; below = below }
@@ -216,7 +223,7 @@ module _ {D : Type 0} {disk : Ghosts D} (player : Player D disk) (state : State)
   pub lowest_left : number < length (world_of player).lists.sent.items → IsLowest state number
   lowest_left within =
       let sent : length (world_of player).lists.sent.items ≡ length state.world.sent =
-          sent_count (world_of player) state.world is.world in
+      sent_count (world_of player) state.world is.world in
       record {
         sent = omega arith;
         undelivered = sym (is.flags number) ∙ unset;
@@ -240,10 +247,12 @@ module _ {D : Type 0} {disk : Ghosts D} (player : Player D disk) (state : State)
       → IsNextLeft state found
   next_left_is None none limited unset set = λ number within.
       let sent : length (world_of player).lists.sent.items ≡ length state.world.sent =
-          sent_count (world_of player) state.world is.world in
+      sent_count (world_of player) state.world is.world in
       let less : number < limit = omega arith in
-      elim (cases_lt number player.lowest) [ inl before ↦ is.below number before
-      | inr behind ↦ sym (is.flags number) ∙ (flag_is number ∙ none refl number behind less) ]
+      elim (cases_lt number player.lowest) [
+        | inl before ↦ is.below number before
+        | inr behind ↦ sym (is.flags number) ∙ (flag_is number ∙ none refl number behind less)
+      ]
   next_left_is (Some n) none limited unset set =
       lowest_left player state n is (flag_is n ∙ unset)
       (λ other from low. flag_is other ∙ set other from low) (omega arith)

@@ -41,9 +41,14 @@ lowest_moves old new (step ∷ steps) (number, between, is, low, goes, rest) =
 pub lowest_on : (old middle new : State) (made : List Step) (number : ℕ)
     → DeliversLowest old made middle → IsLowest middle number → Goes middle (Deliver number) new
     → DeliversLowest old (made ++ Deliver number ∷ []) new
-lowest_on old middle new [] number same low goes =
-    (number, new, refl, subst (λ s. IsLowest s number) same low,
-    subst (λ s. Goes s (Deliver number) new) same goes, refl)
+lowest_on old middle new [] number same low goes = (
+  number,
+  new,
+  refl,
+  subst (λ s. IsLowest s number) same low,
+  subst (λ s. Goes s (Deliver number) new) same goes,
+  refl,
+)
 lowest_on old middle new (step ∷ made) number (other, between, is, lower, begins, rest) low goes =
     (other, between, is, lower, begins, lowest_on between middle new made number rest low goes)
 

@@ -1,19 +1,18 @@
 -- Where a step leads a player.
-use Rattle.std.proofs.Common.{◌≡◌, ◌<◌, ℕ, Bool, true, List, [], ◌∷◌, ◌++◌, length, map}
+use Rattle.std.proofs.Common.{◌≡◌, Bool, List, [], ◌∷◌, length}
 use Rattle.std.proofs.Common.{Result, Ok, Err, refl, sym, ap, ◌∙◌, subst}
-use Rattle.std.proofs.lemmas.List.{append_assoc, length-map}
+use Rattle.std.proofs.lemmas.List.{length-map}
 use Rattle.std.specs.Global.{Vec}
 use Rattle.syn_disk.specs.declared.disk.Disk.{Ghosts}
 use Rattle.syn_headline.specs.World.{World as ModelWorld, Step, Steps}
-use Rattle.syn_play.specs.Lines.{Begins, Plays, PlaysAll, Said, Says, said}
-use Rattle.syn_play.specs.Players.{AreFlags, EndsIn, HasBegun, HasPlayed, HasPlayedAll, IsPlayer}
-use Rattle.syn_play.specs.States.{Goes, Moves, State, noted}
+use Rattle.syn_play.specs.Lines.{Begins, Plays, Said, Says}
+use Rattle.syn_play.specs.Players.{AreFlags, HasBegun, HasPlayed, IsPlayer}
+use Rattle.syn_play.specs.States.{Moves, State, noted}
 use Rattle.syn_play.specs.declared.player.Player.{Player}
-use Rattle.syn_play.proofs.LineLemmas.{all_moves, all_on, begins_moves, plays_moves}
-use Rattle.syn_play.proofs.MoveLemmas.{moves_on, moves_run, stays_noted}
-use Rattle.syn_script.specs.declared.line.Line.{Line}
+use Rattle.syn_play.proofs.LineLemmas.{begins_moves, plays_moves}
+use Rattle.syn_play.proofs.MoveLemmas.{moves_run, stays_noted}
 use Rattle.syn_world.specs.Runs.{StepsSo, no_memory, steps}
-use Rattle.syn_world.specs.Worlds.{AreLeft, GoesSo, IsWorld, message_of}
+use Rattle.syn_world.specs.Worlds.{AreLeft, IsWorld, message_of}
 use Rattle.syn_world.specs.declared.world.Disks.{Disks}
 use Rattle.syn_world.specs.declared.world.World.{World}
 

@@ -49,11 +49,7 @@ pub(crate) fn lowest_unset(flags: &[bool], from: usize, limit: usize) -> Option<
         → slice_index_or flags.now other false ≡ true) }
 {
     let number = next_unset(flags, from);
-    if number < limit {
-        Some(number)
-    } else {
-        None
-    }
+    if number < limit { Some(number) } else { None }
 }
 
 /// The lowest number from that one on whose flag is not set.

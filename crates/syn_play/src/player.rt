@@ -140,7 +140,11 @@ impl<D: SimulatedDisk> Player<D> {
     fn next_left(&self) -> Option<usize>
         ensures { (state : State) → IsPlayer self.now state → IsNextLeft state result }
     {
-        lowest_unset(self.delivered.as_slice(), self.lowest, self.world.lists.sent.len())
+        lowest_unset(
+            self.delivered.as_slice(),
+            self.lowest,
+            self.world.lists.sent.len(),
+        )
     }
 
     /// Whether no message was sent with the number yet.

@@ -1,4 +1,4 @@
-use Rattle.std.proofs.Common.{◌≡◌, ◌≤◌, ◌-◌, ◌+◌, arith, inl, inr, map, refl, subst, sym}
+use Rattle.std.proofs.Common.{◌≡◌, ◌-◌, ◌+◌, arith, inl, inr, map, refl, subst, sym}
 use Rattle.std.specs.List.{range_with_len}
 use Rattle.syn_headline.specs.World.{Deliver}
 use Rattle.syn_play.specs.States.{Moves}
@@ -52,18 +52,20 @@ pub returns : goal.returns
 returns g c state is =
     let had = c.loop-number.invariant.has state is in
     elim c.loop-number-test.branch as (λ _. HasPlayed
-    (Says (deliveries c.args.first c.args.last)) state c.loop-number-test.player)
-    [ else-loop-number-test w ↦
-      subst (λ p. HasPlayed (Says (deliveries c.args.first c.args.last)) state p)
-      (sym w.player-is)
-      (number_end state c.args.first c.loop-number.number c.args.last c.loop-number.player had
-      (elim c.loop-number.invariant.upto
-      [ inl same ↦ omega (arith, same, w.loop-number-test.false)
-      | inr upto ↦ omega (arith, upto, c.loop-number.invariant.from, w.loop-number-test.false) ]))
-    | then-loop-number-test+else-is_unsent+in-Ok+else-number-last w ↦
-      subst (λ p. HasPlayed (Says (deliveries c.args.first c.args.last)) state p)
-      (sym w.player-is)
-      (number_end state c.args.first (c.loop-number.number + 1) c.args.last w.in-Ok.next
-      (number_on state c.args.first c.loop-number.number c.args.last c.loop-number.player had
-      c.loop-number.invariant.from w.in-Ok.next (w.in-Ok.ensures had.new had.is))
-      (omega (arith, c.loop-number.invariant.from))) ]
+    (Says (deliveries c.args.first c.args.last)) state c.loop-number-test.player) [
+      | else-loop-number-test w ↦
+          subst (λ p. HasPlayed (Says (deliveries c.args.first c.args.last)) state p)
+          (sym w.player-is)
+          (number_end state c.args.first c.loop-number.number c.args.last c.loop-number.player had
+          (elim c.loop-number.invariant.upto [
+            | inl same ↦ omega (arith, same, w.loop-number-test.false)
+            | inr upto ↦ omega (arith, upto, c.loop-number.invariant.from, w.loop-number-test.false)
+          ]))
+      | then-loop-number-test+else-is_unsent+in-Ok+else-number-last w ↦
+          subst (λ p. HasPlayed (Says (deliveries c.args.first c.args.last)) state p)
+          (sym w.player-is)
+          (number_end state c.args.first (c.loop-number.number + 1) c.args.last w.in-Ok.next
+          (number_on state c.args.first c.loop-number.number c.args.last c.loop-number.player had
+          c.loop-number.invariant.from w.in-Ok.next (w.in-Ok.ensures had.new had.is))
+          (omega (arith, c.loop-number.invariant.from)))
+    ]

@@ -1,4 +1,3 @@
-use Rattle.std.proofs.Common.{◌≤◌}
 use Rattle.syn_play.specs.Players.{IsPlayer}
 use Rattle.syn_play.specs.States.{State}
 use Rattle.syn_play.proofs.LoopLemmas.{HasDrained}

@@ -1,5 +1,3 @@
-use Rattle.syn_play.specs.States.{State}
-use Rattle.syn_play.specs.Players.{IsPlayer}
 use Rattle.syn_world.specs.Steps.{step_of}
 use Rattle.syn_play.proofs.PlayerLemmas.{step_cut, step_made, step_none}
 use Rattle.syn_play.proofs.player.Player.step.Goals as goal
