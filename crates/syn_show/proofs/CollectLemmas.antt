@@ -1,5 +1,5 @@
 -- What a chain collects, as a function reads it.
-use Rattle.std.proofs.Common.{◌≡◌, ◌∙◌, Bool, List, Option, Result, Ok, Err, ap, map}
+use Rattle.std.proofs.Common.{◌≡◌, ◌∙◌, List, Option, Result, Ok, Err, ap, map}
 use Rattle.std.specs.Result.{IfOk}
 use Rattle.std.specs.declared.vec.Vec.{Vec}
 use Rattle.std.proofs.lemmas.Iterator.{IsCollectResult, YieldsList, items_from_drains}

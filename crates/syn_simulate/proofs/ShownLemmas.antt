@@ -19,7 +19,8 @@ appends_more (Some held) (Some bs) (Some cs) xs ys h g =
 
 -- one report more has its own lines
 pub more_reports : (reports : List (Report × ℕ)) (one : Report × ℕ)
-    → reports_shown (reports ++ one ∷ []) ≡ reports_shown reports ++ report_lines (report_model one.0)
+    → reports_shown (reports ++ one ∷ [])
+    ≡ reports_shown reports ++ report_lines (report_model one.0)
 more_reports reports one =
     flat_map-append (λ each. report_lines (report_model each.0)) reports (one ∷ [])
     ∙ ap (λ z. reports_shown reports ++ z) (append-nil (report_lines (report_model one.0)))

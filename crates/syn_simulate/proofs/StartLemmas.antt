@@ -1,8 +1,14 @@
 -- A disk that was just formatted can start its machine, and three of them are those of a pair.
-use Rattle.std.proofs.Common.{◌≡◌, ◌<◌, ℕ, [], List, ap, arith, subst, sym}
-use Rattle.std.specs.Prelude.{◌^◌}
+use Rattle.std.proofs.Common.{◌≡◌, ◌∙◌, [], ap, arith, inl, inr, refl, subst, sym}
+use Rattle.std.proofs.Common.{true, true≢false}
+use Rattle.std.specs.List.{list_any}
+use Rattle.std.specs.Prelude.{◌==◌, ◌⊎◌}
 use Rattle.syn_archive.specs.Archive as archives
+use Rattle.syn_archive.specs.Refusals as archive_refusals
+use Rattle.syn_archive.specs.Refusals.{IsOfFormat}
 use Rattle.syn_archive.specs.declared.archive.Archive.{Archive}
+use Rattle.syn_archive.specs.declared.error.ArchiveError.{ArchiveError}
+use Rattle.syn_archive.specs.declared.error.ArchiveError.TheVariants as archive_errors
 use Rattle.syn_disk.specs.Arms.{Arms, is_stopped, no_arms}
 use Rattle.syn_disk.specs.Calls.{Makes}
 use Rattle.syn_disk.specs.declared.disk.Disk.{Ghosts}
@@ -12,14 +18,41 @@ use Rattle.syn_headline.specs.Network.{Which, Left, Right}
 use Rattle.syn_model.specs.Archive.{new_archive}
 use Rattle.syn_model.specs.ArchiveImage.{ArchiveStandsFor}
 use Rattle.syn_model.specs.Image.{StandsFor}
+use Rattle.syn_model.specs.Refusal.{Refusal, Device, Memory, number}
 use Rattle.syn_recovery.specs.Calls.{armed_at}
 use Rattle.syn_recovery.specs.Headline.{disk_of}
 use Rattle.syn_recovery.specs.Machines.{of_archive, of_side}
 use Rattle.syn_recovery.specs.Meaning.{IsDiskOf}
+use Rattle.syn_refusal.specs.Refusals.{cause_of}
+use Rattle.syn_refusal.specs.declared.refusal.Refusal as refusals
+use Rattle.syn_replica.specs.Refusals.{IsOneOf, format_refusals, refusal_of}
 use Rattle.syn_replica.specs.Replica as replicas
+use Rattle.syn_replica.specs.declared.error.ReplicaError.{ReplicaError}
 use Rattle.syn_replica.specs.declared.replica.Replica.{Replica}
-use Rattle.syn_world.specs.Openings.{CanStart, IsFree, StandFor, shown_on}
+use Rattle.syn_world.specs.Openings.{CanStart, IsFree, IsFromOutside, StandFor, shown_on}
 use Rattle.syn_world.specs.declared.world.Disks.{Disks}
+
+-- what a replica's format is refused with lies outside
+format_cause : (cause : Refusal)
+    → list_any (λ why. number why == number cause) format_refusals ≡ true
+    → (cause ≡ Device) ⊎ (cause ≡ Memory)
+format_cause Device h = inl refl
+format_cause Memory h = inr refl
+format_cause _ h = absurd (true≢false (sym h))
+
+pub side_outside : (refusal : refusals.Refusal) (error : ReplicaError)
+    → IsOneOf format_refusals error → cause_of refusal ≡ refusal_of error → IsFromOutside refusal
+side_outside refusal error one is = elim (format_cause (refusal_of error) one) [
+  | inl device ↦ inl (is ∙ device)
+  | inr memory ↦ inr (is ∙ memory)
+]
+
+-- and so does that of an archive's
+pub archive_outside : (refusal : refusals.Refusal) (error : ArchiveError) → IsOfFormat error
+    → cause_of refusal ≡ archive_refusals.refusal_of error → IsFromOutside refusal
+archive_outside refusal archive_errors.Device of_format is = inl is
+archive_outside refusal archive_errors.Memory of_format is = inr is
+archive_outside refusal _ of_format is = absurd of_format
 
 -- where nothing is armed, seven device calls leave it so
 free_after : (old new : Arms) → old ≡ no_arms → Makes 7 old new → IsFree new

@@ -1,5 +1,5 @@
 -- What is printed of a world.
-use Rattle.std.specs.Prelude.{ℕ, List, ◌++◌, codes, flat_map, map, Option, Some, None}
+use Rattle.std.specs.Prelude.{ℕ, List, ◌++◌, codes, flat_map, Option, Some, None}
 use Rattle.syn_disk.specs.declared.disk.Disk.{Ghosts}
 use Rattle.syn_replica.specs.declared.replica.Replica.{Replica}
 use Rattle.syn_session.specs.Coordinators.{archive_of}

@@ -2,7 +2,9 @@
 use Rattle.std.specs.Prelude.{ℕ}
 use Rattle.syn_disk.specs.declared.disk.Disk.{Ghosts}
 use Rattle.syn_headline.specs.Headline.{formatted}
-use Rattle.syn_world.specs.Openings.{OpensFrom, StandFor, shown_on}
+use Rattle.syn_simulate.specs.declared.error.SimulateError.{SimulateError}
+use Rattle.syn_simulate.specs.declared.error.SimulateError.TheVariants.{Memory, Refused, Script}
+use Rattle.syn_world.specs.Openings.{IsFromOutside, OpensFrom, StandFor, shown_on}
 use Rattle.syn_world.specs.declared.world.Disks.{Disks}
 use Rattle.syn_world.specs.declared.world.World.{World}
 
@@ -17,3 +19,9 @@ pub record StartsFormatted {D : Type 0} {disk : Ghosts D} (pair : ℕ) (world : 
   pub disks : Disks D
   pub stand : AreFormatted disk pair disks
   pub opens : OpensFrom pair (shown_on disk.seen disks) formatted world
+
+-- the causes that lie outside: a device call failed, or memory was refused
+abbrev pub IsOutside : SimulateError → Type 0
+IsOutside (Script line) = ⊥
+IsOutside (Refused refusal) = IsFromOutside refusal
+IsOutside Memory = Unit {0}

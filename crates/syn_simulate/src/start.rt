@@ -1,11 +1,11 @@
 //! A world starts from three disks that were just formatted.
-ghost use Rattle.std.specs.Prelude.{◌≡◌, [], IfOk};
+ghost use Rattle.std.specs.Prelude.{◌≡◌, [], IfErr, IfOk};
 ghost use Rattle.syn_disk.specs.Arms.{no_arms};
 ghost use Rattle.syn_disk.specs.Cut.{arms_of};
 ghost use Rattle.syn_headline.specs.Headline.{formatted};
 ghost use Rattle.syn_model.specs.Archive.{new_archive};
 ghost use Rattle.syn_recovery.specs.Machines.{of_archive, of_side};
-ghost use Rattle.syn_simulate.specs.Starts.{StartsFormatted};
+ghost use Rattle.syn_simulate.specs.Starts.{IsOutside, StartsFormatted};
 ghost use Rattle.syn_world.specs.Openings.{CanStart, StandFor};
 
 use crate::error::SimulateError;
@@ -23,13 +23,14 @@ const PAIR: u64 = 1;
 /// events, and an archive with no session. The i-th stop of a machine leaves of its disk what the
 /// i-th of its list says, and after these `Leaves::Lose`.
 ///
-/// Refused with `Memory` or `Refused(Refusal::Memory)` where memory is refused, and for no other
-/// cause.
+/// Refused 11 where memory is refused, and 9 where a device call fails, as none of a disk in memory
+/// does.
 pub fn formatted_world(
     alloc: Global,
     stops: Disks<Vec<Leaves>>,
 ) -> Result<World<Cut<MemDisk>>, SimulateError>
-    ensures { IfOk result (StartsFormatted 1) }
+    ensures opened { IfOk result (StartsFormatted 1) }
+    ensures refused { IfErr result IsOutside }
 {
     let disks = formatted_disks(alloc, blank_disks(alloc, stops)?)?;
     match World::open(alloc, disks) {
@@ -59,7 +60,8 @@ fn formatted_disks<D: Disk + Drop>(
     requires left { D.arms blank.left ≡ no_arms }
     requires right { D.arms blank.right ≡ no_arms }
     requires archive { D.arms blank.archive ≡ no_arms }
-    ensures { IfOk result (λ disks. StandFor D.seen D.arms 1 disks formatted) }
+    ensures stand { IfOk result (λ disks. StandFor D.seen D.arms 1 disks formatted) }
+    ensures refused { IfErr result IsOutside }
 {
     run_laws();
     let left = formatted_side(alloc, blank.left)?;
@@ -75,7 +77,8 @@ fn formatted_disks<D: Disk + Drop>(
 /// Formats the disk as a replica with no events.
 fn formatted_side<D: Disk + Drop>(alloc: Global, disk: D) -> Result<D, SimulateError>
     requires { D.arms disk ≡ no_arms }
-    ensures { IfOk result (λ made. CanStart (of_side 1) (D.arms made) (D.seen made) []) }
+    ensures starts { IfOk result (λ made. CanStart (of_side 1) (D.arms made) (D.seen made) []) }
+    ensures refused { IfErr result IsOutside }
 {
     match Replica::format(alloc, disk, PAIR) {
         Ok(replica) => Ok(replica.into_disk()),
@@ -86,8 +89,9 @@ fn formatted_side<D: Disk + Drop>(alloc: Global, disk: D) -> Result<D, SimulateE
 /// Formats the disk as an archive with no session.
 fn formatted_archive<D: Disk + Drop>(alloc: Global, disk: D) -> Result<D, SimulateError>
     requires { D.arms disk ≡ no_arms }
-    ensures { IfOk result (λ made. CanStart (of_archive 1) (D.arms made) (D.seen made)
+    ensures starts { IfOk result (λ made. CanStart (of_archive 1) (D.arms made) (D.seen made)
         new_archive) }
+    ensures refused { IfErr result IsOutside }
 {
     match Archive::format(alloc, disk, PAIR) {
         Ok(archive) => Ok(archive.into_disk()),

@@ -1,15 +1,13 @@
-use Rattle.std.proofs.Common.{◌≡◌, ◌∙◌, ◌++◌, Some, None, ap, map, rules, sym}
+use Rattle.std.proofs.Common.{◌∙◌, ◌++◌, Some, None, ap, map, rules, sym}
 use Rattle.std.proofs.lemmas.Iterator.{YieldsList-from_map_by, YieldsList-from_slice}
 use Rattle.std.proofs.lemmas.Iterator.Consumers.{YieldsList-from_chain}
 use Rattle.std.proofs.lemmas.Result.{IfOk-weaker}
 use Rattle.std.proofs.lemmas.Simd.{map-map}
 use Rattle.syn_model.specs.Refusal.{Refusal as Cause}
 use Rattle.syn_model.specs.Path.{Path}
-use Rattle.syn_path.specs.declared.path.Path.{Path as PathOf}
 use Rattle.syn_refusal.specs.Refusals.{cause_of}
 use Rattle.syn_refusal.specs.declared.refusal.Refusal.{Refusal}
-use Rattle.syn_show.specs.Reports.{Named, named_in}
-use Rattle.syn_session.specs.Reports.{report_model}
+use Rattle.syn_show.specs.Reports.{Named}
 use Rattle.syn_show.specs.inner.Named.{named_of}
 use Rattle.syn_show.proofs.CollectLemmas.{read_from_collect}
 use Rattle.syn_show.proofs.named.named_in.Goals as goal
