@@ -12,9 +12,9 @@ _syn() {
         -*) mapfile -t COMPREPLY < <(compgen -W '-v --verbose -h --help -V --version' -- "$word"); return ;;
     esac
     case $command/$place in
-        /0 | help/0) mapfile -t COMPREPLY < <(compgen -W 'format put mkdir rm show check help' -- "$word") ;;
+        /0 | help/0) mapfile -t COMPREPLY < <(compgen -W 'format put mkdir rm show check simulate help' -- "$word") ;;
         format/0) mapfile -t COMPREPLY < <(compgen -W 'replica archive' -- "$word") ;;
-        format/2 | put/0 | mkdir/0 | rm/0 | show/0 | check/0) mapfile -t COMPREPLY < <(compgen -f -- "$word") ;;
+        format/2 | put/0 | mkdir/0 | rm/0 | show/0 | check/0 | simulate/0) mapfile -t COMPREPLY < <(compgen -f -- "$word") ;;
     esac
 }
 complete -F _syn syn

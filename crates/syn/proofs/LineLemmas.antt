@@ -16,7 +16,7 @@ use Rattle.syn.specs.declared.line.Change.{Change}
 use Rattle.syn.specs.declared.line.Change.TheVariants as change
 use Rattle.syn.specs.declared.line.ImageKind.{ImageKind}
 use Rattle.syn.specs.declared.line.Line.{Line}
-use Rattle.syn.specs.declared.line.Line.TheVariants.{Format, Edit, Show, Check}
+use Rattle.syn.specs.declared.line.Line.TheVariants.{Format, Edit, Show, Check, Simulate}
 use Rattle.syn.specs.declared.line.ValueName.{ValueName}
 use Rattle.syn.specs.declared.line.LineError.{LineError}
 use Rattle.syn.specs.declared.line.LineError.TheVariants.{Usage, Value, Memory}
@@ -99,7 +99,7 @@ value_is (Err e) P Q p h = λ _. h p
 pub differ : (a b : Text) → (slice_index a 0 ≡ slice_index b 0 → ⊥) → a ≡ b → ⊥
 differ a b letters e = letters (ap (λ (t : List ℕ). slice_index t 0) e)
 
--- the word of an edit begins with none of the letters of `format`, `show` and `check`
+-- the word of an edit begins with none of the letters of the other commands
 no_format : (change : Change) → word_of change ≡ codes "format" → ⊥
 no_format change.Put = differ (codes "put") (codes "format") (λ (e : 112 ≡ 102). omega (arith, e))
 no_format change.MakeDir =
@@ -117,6 +117,14 @@ no_check change.MakeDir =
     differ (codes "mkdir") (codes "check") (λ (e : 109 ≡ 99). omega (arith, e))
 no_check change.Remove = differ (codes "rm") (codes "check") (λ (e : 114 ≡ 99). omega (arith, e))
 
+no_simulate : (change : Change) → word_of change ≡ codes "simulate" → ⊥
+no_simulate change.Put =
+    differ (codes "put") (codes "simulate") (λ (e : 112 ≡ 115). omega (arith, e))
+no_simulate change.MakeDir =
+    differ (codes "mkdir") (codes "simulate") (λ (e : 109 ≡ 115). omega (arith, e))
+no_simulate change.Remove =
+    differ (codes "rm") (codes "simulate") (λ (e : 114 ≡ 115). omega (arith, e))
+
 pub format_show : codes "format" ≡ codes "show" → ⊥
 format_show = differ (codes "format") (codes "show") (λ (e : 102 ≡ 115). omega (arith, e))
 
@@ -125,6 +133,18 @@ format_check = differ (codes "format") (codes "check") (λ (e : 102 ≡ 99). ome
 
 pub show_check : codes "show" ≡ codes "check" → ⊥
 show_check = differ (codes "show") (codes "check") (λ (e : 115 ≡ 99). omega (arith, e))
+
+pub format_simulate : codes "format" ≡ codes "simulate" → ⊥
+format_simulate = differ (codes "format") (codes "simulate") (λ (e : 102 ≡ 115). omega (arith, e))
+
+-- the second letters differ
+pub show_simulate : codes "show" ≡ codes "simulate" → ⊥
+show_simulate same =
+    let second : 104 ≡ 105 = ap (λ (t : List ℕ). slice_index t 1) same in
+    omega (arith, second)
+
+pub check_simulate : codes "check" ≡ codes "simulate" → ⊥
+check_simulate = differ (codes "check") (codes "simulate") (λ (e : 99 ≡ 115). omega (arith, e))
 
 -- the word of an edit is one of the three
 pub is_edit_word : (change : Change) → IsEditName (word_of change)
@@ -139,6 +159,7 @@ only_format name rows same none (Format kind pair file) read = none kind pair fi
 only_format name rows same none (Edit line) read = no_format line.change (sym read.0 ∙ same)
 only_format name rows same none (Show file path) read = format_show (sym same ∙ read.0)
 only_format name rows same none (Check file) read = format_check (sym same ∙ read.0)
+only_format name rows same none (Simulate script) read = format_simulate (sym same ∙ read.0)
 
 pub only_edit : (change : Change) (name : Text) (rows : List Row) → name ≡ word_of change
     → ((file : Text) (user : ℕ) (path : Text) → IsEdit rows file user path → ⊥)
@@ -149,6 +170,8 @@ only_edit change name rows same none (Edit line) read =
     none line.file.now line.user line.path.now read.1
 only_edit change name rows same none (Show file path) read = no_show change (sym same ∙ read.0)
 only_edit change name rows same none (Check file) read = no_check change (sym same ∙ read.0)
+only_edit change name rows same none (Simulate script) read =
+    no_simulate change (sym same ∙ read.0)
 
 pub only_show : (name : Text) (rows : List Row) → name ≡ codes "show"
     → ((file : Text) → HasText rows (codes "FILE") file → ⊥) → NothingReads (Some (name, rows))
@@ -156,6 +179,7 @@ only_show name rows same none (Format kind pair file) read = format_show (sym re
 only_show name rows same none (Edit line) read = no_show line.change (sym read.0 ∙ same)
 only_show name rows same none (Show file path) read = none file.now read.1
 only_show name rows same none (Check file) read = show_check (sym same ∙ read.0)
+only_show name rows same none (Simulate script) read = show_simulate (sym same ∙ read.0)
 
 pub only_check : (name : Text) (rows : List Row) → name ≡ codes "check"
     → ((file : Text) → HasText rows (codes "FILE") file → ⊥) → NothingReads (Some (name, rows))
@@ -163,12 +187,24 @@ only_check name rows same none (Format kind pair file) read = format_check (sym 
 only_check name rows same none (Edit line) read = no_check line.change (sym read.0 ∙ same)
 only_check name rows same none (Show file path) read = show_check (sym read.0 ∙ same)
 only_check name rows same none (Check file) read = none file.now read.1
+only_check name rows same none (Simulate script) read = check_simulate (sym same ∙ read.0)
+
+pub only_simulate : (name : Text) (rows : List Row) → name ≡ codes "simulate"
+    → ((script : Text) → HasText rows (codes "SCRIPT") script → ⊥)
+    → NothingReads (Some (name, rows))
+only_simulate name rows same none (Format kind pair file) read =
+    format_simulate (sym read.0 ∙ same)
+only_simulate name rows same none (Edit line) read = no_simulate line.change (sym read.0 ∙ same)
+only_simulate name rows same none (Show file path) read = show_simulate (sym read.0 ∙ same)
+only_simulate name rows same none (Check file) read = check_simulate (sym read.0 ∙ same)
+only_simulate name rows same none (Simulate script) read = none script.now read.1
 
 -- any other name is no command's
 module _ (name : Text) (rows : List Row)
     (not_format : name ≡ codes "format" → ⊥) (not_put : name ≡ codes "put" → ⊥)
     (not_make_dir : name ≡ codes "mkdir" → ⊥) (not_remove : name ≡ codes "rm" → ⊥)
-    (not_show : name ≡ codes "show" → ⊥) (not_check : name ≡ codes "check" → ⊥) where
+    (not_show : name ≡ codes "show" → ⊥) (not_check : name ≡ codes "check" → ⊥)
+    (not_simulate : name ≡ codes "simulate" → ⊥) where
   not_word : (change : Change) → name ≡ word_of change → ⊥
   not_word change.Put = not_put
   not_word change.MakeDir = not_make_dir
@@ -179,6 +215,7 @@ module _ (name : Text) (rows : List Row)
   other_name (Edit line) read = not_word line.change read.0
   other_name (Show file path) read = not_show read.0
   other_name (Check file) read = not_check read.0
+  other_name (Simulate script) read = not_simulate read.0
 
 -- what is told where the help is asked for
 pub is_asked : (error : LineError) (words : List Text) → IsRequest error

@@ -13,11 +13,11 @@ use Rattle.clap.specs.Takes.{is_given}
 use Rattle.clap.specs.Walk.{Held, Names, Outcome, Row, Rule, Step, Text, Waiting, Walk, after_flag, after_step, answers_to, arg_by_index, done, idle, long_or_other, next, nothing_held, option, plain, plain_word, positional, refused, rows_after, settled, short_or_plain, subcommand, subcommand_met, subcommand_or_other, to_positional, trailing, value, waits, walk, walk_from, walked, walked_from, word_met}
 use Rattle.clap.specs.declared.error.kind.ErrorKind.TheVariants.{DisplayHelp, InvalidSubcommand}
 use Rattle.clap.proofs.OnLiterals.{clap_on_literals}
-use Rattle.syn.specs.App.{check_app, edit_app, format_app, show_app, syn_app}
-use Rattle.syn.specs.Reads.{HasEditValues, HasFormatValues, IsCommandName, IsComplete, IsEditName, IsGiven, IsReadingName, IsWrongIn, IsWrongValue, Lacks}
+use Rattle.syn.specs.App.{check_app, edit_app, format_app, show_app, simulate_app, syn_app}
+use Rattle.syn.specs.Reads.{HasEditValues, HasFormatValues, IsCommandName, IsComplete, IsEditName, IsGiven, IsImageComplete, IsImageName, IsReadingName, IsWrongIn, IsWrongValue, Lacks}
 use Rattle.syn.specs.declared.line.ValueName.{ValueName}
-use Rattle.syn.specs.declared.line.ValueName.TheVariants.{Command, Kind, Pair, User, File, Path}
-use Rattle.syn.proofs.LineLemmas.{differ, format_check, format_show}
+use Rattle.syn.specs.declared.line.ValueName.TheVariants.{Command, Kind, Pair, User, File, Path, Script}
+use Rattle.syn.proofs.LineLemmas.{check_simulate, differ, format_check, format_show, format_simulate, show_simulate}
 use Rattle.syn.proofs.GivenLemmas.{IsFull, full_finished, full_walk, give, given_text, no_faults}
 
 -- ---- `help` is refused, so no walk that is not stops at it
@@ -159,7 +159,7 @@ sub_of a = built_leaf (inherited (with_leaf_noted (marked_built syn_app.top)) a.
 
 format_sound : IsSound (sub_of format_app)
 unfolding clap_on_literals
-format_sound name words answers other e = inl (refl, leaf_has (sub_of format_app) HasFormatValues refl has words e)
+format_sound name words answers other e = inl (inl (refl, leaf_has (sub_of format_app) HasFormatValues refl has words e))
   where
     has : (rows : List Row) → IsFull rows → is_missing (sub_of format_app).rules rows ≡ false → HasFormatValues rows
     has rows full none =
@@ -178,29 +178,36 @@ edit_has name rows full none =
 
 put_sound : IsSound (sub_of (edit_app (codes "put")))
 unfolding clap_on_literals
-put_sound name words answers other e = inr (inl (inl refl, leaf_has (sub_of (edit_app (codes "put"))) HasEditValues refl (edit_has (codes "put")) words e))
+put_sound name words answers other e = inl (inr (inl (inl refl, leaf_has (sub_of (edit_app (codes "put"))) HasEditValues refl (edit_has (codes "put")) words e)))
 
 make_dir_sound : IsSound (sub_of (edit_app (codes "mkdir")))
 unfolding clap_on_literals
-make_dir_sound name words answers other e = inr (inl (inr (inl refl), leaf_has (sub_of (edit_app (codes "mkdir"))) HasEditValues refl (edit_has (codes "mkdir")) words e))
+make_dir_sound name words answers other e = inl (inr (inl (inr (inl refl), leaf_has (sub_of (edit_app (codes "mkdir"))) HasEditValues refl (edit_has (codes "mkdir")) words e)))
 
 remove_sound : IsSound (sub_of (edit_app (codes "rm")))
 unfolding clap_on_literals
-remove_sound name words answers other e = inr (inl (inr (inr refl), leaf_has (sub_of (edit_app (codes "rm"))) HasEditValues refl (edit_has (codes "rm")) words e))
+remove_sound name words answers other e = inl (inr (inl (inr (inr refl), leaf_has (sub_of (edit_app (codes "rm"))) HasEditValues refl (edit_has (codes "rm")) words e)))
 
 show_sound : IsSound (sub_of show_app)
 unfolding clap_on_literals
-show_sound name words answers other e = inr (inr (inl refl, leaf_has (sub_of show_app) (λ rows. IsGiven rows (codes "FILE")) refl has words e))
+show_sound name words answers other e = inl (inr (inr (inl refl, leaf_has (sub_of show_app) (λ rows. IsGiven rows (codes "FILE")) refl has words e)))
   where
     has : (rows : List Row) → IsFull rows → is_missing (sub_of show_app).rules rows ≡ false → IsGiven rows (codes "FILE")
     has rows full none = given_text (codes "FILE") rows full (not_either (is_given (codes "FILE") rows) _ none).0
 
 check_sound : IsSound (sub_of check_app)
 unfolding clap_on_literals
-check_sound name words answers other e = inr (inr (inr refl, leaf_has (sub_of check_app) (λ rows. IsGiven rows (codes "FILE")) refl has words e))
+check_sound name words answers other e = inl (inr (inr (inr refl, leaf_has (sub_of check_app) (λ rows. IsGiven rows (codes "FILE")) refl has words e)))
   where
     has : (rows : List Row) → IsFull rows → is_missing (sub_of check_app).rules rows ≡ false → IsGiven rows (codes "FILE")
     has rows full none = given_text (codes "FILE") rows full (not_either (is_given (codes "FILE") rows) _ none).0
+
+simulate_sound : IsSound (sub_of simulate_app)
+unfolding clap_on_literals
+simulate_sound name words answers other e = inr (refl, leaf_has (sub_of simulate_app) (λ rows. IsGiven rows (codes "SCRIPT")) refl has words e)
+  where
+    has : (rows : List Row) → IsFull rows → is_missing (sub_of simulate_app).rules rows ≡ false → IsGiven rows (codes "SCRIPT")
+    has rows full none = given_text (codes "SCRIPT") rows full (not_either (is_given (codes "SCRIPT") rows) _ none).0
 
 help_sound : IsSound (built_leaf help_shape)
 help_sound name words answers other e = absurd (true≢false (sym (go (bytes_eq (codes "help") name) refl answers) ∙ other))
@@ -211,7 +218,7 @@ help_sound name words answers other e = absurd (true≢false (sym (go (bytes_eq 
 
 sound : AreSound (built syn_app).subs
 unfolding clap_on_literals
-sound = (format_sound, (put_sound, (make_dir_sound, (remove_sound, (show_sound, (check_sound, (help_sound, tt)))))))
+sound = (format_sound, (put_sound, (make_dir_sound, (remove_sound, (show_sound, (check_sound, (simulate_sound, (help_sound, tt))))))))
 
 -- ---- what the words name
 
@@ -276,40 +283,67 @@ no_reading_format : (name : Text) → IsReadingName name → name ≡ codes "for
 no_reading_format name (inl show) same = format_show (sym same ∙ show)
 no_reading_format name (inr check) same = format_check (sym same ∙ check)
 
-format_values : (name : Text) (rows : List Row) → IsComplete name rows → name ≡ codes "format" → HasFormatValues rows
+-- the command that takes a script takes no image
+no_edit_simulate : (name : Text) → IsEditName name → name ≡ codes "simulate" → ⊥
+no_edit_simulate name edit same =
+    edit_differs name (codes "simulate") edit same (λ (e : 112 ≡ 115). omega (arith, e)) (λ (e : 109 ≡ 115). omega (arith, e)) (λ (e : 114 ≡ 115). omega (arith, e))
+
+no_image_simulate : (name : Text) → IsImageName name → name ≡ codes "simulate" → ⊥
+no_image_simulate name (inl format) same = format_simulate (sym format ∙ same)
+no_image_simulate name (inr (inl edit)) same = no_edit_simulate name edit same
+no_image_simulate name (inr (inr (inl show))) same = show_simulate (sym show ∙ same)
+no_image_simulate name (inr (inr (inr check))) same = check_simulate (sym check ∙ same)
+
+image_name : (name : Text) (rows : List Row) → IsImageComplete name rows → IsImageName name
+image_name name rows (inl format) = inl format.0
+image_name name rows (inr (inl edit)) = inr (inl edit.0)
+image_name name rows (inr (inr reading)) = inr (inr reading.0)
+
+image_complete : (name : Text) (rows : List Row) → IsComplete name rows → IsImageName name → IsImageComplete name rows
+image_complete name rows (inl image) named = image
+image_complete name rows (inr script) named = absurd (no_image_simulate name named script.0)
+
+format_values : (name : Text) (rows : List Row) → IsImageComplete name rows → name ≡ codes "format" → HasFormatValues rows
 format_values name rows (inl format) same = format.1
 format_values name rows (inr (inl edit)) same = absurd (no_edit_format name edit.0 same)
 format_values name rows (inr (inr reading)) same = absurd (no_reading_format name reading.0 same)
 
-edit_values_of : (name : Text) (rows : List Row) → IsComplete name rows → IsEditName name → HasEditValues rows
+edit_values_of : (name : Text) (rows : List Row) → IsImageComplete name rows → IsEditName name → HasEditValues rows
 edit_values_of name rows (inl format) edit = absurd (no_edit_format name edit format.0)
 edit_values_of name rows (inr (inl edit)) named = edit.1
 edit_values_of name rows (inr (inr reading)) edit = absurd (no_edit_reading name edit reading.0)
 
-has_file : (name : Text) (rows : List Row) → IsComplete name rows → IsGiven rows (codes "FILE")
+has_file : (name : Text) (rows : List Row) → IsImageComplete name rows → IsGiven rows (codes "FILE")
 has_file name rows (inl format) = format.1.2
 has_file name rows (inr (inl edit)) = edit.1.0
 has_file name rows (inr (inr reading)) = reading.1
 
+has_script : (name : Text) (rows : List Row) → IsComplete name rows → name ≡ codes "simulate" → IsGiven rows (codes "SCRIPT")
+has_script name rows (inl image) same = absurd (no_image_simulate name (image_name name rows image) same)
+has_script name rows (inr script) same = script.1
+
 is_command : (name : Text) (rows : List Row) → IsComplete name rows → IsCommandName name
-is_command name rows (inl format) = inl format.0
-is_command name rows (inr (inl edit)) = inr (inl edit.0)
-is_command name rows (inr (inr reading)) = inr (inr reading.0)
+is_command name rows (inl image) = inl (image_name name rows image)
+is_command name rows (inr script) = inr script.0
 
 -- of the values that are given, only these can be wrong
 wrong_in : (name : Text) (rows : List Row) (value : ValueName) → IsComplete name rows → Lacks name rows value → IsWrongIn name rows value
 wrong_in name rows Command complete lacks = absurd (lacks (is_command name rows complete))
 wrong_in name rows Kind complete lacks =
-    let values = format_values name rows complete lacks.0 in
+    let values = format_values name rows (image_complete name rows complete (inl lacks.0)) lacks.0 in
     (lacks.0, values, (values.0.0, values.0.1, λ kind is. lacks.1 values.0.0 values.0.1 (kind, is)))
 wrong_in name rows Pair complete lacks =
-    let values = format_values name rows complete lacks.0 in
+    let values = format_values name rows (image_complete name rows complete (inl lacks.0)) lacks.0 in
     (lacks.0, values, (values.1.0, values.1.1, λ n is. lacks.1 values.1.0 values.1.1 (n, is)))
 wrong_in name rows User complete lacks =
-    let values = edit_values_of name rows complete lacks.0 in
+    let values = edit_values_of name rows (image_complete name rows complete (inr (inl lacks.0))) lacks.0 in
     (lacks.0, values, (values.1.0, values.1.1, λ n is. lacks.1 values.1.0 values.1.1 (n, is)))
-wrong_in name rows File complete lacks = let file = has_file name rows complete in absurd (lacks file.0 file.1 tt)
-wrong_in name rows Path complete lacks = let path = (edit_values_of name rows complete lacks.0).2 in absurd (lacks.1 path.0 path.1 tt)
+wrong_in name rows File complete lacks =
+    let file = has_file name rows (image_complete name rows complete lacks.0) in absurd (lacks.1 file.0 file.1 tt)
+wrong_in name rows Path complete lacks =
+    let path = (edit_values_of name rows (image_complete name rows complete (inr (inl lacks.0))) lacks.0).2 in absurd (lacks.1 path.0 path.1 tt)
+wrong_in name rows Script complete lacks =
+    let script = has_script name rows complete lacks.0 in absurd (lacks.1 script.0 script.1 tt)
 
 -- where the words have no fault, what the command lacks is wrong
 pub wrong_found : (words : List Text) (name : Text) (rows : List Row) (told : ValueName) → fault_of syn_app words ≡ [] → subcommand_of syn_app words ≡ Some (name, rows)

@@ -38,6 +38,10 @@ show_app =
 abbrev pub check_app : App
 check_app = command_app (codes "check") (codes "FILE" ∷ [])
 
+-- the command that runs a script
+abbrev pub simulate_app : App
+simulate_app = command_app (codes "simulate") (codes "SCRIPT" ∷ [])
+
 -- a command that has a version
 abbrev pub versioned : App → App
 versioned app = record app { top = record app.top { has_version = true } }
@@ -61,4 +65,6 @@ abbrev pub with_reader_apps : App → App
 with_reader_apps app = with_subcommand (with_subcommand app show_app.top) check_app.top
 
 abbrev pub syn_app : App
-syn_app = with_reader_apps (with_edit_apps (with_subcommand top_app format_app.top))
+syn_app = with_subcommand
+    (with_reader_apps (with_edit_apps (with_subcommand top_app format_app.top)))
+    simulate_app.top

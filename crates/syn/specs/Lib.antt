@@ -5,4 +5,5 @@ pub mod Images
 pub mod Printed
 pub mod Reads
 pub mod Shown
+pub mod Simulated
 pub mod Status

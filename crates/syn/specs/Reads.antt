@@ -10,9 +10,10 @@ use Rattle.syn.specs.Asked.{word_of}
 use Rattle.syn.specs.declared.line.ImageKind.{ImageKind}
 use Rattle.syn.specs.declared.line.ImageKind.TheVariants.{Replica, Archive}
 use Rattle.syn.specs.declared.line.Line.{Line}
-use Rattle.syn.specs.declared.line.Line.TheVariants.{Format, Edit, Show, Check}
+use Rattle.syn.specs.declared.line.Line.TheVariants.{Format, Edit, Show, Check, Simulate}
 use Rattle.syn.specs.declared.line.ValueName.{ValueName}
 use Rattle.syn.specs.declared.line.ValueName.TheVariants.{Command, Kind, Pair, User, File, Path}
+use Rattle.syn.specs.declared.line.ValueName.TheVariants.{Script}
 use Rattle.syn.specs.declared.line.LineError.{LineError}
 use Rattle.syn.specs.declared.line.LineError.TheVariants.{Usage, Value, Memory}
 
@@ -54,6 +55,8 @@ ReadsRows name rows (Show file path) =
     (name ≡ codes "show") × HasText rows (codes "FILE") file.now
     × (first_of (codes "PATH") rows ≡ option_map (λ p. p.now) path)
 ReadsRows name rows (Check file) = (name ≡ codes "check") × HasText rows (codes "FILE") file.now
+ReadsRows name rows (Simulate script) =
+    (name ≡ codes "simulate") × HasText rows (codes "SCRIPT") script.now
 
 abbrev pub Reads : Option (Text × List Row) → Line → Type 0
 Reads None line = ⊥
@@ -83,11 +86,20 @@ IsEditName name = (name ≡ codes "put") ⊎ ((name ≡ codes "mkdir") ⊎ (name
 abbrev pub IsReadingName : Text → Type 0
 IsReadingName name = (name ≡ codes "show") ⊎ (name ≡ codes "check")
 
--- the name is that of a command, and each value that the command requires is given
-abbrev pub IsComplete : Text → List Row → Type 0
-IsComplete name rows = ((name ≡ codes "format") × HasFormatValues rows)
+-- a command that takes an image
+abbrev pub IsImageName : Text → Type 0
+IsImageName name = (name ≡ codes "format") ⊎ (IsEditName name ⊎ IsReadingName name)
+
+-- the name is that of such a command, and each value that the command requires is given
+abbrev pub IsImageComplete : Text → List Row → Type 0
+IsImageComplete name rows = ((name ≡ codes "format") × HasFormatValues rows)
     ⊎ ((IsEditName name × HasEditValues rows)
     ⊎ (IsReadingName name × IsGiven rows (codes "FILE")))
+
+-- the name is that of a command, and each value that the command requires is given
+abbrev pub IsComplete : Text → List Row → Type 0
+IsComplete name rows = IsImageComplete name rows
+    ⊎ ((name ≡ codes "simulate") × IsGiven rows (codes "SCRIPT"))
 
 -- the text given for KIND is the word of none
 abbrev pub IsOtherKind : List Row → Type 0
@@ -119,6 +131,7 @@ name_of Pair = codes "PAIR"
 name_of User = codes "USER"
 name_of File = codes "FILE"
 name_of Path = codes "PATH"
+name_of Script = codes "SCRIPT"
 
 -- what is right for a value, where a text is given for it
 abbrev pub IsRight : ValueName → Text → Type 0
@@ -132,7 +145,7 @@ abbrev pub IsWanting : List Row → ValueName → Type 0
 IsWanting rows value = (text : Text) → HasText rows (name_of value) text → ¬ IsRight value text
 
 abbrev pub IsCommandName : Text → Type 0
-IsCommandName name = (name ≡ codes "format") ⊎ (IsEditName name ⊎ IsReadingName name)
+IsCommandName name = IsImageName name ⊎ (name ≡ codes "simulate")
 
 -- the value is one of the command, and is wanting, or there is no such command
 abbrev pub Lacks : Text → List Row → ValueName → Type 0
@@ -140,8 +153,9 @@ Lacks name rows Command = ¬ IsCommandName name
 Lacks name rows Kind = (name ≡ codes "format") × IsWanting rows Kind
 Lacks name rows Pair = (name ≡ codes "format") × IsWanting rows Pair
 Lacks name rows User = IsEditName name × IsWanting rows User
-Lacks name rows File = IsWanting rows File
+Lacks name rows File = IsImageName name × IsWanting rows File
 Lacks name rows Path = IsEditName name × IsWanting rows Path
+Lacks name rows Script = (name ≡ codes "simulate") × IsWanting rows Script
 
 -- the words ask for what the line says: `clap` takes them, and their values are the line's
 pub record Asks (words : List Text) (line : Line) : Type 0 where

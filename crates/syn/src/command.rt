@@ -9,11 +9,13 @@ ghost use Rattle.syn.specs.declared.line.Line.{Line};
 use crate::check::check_image;
 use crate::edit::make_edit;
 use crate::error::CommandError;
+use crate::failure::Failure;
 use crate::format::format;
 use crate::image::{Image, open_image};
 use crate::line::{EditLine, Line, LineError};
 use crate::report::{print_meanings, report};
 use crate::show::{show_image, show_path};
+use crate::simulation::run_script;
 use crate::status::Status;
 use crate::words::read_words;
 use clap::error::ErrorKind;
@@ -62,7 +64,10 @@ fn tell<O: Write, E: Write>(error: &LineError, output: &mut O, errors: &mut E) -
     ensures usage { result ≡ Status.Usage → IsMistake error.now }
 {
     match error {
-        LineError::Memory => return report(None, &Err(CommandError::Memory), errors),
+        LineError::Memory => {
+            let failure = Failure::Refused(CommandError::Memory);
+            return report(None, &Err(failure), errors);
+        }
         LineError::Usage(asked) => match asked.kind() {
             ErrorKind::DisplayHelp | ErrorKind::DisplayVersion => {
                 return report(None, &help(asked, output), errors);
@@ -76,7 +81,7 @@ fn tell<O: Write, E: Write>(error: &LineError, output: &mut O, errors: &mut E) -
 }
 
 /// Prints the help with the meaning of each status and refusal, or the version.
-fn help<O: Write>(asked: &clap::Error, output: &mut O) -> Result<(), CommandError> {
+fn help<O: Write>(asked: &clap::Error, output: &mut O) -> Result<(), Failure> {
     write!(output, "{asked}")?;
     if let ErrorKind::DisplayHelp = asked.kind() {
         print_meanings(output)?;
@@ -91,7 +96,7 @@ fn carry_out<F: Files, I: Read, O: Write>(
     files: &F,
     input: &mut I,
     output: &mut O,
-) -> Result<(), CommandError>
+) -> Result<(), Failure>
 where
     F::File: HostFile,
 {
@@ -110,6 +115,9 @@ where
             path: Some(path),
         } => show(alloc, files, file, path, output)?,
         Line::Check { file } => print_numbers(alloc, files, file, output)?,
+        Line::Simulate { script } => {
+            run_script(alloc, files, script, output)?;
+        }
     }
     Ok(output.flush()?)
 }

@@ -25,6 +25,8 @@ pub enum CommandError {
     Replica(ReplicaError),
     /// The archive refuses the call, or the disk has no archive.
     Archive(ArchiveError),
+    /// A machine of a simulation is refused this.
+    Machine(Refusal),
     /// Standard input cannot be read, standard output cannot be written, or the file cannot be
     /// made.
     Device(io::Error),
@@ -44,6 +46,7 @@ impl CommandError {
             CommandError::Open(error) => error.refusal(),
             CommandError::Replica(error) => error.refusal(),
             CommandError::Archive(error) => error.refusal(),
+            CommandError::Machine(refusal) => *refusal,
             CommandError::Device(_) | CommandError::Longer => Refusal::Device,
             CommandError::Memory => Refusal::Memory,
         }

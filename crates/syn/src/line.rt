@@ -53,6 +53,10 @@ pub enum Line<'a> {
     Check {
         file: &'a str,
     },
+    /// Runs the steps of a script on a world of three machines in memory.
+    Simulate {
+        script: &'a str,
+    },
 }
 
 /// A command, and whether a refusal of it is to be explained.
@@ -71,6 +75,7 @@ pub enum ValueName {
     User,
     File,
     Path,
+    Script,
 }
 
 impl ValueName {
@@ -85,6 +90,7 @@ impl ValueName {
             ValueName::User => "USER",
             ValueName::File => "FILE",
             ValueName::Path => "PATH",
+            ValueName::Script => "SCRIPT",
         }
     }
 
@@ -94,7 +100,7 @@ impl ValueName {
             ValueName::Kind => "'replica' or 'archive'",
             ValueName::Pair => "a decimal number below 2^64",
             ValueName::User => "a decimal number below 2^32",
-            ValueName::Command | ValueName::File | ValueName::Path => "there",
+            ValueName::Command | ValueName::File | ValueName::Path | ValueName::Script => "there",
         }
     }
 
@@ -107,6 +113,7 @@ impl ValueName {
             ValueName::User => "The number of the user who makes the edit, below 2^32",
             ValueName::File => "The file that has the image",
             ValueName::Path => "A path in the image: '.' for its root, else names parted by '/'",
+            ValueName::Script => "The file that has the steps, one a line",
         }
     }
 }

@@ -3,19 +3,22 @@
 //! `syn format KIND PAIR FILE` makes a replica or an archive. `syn put FILE USER PATH` puts
 //! standard input into a replica, and `syn mkdir FILE USER PATH` and `syn rm FILE USER PATH` make a
 //! directory and remove what is there. `syn show FILE [PATH]` prints an image, and `syn check FILE`
-//! its numbers. The exit status is 0 where the command was done, 1 where it was refused and 2 where
-//! the words are no command.
+//! its numbers. `syn simulate SCRIPT` runs the steps of a script on machines in memory, and prints
+//! what comes of them. The exit status is 0 where the command was done, 1 where it was refused and 2
+//! where the words are no command.
 #![tactic(auto)]
 
 mod check;
 mod command;
 mod edit;
 mod error;
+mod failure;
 mod format;
 mod image;
 mod line;
 mod report;
 mod show;
+mod simulation;
 mod status;
 mod words;
 

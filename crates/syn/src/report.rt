@@ -3,6 +3,7 @@ ghost use Rattle.std.specs.Prelude.{◌≡◌};
 ghost use Rattle.syn.specs.Status.{status_of};
 
 use crate::error::CommandError;
+use crate::failure::Failure;
 use crate::line::Line;
 use crate::status::Status;
 use std::io::Write;
@@ -10,24 +11,36 @@ use syn_disk::{DISK_SIZE, OpenError};
 use syn_refusal::Refusal;
 
 /// The status of the answer. A refusal is told in one line, and where `asked` is given in a second
-/// one in plain words.
+/// one in plain words. Of a script the first faulty line is told.
 ///
 /// An error of `errors` itself is not told: there is nowhere left to tell it.
 pub fn report<E: Write>(
     asked: Option<&Line<'_>>,
-    answer: &Result<(), CommandError>,
+    answer: &Result<(), Failure>,
     errors: &mut E,
 ) -> Status
     ensures { result ≡ status_of answer.now }
 {
     match answer {
         Ok(()) => Status::Done,
-        Err(error) => {
+        Err(failure) => {
+            tell_failure(asked, failure, errors);
+            Status::Refused
+        }
+    }
+}
+
+/// Why the command was not done.
+fn tell_failure<E: Write>(asked: Option<&Line<'_>>, failure: &Failure, errors: &mut E) {
+    match failure {
+        Failure::Line(number) => {
+            let _ = writeln!(errors, "syn: script line {number}");
+        }
+        Failure::Refused(error) => {
             refuse(error, errors);
             if let Some(line) = asked {
                 explain(line, error, errors);
             }
-            Status::Refused
         }
     }
 }
@@ -44,6 +57,7 @@ fn explain<E: Write>(line: &Line<'_>, error: &CommandError, errors: &mut E) {
     let _ = match line {
         Line::Format { file, .. } | Line::Show { file, path: None } | Line::Check { file } =>
             write!(errors, "syn: {file}"),
+        Line::Simulate { script } => write!(errors, "syn: {script}"),
         Line::Edit(edit) => write!(errors, "syn: {} in {}", edit.path, edit.file),
         Line::Show {
             file,

@@ -9,7 +9,8 @@ ghost use Rattle.syn.specs.declared.line.LineError.TheVariants.{Value};
 ghost use Rattle.clap.specs.Words.{IsAmong, Text, app_of, with_rule, fault_of, first_of, found_of};
 ghost use Rattle.clap.specs.Words.{kind_of, rows_of, subcommand_of, with_subcommand};
 ghost use Rattle.clap.specs.declared.Command.TheViews.{out-Command};
-ghost use Rattle.syn.specs.App.{check_app, command_app, edit_app, format_app, show_app, syn_app};
+ghost use Rattle.syn.specs.App.{check_app, command_app, edit_app, format_app, show_app};
+ghost use Rattle.syn.specs.App.{simulate_app, syn_app};
 ghost use Rattle.syn.specs.App.{top_app, verbose_rule, with_edit_apps, with_reader_apps, word_app};
 ghost use Rattle.syn.specs.Asked.{word_of};
 
@@ -116,6 +117,20 @@ fn check_command<'a>(alloc: Global) -> Result<Command<'a>, AllocError>
     with_verbose(alloc, words)
 }
 
+/// The command that runs a script.
+fn simulate_command<'a>(alloc: Global) -> Result<Command<'a>, AllocError>
+    ensures app { IfOk result (λ c. app_of c ≡ simulate_app) }
+    ensures globals { IfOk result (λ c. (out-Command c).has_globals ≡ false) }
+{
+    let words = word_command(
+        alloc,
+        "simulate",
+        "Runs a script of steps on two replicas, an archive and their sessions, in memory",
+        &[ValueName::Script],
+    )?;
+    with_verbose(alloc, words)
+}
+
 /// The program, with no command yet.
 fn top_command<'a>(alloc: Global) -> Result<Command<'a>, AllocError>
     ensures app { IfOk result (λ c. app_of c ≡ top_app) }
@@ -172,7 +187,9 @@ fn syn_command<'a>(alloc: Global) -> Result<Command<'a>, AllocError>
     let format = format_command(alloc)?;
     let top = top_command(alloc)?.subcommand(format)?;
     let top = with_edits(alloc, top)?;
-    with_readers(alloc, top)
+    let top = with_readers(alloc, top)?;
+    let simulate = simulate_command(alloc)?;
+    top.subcommand(simulate)
 }
 
 /// The command that the words ask for. The first word is the program's own.
@@ -251,6 +268,7 @@ fn line_of<'a>(name: &'a str, found: &ArgMatches<'a>) -> Result<Line<'a>, LineEr
         "rm" => edit_line(Change::Remove, found),
         "show" => show_line(found),
         "check" => check_line(found),
+        "simulate" => simulate_line(found),
         _ => Err(LineError::Value(ValueName::Command)),
     }
 }
@@ -331,6 +349,19 @@ fn check_line<'a>(found: &ArgMatches<'a>) -> Result<Line<'a>, LineError>
 {
     let file = text(found, ValueName::File)?;
     Ok(Line::Check { file })
+}
+
+fn simulate_line<'a>(found: &ArgMatches<'a>) -> Result<Line<'a>, LineError>
+    ensures ok { IfOk result (λ line.
+        ReadsRows (codes "simulate") (rows_of (found_of found.now)) line) }
+    ensures value { IfErr result (λ error. IsValue error) }
+    ensures lacks { IfErr result (λ error. IfValue error
+        (Lacks (codes "simulate") (rows_of (found_of found.now)))) }
+    ensures nothing { OnErr result ((script : Text)
+        → ¬ HasText (rows_of (found_of found.now)) (codes "SCRIPT") script) }
+{
+    let script = text(found, ValueName::Script)?;
+    Ok(Line::Simulate { script })
 }
 
 /// The text that is given for the id.

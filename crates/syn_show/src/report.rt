@@ -16,8 +16,8 @@ use syn_path::Path;
 use syn_refusal::Refusal;
 use syn_session::{End, Report};
 
-/// Prints what a session reports: how it ended, a line of its numbers, a line for each conflict and
-/// each refused item, in path order, and what ended it early, if anything did.
+/// Prints what a session reports: how it ended, and a line of its numbers. Then each conflict and
+/// each refused item has a line, in path order, and last what ended it early, if anything did.
 ///
 /// Refused 9 where the output cannot be written, and 11 where memory is refused.
 pub fn show_report<W: Write>(

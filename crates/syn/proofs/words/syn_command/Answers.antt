@@ -11,5 +11,8 @@ returns c =
     ∙ ap₂ with_subcommand c.in_ok-top_command.ensures.app
     (ap (λ (a : App). a.top) c.in_ok-format.ensures.app) in
     let two = c.in_ok-top-2.ensures ∙ ap with_edit_apps one in
-    IfOk-weaker c.with_readers.result _ _ (λ r read. read ∙ ap with_reader_apps two)
-    c.with_readers.ensures
+    let three = c.in_ok-top-3.ensures ∙ ap with_reader_apps two in
+    let top_of = λ (a : App). a.top in
+    IfOk-weaker c.subcommand-2.result _ _ (λ r added.
+    added.shape c.in_ok-simulate.ensures.globals
+    ∙ ap₂ with_subcommand three (ap top_of c.in_ok-simulate.ensures.app)) c.subcommand-2.ensures

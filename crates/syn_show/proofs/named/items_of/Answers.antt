@@ -16,4 +16,5 @@ returns c =
     (c.in_ok-sort_by_key.ensures.sorted (λ x. x.path) computes)
     (c.sort_by_key.ensures.stable (λ x. x.path) computes) in
     ap (map named_of) sorted
-    ∙ (map_in_order named_of is_earlier c.in_ok-items.items.items ∙ ap (in_order is_earlier) c.in_ok-items.ensures)
+    ∙ (map_in_order named_of is_earlier c.in_ok-items.items.items
+    ∙ ap (in_order is_earlier) c.in_ok-items.ensures)

@@ -1,0 +1,47 @@
+//! Why a command was not done.
+ghost use Rattle.std.specs.Prelude.{◌≡◌};
+ghost use Rattle.syn.specs.declared.failure.Failure.TheVariants.{Refused};
+
+use crate::error::CommandError;
+use std::io;
+use syn_show::ShowError;
+use syn_simulate::SimulateError;
+
+/// Why a command was not done.
+#[derive(Debug, Drop)]
+pub enum Failure {
+    /// It is refused, with a number.
+    Refused(CommandError),
+    /// The line with this number of a script, counted from 1, says no step. Nothing was done.
+    Line(u64),
+}
+
+impl From<CommandError> for Failure {
+    ghost from_gives = { λ error e. e ≡ Refused error };
+
+    fn from(error: CommandError) -> Failure {
+        Failure::Refused(error)
+    }
+}
+
+impl From<io::Error> for Failure {
+    fn from(error: io::Error) -> Failure {
+        Failure::Refused(CommandError::from(error))
+    }
+}
+
+impl From<ShowError> for Failure {
+    fn from(error: ShowError) -> Failure {
+        Failure::Refused(CommandError::from(error))
+    }
+}
+
+impl From<SimulateError> for Failure {
+    fn from(error: SimulateError) -> Failure {
+        match error {
+            SimulateError::Script(number) => Failure::Line(number),
+            SimulateError::Refused(why) => Failure::Refused(CommandError::Machine(why)),
+            SimulateError::Memory => Failure::Refused(CommandError::Memory),
+        }
+    }
+}

@@ -1,0 +1,43 @@
+//! What `syn simulate` prints.
+ghost use Rattle.std.specs.Prelude.{IfOk};
+ghost use Rattle.syn.specs.Simulated.{PrintsRun};
+
+use crate::error::CommandError;
+use crate::failure::Failure;
+use std::alloc::Global;
+use std::fs::{Files, OpenOptions};
+use std::io::{Read, Write};
+use syn_disk::{Cut, HostFile, MemDisk};
+use syn_simulate::{show_world, simulate};
+use syn_world::World;
+
+/// Runs the script in the file, and prints the world behind it, which it answers.
+///
+/// The first line that says no step is told. Refused 9 where the file cannot be read or the output
+/// not be written, and 11 where memory is refused.
+pub fn run_script<F: Files, O: Write>(
+    alloc: Global,
+    files: &F,
+    name: &str,
+    output: &mut O,
+) -> Result<World<Cut<MemDisk>>, Failure>
+where
+    F::File: HostFile,
+    ensures { IfOk result (PrintsRun (O.contents output.old) (O.contents output.new)) }
+{
+    let script = read_script(alloc, files, name)?;
+    let world = simulate(alloc, &script)?;
+    show_world(alloc, &world, output)?;
+    Ok(world)
+}
+
+/// The bytes of the file.
+fn read_script<F: Files>(alloc: Global, files: &F, name: &str) -> Result<Vec<u8>, CommandError>
+where
+    F::File: HostFile,
+{
+    let mut file = files.open_file(OpenOptions::new().read(true), name)?;
+    let mut script = Vec::new(alloc);
+    file.read_to_end(&mut script)?;
+    Ok(script)
+}

@@ -1,0 +1,4 @@
+mod MoveLemmas
+mod LineLemmas
+mod PlayerLemmas
+mod LoopLemmas

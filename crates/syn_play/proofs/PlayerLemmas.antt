@@ -1,0 +1,103 @@
+-- Where a step leads a player.
+use Rattle.std.proofs.Common.{◌≡◌, Bool, List, [], ◌∷◌, length}
+use Rattle.std.proofs.Common.{Result, Ok, Err, refl, sym, ap, ◌∙◌, subst}
+use Rattle.std.proofs.lemmas.List.{length-map}
+use Rattle.std.specs.Global.{Vec}
+use Rattle.syn_disk.specs.declared.disk.Disk.{Ghosts}
+use Rattle.syn_headline.specs.World.{World as ModelWorld, Step, Steps}
+use Rattle.syn_play.specs.Lines.{Begins, Plays, Said, Says}
+use Rattle.syn_play.specs.Players.{AreFlags, HasBegun, HasPlayed, IsPlayer}
+use Rattle.syn_play.specs.States.{Moves, State, noted}
+use Rattle.syn_play.specs.declared.player.Player.{Player}
+use Rattle.syn_play.proofs.LineLemmas.{begins_moves, plays_moves}
+use Rattle.syn_play.proofs.MoveLemmas.{moves_run, stays_noted}
+use Rattle.syn_world.specs.Runs.{StepsSo, no_memory, steps}
+use Rattle.syn_world.specs.Worlds.{AreLeft, IsWorld, message_of}
+use Rattle.syn_world.specs.declared.world.Disks.{Disks}
+use Rattle.syn_world.specs.declared.world.World.{World}
+
+-- the state behind a step
+abbrev behind : State → Step → ModelWorld → State
+behind old step world = record { world = world; delivered = noted old step }
+
+one : (old : State) (step : Step) (new : ModelWorld) → Steps old.world step new
+    → Moves old (step ∷ []) (behind old step new)
+one old step new goes = (behind old step new, record { steps = goes; delivered = refl }, refl)
+
+module _ {D : Type 0} {disk : Ghosts D} where
+  -- as many were sent as the list has
+  pub sent_count : (world : World D disk) (model : ModelWorld) → IsWorld world model
+      → length world.lists.sent.items ≡ length model.sent
+  sent_count world model is =
+      sym (length-map world.lists.sent.items message_of) ∙ ap (λ l. length l) is.lists.sent
+
+  module _ (old : State) where
+    pub has_played : (what : Said) (made : List Step) (new : State) (player : Player D disk)
+        → Plays what old made new → IsPlayer player new → HasPlayed what old player
+    has_played what made new player plays is = record {
+      steps = made;
+      new = new;
+      plays = plays;
+      runs = moves_run old new made (plays_moves what old new made plays);
+      is = is;
+    }
+
+    pub has_begun : (what : Said) (made : List Step) (new : State) (disks : Disks D)
+        → Begins what old made new → AreLeft disk.may_leave disks new.world
+        → HasBegun disk what old disks
+    has_begun what made new disks begins left = record {
+      made = made;
+      new = new;
+      begins = begins;
+      runs = moves_run old new made (begins_moves what old new made begins);
+      left = left;
+    }
+
+    -- the world behind a step, and what is then delivered
+    pub step_made : (step : Step) (player : Player D disk) (world : World D disk)
+        (flags : Vec Bool) → IsPlayer player old
+        → StepsSo old.world step (Ok world) → AreFlags flags (noted old step)
+        → HasPlayed (Says (step ∷ [])) old
+        (record { world = world; delivered = flags; lowest = player.lowest })
+    step_made step player world flags was (steps so) are =
+        has_played (Says (step ∷ [])) (step ∷ []) (behind old step so.new) _
+        (refl, one old step so.new so.steps)
+        (record {
+          world = so.ends;
+          flags = are;
+          below = λ number low. stays_noted old step number (was.below number low);
+        })
+    step_made step player world flags was (no_memory disks is left) are =
+        absurd (ok_not_err world disks is)
+      where
+        ok_not_err : (w : World D disk) (d : Disks D) → Ok w ≡ Err d → ⊥
+        ok_not_err w d e = subst is_ok e tt
+          where
+            is_ok : Result (World D disk) (Disks D) → Type 0
+            is_ok (Ok w) = Unit {0}
+            is_ok (Err d) = ⊥
+
+    -- no step, and the disks as they were
+    pub step_none : (step : Step) (disks : Disks D) → AreLeft disk.may_leave disks old.world
+        → HasBegun disk (Says (step ∷ [])) old disks
+    step_none step disks left =
+        has_begun (Says (step ∷ [])) [] old disks (step ∷ [], refl, refl) left
+
+    -- or the disks as it left them
+    pub step_cut : (step : Step) (disks : Disks D)
+        → StepsSo {D = D} {disk = disk} old.world step (Err disks)
+        → HasBegun disk (Says (step ∷ [])) old disks
+    step_cut step disks (steps so) =
+        has_begun (Says (step ∷ [])) (step ∷ []) (behind old step so.new) disks
+        ([], refl, one old step so.new so.steps) so.ends
+    step_cut step disks (no_memory back is left) =
+        step_none step disks
+        (subst (λ d. AreLeft disk.may_leave d old.world) (back_is disks back is) left)
+      where
+        in_err : Disks D → Result (World D disk) (Disks D) → Disks D
+        in_err other (Ok w) = other
+        in_err other (Err d) = d
+
+        back_is : (d b : Disks D) → let one : Result (World D disk) (Disks D) = Err d in
+            let other : Result (World D disk) (Disks D) = Err b in one ≡ other → b ≡ d
+        back_is d b e = sym (ap (in_err d) e)

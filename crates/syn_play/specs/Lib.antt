@@ -1,0 +1,4 @@
+pub mod States
+pub mod Drains
+pub mod Lines
+pub mod Players

@@ -1,0 +1,31 @@
+-- A world with what was delivered of its messages, and how it goes by steps.
+use Rattle.std.specs.Prelude.{◌≡◌, ◌==◌, ◌||◌, ℕ, nat_lt, Bool, false, if◌then◌else◌}
+use Rattle.std.specs.Prelude.{List, [], ◌∷◌, length}
+use Rattle.syn_headline.specs.World.{World, Step, Steps}
+use Rattle.syn_headline.specs.World.{Deliver}
+
+pub record State : Type 0 where
+  pub world : World
+  -- whether the message with a number was delivered already
+  pub delivered : ℕ → Bool
+
+-- none was delivered yet
+abbrev pub fresh : World → State
+fresh world = record { world = world; delivered = λ number. false }
+
+-- what is delivered behind a step; a number that was never sent is not
+abbrev pub noted : State → Step → ℕ → Bool
+noted old (Deliver number) = if nat_lt number (length old.world.sent)
+    then (λ other. other == number || old.delivered other) else old.delivered
+noted old step = old.delivered
+
+-- a step of the world, with what it delivers
+pub record Goes (old : State) (step : Step) (new : State) : Type 0 where
+  pub steps : Steps old.world step new.world
+  pub delivered : new.delivered ≡ noted old step
+
+-- a list of steps, one after another
+abbrev pub Moves : State → List Step → State → Type 0
+Moves old [] new = new ≡ old
+Moves old (step ∷ steps) new =
+    (between : State) × Goes old step between × Moves between steps new

@@ -1,0 +1,8 @@
+//! Lines of a script, played on a world of two sides and a coordinator.
+#![tactic(auto)]
+
+mod line;
+mod notes;
+mod player;
+
+pub use player::{MOST_DRAINED, Player};

@@ -1,0 +1,3 @@
+mod ShownLemmas
+mod StartLemmas
+mod RunLemmas

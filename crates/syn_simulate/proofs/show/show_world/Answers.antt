@@ -1,0 +1,34 @@
+use Rattle.std.proofs.Common.{ap, codes, subst}
+use Rattle.std.proofs.lemmas.Result.{on_ok_weaker}
+use Rattle.std.specs.Io.KnownBytes.{Appends}
+use Rattle.syn_simulate.specs.Shown.{archive_or_down, reports_shown, side_or_down}
+use Rattle.syn_simulate.proofs.ShownLemmas.{appends_more}
+use Rattle.syn_simulate.proofs.show.show_world.Goals as goal
+
+pub returns : goal.returns
+returns g c =
+    let world = c.args.world.now in
+    let held = g.W.Write.contents in
+    let reports = reports_shown world.lists.reports.items in
+    let left = side_or_down world.left in
+    let right = side_or_down world.right in
+    let archive = archive_or_down world.coordinator in
+    let s0 = held c.args.output.now in
+    let s1 = held c.show_reports.new.output in
+    let s2 = held c.write_all.new.self in
+    let s3 = held c.show_side.new.output in
+    let s4 = held c.write_all-2.new.self in
+    let s5 = held c.show_side-2.new.output in
+    let s6 = held c.write_all-3.new.self in
+    let s7 = held c.show_coordinator.new.output in
+    let wrote_reports = subst (Appends s0 s1) (ap reports_shown c.deref.ensures.value)
+    c.in_ok-show_reports.ensures in
+    on_ok_weaker c.show_coordinator.result
+    (λ shown.
+    appends_more s0 s1 s7 reports _ wrote_reports
+    (appends_more s1 s2 s7 (codes "left\n") _ c.in_ok-write_all.ensures.bytes
+    (appends_more s2 s3 s7 left _ c.in_ok-show_side.ensures
+    (appends_more s3 s4 s7 (codes "right\n") _ c.in_ok-write_all-2.ensures.bytes
+    (appends_more s4 s5 s7 right _ c.in_ok-show_side-2.ensures
+    (appends_more s5 s6 s7 (codes "archive\n") archive c.in_ok-write_all-3.ensures.bytes shown))))))
+    c.show_coordinator.ensures

@@ -1,0 +1,5 @@
+pub mod Disks
+pub mod Faults
+pub mod Shown
+pub mod Starts
+pub mod Simulations

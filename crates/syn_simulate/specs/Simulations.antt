@@ -1,0 +1,30 @@
+-- The world behind a script.
+use Rattle.std.specs.Prelude.{List}
+use Rattle.syn_disk.specs.declared.disk.Disk.{Ghosts}
+use Rattle.syn_headline.specs.World.{Runs, Step}
+use Rattle.syn_play.specs.Lines.{PlaysAll}
+use Rattle.syn_play.specs.States.{State, fresh}
+use Rattle.syn_script.specs.Scripts.{SaySteps, lines_of}
+use Rattle.syn_script.specs.Words.{Text}
+use Rattle.syn_script.specs.declared.line.Line.{Line}
+use Rattle.syn_simulate.specs.Starts.{StartsFormatted}
+use Rattle.syn_world.specs.Worlds.{IsWorld}
+use Rattle.syn_world.specs.declared.world.World.{World}
+
+-- Playing the lines leads a new world of pair 1 to this one, by a run of the definitions
+pub record PlaysTo {D : Type 0} {disk : Ghosts D} (lines : List Line) (world : World D disk)
+    : Type 0 where
+  pub start : World D disk
+  pub starts : StartsFormatted 1 start
+  pub steps : List Step
+  pub new : State
+  pub plays : PlaysAll lines (fresh starts.opens.model) steps new
+  pub runs : Runs starts.opens.model steps new.world
+  pub ends : IsWorld world new.world
+
+-- and the lines are the script's
+pub record RunsScript {D : Type 0} {disk : Ghosts D} (script : Text) (world : World D disk)
+    : Type 0 where
+  pub lines : List Line
+  pub say : SaySteps (lines_of script) lines
+  pub plays : PlaysTo lines world

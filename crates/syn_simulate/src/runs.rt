@@ -1,0 +1,34 @@
+//! Scripts that are run.
+ghost use Rattle.std.specs.Prelude.{◌≡◌, ℕ, IfOk, IfErr};
+ghost use Rattle.syn_script.specs.Scripts.{IsFirstFault, lines_of};
+ghost use Rattle.syn_simulate.specs.Simulations.{RunsScript};
+ghost use Rattle.syn_simulate.specs.declared.error.SimulateError.TheVariants.{Script as Fault};
+
+use crate::disks::stops_of;
+use crate::error::SimulateError;
+use crate::start::formatted_world;
+use std::alloc::Global;
+use syn_disk::{Cut, MemDisk};
+use syn_play::Player;
+use syn_script::Script;
+use syn_world::World;
+
+/// The world behind the steps of the script. It starts with three machines that are up: two sides
+/// with an empty replica each, and a coordinator with an empty archive, all of pair 1. A machine's
+/// i-th stop leaves of its disk what its i-th stop line says.
+///
+/// Refused with the number of the first line that says no step, counted from 1, before anything is
+/// done; and 11 where memory is refused.
+pub fn simulate(alloc: Global, script: &[u8]) -> Result<World<Cut<MemDisk>>, SimulateError>
+    ensures run { IfOk result (RunsScript script.now) }
+    ensures fault { IfErr result (λ e. (number : ℕ) → e ≡ Fault number
+        → IsFirstFault (lines_of script.now) number) }
+{
+    let lines = Script::parse(alloc, script)?;
+    let stops = stops_of(alloc, &lines)?;
+    let world = formatted_world(alloc, stops)?;
+    match Player::new(alloc, world).play_all(alloc, lines) {
+        Ok(player) => Ok(player.into_world()),
+        Err(_) => Err(SimulateError::Memory),
+    }
+}
