@@ -1,5 +1,5 @@
 -- What one hold of the shared replica answers, and what it leaves.
-use Rattle.std.specs.Prelude.{◌≡◌, ℕ, Some, None, Result, Ok, Err}
+use Rattle.std.specs.Prelude.{◌≡◌, ◌⊎◌, ℕ, Some, None, Result, Ok, Err}
 use Rattle.syn_agent.specs.Agents.{side_of}
 use Rattle.syn_agent.specs.Answers.{Answers as AnswersOf, IsUnchanged, room_for}
 use Rattle.syn_agent.specs.Causes.{CountsFailures, TakesMemory}
@@ -44,7 +44,8 @@ pub record AnswersAlone {D : Type 0} {disk : Ghosts D} (agent after : Agent) (se
   pub unchanged : IsHalted found → IsUnchanged found left
   pub grown : IsGrown found left
   -- when memory is refused, and when the device failed
-  pub memory : (history : History) → Stands found history → reply ≡ Refuses Memory
+  pub memory : (history : History) → Stands found history ⊎ IsHalted found
+      → reply ≡ Refuses Memory
       → TakesMemory (pair_of found) (room_for found) (side_of history agent) session request
   pub failures : CountsFailures reply (disk.failures (disk_of found))
       (disk.failures (disk_of left))
