@@ -1,17 +1,14 @@
 -- The body of a reply goes into a frame.
-use Rattle.std.proofs.Common.{◌≡◌, ◌≤◌, ◌<◌, ◌⊎◌, ◌+◌, ◌*◌, ◌++◌, ◌∷◌, [], ℕ, List, length}
-use Rattle.std.proofs.Common.{Option, Some, None, arith, inl, inr, refl, subst, sym}
+use Rattle.std.proofs.Common.{◌≡◌, ◌≤◌, ◌+◌, ◌*◌, ◌∷◌, [], ℕ, length}
+use Rattle.std.proofs.Common.{Option, Some, None, arith}
 use Rattle.std.proofs.lemmas.List.{length-append}
 use Rattle.std.proofs.lemmas.List.Elements.{All-head, All-tail}
-use Rattle.std.specs.Int.{to_be_bytes, w16, w32, w64}
 use Rattle.std.specs.Prelude.{All, flat_map}
 use Rattle.syn_headline.specs.Side as model
-use Rattle.syn_link.specs.Frames.{AppendsSome, IsBody, frame_of}
-use Rattle.syn_link.specs.declared.error.LinkError.{LinkError}
-use Rattle.syn_link.specs.declared.error.LinkError.TheVariants as link
+use Rattle.syn_link.specs.Frames.{IsBody}
 use Rattle.syn_mark.specs.Marks.{IsDigestOrDirectory}
 use Rattle.syn_message.specs.Bodies.{body_spelling}
-use Rattle.syn_message.specs.Listings.{Entries, IsEntry, entries_spelling, entry_spelling}
+use Rattle.syn_message.specs.Listings.{Entries, IsEntry, entry_spelling}
 use Rattle.syn_message.specs.Listings.{mark_spelling}
 use Rattle.syn_message.specs.Replies.{IsLawfulReply, reply_fields}
 use Rattle.syn_message.specs.UserReplies as user
@@ -46,8 +43,12 @@ short_each [] all = omega arith
 short_each (entry ∷ entries) all =
     let here = short_entry entry (All-head IsEntry entry entries all) in
     let behind = short_each entries (All-tail IsEntry entry entries all) in
-    omega (arith, here, behind,
-    length-append (entry_spelling entry) (flat_map entry_spelling entries))
+    omega (
+      arith,
+      here,
+      behind,
+      length-append (entry_spelling entry) (flat_map entry_spelling entries),
+    )
 
 short_reply : (reply : model.Reply) → IsLawfulReply reply → length (reply_fields reply) ≤ 65000
 short_reply (model.Begun position) is = omega arith

@@ -18,8 +18,9 @@ use std::sync::Wait;
 use syn_agent::Agent;
 use syn_disk::Disk;
 use syn_lock::Pass;
-use syn_message::{Answered, AnsweredToUser, Asked, AskedByUser, Reply, Request};
-use syn_message::{UserReply, UserRequest};
+use syn_message::{
+    Answered, AnsweredToUser, Asked, AskedByUser, Reply, Request, UserReply, UserRequest,
+};
 use syn_path::Path;
 use syn_replica::{Replica, ReplicaError};
 use syn_shared::SharedReplica;

@@ -4,7 +4,7 @@ use Rattle.syn_serve.proofs.upkeep.keep_up.Goals as goal
 use Rattle.syn_serve.specs.Upkeep.{busy, compacts, reopens, rests}
 
 pub returns-in_default-clause-keeps : goal.returns-in_default-clause-keeps
-returns-in_default-clause-keeps g c = busy (rw c.in_default.is at c.in_default.ensures.held)
+returns-in_default-clause-keeps g c = busy c.in_default.ensures.held
 
 pub returns-then-look-clause-keeps : goal.returns-then-look-clause-keeps
 returns-then-look-clause-keeps g c =
