@@ -14,9 +14,9 @@ use Rattle.syn_replica.specs.Growing.{grown_twice, itself}
 use Rattle.syn_replica.specs.declared.replica.Replica.{Replica}
 use Rattle.syn_serve.specs.Exchanges.{IsAnswered, moment}
 use Rattle.syn_serve.specs.Holds.{Responds}
-use Rattle.syn_serve.specs.Lines.{BreaksOff, IsSilent, Line, ReceivesMessage}
+use Rattle.syn_serve.specs.Lines.{BreaksOff, IsSilent, Line}
 use Rattle.syn_serve.specs.Messages.{Message, Response, message_spelling}
-use Rattle.syn_serve.specs.Refusals.{of_link}
+use Rattle.syn_serve.specs.inner.Parts.{ReceivesMessage, of_link}
 use Rattle.syn_shared.specs.Shared.{IsLater, own_of}
 use Rattle.syn_shared.specs.declared.shared.SharedReplica.{SharedReplica}
 

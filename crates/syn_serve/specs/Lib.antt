@@ -6,3 +6,4 @@ pub mod Exchanges
 pub mod Runs
 pub mod Servings
 pub mod Upkeep
+pub mod inner

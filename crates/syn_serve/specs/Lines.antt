@@ -49,16 +49,6 @@ IsSilent old new = (new.agent ≡ old.agent) × (new.written ≡ old.written)
 abbrev pub Receives : Line → Line → Bytes → Type 0
 Receives old new body = Comes old.given new.given old.held new.held (Some body)
 
--- a message came so
-pub record ReceivesMessage (old new : Line) (message : Message) : Type 0 where
-  pub lawful : IsLawfulMessage message
-  pub came : Receives old new (message_spelling message)
-
--- all but what was written stays
-abbrev pub IsOnlyWritten : Line → Line → Type 0
-IsOnlyWritten old new =
-    (new.given ≡ old.given) × (new.held ≡ old.held) × (new.agent ≡ old.agent)
-
 -- the other side closed before a whole frame came
 abbrev pub Ends : Line → Line → Type 0
 Ends old new = EndsBefore old.given new.given old.held new.held

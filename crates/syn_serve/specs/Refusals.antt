@@ -1,8 +1,6 @@
 -- Why a connection is closed, as a refusal of the product.
 use Rattle.syn_model.specs.Refusal.{Refusal}
 use Rattle.syn_model.specs.Refusal as why
-use Rattle.syn_link.specs.declared.error.LinkError.{LinkError}
-use Rattle.syn_link.specs.declared.error.LinkError.TheVariants as link
 use Rattle.syn_serve.specs.declared.error.ServeError.{ServeError}
 use Rattle.syn_serve.specs.declared.error.ServeError.TheVariants.{BadFrame, BadMessage, Device}
 use Rattle.syn_serve.specs.declared.error.ServeError.TheVariants.{Memory, TooLarge}
@@ -13,10 +11,3 @@ refusal_of Memory = why.Memory
 refusal_of BadFrame = why.BadFrame
 refusal_of TooLarge = why.TooLarge
 refusal_of BadMessage = why.BadMessage
-
--- a frame's error
-abbrev pub of_link : LinkError → ServeError
-of_link link.BadFrame = BadFrame
-of_link link.TooLarge = TooLarge
-of_link link.Device = Device
-of_link link.Memory = Memory

@@ -2,12 +2,12 @@
 ghost use Rattle.std.specs.Prelude.{◌≡◌, [], IfErr, IfNone, IfOk, IfSome, None, OnOk};
 ghost use Rattle.syn_agent.specs.Agents.{staging_of};
 ghost use Rattle.syn_serve.specs.Exchanges.{Exchanges, moment};
-ghost use Rattle.syn_serve.specs.Lines.{BreaksOff, ClosesFor, Ends, IsOnlyWritten, IsSilent};
-ghost use Rattle.syn_serve.specs.Lines.{ReceivesMessage, Sends, agent_of, held_by, line_of};
-ghost use Rattle.syn_serve.specs.Lines.{reader_of, writer_of};
+ghost use Rattle.syn_serve.specs.Lines.{BreaksOff, ClosesFor, Ends, IsSilent, Sends, agent_of};
+ghost use Rattle.syn_serve.specs.Lines.{held_by, line_of, reader_of, writer_of};
 ghost use Rattle.syn_serve.specs.Messages.{IsLawfulResponse, message_of, response_of};
 ghost use Rattle.syn_serve.specs.Messages.{response_spelling};
 ghost use Rattle.syn_serve.specs.Runs.{Serves};
+ghost use Rattle.syn_serve.specs.inner.Parts.{IsOnlyWritten, ReceivesMessage};
 ghost use Rattle.syn_shared.specs.Shared.{IsFor, IsLater};
 
 use crate::answering::answer;

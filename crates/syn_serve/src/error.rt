@@ -2,7 +2,8 @@
 ghost use Rattle.std.specs.Prelude.{◌≡◌, Some};
 ghost use Rattle.syn_model.specs.Refusal.{number, name_of};
 ghost use Rattle.syn_refusal.specs.Refusals.{cause_of};
-ghost use Rattle.syn_serve.specs.Refusals.{of_link, refusal_of};
+ghost use Rattle.syn_serve.specs.Refusals.{refusal_of};
+ghost use Rattle.syn_serve.specs.inner.Parts.{of_link};
 
 use std::fmt;
 use syn_link::LinkError;

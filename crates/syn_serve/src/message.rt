@@ -17,7 +17,9 @@ use syn_wire::WireError;
 /// A request of a session, or of a user.
 #[derive(Debug, Drop)]
 pub enum AnyRequest {
+    /// With its session and its number.
     Session(Asked),
+    /// With its number.
     User(AskedByUser),
 }
 
@@ -59,7 +61,9 @@ fn user_kind(request: &UserRequest) -> u8
 /// A reply to a session, or to a user.
 #[derive(Debug, Drop)]
 pub enum AnyReply {
+    /// With the session and the number of the request.
     Session(Answered),
+    /// With the number of the request.
     User(AnsweredToUser),
 }
 

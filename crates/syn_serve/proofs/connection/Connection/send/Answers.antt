@@ -5,7 +5,7 @@ use Rattle.syn_serve.proofs.ServeLemmas.{breaks_off}
 use Rattle.syn_serve.proofs.connection.Connection.send.Goals as goal
 use Rattle.syn_serve.specs.Lines.{BreaksOff, writer_of}
 use Rattle.syn_serve.specs.Messages.{response_of, response_spelling}
-use Rattle.syn_serve.specs.Refusals.{of_link}
+use Rattle.syn_serve.specs.inner.Parts.{of_link}
 
 pub returns-clause-broken : goal.returns-clause-broken
 returns-clause-broken g c =
