@@ -62,7 +62,8 @@ short_found : (found : Option Content) → IsFound found → length (found_spell
 short_found None is = omega arith
 short_found (Some (File contents)) is =
     let few = is.0 in
-    let size : length (found_spelling (Some (File contents))) ≡ 5 + length contents.bytes = omega arith in
+    let size : length (found_spelling (Some (File contents))) ≡ 5 + length contents.bytes =
+    omega arith in
     omega (arith, few, size)
 short_found (Some Directory) is = omega arith
 

@@ -1,6 +1,7 @@
 -- What comes over a connection and what goes back: of a session, or of a user.
 use Rattle.std.specs.Prelude.{ℕ}
-use Rattle.syn_message.specs.Replies.{Answering, IsLawfulAnswering, answering_of, answering_spelling}
+use Rattle.syn_message.specs.Replies.{Answering, IsLawfulAnswering, answering_of}
+use Rattle.syn_message.specs.Replies.{answering_spelling}
 use Rattle.syn_message.specs.Requests.{Asking, IsLawfulAsking, asking_of, asking_spelling, kind_of}
 use Rattle.syn_message.specs.UserReplies.{IsLawfulTelling, Telling, telling_of, telling_spelling}
 use Rattle.syn_message.specs.Users.{IsLawfulWished, Wished, wish_kind, wished_of, wished_spelling}

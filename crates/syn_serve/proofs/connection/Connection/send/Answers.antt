@@ -14,7 +14,8 @@ returns-clause-broken g c =
     let told = c.in-Err.ensures in
     let spelled = c.deref.ensures.value ∙ c.in-Ok.ensures in
     let lawful = is_body (response_of c.args.reply.now) c.requires in
-    subst (λ e. BreaksOff e old new (response_spelling (response_of c.args.reply.now))) (sym c.closed_by.ensures)
+    subst (λ e. BreaksOff e old new (response_spelling (response_of c.args.reply.now)))
+    (sym c.closed_by.ensures)
     (subst (λ b. BreaksOff (of_link c.in-Err.error) old new b) spelled
     (breaks_off c.in-Err.error old new _ (subst IsBody (sym spelled) lawful)
     (λ is. told.bad_frame.0 (ap Err is)) (λ is. told.too_large.0 (ap Err is)) told.memory
