@@ -23,14 +23,13 @@ use Rattle.syn_agent.specs.inner.Lawful.{ListsLawfully}
 use Rattle.syn_mark.specs.Marks.{IsDigestOrDirectory}
 use Rattle.syn_message.specs.Listings.{AreRising, IsEntry, IsListing}
 use Rattle.syn_model.specs.Event.{AreBytes}
-use Rattle.syn_model.specs.History.{History, IsHistory, tree_of}
-use Rattle.syn_model.specs.Laws.{HistoryFits, HistoryIsTree, MarkHas}
+use Rattle.syn_model.specs.Laws.{MarkHas}
 use Rattle.syn_model.specs.Limits.{children, fits_content, fits_part, fits_paths, greatest_spelling}
-use Rattle.syn_model.specs.Limits.{only_name, tree_spelling_length}
+use Rattle.syn_model.specs.Limits.{fits_replica, only_name, tree_spelling_length}
 use Rattle.syn_model.specs.Mark.{mark, mark_of}
 use Rattle.syn_model.specs.Path.{IsName, Name, Path, name_cmp, path_cmp, strip_prefix}
-use Rattle.syn_model.specs.Tree.{Content, Directory, File, IsPart, Pair, Tree, is_directory}
-use Rattle.syn_model.specs.Tree.{is_directory_content}
+use Rattle.syn_model.specs.Tree.{Content, Directory, File, IsPart, IsTree, Pair, Tree}
+use Rattle.syn_model.specs.Tree.{is_directory, is_directory_content}
 use Rattle.std.specs.FinMap.{len}
 
 name_total : IsTotalOrder name_cmp
@@ -360,13 +359,12 @@ listed has tree part fits path there =
           (rise_rows path (marked (entries tree)) (in_order tree));
     })
 
-pub lists_lawfully : MarkHas → HistoryIsTree → HistoryFits → (history : History)
-    → IsHistory history → ListsLawfully history
-lists_lawfully has is_tree fits history lawful path there =
-    let tree = tree_of history in
+pub lists_lawfully : MarkHas → (tree : Tree) → IsTree tree → fits_replica tree ≡ true
+    → ListsLawfully tree
+lists_lawfully has tree is_tree fits path there =
     let limits = and_parts (nat_le (len tree) 1024
     && nat_le (tree_spelling_length tree) greatest_spelling && fits_part tree) (fits_paths tree)
-    (fits history lawful) in
+    fits in
     let each = and_parts (nat_le (len tree) 1024
     && nat_le (tree_spelling_length tree) greatest_spelling) (fits_part tree) limits.0 in
-    listed has tree (is_tree history lawful).part each.1 path there
+    listed has tree is_tree.part each.1 path there

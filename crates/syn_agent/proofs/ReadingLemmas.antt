@@ -29,7 +29,7 @@ use Rattle.syn_model.specs.Path.{Bytes, Name, Path}
 use Rattle.syn_model.specs.Refusal.{Refusal, first_cause, number}
 use Rattle.syn_model.specs.Refusal as why
 use Rattle.syn_model.specs.Spelling.{spelling}
-use Rattle.syn_model.specs.Tree.{Content, is_directory, subtree}
+use Rattle.syn_model.specs.Tree.{Content, Tree, is_directory, subtree}
 use Rattle.syn_refusal.specs.Refusals.{cause_of}
 use Rattle.syn_refusal.specs.declared.refusal.Refusal.{Refusal as Answer}
 use Rattle.syn_refusal.specs.declared.refusal.Refusal.TheVariants as own
@@ -113,6 +113,17 @@ pub own_absent : (refusal : Answer) → cause_of refusal ≡ why.Absent → refu
 own_absent own.Absent is = refl
 own_absent refusal is = absurd (let k : cause_of refusal ≡ why.Absent = is in cc)
 
+-- what a directory lists can be sent
+pub is_listing : (tree : Tree) (path : Path) (listed : List (Name × Content))
+    → listed ≡ children (mark tree) path → is_directory tree path ≢ false → ListsLawfully tree
+    → IsListing listed
+is_listing tree path listed are there lawful =
+    subst IsListing (sym are) (lawful path (by (is_directory tree path) refl))
+  where
+    by : (b : Bool) → is_directory tree path ≡ b → is_directory tree path ≡ true
+    by true is = is
+    by false is = absurd (there is)
+
 module _ {D : Type 0} {disk : Ghosts D} (replica : Replica D disk) (agent : Agent)
     (history : History) (session : ℕ) (stands : Stands replica history) where
   pub running : ¬ IsHalted replica
@@ -164,15 +175,6 @@ module _ {D : Type 0} {disk : Ghosts D} (replica : Replica D disk) (agent : Agen
           → is_directory (tree_of history) path ≡ true
       by true is = is
       by false is = absurd (there (ap (λ t. is_directory t path) tree_is ∙ is))
-
-  -- what it lists can be sent
-  pub is_listing : (path : Path) (listed : List (Name × Content))
-      → listed ≡ children (mark (tree_shown replica)) path
-      → is_directory (tree_shown replica) path ≢ false → ListsLawfully history
-      → IsListing listed
-  is_listing path listed are there lawful =
-      subst IsListing (sym (are ∙ ap (λ t. children (mark t) path) tree_is))
-      (lawful path (is_there path there))
 
   pub is_listed : (path : Path) (position : ℕ) (entries : List (Name × Content))
       → position ≡ position_shown replica

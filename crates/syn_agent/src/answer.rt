@@ -6,6 +6,7 @@ ghost use Rattle.syn_message.specs.Replies.{IsLawfulReply, reply_of};
 ghost use Rattle.syn_message.specs.Requests.{request_of};
 ghost use Rattle.syn_model.specs.History.{History};
 ghost use Rattle.syn_model.specs.Refusal as why;
+ghost use Rattle.syn_replica.specs.Growth.{IsGrown};
 ghost use Rattle.syn_replica.specs.Replica.{IsHalted, Stands, disk_of, pair_of};
 ghost use Rattle.syn_agent.specs.Agents.{side_of};
 ghost use Rattle.syn_agent.specs.Answers.{Answers, IsUnchanged, room_for};
@@ -46,9 +47,11 @@ impl Agent {
             (answer (side_of history self.new) (reply_of result)) }
         ensures unchanged { IsHalted replica.old → IsUnchanged replica.old replica.new }
 
+        // Whatever is answered, no history is lost.
+        ensures grown { IsGrown replica.old replica.new }
+
         // It can be sent.
-        ensures lawful { (history : History) → Stands replica.old history ⊎ IsHalted replica.old
-            → IsLawfulReply (reply_of result) }
+        ensures lawful { IsLawfulReply (reply_of result) }
 
         // When memory is refused, and when the device failed.
         ensures memory { (history : History) → Stands replica.old history ⊎ IsHalted replica.old
@@ -76,8 +79,8 @@ impl Agent {
             → ServesHalted (side_of history self.old) session (request_of request)
             (answer (side_of history self.new) (reply_of result)) }
         ensures unchanged { IsHalted replica.old → IsUnchanged replica.old replica.new }
-        ensures lawful { (history : History) → Stands replica.old history ⊎ IsHalted replica.old
-            → IsLawfulReply (reply_of result) }
+        ensures grown { IsGrown replica.old replica.new }
+        ensures lawful { IsLawfulReply (reply_of result) }
         ensures memory { (history : History) → Stands replica.old history ⊎ IsHalted replica.old
             → reply_of result ≡ Refused why.Memory → TakesMemory (pair_of replica.old)
             (room_for replica.old) (side_of history self.old) session (request_of request) }

@@ -4,6 +4,7 @@ ghost use Rattle.syn_headline.specs.Side.{Begin, Refused};
 ghost use Rattle.syn_message.specs.Replies.{IsLawfulReply, reply_of};
 ghost use Rattle.syn_model.specs.History.{History};
 ghost use Rattle.syn_model.specs.Refusal as why;
+ghost use Rattle.syn_replica.specs.Growth.{IsGrown};
 ghost use Rattle.syn_replica.specs.Replica.{IsHalted, Stands, disk_of, pair_of};
 ghost use Rattle.syn_agent.specs.Agents.{side_of};
 ghost use Rattle.syn_agent.specs.Answers.{Answers, IsUnchanged, room_for};
@@ -29,6 +30,7 @@ impl Agent {
         ensures answers { (history : History) → Stands replica.old history
             → Answers replica.old replica.new self.now self.now history session (Begin pair)
             (reply_of result) }
+        ensures grown { IsGrown replica.old replica.new }
         ensures lawful { IsLawfulReply (reply_of result) }
         ensures memory { (history : History) → Stands replica.old history
             → reply_of result ≡ Refused why.Memory → TakesMemory (pair_of replica.old)

@@ -1,14 +1,14 @@
 //! What holds of a replica and its agent as a side's machine, and of what a side lists.
 ghost use Rattle.std.specs.Prelude.{ℕ};
 ghost use Rattle.syn_headline.specs.SideMachine.{SideMachine};
-ghost use Rattle.syn_model.specs.History.{History, IsHistory};
+ghost use Rattle.syn_replica.specs.Replica.{tree_shown};
 ghost use Rattle.syn_agent.specs.Machines.{CompactedIsOf, IsOf, IsUpAs, UpIsOf};
 ghost use Rattle.syn_agent.specs.Machines.{WrittenIsOf};
 ghost use Rattle.syn_agent.specs.inner.Lawful.{ListsLawfully};
 
 use crate::agent::Agent;
 use syn_disk::Disk;
-use syn_model::{history_laws, mark_laws};
+use syn_model::mark_laws;
 use syn_replica::Replica;
 
 /// A replica that stands for a machine's history is that machine's, and what a call leaves on its
@@ -33,10 +33,10 @@ pub fn replica_laws<D: Disk>(replica: &Replica<D>)
     let _ = replica;
 }
 
-/// What stands in a directory of a history is a listing that can be sent.
-pub(crate) fn listing_laws()
-    ensures { (history : History) → IsHistory history → ListsLawfully history }
+/// What stands in a directory of a replica is a listing that can be sent.
+pub(crate) fn listing_laws<D: Disk>(replica: &Replica<D>)
+    ensures { ListsLawfully (tree_shown replica.now) }
 {
-    history_laws();
+    let _whole = replica.tree().entries();
     mark_laws();
 }

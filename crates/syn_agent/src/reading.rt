@@ -27,15 +27,14 @@ impl Agent {
         ensures answers { (history : History) (session : ℕ) → Stands replica.now history
             → Answers replica.now replica.now self.now self.now history session (ListAt path.now)
             (reply_of result) }
-        ensures lawful { (history : History) → Stands replica.now history
-            → IsLawfulReply (reply_of result) }
+        ensures lawful { IsLawfulReply (reply_of result) }
         ensures memory { (history : History) (session : ℕ) → Stands replica.now history
             → reply_of result ≡ Refused why.Memory → TakesMemory (pair_of replica.now)
             (room_for replica.now) (side_of history self.now) session (ListAt path.now) }
         ensures device { reply_of result ≢ Refused why.Device }
         ensures halted { IsHalted replica.now → reply_of result ≡ Refused why.Halted }
     {
-        listing_laws();
+        listing_laws(replica);
         match replica.listing(alloc, path) {
             Ok(Listing { position, entries }) => Reply::Listed { position, entries },
             Err(error) => match error.refusal() {
@@ -62,8 +61,7 @@ impl Agent {
         ensures answers { (history : History) (session : ℕ) → Stands replica.now history
             → Answers replica.now replica.now self.now self.now history session
             (Fetch path.now since offset) (reply_of result) }
-        ensures lawful { (history : History) → Stands replica.now history
-            → IsLawfulReply (reply_of result) }
+        ensures lawful { IsLawfulReply (reply_of result) }
         ensures memory { (history : History) (session : ℕ) → Stands replica.now history
             → reply_of result ≡ Refused why.Memory → TakesMemory (pair_of replica.now)
             (room_for replica.now) (side_of history self.now) session

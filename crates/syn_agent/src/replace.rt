@@ -7,6 +7,7 @@ ghost use Rattle.syn_model.specs.History.{History, is_old_token};
 ghost use Rattle.syn_model.specs.Refusal.{first_cause};
 ghost use Rattle.syn_model.specs.Refusal as why;
 ghost use Rattle.syn_refusal.specs.Refusals.{cause_of};
+ghost use Rattle.syn_replica.specs.Growth.{IsGrown};
 ghost use Rattle.syn_replica.specs.Replica.{IsHalted, Stands, disk_of, pair_of};
 ghost use Rattle.syn_replica.specs.Steps.{is_done};
 ghost use Rattle.syn_tree.specs.Nodes.{part_of};
@@ -44,6 +45,7 @@ impl Agent {
         ensures answers { (history : History) → Stands replica.old history
             → Answers replica.old replica.new self.now self.now history token.session
             (Replace token.item path.now since length) (reply_of result) }
+        ensures grown { IsGrown replica.old replica.new }
         ensures lawful { IsLawfulReply (reply_of result) }
         ensures memory { (history : History) → Stands replica.old history
             → reply_of result ≡ Refused why.Memory → TakesMemory (pair_of replica.old)
@@ -79,6 +81,7 @@ impl Agent {
             → is_old_token history (token_of token) ≡ false
             → Answers replica.old replica.new self.now self.now history token.session
             (Replace token.item path.now since length) (reply_of result) }
+        ensures grown { IsGrown replica.old replica.new }
         ensures lawful { IsLawfulReply (reply_of result) }
         ensures memory { reply_of result ≡ Refused why.Memory
             → first_cause (staging_causes (staging_of self.now) (token_of token) length) ≡ None }

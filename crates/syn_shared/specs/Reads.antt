@@ -1,14 +1,14 @@
 -- What the calls of one thread read from the replica found, which they leave as it is.
-use Rattle.std.specs.Prelude.{◌≡◌, ◌↔◌, Bool, false, Some, None, Result, Err, IfOk, IfErr}
+use Rattle.std.specs.Prelude.{◌≡◌, ◌↔◌, Bool, true, false, Some, None, Result, Err, IfOk, IfErr}
 use Rattle.std.specs.FinMap.{get}
 use Rattle.std.specs.Global.{Vec}
 use Rattle.syn_disk.specs.declared.disk.Disk.{Ghosts}
 use Rattle.syn_journal.specs.declared.error.JournalError.TheVariants.{Halted}
 use Rattle.syn_mark.specs.Marks.{contents_in}
-use Rattle.syn_model.specs.Limits.{children}
+use Rattle.syn_model.specs.Limits.{children, fits_content}
 use Rattle.syn_model.specs.Mark.{mark}
 use Rattle.syn_model.specs.Path.{Name, Path}
-use Rattle.syn_model.specs.Tree.{is_directory}
+use Rattle.syn_model.specs.Tree.{Content, Tree as Pairs, is_directory}
 use Rattle.syn_replica.specs.Refusals.{IsOneOf, reading_refusals}
 use Rattle.syn_replica.specs.Replica.{IsHalted, tree_shown, position_shown}
 use Rattle.syn_replica.specs.declared.error.ReplicaError.{ReplicaError}
@@ -17,15 +17,21 @@ use Rattle.syn_replica.specs.declared.replica.Replica.{Replica}
 use Rattle.syn_replica.specs.declared.replica.listing.Listing.{Listing}
 use Rattle.syn_tree.specs.Contents.{content_of}
 use Rattle.syn_tree.specs.Lists.{listing}
-use Rattle.syn_tree.specs.declared.content.Content.{Content}
+use Rattle.syn_tree.specs.declared.content.Content.{Content as Found}
 use Rattle.syn_tree.specs.declared.error.TreeError.TheVariants.{Absent}
+
+-- each file of the tree is within the limit of a file
+abbrev pub EachFits : Pairs → Type 0
+EachFits tree = (path : Path) (content : Content) → get tree path ≡ Some content
+    → fits_content content ≡ true
 
 module _ {D : Type 0} {disk : Ghosts D} (path : Path) where
   -- what stands at the path
-  pub record Gets (answer : Result Content ReplicaError) (found left : Replica D disk)
+  pub record Gets (answer : Result Found ReplicaError) (found left : Replica D disk)
       : Type 0 where
     pub same : left ≡ found
     pub content : IfOk answer (λ content. get (tree_shown found) path ≡ Some (content_of content))
+    pub fits : IfOk answer (λ content. fits_content (content_of content) ≡ true)
     pub absent : (answer ≡ Err (Tree Absent))
         ↔ (¬ IsHalted found × (get (tree_shown found) path ≡ None))
     pub halted : (answer ≡ Err (Journal Halted)) ↔ IsHalted found

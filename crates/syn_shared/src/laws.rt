@@ -3,6 +3,8 @@ ghost use Rattle.std.specs.Prelude.{◌<◌, ◌^◌};
 ghost use Rattle.syn_agent.specs.Machines.{CompactedIsOf, UpIsOf, WrittenIsOf};
 ghost use Rattle.syn_recovery.specs.Calls.{BrokenCallsMeet, MadeCallsMeet, MadeReadsMeet};
 ghost use Rattle.syn_recovery.specs.Machines.{SidesOpen};
+ghost use Rattle.syn_replica.specs.Replica.{tree_shown};
+ghost use Rattle.syn_shared.specs.Reads.{EachFits};
 
 use syn_agent::replica_laws;
 use syn_disk::Disk;
@@ -22,6 +24,13 @@ pub(crate) fn step_laws<D: Disk>(replica: &Replica<D>)
     replica_laws(replica);
     device_laws();
     opening_laws();
+}
+
+/// What stands at a path of a replica is within the limit of a file.
+pub(crate) fn limit_laws<D: Disk>(replica: &Replica<D>)
+    ensures { EachFits (tree_shown replica.now) }
+{
+    let _whole = replica.tree().entries();
 }
 
 /// Eight bytes spell it.

@@ -4,6 +4,7 @@ ghost use Rattle.syn_shared.specs.Reads.{Gets, Lists, ListsMarks};
 ghost use Rattle.syn_shared.specs.Refusals.{answer_in};
 
 use crate::error::{SharedError, answered};
+use crate::laws::limit_laws;
 use crate::shared::SharedReplica;
 use std::alloc::Global;
 use std::sync::Wait;
@@ -36,6 +37,7 @@ impl<D: Disk> SharedReplica<D> {
         let Ok(guard) = pass.try_enter(own) else {
             return Err(SharedError::Busy);
         };
+        limit_laws(&guard);
         let answer = guard.get(alloc, path);
         own.leave(guard);
         answered(answer)
@@ -109,6 +111,7 @@ impl<D: Disk> SharedReplica<D> {
     {
         let own = self.own();
         let guard = pass.enter(rt, own);
+        limit_laws(&guard);
         let content = guard.get(alloc, path);
         own.leave(guard);
         content

@@ -109,13 +109,6 @@ module _ {D : Type 0} {disk : Ghosts D} (pair : ℕ) (side : UpSide D disk) (mac
       by Halted is stands = inr (is, stands.0, stands.1)
       by Down is stands = absurd stands
 
-  pub either_runs : Stands side.replica machine.journal.value ⊎ IsHalted side.replica
-  either_runs = elim state as (λ _. Stands side.replica machine.journal.value
-      ⊎ IsHalted side.replica) [
-        | inl up ↦ inl up.1
-        | inr halted ↦ inr halted.1
-      ]
-
   pub not_down : machine.journal.status ≢ Down
   not_down down = elim state [
     | inl up ↦ up_not_down (sym up.0 ∙ down)

@@ -154,6 +154,7 @@ impl<D: Disk> Replica<D> {
         ensures piece { (history : History) → Stands self.now history
             → IfOk result (λ found. (found.bytes.items ≡ piece history path.now offset)
             × (found.total ≡ length (spelling (subtree (tree_of history) path.now)))) }
+        ensures short { IfOk result (λ found. length found.bytes.items ≤ 32768) }
 
         // Each refusal has its cause, and each cause its refusal: the first of them is answered.
         ensures cause { (history : History) → Stands self.now history

@@ -1,5 +1,4 @@
-use Rattle.std.proofs.Common.{◌∙◌, ◌≤◌, ℕ, arith, inl, inr, length, refl, subst, sym}
-use Rattle.std.proofs.lemmas.List.{length-take}
+use Rattle.std.proofs.Common.{◌∙◌, arith, inl, inr, refl, subst, sym}
 use Rattle.syn_agent.proofs.CauseLemmas.{none_of}
 use Rattle.syn_agent.proofs.ReadingLemmas.{is_piece, is_refused, no_memory}
 use Rattle.syn_agent.proofs.agent.Agent.fetch.Goals as goal
@@ -35,12 +34,10 @@ returns-in-Err-clause-answers g c history session stands =
     ])
 
 pub returns-in-Ok-try_from-clause-lawful : goal.returns-in-Ok-try_from-clause-lawful
-returns-in-Ok-try_from-clause-lawful g c history stands =
-    let told = (c.in-Ok.ensures.piece history stands).0 in (
-      omega arith,
-      (
-        subst (λ b. length b ≤ 32768) (sym told)
-            (omega (arith, length-take {A = ℕ})),
-        subst AreBytes c.deref.ensures.value c.are_bytes.ensures,
-      ),
-    )
+returns-in-Ok-try_from-clause-lawful g c = (
+  omega arith,
+  (
+    c.in-Ok.ensures.short,
+    subst AreBytes c.deref.ensures.value c.are_bytes.ensures,
+  ),
+)

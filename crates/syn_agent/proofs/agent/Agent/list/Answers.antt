@@ -9,6 +9,7 @@ use Rattle.syn_headline.specs.Side.{ListAt, Refused}
 use Rattle.syn_model.specs.Refusal as why
 use Rattle.syn_refusal.specs.Refusals.{cause_of}
 use Rattle.syn_replica.specs.Refusals.{reading_refusals, refusal_in, refusal_of}
+use Rattle.syn_replica.specs.Replica.{tree_shown}
 
 pub returns-in-Ok-clause-answers : goal.returns-in-Ok-clause-answers
 returns-in-Ok-clause-answers g c history session stands =
@@ -22,14 +23,12 @@ returns-in-Ok-clause-answers g c history session stands =
     ) in cc)
 
 pub returns-in-Ok-clause-lawful : goal.returns-in-Ok-clause-lawful
-returns-in-Ok-clause-lawful g c history stands =
+returns-in-Ok-clause-lawful g c =
     let told = c.in-Ok.ensures in (
       search rules,
-      is_listing c.args.replica.now c.args.self.now history 0 stands c.args.path.now _
-          told.marks (λ none. let k = told.absent.1 (
-            running c.args.replica.now c.args.self.now history 0 stands,
-            none,
-          ) in cc) (c.listing_laws.ensures history stands.remembers.lawful),
+      is_listing (tree_shown c.args.replica.now) c.args.path.now _ told.marks
+          (λ none. let k = told.absent.1 (λ halted. let h = told.halted.1 halted in cc, none) in cc)
+          c.listing_laws.ensures,
     )
 
 pub returns-in-Absent-clause-answers : goal.returns-in-Absent-clause-answers
@@ -40,7 +39,7 @@ returns-in-Absent-clause-answers g c history session stands =
 
 pub returns-in_default : goal.returns-in_default
 returns-in_default g c = record {
-  lawful = λ history stands. tt;
+  lawful = tt;
   answers = λ history session stands.
       elim (reading c.in-Err.error c.in-Err.ensures.refusals) [
         | inl halted ↦ absurd (running c.args.replica.now c.args.self.now history session stands

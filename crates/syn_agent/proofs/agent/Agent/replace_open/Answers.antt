@@ -10,6 +10,7 @@ use Rattle.syn_model.specs.Refusal.{Memory}
 use Rattle.syn_history.specs.Events.{token_of}
 use Rattle.syn_agent.specs.Agents.{staging_of}
 use Rattle.syn_refusal.specs.Refusals.{cause_of}
+use Rattle.syn_replica.specs.Growing.{itself}
 use Rattle.syn_replica.specs.Replica.{disk_of}
 use Rattle.syn_tree.specs.Nodes.{part_of}
 use Rattle.syn_wire.specs.Refusals.{refusal_of as of_wire}
@@ -78,3 +79,12 @@ returns-in-Err-replace-clause-failures g c =
     subst (λ r. CountsFailures (Refused r) (g.D.Disk.failures (disk_of c.args.replica.now))
     (g.D.Disk.failures (disk_of c.replace.new.self))) (sym c.refusal.ensures)
     (counts c.in-Err-replace.error _ _ c.in-Err-replace.ensures.failures)
+
+pub returns-in-Err-clause-grown : goal.returns-in-Err-clause-grown
+returns-in-Err-clause-grown g c = itself c.args.replica.now
+
+pub returns-in-Ok-None-clause-grown : goal.returns-in-Ok-None-clause-grown
+returns-in-Ok-None-clause-grown g c = itself c.args.replica.now
+
+pub returns-in-Err-read_part-clause-grown : goal.returns-in-Err-read_part-clause-grown
+returns-in-Err-read_part-clause-grown g c = itself c.args.replica.now

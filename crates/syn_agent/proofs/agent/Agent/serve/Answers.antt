@@ -6,8 +6,9 @@ use Rattle.syn_agent.specs.Agents.{side_of}
 use Rattle.syn_agent.specs.Answers.{Answers, room_for}
 use Rattle.syn_agent.specs.Causes.{TakesMemory}
 use Rattle.syn_headline.specs.Side.{token_of}
-use Rattle.syn_message.specs.Replies.{IsLawfulReply, reply_of}
+use Rattle.syn_message.specs.Replies.{reply_of}
 use Rattle.syn_message.specs.Requests.{request_of}
+use Rattle.syn_replica.specs.Growing.{itself}
 use Rattle.syn_replica.specs.Replica.{pair_of}
 
 pub returns-in-List-clause-memory : goal.returns-in-List-clause-memory
@@ -47,19 +48,16 @@ returns-in-Stage-clause-failures g c =
     (token_of c.args.session c.in-Stage.item) c.in-Stage.offset c.in-Stage.bytes.items
     (reply_of c.stage.result) c.stage.ensures) refl
 
-pub returns-in-List-clause-lawful : goal.returns-in-List-clause-lawful
-returns-in-List-clause-lawful g c history (inl stands) =
-    c.list.ensures.lawful history stands
-returns-in-List-clause-lawful g c history (inr halted) =
-    subst IsLawfulReply (sym (c.list.ensures.halted halted)) tt
-
-pub returns-in-Fetch-clause-lawful : goal.returns-in-Fetch-clause-lawful
-returns-in-Fetch-clause-lawful g c history (inl stands) =
-    c.fetch.ensures.lawful history stands
-returns-in-Fetch-clause-lawful g c history (inr halted) =
-    subst IsLawfulReply (sym (c.fetch.ensures.halted halted)) tt
-
 pub returns-in-Stage-clause-lawful : goal.returns-in-Stage-clause-lawful
-returns-in-Stage-clause-lawful g c history stands =
+returns-in-Stage-clause-lawful g c =
     stage_lawful c.args.self.now c.stage.new.self (token_of c.args.session c.in-Stage.item)
     c.in-Stage.offset c.in-Stage.bytes.items (reply_of c.stage.result) c.stage.ensures
+
+pub returns-in-List-clause-grown : goal.returns-in-List-clause-grown
+returns-in-List-clause-grown g c = itself c.args.replica.now
+
+pub returns-in-Fetch-clause-grown : goal.returns-in-Fetch-clause-grown
+returns-in-Fetch-clause-grown g c = itself c.args.replica.now
+
+pub returns-in-Stage-clause-grown : goal.returns-in-Stage-clause-grown
+returns-in-Stage-clause-grown g c = itself c.args.replica.now

@@ -1,7 +1,9 @@
-use Rattle.std.proofs.Common.{rules, ap, refl}
+use Rattle.std.proofs.Common.{◌∙◌, rules, ap, refl, subst, sym}
 use Rattle.syn_lock.specs.Locks.{origin_of}
 use Rattle.syn_replica.specs.Growth.{IsGrown}
-use Rattle.syn_shared.specs.Reads.{Gets}
+use Rattle.syn_replica.specs.Replica.{tree_shown}
+use Rattle.syn_shared.specs.Reads.{EachFits, Gets}
+use Rattle.syn_shared.proofs.LimitLemmas.{read_fits}
 use Rattle.syn_shared.proofs.HoldLemmas.{held_reading, still, later_still}
 use Rattle.syn_shared.proofs.shared.SharedReplica.get.Goals as goal
 
@@ -11,9 +13,10 @@ leave-requires-clause-grown g c = still _ _ c.enter-guard.result c.enter-guard.e
 pub returns-clause-held : goal.returns-clause-held
 returns-clause-held g c = (
   c.enter-guard.ensures.entered.0,
-  held_reading IsGrown _ (origin_of c.own-own.result.now) (ap origin_of c.own-own.ensures) _ _ c.enter-guard.result c.deref.result.now (Gets c.args.path.now c.get-content.result) c.enter-guard.ensures.entered.1 c.deref.ensures (search rules) (record {
+  held_reading IsGrown _ (origin_of c.own-own.result.now) (ap origin_of c.own-own.ensures) _ _ c.enter-guard.result c.deref-2.result.now (Gets c.args.path.now c.get-content.result) c.enter-guard.ensures.entered.1 c.deref-2.ensures (search rules) (record {
     same = refl;
     content = c.get-content.ensures.found;
+    fits = read_fits _ _ c.get-content.result c.get-content.ensures.found (subst (λ x. EachFits (tree_shown x)) (c.deref.ensures ∙ sym c.deref-2.ensures) c.limit_laws.ensures);
     absent = c.get-content.ensures.absent;
     halted = c.get-content.ensures.halted;
     refusals = c.get-content.ensures.refusals;

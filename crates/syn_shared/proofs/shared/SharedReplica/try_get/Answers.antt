@@ -1,7 +1,9 @@
-use Rattle.std.proofs.Common.{rules, ap, refl}
+use Rattle.std.proofs.Common.{◌∙◌, rules, ap, refl, subst, sym}
 use Rattle.syn_lock.specs.Locks.{origin_of}
 use Rattle.syn_replica.specs.Growth.{IsGrown}
-use Rattle.syn_shared.specs.Reads.{Gets}
+use Rattle.syn_replica.specs.Replica.{tree_shown}
+use Rattle.syn_shared.specs.Reads.{EachFits, Gets}
+use Rattle.syn_shared.proofs.LimitLemmas.{read_fits}
 use Rattle.syn_shared.proofs.HoldLemmas.{held_reading, still, held_answer, later_still, later_none}
 use Rattle.syn_shared.proofs.shared.SharedReplica.try_get.Goals as goal
 
@@ -10,9 +12,10 @@ leave-requires-clause-grown g c = still _ _ c.in-Ok.guard c.in-Ok.ensures.entere
 
 pub returns-clause-held : goal.returns-clause-held
 returns-clause-held g c =
-    held_answer c.answered.result _ _ _ c.answered.ensures (held_reading IsGrown _ (origin_of c.own-own.result.now) (ap origin_of c.own-own.ensures) _ _ c.in-Ok.guard c.deref.result.now (Gets c.args.path.now c.get-answer.result) c.in-Ok.ensures.entered c.deref.ensures (search rules) (record {
+    held_answer c.answered.result _ _ _ c.answered.ensures (held_reading IsGrown _ (origin_of c.own-own.result.now) (ap origin_of c.own-own.ensures) _ _ c.in-Ok.guard c.deref-2.result.now (Gets c.args.path.now c.get-answer.result) c.in-Ok.ensures.entered c.deref-2.ensures (search rules) (record {
       same = refl;
       content = c.get-answer.ensures.found;
+      fits = read_fits _ _ c.get-answer.result c.get-answer.ensures.found (subst (λ x. EachFits (tree_shown x)) (c.deref.ensures ∙ sym c.deref-2.ensures) c.limit_laws.ensures);
       absent = c.get-answer.ensures.absent;
       halted = c.get-answer.ensures.halted;
       refusals = c.get-answer.ensures.refusals;

@@ -3,7 +3,7 @@ use Rattle.syn_message.specs.Requests.{request_of}
 use Rattle.syn_world.specs.Sides.{HasStopped}
 use Rattle.syn_world.proofs.AnswerLemmas.{answer_cut, answer_goes}
 use Rattle.syn_world.proofs.EditLemmas.{side_of}
-use Rattle.syn_world.proofs.SideLemmas.{either_runs, position_is}
+use Rattle.syn_world.proofs.SideLemmas.{position_is}
 use Rattle.syn_world.proofs.side.UpSide.answer.Goals as goal
 
 pub returns-then-is_cut : goal.returns-then-is_cut
@@ -13,7 +13,7 @@ returns-then-is_cut g c pair machine runs =
     let stopped : HasStopped (side_of new after) ≡ true = cc in
     answer_cut pair c.args.self.replica new c.args.self.agent after machine c.args.session
     (request_of c.args.request) c.answer-reply.result runs c.answer-reply.ensures.unchanged
-    (c.answer-reply.ensures.lawful machine.journal.value (either_runs pair c.args.self machine runs))
+    c.answer-reply.ensures.lawful
     (c.answer-reply.ensures.takes pair machine runs.is) _
     (c.position-position.ensures ∙ position_is pair c.args.self machine runs) c.settle.result
     c.settle.ensures stopped
@@ -25,7 +25,7 @@ returns g c pair machine runs =
     let goes : HasStopped (side_of new after) ≡ false = cc in
     answer_goes pair c.args.self.replica new c.args.self.agent after machine c.args.session
     (request_of c.args.request) c.answer-reply.result runs c.answer-reply.ensures.unchanged
-    (c.answer-reply.ensures.lawful machine.journal.value (either_runs pair c.args.self machine runs))
+    c.answer-reply.ensures.lawful
     (c.answer-reply.ensures.takes pair machine runs.is) _
     (c.position-position.ensures ∙ position_is pair c.args.self machine runs)
     c.settle_since.result c.settle_since.ensures.same c.settle_since.ensures.added goes

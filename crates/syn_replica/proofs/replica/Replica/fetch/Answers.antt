@@ -1,0 +1,8 @@
+use Rattle.std.proofs.Common.{ℕ, ap, arith, length}
+use Rattle.std.proofs.lemmas.List.{length-take}
+use Rattle.syn_replica.proofs.replica.Replica.fetch.Goals as goal
+
+pub returns-clause-short : goal.returns-clause-short
+returns-clause-short g c =
+    let same = ap length c.cut.ensures in
+    omega (arith, c.in_ok-bytes.ensures.len, same, length-take {A = ℕ})

@@ -1,0 +1,86 @@
+-- The body of a reply goes into a frame.
+use Rattle.std.proofs.Common.{◌≡◌, ◌≤◌, ◌+◌, ◌*◌, ◌∷◌, [], length}
+use Rattle.std.proofs.Common.{Option, Some, None, arith}
+use Rattle.std.proofs.lemmas.List.{length-append}
+use Rattle.std.proofs.lemmas.List.Elements.{All-head, All-tail}
+use Rattle.std.specs.Prelude.{All, flat_map}
+use Rattle.syn_headline.specs.Side as model
+use Rattle.syn_link.specs.Frames.{IsBody}
+use Rattle.syn_mark.specs.Marks.{IsDigestOrDirectory}
+use Rattle.syn_message.specs.Listings.{Entries, IsEntry, entry_spelling}
+use Rattle.syn_message.specs.Listings.{mark_spelling}
+use Rattle.syn_message.specs.Replies.{IsLawfulReply, reply_fields}
+use Rattle.syn_message.specs.UserReplies as user
+use Rattle.syn_message.specs.UserReplies.{IsFound, IsLawfulTold, Told, found_spelling, told_fields}
+use Rattle.syn_model.specs.Path.{Name}
+use Rattle.syn_model.specs.Tree.{Content, Directory, File}
+use Rattle.syn_serve.specs.Messages.{Answers, IsLawfulResponse, Response, Tells}
+use Rattle.syn_serve.specs.Messages.{response_spelling}
+
+short_mark : (content : Content) → IsDigestOrDirectory content
+    → length (mark_spelling content) ≤ 33
+short_mark Directory is = omega arith
+short_mark (File contents) is = let size = is.1 in omega (arith, size)
+
+short_entry : (entry : Name × Content) → IsEntry entry → length (entry_spelling entry) ≤ 98
+short_entry entry is =
+    let name = is.0.not_long in
+    let mark = short_mark entry.1 is.1 in
+    omega (arith, name, mark, length-append entry.0 (mark_spelling entry.1))
+
+short_each : (entries : Entries) → All IsEntry entries
+    → length (flat_map entry_spelling entries) ≤ 98 * length entries
+short_each [] all = omega arith
+short_each (entry ∷ entries) all =
+    let here = short_entry entry (All-head IsEntry entry entries all) in
+    let behind = short_each entries (All-tail IsEntry entry entries all) in
+    omega (
+      arith,
+      here,
+      behind,
+      length-append (entry_spelling entry) (flat_map entry_spelling entries),
+    )
+
+short_reply : (reply : model.Reply) → IsLawfulReply reply → length (reply_fields reply) ≤ 65000
+short_reply (model.Begun position) is = omega arith
+short_reply (model.Listed position entries) is =
+    let few = is.1.few in
+    let each = short_each entries is.1.each in
+    let size : length (reply_fields (model.Listed position entries))
+    ≡ 10 + length (flat_map entry_spelling entries) = omega arith in
+    omega (arith, few, each, size)
+short_reply (model.NotDir position) is = omega arith
+short_reply (model.Piece total bytes) is =
+    let few = is.1.0 in
+    let size : length (reply_fields (model.Piece total bytes)) ≡ 8 + length bytes = omega arith in
+    omega (arith, few, size)
+short_reply model.Staged is = omega arith
+short_reply model.Done is = omega arith
+short_reply (model.Refused why) is = omega arith
+
+short_found : (found : Option Content) → IsFound found → length (found_spelling found) ≤ 65000
+short_found None is = omega arith
+short_found (Some (File contents)) is =
+    let few = is.0 in
+    let size : length (found_spelling (Some (File contents))) ≡ 5 + length contents.bytes =
+    omega arith in
+    omega (arith, few, size)
+short_found (Some Directory) is = omega arith
+
+short_told : (told : Told) → IsLawfulTold told → length (told_fields told) ≤ 65000
+short_told (user.Edited position) is = omega arith
+short_told (user.Got found) is = short_found found is
+short_told (user.Refused why) is = omega arith
+
+pub is_body : (response : Response) → IsLawfulResponse response
+    → IsBody (response_spelling response)
+is_body (Answers answering) is =
+    let short = short_reply answering.reply is.reply in
+    let size : length (response_spelling (Answers answering))
+    ≡ 13 + length (reply_fields answering.reply) = omega arith in
+    (omega (arith, size), omega (arith, short, size))
+is_body (Tells telling) is =
+    let short = short_told telling.told is.lawful in
+    let size : length (response_spelling (Tells telling)) ≡ 13 + length (told_fields telling.told) =
+    omega arith in
+    (omega (arith, size), omega (arith, short, size))

@@ -1,0 +1,63 @@
+-- Exchanges, one after another.
+use Rattle.std.proofs.Common.{◌≡◌, ◌<◌, Option, Some, arith, length, refl, subst, sym}
+use Rattle.syn_agent.specs.declared.agent.Agent.{Agent}
+use Rattle.syn_disk.specs.declared.disk.Disk.{Ghosts}
+use Rattle.syn_link.specs.Frames.{AppendsSome, Bytes, IsBody, frame_of}
+use Rattle.syn_link.specs.Streams.{Comes}
+use Rattle.syn_link.specs.declared.error.LinkError.{LinkError}
+use Rattle.syn_link.specs.declared.error.LinkError.TheVariants as link
+use Rattle.syn_lock.specs.History.{end_of}
+use Rattle.syn_lock.specs.Locks.{origin_of}
+use Rattle.syn_lock.specs.Passes.{view_of}
+use Rattle.syn_lock.specs.declared.own.Pass.{Pass}
+use Rattle.syn_replica.specs.Growing.{grown_twice, itself}
+use Rattle.syn_replica.specs.declared.replica.Replica.{Replica}
+use Rattle.syn_serve.specs.Exchanges.{IsAnswered, moment}
+use Rattle.syn_serve.specs.Holds.{Responds}
+use Rattle.syn_serve.specs.Lines.{BreaksOff, IsSilent, Line}
+use Rattle.syn_serve.specs.Messages.{Message, Response, message_spelling}
+use Rattle.syn_serve.specs.inner.Parts.{ReceivesMessage, of_link}
+use Rattle.syn_shared.specs.Shared.{IsLater, own_of}
+use Rattle.syn_shared.specs.declared.shared.SharedReplica.{SharedReplica}
+
+-- a frame that is refused broke off in its writing
+pub breaks_off : (error : LinkError) (old new : Option Bytes) (body : Bytes) → IsBody body
+    → (error ≡ link.BadFrame → length body ≡ 0) → (error ≡ link.TooLarge → 65536 < length body)
+    → ¬ (error ≡ link.Memory) → AppendsSome old new (frame_of body)
+    → BreaksOff (of_link error) old new body
+breaks_off link.BadFrame old new body is bad large memory some =
+    let none = bad refl in absurd (omega (arith, none, is.0))
+breaks_off link.TooLarge old new body is bad large memory some =
+    let more = large refl in absurd (omega (arith, more, is.1))
+breaks_off link.Device old new body is bad large memory some = some
+breaks_off link.Memory old new body is bad large memory some = absurd (memory refl)
+
+module _ {D : Type 0} {disk : Ghosts D} (shared : SharedReplica D disk) where
+  pub later_same : (pass : Pass (Replica D disk)) → IsLater shared pass pass
+  later_same pass =
+      record { grown = itself (end_of (origin_of (own_of shared)) (view_of pass).seen) }
+
+  pub later_twice : (a b c : Pass (Replica D disk)) → IsLater shared a b → IsLater shared b c
+      → IsLater shared a c
+  later_twice a b c first second =
+      let origin = origin_of (own_of shared) in record {
+        grown = grown_twice (end_of origin (view_of a).seen) (end_of origin (view_of b).seen)
+            (end_of origin (view_of c).seen) first.grown second.grown;
+      }
+
+  -- what came was answered by a hold, and then at most the reply was written
+  pub answered_so : (old came new : Line) (after : Agent) (first last : Pass (Replica D disk))
+      (message : Message) (response : Response) → ReceivesMessage old came message
+      → IsSilent old came → Responds shared first last came.agent after message response
+      → new.given ≡ came.given → new.held ≡ came.held → new.agent ≡ after
+      → IsAnswered shared (moment old first) (moment new last) message response
+  answered_so old came new after first last message response receives silent responds given held
+      agent = record {
+        lawful = receives.lawful;
+        came = subst (λ g. Comes old.given g old.held new.held (Some (message_spelling message)))
+            (sym given)
+            (subst (λ h. Comes old.given came.given old.held h (Some (message_spelling message)))
+            (sym held) receives.came);
+        held = subst (λ x. Responds shared first last old.agent x message response) (sym agent)
+            (subst (λ x. Responds shared first last x after message response) silent.0 responds);
+      }

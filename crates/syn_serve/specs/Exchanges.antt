@@ -1,0 +1,45 @@
+-- One exchange over a connection: a request comes, one hold answers it, and the reply goes back.
+use Rattle.std.specs.Prelude.{◌≡◌, Result, Ok, Err}
+use Rattle.syn_disk.specs.declared.disk.Disk.{Ghosts}
+use Rattle.syn_lock.specs.declared.own.Pass.{Pass}
+use Rattle.syn_replica.specs.declared.replica.Replica.{Replica}
+use Rattle.syn_serve.specs.Holds.{Responds}
+use Rattle.syn_serve.specs.Lines.{BreaksOff, ClosesFor, Ends, IsSilent, Line, Receives, Sends}
+use Rattle.syn_serve.specs.Messages.{IsLawfulMessage, Message, Response, message_spelling}
+use Rattle.syn_serve.specs.Messages.{response_spelling}
+use Rattle.syn_serve.specs.declared.connection.Progress.{Progress}
+use Rattle.syn_serve.specs.declared.connection.Progress.TheVariants.{Answered, Ended}
+use Rattle.syn_serve.specs.declared.error.ServeError.{ServeError}
+use Rattle.syn_shared.specs.declared.shared.SharedReplica.{SharedReplica}
+
+-- a connection with the pass that it has
+pub record Moment (D : Type 0) (disk : Ghosts D) : Type 0 where
+  pub line : Line
+  pub pass : Pass (Replica D disk)
+
+abbrev pub moment : {D : Type 0} → {disk : Ghosts D} → Line → Pass (Replica D disk)
+    → Moment D disk
+moment line pass = record { line = line; pass = pass }
+
+module _ {D : Type 0} {disk : Ghosts D} (shared : SharedReplica D disk) where
+  -- a message came, and one hold answered it
+  pub record IsAnswered (old new : Moment D disk) (message : Message) (response : Response)
+      : Type 0 where
+    pub lawful : IsLawfulMessage message
+    pub came : Receives old.line new.line (message_spelling message)
+    pub held : Responds shared old.pass new.pass old.line.agent new.line.agent message response
+
+  -- The reply to a message was written; or the other side closed. Or the connection is to be
+  -- closed, and nothing was answered; or the reply was not written whole
+  pub data Exchanges (old new : Moment D disk) : Result Progress ServeError → Type 0 where
+    answers : (message : Message) (response : Response) → IsAnswered old new message response →
+        Sends old.line.written new.line.written (response_spelling response) →
+        Exchanges old new (Ok Answered)
+    ends : Ends old.line new.line → IsSilent old.line new.line → new.pass ≡ old.pass →
+        Exchanges old new (Ok Ended)
+    closes : (error : ServeError) → ClosesFor error old.line new.line →
+        IsSilent old.line new.line → new.pass ≡ old.pass → Exchanges old new (Err error)
+    breaks : (message : Message) (response : Response) (error : ServeError) →
+        IsAnswered old new message response →
+        BreaksOff error old.line.written new.line.written (response_spelling response) →
+        Exchanges old new (Err error)

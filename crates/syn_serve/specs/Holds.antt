@@ -1,0 +1,84 @@
+-- What one hold of the shared replica answers, and what it leaves.
+use Rattle.std.specs.Prelude.{◌≡◌, ◌⊎◌, ℕ, Some, None, Result, Ok, Err}
+use Rattle.syn_agent.specs.Agents.{side_of}
+use Rattle.syn_agent.specs.Answers.{Answers as AnswersOf, IsUnchanged, room_for}
+use Rattle.syn_agent.specs.Causes.{CountsFailures, TakesMemory}
+use Rattle.syn_agent.specs.Machines.{IsOf, Takes}
+use Rattle.syn_agent.specs.declared.agent.Agent.{Agent}
+use Rattle.syn_disk.specs.declared.disk.Disk.{Ghosts}
+use Rattle.syn_headline.specs.Side.{Request, Reply, Refused as Refuses, answer}
+use Rattle.syn_headline.specs.SideMachine.{ServesHalted, SideMachine}
+use Rattle.syn_lock.specs.declared.own.Pass.{Pass}
+use Rattle.syn_message.specs.UserReplies.{Told, Edited as IsEdited, Got, Refused}
+use Rattle.syn_message.specs.Users.{Wish, Edits as WishesEdit, Gets as WishesGet}
+use Rattle.syn_model.specs.Event.{Edited}
+use Rattle.syn_model.specs.History.{History}
+use Rattle.syn_model.specs.Refusal.{Memory}
+use Rattle.syn_replica.specs.Growth.{IsGrown}
+use Rattle.syn_replica.specs.Refusals.{refusal_of}
+use Rattle.syn_replica.specs.Replica.{IsHalted, Stands, disk_of, pair_of}
+use Rattle.syn_replica.specs.declared.error.ReplicaError.{ReplicaError}
+use Rattle.syn_replica.specs.declared.error.ReplicaError.TheVariants.{Tree}
+use Rattle.syn_replica.specs.declared.replica.Replica.{Replica}
+use Rattle.syn_serve.specs.Messages.{Message, Asks, Wishes, Response, Answers, Tells}
+use Rattle.syn_shared.specs.Edits.{Edits}
+use Rattle.syn_shared.specs.Reads.{Gets}
+use Rattle.syn_shared.specs.Shared.{HeldAfterWait}
+use Rattle.syn_shared.specs.declared.shared.SharedReplica.{SharedReplica}
+use Rattle.syn_tree.specs.Contents.{content_of}
+use Rattle.syn_tree.specs.declared.content.Content.{Content}
+use Rattle.syn_tree.specs.declared.error.TreeError.TheVariants.{Absent}
+
+-- what the agent of one thread answers from the replica found, and what that leaves
+pub record AnswersAlone {D : Type 0} {disk : Ghosts D} (agent after : Agent) (session : ℕ)
+    (request : Request) (reply : Reply) (found left : Replica D disk) : Type 0 where
+  -- it is a step of the world's side
+  pub takes : (pair : ℕ) (machine : SideMachine) → IsOf pair found agent machine
+      → Takes pair left after machine session request reply
+  -- for every history that the replica stands for
+  pub answers : (history : History) → Stands found history
+      → AnswersOf found left agent after history session request reply
+  pub halted : (history : History) → IsHalted found
+      → ServesHalted (side_of history agent) session request
+      (answer (side_of history after) reply)
+  pub unchanged : IsHalted found → IsUnchanged found left
+  pub grown : IsGrown found left
+  -- when memory is refused, and when the device failed
+  pub memory : (history : History) → Stands found history ⊎ IsHalted found
+      → reply ≡ Refuses Memory
+      → TakesMemory (pair_of found) (room_for found) (side_of history agent) session request
+  pub failures : CountsFailures reply (disk.failures (disk_of found))
+      (disk.failures (disk_of left))
+
+-- what a user is told of an edit, and of what stands at a path
+abbrev pub told_edit : Result ℕ ReplicaError → Told
+told_edit (Ok position) = IsEdited position
+told_edit (Err e) = Refused (refusal_of e)
+
+abbrev pub told_get : Result Content ReplicaError → Told
+told_get (Ok content) = Got (Some (content_of content))
+told_get (Err (Tree Absent)) = Got None
+told_get (Err e) = Refused (refusal_of e)
+
+module _ {D : Type 0} {disk : Ghosts D} (shared : SharedReplica D disk)
+    (old new : Pass (Replica D disk)) where
+  -- a user is told what the edit or the reading of one thread answers within one hold
+  abbrev pub Grants : Wish → Told → Type 0
+  Grants (WishesEdit user edit) told =
+      (answer : Result ℕ ReplicaError) × (told ≡ told_edit answer)
+      × HeldAfterWait shared old new (Edits (Edited user edit) answer)
+  Grants (WishesGet path) told =
+      (answer : Result Content ReplicaError) × (told ≡ told_get answer)
+      × HeldAfterWait shared old new (Gets path answer)
+
+  -- One hold answers the message; the reply has its session and its number. A user's leaves the
+  -- agent as it was
+  abbrev pub Responds : Agent → Agent → Message → Response → Type 0
+  Responds agent after (Asks asking) (Answers answering) =
+      (answering.session ≡ asking.session) × (answering.number ≡ asking.number)
+      × HeldAfterWait shared old new
+      (AnswersAlone agent after asking.session asking.request answering.reply)
+  Responds agent after (Wishes wished) (Tells telling) =
+      (telling.number ≡ wished.number) × (after ≡ agent) × Grants wished.wish telling.told
+  Responds agent after (Asks asking) (Tells telling) = ⊥
+  Responds agent after (Wishes wished) (Answers answering) = ⊥

@@ -1,0 +1,178 @@
+//! A connection, and the exchanges over it.
+ghost use Rattle.std.specs.Prelude.{◌≡◌, [], IfErr, IfNone, IfOk, IfSome, None, OnOk};
+ghost use Rattle.syn_agent.specs.Agents.{staging_of};
+ghost use Rattle.syn_serve.specs.Exchanges.{Exchanges, moment};
+ghost use Rattle.syn_serve.specs.Lines.{BreaksOff, ClosesFor, Ends, IsSilent, Sends, agent_of};
+ghost use Rattle.syn_serve.specs.Lines.{held_by, line_of, reader_of, writer_of};
+ghost use Rattle.syn_serve.specs.Messages.{IsLawfulResponse, message_of, response_of};
+ghost use Rattle.syn_serve.specs.Messages.{response_spelling};
+ghost use Rattle.syn_serve.specs.Runs.{Serves};
+ghost use Rattle.syn_serve.specs.inner.Parts.{IsOnlyWritten, ReceivesMessage};
+ghost use Rattle.syn_shared.specs.Shared.{IsFor, IsLater};
+
+use crate::answering::answer;
+use crate::error::{ServeError, closed_by};
+use crate::gate::{Gate, Point};
+use crate::message::{AnyReply, AnyRequest, decode_any_request, encode_any_reply};
+use std::alloc::Global;
+use std::io::{Read, Write};
+use std::sync::Wait;
+use syn_agent::Agent;
+use syn_disk::Disk;
+use syn_link::{Framer, read_body, write_frame};
+use syn_lock::Pass;
+use syn_replica::Replica;
+use syn_shared::SharedReplica;
+
+/// A connection to the worker: what it is read from, what it is written to, what came and was not
+/// answered yet, and what a session has staged.
+#[derive(Drop)]
+pub struct Connection<R, W> {
+    reader: R,
+    writer: W,
+    framer: Framer,
+    agent: Agent,
+}
+
+/// What became of an exchange.
+#[derive(Clone, Copy, Debug, PartialEq, Eq)]
+pub enum Progress {
+    /// A request was answered, and the reply was written.
+    Answered,
+    /// The other side closed the connection.
+    Ended,
+}
+
+impl<R: Read, W: Write> Connection<R, W> {
+    /// A connection on which nothing came yet. It takes no memory.
+    pub fn new(alloc: Global, reader: R, writer: W) -> Connection<R, W>
+        ensures reader { reader_of result ≡ reader }
+        ensures writer { writer_of result ≡ writer }
+        ensures held { held_by result ≡ [] }
+        ensures staged { staging_of (agent_of result) ≡ None }
+    {
+        Connection {
+            reader,
+            writer,
+            framer: Framer::new(alloc),
+            agent: Agent::new(),
+        }
+    }
+
+    /// The reader and the writer. What came and was not answered is lost with what is staged.
+    pub fn into_parts(self) -> (R, W)
+        ensures { result ≡ (reader_of self, writer_of self) }
+    {
+        (self.reader, self.writer)
+    }
+
+    /// Reads one request, answers it from the shared replica within one hold of its lock, and
+    /// writes the reply. The gate is passed before the hold and after it.
+    ///
+    /// Refused 21 and 22 where a frame with such a length comes, and 23 where a body comes that is
+    /// no message: it is answered nothing. Refused 9 where a read or the write fails, and 11 where
+    /// memory is refused. After any refusal the connection is to be closed.
+    pub fn serve_next<H: Wait, D: Disk, G: Gate>(
+        &mut self,
+        rt: &H,
+        alloc: Global,
+        shared: &SharedReplica<D>,
+        pass: &mut Pass<Replica<D>>,
+        gate: &mut G,
+    ) -> Result<Progress, ServeError>
+        requires { IsFor shared.now pass.old }
+        ensures of { IsFor shared.now pass.new }
+        ensures exchanges { Exchanges shared.now
+            (moment (line_of R.remaining W.contents self.old) pass.old)
+            (moment (line_of R.remaining W.contents self.new) pass.new) result }
+        ensures later { IsLater shared.now pass.old pass.new }
+    {
+        let request = match self.receive(alloc) {
+            Ok(Some(request)) => request,
+            Ok(None) => return Ok(Progress::Ended),
+            Err(error) => return Err(error),
+        };
+        let kind = request.kind();
+        gate.pass(Point::Before(kind));
+        let reply = answer(rt, alloc, shared, pass, &mut self.agent, request);
+        gate.pass(Point::After(kind));
+        match self.send(alloc, &reply) {
+            Ok(()) => Ok(Progress::Answered),
+            Err(error) => Err(error),
+        }
+    }
+
+    /// Serves the connection until the other side closes it, one request after another.
+    ///
+    /// Refused as `serve_next` is, by the first exchange that is refused: nothing is read behind
+    /// it, and the connection is to be closed.
+    pub fn serve<H: Wait, D: Disk, G: Gate>(
+        &mut self,
+        rt: &H,
+        alloc: Global,
+        shared: &SharedReplica<D>,
+        pass: &mut Pass<Replica<D>>,
+        gate: &mut G,
+    ) -> Result<(), ServeError>
+        requires { IsFor shared.now pass.old }
+        ensures of { IsFor shared.now pass.new }
+        ensures serves { Serves shared.now
+            (moment (line_of R.remaining W.contents self.old) pass.old)
+            (moment (line_of R.remaining W.contents self.new) pass.new) result }
+        ensures later { IsLater shared.now pass.old pass.new }
+    {
+        for _ in rt.forever() {
+            match self.serve_next(rt, alloc, shared, pass, gate) {
+                Ok(Progress::Answered) => {}
+                Ok(Progress::Ended) => return Ok(()),
+                Err(error) => return Err(error),
+            }
+        }
+        unreachable!()
+    }
+
+    /// The next request; none where the other side closed the connection.
+    fn receive(&mut self, alloc: Global) -> Result<Option<AnyRequest>, ServeError>
+        ensures request { IfOk result (λ found. IfSome found (λ request.
+            ReceivesMessage (line_of R.remaining W.contents self.old)
+            (line_of R.remaining W.contents self.new) (message_of request))) }
+        ensures end { IfOk result (λ found. IfNone found
+            (Ends (line_of R.remaining W.contents self.old)
+            (line_of R.remaining W.contents self.new))) }
+        ensures closes { IfErr result (λ error. ClosesFor error
+            (line_of R.remaining W.contents self.old)
+            (line_of R.remaining W.contents self.new)) }
+        ensures silent { IsSilent (line_of R.remaining W.contents self.old)
+            (line_of R.remaining W.contents self.new) }
+    {
+        let body = match read_body(alloc, &mut self.reader, &mut self.framer) {
+            Ok(Some(body)) => body,
+            Ok(None) => return Ok(None),
+            Err(error) => return Err(closed_by(error)),
+        };
+        match decode_any_request(alloc, &body) {
+            Ok(Some(request)) => Ok(Some(request)),
+            Ok(None) => Err(ServeError::BadMessage),
+            Err(_) => Err(ServeError::Memory),
+        }
+    }
+
+    /// Writes the reply as a frame.
+    fn send(&mut self, alloc: Global, reply: &AnyReply) -> Result<(), ServeError>
+        requires { IsLawfulResponse (response_of reply.now) }
+        ensures sent { OnOk result (Sends (W.contents (writer_of self.old))
+            (W.contents (writer_of self.new)) (response_spelling (response_of reply.now))) }
+        ensures broken { IfErr result (λ error. BreaksOff error (W.contents (writer_of self.old))
+            (W.contents (writer_of self.new)) (response_spelling (response_of reply.now))) }
+        ensures rest { IsOnlyWritten (line_of R.remaining W.contents self.old)
+            (line_of R.remaining W.contents self.new) }
+    {
+        let Ok(body) = encode_any_reply(alloc, reply) else {
+            return Err(ServeError::Memory);
+        };
+        match write_frame(&mut self.writer, &body) {
+            Ok(()) => Ok(()),
+            Err(error) => Err(closed_by(error)),
+        }
+    }
+}

@@ -1,0 +1,69 @@
+//! Why a connection is closed.
+ghost use Rattle.std.specs.Prelude.{◌≡◌, Some};
+ghost use Rattle.syn_model.specs.Refusal.{number, name_of};
+ghost use Rattle.syn_refusal.specs.Refusals.{cause_of};
+ghost use Rattle.syn_serve.specs.Refusals.{refusal_of};
+ghost use Rattle.syn_serve.specs.inner.Parts.{of_link};
+
+use std::fmt;
+use syn_link::LinkError;
+use syn_refusal::Refusal;
+use thiserror::Error;
+
+/// Why a connection is closed by this side.
+#[derive(Clone, Copy, Debug, PartialEq, Eq, Error)]
+pub enum ServeError {
+    /// 9: a read or a write failed.
+    Device,
+    /// 11: memory was refused.
+    Memory,
+    /// 21: a frame with a length of 0 came.
+    BadFrame,
+    /// 22: a frame with a length above `syn_link::MAX_BODY` came.
+    TooLarge,
+    /// 23: a body came that is no message.
+    BadMessage,
+}
+
+impl ServeError {
+    /// Which refusal it is.
+    pub fn refusal(&self) -> Refusal
+        ensures { cause_of result ≡ refusal_of self.now }
+    {
+        match self {
+            ServeError::Device => Refusal::Device,
+            ServeError::Memory => Refusal::Memory,
+            ServeError::BadFrame => Refusal::BadFrame,
+            ServeError::TooLarge => Refusal::TooLarge,
+            ServeError::BadMessage => Refusal::BadMessage,
+        }
+    }
+
+    /// The number of the refusal.
+    pub fn number(&self) -> u8
+        ensures { result ≡ number (refusal_of self.now) }
+    {
+        self.refusal().number()
+    }
+}
+
+/// The name of the refusal.
+impl fmt::Display for ServeError {
+    ghost output = { λ error. Some (name_of (refusal_of error)) };
+
+    fn fmt<W: fmt::Write>(&self, f: &mut fmt::Formatter<W>) -> fmt::Result {
+        write!(f, "{}", self.refusal())
+    }
+}
+
+/// What a frame's error is to the connection.
+pub(crate) fn closed_by(error: LinkError) -> ServeError
+    ensures { result ≡ of_link error }
+{
+    match error {
+        LinkError::BadFrame => ServeError::BadFrame,
+        LinkError::TooLarge => ServeError::TooLarge,
+        LinkError::Device => ServeError::Device,
+        LinkError::Memory => ServeError::Memory,
+    }
+}

@@ -1,0 +1,100 @@
+//! What comes over a connection and what goes back: of a session, or of a user.
+ghost use Rattle.std.specs.Prelude.{◌≡◌, IfOk, option_map};
+ghost use Rattle.syn_message.specs.Bodies.{IsWholeReading};
+ghost use Rattle.syn_message.specs.Requests.{kind_of, request_of};
+ghost use Rattle.syn_message.specs.Users.{wish_kind, wish_of};
+ghost use Rattle.syn_serve.specs.Messages.{IsLawfulMessage, IsLawfulResponse, message_kind};
+ghost use Rattle.syn_serve.specs.Messages.{message_of, message_spelling, response_of};
+ghost use Rattle.syn_serve.specs.Messages.{response_spelling};
+
+use std::alloc::Global;
+use syn_message::{
+    Answered, AnsweredToUser, Asked, AskedByUser, Request, UserRequest, decode_request,
+    decode_user_request, encode_reply, encode_user_reply,
+};
+use syn_wire::WireError;
+
+/// A request of a session, or of a user.
+#[derive(Debug, Drop)]
+pub enum AnyRequest {
+    /// With its session and its number.
+    Session(Asked),
+    /// With its number.
+    User(AskedByUser),
+}
+
+impl AnyRequest {
+    /// The first byte of its body.
+    pub fn kind(&self) -> u8
+        ensures { result ≡ message_kind (message_of self.now) }
+    {
+        match self {
+            AnyRequest::Session(asked) => session_kind(&asked.request),
+            AnyRequest::User(asked) => user_kind(&asked.request),
+        }
+    }
+}
+
+/// The kind of a session's request.
+fn session_kind(request: &Request) -> u8
+    ensures { result ≡ kind_of (request_of request.now) }
+{
+    match request {
+        Request::Begin { .. } => 0x01,
+        Request::List { .. } => 0x02,
+        Request::Fetch { .. } => 0x03,
+        Request::Stage { .. } => 0x04,
+        Request::Replace { .. } => 0x05,
+    }
+}
+
+/// The kind of a user's request.
+fn user_kind(request: &UserRequest) -> u8
+    ensures { result ≡ wish_kind (wish_of request.now) }
+{
+    match request {
+        UserRequest::Edit { .. } => 0x11,
+        UserRequest::Get { .. } => 0x12,
+    }
+}
+
+/// A reply to a session, or to a user.
+#[derive(Debug, Drop)]
+pub enum AnyReply {
+    /// With the session and the number of the request.
+    Session(Answered),
+    /// With the number of the request.
+    User(AnsweredToUser),
+}
+
+/// The request that the body spells; none where it spells none of either.
+///
+/// Refused 11 where memory is refused.
+pub fn decode_any_request(alloc: Global, body: &[u8]) -> Result<Option<AnyRequest>, WireError>
+    ensures { IfOk result (λ read. IsWholeReading IsLawfulMessage message_spelling body.now
+        (option_map message_of read)) }
+{
+    match decode_request(alloc, body) {
+        Ok(Some(asked)) => return Ok(Some(AnyRequest::Session(asked))),
+        Ok(None) => {}
+        Err(error) => return Err(error),
+    }
+    match decode_user_request(alloc, body) {
+        Ok(Some(asked)) => Ok(Some(AnyRequest::User(asked))),
+        Ok(None) => Ok(None),
+        Err(error) => Err(error),
+    }
+}
+
+/// The body of the reply.
+///
+/// Refused 11 where memory is refused.
+pub fn encode_any_reply(alloc: Global, reply: &AnyReply) -> Result<Vec<u8>, WireError>
+    requires { IsLawfulResponse (response_of reply.now) }
+    ensures { IfOk result (λ body. body.items ≡ response_spelling (response_of reply.now)) }
+{
+    match reply {
+        AnyReply::Session(answered) => encode_reply(alloc, answered),
+        AnyReply::User(answered) => encode_user_reply(alloc, answered),
+    }
+}

@@ -1,0 +1,78 @@
+//! A step of the checkpointer, which keeps room in the journal and a halted replica running.
+ghost use Rattle.std.specs.Prelude.{MatchOption};
+ghost use Rattle.syn_serve.specs.Upkeep.{KeepsUp, Shows};
+ghost use Rattle.syn_shared.specs.Shared.{FoundBusy, HeldOnce, IsFor, IsLater};
+
+use std::alloc::Global;
+use syn_disk::Disk;
+use syn_lock::Pass;
+use syn_replica::Replica;
+use syn_shared::{SharedError, SharedReplica};
+
+/// What a checkpointer sees of a replica.
+#[derive(Clone, Copy, Debug, PartialEq, Eq)]
+pub struct Look {
+    /// The length of the longest record payload that its journal still takes, in bytes.
+    pub room: usize,
+    /// A device call failed, and the replica was not opened again since.
+    pub is_halted: bool,
+}
+
+/// What a step of the checkpointer did.
+#[derive(Clone, Copy, Debug, PartialEq, Eq)]
+pub enum Kept {
+    /// The lock was taken, and the replica was not looked at.
+    Busy,
+    /// There was room, and nothing was done.
+    Rested,
+    /// There was too little room: what the checkpoint answered.
+    Checkpointed(Result<(), SharedError>),
+    /// The replica was halted: what the reopening answered.
+    Reopened(Result<(), SharedError>),
+}
+
+/// What there is to see, if the lock is free; none where it was taken.
+pub fn look_at<D: Disk>(shared: &SharedReplica<D>, pass: &mut Pass<Replica<D>>) -> Option<Look>
+    requires { IsFor shared.now pass.old }
+    ensures of { IsFor shared.now pass.new }
+    ensures held { MatchOption result (FoundBusy pass.old pass.new)
+        (λ look. HeldOnce shared.now pass.old pass.new (Shows look)) }
+    ensures later { IsLater shared.now pass.old pass.new }
+{
+    let own = shared.own();
+    let Ok(guard) = pass.try_enter(own) else {
+        return None;
+    };
+    let look = Look {
+        room: guard.room(),
+        is_halted: guard.is_halted(),
+    };
+    own.leave(guard);
+    Some(look)
+}
+
+/// Looks at the replica if its lock is free. Where it is halted (10) it opens it again; where its
+/// journal takes no payload of `least` bytes it makes a checkpoint. Each is done if the lock is
+/// still free, in a hold of its own.
+pub fn keep_up<D: Disk>(
+    alloc: Global,
+    shared: &SharedReplica<D>,
+    pass: &mut Pass<Replica<D>>,
+    least: usize,
+) -> Kept
+    requires { IsFor shared.now pass.old }
+    ensures of { IsFor shared.now pass.new }
+    ensures keeps { KeepsUp shared.now least pass.old pass.new result }
+    ensures later { IsLater shared.now pass.old pass.new }
+{
+    let Some(look) = look_at(shared, pass) else {
+        return Kept::Busy;
+    };
+    if look.is_halted {
+        return Kept::Reopened(shared.try_reopen(alloc, pass));
+    }
+    if look.room < least {
+        return Kept::Checkpointed(shared.try_checkpoint(alloc, pass));
+    }
+    Kept::Rested
+}
