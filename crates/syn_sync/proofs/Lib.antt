@@ -1,0 +1,3 @@
+pub mod WriteLemmas
+pub mod RunLemmas
+pub mod StartLemmas

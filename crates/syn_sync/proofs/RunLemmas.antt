@@ -1,0 +1,335 @@
+-- Acts of a coordinator, one after another, with what is heard and what is written.
+use Rattle.std.proofs.Common.{◌≡◌, ℕ, Bool, true, false, List, [], ◌∷◌, ◌++◌, refl, sym, ap, subst}
+use Rattle.std.proofs.Common.{◌∙◌, ◌⊎◌, ◌≢◌, inl, inr, append-nil}
+use Rattle.std.proofs.lemmas.Grind.{flat_map-append}
+use Rattle.std.specs.Prelude.{◌&&◌, not, flat_map}
+use Rattle.syn_disk.specs.Arms.{is_stopped}
+use Rattle.syn_disk.specs.declared.disk.Disk.{Ghosts}
+use Rattle.syn_headline.specs.Coordinator.{Call, CoordinatorMachine}
+use Rattle.syn_headline.specs.Network.{Left, Message, Right, Which}
+use Rattle.syn_message.specs.Replies.{Answering}
+use Rattle.syn_model.specs.Archive.{Kept}
+use Rattle.syn_session.specs.Coordinators.{Does, Stands, device_of, goes_down, goes_on}
+use Rattle.syn_session.specs.declared.coordinator.Coordinator.{Coordinator}
+use Rattle.syn_sync.proofs.WriteLemmas.{calm_writes, sends_twice, stopped_none, writes_calm}
+use Rattle.syn_sync.proofs.WriteLemmas.{writes_nothing, writes_twice}
+use Rattle.syn_sync.specs.Drivers.{Lines, Outlets}
+use Rattle.syn_sync.specs.Lines.{HearsAll, Line}
+use Rattle.syn_link.specs.Frames.{Bytes}
+use Rattle.syn_sync.specs.Outlets.{Outlet, Writes}
+use Rattle.syn_sync.specs.Runs.{Act, Acts, Done, Down, Drives, Leads, Takes, answer_in, answers_in}
+use Rattle.syn_sync.specs.Runs.{frame_to, frames_in, frames_of, frames_to, step_of}
+use Rattle.syn_sync.specs.inner.Calling.{Calls}
+
+leads_twice : (pair : ℕ) (a b c : CoordinatorMachine) (first second : Acts)
+    → Leads pair a first b → Leads pair b second c → Leads pair a (first ++ second) c
+leads_twice pair a b c [] second one two = subst (λ m. Leads pair m second c) one two
+leads_twice pair a b c (done ∷ behind) second (between, step, one) two =
+    (between, step, leads_twice pair between b c behind second one two)
+
+pub hears_twice : (a b c : Line) (first second : List Answering) → HearsAll a first b
+    → HearsAll b second c → HearsAll a (first ++ second) c
+hears_twice a b c [] second one two = subst (λ l. HearsAll l second c) one two
+hears_twice a b c (answering ∷ behind) second (between, hears, one) two =
+    (between, hears, hears_twice between b c behind second one two)
+
+answers_twice : (side : Which) (first second : Acts)
+    → answers_in side (first ++ second) ≡ answers_in side first ++ answers_in side second
+answers_twice side first second =
+    flat_map-append (λ (done : Done). answer_in side done.act) first second
+
+frames_twice : (side : Which) (first second : Acts)
+    → frames_in side (first ++ second) ≡ frames_in side first ++ frames_in side second
+frames_twice side first second = flat_map-append (frames_of side) first second
+
+messages_twice : (side : Which) (first second : List Message)
+    → frames_to side (first ++ second) ≡ frames_to side first ++ frames_to side second
+messages_twice side first second = flat_map-append (frame_to side) first second
+
+false_is : (b : Bool) → b ≡ true → b ≡ false → ⊥
+false_is true is not_is = cc
+false_is false is not_is = cc
+
+module _ {D : Type 0} {disk : Ghosts D} where
+  -- its machine was stopped
+  abbrev pub stops : Coordinator D disk → Bool
+  stops coordinator = is_stopped (disk.arms (device_of coordinator))
+
+  pub stands_of : (new : Coordinator D disk) (pair : ℕ) (machine : CoordinatorMachine)
+      → Stands new pair machine ⊎ Down new pair machine → stops new ≡ false
+      → Stands new pair machine
+  stands_of new pair machine (inl stands) calm = stands
+  stands_of new pair machine (inr down) calm = absurd (false_is (stops new) down.stopped calm)
+
+  pub calls_none : (new : Coordinator D disk) (pair : ℕ) (machine : CoordinatorMachine)
+      → Stands new pair machine → Calls new pair machine []
+  calls_none new pair machine stands = record {
+    acts = [];
+    reached = machine;
+    leads = refl;
+    ends = inl stands;
+    silent = λ side. refl;
+    sends = λ calm side. refl;
+  }
+
+  -- one call that hears nothing
+  pub calls_once : (old new : Coordinator D disk) (pair : ℕ) (machine : CoordinatorMachine)
+      (act : Act) (kept : List Kept) (messages sends : List Message)
+      → Does old new pair (step_of pair machine act) kept messages
+      → ((side : Which) → answer_in side act ≡ [])
+      → ((call : Call) (side : Which) → call.messages ≡ messages
+      → frames_of side (record { act = act; call = call }) ≡ frames_to side sends)
+      → Calls new pair machine sends
+  calls_once old new pair machine act kept messages sends
+      (goes_on reached call step stands is_kept is_sent is_reported) silent frames = record {
+        acts = record { act = act; call = call } ∷ [];
+        reached = reached;
+        leads = (reached, step, refl);
+        ends = inl stands;
+        silent = λ side. append-nil (answer_in side act) ∙ silent side;
+        sends = λ calm side. append-nil (frames_of side (record { act = act; call = call }))
+            ∙ frames call side is_sent;
+      }
+  calls_once old new pair machine act kept messages sends
+      (goes_down reached call step stopped down leaves is_kept tries) silent frames = record {
+        acts = record { act = act; call = call } ∷ [];
+        reached = reached;
+        leads = (reached, step, refl);
+        ends = inr (record { stopped = stopped; down = down; leaves = leaves; tries = tries });
+        silent = λ side. append-nil (answer_in side act) ∙ silent side;
+        sends = λ calm. absurd (false_is (stops new) stopped calm);
+      }
+
+  -- a call that is refused 9, or for another cause and then changes nothing
+  pub calls_refused : {E : Type 0} (old new : Coordinator D disk) (pair : ℕ)
+      (machine : CoordinatorMachine) (act : Act) (device e : E) → (e ≡ device) ⊎ (e ≢ device)
+      → (e ≡ device → Does old new pair (step_of pair machine act) [] [])
+      → (e ≢ device → Stands new pair machine)
+      → ((side : Which) → answer_in side act ≡ [])
+      → ((call : Call) (side : Which) → call.messages ≡ []
+      → frames_of side (record { act = act; call = call }) ≡ [])
+      → Calls new pair machine []
+  calls_refused old new pair machine act device e (inl is) does stands silent frames =
+      calls_once old new pair machine act [] [] [] (does is) silent frames
+  calls_refused old new pair machine act device e (inr is) does stands silent frames =
+      calls_none new pair machine (stands is)
+
+  -- calls behind calls
+  pub calls_twice : (middle new : Coordinator D disk) (pair : ℕ) (machine : CoordinatorMachine)
+      (first second : List Message) (calls : Calls middle pair machine first)
+      → stops middle ≡ false → Calls new pair calls.reached second
+      → Calls new pair machine (first ++ second)
+  calls_twice middle new pair machine first second calls calm behind = record {
+    acts = calls.acts ++ behind.acts;
+    reached = behind.reached;
+    leads = leads_twice pair machine calls.reached behind.reached calls.acts behind.acts
+        calls.leads behind.leads;
+    ends = behind.ends;
+    silent = λ side. answers_twice side calls.acts behind.acts
+        ∙ ap (λ x. x ++ answers_in side behind.acts) (calls.silent side) ∙ behind.silent side;
+    sends = λ still side. frames_twice side calls.acts behind.acts
+        ∙ ap (λ x. x ++ frames_in side behind.acts) (calls.sends calm side)
+        ∙ ap (λ x. frames_to side first ++ x) (behind.sends still side)
+        ∙ sym (messages_twice side first second);
+  }
+
+  -- whole where the connection goes on and no machine was stopped
+  calm_is : (new : Coordinator D disk) (a b : Outlet) (bytes : Bytes) → stops new ≡ false
+      → Writes a b bytes b.goes → Writes a b bytes (b.goes && not (stops new))
+  calm_is new a b bytes calm writes =
+      subst (λ s. Writes a b bytes (b.goes && not s)) (sym calm) (calm_writes a b bytes writes)
+
+  is_calm : (new : Coordinator D disk) (a b : Outlet) (bytes : Bytes) → stops new ≡ false
+      → Writes a b bytes (b.goes && not (stops new)) → Writes a b bytes b.goes
+  is_calm new a b bytes calm writes =
+      writes_calm a b bytes (subst (λ s. Writes a b bytes (b.goes && not s)) calm writes)
+
+  stopped_is : (new : Coordinator D disk) (a : Outlet) (bytes : Bytes) → stops new ≡ true
+      → Writes a a bytes (a.goes && not (stops new))
+  stopped_is new a bytes stopped =
+      subst (λ s. Writes a a bytes (a.goes && not s)) (sym stopped) (stopped_none a bytes)
+
+  -- no act, though a link may close
+  pub drives_none : (new : Coordinator D disk) (pair : ℕ) (machine : CoordinatorMachine)
+      (lines : Lines) (from to : Outlets) → Stands new pair machine → stops new ≡ false
+      → ((side : Which) → Writes (from side) (to side) [] (to side).goes)
+      → Drives new pair machine lines lines from to
+  drives_none new pair machine lines from to stands calm writes = record {
+    acts = [];
+    reached = machine;
+    leads = refl;
+    ends = inl stands;
+    hears = λ side. refl;
+    writes = λ side. calm_is new (from side) (to side) [] calm (writes side);
+  }
+
+  -- calls that hear nothing, and what they sent is written
+  pub drives_calls : (new : Coordinator D disk) (pair : ℕ) (machine : CoordinatorMachine)
+      (messages : List Message) (lines heard : Lines) (from to : Outlets)
+      → Calls new pair machine messages → stops new ≡ false
+      → ((side : Which) → heard side ≡ lines side)
+      → ((side : Which) → Writes (from side) (to side) (frames_to side messages) (to side).goes)
+      → Drives new pair machine lines heard from to
+  drives_calls new pair machine messages lines heard from to calls calm same writes = record {
+    acts = calls.acts;
+    reached = calls.reached;
+    leads = calls.leads;
+    ends = calls.ends;
+    hears = λ side. subst (λ all. HearsAll (lines side) all (heard side))
+        (sym (calls.silent side)) (same side);
+    writes = λ side. subst (λ bytes. Writes (from side) (to side) bytes
+        ((to side).goes && not (stops new))) (sym (calls.sends calm side))
+        (calm_is new (from side) (to side) (frames_to side messages) calm (writes side));
+  }
+
+  -- or the machine was stopped in them
+  pub drives_down : (new : Coordinator D disk) (pair : ℕ) (machine : CoordinatorMachine)
+      (messages : List Message) (lines : Lines) (from : Outlets)
+      → Calls new pair machine messages → stops new ≡ true
+      → Drives new pair machine lines lines from from
+  drives_down new pair machine messages lines from calls stopped = record {
+    acts = calls.acts;
+    reached = calls.reached;
+    leads = calls.leads;
+    ends = calls.ends;
+    hears = λ side. subst (λ all. HearsAll (lines side) all (lines side))
+        (sym (calls.silent side)) refl;
+    writes = λ side. stopped_is new (from side) (frames_in side calls.acts) stopped;
+  }
+
+  silent_at : (stopped : Bool) (new : Coordinator D disk) (pair : ℕ)
+      (machine : CoordinatorMachine) (lines : Lines) (from : Outlets)
+      → Calls new pair machine [] → stops new ≡ stopped
+      → Drives new pair machine lines lines from from
+  silent_at true new pair machine lines from calls is =
+      drives_down new pair machine [] lines from calls is
+  silent_at false new pair machine lines from calls is =
+      drives_calls new pair machine [] lines lines from from calls is (λ side. refl)
+      (λ side. writes_nothing (from side) (from side).goes)
+
+  -- they send nothing
+  pub drives_silent : (new : Coordinator D disk) (pair : ℕ) (machine : CoordinatorMachine)
+      (lines : Lines) (from : Outlets) → Calls new pair machine []
+      → Drives new pair machine lines lines from from
+  drives_silent new pair machine lines from calls =
+      silent_at (stops new) new pair machine lines from calls refl
+
+  -- one behind the other
+  pub drives_twice : (middle new : Coordinator D disk) (pair : ℕ) (machine : CoordinatorMachine)
+      (lines heard later : Lines) (from via to : Outlets)
+      (first : Drives middle pair machine lines heard from via) → stops middle ≡ false
+      → Drives new pair first.reached heard later via to
+      → Drives new pair machine lines later from to
+  drives_twice middle new pair machine lines heard later from via to first calm second = record {
+    acts = first.acts ++ second.acts;
+    reached = second.reached;
+    leads = leads_twice pair machine first.reached second.reached first.acts second.acts
+        first.leads second.leads;
+    ends = second.ends;
+    hears = λ side. subst (λ all. HearsAll (lines side) all (later side))
+        (sym (answers_twice side first.acts second.acts))
+        (hears_twice (lines side) (heard side) (later side) (answers_in side first.acts)
+        (answers_in side second.acts) (first.hears side) (second.hears side));
+    writes = λ side. subst (λ bytes. Writes (from side) (to side) bytes
+        ((to side).goes && not (stops new))) (sym (frames_twice side first.acts second.acts))
+        (writes_twice (from side) (via side) (to side) (frames_in side first.acts)
+        (frames_in side second.acts) (not (stops new))
+        (is_calm middle (from side) (via side) (frames_in side first.acts) calm
+        (first.writes side)) (second.writes side));
+  }
+
+  -- a reply is taken that was heard, and what that sends is written, where no machine was stopped
+  pub drives_take : (old new : Coordinator D disk) (pair : ℕ) (machine : CoordinatorMachine)
+      (from : Which) (answering : Answering) (kept : List Kept) (messages : List Message)
+      (lines heard later : Lines) (begin via to : Outlets)
+      → Does old new pair (step_of pair machine (Takes from answering)) kept messages
+      → ((side : Which) → HearsAll (lines side) (answer_in side (Takes from answering))
+      (heard side))
+      → ((side : Which) → Writes (begin side) (via side) [] (via side).goes)
+      → stops new ≡ false → ((side : Which) → later side ≡ heard side)
+      → ((side : Which) → Writes (via side) (to side) (frames_to side messages) (to side).goes)
+      → Drives new pair machine lines later begin to
+  drives_take old new pair machine from answering kept messages lines heard later begin via to
+      (goes_on reached call step stands is_kept is_sent is_reported) hears reads calm same writes =
+      record {
+        acts = record { act = Takes from answering; call = call } ∷ [];
+        reached = reached;
+        leads = (reached, step, refl);
+        ends = inl stands;
+        hears = λ side. subst (λ l. HearsAll (lines side)
+            (answer_in side (Takes from answering) ++ []) l) (sym (same side))
+            (subst (λ all. HearsAll (lines side) all (heard side))
+            (sym (append-nil (answer_in side (Takes from answering)))) (hears side));
+        writes = λ side. calm_is new (begin side) (to side) (frames_to side call.messages ++ [])
+            calm (subst (λ bytes. Writes (begin side) (to side) bytes (to side).goes)
+            (sym (append-nil (frames_to side call.messages)
+            ∙ ap (λ m. frames_to side m) is_sent))
+            (sends_twice (begin side) (via side) (to side) [] (frames_to side messages)
+            (reads side) (writes side)));
+      }
+  drives_take old new pair machine from answering kept messages lines heard later begin via to
+      (goes_down reached call step stopped down leaves is_kept tries) hears reads calm same
+      writes = absurd (false_is (stops new) stopped calm)
+
+  taken_down : (old new : Coordinator D disk) (pair : ℕ) (machine : CoordinatorMachine)
+      (from : Which) (answering : Answering) (call : Call) (reached : CoordinatorMachine)
+      (lines heard : Lines) (begin via : Outlets)
+      → step_of pair machine (Takes from answering) reached call
+      → Stands new pair reached ⊎ Down new pair reached
+      → ((side : Which) → HearsAll (lines side) (answer_in side (Takes from answering))
+      (heard side))
+      → ((side : Which) → Writes (begin side) (via side) [] (via side).goes)
+      → stops new ≡ true → Drives new pair machine lines heard begin via
+  taken_down old new pair machine from answering call reached lines heard begin via step ends
+      hears reads stopped = record {
+        acts = record { act = Takes from answering; call = call } ∷ [];
+        reached = reached;
+        leads = (reached, step, refl);
+        ends = ends;
+        hears = λ side. subst (λ all. HearsAll (lines side) all (heard side))
+            (sym (append-nil (answer_in side (Takes from answering)))) (hears side);
+        writes = λ side. writes_twice (begin side) (via side) (via side) []
+            (frames_to side call.messages ++ []) (not (stops new)) (reads side)
+            (stopped_is new (via side) (frames_to side call.messages ++ []) stopped);
+      }
+
+  -- or it was, and nothing is
+  pub drives_taken : (old new : Coordinator D disk) (pair : ℕ) (machine : CoordinatorMachine)
+      (from : Which) (answering : Answering) (kept : List Kept) (messages : List Message)
+      (lines heard : Lines) (begin via : Outlets)
+      → Does old new pair (step_of pair machine (Takes from answering)) kept messages
+      → ((side : Which) → HearsAll (lines side) (answer_in side (Takes from answering))
+      (heard side))
+      → ((side : Which) → Writes (begin side) (via side) [] (via side).goes)
+      → stops new ≡ true → Drives new pair machine lines heard begin via
+  drives_taken old new pair machine from answering kept messages lines heard begin via
+      (goes_on reached call step stands is_kept is_sent is_reported) hears reads stopped =
+      taken_down old new pair machine from answering call reached lines heard begin via step
+      (inl stands) hears reads stopped
+  drives_taken old new pair machine from answering kept messages lines heard begin via
+      (goes_down reached call step cut down leaves is_kept tries) hears reads stopped =
+      taken_down old new pair machine from answering call reached lines heard begin via step
+      (inr (record { stopped = cut; down = down; leaves = leaves; tries = tries })) hears reads
+      stopped
+
+  given_up_at : (stopped : Bool) (middle new : Coordinator D disk) (pair : ℕ)
+      (machine : CoordinatorMachine) (lines heard : Lines) (from to : Outlets)
+      → Drives middle pair machine lines heard from to → (stops middle ≡ true → new ≡ middle)
+      → ((now : CoordinatorMachine) → Stands middle pair now → Calls new pair now [])
+      → stops middle ≡ stopped → Drives new pair machine lines heard from to
+  given_up_at true middle new pair machine lines heard from to drives same calls is =
+      subst (λ m. Drives m pair machine lines heard from to) (sym (same is)) drives
+  given_up_at false middle new pair machine lines heard from to drives same calls is =
+      drives_twice middle new pair machine lines heard heard from to to drives is
+      (drives_silent new pair drives.reached heard to
+      (calls drives.reached (stands_of middle pair drives.reached drives.ends is)))
+
+  -- then the session is given up, where its machine goes on
+  pub drives_given_up : (middle new : Coordinator D disk) (pair : ℕ)
+      (machine : CoordinatorMachine) (lines heard : Lines) (from to : Outlets)
+      → Drives middle pair machine lines heard from to → (stops middle ≡ true → new ≡ middle)
+      → ((now : CoordinatorMachine) → Stands middle pair now → Calls new pair now [])
+      → Drives new pair machine lines heard from to
+  drives_given_up middle new pair machine lines heard from to drives same calls =
+      given_up_at (stops middle) middle new pair machine lines heard from to drives same calls
+      refl

@@ -1,0 +1,15 @@
+use Rattle.std.proofs.Common.{ℕ}
+use Rattle.syn_headline.specs.Coordinator.{CoordinatorMachine}
+use Rattle.syn_session.specs.Coordinators.{Stands}
+use Rattle.syn_sync.proofs.driver.Driver.go_on.Given as goal
+use Rattle.syn_sync.specs.Drivers.{lines_of, outlets_of}
+use Rattle.syn_sync.specs.Runs.{Drives}
+
+-- the session came so far
+abbrev pub invariant-loop : goal.invariant-loop
+invariant-loop g l =
+    let outlets = outlets_of g.W.Write.contents in
+    let lines = lines_of g.R.Read.remaining in
+    (pair : ℕ) (machine : CoordinatorMachine) → Stands l.fn.coordinator pair machine
+    → Drives l.coordinator pair machine (lines l.fn.self) (lines l.self) (outlets l.fn.self)
+    (outlets l.self)

@@ -1,0 +1,35 @@
+use Rattle.std.proofs.Common.{refl, subst, sym}
+use Rattle.syn_headline.specs.Network.{Asks, Which}
+use Rattle.syn_message.specs.Requests.{request_of}
+use Rattle.syn_message.specs.Sides.{which_of}
+use Rattle.syn_sync.proofs.WriteLemmas.{sent_left, sent_right}
+use Rattle.syn_sync.proofs.driver.Driver.send.Goals as goal
+use Rattle.syn_sync.specs.Drivers.{outlets_of}
+use Rattle.syn_sync.specs.Outlets.{Writes}
+use Rattle.syn_sync.specs.Runs.{frame_to}
+
+pub returns-in-Left-clause-written : goal.returns-in-Left-clause-written
+returns-in-Left-clause-written g c =
+    let asked = c.args.sending.now.asked in
+    let from = outlets_of {R = g.row.R.Denot} {W = g.row.W.Denot} g.W.Write.contents
+    c.args.self.now in
+    let to = outlets_of {R = g.row.R.Denot} {W = g.row.W.Denot} g.W.Write.contents
+    (record { left = c.send.new.self; right = c.args.self.now.right }) in
+    let request = request_of asked.request in
+    subst (λ at. (side : Which) → Writes (from side) (to side)
+    (frame_to side (Asks (which_of at) asked.session asked.number request)) (to side).goes)
+    (sym c.in-Left.is)
+    (sent_left asked.session asked.number request from to c.send.ensures.written refl)
+
+pub returns-in-Right-clause-written : goal.returns-in-Right-clause-written
+returns-in-Right-clause-written g c =
+    let asked = c.args.sending.now.asked in
+    let from = outlets_of {R = g.row.R.Denot} {W = g.row.W.Denot} g.W.Write.contents
+    c.args.self.now in
+    let to = outlets_of {R = g.row.R.Denot} {W = g.row.W.Denot} g.W.Write.contents
+    (record { left = c.args.self.now.left; right = c.send-in-Right.new.self }) in
+    let request = request_of asked.request in
+    subst (λ at. (side : Which) → Writes (from side) (to side)
+    (frame_to side (Asks (which_of at) asked.session asked.number request)) (to side).goes)
+    (sym c.in-Right.is)
+    (sent_right asked.session asked.number request from to c.send-in-Right.ensures.written refl)

@@ -1,0 +1,14 @@
+use Rattle.std.proofs.Common.{◌≡◌, ℕ, [], false}
+use Rattle.syn_disk.specs.Arms.{is_stopped}
+use Rattle.syn_headline.specs.Coordinator.{CoordinatorMachine}
+use Rattle.syn_session.specs.Coordinators.{Stands, device_of}
+use Rattle.syn_sync.proofs.driver.give_up.Given as goal
+use Rattle.syn_sync.specs.inner.Calling.{Calls}
+
+-- time went by so far
+abbrev pub invariant-loop : goal.invariant-loop
+invariant-loop g l = record {
+  calls : (pair : ℕ) (machine : CoordinatorMachine) → Stands l.fn.coordinator pair machine
+      → Calls l.coordinator pair machine [];
+  calm : is_stopped (g.D.Disk.arms (device_of l.coordinator)) ≡ false;
+}

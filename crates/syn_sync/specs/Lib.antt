@@ -1,0 +1,5 @@
+pub mod Lines
+pub mod Outlets
+pub mod Drivers
+pub mod Runs
+pub mod inner

@@ -1,0 +1,40 @@
+-- What is read from a side, as its contracts see it.
+use Rattle.std.specs.Prelude.{◌≡◌, Bool, List, [], ◌∷◌, Option, Some}
+use Rattle.syn_link.specs.Frames.{Bytes}
+use Rattle.syn_link.specs.Streams.{Comes}
+use Rattle.syn_message.specs.Replies.{Answering, IsLawfulAnswering, answering_spelling}
+use Rattle.syn_sync.specs.declared.link.Link.{Link}
+
+-- what the reader is to give, and what came and was not handed out
+pub record Line : Type 0 where
+  pub given : Option Bytes
+  pub held : Bytes
+
+module _ {R W : Type 0} where
+  abbrev pub reader_of : Link R W → R
+  reader_of link = link.reader
+
+  abbrev pub writer_of : Link R W → W
+  writer_of link = link.writer
+
+  -- what came and was not handed out
+  abbrev pub held_by : Link R W → Bytes
+  held_by link = link.framer
+
+  -- it goes on
+  abbrev pub is_open : Link R W → Bool
+  is_open link = link.open
+
+  abbrev pub line_of : (R → Option Bytes) → Link R W → Line
+  line_of remaining link = record { given = remaining link.reader; held = link.framer }
+
+-- the reply came in the first frame
+pub record Hears (old new : Line) (answering : Answering) : Type 0 where
+  pub lawful : IsLawfulAnswering answering
+  pub came : Comes old.given new.given old.held new.held (Some (answering_spelling answering))
+
+-- replies came, one after another
+abbrev pub HearsAll : Line → List Answering → Line → Type 0
+HearsAll old [] new = new ≡ old
+HearsAll old (answering ∷ behind) new =
+    (between : Line) × Hears old between answering × HearsAll between behind new

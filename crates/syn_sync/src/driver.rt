@@ -1,0 +1,279 @@
+//! A session over two links.
+ghost use Rattle.std.specs.Prelude.{◌≡◌, [], ℕ, true, false, IfSome, MatchResult, OnOk};
+ghost use Rattle.syn_disk.specs.Arms.{is_stopped};
+ghost use Rattle.syn_headline.specs.Coordinator.{CoordinatorMachine};
+ghost use Rattle.syn_headline.specs.Network.{Left, Right, Which};
+ghost use Rattle.syn_message.specs.Replies.{IsLawfulAnswering, answering_of};
+ghost use Rattle.syn_message.specs.Sides.{which_of};
+ghost use Rattle.syn_session.specs.Coordinators.{Does, Stands, archive_of, device_of, runs};
+ghost use Rattle.syn_session.specs.Coordinators.{written};
+ghost use Rattle.syn_session.specs.Sendings.{message_of, messages_of};
+ghost use Rattle.syn_sync.specs.Drivers.{Lines, lines_of, link_at, outlets_of};
+ghost use Rattle.syn_sync.specs.Lines.{HearsAll};
+ghost use Rattle.syn_sync.specs.Outlets.{Writes};
+ghost use Rattle.syn_sync.specs.Runs.{Drives, Takes, answer_in, frame_to, frames_to, step_of};
+ghost use Rattle.syn_sync.specs.inner.Calling.{Calls};
+
+use crate::asked::Outstanding;
+use crate::link::Link;
+use std::alloc::Global;
+use std::io::{Read, Write};
+use syn_disk::Limit;
+use syn_message::{Answered, Side};
+use syn_refusal::Refusal;
+use syn_session::{Coordinator, Sending, SessionError};
+
+/// After so many ticks without an answer a session has ended: each request was sent again eight
+/// times.
+const MOST_TICKS: u32 = 9;
+
+/// What runs sessions over two links, one for each side.
+#[derive(Drop)]
+pub struct Driver<R, W> {
+    left: Link<R, W>,
+    right: Link<R, W>,
+}
+
+impl<R: Read, W: Write> Driver<R, W> {
+    /// A driver over these links. It takes no memory.
+    pub fn new(left: Link<R, W>, right: Link<R, W>) -> Driver<R, W>
+        ensures left { link_at result Left ≡ left }
+        ensures right { link_at result Right ≡ right }
+    {
+        Driver { left, right }
+    }
+
+    /// The links, left first.
+    pub fn into_parts(self) -> (Link<R, W>, Link<R, W>)
+        ensures { result ≡ (link_at self Left, link_at self Right) }
+    {
+        (self.left, self.right)
+    }
+
+    /// Runs a session to its end: the coordinator starts it, its requests go to their sides, and
+    /// the replies come back to it. The left side is read first where both have to answer. Where
+    /// the start is refused 8, a checkpoint makes room in the archive, once.
+    ///
+    /// Where a link closes, or the coordinator waits for nothing, the session is given up: it ends
+    /// 25, and what that would send again is dropped. The coordinator has the report.
+    ///
+    /// Refused as `start` is, or as the checkpoint is; then no session ran. Refused 9 also where
+    /// the coordinator's machine was stopped, and 25 where the session could not be ended.
+    pub fn run<D: Limit>(
+        &mut self,
+        alloc: Global,
+        coordinator: &mut Coordinator<D>,
+    ) -> Result<(), Refusal>
+        ensures drives { (pair : ℕ) (machine : CoordinatorMachine)
+            → Stands coordinator.old pair machine
+            → (heard : Lines) × Drives coordinator.new pair machine
+            (lines_of R.remaining self.old) heard
+            (outlets_of W.contents self.old) (outlets_of W.contents self.new) }
+        ensures ended { OnOk result (runs coordinator.new ≡ false) }
+        ensures goes { OnOk result (is_stopped (D.Disk.arms (device_of coordinator.new))
+            ≡ false) }
+    {
+        let sends = match start(alloc, coordinator) {
+            Ok(sends) => sends,
+            Err(why) => return Err(why),
+        };
+        if coordinator.is_cut() {
+            return Err(Refusal::Device);
+        }
+        let outstanding = self.send_all(alloc, &sends, Outstanding::none());
+        self.go_on(alloc, coordinator, outstanding);
+        give_up(alloc, coordinator)
+    }
+
+    /// Goes on with the session until it ends, a link closes, or no side has to answer.
+    fn go_on<D: Limit>(
+        &mut self,
+        alloc: Global,
+        coordinator: &mut Coordinator<D>,
+        outstanding: Outstanding,
+    )
+        ensures { (pair : ℕ) (machine : CoordinatorMachine)
+            → Stands coordinator.old pair machine
+            → (heard : Lines) × Drives coordinator.new pair machine
+            (lines_of R.remaining self.old) heard
+            (outlets_of W.contents self.old) (outlets_of W.contents self.new) }
+    {
+        let mut outstanding = outstanding;
+        for _ in 0..u64::MAX {
+            if coordinator.is_cut() {
+                return;
+            }
+            if !coordinator.is_running() {
+                return;
+            }
+            let Some(from) = self.next_side(outstanding) else {
+                return;
+            };
+            let Some(answered) = self.receive(alloc, from) else {
+                return;
+            };
+            outstanding = outstanding.without_answered(from, &answered);
+            let sends = hear(alloc, coordinator, from, answered);
+            if coordinator.is_cut() {
+                return;
+            }
+            outstanding = self.send_all(alloc, &sends, outstanding);
+        }
+    }
+
+    /// The side that is read next; none where a link is closed or no side has to answer.
+    fn next_side(&self, outstanding: Outstanding) -> Option<Side> {
+        if self.left.is_open() && self.right.is_open() {
+            return outstanding.first();
+        }
+        None
+    }
+
+    /// The next reply of the side; none where its link is closed, or comes to be.
+    fn receive(&mut self, alloc: Global, from: Side) -> Option<Answered>
+        ensures heard { IfSome result (λ answered. (side : Which)
+            → HearsAll (lines_of R.remaining self.old side)
+            (answer_in side (Takes (which_of from) (answering_of answered)))
+            (lines_of R.remaining self.new side)) }
+        ensures lawful { IfSome result (λ answered. IsLawfulAnswering (answering_of answered)) }
+        ensures written { (side : Which) → Writes (outlets_of W.contents self.old side)
+            (outlets_of W.contents self.new side) []
+            (outlets_of W.contents self.new side).goes }
+    {
+        match from {
+            Side::Left => self.left.receive(alloc),
+            Side::Right => self.right.receive(alloc),
+        }
+    }
+
+    /// Sends each request to its side, in their order, and answers which sides have to answer then.
+    fn send_all(
+        &mut self,
+        alloc: Global,
+        sends: &[Sending],
+        outstanding: Outstanding,
+    ) -> Outstanding
+        ensures written { (side : Which) → Writes (outlets_of W.contents self.old side)
+            (outlets_of W.contents self.new side) (frames_to side (messages_of sends.now))
+            (outlets_of W.contents self.new side).goes }
+        ensures lines { (side : Which) → lines_of R.remaining self.new side
+            ≡ lines_of R.remaining self.old side }
+    {
+        let mut outstanding = outstanding;
+        for sending in sends {
+            self.send(alloc, sending);
+            outstanding = outstanding.with_asked(sending);
+        }
+        outstanding
+    }
+
+    /// Sends the request to its side.
+    fn send(&mut self, alloc: Global, sending: &Sending)
+        ensures written { (side : Which) → Writes (outlets_of W.contents self.old side)
+            (outlets_of W.contents self.new side)
+            (frame_to side (message_of sending.now))
+            (outlets_of W.contents self.new side).goes }
+        ensures lines { (side : Which) → lines_of R.remaining self.new side
+            ≡ lines_of R.remaining self.old side }
+    {
+        match sending.to {
+            Side::Left => self.left.send(alloc, &sending.asked),
+            Side::Right => self.right.send(alloc, &sending.asked),
+        }
+    }
+}
+
+/// The coordinator takes the reply of the side, and answers what is to be sent.
+fn hear<D: Limit>(
+    alloc: Global,
+    coordinator: &mut Coordinator<D>,
+    from: Side,
+    answered: Answered,
+) -> Vec<Sending>
+    requires { IsLawfulAnswering (answering_of answered) }
+    ensures { (pair : ℕ) (machine : CoordinatorMachine) → Stands coordinator.old pair machine
+        → Does coordinator.old coordinator.new pair
+        (step_of pair machine (Takes (which_of from) (answering_of answered)))
+        (written coordinator.new) (messages_of result.items) }
+{
+    let Answered {
+        session,
+        number,
+        reply,
+    } = answered;
+    coordinator.on_reply(alloc, from, session, number, reply)
+}
+
+/// Starts a session, and answers what is to be sent. Refused as `run` is.
+fn start<D: Limit>(alloc: Global, coordinator: &mut Coordinator<D>) -> Result<Vec<Sending>, Refusal>
+    ensures { (pair : ℕ) (machine : CoordinatorMachine) → Stands coordinator.old pair machine
+        → MatchResult result
+        (λ sends. Calls coordinator.new pair machine (messages_of sends.items))
+        (λ _. Calls coordinator.new pair machine []) }
+{
+    match coordinator.start(alloc) {
+        Ok(sends) => Ok(sends),
+        Err(SessionError::JournalFull) => start_behind(alloc, coordinator),
+        Err(error) => Err(error.refusal()),
+    }
+}
+
+/// Starts a session behind a checkpoint, which makes room for its number.
+fn start_behind<D: Limit>(
+    alloc: Global,
+    coordinator: &mut Coordinator<D>,
+) -> Result<Vec<Sending>, Refusal>
+    ensures { (pair : ℕ) (machine : CoordinatorMachine) → Stands coordinator.old pair machine
+        → MatchResult result
+        (λ sends. Calls coordinator.new pair machine (messages_of sends.items))
+        (λ _. Calls coordinator.new pair machine []) }
+{
+    if let Err(error) = coordinator.checkpoint(alloc) {
+        return Err(error.refusal());
+    }
+    if coordinator.is_cut() {
+        return Err(Refusal::Device);
+    }
+    match coordinator.start(alloc) {
+        Ok(sends) => Ok(sends),
+        Err(error) => Err(error.refusal()),
+    }
+}
+
+/// Lets time go by until the session that runs, if one does, ends for want of an answer. What is to
+/// be sent again is dropped.
+///
+/// Refused 9 where the machine is stopped, and 25 where the session still runs.
+fn give_up<D: Limit>(alloc: Global, coordinator: &mut Coordinator<D>) -> Result<(), Refusal>
+    ensures calls { (pair : ℕ) (machine : CoordinatorMachine)
+        → Stands coordinator.old pair machine → Calls coordinator.new pair machine [] }
+    ensures stopped { is_stopped (D.Disk.arms (device_of coordinator.old)) ≡ true
+        → coordinator.new ≡ coordinator.old }
+    ensures ended { OnOk result (runs coordinator.new ≡ false) }
+    ensures goes { OnOk result (is_stopped (D.Disk.arms (device_of coordinator.new)) ≡ false) }
+{
+    if coordinator.is_cut() {
+        return Err(Refusal::Device);
+    }
+    for _ in 0..MOST_TICKS {
+        tick(alloc, coordinator);
+    }
+    if coordinator.is_cut() {
+        return Err(Refusal::Device);
+    }
+    if coordinator.is_running() {
+        return Err(Refusal::NoAnswer);
+    }
+    Ok(())
+}
+
+/// Lets time go by where a session runs. It makes no device call.
+fn tick<D: Limit>(alloc: Global, coordinator: &mut Coordinator<D>)
+    ensures calls { (pair : ℕ) (machine : CoordinatorMachine)
+        → Stands coordinator.old pair machine → Calls coordinator.new pair machine [] }
+    ensures archive { archive_of coordinator.new ≡ archive_of coordinator.old }
+{
+    if coordinator.is_running() {
+        let _ = coordinator.on_tick(alloc);
+    }
+}

@@ -1,0 +1,76 @@
+//! Which requests have a body.
+ghost use Rattle.std.specs.Prelude.{◌≡◌, ◌<◌, ◌^◌, true};
+ghost use Rattle.syn_headline.specs.Side.{IsLawfulBody, IsPieceBytes};
+ghost use Rattle.syn_message.specs.Requests.{IsLawfulAsking, asking_of, request_of};
+ghost use Rattle.syn_model.specs.Path.{IsPath};
+
+use syn_message::{Asked, MAX_PIECE, Request};
+use syn_path::Path;
+
+/// Whether the request can be sent: sessions count from 1, and a piece has 1 to `MAX_PIECE`
+/// bytes. A coordinator sends no other.
+pub(crate) fn has_body(asked: &Asked) -> bool
+    ensures { result ≡ true → IsLawfulAsking (asking_of asked.now) }
+{
+    is_long(asked.session)
+        && asked.session > 0
+        && is_short(asked.number)
+        && is_lawful(&asked.request)
+}
+
+/// Whether the fields of the request are within their limits.
+fn is_lawful(request: &Request) -> bool
+    ensures { result ≡ true → IsLawfulBody (request_of request.now) }
+{
+    match request {
+        Request::Begin { pair } => is_long(*pair),
+        Request::List { path } => is_path(path),
+        Request::Fetch {
+            path,
+            since,
+            offset,
+        } => is_path(path) && is_long(*since) && is_short(*offset),
+        Request::Stage {
+            item,
+            offset,
+            bytes,
+        } => is_short(*item) && is_short(*offset) && is_piece(bytes),
+        Request::Replace {
+            item,
+            path,
+            since,
+            length,
+        } => is_short(*item) && is_path(path) && is_long(*since) && is_short(*length),
+    }
+}
+
+/// Each path is lawful.
+fn is_path(path: &Path) -> bool
+    ensures { result ≡ true → IsPath path.now }
+{
+    let _ = path.names();
+    true
+}
+
+/// Eight bytes spell it.
+fn is_long(number: u64) -> bool
+    ensures { result ≡ true → number < 2 ^ 64 }
+{
+    let _ = number;
+    true
+}
+
+/// Four bytes spell it.
+fn is_short(number: u32) -> bool
+    ensures { result ≡ true → number < 2 ^ 32 }
+{
+    let _ = number;
+    true
+}
+
+/// Whether so many bytes are staged at a time.
+fn is_piece(bytes: &[u8]) -> bool
+    ensures { result ≡ true → IsPieceBytes bytes.now }
+{
+    !bytes.is_empty() && bytes.len() <= MAX_PIECE
+}

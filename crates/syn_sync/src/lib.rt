@@ -1,0 +1,14 @@
+//! A session between two replicas over two connections.
+//!
+//! A `Driver` runs a session of a coordinator: it sends each request as a frame to its side, reads
+//! the side's replies out of frames, and hands each to the coordinator. The readers and the writers
+//! may be any.
+#![tactic(auto)]
+
+mod asked;
+mod driver;
+mod lawful;
+mod link;
+
+pub use driver::Driver;
+pub use link::Link;

@@ -1,0 +1,114 @@
+//! A connection to a side.
+ghost use Rattle.std.specs.Prelude.{◌≡◌, [], true, false, IfNone, IfSome};
+ghost use Rattle.syn_link.specs.Frames.{frame_of};
+ghost use Rattle.syn_message.specs.Replies.{answering_of};
+ghost use Rattle.syn_message.specs.Requests.{asking_of, asking_spelling};
+ghost use Rattle.syn_sync.specs.Lines.{Hears, held_by, is_open, line_of, reader_of, writer_of};
+ghost use Rattle.syn_sync.specs.Outlets.{Adds, Writes, outlet_of};
+
+use crate::lawful::has_body;
+use std::alloc::Global;
+use std::io::{Read, Write};
+use syn_link::{Framer, read_body, write_frame};
+use syn_message::{Answered, Asked, decode_reply, encode_request};
+
+/// A connection to a side: what its replies are read from, what requests are written to, and what
+/// came and was not handed out yet.
+#[derive(Drop)]
+pub struct Link<R, W> {
+    reader: R,
+    writer: W,
+    framer: Framer,
+    open: bool,
+}
+
+impl<R: Read, W: Write> Link<R, W> {
+    /// A connection on which nothing came yet. It takes no memory.
+    pub fn new(alloc: Global, reader: R, writer: W) -> Link<R, W>
+        ensures reader { reader_of result ≡ reader }
+        ensures writer { writer_of result ≡ writer }
+        ensures held { held_by result ≡ [] }
+        ensures open { is_open result ≡ true }
+    {
+        Link {
+            reader,
+            writer,
+            framer: Framer::new(alloc),
+            open: true,
+        }
+    }
+
+    /// The reader and the writer. What came and was not handed out is lost.
+    pub fn into_parts(self) -> (R, W)
+        ensures { result ≡ (reader_of self, writer_of self) }
+    {
+        (self.reader, self.writer)
+    }
+
+    /// Whether the connection goes on. It is closed by its end, by a read or a write that fails, by
+    /// a bad frame, by a body that is no reply, and for want of memory.
+    pub fn is_open(&self) -> bool
+        ensures { result ≡ is_open self.now }
+    {
+        self.open
+    }
+
+    /// Writes the request as a frame, and flushes. Where that fails, or memory is refused, the
+    /// connection is closed. On a closed one nothing is written.
+    pub fn send(&mut self, alloc: Global, asked: &Asked)
+        ensures written { Writes (outlet_of W.contents self.old) (outlet_of W.contents self.new)
+            (frame_of (asking_spelling (asking_of asked.now))) (is_open self.new) }
+        ensures line { line_of R.remaining self.new ≡ line_of R.remaining self.old }
+    {
+        if self.open {
+            self.open = self.write(alloc, asked);
+        }
+    }
+
+    /// Writes the request as a frame, and answers whether it is written whole.
+    fn write(&mut self, alloc: Global, asked: &Asked) -> bool
+        ensures written { Adds result (W.contents (writer_of self.old))
+            (W.contents (writer_of self.new)) (frame_of (asking_spelling (asking_of asked.now))) }
+        ensures line { line_of R.remaining self.new ≡ line_of R.remaining self.old }
+    {
+        if !has_body(asked) {
+            return false;
+        }
+        match encode_request(alloc, asked) {
+            Ok(body) => write_frame(&mut self.writer, &body).is_ok(),
+            Err(_) => false,
+        }
+    }
+
+    /// The next reply; none where the connection is closed, or comes to be.
+    pub fn receive(&mut self, alloc: Global) -> Option<Answered>
+        ensures heard { IfSome result (λ answered. Hears (line_of R.remaining self.old)
+            (line_of R.remaining self.new) (answering_of answered)) }
+        ensures closed { IfNone result (is_open self.new ≡ false) }
+        ensures written { Writes (outlet_of W.contents self.old) (outlet_of W.contents self.new) []
+            (is_open self.new) }
+    {
+        if !self.open {
+            return None;
+        }
+        let answered = self.read(alloc);
+        self.open = answered.is_some();
+        answered
+    }
+
+    /// The reply in the next frame; none where no frame comes, or its body is no reply.
+    fn read(&mut self, alloc: Global) -> Option<Answered>
+        ensures heard { IfSome result (λ answered. Hears (line_of R.remaining self.old)
+            (line_of R.remaining self.new) (answering_of answered)) }
+        ensures written { writer_of self.new ≡ writer_of self.old }
+    {
+        match read_body(alloc, &mut self.reader, &mut self.framer) {
+            Ok(Some(body)) => match decode_reply(alloc, &body) {
+                Ok(read) => read,
+                Err(_) => None,
+            },
+            Ok(None) => None,
+            Err(_) => None,
+        }
+    }
+}
