@@ -2,11 +2,11 @@
 use Rattle.std.proofs.Common.{◌≡◌, ℕ, Bool, true, false, List, [], ◌∷◌, ◌++◌, refl, sym, ap, subst}
 use Rattle.std.proofs.Common.{◌∙◌, ◌⊎◌, ◌≢◌, inl, inr, append-nil}
 use Rattle.std.proofs.lemmas.Grind.{flat_map-append}
-use Rattle.std.specs.Prelude.{◌&&◌, not, flat_map}
+use Rattle.std.specs.Prelude.{◌&&◌, not}
 use Rattle.syn_disk.specs.Arms.{is_stopped}
 use Rattle.syn_disk.specs.declared.disk.Disk.{Ghosts}
 use Rattle.syn_headline.specs.Coordinator.{Call, CoordinatorMachine}
-use Rattle.syn_headline.specs.Network.{Left, Message, Right, Which}
+use Rattle.syn_headline.specs.Network.{Message, Which}
 use Rattle.syn_message.specs.Replies.{Answering}
 use Rattle.syn_model.specs.Archive.{Kept}
 use Rattle.syn_session.specs.Coordinators.{Does, Stands, device_of, goes_down, goes_on}

@@ -1,4 +1,4 @@
-use Rattle.std.proofs.Common.{[], ap, refl}
+use Rattle.std.proofs.Common.{ap, refl}
 use Rattle.syn_session.specs.Sendings.{messages_of}
 use Rattle.syn_session.specs.declared.error.SessionError.TheVariants as session
 use Rattle.syn_sync.proofs.RunLemmas.{calls_once, calls_refused}

@@ -1,4 +1,4 @@
-use Rattle.std.proofs.Common.{◌∙◌, [], ap, append-nil, refl, sym}
+use Rattle.std.proofs.Common.{◌∙◌, [], ap, refl, sym}
 use Rattle.syn_archive.specs.declared.error.ArchiveError.TheVariants as archive
 use Rattle.syn_session.specs.Sendings.{messages_of}
 use Rattle.syn_session.specs.declared.error.SessionError.TheVariants as session

@@ -1,5 +1,4 @@
-use Rattle.std.proofs.Common.{◌∙◌, [], ap, subst, sym}
-use Rattle.syn_headline.specs.Network.{Which}
+use Rattle.std.proofs.Common.{◌∙◌, subst, sym}
 use Rattle.syn_message.specs.Replies.{answering_of}
 use Rattle.syn_message.specs.Sides.{which_of}
 use Rattle.syn_session.specs.Coordinators.{written}
