@@ -17,9 +17,10 @@ use Rattle.syn_sync.specs.Drivers.{Lines, Outlets}
 use Rattle.syn_sync.specs.Lines.{HearsAll, Line}
 use Rattle.syn_link.specs.Frames.{Bytes}
 use Rattle.syn_sync.specs.Outlets.{Outlet, Writes}
-use Rattle.syn_sync.specs.Runs.{Act, Acts, Done, Down, Drives, Leads, Takes, answer_in, answers_in}
+use Rattle.syn_sync.specs.Runs.{Act, Acts, Begins, Compacts, Done, Down, Drives, Leads, Starts}
+use Rattle.syn_sync.specs.Runs.{Takes, answer_in, answers_in, at_once, with_room}
 use Rattle.syn_sync.specs.Runs.{frame_to, frames_in, frames_of, frames_to, step_of}
-use Rattle.syn_sync.specs.inner.Calling.{Calls}
+use Rattle.syn_sync.specs.inner.Calling.{Calls, Starting}
 
 leads_twice : (pair : ℕ) (a b c : CoordinatorMachine) (first second : Acts)
     → Leads pair a first b → Leads pair b second c → Leads pair a (first ++ second) c
@@ -49,6 +50,10 @@ messages_twice side first second = flat_map-append (frame_to side) first second
 false_is : (b : Bool) → b ≡ true → b ≡ false → ⊥
 false_is true is not_is = cc
 false_is false is not_is = cc
+
+begins_more : (first second : Acts) → Begins first → Begins (first ++ second)
+begins_more first second (at_once call behind) = at_once call (behind ++ second)
+begins_more first second (with_room one two behind) = with_room one two (behind ++ second)
 
 module _ {D : Type 0} {disk : Ghosts D} where
   -- its machine was stopped
@@ -312,24 +317,94 @@ module _ {D : Type 0} {disk : Ghosts D} where
       (inr (record { stopped = cut; down = down; leaves = leaves; tries = tries })) hears reads
       stopped
 
-  given_up_at : (stopped : Bool) (middle new : Coordinator D disk) (pair : ℕ)
-      (machine : CoordinatorMachine) (lines heard : Lines) (from to : Outlets)
-      → Drives middle pair machine lines heard from to → (stops middle ≡ true → new ≡ middle)
-      → ((now : CoordinatorMachine) → Stands middle pair now → Calls new pair now [])
-      → stops middle ≡ stopped → Drives new pair machine lines heard from to
-  given_up_at true middle new pair machine lines heard from to drives same calls is =
-      subst (λ m. Drives m pair machine lines heard from to) (sym (same is)) drives
-  given_up_at false middle new pair machine lines heard from to drives same calls is =
-      drives_twice middle new pair machine lines heard heard from to to drives is
-      (drives_silent new pair drives.reached heard to
-      (calls drives.reached (stands_of middle pair drives.reached drives.ends is)))
+  -- one call, with its step
+  pub calls_one : (old new : Coordinator D disk) (pair : ℕ) (machine : CoordinatorMachine)
+      (act : Act) (kept : List Kept) (messages : List Message)
+      → Does old new pair (step_of pair machine act) kept messages
+      → ((side : Which) → answer_in side act ≡ [])
+      → ((call : Call) (side : Which) → call.messages ≡ messages
+      → frames_of side (record { act = act; call = call }) ≡ frames_to side messages)
+      → (calls : Calls new pair machine messages) × (call : Call)
+      × (calls.acts ≡ record { act = act; call = call } ∷ [])
+      × step_of pair machine act calls.reached call
+  unfolding calls_once
+  calls_one old new pair machine act kept messages
+      (goes_on reached call step stands is_kept is_sent is_reported) silent frames = (
+        calls_once old new pair machine act kept messages messages
+            (goes_on reached call step stands is_kept is_sent is_reported) silent frames,
+        call,
+        refl,
+        step,
+      )
+  calls_one old new pair machine act kept messages
+      (goes_down reached call step stopped down leaves is_kept tries) silent frames = (
+        calls_once old new pair machine act kept messages messages
+            (goes_down reached call step stopped down leaves is_kept tries) silent frames,
+        call,
+        refl,
+        step,
+      )
 
-  -- then the session is given up, where its machine goes on
-  pub drives_given_up : (middle new : Coordinator D disk) (pair : ℕ)
+  -- a start begins a session
+  pub starts_once : (old new : Coordinator D disk) (pair : ℕ) (machine : CoordinatorMachine)
+      (kept : List Kept) (messages : List Message)
+      → Does old new pair (step_of pair machine Starts) kept messages
+      → Starting new pair machine messages
+  starts_once old new pair machine kept messages does =
+      let one = calls_one old new pair machine Starts kept messages does (λ side. refl)
+      (λ call side is. ap (λ m. frames_to side m) is) in
+      (one.0, subst Begins (sym one.2) (at_once one.1 []))
+
+  -- so does one behind a checkpoint
+  pub starts_behind : (old middle new : Coordinator D disk) (pair : ℕ)
+      (machine : CoordinatorMachine) (messages : List Message)
+      (made : Calls middle pair machine []) (first : Call)
+      → made.acts ≡ record { act = Compacts; call = first } ∷ [] → stops middle ≡ false
+      → (kept : List Kept) → Does middle new pair (step_of pair made.reached Starts) kept messages
+      → Starting new pair machine messages
+  unfolding calls_twice
+  starts_behind old middle new pair machine messages made first is_made calm kept does =
+      let one = calls_one middle new pair made.reached Starts kept messages does (λ side. refl)
+      (λ call side is. ap (λ m. frames_to side m) is) in (
+        calls_twice middle new pair machine [] messages made calm one.0,
+        subst (λ a. Begins (a ++ one.0.acts)) (sym is_made)
+            (subst (λ b. Begins (record { act = Compacts; call = first } ∷ [] ++ b)) (sym one.2)
+            (with_room first one.1 [])),
+      )
+
+  ends_at : (stopped : Bool) (middle new : Coordinator D disk) (pair : ℕ)
       (machine : CoordinatorMachine) (lines heard : Lines) (from to : Outlets)
-      → Drives middle pair machine lines heard from to → (stops middle ≡ true → new ≡ middle)
+      (drives : Drives middle pair machine lines heard from to) → Begins drives.acts
+      → (stops middle ≡ true → new ≡ middle)
       → ((now : CoordinatorMachine) → Stands middle pair now → Calls new pair now [])
-      → Drives new pair machine lines heard from to
-  drives_given_up middle new pair machine lines heard from to drives same calls =
-      given_up_at (stops middle) middle new pair machine lines heard from to drives same calls
-      refl
+      → stops middle ≡ stopped
+      → (whole : Drives new pair machine lines heard from to) × Begins whole.acts
+  unfolding drives_twice
+  ends_at true middle new pair machine lines heard from to drives begins same calls is =
+      subst (λ m. (whole : Drives m pair machine lines heard from to) × Begins whole.acts)
+      (sym (same is)) (drives, begins)
+  ends_at false middle new pair machine lines heard from to drives begins same calls is =
+      let behind = drives_silent new pair drives.reached heard to
+      (calls drives.reached (stands_of middle pair drives.reached drives.ends is)) in (
+        drives_twice middle new pair machine lines heard heard from to to drives is behind,
+        begins_more drives.acts behind.acts begins,
+      )
+
+  -- A whole session: it begins, goes on, and is given up where its machine goes on
+  pub drives_whole : (began middle new : Coordinator D disk) (pair : ℕ)
+      (machine : CoordinatorMachine) (messages : List Message) (lines sent later : Lines)
+      (from via to : Outlets) (begun : Starting began pair machine messages)
+      → stops began ≡ false → ((side : Which) → sent side ≡ lines side)
+      → ((side : Which) → Writes (from side) (via side) (frames_to side messages)
+      (via side).goes) → Drives middle pair (begun.0).reached sent later via to
+      → (stops middle ≡ true → new ≡ middle)
+      → ((now : CoordinatorMachine) → Stands middle pair now → Calls new pair now [])
+      → (whole : Drives new pair machine lines later from to) × Begins whole.acts
+  unfolding drives_twice drives_calls
+  drives_whole began middle new pair machine messages lines sent later from via to begun calm
+      same writes went left calls =
+      let first = drives_calls began pair machine messages lines sent from via begun.0 calm same
+      writes in
+      ends_at (stops middle) middle new pair machine lines later from to
+      (drives_twice began middle pair machine lines sent later from via to first calm went)
+      (begins_more (begun.0).acts went.acts begun.1) left calls refl

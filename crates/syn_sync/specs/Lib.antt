@@ -2,4 +2,5 @@ pub mod Lines
 pub mod Outlets
 pub mod Drivers
 pub mod Runs
+pub mod Refusals
 pub mod inner

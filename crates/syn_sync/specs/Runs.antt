@@ -49,6 +49,14 @@ Leads pair old (done ∷ behind) new =
     (between : CoordinatorMachine) × step_of pair old done.act between done.call
     × Leads pair between behind new
 
+-- they begin with a start, or with a checkpoint and a start behind it
+pub data Begins : Acts → Type 0 where
+  at_once : (call : Call) (behind : Acts) →
+      Begins (record { act = Starts; call = call } ∷ behind)
+  with_room : (first second : Call) (behind : Acts) →
+      Begins (record { act = Compacts; call = first }
+      ∷ record { act = Starts; call = second } ∷ behind)
+
 -- the replies of a side that the coordinator was given
 abbrev pub answer_in : Which → Act → List Answering
 answer_in side (Takes from answering) = if is_side side from then answering ∷ [] else []

@@ -1,18 +1,22 @@
 //! A session over two links.
-ghost use Rattle.std.specs.Prelude.{◌≡◌, [], ℕ, true, false, IfSome, MatchResult, OnOk};
+ghost use Rattle.std.specs.Prelude.{◌≡◌, [], ℕ, true, false, IfErr, IfSome, MatchResult, OnOk};
+ghost use Rattle.std.specs.Prelude.{Some};
 ghost use Rattle.syn_disk.specs.Arms.{is_stopped};
 ghost use Rattle.syn_headline.specs.Coordinator.{CoordinatorMachine};
 ghost use Rattle.syn_headline.specs.Network.{Left, Right, Which};
 ghost use Rattle.syn_message.specs.Replies.{IsLawfulAnswering, answering_of};
 ghost use Rattle.syn_message.specs.Sides.{which_of};
+ghost use Rattle.syn_model.specs.Refusal.{JournalFull, first_cause};
+ghost use Rattle.syn_refusal.specs.Refusals.{cause_of};
 ghost use Rattle.syn_session.specs.Coordinators.{Does, Stands, archive_of, device_of, runs};
-ghost use Rattle.syn_session.specs.Coordinators.{written};
+ghost use Rattle.syn_session.specs.Coordinators.{all_causes, written};
 ghost use Rattle.syn_session.specs.Sendings.{message_of, messages_of};
 ghost use Rattle.syn_sync.specs.Drivers.{Lines, lines_of, link_at, outlets_of};
 ghost use Rattle.syn_sync.specs.Lines.{HearsAll};
 ghost use Rattle.syn_sync.specs.Outlets.{Writes};
-ghost use Rattle.syn_sync.specs.Runs.{Drives, Takes, answer_in, frame_to, frames_to, step_of};
-ghost use Rattle.syn_sync.specs.inner.Calling.{Calls};
+ghost use Rattle.syn_sync.specs.Refusals.{Refuses};
+ghost use Rattle.syn_sync.specs.Runs.{Begins, Drives, Takes, answer_in, frame_to, frames_to, step_of};
+ghost use Rattle.syn_sync.specs.inner.Calling.{Calls, IsUnended, Starting};
 
 use crate::asked::Outstanding;
 use crate::link::Link;
@@ -66,9 +70,14 @@ impl<R: Read, W: Write> Driver<R, W> {
     ) -> Result<(), Refusal>
         ensures drives { (pair : ℕ) (machine : CoordinatorMachine)
             → Stands coordinator.old pair machine
-            → (heard : Lines) × Drives coordinator.new pair machine
+            → (heard : Lines) × (drives : Drives coordinator.new pair machine
             (lines_of R.remaining self.old) heard
-            (outlets_of W.contents self.old) (outlets_of W.contents self.new) }
+            (outlets_of W.contents self.old) (outlets_of W.contents self.new))
+            × OnOk result (Begins drives.acts) }
+        ensures refused { (pair : ℕ) (machine : CoordinatorMachine)
+            → Stands coordinator.old pair machine
+            → IfErr result (λ why. Refuses coordinator.old coordinator.new pair machine
+            (cause_of why)) }
         ensures ended { OnOk result (runs coordinator.new ≡ false) }
         ensures goes { OnOk result (is_stopped (D.Disk.arms (device_of coordinator.new))
             ≡ false) }
@@ -208,8 +217,9 @@ fn hear<D: Limit>(
 fn start<D: Limit>(alloc: Global, coordinator: &mut Coordinator<D>) -> Result<Vec<Sending>, Refusal>
     ensures { (pair : ℕ) (machine : CoordinatorMachine) → Stands coordinator.old pair machine
         → MatchResult result
-        (λ sends. Calls coordinator.new pair machine (messages_of sends.items))
-        (λ _. Calls coordinator.new pair machine []) }
+        (λ sends. Starting coordinator.new pair machine (messages_of sends.items))
+        (λ why. Calls coordinator.new pair machine []
+        × Refuses coordinator.old coordinator.new pair machine (cause_of why)) }
 {
     match coordinator.start(alloc) {
         Ok(sends) => Ok(sends),
@@ -218,15 +228,17 @@ fn start<D: Limit>(alloc: Global, coordinator: &mut Coordinator<D>) -> Result<Ve
     }
 }
 
-/// Starts a session behind a checkpoint, which makes room for its number.
+/// Starts a session behind a checkpoint, which makes room for its number. It was refused 8 before.
 fn start_behind<D: Limit>(
     alloc: Global,
     coordinator: &mut Coordinator<D>,
 ) -> Result<Vec<Sending>, Refusal>
     ensures { (pair : ℕ) (machine : CoordinatorMachine) → Stands coordinator.old pair machine
+        → first_cause (all_causes pair machine) ≡ Some JournalFull
         → MatchResult result
-        (λ sends. Calls coordinator.new pair machine (messages_of sends.items))
-        (λ _. Calls coordinator.new pair machine []) }
+        (λ sends. Starting coordinator.new pair machine (messages_of sends.items))
+        (λ why. Calls coordinator.new pair machine []
+        × Refuses coordinator.old coordinator.new pair machine (cause_of why)) }
 {
     if let Err(error) = coordinator.checkpoint(alloc) {
         return Err(error.refusal());
@@ -249,6 +261,7 @@ fn give_up<D: Limit>(alloc: Global, coordinator: &mut Coordinator<D>) -> Result<
         → Stands coordinator.old pair machine → Calls coordinator.new pair machine [] }
     ensures stopped { is_stopped (D.Disk.arms (device_of coordinator.old)) ≡ true
         → coordinator.new ≡ coordinator.old }
+    ensures refused { IfErr result (λ why. IsUnended coordinator.new why) }
     ensures ended { OnOk result (runs coordinator.new ≡ false) }
     ensures goes { OnOk result (is_stopped (D.Disk.arms (device_of coordinator.new)) ≡ false) }
 {

@@ -1,22 +1,40 @@
-use Rattle.std.proofs.Common.{ap, refl}
+use Rattle.std.proofs.Common.{[], ap, refl, subst, sym}
 use Rattle.syn_session.specs.Sendings.{messages_of}
 use Rattle.syn_session.specs.declared.error.SessionError.TheVariants as session
-use Rattle.syn_sync.proofs.RunLemmas.{calls_once, calls_refused}
-use Rattle.syn_sync.proofs.StartLemmas.{is_start_device}
+use Rattle.syn_sync.proofs.RunLemmas.{calls_refused, starts_once}
+use Rattle.syn_sync.proofs.StartLemmas.{is_start_device, restarted, start_refused}
 use Rattle.syn_sync.proofs.driver.start.Goals as goal
+use Rattle.syn_sync.specs.Refusals.{Refuses}
 use Rattle.syn_sync.specs.Runs.{Starts, frames_to}
+use Rattle.syn_sync.specs.inner.Calling.{Calls, Starting}
 
 pub returns-in-Ok : goal.returns-in-Ok
 returns-in-Ok g c = λ pair machine stands.
-    let sends = messages_of c.in-Ok.sends.items in
-    calls_once c.args.coordinator.now c.start.new.self pair machine Starts _ sends sends
-    (c.in-Ok.ensures.step pair machine stands) (λ side. refl)
-    (λ call side is. ap (frames_to side) is)
+    starts_once c.args.coordinator.now c.start.new.self pair machine _
+    (messages_of c.in-Ok.sends.items) (c.in-Ok.ensures.step pair machine stands)
 
 pub returns-in-Err : goal.returns-in-Err
-returns-in-Err g c = λ pair machine stands.
-    calls_refused c.args.coordinator.now c.start.new.self pair machine Starts session.Device
-    c.in-Err.error (is_start_device c.in-Err.error)
-    (c.in-Err.ensures.step pair machine stands)
-    (λ other. (c.in-Err.ensures.refused pair machine stands other).1) (λ side. refl)
-    (λ call side is. ap (frames_to side) is)
+returns-in-Err g c = λ pair machine stands. (
+  calls_refused c.args.coordinator.now c.start.new.self pair machine Starts session.Device
+      c.in-Err.error (is_start_device c.in-Err.error)
+      (c.in-Err.ensures.step pair machine stands)
+      (λ other. (c.in-Err.ensures.refused pair machine stands other).1) (λ side. refl)
+      (λ call side is. ap (frames_to side) is),
+  subst (Refuses c.args.coordinator.now c.start.new.self pair machine)
+      (sym c.refusal.ensures)
+      (start_refused c.args.coordinator.now c.start.new.self pair machine c.in-Err.error
+      c.in-Err.ensures.failures
+      (λ other. (c.in-Err.ensures.refused pair machine stands other).0)),
+)
+
+pub returns-in-Err-JournalFull : goal.returns-in-Err-JournalFull
+returns-in-Err-JournalFull g c = λ pair machine stands.
+    let is = c.in-Err-JournalFull.field-0-is in
+    let told = rw is at c.in-Err-JournalFull.ensures.refused in
+    let same = rw is at c.in-Err-JournalFull.ensures.failures in
+    let full = told pair machine stands (λ device. cc) in
+    restarted c.start_behind.result
+    (λ sends. Starting c.start_behind.new.coordinator pair machine (messages_of sends.items))
+    (Calls c.start_behind.new.coordinator pair machine []) c.args.coordinator.now
+    c.start.new.self c.start_behind.new.coordinator pair machine same
+    (c.start_behind.ensures pair machine full.1 full.0)

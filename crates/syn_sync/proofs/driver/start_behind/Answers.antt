@@ -1,49 +1,66 @@
-use Rattle.std.proofs.Common.{◌∙◌, [], ap, refl, sym}
+use Rattle.std.proofs.Common.{◌∙◌, [], ap, refl, subst, sym}
 use Rattle.syn_archive.specs.declared.error.ArchiveError.TheVariants as archive
 use Rattle.syn_session.specs.Sendings.{messages_of}
 use Rattle.syn_session.specs.declared.error.SessionError.TheVariants as session
-use Rattle.syn_sync.proofs.RunLemmas.{calls_once, calls_refused, calls_twice, stands_of}
-use Rattle.syn_sync.proofs.StartLemmas.{is_archive_device, is_start_device}
+use Rattle.syn_sync.proofs.RunLemmas.{calls_one, calls_refused, calls_twice, stands_of}
+use Rattle.syn_sync.proofs.RunLemmas.{starts_behind}
+use Rattle.syn_sync.proofs.StartLemmas.{behind_refused, checkpoint_refused, is_archive_device}
+use Rattle.syn_sync.proofs.StartLemmas.{is_start_device}
 use Rattle.syn_sync.proofs.driver.start_behind.Goals as goal
+use Rattle.syn_sync.specs.Refusals.{Refuses, stopped}
 use Rattle.syn_sync.specs.Runs.{Compacts, Starts, frames_to}
 
 pub returns-in-Err : goal.returns-in-Err
-returns-in-Err g c = λ pair machine stands.
-    calls_refused c.args.coordinator.now c.checkpoint.new.self pair machine Compacts
-    archive.Device c.in-Err.error (is_archive_device c.in-Err.error)
-    (c.in-Err.ensures.step pair machine stands)
-    (λ other. (c.in-Err.ensures.refused pair machine stands other).1) (λ side. refl)
-    (λ call side is. ap (frames_to side) is)
+returns-in-Err g c = λ pair machine stands full. (
+  calls_refused c.args.coordinator.now c.checkpoint.new.self pair machine Compacts
+      archive.Device c.in-Err.error (is_archive_device c.in-Err.error)
+      (c.in-Err.ensures.step pair machine stands)
+      (λ other. (c.in-Err.ensures.refused pair machine stands other).1) (λ side. refl)
+      (λ call side is. ap (frames_to side) is),
+  subst (Refuses c.args.coordinator.now c.checkpoint.new.self pair machine)
+      (sym c.refusal.ensures)
+      (checkpoint_refused c.args.coordinator.now c.checkpoint.new.self pair machine
+      c.in-Err.error full c.in-Err.ensures.failures
+      (λ other. (c.in-Err.ensures.refused pair machine stands other).0)),
+)
 
 pub returns-then-is_cut : goal.returns-then-is_cut
-returns-then-is_cut g c = λ pair machine stands.
-    calls_once c.args.coordinator.now c.checkpoint.new.self pair machine Compacts [] [] []
-    (c.in_default.ensures.step pair machine stands) (λ side. refl)
-    (λ call side is. ap (frames_to side) is)
+returns-then-is_cut g c = λ pair machine stands full.
+    let made = calls_one c.args.coordinator.now c.checkpoint.new.self pair machine Compacts []
+    [] (c.in_default.ensures.step pair machine stands) (λ side. refl)
+    (λ call side is. ap (frames_to side) is) in
+    (made.0, stopped (sym c.is_cut.ensures ∙ c.if-is_cut.true))
 
 pub returns-in-Ok : goal.returns-in-Ok
-returns-in-Ok g c = λ pair machine stands.
+returns-in-Ok g c = λ pair machine stands full.
     let calm = sym c.is_cut.ensures ∙ c.if-is_cut.false in
-    let first = calls_once c.args.coordinator.now c.checkpoint.new.self pair machine Compacts []
-    [] [] (c.in_default.ensures.step pair machine stands) (λ side. refl)
+    let made = calls_one c.args.coordinator.now c.checkpoint.new.self pair machine Compacts []
+    [] (c.in_default.ensures.step pair machine stands) (λ side. refl)
     (λ call side is. ap (frames_to side) is) in
-    let here = stands_of c.checkpoint.new.self pair first.reached first.ends calm in
-    let sends = messages_of c.in-Ok.sends.items in
-    calls_twice c.checkpoint.new.self c.start.new.self pair machine [] sends first calm
-    (calls_once c.checkpoint.new.self c.start.new.self pair first.reached Starts _ sends sends
-    (c.in-Ok.ensures.step pair first.reached here) (λ side. refl)
-    (λ call side is. ap (frames_to side) is))
+    let now = (made.0).reached in
+    let here = stands_of c.checkpoint.new.self pair now (made.0).ends calm in
+    starts_behind c.args.coordinator.now c.checkpoint.new.self c.start.new.self pair machine
+    (messages_of c.in-Ok.sends.items) made.0 made.1 made.2 calm _
+    (c.in-Ok.ensures.step pair now here)
 
 pub returns-in-Err-start : goal.returns-in-Err-start
-returns-in-Err-start g c = λ pair machine stands.
+returns-in-Err-start g c = λ pair machine stands full.
     let calm = sym c.is_cut.ensures ∙ c.if-is_cut.false in
-    let first = calls_once c.args.coordinator.now c.checkpoint.new.self pair machine Compacts []
-    [] [] (c.in_default.ensures.step pair machine stands) (λ side. refl)
+    let made = calls_one c.args.coordinator.now c.checkpoint.new.self pair machine Compacts []
+    [] (c.in_default.ensures.step pair machine stands) (λ side. refl)
     (λ call side is. ap (frames_to side) is) in
-    let here = stands_of c.checkpoint.new.self pair first.reached first.ends calm in
-    calls_twice c.checkpoint.new.self c.start.new.self pair machine [] [] first calm
-    (calls_refused c.checkpoint.new.self c.start.new.self pair first.reached Starts
-    session.Device c.in-Err-start.error (is_start_device c.in-Err-start.error)
-    (c.in-Err-start.ensures.step pair first.reached here)
-    (λ other. (c.in-Err-start.ensures.refused pair first.reached here other).1) (λ side. refl)
-    (λ call side is. ap (frames_to side) is))
+    let now = (made.0).reached in
+    let here = stands_of c.checkpoint.new.self pair now (made.0).ends calm in (
+      calls_twice c.checkpoint.new.self c.start.new.self pair machine [] [] made.0 calm
+          (calls_refused c.checkpoint.new.self c.start.new.self pair now Starts session.Device
+          c.in-Err-start.error (is_start_device c.in-Err-start.error)
+          (c.in-Err-start.ensures.step pair now here)
+          (λ other. (c.in-Err-start.ensures.refused pair now here other).1) (λ side. refl)
+          (λ call side is. ap (frames_to side) is)),
+      subst (Refuses c.args.coordinator.now c.start.new.self pair machine)
+          (sym c.refusal-in-Err-start.ensures)
+          (behind_refused c.args.coordinator.now c.checkpoint.new.self c.start.new.self pair
+          machine now made.1 c.in-Err-start.error full made.3 c.in_default.ensures.failures
+          c.in-Err-start.ensures.failures
+          (λ other. (c.in-Err-start.ensures.refused pair now here other).0)),
+    )

@@ -1,0 +1,27 @@
+-- Why no session runs, or none to its end.
+use Rattle.std.specs.Prelude.{◌≡◌, ◌<◌, ℕ, true, Some}
+use Rattle.syn_disk.specs.Arms.{is_stopped}
+use Rattle.syn_disk.specs.declared.disk.Disk.{Ghosts}
+use Rattle.syn_headline.specs.Coordinator.{Call, CoordinatorMachine}
+use Rattle.syn_model.specs.Refusal.{Device, JournalFull, NoAnswer, Refusal, first_cause}
+use Rattle.syn_session.specs.Coordinators.{Checkpoints, all_causes, checkpoint_causes, device_of}
+use Rattle.syn_session.specs.Coordinators.{runs}
+use Rattle.syn_session.specs.declared.coordinator.Coordinator.{Coordinator}
+
+-- A start is refused so; or it is refused 8, and then the checkpoint is refused so, or the start
+-- behind it. Or a device call failed, or the machine was stopped; or a session still runs, for which
+-- no answer comes
+pub data Refuses {D : Type 0} {disk : Ghosts D} (old new : Coordinator D disk) (pair : ℕ)
+    (machine : CoordinatorMachine) : Refusal → Type 0 where
+  no_start : (why : Refusal) → first_cause (all_causes pair machine) ≡ Some why →
+      Refuses old new pair machine why
+  no_room : (why : Refusal) → first_cause (all_causes pair machine) ≡ Some JournalFull →
+      first_cause (checkpoint_causes machine) ≡ Some why → Refuses old new pair machine why
+  no_start_behind : (why : Refusal) (between : CoordinatorMachine) (call : Call) →
+      first_cause (all_causes pair machine) ≡ Some JournalFull →
+      Checkpoints pair machine between call → first_cause (all_causes pair between) ≡ Some why →
+      Refuses old new pair machine why
+  fails : disk.failures (device_of old) < disk.failures (device_of new) →
+      Refuses old new pair machine Device
+  stopped : is_stopped (disk.arms (device_of new)) ≡ true → Refuses old new pair machine Device
+  unanswered : runs new ≡ true → Refuses old new pair machine NoAnswer
