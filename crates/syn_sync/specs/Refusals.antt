@@ -9,8 +9,8 @@ use Rattle.syn_session.specs.Coordinators.{runs}
 use Rattle.syn_session.specs.declared.coordinator.Coordinator.{Coordinator}
 
 -- A start is refused so; or it is refused 8, and then the checkpoint is refused so, or the start
--- behind it. Or a device call failed, or the machine was stopped; or a session still runs, for which
--- no answer comes
+-- behind it. Or a device call failed, or the machine was stopped; or a session still runs that
+-- nothing ends
 pub data Refuses {D : Type 0} {disk : Ghosts D} (old new : Coordinator D disk) (pair : ℕ)
     (machine : CoordinatorMachine) : Refusal → Type 0 where
   no_start : (why : Refusal) → first_cause (all_causes pair machine) ≡ Some why →

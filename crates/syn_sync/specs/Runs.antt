@@ -101,9 +101,10 @@ module _ {D : Type 0} {disk : Ghosts D} (new : Coordinator D disk) (pair : ℕ) 
     pub leaves : LeavesMachine disk (device_of new) pair machine.journal
     pub tries : Tries pair (tried_shown new) machine.journal
 
-  -- The acts lead to the coordinator's machine, or it went down in the last of them. Each reply that
-  -- it was given came from its side, in order. The frames of what it sent were written to their
-  -- sides, in order: whole where the connection goes on and no machine went down, else a beginning
+  -- The acts lead to the coordinator's machine, or it went down in the last of them. Each reply
+  -- that it was given came from its side, in order. The frames of what it sent were written to
+  -- their sides, in order: all where the connection goes on and no machine went down, else a
+  -- beginning
   pub record Drives (machine : CoordinatorMachine) (lines heard : Lines) (from to : Outlets)
       : Type 0 where
     pub acts : Acts

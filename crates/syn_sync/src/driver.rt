@@ -15,7 +15,8 @@ ghost use Rattle.syn_sync.specs.Drivers.{Lines, lines_of, link_at, outlets_of};
 ghost use Rattle.syn_sync.specs.Lines.{HearsAll};
 ghost use Rattle.syn_sync.specs.Outlets.{Writes};
 ghost use Rattle.syn_sync.specs.Refusals.{Refuses};
-ghost use Rattle.syn_sync.specs.Runs.{Begins, Drives, Takes, answer_in, frame_to, frames_to, step_of};
+ghost use Rattle.syn_sync.specs.Runs.{Begins, Drives, Takes, answer_in, frame_to, frames_to};
+ghost use Rattle.syn_sync.specs.Runs.{step_of};
 ghost use Rattle.syn_sync.specs.inner.Calling.{Calls, IsUnended, Starting};
 
 use crate::asked::Outstanding;
