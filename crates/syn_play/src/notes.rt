@@ -39,6 +39,16 @@ fn note(delivered: Vec<bool>, number: usize) -> Option<Vec<bool>>
     Some(flags)
 }
 
+/// Whether the flag of the number is set; behind the end none is.
+pub(crate) fn is_set(flags: &[bool], number: usize) -> bool
+    ensures { result ≡ slice_index_or flags.now number false }
+{
+    match flags.get(number) {
+        Some(flag) => *flag,
+        None => false,
+    }
+}
+
 /// The lowest number from that one on whose flag is not set, if it is below the limit.
 pub(crate) fn lowest_unset(flags: &[bool], from: usize, limit: usize) -> Option<usize>
     ensures none { result ≡ None → (other : ℕ) → from ≤ other → other < limit

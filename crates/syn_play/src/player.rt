@@ -9,7 +9,7 @@ ghost use Rattle.syn_world.specs.Steps.{step_of};
 ghost use Rattle.syn_world.specs.Worlds.{IsWorld};
 
 use crate::line::machine_of;
-use crate::notes::{lowest_unset, note_step};
+use crate::notes::{is_set, lowest_unset, note_step};
 use std::alloc::Global;
 use syn_disk::Disk;
 use syn_script::Line;
@@ -137,7 +137,7 @@ impl<D: SimulatedDisk> Player<D> {
     }
 
     /// The lowest number of a message that was sent and not delivered yet, if there is one.
-    fn next_left(&self) -> Option<usize>
+    pub fn next_left(&self) -> Option<usize>
         ensures { (state : State) → IsPlayer self.now state → IsNextLeft state result }
     {
         lowest_unset(
@@ -145,6 +145,13 @@ impl<D: SimulatedDisk> Player<D> {
             self.lowest,
             self.world.lists.sent.len(),
         )
+    }
+
+    /// Whether the message with the number was delivered. One that was not sent yet was not.
+    pub fn was_delivered(&self, number: usize) -> bool
+        ensures { (state : State) → IsPlayer self.now state → result ≡ state.delivered number }
+    {
+        is_set(self.delivered.as_slice(), number)
     }
 
     /// Whether no message was sent with the number yet.

@@ -1,3 +1,4 @@
 -- Definitions that no public clause reaches.
 pub mod Calling
+pub mod Told
 pub mod Waiting

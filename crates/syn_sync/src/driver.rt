@@ -21,6 +21,7 @@ ghost use Rattle.syn_sync.specs.inner.Calling.{Calls, IsUnended, Starting};
 
 use crate::asked::Outstanding;
 use crate::link::Link;
+use crate::watch::Watch;
 use std::alloc::Global;
 use std::io::{Read, Write};
 use syn_disk::Limit;
@@ -57,17 +58,19 @@ impl<R: Read, W: Write> Driver<R, W> {
 
     /// Runs a session to its end: the coordinator starts it, its requests go to their sides, and
     /// the replies come back to it. The left side is read first where both have to answer. Where
-    /// the start is refused 8, a checkpoint makes room in the archive, once.
+    /// the start is refused 8, a checkpoint makes room in the archive, once. The watch is told it
+    /// all.
     ///
     /// Where a link closes, or the coordinator waits for nothing, the session is given up: it ends
     /// 25, and what that would send again is dropped. The coordinator has the report.
     ///
     /// Refused as `start` is, or as the checkpoint is; then no session ran. Refused 9 also where
     /// the coordinator's machine was stopped, and 25 where the session could not be ended.
-    pub fn run<D: Limit>(
+    pub fn run<D: Limit, V: Watch>(
         &mut self,
         alloc: Global,
         coordinator: &mut Coordinator<D>,
+        watch: &mut V,
     ) -> Result<(), Refusal>
         ensures drives { (pair : ℕ) (machine : CoordinatorMachine)
             → Stands coordinator.old pair machine
@@ -91,16 +94,18 @@ impl<R: Read, W: Write> Driver<R, W> {
             return Err(Refusal::Device);
         }
         let outstanding = self.send_all(alloc, &sends, Outstanding::none());
-        self.go_on(alloc, coordinator, outstanding);
+        tell_sent(watch, &sends);
+        self.go_on(alloc, coordinator, outstanding, watch);
         give_up(alloc, coordinator)
     }
 
     /// Goes on with the session until it ends, a link closes, or no side has to answer.
-    fn go_on<D: Limit>(
+    fn go_on<D: Limit, V: Watch>(
         &mut self,
         alloc: Global,
         coordinator: &mut Coordinator<D>,
         outstanding: Outstanding,
+        watch: &mut V,
     )
         ensures { (pair : ℕ) (machine : CoordinatorMachine)
             → Stands coordinator.old pair machine
@@ -123,11 +128,14 @@ impl<R: Read, W: Write> Driver<R, W> {
                 return;
             };
             outstanding = outstanding.without_answered(from, &answered);
+            watch.heard(from, &answered);
             let sends = hear(alloc, coordinator, from, answered);
             if coordinator.is_cut() {
                 return;
             }
+            tell_kept(watch, coordinator);
             outstanding = self.send_all(alloc, &sends, outstanding);
+            tell_sent(watch, &sends);
         }
     }
 
@@ -190,6 +198,19 @@ impl<R: Read, W: Write> Driver<R, W> {
             Side::Left => self.left.send(alloc, &sending.asked),
             Side::Right => self.right.send(alloc, &sending.asked),
         }
+    }
+}
+
+/// Tells the watch what the coordinator wrote into its archive.
+fn tell_kept<D: Limit, V: Watch>(watch: &mut V, coordinator: &Coordinator<D>) {
+    let (written, _) = coordinator.kept();
+    watch.kept(written);
+}
+
+/// Tells the watch each of the requests, in their order.
+fn tell_sent<V: Watch>(watch: &mut V, sends: &[Sending]) {
+    for sending in sends {
+        watch.sent(sending);
     }
 }
 

@@ -1,0 +1,24 @@
+-- The lines that tell how a session goes.
+use Rattle.std.specs.Prelude.{ℕ, List, ◌++◌, codes}
+use Rattle.std.specs.Fmt.{decimal}
+use Rattle.syn_model.specs.Path.{Path}
+use Rattle.syn_model.specs.Refusal.{Refusal, number}
+use Rattle.syn_path.specs.Paths.{printed_form}
+
+abbrev pub carried_line : Path → List ℕ
+carried_line path = codes "carried " ++ (printed_form path ++ codes "\n")
+
+abbrev pub marked_line : Path → List ℕ
+marked_line path = codes "marked " ++ (printed_form path ++ codes "\n")
+
+abbrev pub conflict_line : Path → List ℕ
+conflict_line path = codes "conflict " ++ (printed_form path ++ codes "\n")
+
+abbrev pub refused_line : Refusal → Path → List ℕ
+refused_line cause path = codes "refused "
+    ++ (decimal (number cause) ++ (codes " " ++ (printed_form path ++ codes "\n")))
+
+-- how many items were settled, and how many bytes were fetched
+abbrev pub count_line : ℕ → ℕ → List ℕ
+count_line settled fetched =
+    decimal settled ++ (codes " items, " ++ (decimal fetched ++ codes " bytes"))

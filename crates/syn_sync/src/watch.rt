@@ -1,0 +1,30 @@
+//! Who is told how a session goes.
+
+use syn_message::{Answered, Side};
+use syn_session::Sending;
+use syn_wire::Kept;
+
+/// Is told what happens in a session, as it happens. It sees the session, and changes nothing of
+/// it. No clause says what it is told.
+pub trait Watch {
+    /// The request was sent. Where its link was closed, nothing was written.
+    fn sent(&mut self, sending: &Sending);
+
+    /// The side replied. The coordinator takes the reply behind this call.
+    fn heard(&mut self, from: Side, answered: &Answered);
+
+    /// The coordinator took the reply, and this is what it wrote into its archive then, in order.
+    fn kept(&mut self, kept: &[Kept]);
+}
+
+/// Looks at nothing.
+#[derive(Clone, Copy, Debug)]
+pub struct Unwatched;
+
+impl Watch for Unwatched {
+    fn sent(&mut self, _sending: &Sending) {}
+
+    fn heard(&mut self, _from: Side, _answered: &Answered) {}
+
+    fn kept(&mut self, _kept: &[Kept]) {}
+}

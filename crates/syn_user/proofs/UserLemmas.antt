@@ -1,0 +1,198 @@
+-- One request of a user and its reply.
+use Rattle.std.proofs.Common.{◌≡◌, ◌<◌, ◌^◌, ℕ, Bool, true, false, refl, sym, ap, ◌∙◌}
+use Rattle.std.proofs.Common.{Option, subst}
+use Rattle.std.specs.Io.KnownBytes.{Appends}
+use Rattle.std.specs.Prelude.{Result, Ok, Err, IfErr, IfOk}
+use Rattle.syn_link.specs.Frames.{frame_of}
+use Rattle.syn_message.specs.Laws.{TellingsTell}
+use Rattle.syn_message.specs.UserReplies.{IsLawfulTelling, Telling, Told, telling_spelling}
+use Rattle.syn_message.specs.UserReplies.{told_of}
+use Rattle.syn_message.specs.Users.{IsLawfulWished, Wish, Wished, wished_spelling}
+use Rattle.syn_message.specs.declared.user_reply.UserReply.{UserReply}
+use Rattle.syn_model.specs.Path.{Bytes}
+use Rattle.syn_user.specs.Exchanges as failed
+use Rattle.syn_user.specs.Exchanges.{BreaksOff, Fails, IsHeard, IsNoReply, IsSent, IsTold}
+use Rattle.syn_user.specs.Exchanges.{IsUnheard}
+use Rattle.syn_user.specs.Exchanges.{goes_behind, number_after, wished_at}
+use Rattle.syn_user.specs.Lines.{IsUnread, Line}
+use Rattle.syn_user.specs.declared.error.UserError.{UserError}
+use Rattle.syn_user.specs.declared.error.UserError.TheVariants.{BadFrame, BadMessage, Device}
+use Rattle.syn_user.specs.declared.error.UserError.TheVariants.{Memory, Refused, TooLarge}
+use Rattle.syn_user.specs.inner.Parts as part
+use Rattle.syn_user.specs.inner.Parts.{Breaks, HasNoBody, IsAnswered, IsForeign, IsSilent}
+use Rattle.syn_user.specs.inner.Parts.{is_refusal}
+
+-- the line with another word on whether it goes on
+abbrev pub with_goes : Line → Bool → Line
+with_goes line goes = record {
+  given = line.given;
+  held = line.held;
+  written = line.written;
+  goes = goes;
+  next = line.next;
+}
+
+-- a reply to another request is no reply to this one
+pub no_reply : TellingsTell → (wished : Wished) (telling : Telling) (body : Bytes)
+    → wished.number < 2 ^ 32 → IsLawfulTelling telling → body ≡ telling_spelling telling
+    → IsForeign wished telling → IsNoReply wished body
+no_reply tells wished telling body short lawful spells foreign what answers fits is =
+    let other : Telling = record { number = wished.number; told = what } in
+    foreign what (record {
+      is = tells telling other lawful (record { number = short; lawful = fits })
+          (sym spells ∙ is);
+      answers = answers;
+    })
+
+-- what is left of a reply that may be refused
+if_ok : {A E : Type 0} → (P Q : A → Type 0) (r : Result A E) → ((a : A) → P a → Q a) → IfOk r P
+    → IfOk r Q
+if_ok P Q (Ok a) to holds = to a holds
+if_ok P Q (Err e) to holds = holds
+
+if_err : {A E : Type 0} → (P Q : E → Type 0) (r : Result A E) → ((e : E) → P e → Q e) → IfErr r P
+    → IfErr r Q
+if_err P Q (Ok a) to holds = holds
+if_err P Q (Err e) to holds = to e holds
+
+-- the line behind a request that was written
+abbrev pub sent_line : Line → Option Bytes → ℕ → Line
+sent_line line written next = record {
+  given = line.given;
+  held = line.held;
+  written = written;
+  goes = line.goes;
+  next = next;
+}
+
+module _ (old new : Line) (wished : Wished) (written : Option Bytes) (next : ℕ)
+    (lawful : IsLawfulWished wished)
+    (adds : Appends old.written written (frame_of (wished_spelling wished)))
+    (follows : next ≡ number_after wished.number)
+    (silent : IsSilent (sent_line old written next) new) where
+  sent_whole : IsSent old new wished
+  sent_whole = record {
+    lawful = lawful;
+    written = subst (λ w. Appends old.written w (frame_of (wished_spelling wished)))
+        (sym silent.0) adds;
+    next = silent.2 ∙ follows;
+  }
+
+  -- it was sent, and a reply to it came
+  pub answered_so : (r : Result UserReply UserError)
+      → IfOk r (λ reply. IsHeard (sent_line old written next) new wished (told_of reply))
+      → IfOk r (λ reply. IsAnswered old new wished (told_of reply))
+  answered_so r = if_ok
+      (λ reply. IsHeard (sent_line old written next) new wished (told_of reply))
+      (λ reply. IsAnswered old new wished (told_of reply)) r
+      (λ reply heard. record {
+        sent = sent_whole;
+        heard = record { answers = heard.answers; lawful = heard.lawful; came = heard.came };
+      })
+
+  unheard_before : (why : UserError) → IsUnheard (sent_line old written next) new wished why
+      → IsUnheard old new wished why
+  unheard_before (Refused why) unheard = unheard
+  unheard_before Device unheard = unheard
+  unheard_before Memory unheard = unheard
+  unheard_before BadFrame unheard = unheard
+  unheard_before TooLarge unheard = unheard
+  unheard_before BadMessage unheard = unheard
+
+  -- it was sent, and none came
+  pub unanswered_so : (r : Result UserReply UserError)
+      → IfErr r (λ why. IsUnheard (sent_line old written next) new wished why)
+      → IfErr r (λ why. Breaks old new wished why)
+  unanswered_so r = if_err (λ why. IsUnheard (sent_line old written next) new wished why)
+      (λ why. Breaks old new wished why) r
+      (λ why unheard. part.unheard why sent_whole (unheard_before why unheard))
+
+-- a request that has no body was not sent
+pub no_body : (line : Line) (wished : Wished) (why : UserError) → HasNoBody wished why
+    → Breaks line line wished why
+no_body line wished why (part.too_long long) = part.too_long long refl
+no_body line wished why part.wanting = part.unsent Memory refl (refl, refl)
+
+-- a reply came over a connection that was open
+pub told_so : (old new : Line) (wish : Wish) (what : Told) → old.goes ≡ true
+    → new.goes ≡ old.goes → IsAnswered old new (wished_at old wish) what
+    → IsTold old new wish what
+told_so old new wish what was same answered =
+    record { went = was; sent = answered.sent; heard = answered.heard; goes = same ∙ was }
+
+sent_with : (old new : Line) (wished : Wished) (goes : Bool) → IsSent old new wished
+    → IsSent old (with_goes new goes) wished
+sent_with old new wished goes sent =
+    record { lawful = sent.lawful; written = sent.written; next = sent.next }
+
+unsent_of : (old new : Line) (wish : Wish) (why : UserError) → old.goes ≡ true
+    → BreaksOff old new (wished_at old wish) why → IsUnread old new
+    → Fails old (with_goes new (is_refusal why)) wish why
+unsent_of old new wish (Refused why) was broken unread = absurd broken
+unsent_of old new wish Device was broken unread = failed.unsent Device was broken unread refl
+unsent_of old new wish Memory was broken unread = failed.unsent Memory was broken unread refl
+unsent_of old new wish BadFrame was broken unread = absurd broken
+unsent_of old new wish TooLarge was broken unread = absurd broken
+unsent_of old new wish BadMessage was broken unread = absurd broken
+
+unheard_of : (old new : Line) (wish : Wish) (why : UserError) → old.goes ≡ true
+    → IsSent old new (wished_at old wish) → IsUnheard old new (wished_at old wish) why
+    → Fails old (with_goes new (is_refusal why)) wish why
+unheard_of old new wish (Refused why) was sent unheard = absurd unheard
+unheard_of old new wish Device was sent unheard =
+    failed.unheard Device was (sent_with old new _ false sent) unheard refl
+unheard_of old new wish Memory was sent unheard =
+    failed.unheard Memory was (sent_with old new _ false sent) unheard refl
+unheard_of old new wish BadFrame was sent unheard =
+    failed.unheard BadFrame was (sent_with old new _ false sent) unheard refl
+unheard_of old new wish TooLarge was sent unheard =
+    failed.unheard TooLarge was (sent_with old new _ false sent) unheard refl
+unheard_of old new wish BadMessage was sent unheard =
+    failed.unheard BadMessage was (sent_with old new _ false sent) unheard refl
+
+-- what breaks an exchange closes a connection that is open, but where the request was too long
+pub fails_so : (old new : Line) (wish : Wish) (why : UserError) → old.goes ≡ true
+    → Breaks old new (wished_at old wish) why
+    → Fails old (with_goes new (is_refusal why)) wish why
+fails_so old new wish why was (part.too_long long is) =
+    failed.too_long was long (ap (λ l. with_goes l true) is ∙ ap (with_goes old) (sym was))
+fails_so old new wish why was (part.unsent error broken unread) =
+    unsent_of old new wish error was broken unread
+fails_so old new wish why was (part.unheard error sent unheard) =
+    unheard_of old new wish error was sent unheard
+
+module _ (A : Type 0) (old new : Line) (wish : Wish) where
+  unsent_goes : (why : UserError) → BreaksOff old new (wished_at old wish) why
+      → new.goes ≡ false → new.goes ≡ goes_behind {A = A} (Err why)
+  unsent_goes (Refused why) broken shut = absurd broken
+  unsent_goes Device broken shut = shut
+  unsent_goes Memory broken shut = shut
+  unsent_goes BadFrame broken shut = shut
+  unsent_goes TooLarge broken shut = shut
+  unsent_goes BadMessage broken shut = shut
+
+  unheard_goes : (why : UserError) → IsUnheard old new (wished_at old wish) why
+      → new.goes ≡ false → new.goes ≡ goes_behind {A = A} (Err why)
+  unheard_goes (Refused why) unheard shut = absurd unheard
+  unheard_goes Device unheard shut = shut
+  unheard_goes Memory unheard shut = shut
+  unheard_goes BadFrame unheard shut = shut
+  unheard_goes TooLarge unheard shut = shut
+  unheard_goes BadMessage unheard shut = shut
+
+  -- it goes on behind a refusal of the replica alone
+  pub fails_goes : (why : UserError) → Fails old new wish why
+      → new.goes ≡ goes_behind {A = A} (Err why)
+  fails_goes why (failed.refused refusal told) = told.goes
+  fails_goes why (failed.too_long was long is) = ap (λ l. l.goes) is ∙ was
+  fails_goes why (failed.closed shut is) = ap (λ l. l.goes) is ∙ shut
+  fails_goes why (failed.unsent error was broken unread shut) = unsent_goes error broken shut
+  fails_goes why (failed.unheard error was sent unheard shut) = unheard_goes error unheard shut
+
+  -- on a closed connection 9 is answered
+  pub fails_closed : (why : UserError) → old.goes ≡ false → Fails old new wish why → why ≡ Device
+  fails_closed why shut (failed.refused refusal told) = let went = told.went in absurd cc
+  fails_closed why shut (failed.too_long was long is) = absurd cc
+  fails_closed why shut (failed.closed is same) = refl
+  fails_closed why shut (failed.unsent error was broken unread closed) = absurd cc
+  fails_closed why shut (failed.unheard error was sent unheard closed) = absurd cc

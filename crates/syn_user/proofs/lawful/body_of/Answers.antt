@@ -1,0 +1,14 @@
+use Rattle.std.proofs.Common.{◌<◌, arith, length, rules, subst}
+use Rattle.syn_user.proofs.lawful.body_of.Goals as goal
+use Rattle.syn_user.specs.inner.Parts.{too_long, wanting}
+
+pub returns-then-not-has_body-clause-refused : goal.returns-then-not-has_body-clause-refused
+returns-then-not-has_body-clause-refused c = too_long (c.has_body.ensures.long (search rules))
+
+pub returns-in_default-clause-refused : goal.returns-in_default-clause-refused
+returns-in_default-clause-refused c = wanting
+
+pub returns-then-len-gt-MAX_BODY-clause-refused :
+    goal.returns-then-len-gt-MAX_BODY-clause-refused
+returns-then-len-gt-MAX_BODY-clause-refused c =
+    too_long (subst (λ b. 65536 < length b) c.in-Ok.ensures (omega arith))

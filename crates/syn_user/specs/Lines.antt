@@ -1,0 +1,50 @@
+-- A user's connection as its contracts see it.
+use Rattle.std.specs.Prelude.{◌≡◌, ℕ, Bool, Option, Some}
+use Rattle.syn_link.specs.Frames.{Bytes}
+use Rattle.syn_link.specs.Streams.{Comes}
+use Rattle.syn_user.specs.declared.connection.UserConnection.{UserConnection}
+
+-- what its reader is to give, what came and was not handed out, what its writer has, whether it
+-- goes on, and the number of the next request
+pub record Line : Type 0 where
+  pub given : Option Bytes
+  pub held : Bytes
+  pub written : Option Bytes
+  pub goes : Bool
+  pub next : ℕ
+
+module _ {R W : Type 0} where
+  abbrev pub reader_of : UserConnection R W → R
+  reader_of connection = connection.reader
+
+  abbrev pub writer_of : UserConnection R W → W
+  writer_of connection = connection.writer
+
+  -- what came and was not handed out
+  abbrev pub held_by : UserConnection R W → Bytes
+  held_by connection = connection.framer
+
+  -- it goes on
+  abbrev pub is_open : UserConnection R W → Bool
+  is_open connection = connection.open
+
+  -- the number of the next request
+  abbrev pub next_of : UserConnection R W → ℕ
+  next_of connection = connection.next
+
+  abbrev pub line_of : (R → Option Bytes) → (W → Option Bytes) → UserConnection R W → Line
+  line_of remaining contents connection = record {
+    given = remaining connection.reader;
+    held = connection.framer;
+    written = contents connection.writer;
+    goes = connection.open;
+    next = connection.next;
+  }
+
+-- the body came in a frame, first of what came
+abbrev pub Receives : Line → Line → Bytes → Type 0
+Receives old new body = Comes old.given new.given old.held new.held (Some body)
+
+-- nothing was read
+abbrev pub IsUnread : Line → Line → Type 0
+IsUnread old new = (new.given ≡ old.given) × (new.held ≡ old.held)

@@ -1,0 +1,61 @@
+-- The parts of an exchange.
+use Rattle.std.specs.Prelude.{◌≡◌, Bool, true, false}
+use Rattle.syn_link.specs.declared.error.LinkError.{LinkError}
+use Rattle.syn_link.specs.declared.error.LinkError.TheVariants as link
+use Rattle.syn_message.specs.UserReplies.{Telling, Told}
+use Rattle.syn_message.specs.Users.{Wished}
+use Rattle.syn_refusal.specs.declared.refusal.Refusal.TheVariants.{Full}
+use Rattle.syn_user.specs.Exchanges.{Answers, BreaksOff, IsHeard, IsSent, IsTooLong, IsUnheard}
+use Rattle.syn_user.specs.Lines.{IsUnread, Line}
+use Rattle.syn_user.specs.declared.error.UserError.{UserError}
+use Rattle.syn_user.specs.declared.error.UserError.TheVariants.{BadFrame, BadMessage, Device}
+use Rattle.syn_user.specs.declared.error.UserError.TheVariants.{Memory, Refused, TooLarge}
+
+-- a frame's error
+abbrev pub of_link : LinkError → UserError
+of_link link.BadFrame = BadFrame
+of_link link.TooLarge = TooLarge
+of_link link.Device = Device
+of_link link.Memory = Memory
+
+-- the replica refused
+abbrev pub is_refusal : UserError → Bool
+is_refusal (Refused why) = true
+is_refusal Device = false
+is_refusal Memory = false
+is_refusal BadFrame = false
+is_refusal TooLarge = false
+is_refusal BadMessage = false
+
+-- why a request has no body: it is longer than a frame takes, or memory is wanting
+pub data HasNoBody (wished : Wished) : UserError → Type 0 where
+  too_long : IsTooLong wished → HasNoBody wished (Refused Full)
+  wanting : HasNoBody wished Memory
+
+-- a reply to the request
+pub record IsReplyTo (wished : Wished) (telling : Telling) (what : Told) : Type 0 where
+  pub is : telling ≡ record { number = wished.number; told = what }
+  pub answers : Answers wished.wish what
+
+-- another message
+abbrev pub IsForeign : Wished → Telling → Type 0
+IsForeign wished telling = (what : Told) → ¬ IsReplyTo wished telling what
+
+-- nothing was written, and neither the number nor whether the connection goes on changed
+abbrev pub IsSilent : Line → Line → Type 0
+IsSilent old new =
+    (new.written ≡ old.written) × (new.goes ≡ old.goes) × (new.next ≡ old.next)
+
+module _ (old new : Line) (wished : Wished) where
+  -- the request was sent, and a reply to it came
+  pub record IsAnswered (what : Told) : Type 0 where
+    pub sent : IsSent old new wished
+    pub heard : IsHeard old new wished what
+
+  -- it was too long, or not written whole, or no reply to it was read
+  pub data Breaks : UserError → Type 0 where
+    too_long : IsTooLong wished → new ≡ old → Breaks (Refused Full)
+    unsent : (error : UserError) → BreaksOff old new wished error → IsUnread old new →
+        Breaks error
+    unheard : (error : UserError) → IsSent old new wished → IsUnheard old new wished error →
+        Breaks error

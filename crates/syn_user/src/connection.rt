@@ -1,0 +1,209 @@
+//! A user's connection, and the requests over it.
+ghost use Rattle.std.specs.Prelude.{◌≡◌, [], Err, IfErr, IfOk, false, option_map, true};
+ghost use Rattle.syn_message.specs.UserReplies.{Edited, Got, told_of};
+ghost use Rattle.syn_message.specs.Users.{Edits, Gets, IsLawfulWished, Wish, wish_of};
+ghost use Rattle.syn_message.specs.Users.{wished_of};
+ghost use Rattle.syn_tree.specs.Contents.{content_of};
+ghost use Rattle.syn_tree.specs.Edits.{edit_of};
+ghost use Rattle.syn_user.specs.Exchanges.{Fails, IsHeard, IsTold, IsUnheard, goes_behind};
+ghost use Rattle.syn_user.specs.Exchanges.{number_after};
+ghost use Rattle.syn_user.specs.Lines.{held_by, is_open, line_of, next_of, reader_of, writer_of};
+ghost use Rattle.syn_user.specs.inner.Parts.{Breaks, IsAnswered, IsSilent};
+
+use crate::error::{UserError, closed_by};
+use crate::lawful::body_of;
+use crate::reply::reply_to;
+use std::alloc::Global;
+use std::io::{Read, Write};
+use syn_link::{Framer, read_body, write_frame};
+use syn_message::{AskedByUser, UserReply, UserRequest, decode_user_reply, message_laws};
+use syn_path::Path;
+use syn_tree::{Content, Edit};
+
+/// A user's connection to a served replica: what replies are read from, what requests are written
+/// to, and what came and was not handed out yet. Requests are numbered from 0.
+#[derive(Drop)]
+pub struct UserConnection<R, W> {
+    reader: R,
+    writer: W,
+    framer: Framer,
+    open: bool,
+    next: u32,
+}
+
+impl<R: Read, W: Write> UserConnection<R, W> {
+    /// A connection on which nothing was asked yet. It takes no memory.
+    pub fn new(alloc: Global, reader: R, writer: W) -> UserConnection<R, W>
+        ensures reader { reader_of result ≡ reader }
+        ensures writer { writer_of result ≡ writer }
+        ensures held { held_by result ≡ [] }
+        ensures open { is_open result ≡ true }
+        ensures next { next_of result ≡ 0 }
+    {
+        UserConnection {
+            reader,
+            writer,
+            framer: Framer::new(alloc),
+            open: true,
+            next: 0,
+        }
+    }
+
+    /// The reader and the writer. What came and was not handed out is lost.
+    pub fn into_parts(self) -> (R, W)
+        ensures { result ≡ (reader_of self, writer_of self) }
+    {
+        (self.reader, self.writer)
+    }
+
+    /// Whether the connection goes on. It is closed by each refusal but the replica's own.
+    pub fn is_open(&self) -> bool
+        ensures { result ≡ is_open self.now }
+    {
+        self.open
+    }
+
+    /// Asks that the user makes the edit, and answers the new position of the replica.
+    ///
+    /// Refused as the replica refuses the edit; also 7 where a frame does not take what is put. It
+    /// was not sent then. Refused 9 where the connection is closed, comes to its end, or a read or
+    /// the write fails; 11 where memory is refused; 21 and 22 where a frame with such a length
+    /// comes; and 23 where what comes is no reply to the request. Then the connection is closed,
+    /// and the edit may have been made.
+    pub fn edit(&mut self, alloc: Global, user: u32, edit: Edit) -> Result<u64, UserError>
+        ensures ok { IfOk result (λ position.
+            IsTold (line_of R.remaining W.contents self.old)
+            (line_of R.remaining W.contents self.new) (Edits user (edit_of edit))
+            (Edited position)) }
+        ensures err { IfErr result (λ error.
+            Fails (line_of R.remaining W.contents self.old)
+            (line_of R.remaining W.contents self.new) (Edits user (edit_of edit)) error) }
+        ensures goes { is_open self.new ≡ goes_behind result }
+        ensures closed { is_open self.old ≡ false → result ≡ Err UserError.Device }
+    {
+        match self.ask(alloc, UserRequest::Edit { user, edit }) {
+            Ok(UserReply::Edited { position }) => Ok(position),
+            Ok(UserReply::Refused(why)) => Err(UserError::Refused(why)),
+            Ok(UserReply::Got { .. }) => unreachable!(),
+            Err(error) => Err(error),
+        }
+    }
+
+    /// Asks what stands at the path, and answers it; none where nothing does.
+    ///
+    /// Refused as `edit` is, but for the length.
+    pub fn get(&mut self, alloc: Global, path: &Path) -> Result<Option<Content>, UserError>
+        ensures ok { IfOk result (λ found.
+            IsTold (line_of R.remaining W.contents self.old)
+            (line_of R.remaining W.contents self.new) (Gets path.now)
+            (Got (option_map content_of found))) }
+        ensures err { IfErr result (λ error.
+            Fails (line_of R.remaining W.contents self.old)
+            (line_of R.remaining W.contents self.new) (Gets path.now) error) }
+        ensures goes { is_open self.new ≡ goes_behind result }
+        ensures closed { is_open self.old ≡ false → result ≡ Err UserError.Device }
+    {
+        let Ok(path) = path.copy(alloc) else {
+            return Err(self.give_up());
+        };
+        match self.ask(alloc, UserRequest::Get { path }) {
+            Ok(UserReply::Got { found }) => Ok(found),
+            Ok(UserReply::Refused(cause)) => Err(UserError::Refused(cause)),
+            Ok(UserReply::Edited { .. }) => unreachable!(),
+            Err(error) => Err(error),
+        }
+    }
+
+    /// Closes the connection for want of memory; of a closed one the refusal is 9.
+    fn give_up(&mut self) -> UserError
+        ensures { (wish : Wish) → Fails (line_of R.remaining W.contents self.old)
+            (line_of R.remaining W.contents self.new) wish result }
+    {
+        if !self.open {
+            return UserError::Device;
+        }
+        self.open = false;
+        UserError::Memory
+    }
+
+    /// Asks, and answers what the replica replies. Refused as `edit`, but not by the replica.
+    fn ask(&mut self, alloc: Global, request: UserRequest) -> Result<UserReply, UserError>
+        ensures told { IfOk result (λ reply.
+            IsTold (line_of R.remaining W.contents self.old)
+            (line_of R.remaining W.contents self.new) (wish_of request) (told_of reply)) }
+        ensures fails { IfErr result (λ error.
+            Fails (line_of R.remaining W.contents self.old)
+            (line_of R.remaining W.contents self.new) (wish_of request) error) }
+    {
+        if !self.open {
+            return Err(UserError::Device);
+        }
+        let asked = AskedByUser {
+            number: self.next,
+            request,
+        };
+        match self.exchange(alloc, &asked) {
+            Ok(reply) => Ok(reply),
+            Err(error) => {
+                self.open = error.is_refusal();
+                Err(error)
+            }
+        }
+    }
+
+    /// Sends the request, and answers the reply to it. Where that is refused, the connection is not
+    /// closed yet.
+    fn exchange(&mut self, alloc: Global, asked: &AskedByUser) -> Result<UserReply, UserError>
+        requires { asked.now.number ≡ next_of self.old }
+        ensures told { IfOk result (λ reply.
+            IsAnswered (line_of R.remaining W.contents self.old)
+            (line_of R.remaining W.contents self.new) (wished_of asked.now) (told_of reply)) }
+        ensures breaks { IfErr result (λ error.
+            Breaks (line_of R.remaining W.contents self.old)
+            (line_of R.remaining W.contents self.new) (wished_of asked.now) error) }
+        ensures open { is_open self.new ≡ is_open self.old }
+    {
+        let body = match body_of(alloc, asked) {
+            Ok(body) => body,
+            Err(error) => return Err(error),
+        };
+        match write_frame(&mut self.writer, &body) {
+            Ok(()) => {}
+            Err(_) => return Err(UserError::Device),
+        }
+        self.next = number_after(self.next);
+        self.hear(alloc, asked)
+    }
+
+    /// The reply to the request, in the next frame.
+    fn hear(&mut self, alloc: Global, asked: &AskedByUser) -> Result<UserReply, UserError>
+        requires { IsLawfulWished (wished_of asked.now) }
+        ensures heard { IfOk result (λ reply.
+            IsHeard (line_of R.remaining W.contents self.old)
+            (line_of R.remaining W.contents self.new) (wished_of asked.now) (told_of reply)) }
+        ensures unheard { IfErr result (λ error.
+            IsUnheard (line_of R.remaining W.contents self.old)
+            (line_of R.remaining W.contents self.new) (wished_of asked.now) error) }
+        ensures silent { IsSilent (line_of R.remaining W.contents self.old)
+            (line_of R.remaining W.contents self.new) }
+    {
+        message_laws();
+        let body = match read_body(alloc, &mut self.reader, &mut self.framer) {
+            Ok(Some(body)) => body,
+            Ok(None) => return Err(UserError::Device),
+            Err(error) => return Err(closed_by(error)),
+        };
+        match decode_user_reply(alloc, &body) {
+            Ok(Some(answered)) => reply_to(asked, answered).ok_or(UserError::BadMessage),
+            Ok(None) => Err(UserError::BadMessage),
+            Err(_) => Err(UserError::Memory),
+        }
+    }
+}
+
+/// The number of the request behind that of this number.
+fn number_after(number: u32) -> u32
+    ensures { result ≡ number_after number }
+{
+    number.wrapping_add(1)
+}

@@ -1,0 +1,93 @@
+//! Which requests a frame takes.
+ghost use Rattle.std.specs.Prelude.{◌≡◌, ◌<◌, ◌≤◌, ◌^◌, IfErr, IfNone, IfOk, IfSome, false, length};
+ghost use Rattle.std.specs.Prelude.{true};
+ghost use Rattle.syn_link.specs.Frames.{IsBody};
+ghost use Rattle.syn_link.specs.declared.frames.TheConstants.{MAX_BODY};
+ghost use Rattle.syn_message.specs.Users.{IsLawfulWish, IsLawfulWished, wish_fields, wish_of};
+ghost use Rattle.syn_message.specs.Users.{wished_of, wished_spelling};
+ghost use Rattle.syn_model.specs.Event.{AreBytes, Edited};
+ghost use Rattle.syn_model.specs.Path.{IsPath};
+ghost use Rattle.syn_model.specs.Spelling.{event_spelling};
+ghost use Rattle.syn_tree.specs.Edits.{edit_of};
+ghost use Rattle.syn_user.specs.Exchanges.{IsTooLong};
+ghost use Rattle.syn_user.specs.inner.Parts.{HasNoBody};
+ghost use Rattle.syn_wire.specs.Events.{IsSpelledEvent};
+
+use crate::error::UserError;
+use std::alloc::Global;
+use syn_link::MAX_BODY;
+use syn_message::{AskedByUser, UserRequest, encode_user_request};
+use syn_path::Path;
+use syn_refusal::Refusal;
+use syn_tree::Edit;
+
+/// The body of the request. Refused 7 where a frame takes no body of its length, and 11 where
+/// memory is refused.
+pub(crate) fn body_of(alloc: Global, asked: &AskedByUser) -> Result<Vec<u8>, UserError>
+    ensures lawful { IfOk result (λ body. IsLawfulWished (wished_of asked.now)) }
+    ensures body { IfOk result (λ body. body.items ≡ wished_spelling (wished_of asked.now)) }
+    ensures framed { IfOk result (λ body. IsBody body.items) }
+    ensures refused { IfErr result (λ error. HasNoBody (wished_of asked.now) error) }
+{
+    if !has_body(asked) {
+        return Err(UserError::Refused(Refusal::Full));
+    }
+    let Ok(body) = encode_user_request(alloc, asked) else {
+        return Err(UserError::Memory);
+    };
+    if body.len() > MAX_BODY {
+        return Err(UserError::Refused(Refusal::Full));
+    }
+    Ok(body)
+}
+
+/// Whether the request can be spelled: it puts no more bytes than a frame takes.
+fn has_body(asked: &AskedByUser) -> bool
+    ensures lawful { result ≡ true → IsLawfulWished (wished_of asked.now) }
+    ensures long { result ≡ false → IsTooLong (wished_of asked.now) }
+{
+    let _number = asked.number;
+    is_lawful(&asked.request)
+}
+
+/// The same of what is asked for.
+fn is_lawful(request: &UserRequest) -> bool
+    ensures lawful { result ≡ true → IsLawfulWish (wish_of request.now) }
+    ensures long { result ≡ false → MAX_BODY < length (wish_fields (wish_of request.now)) }
+{
+    match request {
+        UserRequest::Edit { user, edit } => is_lawful_edit(*user, edit),
+        UserRequest::Get { path } => is_path(path),
+    }
+}
+
+/// The same of an edit.
+fn is_lawful_edit(user: u32, edit: &Edit) -> bool
+    ensures lawful { result ≡ true → IsSpelledEvent (Edited user (edit_of edit.now)) }
+    ensures long { result ≡ false
+        → MAX_BODY < length (event_spelling (Edited user (edit_of edit.now))) }
+{
+    match edit {
+        Edit::Put(path, bytes) => is_path(path) && is_short(bytes),
+        Edit::MakeDir(path) => is_path(path),
+        Edit::Remove(path) => is_path(path),
+    }
+}
+
+/// Each path is lawful.
+fn is_path(path: &Path) -> bool
+    ensures lawful { IsPath path.now }
+    ensures always { result ≡ true }
+{
+    let _ = path.names();
+    true
+}
+
+/// Whether there are no more bytes than a frame takes.
+fn is_short(bytes: &[u8]) -> bool
+    ensures bytes { AreBytes bytes.now }
+    ensures short { result ≡ true → length bytes.now ≤ MAX_BODY }
+    ensures long { result ≡ false → MAX_BODY < length bytes.now }
+{
+    bytes.len() <= MAX_BODY
+}

@@ -1,0 +1,30 @@
+//! Which replies answer a request.
+ghost use Rattle.std.specs.Prelude.{◌↔◌, IfNone, IfSome, IsTrue};
+ghost use Rattle.syn_message.specs.UserReplies.{telling_of, told_of};
+ghost use Rattle.syn_message.specs.Users.{wish_of, wished_of};
+ghost use Rattle.syn_user.specs.Exchanges.{Answers};
+ghost use Rattle.syn_user.specs.inner.Parts.{IsForeign, IsReplyTo};
+
+use syn_message::{AnsweredToUser, AskedByUser, UserReply, UserRequest};
+
+/// What is replied, where it is a reply to this request.
+pub(crate) fn reply_to(asked: &AskedByUser, answered: AnsweredToUser) -> Option<UserReply>
+    ensures some { IfSome result (λ reply. IsReplyTo (wished_of asked.now) (telling_of answered)
+        (told_of reply)) }
+    ensures none { IfNone result (IsForeign (wished_of asked.now) (telling_of answered)) }
+{
+    if answered.number == asked.number && is_answer(&asked.request, &answered.reply) {
+        return Some(answered.reply);
+    }
+    None
+}
+
+/// Whether such a request may be answered so.
+fn is_answer(request: &UserRequest, reply: &UserReply) -> bool
+    ensures { IsTrue result ↔ Answers (wish_of request.now) (told_of reply.now) }
+{
+    match request {
+        UserRequest::Edit { .. } => !matches!(reply, UserReply::Got { .. }),
+        UserRequest::Get { .. } => !matches!(reply, UserReply::Edited { .. }),
+    }
+}

@@ -1,0 +1,189 @@
+-- Commands by their words, and what a command and its values say.
+use Rattle.std.proofs.Common.{◌≡◌, ◌∙◌, ℕ, Bool, true, false, cond, codes, List, [], ◌∷◌, Option, Some, None, inl, inr, refl, sym, ap, subst, true≢false}
+use Rattle.std.specs.Str.{bytes_eq}
+use Rattle.std.proofs.lemmas.Option.{none-some, same_Some}
+use Rattle.clap.specs.Words.{Row, Text, first_of}
+use Rattle.syn_words.specs.Reads.{AreGiven, HasPlace, HasValues, IsEdit, HasNumber, IsGiven, IsNoNumber, IsNumber, IsOtherKind, IsPathless, IsWrong, IsWrongIn, MayHaveNumber, NothingReads, kind_word, verb_of}
+use Rattle.syn_words.specs.Verbs.{edit_verb, name_of, values_of, word_of}
+use Rattle.syn_words.specs.declared.line.Change.{Change}
+use Rattle.syn_words.specs.declared.line.Change.TheVariants as change
+use Rattle.syn_words.specs.declared.line.Line.{Line}
+use Rattle.syn_words.specs.declared.line.Line.TheVariants as line
+use Rattle.syn_words.specs.declared.line.Place.{Place}
+use Rattle.syn_words.specs.declared.line.Place.TheVariants as place
+use Rattle.syn_words.specs.declared.value.ValueName.{ValueName}
+use Rattle.syn_words.specs.declared.value.ValueName.TheVariants as value
+use Rattle.syn_words.specs.declared.verb.Verb.{Verb}
+use Rattle.syn_words.specs.declared.verb.Verb.TheVariants as verb
+use Rattle.syn_words.specs.inner.Lacking.{IsLacking, IsOneOf, LacksIn}
+
+-- ---- a word is that of one command
+
+verb_at : Text → Verb
+verb_at t =
+    cond (bytes_eq t (codes "format")) verb.Format
+    (cond (bytes_eq t (codes "put")) verb.Put
+    (cond (bytes_eq t (codes "mkdir")) verb.MakeDir
+    (cond (bytes_eq t (codes "rm")) verb.Remove
+    (cond (bytes_eq t (codes "show")) verb.Show
+    (cond (bytes_eq t (codes "check")) verb.Check
+    (cond (bytes_eq t (codes "serve")) verb.Serve
+    (cond (bytes_eq t (codes "sync")) verb.Sync
+    (cond (bytes_eq t (codes "run")) verb.Run verb.Simulate))))))))
+
+verb_at-word : (v : Verb) → verb_at (word_of v) ≡ v
+unfolding verb_at
+verb_at-word verb.Format = refl
+verb_at-word verb.Put = refl
+verb_at-word verb.MakeDir = refl
+verb_at-word verb.Remove = refl
+verb_at-word verb.Show = refl
+verb_at-word verb.Check = refl
+verb_at-word verb.Serve = refl
+verb_at-word verb.Sync = refl
+verb_at-word verb.Run = refl
+verb_at-word verb.Simulate = refl
+
+pub same_verb : (a b : Verb) → word_of a ≡ word_of b → a ≡ b
+same_verb a b e = sym (verb_at-word a) ∙ (ap verb_at e ∙ verb_at-word b)
+
+-- ---- what a line has was given
+
+file_given : (rows : List Row) (p : Place) → HasPlace rows p → IsGiven rows (name_of value.File)
+file_given rows (place.File file) has = (file.now, has.0)
+file_given rows (place.Served address) has = (address.now, has.0)
+
+edit_given : (rows : List Row) (change : Change) → AreGiven rows (value.File ∷ value.User ∷ value.Path ∷ []) → AreGiven rows (values_of (edit_verb change))
+edit_given rows change.Put given = given
+edit_given rows change.MakeDir given = given
+edit_given rows change.Remove given = given
+
+pub values_given : (rows : List Row) (l : Line) → HasValues rows l → AreGiven rows (values_of (verb_of l))
+values_given rows (line.Format kind pair file) has =
+    ((kind_word kind, has.0), ((has.1.0, has.1.1), ((file.now, has.2), tt)))
+values_given rows (line.Edit edit) has =
+    edit_given rows edit.change
+    (file_given rows edit.place has.0, ((has.1.0, has.1.1), ((edit.path.now, has.2), tt)))
+values_given rows (line.Show file) has = (file_given rows (place.File file) has.0, tt)
+values_given rows (line.ShowPath place path) has = (file_given rows place has.0, tt)
+values_given rows (line.Check file) has = ((file.now, has), tt)
+values_given rows (line.Serve file address connections) has =
+    ((file.now, has.0), ((address.now, has.1), tt))
+values_given rows (line.Sync archive left right) has =
+    ((archive.now, has.0), ((left.now, has.1), ((right.now, has.2), tt)))
+values_given rows (line.Run left right archive) has =
+    ((left.now, has.0), ((right.now, has.1), ((archive.now, has.2), tt)))
+values_given rows (line.Simulate script is_traced) has = ((script.now, has.0), tt)
+
+-- ---- what is missing was not given
+
+no_text : (o : Option Text) (text : Text) → o ≡ None → o ≡ Some text → ⊥
+no_text o text none some = none-some text (sym none ∙ some)
+
+pub none_missing : (rows : List Row) (told : ValueName) (values : List ValueName) → AreGiven rows values
+    → IsOneOf told values → first_of (name_of told) rows ≡ None → ⊥
+none_missing rows told [] given one none = one
+none_missing rows told (value ∷ values) given (inl same) none =
+    let P : ValueName → Type 0 = λ v. first_of (name_of v) rows ≡ None in
+    no_text _ given.0.0 (subst P same none) given.0.1
+none_missing rows told (value ∷ values) given (inr one) none =
+    none_missing rows told values given.1 one none
+
+-- ---- what is wrong is no line's
+
+-- a number that is given is one
+no_number : (bits : ℕ) (rows : List Row) (id : Text) (n : ℕ) → IsNoNumber bits rows id → HasNumber bits rows id n → ⊥
+no_number bits rows id n wrong has =
+    wrong.2 n (subst (λ t. IsNumber bits t n) (same_Some has.0 wrong.0 (sym has.1 ∙ wrong.1)) has.2)
+
+no_connections : (rows : List Row) (most : Option ℕ) → IsNoNumber 64 rows (name_of value.Connections)
+    → MayHaveNumber 64 rows (name_of value.Connections) most → ⊥
+no_connections rows None wrong has = no_text _ wrong.0 has wrong.1
+no_connections rows (Some n) wrong has =
+    no_number 64 rows (name_of value.Connections) n wrong has
+
+is_edit : Verb → Bool
+is_edit verb.Put = true
+is_edit verb.MakeDir = true
+is_edit verb.Remove = true
+is_edit _ = false
+
+edit_is : (change : Change) → is_edit (edit_verb change) ≡ true
+unfolding is_edit
+edit_is change.Put = refl
+edit_is change.MakeDir = refl
+edit_is change.Remove = refl
+
+no_edit : (change : Change) (v : Verb) → edit_verb change ≡ v → is_edit v ≡ false → ⊥
+no_edit change v same none = true≢false (sym (edit_is change) ∙ (ap is_edit same ∙ none))
+
+module _ (rows : List Row) where
+  kind_right : (l : Line) → verb_of l ≡ verb.Format → IsOtherKind rows → HasValues rows l → ⊥
+  unfolding is_edit
+  kind_right (line.Format kind pair file) is wrong has =
+      wrong.2 kind (same_Some wrong.0 (kind_word kind) (sym wrong.1 ∙ has.0))
+  kind_right (line.Edit edit) is wrong has = no_edit edit.change verb.Format is refl
+  kind_right _ is wrong has = cc
+
+  pair_right : (l : Line) → verb_of l ≡ verb.Format → IsNoNumber 64 rows (name_of value.Pair) → HasValues rows l → ⊥
+  unfolding is_edit
+  pair_right (line.Format kind pair file) is wrong has =
+      no_number 64 rows (name_of value.Pair) pair wrong has.1
+  pair_right (line.Edit edit) is wrong has = no_edit edit.change verb.Format is refl
+  pair_right _ is wrong has = cc
+
+  user_right : (l : Line) → IsEdit (verb_of l) → IsNoNumber 32 rows (name_of value.User) → HasValues rows l → ⊥
+  unfolding is_edit
+  user_right (line.Edit edit) is wrong has =
+      no_number 32 rows (name_of value.User) edit.user wrong has.1
+  user_right _ is wrong has = no_edit is.0 _ (sym is.1) refl
+
+  connections_right : (l : Line) → verb_of l ≡ verb.Serve → IsNoNumber 64 rows (name_of value.Connections) → HasValues rows l → ⊥
+  unfolding is_edit
+  connections_right (line.Serve file address connections) is wrong has =
+      no_connections rows connections wrong has.2
+  connections_right (line.Edit edit) is wrong has = no_edit edit.change verb.Serve is refl
+  connections_right _ is wrong has = cc
+
+  path_right : (l : Line) → verb_of l ≡ verb.Show → IsPathless rows → HasValues rows l → ⊥
+  unfolding is_edit
+  path_right (line.Show file) is wrong has = has.0.1 wrong.0
+  path_right (line.ShowPath place path) is wrong has = no_text _ path.now wrong.1 has.1
+  path_right (line.Edit edit) is wrong has = no_edit edit.change verb.Show is refl
+  path_right _ is wrong has = cc
+
+  none_wrong : (l : Line) (told : ValueName) → IsWrong (verb_of l) rows told → HasValues rows l → ⊥
+  none_wrong l value.Kind wrong has = kind_right l wrong.0 wrong.1 has
+  none_wrong l value.Pair wrong has = pair_right l wrong.0 wrong.1 has
+  none_wrong l value.User wrong has = user_right l wrong.0 wrong.1 has
+  none_wrong l value.Connections wrong has = connections_right l wrong.0 wrong.1 has
+  none_wrong l value.Path wrong has = path_right l wrong.0 wrong.1 has
+  none_wrong l _ wrong has = wrong
+
+  none_lacking : (l : Line) (told : ValueName) → IsLacking (verb_of l) rows told → HasValues rows l → ⊥
+  none_lacking l told (inl missing) has =
+      none_missing rows told (values_of (verb_of l)) (values_given rows l has) missing.0 missing.1
+  none_lacking l told (inr wrong) has = none_wrong l told wrong has
+
+  -- no line is that of a command that lacks a value
+  pub lacks_nothing : (name : Text) (told : ValueName) → LacksIn name rows told → NothingReads (Some (name, rows))
+  lacks_nothing name told (inl unknown) l read = unknown.1 (verb_of l) read.0
+  lacks_nothing name told (inr lacks) l read =
+      let same = same_verb lacks.0 (verb_of l) (sym lacks.1 ∙ read.0) in
+      none_lacking l told (subst (λ (v : Verb). IsLacking v rows told) same lacks.2) read.1
+
+-- the name is that of a command, and each value that the command requires is given
+abbrev pub IsComplete : Text → List Row → Type 0
+IsComplete name rows = (v : Verb) × (name ≡ word_of v) × AreGiven rows (values_of v)
+
+-- so a value that the command lacks is wrong
+pub lacks_wrong : (name : Text) (rows : List Row) (told : ValueName) → IsComplete name rows
+    → LacksIn name rows told → IsWrongIn name rows told
+lacks_wrong name rows told complete (inl unknown) = absurd (unknown.1 complete.0 complete.1)
+lacks_wrong name rows told complete (inr lacks) =
+    let same = same_verb complete.0 lacks.0 (sym complete.1 ∙ lacks.1) in
+    let given = subst (λ (v : Verb). AreGiven rows (values_of v)) same complete.2 in
+    elim lacks.2 [
+      | inl missing ↦ absurd (none_missing rows told (values_of lacks.0) given missing.0 missing.1)
+      | inr wrong ↦ (lacks.0, lacks.1, given, wrong)
+    ]

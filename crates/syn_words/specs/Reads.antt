@@ -1,0 +1,185 @@
+-- What a command and its values say of the words.
+use Rattle.std.specs.Prelude.{◌≡◌, ◌≢◌, ◌⊎◌, ◌↔◌, ◌<◌, ◌^◌, ℕ, List, [], ◌∷◌, Option, Some, None}
+use Rattle.std.specs.Prelude.{IsTrue, codes}
+use Rattle.std.specs.Str.Parse.{IsNumeral, digits_value}
+use Rattle.clap.specs.Words.{IsAmong, Row, Text, fault_of, first_of, kind_of, subcommand_of}
+use Rattle.clap.specs.declared.error.Error.{Error}
+use Rattle.clap.specs.declared.error.kind.ErrorKind.TheVariants.{DisplayHelp, DisplayVersion}
+use Rattle.syn_words.specs.App.{syn_app}
+use Rattle.syn_words.specs.Verbs.{edit_verb, name_of, values_of, word_of}
+use Rattle.syn_words.specs.declared.error.LineError.{LineError}
+use Rattle.syn_words.specs.declared.error.LineError.TheVariants.{Usage, Value, Memory}
+use Rattle.syn_words.specs.declared.line.Change.{Change}
+use Rattle.syn_words.specs.declared.line.ImageKind.{ImageKind}
+use Rattle.syn_words.specs.declared.line.ImageKind.TheVariants.{Replica, Archive}
+use Rattle.syn_words.specs.declared.line.Line.{Line}
+use Rattle.syn_words.specs.declared.line.Line.TheVariants as line
+use Rattle.syn_words.specs.declared.line.Place.{Place}
+use Rattle.syn_words.specs.declared.line.Place.TheVariants as place
+use Rattle.syn_words.specs.declared.value.ValueName.{ValueName}
+use Rattle.syn_words.specs.declared.value.ValueName.TheVariants as value
+use Rattle.syn_words.specs.declared.verb.Verb.{Verb}
+use Rattle.syn_words.specs.declared.verb.Verb.TheVariants as verb
+
+-- the text is decimal digits that spell n, a number of so many bits
+pub record IsNumber (bits : ℕ) (text : Text) (n : ℕ) : Type 0 where
+  pub digits : IsNumeral 10 text
+  pub value : digits_value 10 text ≡ n
+  pub fits : n < 2 ^ bits
+
+-- the text given for an id
+abbrev pub HasText : List Row → Text → Text → Type 0
+HasText rows id text = first_of id rows ≡ Some text
+
+-- the number given for an id
+abbrev pub HasNumber : ℕ → List Row → Text → ℕ → Type 0
+HasNumber bits rows id n = (text : Text) × HasText rows id text × IsNumber bits text n
+
+-- the number given for an id, or none where nothing is given
+abbrev pub MayHaveNumber : ℕ → List Row → Text → Option ℕ → Type 0
+MayHaveNumber bits rows id None = first_of id rows ≡ None
+MayHaveNumber bits rows id (Some n) = HasNumber bits rows id n
+
+-- the flag is used: `clap` then gives its id this text
+abbrev pub IsSet : List Row → Text → Type 0
+IsSet rows id = HasText rows id (codes "true")
+
+-- a file, or with the flag the address of a server in its place
+abbrev pub HasPlace : List Row → Place → Type 0
+HasPlace rows (place.File file) =
+    HasText rows (name_of value.File) file.now × ¬ IsSet rows (codes "served")
+HasPlace rows (place.Served address) =
+    HasText rows (name_of value.File) address.now × IsSet rows (codes "served")
+
+-- the word of a kind
+abbrev pub kind_word : ImageKind → Text
+kind_word Replica = codes "replica"
+kind_word Archive = codes "archive"
+
+-- the command of a line
+abbrev pub verb_of : Line → Verb
+verb_of (line.Format kind pair file) = verb.Format
+verb_of (line.Edit edit) = edit_verb edit.change
+verb_of (line.Show file) = verb.Show
+verb_of (line.ShowPath place path) = verb.Show
+verb_of (line.Check file) = verb.Check
+verb_of (line.Serve file address connections) = verb.Serve
+verb_of (line.Sync archive left right) = verb.Sync
+verb_of (line.Run left right archive) = verb.Run
+verb_of (line.Simulate script is_traced) = verb.Simulate
+
+-- the values of a line are those that are given
+abbrev pub HasValues : List Row → Line → Type 0
+HasValues rows (line.Format kind pair file) = HasText rows (name_of value.Kind) (kind_word kind)
+    × HasNumber 64 rows (name_of value.Pair) pair × HasText rows (name_of value.File) file.now
+HasValues rows (line.Edit edit) = HasPlace rows edit.place
+    × HasNumber 32 rows (name_of value.User) edit.user
+    × HasText rows (name_of value.Path) edit.path.now
+HasValues rows (line.Show file) = HasPlace rows (place.File file)
+    × (first_of (name_of value.Path) rows ≡ None)
+HasValues rows (line.ShowPath place path) = HasPlace rows place
+    × HasText rows (name_of value.Path) path.now
+HasValues rows (line.Check file) = HasText rows (name_of value.File) file.now
+HasValues rows (line.Serve file address connections) = HasText rows (name_of value.File) file.now
+    × HasText rows (name_of value.Address) address.now
+    × MayHaveNumber 64 rows (name_of value.Connections) connections
+HasValues rows (line.Sync archive left right) = HasText rows (name_of value.Archive) archive.now
+    × HasText rows (name_of value.Left) left.now × HasText rows (name_of value.Right) right.now
+HasValues rows (line.Run left right archive) = HasText rows (name_of value.Left) left.now
+    × HasText rows (name_of value.Right) right.now
+    × HasText rows (name_of value.Archive) archive.now
+HasValues rows (line.Simulate script is_traced) = HasText rows (name_of value.Script) script.now
+    × (IsTrue is_traced ↔ IsSet rows (codes "trace"))
+
+-- the line is that of the subcommand and its rows
+abbrev pub ReadsRows : Text → List Row → Line → Type 0
+ReadsRows name rows line = (name ≡ word_of (verb_of line)) × HasValues rows line
+
+abbrev pub Reads : Option (Text × List Row) → Line → Type 0
+Reads None line = ⊥
+Reads (Some found) line = ReadsRows found.0 found.1 line
+
+-- no line is that of the subcommand
+abbrev pub NothingReads : Option (Text × List Row) → Type 0
+NothingReads found = (line : Line) → ¬ Reads found line
+
+-- a text is given for the id
+abbrev pub IsGiven : List Row → Text → Type 0
+IsGiven rows id = (text : Text) × HasText rows id text
+
+-- a text is given for each of the values
+abbrev pub AreGiven : List Row → List ValueName → Type 0
+AreGiven rows [] = Unit {0}
+AreGiven rows (v ∷ values) = IsGiven rows (name_of v) × AreGiven rows values
+
+-- the text given for KIND is the word of none
+abbrev pub IsOtherKind : List Row → Type 0
+IsOtherKind rows = (text : Text) × HasText rows (name_of value.Kind) text
+    × ((kind : ImageKind) → text ≢ kind_word kind)
+
+-- the text given for the id is no number of so many bits
+abbrev pub IsNoNumber : ℕ → List Row → Text → Type 0
+IsNoNumber bits rows id = (text : Text) × HasText rows id text × ((n : ℕ) → ¬ IsNumber bits text n)
+
+-- a server is asked for no path, and it lists no whole image
+abbrev pub IsPathless : List Row → Type 0
+IsPathless rows = IsSet rows (codes "served") × (first_of (name_of value.Path) rows ≡ None)
+
+abbrev pub IsEdit : Verb → Type 0
+IsEdit v = (change : Change) × (v ≡ edit_verb change)
+
+-- this value of the command is wrong: the KIND or the PAIR of a format, the USER of an edit, the
+-- number of connections of a server, or the PATH that is missing to show what a server has
+abbrev pub IsWrong : Verb → List Row → ValueName → Type 0
+IsWrong v rows value.Kind = (v ≡ verb.Format) × IsOtherKind rows
+IsWrong v rows value.Pair = (v ≡ verb.Format) × IsNoNumber 64 rows (name_of value.Pair)
+IsWrong v rows value.User = IsEdit v × IsNoNumber 32 rows (name_of value.User)
+IsWrong v rows value.Connections =
+    (v ≡ verb.Serve) × IsNoNumber 64 rows (name_of value.Connections)
+IsWrong v rows value.Path = (v ≡ verb.Show) × IsPathless rows
+IsWrong v rows _ = ⊥
+
+-- the name is that of a command, each value that the command requires is given, and this one is
+-- wrong
+abbrev pub IsWrongIn : Text → List Row → ValueName → Type 0
+IsWrongIn name rows told = (v : Verb) × (name ≡ word_of v) × AreGiven rows (values_of v)
+    × IsWrong v rows told
+
+abbrev pub IsWrongValue : Option (Text × List Row) → ValueName → Type 0
+IsWrongValue None told = ⊥
+IsWrongValue (Some found) told = IsWrongIn found.0 found.1 told
+
+-- the words ask for what the line says: `clap` takes them, and their values are the line's
+pub record Asks (words : List Text) (line : Line) : Type 0 where
+  pub taken : fault_of syn_app words ≡ []
+  pub reads : Reads (subcommand_of syn_app words) line
+
+-- the words ask for the help or the version
+abbrev pub AsksHelp : List Text → Type 0
+AsksHelp words = IsAmong DisplayHelp (fault_of syn_app words)
+    ⊎ IsAmong DisplayVersion (fault_of syn_app words)
+
+-- a value is wrong
+abbrev pub IsValue : LineError → Type 0
+IsValue (Value told) = Unit {0}
+IsValue _ = ⊥
+
+-- a fact of the value that is wrong
+abbrev pub IfValue : LineError → (ValueName → Type 0) → Type 0
+IfValue (Value told) P = P told
+IfValue _ P = Unit {0}
+
+-- a fact of what `clap` tells, where it refuses the words
+abbrev pub IfUsage : LineError → (Error → Type 0) → Type 0
+IfUsage (Usage error) P = P error
+IfUsage _ P = Unit {0}
+
+-- the help or the version is asked for
+abbrev pub IsRequest : LineError → Type 0
+IsRequest (Usage error) = (kind_of error ≡ DisplayHelp) ⊎ (kind_of error ≡ DisplayVersion)
+IsRequest _ = ⊥
+
+-- the words are wrong
+abbrev pub IsMistake : LineError → Type 0
+IsMistake Memory = ⊥
+IsMistake _ = Unit {0}

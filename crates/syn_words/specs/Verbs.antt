@@ -1,0 +1,63 @@
+-- The commands of the program and their values, with the words that name them.
+use Rattle.std.specs.Prelude.{List, [], ◌∷◌, codes}
+use Rattle.clap.specs.Words.{Text}
+use Rattle.syn_words.specs.declared.line.Change.{Change}
+use Rattle.syn_words.specs.declared.line.Change.TheVariants as change
+use Rattle.syn_words.specs.declared.value.ValueName.{ValueName}
+use Rattle.syn_words.specs.declared.value.ValueName.TheVariants.{Command, Kind, Pair, User, File}
+use Rattle.syn_words.specs.declared.value.ValueName.TheVariants.{Path, Address, Connections}
+use Rattle.syn_words.specs.declared.value.ValueName.TheVariants.{Archive, Left, Right, Script}
+use Rattle.syn_words.specs.declared.verb.Verb.{Verb}
+use Rattle.syn_words.specs.declared.verb.Verb.TheVariants.{Format, Put, MakeDir, Remove, Show}
+use Rattle.syn_words.specs.declared.verb.Verb.TheVariants.{Check, Serve, Sync, Run, Simulate}
+
+-- the word of a command
+abbrev pub word_of : Verb → Text
+word_of Format = codes "format"
+word_of Put = codes "put"
+word_of MakeDir = codes "mkdir"
+word_of Remove = codes "rm"
+word_of Show = codes "show"
+word_of Check = codes "check"
+word_of Serve = codes "serve"
+word_of Sync = codes "sync"
+word_of Run = codes "run"
+word_of Simulate = codes "simulate"
+
+-- all commands
+abbrev pub verbs : List Verb
+verbs = Format ∷ Put ∷ MakeDir ∷ Remove ∷ Show ∷ Check ∷ Serve ∷ Sync ∷ Run ∷ Simulate ∷ []
+
+-- the id of a value for `clap`
+abbrev pub name_of : ValueName → Text
+name_of Command = codes "COMMAND"
+name_of Kind = codes "KIND"
+name_of Pair = codes "PAIR"
+name_of User = codes "USER"
+name_of File = codes "FILE"
+name_of Path = codes "PATH"
+name_of Address = codes "ADDR"
+name_of Connections = codes "N"
+name_of Archive = codes "ARCHIVE"
+name_of Left = codes "LEFT"
+name_of Right = codes "RIGHT"
+name_of Script = codes "SCRIPT"
+
+-- the values that a command requires, in their order
+abbrev pub values_of : Verb → List ValueName
+values_of Format = Kind ∷ Pair ∷ File ∷ []
+values_of Put = File ∷ User ∷ Path ∷ []
+values_of MakeDir = File ∷ User ∷ Path ∷ []
+values_of Remove = File ∷ User ∷ Path ∷ []
+values_of Show = File ∷ []
+values_of Check = File ∷ []
+values_of Serve = File ∷ Address ∷ []
+values_of Sync = Archive ∷ Left ∷ Right ∷ []
+values_of Run = Left ∷ Right ∷ Archive ∷ []
+values_of Simulate = Script ∷ []
+
+-- the command of an edit
+abbrev pub edit_verb : Change → Verb
+edit_verb change.Put = Put
+edit_verb change.MakeDir = MakeDir
+edit_verb change.Remove = Remove

@@ -1,0 +1,154 @@
+//! The commands of the program, as `clap` reads and explains them.
+ghost use Rattle.std.specs.Prelude.{◌≡◌, IfOk, false};
+ghost use Rattle.clap.specs.Words.{app_of, with_rule};
+ghost use Rattle.clap.specs.declared.Command.TheViews.{out-Command};
+ghost use Rattle.syn_words.specs.App.{flag_rule, option_rule, syn_app, top_app, verb_app};
+ghost use Rattle.syn_words.specs.App.{verbose_rule, with_options, word_app};
+
+use crate::value::ValueName;
+use crate::verb::Verb;
+use clap::{Arg, ArgAction, Command};
+use std::alloc::{AllocError, Global};
+
+/// What the words of a command line stand for, as the help ends.
+const TERMS: &str = "\
+An image is a file of 8 MiB. It holds a replica, which is a tree of files and directories with the
+history of its edits, or an archive, which is what two replicas last agreed on. A pair is the number
+of the two replicas that are to be kept the same, and of their archive. A user is the number of
+somebody who edits. HOST:PORT is the name or the address of a machine, a colon and the number of a
+port, as in localhost:7070, where a server listens. syn reads and writes images alone, and no folder
+of yours.";
+
+/// What the help says of the flag of each command.
+const VERBOSE: &str = "Says behind a refusal, in plain words, what was refused";
+
+/// What the help says of the flag by which a server is asked.
+const SERVED: &str = "Asks the server at HOST:PORT, which stands in the place of FILE";
+
+/// What the help says of the flag by which a simulation tells its steps.
+const TRACE: &str = "Prints each message, stop and opening before the reports";
+
+/// The command with the flag, whose id is its long name too.
+fn with_flag<'a>(
+    alloc: Global,
+    command: Command<'a>,
+    id: &'a str,
+    help: &'a str,
+) -> Result<Command<'a>, AllocError>
+    requires { (out-Command command).has_globals ≡ false }
+    ensures app { IfOk result (λ c.
+        app_of c ≡ with_rule (app_of command.entry) (flag_rule id.entry.now)) }
+    ensures globals { IfOk result (λ c. (out-Command c).has_globals ≡ false) }
+{
+    let flag = Arg::new(alloc, id).long(id).action(ArgAction::SetTrue);
+    command.arg(flag.help(help))
+}
+
+/// The command with the option of this long name, which has a value.
+fn with_option<'a>(
+    alloc: Global,
+    command: Command<'a>,
+    id: &'a str,
+    long: &'a str,
+    help: &'a str,
+) -> Result<Command<'a>, AllocError>
+    requires { (out-Command command).has_globals ≡ false }
+    ensures app { IfOk result (λ c.
+        app_of c ≡ with_rule (app_of command.entry) (option_rule id.entry.now long.entry.now)) }
+    ensures globals { IfOk result (λ c. (out-Command c).has_globals ≡ false) }
+{
+    let option = Arg::new(alloc, id).long(long);
+    command.arg(option.help(help))
+}
+
+/// The command with the flag that asks for an explanation.
+fn with_verbose<'a>(alloc: Global, command: Command<'a>) -> Result<Command<'a>, AllocError>
+    requires { (out-Command command).has_globals ≡ false }
+    ensures app { IfOk result (λ c. app_of c ≡ with_rule (app_of command.entry) verbose_rule) }
+    ensures globals { IfOk result (λ c. (out-Command c).has_globals ≡ false) }
+{
+    let flag = Arg::new(alloc, "verbose")
+        .short('v')
+        .long("verbose")
+        .action(ArgAction::SetTrue);
+    command.arg(flag.help(VERBOSE))
+}
+
+/// A command with its values, each required, in the order of their names.
+fn word_command<'a>(alloc: Global, verb: Verb) -> Result<Command<'a>, AllocError>
+    ensures app { IfOk result (λ c. app_of c ≡ word_app verb) }
+    ensures globals { IfOk result (λ c. (out-Command c).has_globals ≡ false) }
+{
+    let name: &'a str = verb.as_str();
+    let about: &'a str = verb.about();
+    let mut command = Command::new(alloc, name).about(about);
+    let values = verb.values();
+    for value in values {
+        let id: &'a str = value.as_str();
+        let help: &'a str = value.help(verb);
+        let arg = Arg::new(alloc, id).required(true);
+        command = command.arg(arg.help(help))?;
+    }
+    Ok(command)
+}
+
+/// The command with what may be left out of it.
+fn with_optional<'a>(
+    alloc: Global,
+    verb: Verb,
+    command: Command<'a>,
+) -> Result<Command<'a>, AllocError>
+    requires { (out-Command command).has_globals ≡ false }
+    ensures app { IfOk result (λ c. app_of c ≡ with_options verb (app_of command.entry)) }
+    ensures globals { IfOk result (λ c. (out-Command c).has_globals ≡ false) }
+{
+    match verb {
+        Verb::Put | Verb::MakeDir | Verb::Remove => with_flag(alloc, command, "served", SERVED),
+        Verb::Show => {
+            let help: &'a str = ValueName::Path.help(verb);
+            let path = Arg::new(alloc, "PATH").help(help);
+            with_flag(alloc, command.arg(path)?, "served", SERVED)
+        }
+        Verb::Serve => {
+            let help: &'a str = ValueName::Connections.help(verb);
+            with_option(alloc, command, "N", "connections", help)
+        }
+        Verb::Simulate => with_flag(alloc, command, "trace", TRACE),
+        Verb::Format | Verb::Check | Verb::Sync | Verb::Run => Ok(command),
+    }
+}
+
+/// The whole command.
+fn verb_command<'a>(alloc: Global, verb: Verb) -> Result<Command<'a>, AllocError>
+    ensures app { IfOk result (λ c. app_of c ≡ verb_app verb) }
+    ensures globals { IfOk result (λ c. (out-Command c).has_globals ≡ false) }
+{
+    let words = word_command(alloc, verb)?;
+    let command = with_optional(alloc, verb, words)?;
+    with_verbose(alloc, command)
+}
+
+/// The program, with no command yet.
+fn top_command<'a>(alloc: Global) -> Result<Command<'a>, AllocError>
+    ensures app { IfOk result (λ c. app_of c ≡ top_app) }
+    ensures globals { IfOk result (λ c. (out-Command c).has_globals ≡ false) }
+{
+    let top = Command::new(alloc, "syn")
+        .about("A crash-safe synchronizer of file trees")
+        .version("0.1.0")
+        .after_help(TERMS)
+        .subcommand_required(true);
+    with_verbose(alloc, top)
+}
+
+/// The program with its commands.
+pub(crate) fn syn_command<'a>(alloc: Global) -> Result<Command<'a>, AllocError>
+    ensures { IfOk result (λ c. app_of c ≡ syn_app) }
+{
+    let mut top = top_command(alloc)?;
+    for verb in Verb::ALL {
+        let command = verb_command(alloc, verb)?;
+        top = top.subcommand(command)?;
+    }
+    Ok(top)
+}

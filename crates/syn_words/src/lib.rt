@@ -1,0 +1,20 @@
+//! What the words of a command line ask for.
+//!
+//! The words are read by `clap`, whose commands are made here. A line is what the words say, or
+//! there is none, and then it is told which value is wrong, or what `clap` says of the words.
+#![tactic(auto)]
+
+mod commands;
+mod error;
+mod line;
+mod lines;
+mod value;
+mod values;
+mod verb;
+mod words;
+
+pub use error::LineError;
+pub use line::{Asked, Change, EditLine, ImageKind, Line, Place};
+pub use value::ValueName;
+pub use verb::Verb;
+pub use words::read_words;

@@ -1,0 +1,110 @@
+//! What a command line asks for.
+ghost use Rattle.std.specs.Prelude.{◌≡◌};
+ghost use Rattle.syn_words.specs.Places.{text_of};
+
+/// What an image holds.
+#[derive(Clone, Copy, Debug, PartialEq, Eq)]
+pub enum ImageKind {
+    /// A tree of files with the history of its edits.
+    Replica,
+    /// The marks that both sides last agreed on.
+    Archive,
+}
+
+/// What an edit does.
+#[derive(Clone, Copy, Debug, PartialEq, Eq)]
+pub enum Change {
+    /// Puts standard input.
+    Put,
+    /// Makes a directory.
+    MakeDir,
+    /// Removes what stands there, with all below it.
+    Remove,
+}
+
+/// Where a replica is.
+#[derive(Clone, Copy, Debug, PartialEq, Eq)]
+pub enum Place<'a> {
+    /// In the file of this name.
+    File(&'a str),
+    /// Behind the server at this HOST:PORT. The text is looked at when it is used.
+    Served(&'a str),
+}
+
+impl<'a> Place<'a> {
+    /// The name of the file, or the address of the server.
+    pub fn as_str(&self) -> &'a str
+        ensures { result.now ≡ text_of self.now }
+    {
+        match self {
+            Place::File(file) => file,
+            Place::Served(address) => address,
+        }
+    }
+}
+
+/// An edit of a replica at a path, by a user.
+#[derive(Clone, Copy, Debug, PartialEq, Eq)]
+pub struct EditLine<'a> {
+    pub change: Change,
+    pub place: Place<'a>,
+    pub user: u32,
+    pub path: &'a str,
+}
+
+/// A command with its values.
+#[derive(Clone, Copy, Debug, PartialEq, Eq)]
+pub enum Line<'a> {
+    /// Makes the file an image of the kind, for the pair.
+    Format {
+        kind: ImageKind,
+        pair: u64,
+        file: &'a str,
+    },
+    /// Edits a replica.
+    Edit(EditLine<'a>),
+    /// Prints the whole image in a file.
+    Show {
+        file: &'a str,
+    },
+    /// Prints what stands at the path.
+    ShowPath {
+        place: Place<'a>,
+        path: &'a str,
+    },
+    /// Prints the numbers of the image in a file.
+    Check {
+        file: &'a str,
+    },
+    /// Serves the replica in a file at the address, until so many connections were served.
+    Serve {
+        file: &'a str,
+        address: &'a str,
+        connections: Option<u64>,
+    },
+    /// Runs a session of the replicas that are served at two addresses, with the archive in a file.
+    Sync {
+        archive: &'a str,
+        left: &'a str,
+        right: &'a str,
+    },
+    /// Runs a session of the replicas and the archive in three files.
+    Run {
+        left: &'a str,
+        right: &'a str,
+        archive: &'a str,
+    },
+    /// Runs the steps of a script on a world of three machines in memory, and tells each of them
+    /// where it is traced.
+    Simulate {
+        script: &'a str,
+        is_traced: bool,
+    },
+}
+
+/// A command, and whether a refusal of it is to be explained.
+#[derive(Clone, Copy, Debug, PartialEq, Eq)]
+pub struct Asked<'a> {
+    pub line: Line<'a>,
+    pub is_verbose: bool,
+}

@@ -1,0 +1,185 @@
+//! The line of each command, from the values that `clap` found.
+ghost use Rattle.std.specs.Prelude.{◌≡◌, IfOk, IfErr, None};
+ghost use Rattle.clap.specs.Words.{first_of, found_of, rows_of};
+ghost use Rattle.syn_words.specs.Reads.{HasNumber, HasPlace, HasText, IsNoNumber};
+ghost use Rattle.syn_words.specs.Reads.{MayHaveNumber, kind_word};
+ghost use Rattle.syn_words.specs.Verbs.{edit_verb, name_of};
+ghost use Rattle.syn_words.specs.inner.Lacking.{IsLack, IsLineOf};
+ghost use Rattle.syn_words.specs.declared.line.Change.{Change as Edits};
+
+use crate::error::LineError;
+use crate::line::{Change, EditLine, ImageKind, Line};
+use crate::value::ValueName;
+use crate::values::{image_kind, is_set, number, optional_text, place, text, user};
+use crate::verb::Verb;
+use clap::ArgMatches;
+
+/// The line of the command, or the first value of it that is missing or wrong.
+pub(crate) fn line_of<'a>(verb: Verb, found: &ArgMatches<'a>) -> Result<Line<'a>, LineError>
+    ensures ok { IfOk result (IsLineOf verb (rows_of (found_of found.now))) }
+    ensures lacks { IfErr result (IsLack verb (rows_of (found_of found.now))) }
+{
+    match verb {
+        Verb::Format => format_line(found),
+        Verb::Put => edit_line(Change::Put, found),
+        Verb::MakeDir => edit_line(Change::MakeDir, found),
+        Verb::Remove => edit_line(Change::Remove, found),
+        Verb::Show => show_line(found),
+        Verb::Check => check_line(found),
+        Verb::Serve => serve_line(found),
+        Verb::Sync => sync_line(found),
+        Verb::Run => run_line(found),
+        Verb::Simulate => simulate_line(found),
+    }
+}
+
+fn format_line<'a>(found: &ArgMatches<'a>) -> Result<Line<'a>, LineError>
+    ensures ok { IfOk result (IsLineOf Verb.Format (rows_of (found_of found.now))) }
+    ensures lacks { IfErr result (IsLack Verb.Format (rows_of (found_of found.now))) }
+{
+    let kind = kind_given(found)?;
+    let pair = pair_given(found)?;
+    let file = text(found, ValueName::File)?;
+    Ok(Line::Format { kind, pair, file })
+}
+
+fn kind_given(found: &ArgMatches<'_>) -> Result<ImageKind, LineError>
+    ensures ok { IfOk result (λ kind. HasText (rows_of (found_of found.now))
+        (name_of ValueName.Kind) (kind_word kind)) }
+    ensures lacks { IfErr result (IsLack Verb.Format (rows_of (found_of found.now))) }
+{
+    image_kind(text(found, ValueName::Kind)?)
+}
+
+fn pair_given(found: &ArgMatches<'_>) -> Result<u64, LineError>
+    ensures ok { IfOk result (HasNumber 64 (rows_of (found_of found.now))
+        (name_of ValueName.Pair)) }
+    ensures lacks { IfErr result (IsLack Verb.Format (rows_of (found_of found.now))) }
+{
+    number(text(found, ValueName::Pair)?, ValueName::Pair)
+}
+
+/// The edit of the change, whose word was read.
+#[tactic(auto, using(crate::proofs::LackLemmas::edit_missing))]
+fn edit_line<'a>(change: Change, found: &ArgMatches<'a>) -> Result<Line<'a>, LineError>
+    ensures ok { IfOk result (IsLineOf (edit_verb change) (rows_of (found_of found.now))) }
+    ensures lacks { IfErr result (IsLack (edit_verb change) (rows_of (found_of found.now))) }
+{
+    let place = place(found)?;
+    let user = user_given(found)?;
+    let path = text(found, ValueName::Path)?;
+    Ok(Line::Edit(EditLine {
+        change,
+        place,
+        user,
+        path,
+    }))
+}
+
+#[tactic(auto, using(crate::proofs::LackLemmas::edit_missing))]
+fn user_given(found: &ArgMatches<'_>) -> Result<u32, LineError>
+    ensures ok { IfOk result (HasNumber 32 (rows_of (found_of found.now))
+        (name_of ValueName.User)) }
+    ensures lacks { (change : Edits)
+        → IfErr result (IsLack (edit_verb change) (rows_of (found_of found.now))) }
+{
+    user(text(found, ValueName::User)?)
+}
+
+/// What is to be printed. A server is asked for a path alone, since it lists no whole image.
+fn show_line<'a>(found: &ArgMatches<'a>) -> Result<Line<'a>, LineError>
+    ensures ok { IfOk result (IsLineOf Verb.Show (rows_of (found_of found.now))) }
+    ensures lacks { IfErr result (IsLack Verb.Show (rows_of (found_of found.now))) }
+{
+    match optional_text(found, ValueName::Path) {
+        Some(path) => {
+            let place = place(found)?;
+            Ok(Line::ShowPath { place, path })
+        }
+        None => show_image_line(found),
+    }
+}
+
+/// The whole image is to be printed.
+fn show_image_line<'a>(found: &ArgMatches<'a>) -> Result<Line<'a>, LineError>
+    requires { first_of (name_of ValueName.Path) (rows_of (found_of found.now)) ≡ None }
+    ensures ok { IfOk result (IsLineOf Verb.Show (rows_of (found_of found.now))) }
+    ensures lacks { IfErr result (IsLack Verb.Show (rows_of (found_of found.now))) }
+{
+    let file = text(found, ValueName::File)?;
+    if is_set(found, "served") {
+        Err(LineError::Value(ValueName::Path))
+    } else {
+        Ok(Line::Show { file })
+    }
+}
+
+fn check_line<'a>(found: &ArgMatches<'a>) -> Result<Line<'a>, LineError>
+    ensures ok { IfOk result (IsLineOf Verb.Check (rows_of (found_of found.now))) }
+    ensures lacks { IfErr result (IsLack Verb.Check (rows_of (found_of found.now))) }
+{
+    let file = text(found, ValueName::File)?;
+    Ok(Line::Check { file })
+}
+
+fn serve_line<'a>(found: &ArgMatches<'a>) -> Result<Line<'a>, LineError>
+    ensures ok { IfOk result (IsLineOf Verb.Serve (rows_of (found_of found.now))) }
+    ensures lacks { IfErr result (IsLack Verb.Serve (rows_of (found_of found.now))) }
+{
+    let file = text(found, ValueName::File)?;
+    let address = text(found, ValueName::Address)?;
+    let connections = connections_given(found)?;
+    Ok(Line::Serve {
+        file,
+        address,
+        connections,
+    })
+}
+
+fn connections_given(found: &ArgMatches<'_>) -> Result<Option<u64>, LineError>
+    ensures ok { IfOk result (MayHaveNumber 64 (rows_of (found_of found.now))
+        (name_of ValueName.Connections)) }
+    ensures lacks { IfErr result (IsLack Verb.Serve (rows_of (found_of found.now))) }
+{
+    match optional_text(found, ValueName::Connections) {
+        Some(text) => Ok(Some(number(text, ValueName::Connections)?)),
+        None => Ok(None),
+    }
+}
+
+fn sync_line<'a>(found: &ArgMatches<'a>) -> Result<Line<'a>, LineError>
+    ensures ok { IfOk result (IsLineOf Verb.Sync (rows_of (found_of found.now))) }
+    ensures lacks { IfErr result (IsLack Verb.Sync (rows_of (found_of found.now))) }
+{
+    let archive = text(found, ValueName::Archive)?;
+    let left = text(found, ValueName::Left)?;
+    let right = text(found, ValueName::Right)?;
+    Ok(Line::Sync {
+        archive,
+        left,
+        right,
+    })
+}
+
+fn run_line<'a>(found: &ArgMatches<'a>) -> Result<Line<'a>, LineError>
+    ensures ok { IfOk result (IsLineOf Verb.Run (rows_of (found_of found.now))) }
+    ensures lacks { IfErr result (IsLack Verb.Run (rows_of (found_of found.now))) }
+{
+    let left = text(found, ValueName::Left)?;
+    let right = text(found, ValueName::Right)?;
+    let archive = text(found, ValueName::Archive)?;
+    Ok(Line::Run {
+        left,
+        right,
+        archive,
+    })
+}
+
+fn simulate_line<'a>(found: &ArgMatches<'a>) -> Result<Line<'a>, LineError>
+    ensures ok { IfOk result (IsLineOf Verb.Simulate (rows_of (found_of found.now))) }
+    ensures lacks { IfErr result (IsLack Verb.Simulate (rows_of (found_of found.now))) }
+{
+    let script = text(found, ValueName::Script)?;
+    let is_traced = is_set(found, "trace");
+    Ok(Line::Simulate { script, is_traced })
+}

@@ -1,0 +1,94 @@
+//! What the words of a command stand for.
+ghost use Rattle.std.specs.Prelude.{◌≡◌};
+ghost use Rattle.syn_words.specs.Verbs.{name_of};
+
+use crate::verb::Verb;
+
+/// What a word of a command stands for.
+#[derive(Clone, Copy, Debug, PartialEq, Eq)]
+pub enum ValueName {
+    Command,
+    Kind,
+    Pair,
+    User,
+    File,
+    Path,
+    Address,
+    Connections,
+    Archive,
+    Left,
+    Right,
+    Script,
+}
+
+impl ValueName {
+    /// Its id for `clap`, which is printed in the help too.
+    pub fn as_str(self) -> &'static str
+        ensures { result.now ≡ name_of self }
+    {
+        match self {
+            ValueName::Command => "COMMAND",
+            ValueName::Kind => "KIND",
+            ValueName::Pair => "PAIR",
+            ValueName::User => "USER",
+            ValueName::File => "FILE",
+            ValueName::Path => "PATH",
+            ValueName::Address => "ADDR",
+            ValueName::Connections => "N",
+            ValueName::Archive => "ARCHIVE",
+            ValueName::Left => "LEFT",
+            ValueName::Right => "RIGHT",
+            ValueName::Script => "SCRIPT",
+        }
+    }
+
+    /// What it has to be.
+    pub fn wanted(self) -> &'static str {
+        match self {
+            ValueName::Kind => "'replica' or 'archive'",
+            ValueName::Pair | ValueName::Connections => "a decimal number below 2^64",
+            ValueName::User => "a decimal number below 2^32",
+            ValueName::Path => "given with '--served'",
+            _ => "there",
+        }
+    }
+
+    /// What the help of the command says of it.
+    pub(crate) fn help(self, verb: Verb) -> &'static str {
+        match (self, verb) {
+            (ValueName::File, _) => file_help(verb),
+            (ValueName::Left, Verb::Sync) => "HOST:PORT of the server of the left replica",
+            (ValueName::Right, Verb::Sync) => "HOST:PORT of the server of the right replica",
+            _ => self.plain_help(),
+        }
+    }
+
+    /// What the help says of it where each command has it for the same.
+    fn plain_help(self) -> &'static str {
+        match self {
+            ValueName::Command => "What to do",
+            ValueName::Kind => "What the image is to hold: 'replica' or 'archive'",
+            ValueName::Pair => "The number of the pair that the image belongs to, below 2^64",
+            ValueName::User => "The number of the user who makes the edit, below 2^32",
+            ValueName::File => "The file that has the image",
+            ValueName::Path => "A path in the image: '.' for its root, else names parted by '/'",
+            ValueName::Address => "HOST:PORT to listen at",
+            ValueName::Connections => "Ends when N connections were served, below 2^64",
+            ValueName::Archive => "The file that has the archive",
+            ValueName::Left => "The file that has the left replica",
+            ValueName::Right => "The file that has the right replica",
+            ValueName::Script => "The file that has the steps, one a line",
+        }
+    }
+}
+
+/// What the help of the command says of its file.
+fn file_help(verb: Verb) -> &'static str {
+    match verb {
+        Verb::Put | Verb::MakeDir | Verb::Remove | Verb::Show => {
+            "The file that has the image, or with '--served' HOST:PORT of its server"
+        }
+        Verb::Serve => "The file that has the replica",
+        _ => "The file that has the image",
+    }
+}

@@ -1,0 +1,100 @@
+//! Reads the values of a command.
+ghost use Rattle.std.specs.Prelude.{◌≡◌, ◌≢◌, ◌↔◌, ℕ, IfOk, IfErr, OnErr, Some, None, IsTrue};
+ghost use Rattle.std.specs.Prelude.{IfSome, IfNone};
+ghost use Rattle.clap.specs.Words.{first_of, found_of, rows_of};
+ghost use Rattle.syn_words.specs.Reads.{HasPlace, IsNumber, IsSet, kind_word};
+ghost use Rattle.syn_words.specs.Verbs.{name_of};
+ghost use Rattle.syn_words.specs.declared.error.LineError.TheVariants.{Value};
+ghost use Rattle.syn_words.specs.declared.line.ImageKind.{ImageKind};
+
+use crate::error::LineError;
+use crate::line::{ImageKind, Place};
+use crate::value::ValueName;
+use clap::ArgMatches;
+
+/// The text that is given for the value.
+#[tactic(auto, using(crate::proofs::LineLemmas::first_value_rows))]
+pub(crate) fn text<'a>(found: &ArgMatches<'a>, value: ValueName) -> Result<&'a str, LineError>
+    ensures ok { IfOk result (λ text. first_of (name_of value) (rows_of (found_of found.now))
+        ≡ Some text.now) }
+    ensures value { IfErr result (λ error. error ≡ Value value) }
+    ensures nothing { OnErr result
+        (first_of (name_of value) (rows_of (found_of found.now)) ≡ None) }
+{
+    match found.get_str(value.as_str()) {
+        Some(text) => Ok(text),
+        None => Err(LineError::Value(value)),
+    }
+}
+
+/// The text that is given for the value, if any is.
+#[tactic(auto, using(crate::proofs::LineLemmas::first_value_rows))]
+pub(crate) fn optional_text<'a>(found: &ArgMatches<'a>, value: ValueName) -> Option<&'a str>
+    ensures some { IfSome result (λ text. first_of (name_of value) (rows_of (found_of found.now))
+        ≡ Some text.now) }
+    ensures none { IfNone result
+        (first_of (name_of value) (rows_of (found_of found.now)) ≡ None) }
+{
+    found.get_str(value.as_str())
+}
+
+/// Whether the flag is among the words. `clap` gives a flag that is the text `true`.
+#[tactic(auto, using(crate::proofs::LineLemmas::first_value_rows))]
+pub(crate) fn is_set(found: &ArgMatches<'_>, id: &str) -> bool
+    ensures { IsTrue result ↔ IsSet (rows_of (found_of found.now)) id.now }
+{
+    matches!(found.get_str(id), Some("true"))
+}
+
+/// The file or the server that is given.
+pub(crate) fn place<'a>(found: &ArgMatches<'a>) -> Result<Place<'a>, LineError>
+    ensures ok { IfOk result (λ place. HasPlace (rows_of (found_of found.now)) place) }
+    ensures value { IfErr result (λ error. error ≡ Value ValueName.File) }
+    ensures nothing { OnErr result
+        (first_of (name_of ValueName.File) (rows_of (found_of found.now)) ≡ None) }
+{
+    let text = text(found, ValueName::File)?;
+    if is_set(found, "served") {
+        Ok(Place::Served(text))
+    } else {
+        Ok(Place::File(text))
+    }
+}
+
+/// The decimal number below 2^64 that the text of the value writes, in digits alone.
+pub(crate) fn number(text: &str, value: ValueName) -> Result<u64, LineError>
+    ensures ok { IfOk result (λ n. IsNumber 64 text.now n) }
+    ensures value { IfErr result (λ error. error ≡ Value value) }
+    ensures nothing { OnErr result ((n : ℕ) → ¬ IsNumber 64 text.now n) }
+{
+    if text.starts_with('+') {
+        return Err(LineError::Value(value));
+    }
+    text.parse::<u64>().map_err(|_| LineError::Value(value))
+}
+
+/// The decimal number below 2^32 that the text of a user writes, in digits alone.
+pub(crate) fn user(text: &str) -> Result<u32, LineError>
+    ensures ok { IfOk result (λ n. IsNumber 32 text.now n) }
+    ensures value { IfErr result (λ error. error ≡ Value ValueName.User) }
+    ensures nothing { OnErr result ((n : ℕ) → ¬ IsNumber 32 text.now n) }
+{
+    if text.starts_with('+') {
+        return Err(LineError::Value(ValueName::User));
+    }
+    text.parse::<u32>()
+        .map_err(|_| LineError::Value(ValueName::User))
+}
+
+/// The kind of image that the text names.
+pub(crate) fn image_kind(text: &str) -> Result<ImageKind, LineError>
+    ensures ok { IfOk result (λ kind. text.now ≡ kind_word kind) }
+    ensures value { IfErr result (λ error. error ≡ Value ValueName.Kind) }
+    ensures nothing { OnErr result ((kind : ImageKind) → text.now ≢ kind_word kind) }
+{
+    match text {
+        "replica" => Ok(ImageKind::Replica),
+        "archive" => Ok(ImageKind::Archive),
+        _ => Err(LineError::Value(ValueName::Kind)),
+    }
+}

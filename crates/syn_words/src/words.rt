@@ -1,0 +1,78 @@
+//! Reads a command line by `clap`.
+ghost use Rattle.std.specs.Prelude.{◌≡◌, ◌≢◌, [], IfOk, IfErr, map};
+ghost use Rattle.clap.specs.Words.{IsAmong, fault_of, found_of, kind_of, rows_of, subcommand_of};
+ghost use Rattle.syn_words.specs.App.{syn_app};
+ghost use Rattle.syn_words.specs.Reads.{Asks, IfUsage, IfValue, IsValue, IsWrongValue};
+ghost use Rattle.syn_words.specs.Reads.{NothingReads, ReadsRows};
+ghost use Rattle.syn_words.specs.inner.Lacking.{IsLackOf};
+
+use crate::commands::syn_command;
+use crate::error::LineError;
+use crate::line::Asked;
+use crate::lines::line_of;
+use crate::value::ValueName;
+use crate::verb::read_verb;
+use clap::ArgMatches;
+use clap::error::ErrorKind;
+use std::alloc::Global;
+
+/// The command that the words ask for. The first word is the program's own.
+///
+/// What `clap` refuses, the help and the version are `Usage`, and a value that is wrong is told by
+/// its name. Refused memory is `Memory`.
+pub fn read_words<'a>(alloc: Global, words: &'a [&'a str]) -> Result<Asked<'a>, LineError>
+    ensures ok { IfOk result (λ asked. Asks (map (λ word. word.now) words.entry.now) asked.line) }
+    ensures usage { IfErr result (λ error. IfUsage error
+        (λ told. IsAmong (kind_of told) (fault_of syn_app
+        (map (λ word. word.now) words.entry.now)))) }
+
+    // Where `clap` takes the words, a value is wrong: no line is what they say.
+    ensures value { IfErr result (λ error. IsValue error
+        → (fault_of syn_app (map (λ word. word.now) words.entry.now) ≡ [])
+        × NothingReads (subcommand_of syn_app (map (λ word. word.now) words.entry.now))) }
+
+    // And then the words name a command with each value that it requires, and the value that is
+    // told is wrong.
+    ensures wrong { IfErr result (λ error. IfValue error
+        (IsWrongValue (subcommand_of syn_app (map (λ word. word.now) words.entry.now)))) }
+{
+    let command = syn_command(alloc)?;
+    let matches = match command.try_get_matches_from(words) {
+        Ok(matches) => matches,
+        Err(error) => return Err(told(error)),
+    };
+    let Some((name, found)) = matches.subcommand() else {
+        return Err(LineError::Value(ValueName::Command));
+    };
+    let is_verbose = matches.get_flag("verbose") || found.get_flag("verbose");
+    asked_of(name, found, is_verbose)
+}
+
+/// What a parse that failed is told as.
+fn told(error: clap::Error) -> LineError
+    ensures usage { IfUsage result (λ told. (told ≡ error)
+        × (kind_of error ≢ ErrorKind.OutOfMemory)) }
+    ensures value { ¬ IsValue result }
+{
+    match error.kind() {
+        ErrorKind::OutOfMemory => LineError::Memory,
+        _ => LineError::Usage(error),
+    }
+}
+
+/// The command of a name and its matches, and whether a refusal is to be explained.
+fn asked_of<'a>(
+    name: &'a str,
+    found: &ArgMatches<'a>,
+    is_verbose: bool,
+) -> Result<Asked<'a>, LineError>
+    ensures ok { IfOk result (λ asked.
+        ReadsRows name.entry.now (rows_of (found_of found.now)) asked.line) }
+    ensures lacks { IfErr result (IsLackOf name.entry.now (rows_of (found_of found.now))) }
+{
+    let Some(verb) = read_verb(name) else {
+        return Err(LineError::Value(ValueName::Command));
+    };
+    let line = line_of(verb, found)?;
+    Ok(Asked { line, is_verbose })
+}
