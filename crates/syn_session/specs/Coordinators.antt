@@ -1,12 +1,12 @@
 -- What a coordinator shows, which of the model's machines it is, and what a call does.
 use Rattle.std.specs.Prelude.{◌≡◌, ◌++◌, ℕ, nat_le, Bool, true, not, ◌&&◌, List, [], ◌∷◌, map}
-use Rattle.std.specs.Prelude.{Option, Some, None, option_map, is_some, if◌then◌else◌}
+use Rattle.std.specs.Prelude.{Option, Some, None, length, option_map, is_some, if◌then◌else◌}
 use Rattle.syn_archive.specs.Archive.{disk_of}
 use Rattle.syn_archive.specs.declared.archive.Archive.{Archive}
 use Rattle.syn_disk.specs.Arms.{is_stopped}
 use Rattle.syn_disk.specs.declared.disk.Disk.{Ghosts}
 use Rattle.syn_headline.specs.Coordinator.{Call, CoordinatorMachine, archive_layout, no_call}
-use Rattle.syn_headline.specs.Coordinator.{start_causes, with_archive}
+use Rattle.syn_headline.specs.Coordinator.{Running, start_causes, with_archive}
 use Rattle.syn_headline.specs.Machine.{Arms, Compacts, Down, Status, after_device}
 use Rattle.syn_headline.specs.Network.{Message}
 use Rattle.syn_headline.specs.Report.{Report}
@@ -59,6 +59,11 @@ module _ {D : Type 0} {disk : Ghosts D} (coordinator : Coordinator D disk) where
     pub untried : is_some machine.running ≡ true → tried_shown ≡ None
     -- and it remembers one that was
     pub tries : Tries pair tried_shown machine.journal
+
+-- how many items the plan of a session that runs has
+abbrev pub items_planned : Option Running → Option ℕ
+items_planned None = None
+items_planned (Some running) = option_map length running.plan
 
 -- the report of a session that ended in a call
 abbrev pub in_report : Option Report → List Report

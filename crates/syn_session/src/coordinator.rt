@@ -57,7 +57,7 @@ pub struct Coordinator<D: Disk> {
 impl<D: Disk> Coordinator<D> {
     ghost use Rattle.syn_session.specs.Coordinators.{Does, Stands, all_causes, archive_of, broken};
     ghost use Rattle.syn_session.specs.Coordinators.{device_of, refusals_of, report_shown, runs};
-    ghost use Rattle.syn_session.specs.Coordinators.{tried_shown, written};
+    ghost use Rattle.syn_session.specs.Coordinators.{items_planned, tried_shown, written};
     ghost use Rattle.syn_session.specs.Tries.{HoldsTried};
 
     /// A coordinator over the archive, with no session. It takes no memory.
@@ -108,6 +108,15 @@ impl<D: Disk> Coordinator<D> {
         ensures { result ≡ runs self.now }
     {
         self.running.is_some()
+    }
+
+    /// How many items the plan of the session that runs has; none before the plan is made, and
+    /// where no session runs.
+    pub fn planned(&self) -> Option<usize>
+        ensures { (pair : ℕ) (machine : CoordinatorMachine) → Stands self.now pair machine
+            → result ≡ items_planned machine.running }
+    {
+        self.running.as_ref()?.planned()
     }
 
     /// What the session that ended last reported; none before the first ends, and from the start of

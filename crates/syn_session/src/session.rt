@@ -1,6 +1,6 @@
 //! A session that runs.
 ghost use Rattle.std.specs.Prelude.{◌≡◌, ◌<◌, ◌^◌, ◌⊎◌, ◌||◌, ℕ, None, Some, false, IfOk, IfErr};
-ghost use Rattle.std.specs.Prelude.{IfSome, MatchResult, OnOk, option_map};
+ghost use Rattle.std.specs.Prelude.{IfSome, MatchResult, OnOk, length, option_map};
 ghost use Rattle.syn_headline.specs.Coordinator.{Running, asked_in, is_not_dir, report_of};
 ghost use Rattle.syn_headline.specs.Network.{Left, Right};
 ghost use Rattle.syn_headline.specs.Session.{fault_of};
@@ -73,6 +73,14 @@ impl Session {
             is_unstable: false,
             course: None,
         })
+    }
+
+    /// How many items its plan has, once that is made.
+    pub(crate) fn planned(&self) -> Option<usize>
+        ensures { result ≡ option_map (λ course. length course.items.items) self.now.course }
+    {
+        let course = self.course.as_ref()?;
+        Some(course.items.len())
     }
 
     /// The requests that wait, for the left and then for the right. Refused 11 where memory is

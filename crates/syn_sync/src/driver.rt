@@ -201,8 +201,11 @@ impl<R: Read, W: Write> Driver<R, W> {
     }
 }
 
-/// Tells the watch what the coordinator wrote into its archive.
+/// Tells the watch how many items the plan has, and what the coordinator wrote into its archive.
 fn tell_kept<D: Limit, V: Watch>(watch: &mut V, coordinator: &Coordinator<D>) {
+    if let Some(items) = coordinator.planned() {
+        watch.planned(items);
+    }
     let (written, _) = coordinator.kept();
     watch.kept(written);
 }

@@ -43,13 +43,15 @@ pub struct Progress<W> {
     replaced: bool,
     /// The refused items that were told.
     told: Vec<Path>,
+    /// How many items the plan has, as far as that was told.
+    planned: usize,
     settled: u64,
     fetched: u64,
 }
 
 impl<W: Write> Progress<W> {
-    /// Nothing was told yet. With `counts` a last line says how many items were settled and how
-    /// many bytes were fetched, and is written again in its place: it wants a terminal.
+    /// Nothing was told yet. With `counts` a last line says how many items of the plan were settled
+    /// and how many bytes were fetched. It is written again in its place, so it wants a terminal.
     pub fn new(alloc: Global, writer: W, counts: bool) -> Progress<W>
         ensures { writer_in result ≡ writer }
     {
@@ -61,6 +63,7 @@ impl<W: Write> Progress<W> {
             waiting: None,
             replaced: false,
             told: Vec::new(alloc),
+            planned: 0,
             settled: 0,
             fetched: 0,
         }
@@ -79,6 +82,7 @@ impl<W: Write> Progress<W> {
         }
         self.begin(None);
         self.told.clear();
+        self.planned = 0;
         self.settled = 0;
         self.fetched = 0;
     }
@@ -176,7 +180,7 @@ impl<W: Write> Progress<W> {
         if !self.counts {
             return;
         }
-        if let Ok(line) = count_line(self.alloc, self.settled, self.fetched) {
+        if let Ok(line) = count_line(self.alloc, self.settled, self.planned, self.fetched) {
             self.write("\r");
             self.write(&line);
         }
@@ -216,6 +220,10 @@ impl<W: Write> Watch for Progress<W> {
             Reply::Refused(why) => self.refuse(*why),
             _ => {}
         }
+    }
+
+    fn planned(&mut self, items: usize) {
+        self.planned = items;
     }
 
     fn kept(&mut self, kept: &[Kept]) {

@@ -39,8 +39,13 @@ pub(crate) fn refused_line(alloc: Global, why: Refusal, path: &Path) -> Result<S
 }
 
 /// The line of the counts, with no end, since the next takes its place.
-pub(crate) fn count_line(alloc: Global, settled: u64, fetched: u64) -> Result<String, AllocError>
-    ensures { IfOk result (λ line. string_bytes line ≡ count_line settled fetched) }
+pub(crate) fn count_line(
+    alloc: Global,
+    settled: u64,
+    planned: usize,
+    fetched: u64,
+) -> Result<String, AllocError>
+    ensures { IfOk result (λ line. string_bytes line ≡ count_line settled planned fetched) }
 {
-    format!(in alloc; "{settled} items, {fetched} bytes")
+    format!(in alloc; "{settled} of {planned} items, {fetched} bytes")
 }

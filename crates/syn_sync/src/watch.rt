@@ -13,6 +13,10 @@ pub trait Watch {
     /// The side replied. The coordinator takes the reply behind this call.
     fn heard(&mut self, from: Side, answered: &Answered);
 
+    /// The plan of the session has so many items. It is told behind each reply that the coordinator
+    /// took and that did not end the session, once there is a plan.
+    fn planned(&mut self, items: usize);
+
     /// The coordinator took the reply, and this is what it wrote into its archive then, in order.
     fn kept(&mut self, kept: &[Kept]);
 }
@@ -25,6 +29,8 @@ impl Watch for Unwatched {
     fn sent(&mut self, _sending: &Sending) {}
 
     fn heard(&mut self, _from: Side, _answered: &Answered) {}
+
+    fn planned(&mut self, _items: usize) {}
 
     fn kept(&mut self, _kept: &[Kept]) {}
 }

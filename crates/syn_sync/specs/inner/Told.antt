@@ -18,7 +18,7 @@ abbrev pub refused_line : Refusal → Path → List ℕ
 refused_line cause path = codes "refused "
     ++ (decimal (number cause) ++ (codes " " ++ (printed_form path ++ codes "\n")))
 
--- how many items were settled, and how many bytes were fetched
-abbrev pub count_line : ℕ → ℕ → List ℕ
-count_line settled fetched =
-    decimal settled ++ (codes " items, " ++ (decimal fetched ++ codes " bytes"))
+-- how many items of the plan were settled, and how many bytes were fetched
+abbrev pub count_line : ℕ → ℕ → ℕ → List ℕ
+count_line settled planned fetched = decimal settled
+    ++ (codes " of " ++ (decimal planned ++ (codes " items, " ++ (decimal fetched ++ codes " bytes"))))
