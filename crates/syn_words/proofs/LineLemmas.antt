@@ -14,6 +14,7 @@ use Rattle.syn_words.specs.Reads.{Asks, AsksHelp, IfUsage, IsMistake, IsRequest,
 use Rattle.syn_words.specs.declared.error.LineError.{LineError}
 use Rattle.syn_words.specs.declared.error.LineError.TheVariants.{Usage, Value, Memory}
 use Rattle.syn_words.specs.declared.line.Line.{Line}
+use Rattle.syn_words.specs.inner.Lacking.{IsLackOf}
 
 -- `get_str` reads the first value of a row
 pub first_value_rows : (f : _) (id : Text) → first_value f id ≡ first_of id (rows_of f)
@@ -30,11 +31,11 @@ unfolding syn_app clap_on_literals
 syn_is_free = refl
 
 -- an error that is not for want of memory has one of the kinds
-pub is_among : (kinds : Kinds) (e : Error) → HasKind kinds e → (kind_of e ≡ OutOfMemory → ⊥) → IsAmong (kind_of e) kinds
+is_among : (kinds : Kinds) (e : Error) → HasKind kinds e → (kind_of e ≡ OutOfMemory → ⊥) → IsAmong (kind_of e) kinds
 is_among kinds e has other = elim has [ inl memory ↦ absurd (other memory) | inr among ↦ among ]
 
 -- what `clap` says of a command that is the program's, said of the program's
-pub fault_among : (app : App) (words : List Text) (e : Error) → app ≡ syn_app → (is_simple_and_free app ≡ true → HasKind (fault_of app words) e) → (kind_of e ≡ OutOfMemory → ⊥) → IsAmong (kind_of e) (fault_of syn_app words)
+fault_among : (app : App) (words : List Text) (e : Error) → app ≡ syn_app → (is_simple_and_free app ≡ true → HasKind (fault_of app words) e) → (kind_of e ≡ OutOfMemory → ⊥) → IsAmong (kind_of e) (fault_of syn_app words)
 fault_among app words e same has other =
     let P : App → Type 0 = λ a. is_simple_and_free a ≡ true → HasKind (fault_of a words) e in
     is_among _ e (subst P same has syn_is_free) other
@@ -44,10 +45,13 @@ no_fault app words same none =
     let P : App → Type 0 = λ a. is_simple_and_free a ≡ true → fault_of a words ≡ [] in
     subst P same none syn_is_free
 
-pub IfUsage-weaker : (error : LineError) (P Q : Error → Type 0) → ((e : Error) → P e → Q e) → IfUsage error P → IfUsage error Q
-IfUsage-weaker (Usage e) P Q h p = h e p
-IfUsage-weaker (Value id) P Q h p = tt
-IfUsage-weaker Memory P Q h p = tt
+-- so what is told of such an error is of the kinds
+pub told_among : (error : LineError) (app : App) (words : List Text) (e : Error) → app ≡ syn_app → (is_simple_and_free app ≡ true → HasKind (fault_of app words) e)
+    → IfUsage error (λ told. (told ≡ e) × (kind_of e ≡ OutOfMemory → ⊥)) → IfUsage error (λ told. IsAmong (kind_of told) (fault_of syn_app words))
+told_among (Usage told) app words e same has from =
+    let P : Error → Type 0 = λ x. IsAmong (kind_of x) (fault_of syn_app words) in subst P (sym from.0) (fault_among app words e same has from.1)
+told_among (Value id) app words e same has from = tt
+told_among Memory app words e same has from = tt
 
 -- an option of pairs by its two sides
 pub pair_found : {B X Y : Type 0} (o : Option B) (f : B → X) (g : B → Y) (x : X) (y : Y)
@@ -97,12 +101,17 @@ is_asked (Usage e) words request among = elim request [
 is_asked (Value id) words request among = absurd request
 is_asked Memory words request among = absurd request
 
--- where the words are wrong they ask for nothing
-pub is_no_line : (error : LineError) (words : List Text) → IsMistake error
+-- where `clap` refuses the words they ask for nothing
+pub is_no_line : (error : LineError) (words : List Text) → (IsValue error → ⊥)
     → IfUsage error (λ told. IsAmong (kind_of told) (fault_of syn_app words))
-    → (IsValue error → (fault_of syn_app words ≡ []) × NothingReads (subcommand_of syn_app words))
-    → (line : Line) → Asks words line → ⊥
-is_no_line (Usage e) words mistake among value line asks =
+    → IsMistake error → (line : Line) → Asks words line → ⊥
+is_no_line (Usage e) words no_value among mistake line asks =
     let P : Kinds → Type 0 = λ kinds. IsAmong (kind_of e) kinds in subst P asks.taken among
-is_no_line (Value id) words mistake among value line asks = (value tt).1 line asks.reads
-is_no_line Memory words mistake among value line asks = mistake
+is_no_line (Value id) words no_value among mistake line asks = no_value tt
+is_no_line Memory words no_value among mistake line asks = mistake
+
+-- where a value is told, no help was asked for
+pub is_no_request : (error : LineError) (name : Text) (rows : List Row) → IsLackOf name rows error → IsRequest error → ⊥
+is_no_request (Usage e) name rows lacks request = lacks
+is_no_request (Value told) name rows lacks request = request
+is_no_request Memory name rows lacks request = request

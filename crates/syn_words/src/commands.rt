@@ -20,7 +20,7 @@ port, as in localhost:7070, where a server listens. syn reads and writes images 
 of yours.";
 
 /// What the help says of the flag of each command.
-const VERBOSE: &str = "Says behind a refusal, in plain words, what was refused";
+const VERBOSE: &str = "Explains a refusal in plain words, and tells each item of a session";
 
 /// What the help says of the flag by which a server is asked.
 const SERVED: &str = "Asks the server at HOST:PORT, which stands in the place of FILE";

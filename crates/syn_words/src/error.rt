@@ -10,7 +10,8 @@ pub enum LineError {
     #[error("{0}")]
     Usage(clap::Error),
     /// The value of this name is not what it has to be.
-    #[error("error: invalid value for '<{}>': it has to be {}\n\nFor more information, try '--help'.\n", .0.as_str(), .0.wanted())]
+    #[error("error: invalid value for '<{}>': it has to be {}\n\n\
+        For more information, try '--help'.\n", .0.as_str(), .0.wanted())]
     Value(ValueName),
     /// Memory was refused.
     #[error("Memory")]

@@ -2,8 +2,9 @@
 ghost use Rattle.std.specs.Prelude.{◌≡◌, ◌≢◌, [], IfOk, IfErr, map};
 ghost use Rattle.clap.specs.Words.{IsAmong, fault_of, found_of, kind_of, rows_of, subcommand_of};
 ghost use Rattle.syn_words.specs.App.{syn_app};
-ghost use Rattle.syn_words.specs.Reads.{Asks, IfUsage, IfValue, IsValue, IsWrongValue};
-ghost use Rattle.syn_words.specs.Reads.{NothingReads, ReadsRows};
+ghost use Rattle.syn_words.specs.Reads.{Asks, AsksHelp, IfUsage, IfValue, IsMistake, IsRequest};
+ghost use Rattle.syn_words.specs.Reads.{IsValue, IsWrongValue, ReadsRows};
+ghost use Rattle.syn_words.specs.declared.line.Line.{Line};
 ghost use Rattle.syn_words.specs.inner.Lacking.{IsLackOf};
 
 use crate::commands::syn_command;
@@ -22,14 +23,23 @@ use std::alloc::Global;
 /// its name. Refused memory is `Memory`.
 pub fn read_words<'a>(alloc: Global, words: &'a [&'a str]) -> Result<Asked<'a>, LineError>
     ensures ok { IfOk result (λ asked. Asks (map (λ word. word.now) words.entry.now) asked.line) }
+
+    // The help and the version are told only where the words ask for them.
+    ensures asked { IfErr result (λ error. IsRequest error
+        → AsksHelp (map (λ word. word.now) words.entry.now)) }
+
+    // Where anything but refused memory is told, the words ask for no line.
+    ensures mistaken { IfErr result (λ error. IsMistake error
+        → (line : Line) → ¬ Asks (map (λ word. word.now) words.entry.now) line) }
+
+    // What `clap` tells is of the kinds that it states of the words.
     ensures usage { IfErr result (λ error. IfUsage error
         (λ told. IsAmong (kind_of told) (fault_of syn_app
         (map (λ word. word.now) words.entry.now)))) }
 
-    // Where `clap` takes the words, a value is wrong: no line is what they say.
-    ensures value { IfErr result (λ error. IsValue error
-        → (fault_of syn_app (map (λ word. word.now) words.entry.now) ≡ [])
-        × NothingReads (subcommand_of syn_app (map (λ word. word.now) words.entry.now))) }
+    // A value is told only where `clap` takes the words.
+    ensures taken { IfErr result (λ error. IsValue error
+        → fault_of syn_app (map (λ word. word.now) words.entry.now) ≡ []) }
 
     // And then the words name a command with each value that it requires, and the value that is
     // told is wrong.

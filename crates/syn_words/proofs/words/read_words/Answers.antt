@@ -1,13 +1,26 @@
 use Rattle.std.proofs.Common.{map}
 use Rattle.std.proofs.lemmas.Result.{IfOk-weaker, IfErr-weaker}
 use Rattle.clap.specs.Words.{found_of, rows_of}
-use Rattle.syn_words.proofs.LineLemmas.{fault_among, no_fault, nothing_read, reads_found, subcommand_is, subcommand_none, IfUsage-weaker}
+use Rattle.syn_words.proofs.LineLemmas.{is_asked, is_no_line, is_no_request, no_fault, nothing_read, reads_found, subcommand_is, subcommand_none, told_among}
 use Rattle.syn_words.proofs.WrongLemmas.{lack_nothing, lack_wrong, names_one}
 use Rattle.syn_words.proofs.words.read_words.Goals as goal
 
 pub returns-in-Err-clause-usage : goal.returns-in-Err-clause-usage
 returns-in-Err-clause-usage c =
-    IfUsage-weaker c.told.result _ _ (λ e told. rw told.0 (fault_among _ _ c.in-Err.error c.in_ok-command.ensures c.in-Err.ensures.kinds told.1)) c.told.ensures.usage
+    let words = map (λ word. word.now) c.args.words.now in
+    told_among c.told.result _ words _ c.in_ok-command.ensures c.in-Err.ensures.kinds c.told.ensures.usage
+
+pub returns-in-Err-clause-asked : goal.returns-in-Err-clause-asked
+returns-in-Err-clause-asked c request =
+    let words = map (λ word. word.now) c.args.words.now in
+    is_asked c.told.result words request
+    (told_among c.told.result _ words _ c.in_ok-command.ensures c.in-Err.ensures.kinds c.told.ensures.usage)
+
+pub returns-in-Err-clause-mistaken : goal.returns-in-Err-clause-mistaken
+returns-in-Err-clause-mistaken c =
+    let words = map (λ word. word.now) c.args.words.now in
+    is_no_line c.told.result words c.told.ensures.value
+    (told_among c.told.result _ words _ c.in_ok-command.ensures c.in-Err.ensures.kinds c.told.ensures.usage)
 
 pub returns-clause-ok : goal.returns-clause-ok
 returns-clause-ok c =
@@ -21,17 +34,25 @@ returns-clause-ok c =
       reads = reads_found _ _ _ told.line found read;
     }) c.asked_of.ensures.ok
 
-pub returns-clause-value : goal.returns-clause-value
-returns-clause-value c =
+pub returns-clause-asked : goal.returns-clause-asked
+returns-clause-asked c =
+    IfErr-weaker c.asked_of.result _ _ (λ error lacks request. absurd (is_no_request error _ _ lacks request))
+    c.asked_of.ensures.lacks
+
+pub returns-clause-mistaken : goal.returns-clause-mistaken
+returns-clause-mistaken c =
     let words = map (λ word. word.now) c.args.words.now in
     let found =
     subcommand_is c.in-Ok.matches _ words c.in-Some.name.now
     (rows_of (found_of c.in-Some.found.now)) c.in_ok-command.ensures c.in-Ok.ensures.matches
     c.in-Some.ensures.name c.in-Some.ensures.rows in
-    IfErr-weaker c.asked_of.result _ _ (λ error lacks _. (
-      no_fault _ _ c.in_ok-command.ensures c.in-Ok.ensures.kinds,
-      nothing_read _ _ _ found (lack_nothing _ _ error lacks),
-    )) c.asked_of.ensures.lacks
+    IfErr-weaker c.asked_of.result _ _ (λ error lacks _ line asks.
+    nothing_read _ _ _ found (lack_nothing _ _ error lacks) line asks.reads) c.asked_of.ensures.lacks
+
+pub returns-clause-taken : goal.returns-clause-taken
+returns-clause-taken c =
+    IfErr-weaker c.asked_of.result _ _ (λ error _ _. no_fault _ _ c.in_ok-command.ensures c.in-Ok.ensures.kinds)
+    c.asked_of.ensures.lacks
 
 pub returns-clause-wrong : goal.returns-clause-wrong
 returns-clause-wrong c =
@@ -44,11 +65,14 @@ returns-clause-wrong c =
     IfErr-weaker c.asked_of.result _ _ (λ error lacks. lack_wrong words _ _ error taken found lacks)
     c.asked_of.ensures.lacks
 
-pub returns-in_default-clause-value : goal.returns-in_default-clause-value
-returns-in_default-clause-value c =
+pub returns-in_default-clause-mistaken : goal.returns-in_default-clause-mistaken
+returns-in_default-clause-mistaken c _ _ _ =
     let words = map (λ word. word.now) c.args.words.now in
-    absurd (names_one words (no_fault _ _ c.in_ok-command.ensures c.in-Ok.ensures.kinds)
-    (subcommand_none c.in-Ok.matches _ words c.in_ok-command.ensures c.in-Ok.ensures.matches c.in_default.ensures.variant))
+    names_one words (no_fault _ _ c.in_ok-command.ensures c.in-Ok.ensures.kinds)
+    (subcommand_none c.in-Ok.matches _ words c.in_ok-command.ensures c.in-Ok.ensures.matches c.in_default.ensures.variant)
+
+pub returns-in_default-clause-taken : goal.returns-in_default-clause-taken
+returns-in_default-clause-taken c _ = no_fault _ _ c.in_ok-command.ensures c.in-Ok.ensures.kinds
 
 pub returns-in_default-clause-wrong : goal.returns-in_default-clause-wrong
 returns-in_default-clause-wrong c =
