@@ -1,0 +1,63 @@
+-- A coordinator that nobody called, and refusals of one that was driven.
+use Rattle.std.proofs.Common.{◌≡◌, ℕ, [], false, refl, sym, subst, inl}
+use Rattle.std.specs.Prelude.{IfErr, None, Result, Ok, Err}
+use Rattle.syn_daemon.specs.Sessions.{DrivesSession, RefusesRun, RefusesSync, drive_refused}
+use Rattle.syn_daemon.specs.Sessions.{no_port, run_refused, unreached}
+use Rattle.syn_disk.specs.declared.disk.Disk.{Ghosts}
+use Rattle.syn_headline.specs.Coordinator.{CoordinatorMachine}
+use Rattle.syn_model.specs.Refusal.{Device, Refusal}
+use Rattle.syn_refusal.specs.Refusals.{cause_of}
+use Rattle.syn_refusal.specs.declared.refusal.Refusal.{Refusal as Answer}
+use Rattle.syn_session.specs.Coordinators.{Stands}
+use Rattle.syn_session.specs.declared.coordinator.Coordinator.{Coordinator}
+use Rattle.syn_sync.proofs.WriteLemmas.{writes_nothing}
+use Rattle.syn_sync.specs.Drivers.{Lines, Outlets}
+use Rattle.syn_sync.specs.Refusals.{Refuses}
+
+module _ {D : Type 0} {disk : Ghosts D} where
+  -- it was driven by no act
+  pub untouched : (coordinator : Coordinator D disk) (pair : ℕ) (machine : CoordinatorMachine)
+      (why : Answer) → Stands coordinator pair machine
+      → DrivesSession coordinator pair machine (Err why)
+  untouched coordinator pair machine why stands =
+      let lines : Lines = λ side. record { given = None; held = [] } in
+      let outlets : Outlets = λ side. record { written = None; goes = false } in record {
+        lines = lines;
+        heard = lines;
+        from = outlets;
+        to = outlets;
+        drives = record {
+          acts = [];
+          reached = machine;
+          leads = refl;
+          ends = inl stands;
+          hears = λ side. refl;
+          writes = λ side. writes_nothing (outlets side) false;
+        };
+        begins = tt;
+      }
+
+  pub sync_unreached : (coordinator : Coordinator D disk) (pair : ℕ)
+      (machine : CoordinatorMachine) (why : Refusal) → why ≡ Device
+      → RefusesSync coordinator coordinator pair machine why
+  sync_unreached coordinator pair machine why is =
+      subst (λ w. RefusesSync coordinator coordinator pair machine w) (sym is) (unreached refl)
+
+  pub run_unreached : (coordinator : Coordinator D disk) (pair : ℕ)
+      (machine : CoordinatorMachine) (why : Refusal) → why ≡ Device
+      → RefusesRun coordinator coordinator pair machine why
+  run_unreached coordinator pair machine why is =
+      subst (λ w. RefusesRun coordinator coordinator pair machine w) (sym is) (no_port refl)
+
+  module _ (old new : Coordinator D disk) (pair : ℕ) (machine : CoordinatorMachine) where
+    pub sync_driven : (result : Result Unit Answer)
+        → IfErr result (λ why. Refuses old new pair machine (cause_of why))
+        → IfErr result (λ why. RefusesSync old new pair machine (cause_of why))
+    sync_driven (Ok x) refused = tt
+    sync_driven (Err why) refused = drive_refused (cause_of why) refused
+
+    pub run_driven : (result : Result Unit Answer)
+        → IfErr result (λ why. Refuses old new pair machine (cause_of why))
+        → IfErr result (λ why. RefusesRun old new pair machine (cause_of why))
+    run_driven (Ok x) refused = tt
+    run_driven (Err why) refused = run_refused (cause_of why) refused

@@ -1,0 +1,97 @@
+//! The checkpointer's thread.
+ghost use Rattle.syn_lock.specs.Locks.{IsLock};
+ghost use Rattle.syn_shared.specs.Shared.{IsFor, own_of};
+
+use crate::server::Server;
+use log::{Log, info, warn};
+use std::sync::Wait;
+use syn_disk::Disk;
+use syn_lock::{Naming, Pass};
+use syn_refusal::Refusal;
+use syn_replica::Replica;
+use syn_serve::{Kept, keep_up};
+use syn_shared::{SharedError, SharedReplica};
+
+/// Makes a step for each ring of the bell, until it is told to end.
+///
+/// Where a step finds the lock taken it needs no second try: whoever has the lock is a worker,
+/// which rings when it has left, and that ring was not taken up yet.
+pub(crate) fn keep<H: Wait + Log, D: Disk, L: Naming<Replica<D>>>(server: &Server<'_, H, D, L>)
+    requires { IsLock L.lock L.origin (own_of server.now.shared.now) }
+{
+    let Some(named) = server.own_pool.draw(server.rt) else {
+        return;
+    };
+    let mut pass = named.into_pass();
+    for _ in server.rt.forever() {
+        if !server.bell.wait(server.rt) {
+            return;
+        }
+        let kept = keep_up(server.alloc, server.shared, &mut pass, server.least_room);
+        tell(server, &mut pass, kept);
+    }
+}
+
+/// Logs what a step did.
+fn tell<H: Wait + Log, D: Disk, L: Naming<Replica<D>>>(
+    server: &Server<'_, H, D, L>,
+    pass: &mut Pass<Replica<D>>,
+    kept: Kept,
+)
+    requires { IsFor server.now.shared.now pass.old }
+    ensures { IsFor server.now.shared.now pass.new }
+{
+    match kept {
+        Kept::Busy => {}
+        Kept::Rested => {}
+        Kept::Checkpointed(Ok(())) => {
+            let generation = generation_of(server.rt, server.shared, pass);
+            info!(server.rt; "checkpoint {generation}");
+        }
+        Kept::Reopened(Ok(())) => info!(server.rt; "reopened"),
+        Kept::Checkpointed(Err(error)) => tell_refused(server, error),
+        Kept::Reopened(Err(error)) => tell_failed(server, error),
+    }
+}
+
+/// Logs a checkpoint that was refused. One that was refused 9 left the replica halted, and nobody
+/// else may come to ring.
+fn tell_refused<H: Wait + Log, D: Disk, L: Naming<Replica<D>>>(
+    server: &Server<'_, H, D, L>,
+    error: SharedError,
+) {
+    match error.refusal() {
+        Refusal::Busy => {}
+        why => warn!(server.rt; "checkpoint refused {} {why}", why.number()),
+    }
+    if let Refusal::Device = error.refusal() {
+        server.bell.ring(server.rt);
+    }
+}
+
+/// Logs a reopening that was refused. The next answer rings for another.
+fn tell_failed<H: Wait + Log, D: Disk, L: Naming<Replica<D>>>(
+    server: &Server<'_, H, D, L>,
+    error: SharedError,
+) {
+    match error.refusal() {
+        Refusal::Busy => {}
+        why => warn!(server.rt; "reopening refused {} {why}", why.number()),
+    }
+}
+
+/// The generation of the replica's image.
+fn generation_of<H: Wait, D: Disk>(
+    rt: &H,
+    shared: &SharedReplica<D>,
+    pass: &mut Pass<Replica<D>>,
+) -> u64
+    requires { IsFor shared.now pass.old }
+    ensures { IsFor shared.now pass.new }
+{
+    let own = shared.own();
+    let guard = pass.enter(rt, own);
+    let generation = guard.generation();
+    own.leave(guard);
+    generation
+}

@@ -1,0 +1,249 @@
+//! Sessions over connections to servers.
+ghost use Rattle.std.specs.Prelude.{◌≡◌, ℕ, false, IfErr, OnOk};
+ghost use Rattle.syn_daemon.specs.Sessions.{DrivesSession, RefusesRun, RefusesSync};
+ghost use Rattle.syn_daemon.specs.inner.Started.{RunsSession};
+ghost use Rattle.syn_disk.specs.Arms.{is_stopped};
+ghost use Rattle.syn_headline.specs.Coordinator.{CoordinatorMachine};
+ghost use Rattle.syn_model.specs.Refusal.{Device};
+ghost use Rattle.syn_refusal.specs.Refusals.{cause_of};
+ghost use Rattle.syn_session.specs.Coordinators.{Stands, device_of, runs};
+ghost use Rattle.syn_sync.specs.Refusals.{Refuses};
+
+use crate::gates::Gates;
+use crate::server::serve;
+use log::{Log, warn};
+use std::alloc::Global;
+use std::io::{Read, Write};
+use std::net::{Net, OpenListener, TcpListener, TcpStream, ToSocketAddrs};
+use std::sync::Wait;
+use std::thread;
+use std::thread::{Scope, Threads};
+use std::time::{Clock, Duration};
+use syn_disk::{Disk, Limit};
+use syn_refusal::Refusal;
+use syn_session::Coordinator;
+use syn_shared::SharedReplica;
+use syn_sync::{Driver, Link, Watch};
+
+/// How long a session waits for a side that sends nothing. Then the side counts as gone.
+const MOST_SECONDS: u64 = 60;
+
+/// Drives one session with the servers at these addresses, each `HOST:PORT`, and closes both
+/// connections. The coordinator has the report.
+///
+/// Refused 9 where an address cannot be resolved or reached, and 12 where both are of one server,
+/// which would be marked as agreeing with itself: no session runs then. Else refused as
+/// `Driver::run` is.
+pub fn sync<H: Net<Listener = TcpListener, Stream = TcpStream>, C: Limit, V: Watch>(
+    rt: &H,
+    alloc: Global,
+    coordinator: &mut Coordinator<C>,
+    left: &str,
+    right: &str,
+    watch: &mut V,
+) -> Result<(), Refusal>
+    ensures drives { (pair : ℕ) (machine : CoordinatorMachine)
+        → Stands coordinator.old pair machine
+        → DrivesSession coordinator.new pair machine result }
+    ensures refused { (pair : ℕ) (machine : CoordinatorMachine)
+        → Stands coordinator.old pair machine
+        → IfErr result (λ why. RefusesSync coordinator.old coordinator.new pair machine
+        (cause_of why)) }
+    ensures ended { OnOk result (runs coordinator.new ≡ false) }
+    ensures goes { OnOk result (is_stopped (C.Disk.arms (device_of coordinator.new)) ≡ false) }
+{
+    let left = match reach(rt, left) {
+        Ok(stream) => stream,
+        Err(why) => return Err(why),
+    };
+    let right = match reach(rt, right) {
+        Ok(stream) => stream,
+        Err(why) => return Err(why),
+    };
+    if are_of_one(&left, &right) {
+        return Err(Refusal::Busy);
+    }
+    drive(alloc, coordinator, (&left, &left), (&right, &right), watch)
+}
+
+/// Serves both replicas on loopback ports that the system picks, drives one session with the two
+/// servers, closes the connections and joins all threads. The coordinator comes back, with the
+/// report.
+///
+/// Refused 9 where a port cannot be bound or reached, and 11 where the thread of a server cannot
+/// be made: no session runs then. Else refused as `Driver::run` is. Where a server is refused, its
+/// side closes, and the session is given up.
+pub fn run<H, D, C, G, K, V>(
+    rt: &H,
+    alloc: Global,
+    left: &SharedReplica<D>,
+    right: &SharedReplica<D>,
+    coordinator: Coordinator<C>,
+    left_gates: &G,
+    right_gates: &K,
+    watch: &mut V,
+) -> (Coordinator<C>, Result<(), Refusal>)
+where
+    H: Net<Listener = TcpListener, Stream = TcpStream> + Threads + Wait + Clock + Log + Sync,
+    D: Disk + Send,
+    C: Limit + Drop,
+    G: Gates + Sync,
+    K: Gates + Sync,
+    V: Watch,
+    ensures drives { (pair : ℕ) (machine : CoordinatorMachine) → Stands coordinator pair machine
+        → DrivesSession result.0 pair machine result.1 }
+    ensures refused { (pair : ℕ) (machine : CoordinatorMachine) → Stands coordinator pair machine
+        → IfErr result.1 (λ why. RefusesRun coordinator result.0 pair machine (cause_of why)) }
+    ensures ended { OnOk result.1 (runs result.0 ≡ false) }
+    ensures goes { OnOk result.1 (is_stopped (C.Disk.arms (device_of result.0)) ≡ false) }
+{
+    let (left_port, left_line) = match open_port(rt) {
+        Ok(opened) => opened,
+        Err(why) => return (coordinator, Err(why)),
+    };
+    let (right_port, right_line) = match open_port(rt) {
+        Ok(opened) => opened,
+        Err(why) => return (coordinator, Err(why)),
+    };
+    thread::scope(
+        thread::scope_env(),
+        rt,
+        move |scope| -> (Coordinator<C>, Result<(), Refusal>)
+            ensures { RunsSession coordinator result.0 result.1 }
+        {
+            let started = start(scope, rt, alloc, left, left_port, left_gates)
+                && start(scope, rt, alloc, right, right_port, right_gates);
+            drive_started(alloc, coordinator, left_line, right_line, started, watch)
+        },
+    )
+}
+
+/// Starts the server of a side, for one connection. False where no thread can be made for it.
+fn start<'s, E, H, D, G>(
+    scope: &Scope<'s, E>,
+    rt: &'s H,
+    alloc: Global,
+    shared: &'s SharedReplica<D>,
+    listener: TcpListener,
+    gates: &'s G,
+) -> bool
+where
+    H: Threads + Wait + Clock + Log + Sync,
+    D: Disk + Send,
+    G: Gates + Sync,
+{
+    scope
+        .spawn(move || serve_one(rt, alloc, shared, listener, gates))
+        .is_ok()
+}
+
+/// Serves one connection, and closes the port. A connection that was not accepted is closed by
+/// that, so nobody waits for a server that is refused.
+fn serve_one<H, D, G>(
+    rt: &H,
+    alloc: Global,
+    shared: &SharedReplica<D>,
+    listener: TcpListener,
+    gates: &G,
+)
+where
+    H: Threads + Wait + Clock + Log + Sync,
+    D: Disk + Send,
+    G: Gates + Sync,
+{
+    if let Err(why) = serve(rt, alloc, shared, &listener, Some(1), gates) {
+        warn!(rt; "server refused {} {why}", why.number());
+    }
+}
+
+/// Drives a session where both servers were started, and closes the connections.
+fn drive_started<C: Limit, V: Watch>(
+    alloc: Global,
+    mut coordinator: Coordinator<C>,
+    left: TcpStream,
+    right: TcpStream,
+    started: bool,
+    watch: &mut V,
+) -> (Coordinator<C>, Result<(), Refusal>)
+    ensures { RunsSession coordinator result.0 result.1 }
+{
+    if !started {
+        return (coordinator, Err(Refusal::Memory));
+    }
+    let driven = drive(
+        alloc,
+        &mut coordinator,
+        (&left, &left),
+        (&right, &right),
+        watch,
+    );
+    (coordinator, driven)
+}
+
+/// Drives one session over two connections, each with its reader and writer.
+fn drive<R: Read + Drop, W: Write + Drop, C: Limit, V: Watch>(
+    alloc: Global,
+    coordinator: &mut Coordinator<C>,
+    left: (R, W),
+    right: (R, W),
+    watch: &mut V,
+) -> Result<(), Refusal>
+    ensures drives { (pair : ℕ) (machine : CoordinatorMachine)
+        → Stands coordinator.old pair machine
+        → DrivesSession coordinator.new pair machine result }
+    ensures refused { (pair : ℕ) (machine : CoordinatorMachine)
+        → Stands coordinator.old pair machine
+        → IfErr result (λ why. Refuses coordinator.old coordinator.new pair machine
+        (cause_of why)) }
+    ensures ended { OnOk result (runs coordinator.new ≡ false) }
+    ensures goes { OnOk result (is_stopped (C.Disk.arms (device_of coordinator.new)) ≡ false) }
+{
+    let left = Link::new(alloc, left.0, left.1);
+    let right = Link::new(alloc, right.0, right.1);
+    Driver::new(left, right).run(alloc, coordinator, watch)
+}
+
+/// A port of this machine alone that the system picks, with a connection to it that waits to be
+/// accepted. Refused 9 where that cannot be had.
+fn open_port<H: Net<Listener = TcpListener, Stream = TcpStream>>(
+    rt: &H,
+) -> Result<(TcpListener, TcpStream), Refusal>
+    ensures { IfErr result (λ why. cause_of why ≡ Device) }
+{
+    let Ok(listener) = TcpListener::bind(rt, "127.0.0.1:0") else {
+        return Err(Refusal::Device);
+    };
+    let Ok(address) = listener.local_addr() else {
+        return Err(Refusal::Device);
+    };
+    match reach(rt, address) {
+        Ok(stream) => Ok((listener, stream)),
+        Err(why) => Err(why),
+    }
+}
+
+/// Whether both connections are to one server. One that is reached by two addresses is not seen.
+fn are_of_one(left: &TcpStream, right: &TcpStream) -> bool {
+    match (left.peer_addr(), right.peer_addr()) {
+        (Ok(left), Ok(right)) => left == right,
+        _ => false,
+    }
+}
+
+/// A connection to the address, which sends each frame at once, and waits for bytes no longer than
+/// a minute. Refused 9 where the address cannot be resolved or reached.
+fn reach<H: Net<Listener = TcpListener, Stream = TcpStream>, A: ToSocketAddrs>(
+    rt: &H,
+    address: A,
+) -> Result<TcpStream, Refusal>
+    ensures { IfErr result (λ why. cause_of why ≡ Device) }
+{
+    match TcpStream::connect(rt, address) {
+        Ok(stream) => {
+            let _ = stream.set_nodelay(true);
+            let _ = stream.set_read_timeout(Some(Duration::from_secs(MOST_SECONDS)));
+            Ok(stream)
+        }
+        Err(_) => Err(Refusal::Device),
+    }
+}
