@@ -1,20 +1,44 @@
 # Completion of syn for bash: source this file, or put it where bash-completion looks.
 _syn() {
-    local word=${COMP_WORDS[COMP_CWORD]} command='' place=0 i
+    local word=${COMP_WORDS[COMP_CWORD]} last=${COMP_WORDS[COMP_CWORD - 1]}
+    local command='' place=0 served='' options='-v --verbose -h --help' i
     for ((i = 1; i < COMP_CWORD; i++)); do
         case ${COMP_WORDS[i]} in
+            --served) served=-served ;;
+            --connections)
+                i=$((i + 1))
+                [ "${COMP_WORDS[i]}" != = ] || i=$((i + 1))
+                ;;
+            # An address is three words: HOST, a colon and PORT.
+            :) i=$((i + 1)) ;;
             -*) ;;
             *) if [ -z "$command" ]; then command=${COMP_WORDS[i]}; else place=$((place + 1)); fi ;;
         esac
     done
     COMPREPLY=()
+    case $word/$last in
+        :/* | =/* | */: | */= | */--connections) return ;;
+    esac
+    local commands='format put mkdir rm show check serve sync run simulate help'
+    case $command in
+        '') options+=' -V --version' ;;
+        put | mkdir | rm | show) options+=' --served' ;;
+        serve) options+=' --connections' ;;
+        simulate) options+=' --trace' ;;
+    esac
     case $word in
-        -*) mapfile -t COMPREPLY < <(compgen -W '-v --verbose -h --help -V --version' -- "$word"); return ;;
+        -*) mapfile -t COMPREPLY < <(compgen -W "$options" -- "$word"); return ;;
     esac
-    case $command/$place in
-        /0 | help/0) mapfile -t COMPREPLY < <(compgen -W 'format put mkdir rm show check simulate help' -- "$word") ;;
-        format/0) mapfile -t COMPREPLY < <(compgen -W 'replica archive' -- "$word") ;;
-        format/2 | put/0 | mkdir/0 | rm/0 | show/0 | check/0 | simulate/0) mapfile -t COMPREPLY < <(compgen -f -- "$word") ;;
+    local action=()
+    case $command/$place$served in
+        /0* | help/0) action=(-W "$commands") ;;
+        format/0) action=(-W 'replica archive') ;;
+        put/0-served | mkdir/0-served | rm/0-served | show/0-served) action=(-A hostname) ;;
+        serve/1 | sync/1 | sync/2) action=(-A hostname) ;;
+        format/2 | put/0 | mkdir/0 | rm/0 | show/0 | check/0) action=(-f) ;;
+        serve/0 | sync/0 | run/[012] | simulate/0) action=(-f) ;;
+        *) return ;;
     esac
+    mapfile -t COMPREPLY < <(compgen "${action[@]}" -- "$word")
 }
 complete -F _syn syn

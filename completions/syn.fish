@@ -1,16 +1,28 @@
 # Completion of syn for fish: put this file into ~/.config/fish/completions.
-set -l commands format put mkdir rm show check simulate help
+set -l commands format put mkdir rm show check serve sync run simulate help
+set -l first "not __fish_seen_subcommand_from $commands"
 complete -c syn -f
-complete -c syn -s v -l verbose -d 'Say behind a refusal what was refused'
+complete -c syn -s v -l verbose -d 'Explain a refusal, and tell each item of a session'
 complete -c syn -s h -l help -d 'Print the help'
-complete -c syn -s V -l version -d 'Print the version'
-complete -c syn -n "not __fish_seen_subcommand_from $commands" -a format -d 'Make a file an image'
-complete -c syn -n "not __fish_seen_subcommand_from $commands" -a put -d 'Put standard input at a path'
-complete -c syn -n "not __fish_seen_subcommand_from $commands" -a mkdir -d 'Make a directory'
-complete -c syn -n "not __fish_seen_subcommand_from $commands" -a rm -d 'Remove what is at a path'
-complete -c syn -n "not __fish_seen_subcommand_from $commands" -a show -d 'Print an image, or a part of it'
-complete -c syn -n "not __fish_seen_subcommand_from $commands" -a check -d 'Open an image, and print its numbers'
-complete -c syn -n "not __fish_seen_subcommand_from $commands" -a simulate -d 'Run a script of steps on machines in memory'
-complete -c syn -n "not __fish_seen_subcommand_from $commands" -a help -d 'Explain the program, or a command'
+complete -c syn -n $first -s V -l version -d 'Print the version'
+complete -c syn -n $first -a format -d 'Make a file an image'
+complete -c syn -n $first -a put -d 'Put standard input at a path'
+complete -c syn -n $first -a mkdir -d 'Make a directory'
+complete -c syn -n $first -a rm -d 'Remove what is at a path'
+complete -c syn -n $first -a show -d 'Print an image, or a part of it'
+complete -c syn -n $first -a check -d 'Open an image, and print its numbers'
+complete -c syn -n $first -a serve -d 'Serve a replica, to users and to sessions'
+complete -c syn -n $first -a sync -d 'Run a session of two replicas that are served'
+complete -c syn -n $first -a run -d 'Run a session of two replicas in files'
+complete -c syn -n $first -a simulate -d 'Run a script of steps on machines in memory'
+complete -c syn -n $first -a help -d 'Explain the program, or a command'
+complete -c syn -n '__fish_seen_subcommand_from help' -a "$commands"
 complete -c syn -n '__fish_seen_subcommand_from format' -a 'replica archive'
-complete -c syn -n '__fish_seen_subcommand_from format put mkdir rm show check simulate' -F
+complete -c syn -n '__fish_seen_subcommand_from put mkdir rm show' -l served \
+    -d 'Ask the server at HOST:PORT in the place of FILE'
+complete -c syn -n '__fish_seen_subcommand_from serve' -l connections -x \
+    -d 'End when so many connections were served'
+complete -c syn -n '__fish_seen_subcommand_from simulate' -l trace \
+    -d 'Draw each message, stop and record first'
+complete -c syn -F \
+    -n '__fish_seen_subcommand_from format put mkdir rm show check serve sync run simulate'

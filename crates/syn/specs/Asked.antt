@@ -1,16 +1,10 @@
 -- The edit that a line asks for.
-use Rattle.std.specs.Prelude.{◌≡◌, List, ℕ, Option, Some, codes}
+use Rattle.std.specs.Prelude.{◌≡◌, Option, Some}
 use Rattle.syn_model.specs.Path.{Bytes, Path}
 use Rattle.syn_model.specs.Event.{Event, Edited, Edit, Put, MakeDir, Remove}
-use Rattle.syn.specs.declared.line.Change.{Change}
-use Rattle.syn.specs.declared.line.Change.TheVariants as change
-use Rattle.syn.specs.declared.line.EditLine.{EditLine}
-
--- the word of its command
-abbrev pub word_of : Change → List ℕ
-word_of change.Put = codes "put"
-word_of change.MakeDir = codes "mkdir"
-word_of change.Remove = codes "rm"
+use Rattle.syn_words.specs.declared.line.Change.{Change}
+use Rattle.syn_words.specs.declared.line.Change.TheVariants as change
+use Rattle.syn_words.specs.declared.line.EditLine.{EditLine}
 
 -- this is left of the input, which only a put reads
 abbrev pub IsInput : Change → Option Bytes → Bytes → Type 0

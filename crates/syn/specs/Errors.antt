@@ -6,9 +6,11 @@ use Rattle.syn_disk.specs.OpenError.{refusal_of as of_disk}
 use Rattle.syn_replica.specs.Refusals.{refusal_of as of_replica}
 use Rattle.syn_archive.specs.Refusals.{refusal_of as of_archive}
 use Rattle.syn_refusal.specs.Refusals.{cause_of}
+use Rattle.syn_user.specs.Refusals.{refusal_of as of_user}
 use Rattle.syn.specs.declared.error.CommandError.{CommandError}
 use Rattle.syn.specs.declared.error.CommandError.TheVariants.{Path, Open, Replica, Archive, Machine}
 use Rattle.syn.specs.declared.error.CommandError.TheVariants.{Device, Longer, Memory}
+use Rattle.syn.specs.declared.error.CommandError.TheVariants.{Network, User}
 
 -- it is that of what refused
 abbrev pub refusal_of : CommandError → Refusal
@@ -17,6 +19,8 @@ refusal_of (Open error) = of_disk error
 refusal_of (Replica error) = of_replica error
 refusal_of (Archive error) = of_archive error
 refusal_of (Machine refusal) = cause_of refusal
+refusal_of (Network refusal) = cause_of refusal
+refusal_of (User error) = of_user error
 refusal_of (Device error) = why.Device
 refusal_of Longer = why.Device
 refusal_of Memory = why.Memory

@@ -1,9 +1,7 @@
-pub mod App
 pub mod Asked
 pub mod Errors
 pub mod Images
 pub mod Printed
-pub mod Reads
 pub mod Shown
 pub mod Simulated
 pub mod Status

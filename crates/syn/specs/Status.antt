@@ -1,16 +1,34 @@
 -- What a run of the program tells the shell.
-use Rattle.std.specs.Prelude.{ℕ, Result, Ok, Err}
+use Rattle.std.specs.Prelude.{ℕ, List, [], ◌∷◌, Result, Ok, Err}
 use Rattle.syn.specs.declared.failure.Failure.{Failure}
+use Rattle.syn.specs.declared.outcome.Outcome.{Outcome}
+use Rattle.syn.specs.declared.outcome.Outcome.TheVariants as outcome
 use Rattle.syn.specs.declared.status.Status.{Status}
-use Rattle.syn.specs.declared.status.Status.TheVariants.{Done, Refused, Usage}
+use Rattle.syn.specs.declared.status.Status.TheVariants.{Done, Refused, Usage, Incomplete}
+use Rattle.syn.specs.declared.status.Status.TheVariants.{Conflicts}
+use Rattle.syn_session.specs.declared.report.End.{End}
+use Rattle.syn_session.specs.declared.report.End.TheVariants as end
 
 -- the number that a process ends with
 abbrev pub code_of : Status → ℕ
 code_of Done = 0
 code_of Refused = 1
 code_of Usage = 2
+code_of Incomplete = 3
+code_of Conflicts = 4
+
+-- what a session came to, by its end and its conflicts
+abbrev pub outcome_by : {X : Type 0} → End → List X → Outcome
+outcome_by end.Incomplete conflicts = outcome.Incomplete
+outcome_by end.Complete [] = outcome.Done
+outcome_by end.Complete (path ∷ paths) = outcome.Conflicts
+
+abbrev pub status_in : Outcome → Status
+status_in outcome.Done = Done
+status_in outcome.Incomplete = Incomplete
+status_in outcome.Conflicts = Conflicts
 
 -- a command that was done, and one that was not
-abbrev pub status_of : {X : Type 0} → Result X Failure → Status
-status_of (Ok x) = Done
+abbrev pub status_of : Result Outcome Failure → Status
+status_of (Ok came) = status_in came
 status_of (Err failure) = Refused

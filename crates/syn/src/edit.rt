@@ -13,7 +13,6 @@ ghost use Rattle.syn.specs.Asked.{IsInput, edit_asked, event_asked};
 ghost use Rattle.syn.specs.Errors.{refusal_of, IsOfStream};
 
 use crate::error::CommandError;
-use crate::line::{Change, EditLine};
 use std::alloc::Global;
 use std::io::Read;
 use syn_disk::Disk;
@@ -21,6 +20,7 @@ use syn_model::history_laws;
 use syn_path::Path;
 use syn_replica::Replica;
 use syn_tree::Edit;
+use syn_words::{Change, EditLine};
 
 /// How many bytes of the input are read at most: one more than a file may have.
 const MOST_INPUT: u64 = 16_385;
@@ -64,7 +64,7 @@ pub fn make_edit<D: Disk, I: Read>(
 }
 
 /// The edit, with the bytes of the input where it is a put.
-fn read_edit<I: Read>(
+pub fn read_edit<I: Read>(
     alloc: Global,
     change: Change,
     path: Path,

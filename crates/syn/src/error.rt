@@ -12,6 +12,7 @@ use syn_path::PathError;
 use syn_refusal::Refusal;
 use syn_replica::ReplicaError;
 use syn_show::ShowError;
+use syn_user::UserError;
 use thiserror::Error;
 
 /// Why a command is refused, by what refused it.
@@ -27,6 +28,10 @@ pub enum CommandError {
     Archive(ArchiveError),
     /// A machine of a simulation is refused this.
     Machine(Refusal),
+    /// A server, a session or a served replica is refused this.
+    Network(Refusal),
+    /// The server refuses what a user asks, or the connection to it failed.
+    User(UserError),
     /// Standard input cannot be read, standard output cannot be written, or the file cannot be
     /// made.
     Device(io::Error),
@@ -46,7 +51,8 @@ impl CommandError {
             CommandError::Open(error) => error.refusal(),
             CommandError::Replica(error) => error.refusal(),
             CommandError::Archive(error) => error.refusal(),
-            CommandError::Machine(refusal) => *refusal,
+            CommandError::Machine(refusal) | CommandError::Network(refusal) => *refusal,
+            CommandError::User(error) => error.refusal(),
             CommandError::Device(_) | CommandError::Longer => Refusal::Device,
             CommandError::Memory => Refusal::Memory,
         }
@@ -106,6 +112,16 @@ impl From<ArchiveError> for CommandError {
 
     fn from(error: ArchiveError) -> CommandError {
         CommandError::Archive(error)
+    }
+}
+
+impl From<UserError> for CommandError {
+    ghost use Rattle.syn.specs.declared.error.CommandError.TheVariants.{User};
+
+    ghost from_gives = { λ error e. e ≡ User error };
+
+    fn from(error: UserError) -> CommandError {
+        CommandError::User(error)
     }
 }
 

@@ -2,11 +2,11 @@
 
 use crate::error::CommandError;
 use crate::image::format_image;
-use crate::line::ImageKind;
 use std::alloc::Global;
 use std::fs::{Files, OpenFile, OpenOptions, TryLockError};
 use std::io;
 use syn_disk::{Access, DISK_SIZE, FileDisk, HostFile, OpenError};
+use syn_words::ImageKind;
 
 /// Makes the file an image of the kind, for the pair. Where that is refused, the file is as long as
 /// it was, or missing.

@@ -10,11 +10,11 @@ ghost use Rattle.syn.specs.Images.{StandsForArchive, StandsForHistory};
 ghost use Rattle.std.specs.Prelude.{take};
 
 use crate::error::CommandError;
-use crate::line::ImageKind;
 use std::alloc::Global;
 use syn_archive::{Archive, ArchiveError};
 use syn_disk::Disk;
 use syn_replica::Replica;
+use syn_words::ImageKind;
 
 /// An image that was opened.
 #[derive(Drop)]

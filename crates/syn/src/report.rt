@@ -4,11 +4,12 @@ ghost use Rattle.syn.specs.Status.{status_of};
 
 use crate::error::CommandError;
 use crate::failure::Failure;
-use crate::line::Line;
-use crate::status::Status;
+use crate::outcome::Outcome;
+use crate::status::{Status, status_in};
 use std::io::Write;
 use syn_disk::{DISK_SIZE, OpenError};
 use syn_refusal::Refusal;
+use syn_words::Line;
 
 /// The status of the answer. A refusal is told in one line, and where `asked` is given in a second
 /// one in plain words. Of a script the first faulty line is told.
@@ -16,13 +17,13 @@ use syn_refusal::Refusal;
 /// An error of `errors` itself is not told: there is nowhere left to tell it.
 pub fn report<E: Write>(
     asked: Option<&Line<'_>>,
-    answer: &Result<(), Failure>,
+    answer: &Result<Outcome, Failure>,
     errors: &mut E,
 ) -> Status
     ensures { result ≡ status_of answer.now }
 {
     match answer {
-        Ok(()) => Status::Done,
+        Ok(outcome) => status_in(*outcome),
         Err(failure) => {
             tell_failure(asked, failure, errors);
             Status::Refused
@@ -55,14 +56,24 @@ fn refuse<E: Write>(error: &CommandError, errors: &mut E) {
 /// something.
 fn explain<E: Write>(line: &Line<'_>, error: &CommandError, errors: &mut E) {
     let _ = match line {
-        Line::Format { file, .. } | Line::Show { file, path: None } | Line::Check { file } =>
-            write!(errors, "syn: {file}"),
-        Line::Simulate { script } => write!(errors, "syn: {script}"),
-        Line::Edit(edit) => write!(errors, "syn: {} in {}", edit.path, edit.file),
-        Line::Show {
-            file,
-            path: Some(path),
-        } => write!(errors, "syn: {path} in {file}"),
+        Line::Format { file, .. } | Line::Show { file } | Line::Check { file } => write!(
+            errors,
+            "syn: {file}"
+        ),
+        Line::Edit(edit) => write!(errors, "syn: {} in {}", edit.path, edit.place.as_str()),
+        Line::ShowPath { place, path } => write!(errors, "syn: {path} in {}", place.as_str()),
+        Line::Serve { file, address, .. } => write!(errors, "syn: {file} at {address}"),
+        Line::Sync {
+            archive,
+            left,
+            right,
+        }
+        | Line::Run {
+            left,
+            right,
+            archive,
+        } => write!(errors, "syn: {left} and {right} with {archive}"),
+        Line::Simulate { script, .. } => write!(errors, "syn: {script}"),
     };
     let plain = error.refusal().explanation();
     let _ = match error {
@@ -87,6 +98,8 @@ pub fn print_meanings<W: Write>(output: &mut W) -> std::io::Result<()> {
     writeln!(output, "  0  the command was done")?;
     writeln!(output, "  1  it was refused, and why is on standard error")?;
     writeln!(output, "  2  the words are no command")?;
+    writeln!(output, "  3  the session is incomplete")?;
+    writeln!(output, "  4  the session is complete, with conflicts")?;
     writeln!(output)?;
     writeln!(output, "Refusals:")?;
     for refusal in Refusal::ALL {

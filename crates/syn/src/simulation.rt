@@ -8,7 +8,7 @@ use std::alloc::Global;
 use std::fs::{Files, OpenOptions};
 use std::io::{Read, Write};
 use syn_disk::{Cut, HostFile, MemDisk};
-use syn_simulate::{show_world, simulate};
+use syn_simulate::{show_world, simulate, trace};
 use syn_world::World;
 
 /// Runs the script in the file, and prints the world behind it, which it answers.
@@ -26,7 +26,35 @@ where
     ensures { IfOk result (PrintsRun (O.contents output.old) (O.contents output.new)) }
 {
     let script = read_script(alloc, files, name)?;
-    let world = simulate(alloc, &script)?;
+    print_world(alloc, &script, output)
+}
+
+/// Draws each message, stop, opening and record of the script in the file, and prints the world
+/// behind it. It is refused as `run_script` is.
+pub fn trace_script<F: Files, O: Write>(
+    alloc: Global,
+    files: &F,
+    name: &str,
+    output: &mut O,
+) -> Result<World<Cut<MemDisk>>, Failure>
+where
+    F::File: HostFile,
+{
+    let script = read_script(alloc, files, name)?;
+    let chart = trace(alloc, &script)?;
+    output.write_all(chart.as_bytes())?;
+    print_world(alloc, &script, output)
+}
+
+/// Runs the script, and prints the world behind it, which it answers.
+fn print_world<O: Write>(
+    alloc: Global,
+    script: &[u8],
+    output: &mut O,
+) -> Result<World<Cut<MemDisk>>, Failure>
+    ensures { IfOk result (PrintsRun (O.contents output.old) (O.contents output.new)) }
+{
+    let world = simulate(alloc, script)?;
     show_world(alloc, &world, output)?;
     Ok(world)
 }

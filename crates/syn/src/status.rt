@@ -1,6 +1,8 @@
 //! What a run of the program tells the shell.
 ghost use Rattle.std.specs.Prelude.{◌≡◌};
-ghost use Rattle.syn.specs.Status.{code_of};
+ghost use Rattle.syn.specs.Status.{code_of, status_in};
+
+use crate::outcome::Outcome;
 
 /// The exit status.
 #[derive(Clone, Copy, Debug, PartialEq, Eq)]
@@ -11,6 +13,10 @@ pub enum Status {
     Refused,
     /// The words are no command.
     Usage,
+    /// The command ran a session, which is incomplete.
+    Incomplete,
+    /// The command ran a session, which is complete and has conflicts.
+    Conflicts,
 }
 
 impl Status {
@@ -22,6 +28,19 @@ impl Status {
             Status::Done => 0,
             Status::Refused => 1,
             Status::Usage => 2,
+            Status::Incomplete => 3,
+            Status::Conflicts => 4,
         }
+    }
+}
+
+/// The status of what a command came to.
+pub fn status_in(outcome: Outcome) -> Status
+    ensures { result ≡ status_in outcome }
+{
+    match outcome {
+        Outcome::Done => Status::Done,
+        Outcome::Incomplete => Status::Incomplete,
+        Outcome::Conflicts => Status::Conflicts,
     }
 }

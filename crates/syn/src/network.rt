@@ -1,0 +1,103 @@
+//! What goes over the network: a server, and a user of a served replica.
+
+use crate::edit::read_edit;
+use crate::error::CommandError;
+use crate::files::replica_in;
+use log::{LevelFilter, Logged};
+use std::alloc::Global;
+use std::fs::Files;
+use std::io::{Read, Write};
+use std::net::{Net, TcpListener, TcpStream};
+use std::sync::Wait;
+use std::thread::Threads;
+use std::time::{Clock, Duration};
+use syn_daemon::{OpenGates, Plain, serve};
+use syn_disk::HostFile;
+use syn_path::Path;
+use syn_refusal::Refusal;
+use syn_shared::SharedReplica;
+use syn_tree::Content;
+use syn_user::UserConnection;
+use syn_words::EditLine;
+
+/// How long a user waits for the answer of a server.
+const MOST_SECONDS: u64 = 60;
+
+/// Serves the replica in the file at the address, `HOST:PORT`, until so many connections were
+/// opened and served; with none it serves on. It logs to the handle's standard error.
+///
+/// Refused as an opening of the file is, 9 where the address cannot be bound, and 11 where memory
+/// is refused.
+pub fn serve_file<H, F>(
+    rt: &H,
+    alloc: Global,
+    files: &F,
+    file: &str,
+    address: &str,
+    connections: Option<u64>,
+) -> Result<(), CommandError>
+where
+    H: Net<Listener = TcpListener, Stream = TcpStream> + Threads + Wait + Clock + Eprint,
+    H: Copy + Sync,
+    F: Files,
+    F::File: HostFile + Send,
+{
+    let replica = replica_in(alloc, files, file)?;
+    let listener = TcpListener::bind(rt, address)?;
+    let Ok(shared) = SharedReplica::new(alloc, replica) else {
+        return Err(CommandError::Memory);
+    };
+    let logged = Logged::new(*rt, LevelFilter::Info, Plain(*rt));
+    match serve(&logged, alloc, &shared, &listener, connections, &OpenGates) {
+        Ok(()) => Ok(()),
+        Err(why) => Err(CommandError::Network(why)),
+    }
+}
+
+/// Asks the server at the address for the line's edit, and answers the new position.
+///
+/// Refused as the server refuses it, and 9 where the address cannot be reached. Refused 9 also where
+/// the connection ends before the answer, or none comes in a minute: then the edit may have been
+/// made.
+pub fn edit_served<H: Net<Stream = TcpStream>, I: Read>(
+    rt: &H,
+    alloc: Global,
+    address: &str,
+    line: &EditLine<'_>,
+    path: Path,
+    input: &mut I,
+) -> Result<u64, CommandError> {
+    let edit = read_edit(alloc, line.change, path, input)?;
+    let stream = reach(rt, address)?;
+    let mut connection = UserConnection::new(alloc, &stream, &stream);
+    Ok(connection.edit(alloc, line.user, edit)?)
+}
+
+/// Prints what the server at the address has at the path: the bytes of a file, or `d` and the path
+/// of a directory.
+///
+/// Refused 5 where nothing is there, and else as `edit_served` is.
+pub fn show_served<H: Net<Stream = TcpStream>, O: Write>(
+    rt: &H,
+    alloc: Global,
+    address: &str,
+    path: &Path,
+    output: &mut O,
+) -> Result<(), CommandError> {
+    let stream = reach(rt, address)?;
+    let mut connection = UserConnection::new(alloc, &stream, &stream);
+    match connection.get(alloc, path)? {
+        Some(Content::File(bytes)) => output.write_all(&bytes)?,
+        Some(Content::Dir) => writeln!(output, "d {path}")?,
+        None => return Err(CommandError::Network(Refusal::Absent)),
+    }
+    Ok(())
+}
+
+/// A connection to the address, which waits for an answer no longer than a minute.
+fn reach<H: Net<Stream = TcpStream>>(rt: &H, address: &str) -> Result<TcpStream, CommandError> {
+    let stream = TcpStream::connect(rt, address)?;
+    stream.set_nodelay(true)?;
+    stream.set_read_timeout(Some(Duration::from_secs(MOST_SECONDS)))?;
+    Ok(stream)
+}

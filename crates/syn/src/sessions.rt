@@ -1,0 +1,176 @@
+//! Sessions of images in files and of served replicas.
+
+use crate::error::CommandError;
+use crate::files::{SystemDisk, archive_in, replica_in};
+use crate::outcome::{Outcome, outcome_of};
+use log::sink::Discard;
+use log::{LevelFilter, Logged};
+use std::alloc::Global;
+use std::fs::Files;
+use std::io::Write;
+use std::net::{Net, TcpListener, TcpStream};
+use std::sync::Wait;
+use std::thread::Threads;
+use std::time::Clock;
+use syn_daemon::{OpenGates, run, sync};
+use syn_disk::{Cut, Disk, HostFile, Limit};
+use syn_refusal::Refusal;
+use syn_session::{Coordinator, Report};
+use syn_shared::SharedReplica;
+use syn_show::show_report;
+use syn_sync::{Progress, Unwatched, Watch};
+
+/// What a session is between.
+#[derive(Clone, Copy, Debug)]
+pub enum Between<'a> {
+    /// The replicas that are served at these addresses, each `HOST:PORT`.
+    Servers { left: &'a str, right: &'a str },
+    /// The replicas in these files.
+    Files { left: &'a str, right: &'a str },
+}
+
+/// How much is told of a session as it goes.
+#[derive(Clone, Copy, Debug, PartialEq, Eq)]
+pub enum Telling {
+    /// Nothing but its report.
+    Nothing,
+    /// Each item, as it is settled.
+    Items,
+    /// Each item, and a line with counts that is written again in its place.
+    ItemsAndCounts,
+}
+
+/// The coordinator of an archive in a file.
+type FileCoordinator<F> = Coordinator<Cut<SystemDisk<F>>>;
+
+/// Runs a session over the archive in the file, prints its report, and answers what it came to.
+/// What is told of it goes to `errors`.
+///
+/// Refused as an opening of a file is, left first and the archive last; 9 where an address cannot
+/// be reached; and as the start of a session is.
+pub fn run_session<H, F, O, E>(
+    rt: &H,
+    alloc: Global,
+    files: &F,
+    between: Between<'_>,
+    archive: &str,
+    telling: Telling,
+    output: &mut O,
+    errors: &mut E,
+) -> Result<Outcome, CommandError>
+where
+    H: Net<Listener = TcpListener, Stream = TcpStream> + Threads + Wait + Clock + Copy + Sync,
+    F: Files,
+    F::File: HostFile + Send,
+    O: Write,
+    E: Write,
+{
+    if let Telling::Nothing = telling {
+        let coordinator = drive(rt, alloc, files, between, archive, &mut Unwatched)?;
+        return print_session(alloc, reported(&coordinator)?, output);
+    }
+    let counts = telling == Telling::ItemsAndCounts;
+    let mut progress = Progress::new(alloc, errors, counts);
+    let coordinator = drive(rt, alloc, files, between, archive, &mut progress)?;
+    let report = reported(&coordinator)?;
+    progress.finish(report);
+    print_session(alloc, report, output)
+}
+
+/// Runs a session, and answers the coordinator that ran it.
+fn drive<H, F, V>(
+    rt: &H,
+    alloc: Global,
+    files: &F,
+    between: Between<'_>,
+    archive: &str,
+    watch: &mut V,
+) -> Result<FileCoordinator<F::File>, CommandError>
+where
+    H: Net<Listener = TcpListener, Stream = TcpStream> + Threads + Wait + Clock + Copy + Sync,
+    F: Files,
+    F::File: HostFile + Send,
+    V: Watch,
+{
+    match between {
+        Between::Servers { left, right } => {
+            let mut coordinator = Coordinator::new(alloc, archive_in(alloc, files, archive)?);
+            match sync(rt, alloc, &mut coordinator, left, right, watch) {
+                Ok(()) => Ok(coordinator),
+                Err(why) => Err(CommandError::Network(why)),
+            }
+        }
+        Between::Files { left, right } => {
+            let left = shared_in(alloc, files, left)?;
+            let right = shared_in(alloc, files, right)?;
+            let coordinator = Coordinator::new(alloc, archive_in(alloc, files, archive)?);
+            drive_shared(rt, alloc, &left, &right, coordinator, watch)
+        }
+    }
+}
+
+/// Serves both replicas on loopback ports as long as a session between them runs. The servers log
+/// nothing.
+fn drive_shared<H, D, C, V>(
+    rt: &H,
+    alloc: Global,
+    left: &SharedReplica<D>,
+    right: &SharedReplica<D>,
+    coordinator: Coordinator<C>,
+    watch: &mut V,
+) -> Result<Coordinator<C>, CommandError>
+where
+    H: Net<Listener = TcpListener, Stream = TcpStream> + Threads + Wait + Clock + Copy + Sync,
+    D: Disk + Send,
+    C: Limit + Drop,
+    V: Watch,
+{
+    let quiet = Logged::new(*rt, LevelFilter::Off, Discard);
+    let gates = OpenGates;
+    match run(
+        &quiet,
+        alloc,
+        left,
+        right,
+        coordinator,
+        &gates,
+        &gates,
+        watch,
+    ) {
+        (coordinator, Ok(())) => Ok(coordinator),
+        (_, Err(why)) => Err(CommandError::Network(why)),
+    }
+}
+
+/// The replica in the file, under a lock.
+fn shared_in<F: Files>(
+    alloc: Global,
+    files: &F,
+    name: &str,
+) -> Result<SharedReplica<SystemDisk<F::File>>, CommandError>
+where
+    F::File: HostFile,
+{
+    match SharedReplica::new(alloc, replica_in(alloc, files, name)?) {
+        Ok(shared) => Ok(shared),
+        Err(_) => Err(CommandError::Memory),
+    }
+}
+
+/// The report of the session that ended last. Each that ended has one.
+fn reported<D: Disk>(coordinator: &Coordinator<D>) -> Result<&Report, CommandError> {
+    match coordinator.report() {
+        Some(report) => Ok(report),
+        None => Err(CommandError::Network(Refusal::NoAnswer)),
+    }
+}
+
+/// Prints the report, and answers what the session came to.
+fn print_session<O: Write>(
+    alloc: Global,
+    report: &Report,
+    output: &mut O,
+) -> Result<Outcome, CommandError> {
+    show_report(alloc, report, output)?;
+    Ok(outcome_of(report))
+}
