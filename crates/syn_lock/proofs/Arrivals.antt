@@ -1,5 +1,6 @@
 -- Seats that come, tell each other and become passes keep the rule, and so does the lock at the start.
 use Rattle.std.proofs.Common.{◌≡◌, ◌≢◌, ℕ, ◌+◌, ◌%◌, ◌<◌, ◌≤◌, true, false, eqb, cond, List, [], ◌∷◌, ◌++◌, length, get_or, set, Option, Some, None, refl, ap, sym, ◌∙◌, subst, ⊎_elim, inl, inr, arith, le_refl, length-set, get_or-set_other, get_or-set_same, ne_eqb}
+use Rattle.std.specs.Global.{Box}
 use mathlib.Core.Option.{some, none, some-injective, some-ne-none}
 use mathlib.Core.List.{IsPrefix}
 use lib.ListN.{get_elem?}
@@ -19,7 +20,7 @@ use Rattle.syn_lock.proofs.Keeps.{same_origin, fits_same, unmoved}
 
 module _ {S : Type 0} (position : S → ℕ) (grows : S → S → Type 0) (origin : S) where
   abbrev St : Type 0
-  St = State (Option S) (Known S)
+  St = State (Option (Box S)) (Known S)
 
   abbrev Rule : St → Type 0
   Rule = Lawful position grows origin
@@ -156,7 +157,7 @@ module _ {S : Type 0} (position : S → ℕ) (grows : S → S → Type 0) (origi
       let v : Known S = counting (witness (Some origin) []) old in
       let found : ℕ = get_or s.words 2 0 in
       let long = k.words in
-      exchanged found old (old + 1) (λ x. (w : Known S) × (a : Act (Option S)) × Valid s.homes [] a × Rule (stepped s 2 x id [] w a) × admits grows (step n 2 old (old + 1) none) (v, []) found (w, carried_after [] a))
+      exchanged found old (old + 1) (λ x. (w : Known S) × (a : Act (Option (Box S))) × Valid s.homes [] a × Rule (stepped s 2 x id [] w a) × admits grows (step n 2 old (old + 1) none) (v, []) found (w, carried_after [] a))
       (λ e.
       let free = free_number s k id v at refl in
       let fresh : holds_by (id + 1) k.log ≡ [] = k.unused (id + 1) free in
@@ -189,8 +190,8 @@ module _ {S : Type 0} (position : S → ℕ) (grows : S → S → Type 0) (origi
         (r.2.seen id v at, r.2.few, (λ e. absurd (ne e)), (λ _. refl)),
       ))
 
-  pub opens : (ws : List ℕ) (xs : List (Option S)) (p q : ℕ) → ws ≡ p ∷ q ∷ 0 ∷ [] → q % 2 ≡ 0 → Tells p q (position origin) → xs ≡ Some origin ∷ [] → Rule (opening ws xs (witness (Some origin) []))
-  opens ws xs p q words even here slots = subst (λ (z : List ℕ × List (Option S)). Rule (opening z.0 z.1 (witness (Some origin) []))) (λ i. (sym words i, sym slots i)) (
+  pub opens : (ws : List ℕ) (xs : List (Option (Box S))) (home : Box S) (p q : ℕ) → ws ≡ p ∷ q ∷ 0 ∷ [] → q % 2 ≡ 0 → Tells p q (position origin) → home.value ≡ origin → xs ≡ Some home ∷ [] → Rule (opening ws xs (witness (Some origin) []))
+  opens ws xs home p q words even here is slots = subst (λ (z : List ℕ × List (Option (Box S))). Rule (opening z.0 z.1 (witness (Some origin) []))) (λ i. (sym words i, sym slots i)) (
     record {
       log = [];
       holder = 0;
@@ -200,7 +201,7 @@ module _ {S : Type 0} (position : S → ℕ) (grows : S → S → Type 0) (origi
       position_is = here;
       fits = newest (Fits origin []) [] (witness (Some origin) [])
           record { origin_is = λ o e. same_origin o origin (sym e); prefix = prefix_self []; told = prefix_self []; own_all = refl; own_seen = refl; numbered = inl refl } (λ i u at. absurd (some-ne-none u (sym at)));
-      home = λ _. refl;
+      home = λ _. (home, is, refl);
       inside = newest (λ i u. u.inside ≡ true → Holds [] (q % 2) 0 i u) [] (witness (Some origin) []) (λ on. absurd cc) (λ i u at. absurd (some-ne-none u (sym at)));
       unused = λ p e. refl;
     },

@@ -1,5 +1,6 @@
 -- Each step of a pass on the lock keeps the rule.
 use Rattle.std.proofs.Common.{◌≡◌, ◌≢◌, ℕ, ◌+◌, ◌*◌, ◌/◌, ◌%◌, ◌<◌, ◌≤◌, ◌⊎◌, true, false, List, [], ◌∷◌, ◌++◌, length, get_or, set, Option, Some, refl, ap, sym, ◌∙◌, subst, ⊎_elim, arith, length-set, get_or-set_other, get_or-set_same}
+use Rattle.std.specs.Global.{Box}
 use mathlib.Core.Option.{some, none}
 use mathlib.Core.List.{IsPrefix}
 use mathlib.Core.Logic.{dite}
@@ -35,7 +36,7 @@ module _ {S : Type 0} where
 
 module _ {S : Type 0} (position : S → ℕ) (grows : S → S → Type 0) (origin : S) where
   abbrev St : Type 0
-  St = State (Option S) (Known S)
+  St = State (Option (Box S)) (Known S)
 
   abbrev Rule : St → Type 0
   Rule = Lawful position grows origin
@@ -73,7 +74,7 @@ module _ {S : Type 0} (position : S → ℕ) (grows : S → S → Type 0) (origi
   }
 
   -- a step that changes no word and moves no slot keeps the history of the state
-  pub unmoved : (s : St) (k : History s) (i id : ℕ) (cs : List (ℕ × Option S)) (v w : Known S) → get_elem? s.views id ≡ some v → w.view.number ≡ v.view.number → Fits origin k.log id w → (w.inside ≡ true → Holds k.log (lock s) k.holder id w)
+  pub unmoved : (s : St) (k : History s) (i id : ℕ) (cs : List (ℕ × Option (Box S))) (v w : Known S) → get_elem? s.views id ≡ some v → w.view.number ≡ v.view.number → Fits origin k.log id w → (w.inside ≡ true → Holds k.log (lock s) k.holder id w)
       → History (stepped s i (get_or s.words i 0) id cs w keeps)
   unmoved s k i id cs v w at number fit held = subst (λ (ws : List ℕ). History record { words = ws; homes = s.homes; views = set s.views id w }) (sym (set-get_or s.words i 0)) record {
     log = k.log;
@@ -89,7 +90,7 @@ module _ {S : Type 0} (position : S → ℕ) (grows : S → S → Type 0) (origi
   }
 
   -- the same for the whole rule, where it is no step on the lock's word, and the seat counts no further passes
-  quiet : (s : St) (r : Rule s) (i id : ℕ) (cs : List (ℕ × Option S)) (v w : Known S) → get_elem? s.views id ≡ some v → w.view.number ≡ v.view.number → w.view.turns ≡ v.view.turns → w.watched ≡ v.watched → w.passes ≡ v.passes
+  quiet : (s : St) (r : Rule s) (i id : ℕ) (cs : List (ℕ × Option (Box S))) (v w : Known S) → get_elem? s.views id ≡ some v → w.view.number ≡ v.view.number → w.view.turns ≡ v.view.turns → w.watched ≡ v.watched → w.passes ≡ v.passes
       → Fits origin r.0.log id w → (w.inside ≡ true → Holds r.0.log (lock s) r.0.holder id w) → Rule (stepped s i (get_or s.words i 0) id cs w keeps)
   quiet s r i id cs v w at number turns watched passes fit held = (
     unmoved s r.0 i id cs v w at number fit held,
@@ -173,9 +174,9 @@ module _ {S : Type 0} (position : S → ℕ) (grows : S → S → Type 0) (origi
   taken_is : (s : St) → lock s ≢ 0 → 1 ≡ lock s
   taken_is s taken = omega (arith, taken)
 
-  won : (s : St) (k : History s) (id new : ℕ) (v w : Known S) (o : S) → get_elem? s.views id ≡ some v → v.view.number ≡ id + 1 → v.view.origin ≡ Some o → lock s ≡ 0 → new % 2 ≡ 1 → new / 2 ≡ get_or s.words 1 0 / 2 → w ≡ caught_up v (entered v.view k.log) true
-      → History (stepped s 1 new id [] w (takes 0 (Some (end_of o k.log))))
-  won s k id new v w o at number is free odd half w_is = let f = k.fits id v at in let long = k.words in let one : get_or (set s.words 1 new) 1 0 % 2 ≡ 1 = ap (λ n. n % 2) (get_or-set_same s.words 1 new 0 (omega arith)) ∙ odd in record {
+  won : (s : St) (k : History s) (id new : ℕ) (v w : Known S) (home : Box S) → get_elem? s.views id ≡ some v → v.view.number ≡ id + 1 → lock s ≡ 0 → new % 2 ≡ 1 → new / 2 ≡ get_or s.words 1 0 / 2 → w ≡ caught_up v (entered v.view k.log) true
+      → History (stepped s 1 new id [] w (takes 0 (Some home)))
+  won s k id new v w home at number free odd half w_is = let f = k.fits id v at in let long = k.words in let one : get_or (set s.words 1 new) 1 0 % 2 ≡ 1 = ap (λ n. n % 2) (get_or-set_same s.words 1 new 0 (omega arith)) ∙ odd in record {
     log = k.log;
     holder = id;
     words = length-set s.words 1 new ∙ k.words;
@@ -199,12 +200,12 @@ module _ {S : Type 0} (position : S → ℕ) (grows : S → S → Type 0) (origi
       let number = its_number v id some_number f.numbered in
       let was : ℕ = get_or s.words 1 0 in
       dite (ℕ_discrete (lock s) 0)
-      (λ free. let w = caught_up v (entered v.view k.log) true in (
+      (λ free. let w = caught_up v (entered v.view k.log) true in let home = k.home free in (
         w,
-        takes 0 (Some (end_of o k.log)),
-        subst (λ x. get_elem? s.homes 0 ≡ some (some (Some (end_of x k.log)))) (sym (f.origin_is o is)) (k.home free),
-        (won s k id (bit_or was 1) v w o at number is free (with_bit was).0 (with_bit was).1 refl, word_turned s r id (bit_or was 1) v w 0 1 at number (sym free) (with_bit was).0 refl refl (watched_on s r id 0 1 v at), word_counted s r id (bit_or was 1) v w at refl refl),
-        ((λ _ o' is'. (k.log, sees_all s k id v at o' is', (λ i. (caught_up v (entered v.view k.log) true, (0, Some (end_of ((f.origin_is o is ∙ sym (f.origin_is o' is')) i) k.log)) ∷ [])))), (λ taken. absurd (taken free))),
+        takes 0 (Some home.0),
+        home.2,
+        (won s k id (bit_or was 1) v w home.0 at number free (with_bit was).0 (with_bit was).1 refl, word_turned s r id (bit_or was 1) v w 0 1 at number (sym free) (with_bit was).0 refl refl (watched_on s r id 0 1 v at), word_counted s r id (bit_or was 1) v w at refl refl),
+        ((λ _ o' is'. (k.log, sees_all s k id v at o' is', home.0, home.1 ∙ ap (λ x. end_of x k.log) (sym (f.origin_is o' is')), refl)), (λ taken. absurd (taken free))),
       ))
       (λ taken. let w = turned_away v in let one = taken_is s taken in (
         w,
@@ -268,65 +269,66 @@ module _ {S : Type 0} (position : S → ℕ) (grows : S → S → Type 0) (origi
     counted_same s.words ws s.views id v w at count refl (r.2.seen id v at) r.2,
   )
 
-  pub publish_keeps : (id n new : ℕ) (m : Sat S) (o left : S) → m.1 ≡ (0, Some left) ∷ [] → m.0.inside ≡ true → m.0.view.origin ≡ Some o → grows (end_of o m.0.view.seen) left → new ≡ position left → far ≤ new
+  pub publish_keeps : (id n new : ℕ) (m : Sat S) (o : S) (left : Box S) → m.1 ≡ (0, Some left) ∷ [] → m.0.inside ≡ true → m.0.view.origin ≡ Some o → grows (end_of o m.0.view.seen) left.value → new ≡ position left.value → far ≤ new
       → Allows Rule n id m 0 (λ _. new) (λ _. publishes (step n 0 new 0 none) m new)
   publish_keeps id n new m o left has is from up here distant s r wide at _ = let long = r.0.words in (
-    caught_up m.0 (published o m.0.view left) m.0.inside,
+    caught_up m.0 (published o m.0.view left.value) m.0.inside,
     keeps,
     tt,
-    published_at s r 0 id new m.0 o left at is from up (ap (λ x. x % 2) (get_or-set_other s.words 0 1 new 0 (λ e. omega arith))) (get_or-set_other s.words 0 2 new 0 (λ e. omega arith))
-        (subst (λ x. Tells x (get_or (set s.words 0 new) 1 0) (position left)) (sym (get_or-set_same s.words 0 new 0 (omega arith))) ((λ zero. absurd (omega (arith, zero, distant))), (λ _. (here, distant)))),
-    λ o' left' from' has'. let l = same_state left left' (sym has ∙ has') in let e = same_origin o o' (sym from ∙ from') in (λ i. (caught_up m.0 (published (e i) m.0.view (l i)) m.0.inside, m.1)),
+    published_at s r 0 id new m.0 o left.value at is from up (ap (λ x. x % 2) (get_or-set_other s.words 0 1 new 0 (λ e. omega arith))) (get_or-set_other s.words 0 2 new 0 (λ e. omega arith))
+        (subst (λ x. Tells x (get_or (set s.words 0 new) 1 0) (position left.value)) (sym (get_or-set_same s.words 0 new 0 (omega arith))) ((λ zero. absurd (omega (arith, zero, distant))), (λ _. (here, distant)))),
+    λ o' left' from' has'. let l = same_state left left' (sym has ∙ has') in let e = same_origin o o' (sym from ∙ from') in (λ i. (caught_up m.0 (published (e i) m.0.view (l i).value) m.0.inside, m.1)),
   )
 
-  given : (s : St) (k : History s) (id new : ℕ) (v w : Known S) (o : S) → get_elem? s.views id ≡ some v → v.inside ≡ true → v.view.origin ≡ Some o → Tells (get_or (set s.words 1 new) 0 0) (get_or (set s.words 1 new) 1 0) (position (end_of origin k.log))
+  given : (s : St) (k : History s) (id new : ℕ) (v w : Known S) (o : S) (home : Box S) → home.value ≡ end_of o v.view.seen → get_elem? s.views id ≡ some v → v.inside ≡ true → v.view.origin ≡ Some o → Tells (get_or (set s.words 1 new) 0 0) (get_or (set s.words 1 new) 1 0) (position (end_of origin k.log))
       → w.view.number ≡ v.view.number → w.view.origin ≡ v.view.origin → w.view.own ≡ v.view.own → w.view.seen ≡ v.view.seen → w.told ≡ v.told → w.inside ≡ false
-      → History (stepped s 1 new id ((0, Some (end_of o v.view.seen)) ∷ []) w gives)
-  given s k id new v w o at is from tells number origin_same own seen told off = let f = k.fits id v at in let h = k.inside id v at is in let long = k.words in let slots = k.slots in let o_is = f.origin_is o from in record {
+      → History (stepped s 1 new id ((0, Some home) ∷ []) w gives)
+  given s k id new v w o home last at is from tells number origin_same own seen told off = let f = k.fits id v at in let h = k.inside id v at is in let long = k.words in let slots = k.slots in let o_is = f.origin_is o from in record {
     log = k.log;
     holder = id;
     words = length-set s.words 1 new ∙ k.words;
-    slots = length-set s.homes 0 (some (Some (end_of o v.view.seen))) ∙ k.slots;
+    slots = length-set s.homes 0 (some (Some home)) ∙ k.slots;
     legal = k.legal;
     position_is = tells;
     fits = others (Fits origin k.log) s.views id w (fits_same k.log id v w f number origin_same own seen told) (λ j u _ e. k.fits j u e);
-    home = λ _. set_here s.homes 0 (some (Some (end_of o v.view.seen))) (omega arith) ∙ (λ i. some (some (Some (end_of (o_is i) (h.seen_all i)))));
+    home = λ _. (home, last ∙ (λ i. end_of (o_is i) (h.seen_all i)), set_here s.homes 0 (some (Some home)) (omega arith));
     inside = others (λ j u. u.inside ≡ true → Holds k.log (get_or (set s.words 1 new) 1 0 % 2) id j u) s.views id w (λ e. absurd (cc (e, off)))
         (λ j u ne e on. absurd (ne ((k.inside j u e on).is_holder ∙ sym h.is_holder)));
     unused = λ p e. k.unused p (unused_set s.views id v w at number p e);
   }
 
-  given_at : (s : St) (r : Rule s) (id new : ℕ) (v : Known S) (o : S) → get_elem? s.views id ≡ some v → v.inside ≡ true → v.view.origin ≡ Some o → new % 2 ≡ 0
+  given_at : (s : St) (r : Rule s) (id new : ℕ) (v : Known S) (o : S) (home : Box S) → home.value ≡ end_of o v.view.seen → get_elem? s.views id ≡ some v → v.inside ≡ true → v.view.origin ≡ Some o → new % 2 ≡ 0
       → Tells (get_or (set s.words 1 new) 0 0) (get_or (set s.words 1 new) 1 0) (position (end_of o v.view.seen))
-      → Rule (stepped s 1 new id ((0, Some (end_of o v.view.seen)) ∷ []) (known (outside v.view) v.told (r.1.turns ++ hold v.view.number 1 0 ∷ []) false v.passes) gives)
-  given_at s r id new v o at is from even tells =
+      → Rule (stepped s 1 new id ((0, Some home) ∷ []) (known (outside v.view) v.told (r.1.turns ++ hold v.view.number 1 0 ∷ []) false v.passes) gives)
+  given_at s r id new v o home last at is from even tells =
       let h = r.0.inside id v at is in
       let watched : List (Hold ℕ) = r.1.turns ++ hold v.view.number 1 0 ∷ [] in
       let w = known (outside v.view) v.told watched false v.passes in (
-        given s r.0 id new v w o at is from (subst (λ x. Tells (get_or (set s.words 1 new) 0 0) (get_or (set s.words 1 new) 1 0) x) (λ i. position (end_of ((r.0.fits id v at).origin_is o from i) (h.seen_all i))) tells) refl refl refl refl refl refl,
+        given s r.0 id new v w o home last at is from (subst (λ x. Tells (get_or (set s.words 1 new) 0 0) (get_or (set s.words 1 new) 1 0) x) (λ i. position (end_of ((r.0.fits id v at).origin_is o from i) (h.seen_all i))) tells) refl refl refl refl refl refl,
         word_turned s r id new v w 1 0 at h.number_is (taken_is s h.taken) even refl refl (prefix_self watched),
         word_counted s r id new v w at refl refl,
       )
 
-  give_inside : (id n : ℕ) (v : Known S) (o : S) → v.inside ≡ true → v.view.origin ≡ Some o → far ≤ position (end_of o v.view.seen)
-      → Allows Rule n id (v, (0, Some (end_of o v.view.seen)) ∷ []) 1 (λ _. 0) (λ _. gives_lock (step n 1 0 0 none) (v, (0, Some (end_of o v.view.seen)) ∷ []) 0)
-  give_inside id n v o is from distant s r wide at _ =
+  give_inside : (id n : ℕ) (v : Known S) (o : S) (home : Box S) → home.value ≡ end_of o v.view.seen → v.inside ≡ true → v.view.origin ≡ Some o → far ≤ position (end_of o v.view.seen)
+      → Allows Rule n id (v, (0, Some home) ∷ []) 1 (λ _. 0) (λ _. gives_lock (step n 1 0 0 none) (v, (0, Some home) ∷ []) 0)
+  give_inside id n v o home ends is from distant s r wide at _ =
       let k : History s = r.0 in
       let watched : List (Hold ℕ) = r.1.turns ++ hold v.view.number 1 0 ∷ [] in
       let last : position (end_of o v.view.seen) ≡ position (end_of origin k.log) = (λ i. position (end_of ((k.fits id v at).origin_is o from i) ((k.inside id v at is).seen_all i))) in
       let other : get_or (set s.words 1 0) 0 0 ≡ get_or s.words 0 0 = get_or-set_other s.words 1 0 0 0 (λ e. omega arith) in
       let tells : Tells (get_or (set s.words 1 0) 0 0) (get_or (set s.words 1 0) 1 0) (position (end_of o v.view.seen)) = subst (λ x. Tells x (get_or (set s.words 1 0) 1 0) (position (end_of o v.view.seen))) (sym other)
       ((λ zero. let near = (k.position_is.0 zero).1 in absurd (omega (arith, near, last, distant))), (λ ne. let there = k.position_is.1 ne in (there.0 ∙ sym last, there.1))) in
-      (known (outside v.view) v.told watched false v.passes, gives, tt, given_at s r id 0 v o at is from refl tells, (watched, refl))
+      (known (outside v.view) v.told watched false v.passes, gives, tt, given_at s r id 0 v o home ends at is from refl tells, (watched, refl))
 
-  pub give_keeps : (id n : ℕ) (m : Sat S) (o : S) → m.1 ≡ (0, Some (end_of o m.0.view.seen)) ∷ [] → m.0.inside ≡ true → m.0.view.origin ≡ Some o → far ≤ position (end_of o m.0.view.seen)
+  pub give_keeps : (id n : ℕ) (m : Sat S) (o : S) (home : Box S) → home.value ≡ end_of o m.0.view.seen → m.1 ≡ (0, Some home) ∷ [] → m.0.inside ≡ true → m.0.view.origin ≡ Some o → far ≤ position (end_of o m.0.view.seen)
       → Allows Rule n id m 1 (λ _. 0) (λ _. gives_lock (step n 1 0 0 none) m 0)
-  give_keeps id n m o has is from distant = subst (λ (x : Sat S). Allows Rule n id x 1 (λ _. 0) (λ _. gives_lock (step n 1 0 0 none) x 0)) (λ i. (m.0, sym has i)) (give_inside id n m.0 o is from distant)
+  give_keeps id n m o home ends has is from distant = subst (λ (x : Sat S). Allows Rule n id x 1 (λ _. 0) (λ _. gives_lock (step n 1 0 0 none) x 0)) (λ i. (m.0, sym has i)) (give_inside id n m.0 o home ends is from distant)
 
   -- The word becomes new, which is even: it tells the position, and the lock is free. It is as if the word became new + 1 before, which tells the position while the lock is taken
-  leave_inside : (id n new : ℕ) (v : Known S) (o left : S) → v.inside ≡ true → v.view.origin ≡ Some o → grows (end_of o v.view.seen) left → position (end_of o v.view.seen) ≤ position left → new ≡ 2 * position left → position left < far
-      → Allows Rule n id (v, (0, Some left) ∷ []) 1 (λ _. new) (λ _. leaves (step n 1 new 0 none) (v, (0, Some left) ∷ []) new)
-  leave_inside id n new v o left is from up later twice near s r wide at _ =
+  leave_inside : (id n new : ℕ) (v : Known S) (o : S) (home : Box S) → v.inside ≡ true → v.view.origin ≡ Some o → grows (end_of o v.view.seen) home.value → position (end_of o v.view.seen) ≤ position home.value → new ≡ 2 * position home.value → position home.value < far
+      → Allows Rule n id (v, (0, Some home) ∷ []) 1 (λ _. new) (λ _. leaves (step n 1 new 0 none) (v, (0, Some home) ∷ []) new)
+  leave_inside id n new v o home is from up later twice near s r wide at _ =
+      let left : S = home.value in
       let k : History s = r.0 in
       let long = k.words in
       let h = k.inside id v at is in
@@ -342,16 +344,16 @@ module _ {S : Type 0} (position : S → ℕ) (grows : S → S → Type 0) (origi
       let u : Known S = known (outside (published o v.view left)) [] watched false v.passes in
       let told : Tells (get_or (set (set s.words 1 (new + 1)) 1 new) 0 0) (get_or (set (set s.words 1 (new + 1)) 1 new) 1 0) (position (end_of o w.view.seen)) =
       subst (λ (y : List ℕ × S). Tells (get_or y.0 0 0) (get_or y.0 1 0) (position y.1)) (λ i. (sym (set-set s.words 1 (new + 1) new) i, sym (end_of-append o v.view.seen (own_hold o v.view left)) i)) (tells new (omega (arith, twice))) in
-      let after = given_at (stepped s 1 (new + 1) id [] w keeps) mid id new w o (set_here s.views id w (at_below s.views id v at)) is from (omega (arith, twice)) told in (
+      let after = given_at (stepped s 1 (new + 1) id [] w keeps) mid id new w o home (sym (end_of-append o v.view.seen (own_hold o v.view left))) (set_here s.views id w (at_below s.views id v at)) is from (omega (arith, twice)) told in (
         u,
         gives,
         tt,
-        subst (λ (x : List ℕ × S × List (Known S)). Rule record { words = x.0; homes = set s.homes 0 (some (Some x.1)); views = x.2 })
-            (λ i. (set-set s.words 1 (new + 1) new i, end_of-append o v.view.seen (own_hold o v.view left) i, set-set s.views id w u i)) after,
-        λ o' left' from' has'. let l = same_state left left' has' in let e = same_origin o o' (sym from ∙ from') in (watched, (λ i. (known (outside (published (e i) v.view (l i))) [] watched false v.passes, []))),
+        subst (λ (x : List ℕ × List (Known S)). Rule record { words = x.0; homes = set s.homes 0 (some (Some home)); views = x.1 })
+            (λ i. (set-set s.words 1 (new + 1) new i, set-set s.views id w u i)) after,
+        λ o' left' from' has'. let l = same_state home left' has' in let e = same_origin o o' (sym from ∙ from') in (watched, (λ i. (known (outside (published (e i) v.view (l i).value)) [] watched false v.passes, []))),
       )
 
-  pub leave_keeps : (id n new : ℕ) (m : Sat S) (o left : S) → m.1 ≡ (0, Some left) ∷ [] → m.0.inside ≡ true → m.0.view.origin ≡ Some o → grows (end_of o m.0.view.seen) left → position (end_of o m.0.view.seen) ≤ position left
-      → new ≡ 2 * position left → position left < far → Allows Rule n id m 1 (λ _. new) (λ _. leaves (step n 1 new 0 none) m new)
+  pub leave_keeps : (id n new : ℕ) (m : Sat S) (o : S) (left : Box S) → m.1 ≡ (0, Some left) ∷ [] → m.0.inside ≡ true → m.0.view.origin ≡ Some o → grows (end_of o m.0.view.seen) left.value → position (end_of o m.0.view.seen) ≤ position left.value
+      → new ≡ 2 * position left.value → position left.value < far → Allows Rule n id m 1 (λ _. new) (λ _. leaves (step n 1 new 0 none) m new)
   leave_keeps id n new m o left has is from up later twice near =
       subst (λ (x : Sat S). Allows Rule n id x 1 (λ _. new) (λ _. leaves (step n 1 new 0 none) x new)) (λ i. (m.0, sym has i)) (leave_inside id n new m.0 o left is from up later twice near)

@@ -1,22 +1,36 @@
 -- What a clause reads of a guard.
 use Rattle.std.specs.Prelude.{◌≡◌, ℕ, ◌<◌, List, true, [], ◌∷◌, None, Some}
+use Rattle.std.specs.Box.{with_value}
+use Rattle.std.specs.Global.{Box}
+use Rattle.std.specs.contracts.boxed.Box as box
+use Rattle.std.specs.contracts.alloc.Global as heap
+use Rattle.std.specs.contracts.impls.GlobalAllocator.TheImpl.{ghosts}
 use base.Fml.{GName}
+use denote.RattleType.{RattleType}
 use Rattle.atomic_table.specs.Seated.{TableId}
 use Rattle.syn_lock.specs.declared.view.Hold.{Hold}
 use Rattle.syn_lock.specs.declared.view.View.{View}
-use Rattle.syn_lock.specs.declared.guard.Guard.{Guard}
+use Rattle.syn_lock.specs.declared.guard.Holder.{Holder}
 use Rattle.syn_lock.specs.History.{end_of}
 use Rattle.syn_lock.specs.Views.{Sees, entered, refused_times}
 use Rattle.syn_lock.specs.Passes.{view_of}
 
+-- what a guard is
+abbrev pub Guard : Type 0 → Type 0
+Guard S = Holder S (Box S)
+
+-- the type of a box of such a state
+abbrev pub home_row : RattleType → RattleType
+home_row S = box.the_row S heap.the_row ghosts
+
 module _ {S : Type 0} where
   -- the state that the guard lends
   abbrev pub state_of : Guard S → S
-  state_of g = g.state
+  state_of g = g.state.value
 
   -- the guard after its state became x
   abbrev pub with_state : Guard S → S → Guard S
-  with_state g x = record { pass = g.pass; state = x }
+  with_state g x = record { pass = g.pass; state = with_value g.state x }
 
   abbrev pub name_of_pass : Guard S → GName
   name_of_pass g = g.pass.ghost_name

@@ -2,13 +2,14 @@
 ghost use Rattle.std.specs.Prelude.{◌≡◌, [], IfOk, IfErr};
 ghost use Rattle.std.specs.Borrow.{sem, follows, RestsIfErr};
 ghost use mir.Syntax.{named};
-ghost use Rattle.syn_lock.specs.contracts.guard.Guard.{the_row};
+ghost use Rattle.syn_lock.specs.contracts.guard.Holder.{the_row};
 ghost use Rattle.syn_lock.specs.contracts.own.Pass.{the_row as pass_row};
 ghost use Rattle.syn_lock.specs.History.{end_of};
 ghost use Rattle.syn_lock.specs.Views.{published, outside};
 ghost use Rattle.syn_lock.specs.Locks.{id_of, origin_of};
 ghost use Rattle.syn_lock.specs.Passes.{view_of, IsPassOf, WasRefused};
 ghost use Rattle.syn_lock.specs.Guards.{state_of, with_state, name_of_pass, knows, IsGuardOf};
+ghost use Rattle.syn_lock.specs.Guards.{home_row};
 ghost use Rattle.syn_lock.specs.Guards.{HasEntered, HasWaited};
 
 use crate::error::LockError;
@@ -18,9 +19,16 @@ use std::ops::{Deref, DerefMut};
 use std::sync::Wait;
 
 /// The lock's state, until `leave`. It cannot be dropped.
-pub struct Guard<'a, S> {
+pub type Guard<'a, S> = Holder<'a, S, Box<S>>;
+
+/// A pass that has the lock, with what the state lies in. That is a box, so that a hold moves no
+/// more than a pointer.
+///
+/// It is a parameter because no clause can say what is left behind a reference that stands beside a
+/// field with a pointer.
+pub struct Holder<'a, S, H> {
     pass: &'a mut Pass<S>,
-    state: S,
+    state: H,
 }
 
 impl<S: Grows> Pass<S> {
@@ -40,7 +48,7 @@ impl<S: Grows> Pass<S> {
         let Some(state) = own.take(self) else {
             return Err(LockError::Busy);
         };
-        Ok(Guard { pass: self, state })
+        Ok(Holder { pass: self, state })
     }
 
     /// Takes the lock, and waits until it is free.
@@ -53,7 +61,7 @@ impl<S: Grows> Pass<S> {
             (state_of result) }
     {
         let state = self.wait(rt, own);
-        Guard { pass: self, state }
+        Holder { pass: self, state }
     }
 }
 
@@ -66,7 +74,7 @@ impl<S: Grows> Own<S> {
         ensures left { view_of guard.exit.0.now
             ≡ outside (published (origin_of self.now) (knows guard.entry) (state_of guard.entry)) }
     {
-        let Guard { pass, state } = guard;
+        let Holder { pass, state } = guard;
         let position = state.position();
         if position < FAR {
             self.leave_near(pass, state, position);
@@ -85,7 +93,7 @@ impl<S> Deref for Guard<'_, S> {
     fn deref(&self) -> &S
         ensures { result.now ≡ state_of self.now }
     {
-        &self.state
+        &*self.state
     }
 }
 
@@ -96,10 +104,10 @@ impl<S> DerefMut for Guard<'_, S> {
 
     fn deref_mut(&mut self) -> &mut S
         ensures* writes_back { sem 𝓛 (follows
-            (the_row (record { mir = named 1; lft = [] }) S.row) S.row self.entry.ghost_name
-            result.ghost_name (with_state self.old)) }
+            (the_row (record { mir = named 1; lft = [] }) S.row (home_row S.row)) S.row
+            self.entry.ghost_name result.ghost_name (with_state self.old)) }
         ensures value { result.now ≡ state_of self.old }
     {
-        &mut self.state
+        &mut *self.state
     }
 }

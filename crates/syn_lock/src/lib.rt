@@ -13,7 +13,7 @@ mod view;
 
 pub use error::{LockError, Refused};
 pub use grows::Grows;
-pub use guard::Guard;
+pub use guard::{Guard, Holder};
 pub use own::{MOST_PASSES, Onlooker, Own, Pass};
 pub use pool::{NamedPass, Naming, PassPool};
 pub use view::{Hold, View};

@@ -1,7 +1,7 @@
 //! The lock and its passes.
 ghost use Rattle.std.specs.Prelude.{◌≡◌, ℕ, ◌∷◌, ◌%◌, ◌≤◌, ◌<◌, [], true, false, Some, List, IfOk};
 ghost use Rattle.std.specs.Prelude.{IfErr, IfSome, MatchOption};
-ghost use Rattle.syn_lock.specs.inner.Rule.{Tells, far};
+ghost use Rattle.syn_lock.specs.inner.Rule.{HasOut, Tells, far};
 
 use crate::error::{LockError, Refused};
 use crate::grows::Grows;
@@ -31,19 +31,19 @@ pub const MOST_PASSES: u64 = 63;
 /// What one caller has seen of the lock's history.
 #[derive(Drop)]
 pub struct Pass<S> {
-    pub(crate) seat: Seat<Option<S>, Known<S>>,
+    pub(crate) seat: Seat<Option<Box<S>>, Known<S>>,
 }
 
 /// What one caller who got no pass has seen of the lock.
 #[derive(Drop)]
 pub struct Onlooker<S> {
-    pub(crate) seat: Seat<Option<S>, Known<S>>,
+    pub(crate) seat: Seat<Option<Box<S>>, Known<S>>,
 }
 
 /// A lock over a state that only grows.
 #[derive(Drop)]
 pub struct Own<S: Grows> {
-    table: Table<Option<S>, Known<S>, Snapshot<S>, Discipline, Global>,
+    table: Table<Option<Box<S>>, Known<S>, Snapshot<S>, Discipline, Global>,
     ghost sized: { (table.shared.table_id.words ≡ 3) × (table.shared.table_id.slots ≡ 1) },
 }
 
@@ -56,6 +56,16 @@ fn words_of(position: u64) -> (u64, u64)
         (0, 2 * position)
     } else {
         (position, 0)
+    }
+}
+
+// Memory is refused, and the state comes back.
+fn wanting<S>(state: S) -> Refused<S>
+    ensures { (result.error ≡ LockError.Memory) × (result.value ≡ state) }
+{
+    Refused {
+        error: LockError::Memory,
+        value: state,
     }
 }
 
@@ -79,24 +89,22 @@ impl<S: Grows> Own<S> {
         let (first, second) = words_of(state.position());
         let words = [first, second, 0];
         let origin = Snapshot::of(&state);
-        let Ok(mut slots) = Vec::with_capacity(alloc, 1) else {
-            return Err(Refused {
-                error: LockError::Memory,
-                value: state,
-            });
+        let home = match Box::new(alloc, state) {
+            Ok(home) => home,
+            Err(failed) => return Err(wanting(failed.value)),
         };
-        slots.push_reserved(Some(state));
+        let Ok(mut slots) = Vec::with_capacity(alloc, 1) else {
+            return Err(wanting(Box::into_inner(home)));
+        };
+        slots.push_reserved(Some(home));
         match Table::new(alloc, &words, slots, &origin) {
             Ok((table, _seat)) => Ok(Own { table }),
             Err(atomic_table::Refused { mut slots }) => {
-                let Some(Some(state)) = slots.pop() else {
+                let Some(Some(home)) = slots.pop() else {
                     unreachable!()
                 };
                 slots.destroy_empty();
-                Err(Refused {
-                    error: LockError::Memory,
-                    value: state,
-                })
+                Err(wanting(Box::into_inner(home)))
             }
         }
     }
@@ -167,13 +175,13 @@ impl<S: Grows> Own<S> {
         ensures err { IfErr result (λ refused. (refused.error ≡ LockError.Busy)
             × WasRefused (id_of self) (origin_of self) pass refused.value) }
     {
-        let Some(state) = self.take(&mut pass) else {
+        let Some(home) = self.take(&mut pass) else {
             return Err(Refused {
                 error: LockError::Busy,
                 value: pass,
             });
         };
-        Ok(state)
+        Ok(Box::into_inner(home))
     }
 
     // Sees the history so far, which begins with what the pass was told.
@@ -225,11 +233,11 @@ impl<S: Grows> Own<S> {
     }
 
     // Takes the state out of the lock.
-    pub(crate) fn take(&self, pass: &mut Pass<S>) -> Option<S>
+    pub(crate) fn take(&self, pass: &mut Pass<S>) -> Option<Box<S>>
         requires { IsPassOf (id_of self.now) (origin_of self.now) pass.old }
         ensures same { pass.new.seat.table_id ≡ pass.old.seat.table_id }
         ensures taken { MatchOption result (pass.new.seat.me ≡ (turned_away pass.old.seat.me.0, []))
-            (λ state. (seen : List (Hold S))
+            (λ home. (seen : List (Hold S))
             × Sees S.grows (origin_of self.now) (view_of pass.old) seen
             ×
             (pass.new.seat.me ≡ (
@@ -237,9 +245,9 @@ impl<S: Grows> Own<S> {
                   (entered (view_of pass.old) seen) true,
               (0, None) ∷ [],
             ))
-            × (state ≡ end_of (origin_of self.now) seen)) }
-        ensures later { IfSome result (S.grows
-            (end_of (origin_of self.now) (view_of pass.old).seen)) }
+            × (home.value ≡ end_of (origin_of self.now) seen)) }
+        ensures later { IfSome result (λ home. S.grows
+            (end_of (origin_of self.now) (view_of pass.old).seen) home.value) }
     {
         let shared = &self.table.shared;
         let found = shared.fetch_or::<Take>(&mut pass.seat, LOCK, 1);
@@ -250,34 +258,36 @@ impl<S: Grows> Own<S> {
     }
 
     // Puts the state into the slot, while the pass has the lock.
-    pub(crate) fn put(&self, pass: &mut Pass<S>, state: S)
+    pub(crate) fn put(&self, pass: &mut Pass<S>, home: Box<S>)
         requires ours { pass.old.seat.table_id ≡ id_of self.now }
         requires out { pass.old.seat.me.1 ≡ (0, None) ∷ [] }
         ensures same { pass.new.seat.table_id ≡ pass.old.seat.table_id }
-        ensures put { pass.new.seat.me ≡ (pass.old.seat.me.0, (0, Some state) ∷ []) }
+        ensures put { pass.new.seat.me ≡ (pass.old.seat.me.0, (0, Some home) ∷ []) }
     {
-        let before = self.table.shared.exchange(&mut pass.seat, 0, Some(state));
+        let before = self.table.shared.exchange(&mut pass.seat, 0, Some(home));
         let None = before else { unreachable!() };
     }
 
     // Puts the state into the slot, and its position into the first word, which is for the far
     // ones.
-    pub(crate) fn publish(&self, pass: &mut Pass<S>, state: S, position: u64)
+    pub(crate) fn publish(&self, pass: &mut Pass<S>, home: Box<S>, position: u64)
         requires ours { pass.old.seat.table_id ≡ id_of self.now }
         requires out { pass.old.seat.me.1 ≡ (0, None) ∷ [] }
         requires inside { pass.old.seat.me.0.inside ≡ true }
         requires origin { (view_of pass.old).origin ≡ Some (origin_of self.now) }
-        requires grown { S.grows (end_of (origin_of self.now) (view_of pass.old).seen) state }
-        requires position { position ≡ S.position state }
+        requires grown { S.grows (end_of (origin_of self.now) (view_of pass.old).seen)
+            home.value }
+        requires position { position ≡ S.position home.value }
         requires far { far ≤ position }
         ensures same { pass.new.seat.table_id ≡ pass.old.seat.table_id }
         ensures inside { pass.new.seat.me.0.inside ≡ true }
-        ensures put { pass.new.seat.me.1 ≡ (0, Some state) ∷ [] }
+        ensures put { HasOut pass.new.seat.me
+            (end_of (origin_of self.now) (view_of pass.new).seen) }
         ensures published { view_of pass.new
-            ≡ published (origin_of self.now) (view_of pass.old) state }
-        ensures last { end_of (origin_of self.now) (view_of pass.new).seen ≡ state }
+            ≡ published (origin_of self.now) (view_of pass.old) home.value }
+        ensures last { end_of (origin_of self.now) (view_of pass.new).seen ≡ home.value }
     {
-        self.put(pass, state);
+        self.put(pass, home);
         self.table
             .shared
             .store::<Publish>(&mut pass.seat, POSITION, position);
@@ -286,8 +296,8 @@ impl<S: Grows> Own<S> {
     // Gives the lock back with the last state of the history, whose position is far.
     pub(crate) fn give(&self, pass: &mut Pass<S>)
         requires ours { pass.old.seat.table_id ≡ id_of self.now }
-        requires last { pass.old.seat.me.1
-            ≡ (0, Some (end_of (origin_of self.now) (view_of pass.old).seen)) ∷ [] }
+        requires last { HasOut pass.old.seat.me
+            (end_of (origin_of self.now) (view_of pass.old).seen) }
         requires inside { pass.old.seat.me.0.inside ≡ true }
         requires origin { (view_of pass.old).origin ≡ Some (origin_of self.now) }
         requires far { far ≤ S.position (end_of (origin_of self.now) (view_of pass.old).seen) }
@@ -299,20 +309,21 @@ impl<S: Grows> Own<S> {
     }
 
     // Puts the state into the slot, publishes its position and gives the lock back, in one step.
-    pub(crate) fn leave_near(&self, pass: &mut Pass<S>, state: S, position: u64)
+    pub(crate) fn leave_near(&self, pass: &mut Pass<S>, home: Box<S>, position: u64)
         requires ours { pass.old.seat.table_id ≡ id_of self.now }
         requires out { pass.old.seat.me.1 ≡ (0, None) ∷ [] }
         requires inside { pass.old.seat.me.0.inside ≡ true }
         requires origin { (view_of pass.old).origin ≡ Some (origin_of self.now) }
-        requires grown { S.grows (end_of (origin_of self.now) (view_of pass.old).seen) state }
-        requires position { position ≡ S.position state }
+        requires grown { S.grows (end_of (origin_of self.now) (view_of pass.old).seen)
+            home.value }
+        requires position { position ≡ S.position home.value }
         requires near { position < far }
         ensures same { pass.new.seat.table_id ≡ pass.old.seat.table_id }
         ensures outside { (pass.new.seat.me.1 ≡ []) × (pass.new.seat.me.0.inside ≡ false) }
         ensures left { view_of pass.new ≡ outside
-            (published (origin_of self.now) (view_of pass.old) state) }
+            (published (origin_of self.now) (view_of pass.old) home.value) }
     {
-        self.put(pass, state);
+        self.put(pass, home);
         self.table
             .shared
             .store::<Leave>(&mut pass.seat, LOCK, 2 * position);
@@ -327,7 +338,7 @@ impl<S: Grows> Pass<S> {
     ghost use Rattle.syn_lock.specs.Locks.{id_of, origin_of};
 
     // Takes the state out of the lock, and waits until it is there.
-    pub(crate) fn wait<R: Wait>(&mut self, rt: &R, own: &Own<S>) -> S
+    pub(crate) fn wait<R: Wait>(&mut self, rt: &R, own: &Own<S>) -> Box<S>
         requires { IsPassOf (id_of own.now) (origin_of own.now) self.old }
         ensures same { self.new.seat.table_id ≡ self.old.seat.table_id }
         ensures inside { (self.new.seat.me.1 ≡ (0, None) ∷ [])
@@ -335,12 +346,13 @@ impl<S: Grows> Pass<S> {
         ensures taken { (times : ℕ) × (seen : List (Hold S))
             × Sees S.grows (origin_of own.now) (view_of self.old) seen
             × (view_of self.new ≡ entered (refused_times (view_of self.old) times) seen)
-            × (result ≡ end_of (origin_of own.now) seen) }
-        ensures later { S.grows (end_of (origin_of own.now) (view_of self.old).seen) result }
+            × (result.value ≡ end_of (origin_of own.now) seen) }
+        ensures later { S.grows (end_of (origin_of own.now) (view_of self.old).seen)
+            result.value }
     {
         for _ in rt.forever() {
-            if let Some(state) = own.take(self) {
-                return state;
+            if let Some(home) = own.take(self) {
+                return home;
             }
             thread::yield_now();
         }

@@ -1,7 +1,7 @@
 // The rule of the lock's table, and what each of its steps tells. Word 1 is the lock's word: twice
 // the position of the state that was left last, and 1 more while the lock is taken. A position from
 // 2^63 on is word 0, which is 0 up to then. Word 2 counts passes. Slot 0 has the state while the
-// lock is free.
+// lock is free, in a box, so that a hold moves no more than a pointer.
 use crate::grows::Grows;
 use crate::view::Known;
 use atomic_table::{Join, Play, Split, TableRule};
@@ -9,7 +9,7 @@ use std::snapshot::Snapshot;
 
 pub struct Discipline;
 
-impl<S: Grows> TableRule<Option<S>, Known<S>, Snapshot<S>> for Discipline {
+impl<S: Grows> TableRule<Option<Box<S>>, Known<S>, Snapshot<S>> for Discipline {
     ghost use Rattle.syn_lock.specs.inner.Rule.{Lawful, witness};
     ghost use Rattle.std.specs.Prelude.{[], Some};
 
@@ -21,7 +21,7 @@ impl<S: Grows> TableRule<Option<S>, Known<S>, Snapshot<S>> for Discipline {
 /// It sets the lowest bit of the lock's word.
 pub(crate) struct Take;
 
-impl<S: Grows> Play<Option<S>, Known<S>> for Take {
+impl<S: Grows> Play<Option<Box<S>>, Known<S>> for Take {
     ghost use Rattle.syn_lock.specs.inner.Rule.{takes_lock};
 
     ghost then = { takes_lock S.grows };
@@ -30,7 +30,7 @@ impl<S: Grows> Play<Option<S>, Known<S>> for Take {
 /// A store of the new position into word 0.
 pub(crate) struct Publish;
 
-impl<S: Grows> Play<Option<S>, Known<S>> for Publish {
+impl<S: Grows> Play<Option<Box<S>>, Known<S>> for Publish {
     ghost use Rattle.syn_lock.specs.inner.Rule.{publishes};
 
     ghost then = { publishes };
@@ -39,7 +39,7 @@ impl<S: Grows> Play<Option<S>, Known<S>> for Publish {
 /// A store of 0 into the lock's word.
 pub(crate) struct Give;
 
-impl<S: Grows> Play<Option<S>, Known<S>> for Give {
+impl<S: Grows> Play<Option<Box<S>>, Known<S>> for Give {
     ghost use Rattle.syn_lock.specs.inner.Rule.{gives_lock};
 
     ghost then = { gives_lock };
@@ -49,7 +49,7 @@ impl<S: Grows> Play<Option<S>, Known<S>> for Give {
 /// back.
 pub(crate) struct Leave;
 
-impl<S: Grows> Play<Option<S>, Known<S>> for Leave {
+impl<S: Grows> Play<Option<Box<S>>, Known<S>> for Leave {
     ghost use Rattle.syn_lock.specs.inner.Rule.{leaves};
 
     ghost then = { leaves };
@@ -58,7 +58,7 @@ impl<S: Grows> Play<Option<S>, Known<S>> for Leave {
 /// A load of the lock's word.
 pub(crate) struct Look;
 
-impl<S: Grows> Play<Option<S>, Known<S>> for Look {
+impl<S: Grows> Play<Option<Box<S>>, Known<S>> for Look {
     ghost use Rattle.syn_lock.specs.inner.Rule.{looks};
 
     ghost then = { looks S.position S.grows };
@@ -67,7 +67,7 @@ impl<S: Grows> Play<Option<S>, Known<S>> for Look {
 /// A load of word 0.
 pub(crate) struct LookFar;
 
-impl<S: Grows> Play<Option<S>, Known<S>> for LookFar {
+impl<S: Grows> Play<Option<Box<S>>, Known<S>> for LookFar {
     ghost use Rattle.syn_lock.specs.inner.Rule.{looks_far};
 
     ghost then = { looks_far S.position S.grows };
@@ -76,7 +76,7 @@ impl<S: Grows> Play<Option<S>, Known<S>> for LookFar {
 /// A load that changes nothing.
 pub(crate) struct Confirm;
 
-impl<S: Grows> Play<Option<S>, Known<S>> for Confirm {
+impl<S: Grows> Play<Option<Box<S>>, Known<S>> for Confirm {
     ghost use Rattle.syn_lock.specs.inner.Rule.{confirms};
 
     ghost then = { confirms };
@@ -85,7 +85,7 @@ impl<S: Grows> Play<Option<S>, Known<S>> for Confirm {
 /// A load of the count of passes by a new seat.
 pub(crate) struct Arrive;
 
-impl<S: Grows> Play<Option<S>, Known<S>> for Arrive {
+impl<S: Grows> Play<Option<Box<S>>, Known<S>> for Arrive {
     ghost use Rattle.syn_lock.specs.inner.Rule.{arrives};
 
     ghost then = { arrives };
@@ -94,7 +94,7 @@ impl<S: Grows> Play<Option<S>, Known<S>> for Arrive {
 /// A compare-exchange of the count of passes, which adds 1 and makes the seat a pass.
 pub(crate) struct Admit;
 
-impl<S: Grows> Play<Option<S>, Known<S>> for Admit {
+impl<S: Grows> Play<Option<Box<S>>, Known<S>> for Admit {
     ghost use Rattle.syn_lock.specs.inner.Rule.{admits};
 
     ghost then = { admits S.grows };

@@ -7,8 +7,7 @@ use Rattle.syn_lock.specs.Locks.{origin_of}
 use Rattle.syn_lock.specs.Passes.{view_of}
 use Rattle.syn_lock.specs.declared.own.Pass.{Pass}
 use Rattle.syn_lock.specs.Views.{Held, outside, published, own_hold}
-use Rattle.syn_lock.specs.Guards.{HasEntered, knows, state_of}
-use Rattle.syn_lock.specs.declared.guard.Guard.{Guard}
+use Rattle.syn_lock.specs.Guards.{Guard, HasEntered, knows, state_of}
 use Rattle.syn_lock.specs.declared.view.Hold.{Hold}
 use Rattle.syn_lock.specs.declared.view.View.{View}
 use Rattle.syn_replica.specs.Growing.{itself, grown_twice}

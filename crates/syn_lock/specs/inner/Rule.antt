@@ -1,6 +1,7 @@
 -- The rule of the lock's table, and what each step tells its seat.
 use Rattle.std.specs.Prelude.{◌≡◌, ◌≢◌, ℕ, ◌+◌, ◌/◌, ◌%◌, ◌<◌, ◌≤◌, ◌==◌, ◌⊎◌, cond, Bool, true}
 use Rattle.std.specs.Prelude.{false, List, [], ◌∷◌, length, slice_index, Option, Some}
+use Rattle.std.specs.Global.{Box}
 use mathlib.Core.Option.{some}
 use mathlib.Core.List.{IsPrefix}
 use lib.ListN.{get_elem?}
@@ -22,12 +23,16 @@ Tells first second position = (first ≡ 0 → (second / 2 ≡ position) × (pos
     × (first ≢ 0 → (first ≡ position) × (far ≤ first))
 
 abbrev pub Sat : Type 0 → Type 0
-Sat S = Me (Option S) (Known S)
+Sat S = Me (Option (Box S)) (Known S)
 
 module _ {S : Type 0} where
   abbrev pub known : View S → List (Hold S) → List (Hold ℕ) → Bool → ℕ → Known S
   known v told watched inside passes = record
       { view = v; told = told; watched = watched; inside = inside; passes = passes }
+
+  -- the seat has this state out of the lock
+  abbrev pub HasOut : Sat S → S → Type 0
+  HasOut m state = (home : Box S) × (home.value ≡ state) × (m.1 ≡ (0, Some home) ∷ [])
 
   -- a seat that is no pass, and has seen these holds
   abbrev pub witness : Option S → List (Hold S) → Known S
@@ -51,31 +56,32 @@ module _ {S : Type 0} where
   agreeing k l = caught_up k (seeing k.view l.view.seen) k.inside
 
   -- a take finds an even number and wins, or finds an odd one and loses
-  abbrev pub takes_lock : (S → S → Type 0) → Step (Option S) → Sat S → ℕ → Sat S → Type 0
+  abbrev pub takes_lock : (S → S → Type 0) → Step (Option (Box S)) → Sat S → ℕ → Sat S → Type 0
   takes_lock grows st m r n =
       (r % 2 ≡ 0 → (origin : S) → m.0.view.origin ≡ Some origin
       → (seen : List (Hold S)) × Sees grows origin m.0.view seen
-      ×
-      (n ≡ (caught_up m.0 (entered m.0.view seen) true, (0, Some (end_of origin seen)) ∷ m.1)))
+      × (home : Box S) × (home.value ≡ end_of origin seen)
+      × (n ≡ (caught_up m.0 (entered m.0.view seen) true, (0, Some home) ∷ m.1)))
       × (r % 2 ≢ 0 → n ≡ (turned_away m.0, m.1))
 
-  abbrev pub publishes : Step (Option S) → Sat S → ℕ → Sat S → Type 0
-  publishes st m r n = (origin left : S) → m.0.view.origin ≡ Some origin → m.1 ≡ (0, Some left) ∷ []
-      → n ≡ (caught_up m.0 (published origin m.0.view left) m.0.inside, m.1)
+  abbrev pub publishes : Step (Option (Box S)) → Sat S → ℕ → Sat S → Type 0
+  publishes st m r n = (origin : S) (left : Box S) → m.0.view.origin ≡ Some origin
+      → m.1 ≡ (0, Some left) ∷ []
+      → n ≡ (caught_up m.0 (published origin m.0.view left.value) m.0.inside, m.1)
 
   -- who gives the lock back has watched the word up to that step
-  abbrev pub gives_lock : Step (Option S) → Sat S → ℕ → Sat S → Type 0
+  abbrev pub gives_lock : Step (Option (Box S)) → Sat S → ℕ → Sat S → Type 0
   gives_lock st m r n = (watched : List (Hold ℕ))
       × (n ≡ (known (outside m.0.view) m.0.told watched false m.0.passes, []))
 
   -- both at once
-  abbrev pub leaves : Step (Option S) → Sat S → ℕ → Sat S → Type 0
+  abbrev pub leaves : Step (Option (Box S)) → Sat S → ℕ → Sat S → Type 0
   leaves st m r n =
-      (origin left : S) → m.0.view.origin ≡ Some origin → m.1 ≡ (0, Some left) ∷ []
+      (origin : S) (left : Box S) → m.0.view.origin ≡ Some origin → m.1 ≡ (0, Some left) ∷ []
       → (watched : List (Hold ℕ)) × (n ≡
-      (known (outside (published origin m.0.view left)) [] watched false m.0.passes, []))
+      (known (outside (published origin m.0.view left.value)) [] watched false m.0.passes, []))
 
-  abbrev pub looks : (S → ℕ) → (S → S → Type 0) → Step (Option S) → Sat S → ℕ → Sat S → Type 0
+  abbrev pub looks : (S → ℕ) → (S → S → Type 0) → Step (Option (Box S)) → Sat S → ℕ → Sat S → Type 0
   looks position grows st m r n =
       (origin : S) → m.0.view.origin ≡ Some origin
       → (seen : List (Hold S)) × Sees grows origin m.0.view seen × IsPrefix m.0.told seen
@@ -84,7 +90,8 @@ module _ {S : Type 0} where
 
   -- a look at the first word finds 0, so that the position was near up to now, or it finds the
   -- position
-  abbrev pub looks_far : (S → ℕ) → (S → S → Type 0) → Step (Option S) → Sat S → ℕ → Sat S → Type 0
+  abbrev pub looks_far : (S → ℕ) → (S → S → Type 0) → Step (Option (Box S)) → Sat S → ℕ → Sat S
+      → Type 0
   looks_far position grows st m r n =
       (origin : S) → m.0.view.origin ≡ Some origin
       → (r ≡ 0 → (position (end_of origin m.0.view.seen) < far) × (n ≡ m))
@@ -93,16 +100,16 @@ module _ {S : Type 0} where
       × (r ≡ position (end_of origin seen)))
 
   -- what the pass has seen has its own holds and no others under its number
-  abbrev pub confirms : Step (Option S) → Sat S → ℕ → Sat S → Type 0
+  abbrev pub confirms : Step (Option (Box S)) → Sat S → ℕ → Sat S → Type 0
   confirms st m r n = (holds_by m.0.view.number m.0.view.seen ≡ m.0.view.own) × (n ≡ m)
 
   -- a new seat counts the passes that are out
-  abbrev pub arrives : Step (Option S) → Sat S → ℕ → Sat S → Type 0
+  abbrev pub arrives : Step (Option (Box S)) → Sat S → ℕ → Sat S → Type 0
   arrives st m r n = (r ≤ 63) × (n ≡ (counting m.0 r, m.1))
 
   -- an exchange of the count finds the number that it wants, and its seat becomes a pass; or it
   -- finds another
-  abbrev pub admits : (S → S → Type 0) → Step (Option S) → Sat S → ℕ → Sat S → Type 0
+  abbrev pub admits : (S → S → Type 0) → Step (Option (Box S)) → Sat S → ℕ → Sat S → Type 0
   admits grows st m r n =
       (m.0.passes ≤ r) × (r ≤ 63)
       × (r ≡ st.first → (origin : S) → m.0.view.origin ≡ Some origin
@@ -134,7 +141,7 @@ module _ {S : Type 0} where
   -- There is one history of the state. The first two words tell its last position. While the lock
   -- is free its last state is at home
   pub record Kept (position : S → ℕ) (grows : S → S → Type 0) (origin : S)
-      (s : State (Option S) (Known S)) : Type 0 where
+      (s : State (Option (Box S)) (Known S)) : Type 0 where
     pub log : List (Hold S)
     pub holder : ℕ
     pub words : length s.words ≡ 3
@@ -143,8 +150,8 @@ module _ {S : Type 0} where
     pub position_is : Tells (slice_index s.words 0) (slice_index s.words 1)
         (position (end_of origin log))
     pub fits : (seat : ℕ) (k : Known S) → get_elem? s.views seat ≡ some k → Fits origin log seat k
-    pub home : slice_index s.words 1 % 2 ≡ 0 → get_elem? s.homes 0
-        ≡ some (some (Some (end_of origin log)))
+    pub home : slice_index s.words 1 % 2 ≡ 0 → (home : Box S) × (home.value ≡ end_of origin log)
+        × (get_elem? s.homes 0 ≡ some (some (Some home)))
     pub inside : (seat : ℕ) (k : Known S) → get_elem? s.views seat ≡ some k → k.inside ≡ true
         → Holds log (slice_index s.words 1 % 2) holder seat k
     pub unused : (number : ℕ) → IsUnused s.views number → holds_by number log ≡ []
@@ -176,6 +183,6 @@ module _ {S : Type 0} where
     pub seen : (seat : ℕ) (k : Known S) → get_elem? seats seat ≡ some k
         → k.passes ≤ slice_index words 2
 
-  abbrev pub Lawful : (S → ℕ) → (S → S → Type 0) → S → State (Option S) (Known S) → Type 0
+  abbrev pub Lawful : (S → ℕ) → (S → S → Type 0) → S → State (Option (Box S)) (Known S) → Type 0
   Lawful position grows origin s = Kept position grows origin s × Turned s.words s.views
       × Counted s.words s.views

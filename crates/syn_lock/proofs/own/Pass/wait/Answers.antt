@@ -39,4 +39,4 @@ loop-preserved g c = let k = c.args.self.now.seat.me.0 in let w = c.loop.invaria
 
 pub returns-in-Some-take-clause-later : goal.returns-in-Some-take-clause-later
 returns-in-Some-take-clause-later g c = let o = origin_of c.args.own.now in let later = c.in-Some-take.ensures.later in
-    subst (λ (m : Sat g.row.S.Denot). g.S.Grows.grows (end_of o m.0.view.seen) c.in-Some-take.state) c.loop.invariant.waited.1 later
+    subst (λ (m : Sat g.row.S.Denot). g.S.Grows.grows (end_of o m.0.view.seen) c.in-Some-take.home.value) c.loop.invariant.waited.1 later
