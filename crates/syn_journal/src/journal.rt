@@ -38,6 +38,7 @@ use crate::commit::commit;
 use crate::contents::read_contents;
 use crate::half::{HALF_SIZE, Half};
 use crate::layout::{IMAGE_AT, MAX_IMAGE, RECORD_HEADER, RECORD_OVERHEAD};
+use crate::number::{write_u32, write_u64};
 use std::alloc::{AllocError, Global};
 use syn_disk::{Arm, DeviceFailed, Disk, Limit};
 
@@ -318,7 +319,7 @@ fn record_body(alloc: Global, payload: &[u8]) -> Result<Vec<u8>, AllocError>
     ensures { IfOk result (λ body. body.items ≡ body_of_record payload.now) }
 {
     let mut body = Vec::with_capacity(alloc, payload.len() + RECORD_HEADER)?;
-    body.extend_from_slice(&(payload.len() as u32).to_be_bytes())?;
+    write_u32(&mut body, payload.len() as u32)?;
     body.extend_from_slice(payload)?;
     body.push(0)?;
     Ok(body)
@@ -330,8 +331,8 @@ fn image_body(alloc: Global, generation: u64, image: &[u8]) -> Result<Vec<u8>, A
     ensures { IfOk result (λ body. body.items ≡ body_of_image generation image.now) }
 {
     let mut body = Vec::with_capacity(alloc, image.len() + IMAGE_AT)?;
-    body.extend_from_slice(&generation.to_be_bytes())?;
-    body.extend_from_slice(&(image.len() as u32).to_be_bytes())?;
+    write_u64(&mut body, generation)?;
+    write_u32(&mut body, image.len() as u32)?;
     body.extend_from_slice(image)?;
     body.push(0)?;
     Ok(body)

@@ -9,6 +9,7 @@ mod half;
 mod journal;
 mod laws;
 mod layout;
+mod number;
 mod read;
 
 pub use error::JournalError;

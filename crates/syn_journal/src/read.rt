@@ -10,6 +10,7 @@ ghost use Rattle.syn_journal.specs.Refusals.{CountsFailures, ReadsAtLeast};
 ghost use Rattle.syn_journal.specs.inner.Reading.{IsReadRefusal};
 
 use crate::JournalError;
+use crate::number::{u32_of, u64_of};
 use std::alloc::Global;
 use syn_disk::{DISK_SIZE, DeviceFailed, Disk};
 
@@ -37,15 +38,7 @@ pub fn read_u32<D: Disk>(disk: &mut D, at: usize) -> Result<u32, DeviceFailed>
 {
     let mut bytes = [0; 4];
     disk.read(at, &mut bytes)?;
-    Ok(number(&bytes))
-}
-
-// The number of these bytes, which are the bytes of that number.
-fn number(bytes: &[u8; 4]) -> u32
-    ensures value { result ≡ from_be_bytes w32 bytes.now }
-    ensures bytes { to_be_bytes w32 result ≡ bytes.now }
-{
-    u32::from_be_bytes(*bytes)
+    Ok(u32_of(&bytes))
 }
 
 /// The number of the eight bytes from here on.
@@ -58,7 +51,7 @@ pub fn read_u64<D: Disk>(disk: &mut D, at: usize) -> Result<u64, DeviceFailed>
 {
     let mut bytes = [0; 8];
     disk.read(at, &mut bytes)?;
-    Ok(u64::from_be_bytes(bytes))
+    Ok(u64_of(&bytes))
 }
 
 /// So many bytes from here on.

@@ -1,6 +1,6 @@
-use Rattle.std.proofs.Common.{◌≡◌, ℕ, ◌+◌, ◌-◌, ◌++◌, List, length, ap, ◌∙◌, arith, length-append}
+use Rattle.std.proofs.Common.{◌≡◌, ◌+◌, length, ap, ◌∙◌, arith, length-append}
 use Rattle.std.specs.Int.{w32, to_be_bytes}
-use Rattle.syn_journal.specs.Layout.{Value, LeftBehindPayload, record_of, records_of}
+use Rattle.syn_journal.specs.Layout.{LeftBehindPayload, record_of, records_of}
 use Rattle.syn_journal.proofs.Records.{records_of-push}
 use Rattle.syn_journal.proofs.laws.layout_laws.Goals as goal
 
