@@ -18,8 +18,8 @@ use syn_path::Path;
 use syn_replica::Replica;
 use syn_tree::{Entry, Found, Tree};
 
-/// Prints the whole replica: a line with its numbers, and a line for each path but the root, in path
-/// order.
+/// Prints the whole replica: a line with its numbers, and a line for each path but the root, in
+/// path order.
 ///
 /// Refused 9 where the output cannot be written, and 11 where memory is refused.
 pub fn show_replica<D: Disk, W: Write>(
@@ -35,8 +35,8 @@ pub fn show_replica<D: Disk, W: Write>(
     show_below(alloc, replica.tree(), &Path::root(alloc), output)
 }
 
-/// Prints the whole archive: a line with its numbers, and a line for each path but the root, in path
-/// order.
+/// Prints the whole archive: a line with its numbers, and a line for each path but the root, in
+/// path order.
 ///
 /// Refused 9 where the output cannot be written, and 11 where memory is refused.
 pub fn show_archive<D: Disk, W: Write>(

@@ -21,4 +21,5 @@ refused_line cause path = codes "refused "
 -- how many items of the plan were settled, and how many bytes were fetched
 abbrev pub count_line : ℕ → ℕ → ℕ → List ℕ
 count_line settled planned fetched = decimal settled
-    ++ (codes " of " ++ (decimal planned ++ (codes " items, " ++ (decimal fetched ++ codes " bytes"))))
+    ++ (codes " of " ++ (decimal planned
+    ++ (codes " items, " ++ (decimal fetched ++ codes " bytes"))))
