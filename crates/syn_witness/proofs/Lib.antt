@@ -17,6 +17,7 @@ pub mod MarkedScans
 pub mod MarkedLemmas
 pub mod RefusedLemmas
 pub mod RoomLemmas
+pub mod TurnLemmas
 pub mod ShortLemmas
 pub mod ConflictScans
 pub mod ConflictLemmas

@@ -1,14 +1,17 @@
 -- What no run does.
-use Rattle.std.specs.Prelude.{ℕ, ◌+◌, ◌≤◌, ◌<◌, ◌≡◌, ◌≢◌, ◌⊎◌, true, List, length, slice_get, Some}
-use Rattle.std.specs.Prelude.{None, IsSomeAnd, All, Contains}
-use Rattle.syn_model.specs.Refusal.{JournalFull, NoAnswer, TooLarge, BadMessage}
+use Rattle.std.specs.Prelude.{ℕ, ◌+◌, ◌≤◌, ◌<◌, ◌≡◌, ◌≢◌, ◌⊎◌, true, List, ◌++◌, length, slice_get}
+use Rattle.std.specs.Prelude.{Some, None, IsSomeAnd, All, Contains}
+use Rattle.syn_model.specs.Refusal.{Refusal, JournalFull, NoAnswer, TooLarge, BadMessage}
 use Rattle.syn_model.specs.Event.{Edit}
-use Rattle.syn_headline.specs.Side.{Begin}
+use Rattle.syn_model.specs.Path.{Path}
+use Rattle.syn_model.specs.Decision.{path_of}
+use Rattle.syn_headline.specs.Side.{Begin, ListAt}
 use Rattle.syn_headline.specs.Network.{Which, Asks}
 use Rattle.syn_headline.specs.Report.{Complete}
 use Rattle.syn_headline.specs.Coordinator.{CoordinatorMachine, Running, Exchange, Call, Takes}
 use Rattle.syn_headline.specs.Coordinator.{CoordinatorStarts, CoordinatorTicks}
 use Rattle.syn_headline.specs.Coordinator.{fault_of, is_unstable, hearing, Walk, IsToKeep, Advances}
+use Rattle.syn_headline.specs.Coordinator.{BothBegun}
 use Rattle.syn_headline.specs.Planning.{Planned}
 use Rattle.syn_model.specs.Archive.{Kept}
 use Rattle.syn_headline.specs.Machine.{Halted, Down, IsBefore}
@@ -57,12 +60,34 @@ UnstableIsIncomplete = (pair : ℕ) (old : CoordinatorMachine) (running : Runnin
     Takes pair old running taken new call → is_unstable (hearing running taken) ≡ true →
     All (λ report. report.end ≢ Complete) call.reports
 
+-- no side is asked for a listing before both have answered that they have begun
+abbrev pub ListsAfterBegun : Type 0
+ListsAfterBegun = (pair : ℕ) (old : CoordinatorMachine) (running : Running) (taken : Exchange)
+    (new : CoordinatorMachine) (call : Call) → Takes pair old running taken new call →
+    (side : Which) (session number : ℕ) (path : Path) →
+    Contains call.messages (Asks side session number (ListAt path)) →
+    BothBegun (hearing running taken).taken
+
 -- a session whose archive's device fails in a call does not go on
 abbrev pub FailureEnds : Type 0
 FailureEnds = (pair : ℕ) (old : CoordinatorMachine) (running : Running) (taken : Exchange)
     (new : CoordinatorMachine) (call : Call) →
     Takes pair old running taken new call → new.journal.status ≢ old.journal.status →
     new.running ≡ None
+
+-- a refusal of an item of the plan that the one walk came to and the other is past
+abbrev pub IsPassed : List Planned → Walk → Walk → Refusal × Path → Type 0
+IsPassed plan walk later refusal = (item : ℕ) × (planned : Planned) × (walk.cursor ≤ item)
+    × (item < later.cursor) × (slice_get plan item ≡ Some planned)
+    × (refusal.1 ≡ path_of planned.item)
+
+-- no walk goes back, and each refusal that it adds is of an item that it passed
+abbrev pub RefusedIsPassed : Type 0
+RefusedIsPassed = (pair : ℕ) (plan : List Planned) (taken : Exchange) (walk later : Walk)
+    (kept : List Kept) → Advances pair plan taken walk kept later →
+    (walk.cursor ≤ later.cursor)
+    × ((more : List (Refusal × Path)) × (later.refused ≡ walk.refused ++ more)
+    × All (IsPassed plan walk later) more)
 
 -- a checkpoint that an answer makes is followed by the record that it was made for, or by nothing
 -- more of that answer
