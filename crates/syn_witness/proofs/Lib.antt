@@ -19,6 +19,7 @@ pub mod RefusedLemmas
 pub mod RoomLemmas
 pub mod TurnLemmas
 pub mod ShortLemmas
+pub mod RefusedCalls
 pub mod ConflictScans
 pub mod ConflictLemmas
 pub mod UnstableLemmas

@@ -1,6 +1,7 @@
 pub mod Rows
 pub mod Witness
 pub mod Short
+pub mod Refused
 pub mod Conflict
 pub mod Unstable
 pub mod Removal

@@ -12,6 +12,8 @@ ghost use Rattle.syn_witness.specs.Forbidden.{HaltedAfterFailure};
 ghost use Rattle.syn_witness.specs.Short.{StartIsRecovered, ReplacementIsRecovered};
 ghost use Rattle.syn_witness.specs.Short.{CheckpointIsMade, ArchiveIsReopened, ResendIsAnswered};
 ghost use Rattle.syn_witness.specs.Short.{LateIsOld};
+ghost use Rattle.syn_witness.specs.Refused.{SecondStartIsBusy, FullIsCompacted, StartFails};
+ghost use Rattle.syn_witness.specs.Refused.{ReopeningFails};
 ghost use Rattle.syn_witness.specs.Conflict.{ConflictIsReported};
 ghost use Rattle.syn_witness.specs.Removal.{RemovalIsCarried};
 ghost use Rattle.syn_witness.specs.Unstable.{VanishedIsUnstable};
@@ -52,7 +54,8 @@ pub fn witnesses()
 
 /// Short runs of the same: a start and a replacement that a stop cuts off and an opening recovers,
 /// checkpoints of a side and of the archive with a reopening, a request that is sent again and
-/// answered twice, and a replacement of a session that is over.
+/// answered twice, and a replacement of a session that is over; a start while a session runs, an
+/// edit that has no room before a checkpoint, and a start and a reopening whose device call fails.
 pub fn short_witnesses()
     ensures start { StartIsRecovered }
     ensures replacement { ReplacementIsRecovered }
@@ -60,6 +63,10 @@ pub fn short_witnesses()
     ensures archive { ArchiveIsReopened }
     ensures resent { ResendIsAnswered }
     ensures late { LateIsOld }
+    ensures busy { SecondStartIsBusy }
+    ensures full { FullIsCompacted }
+    ensures fails { StartFails }
+    ensures unopened { ReopeningFails }
 {}
 
 /// What no run does: without a stop among the steps no machine goes down, an edit is not

@@ -1,4 +1,5 @@
 use Rattle.syn_witness.proofs.ShortLemmas.{start_is_recovered, replacement_is_recovered, checkpoint_is_made, archive_is_reopened, resend_is_answered, late_is_old}
+use Rattle.syn_witness.proofs.RefusedCalls.{second_start_is_busy, full_is_compacted, start_fails, reopening_fails}
 use Rattle.syn_witness.proofs.short_witnesses.Goals as goal
 
 pub returns-clause-start : goal.returns-clause-start
@@ -18,3 +19,15 @@ returns-clause-resent c = resend_is_answered
 
 pub returns-clause-late : goal.returns-clause-late
 returns-clause-late c = late_is_old
+
+pub returns-clause-busy : goal.returns-clause-busy
+returns-clause-busy c = second_start_is_busy
+
+pub returns-clause-full : goal.returns-clause-full
+returns-clause-full c = full_is_compacted
+
+pub returns-clause-fails : goal.returns-clause-fails
+returns-clause-fails c = start_fails
+
+pub returns-clause-unopened : goal.returns-clause-unopened
+returns-clause-unopened c = reopening_fails
