@@ -6,12 +6,13 @@ use Rattle.syn_model.specs.Path.{Path}
 use Rattle.syn_model.specs.Refusal.{Refusal, Full}
 use Rattle.syn_model.specs.Archive.{Archive, Kept}
 use Rattle.syn_model.specs.Decision.{path_of}
+use Rattle.syn_headline.specs.Machine.{Journaled, idle, written, unwritten}
 use Rattle.syn_headline.specs.Side.{Request, ListAt}
 use Rattle.syn_headline.specs.Network.{Which, Left, Right, Message, Asks, Answers}
 use Rattle.syn_headline.specs.Planning.{Planned}
-use Rattle.syn_headline.specs.Coordinator.{Walk, Exchange, Running, BothBegun, MayAsk, AsksNext, asked_count, numbered, messages_to, sent_now, hearing, behind, past, refusing, making_room, Takes, Advances}
+use Rattle.syn_headline.specs.Coordinator.{Walk, Exchange, Running, BothBegun, MayAsk, AsksNext, asked_count, numbered, messages_to, sent_now, hearing, behind, past, refusing, making_room, Takes, Advances, Keeps, writes, cut_behind, IsToKeep}
 use Rattle.syn_headline.specs.Coordinator as coordinator
-use Rattle.syn_witness.specs.Forbidden.{ListsAfterBegun, IsPassed, RefusedIsPassed}
+use Rattle.syn_witness.specs.Forbidden.{ListsAfterBegun, IsPassed, RefusedIsPassed, IsDueWithin, KeptIsDue}
 
 -- What is asked for
 
@@ -105,3 +106,41 @@ passes pair plan taken walk _ kept (coordinator.record_breaks _ what _ journal t
 
 pub refused_is_passed : RefusedIsPassed
 refused_is_passed pair plan taken walk later kept advances = let p = passes pair plan taken walk later kept advances in (p.on, (p.more, p.adds, p.passed))
+
+-- What is recorded
+
+all_kept : (P : Kept → Type 0) (pair : ℕ) (journal new : Journaled Archive Kept) (what : Kept) (kept : List Kept) → Keeps pair journal what new kept → P what → All P kept
+all_kept P pair journal _ what _ (writes _ _ (idle is)) h = All-cons P what [] h (All-nil P)
+all_kept P pair journal _ what _ (writes _ _ (written arms is meets)) h = All-cons P what [] h (All-nil P)
+all_kept P pair journal _ what _ (writes _ _ (unwritten status arms failed is broken meets)) h = All-nil P
+all_kept P pair journal _ what _ (cut_behind is fail stop) h = All-cons P what [] h (All-nil P)
+
+module _ (plan : List Planned) (taken : Exchange) where
+  -- what is due from a later walk on is due from an earlier one on
+  due_sooner : (walk between later : Walk) → walk.cursor ≤ between.cursor → (kept : List Kept) → All (IsDueWithin plan taken between later) kept → All (IsDueWithin plan taken walk later) kept
+  due_sooner walk between later below [] all = All-nil (IsDueWithin plan taken walk later)
+  due_sooner walk between later below (one ∷ more) all =
+      let is = All-head (IsDueWithin plan taken between later) one more all in let from : between.cursor ≤ is.0 = is.2 in
+      All-cons (IsDueWithin plan taken walk later) one more (is.0, is.1, omega (arith, below, from), is.3, is.4, is.5) (due_sooner walk between later below more (All-tail (IsDueWithin plan taken between later) one more all))
+
+  due_now : (walk later : Walk) (what : Kept) → IsToKeep plan taken walk what → walk.cursor ≤ later.cursor → IsDueWithin plan taken walk later what
+  due_now walk later what to_keep on = (walk.cursor, to_keep.planned, omega arith, on, to_keep.at, to_keep.due)
+
+pub kept_is_due : KeptIsDue
+kept_is_due pair plan taken walk _ _ (coordinator.stands _) = All-nil (IsDueWithin plan taken walk walk)
+kept_is_due pair plan taken walk later kept (coordinator.conflicts _ _ _ planned path first at is more) =
+    due_sooner plan taken walk (past walk walk.journal) later (omega arith) kept (kept_is_due pair plan taken (past walk walk.journal) later kept more)
+kept_is_due pair plan taken walk later kept (coordinator.side_refuses _ _ _ planned why first at is for more) =
+    due_sooner plan taken walk (refusing walk why planned) later (omega arith) kept (kept_is_due pair plan taken (refusing walk why planned) later kept more)
+kept_is_due pair plan taken walk later kept (coordinator.archive_refuses _ _ _ planned what why first at is may refused more) =
+    due_sooner plan taken walk (refusing walk why planned) later (omega arith) kept (kept_is_due pair plan taken (refusing walk why planned) later kept more)
+kept_is_due pair plan taken walk later kept (coordinator.no_checkpoint _ _ _ what first full greatest more) =
+    due_sooner plan taken walk (refusing walk Full full.to_keep.planned) later (omega arith) kept (kept_is_due pair plan taken (refusing walk Full full.to_keep.planned) later kept more)
+kept_is_due pair plan taken walk later kept (coordinator.checkpoints _ _ _ what journal first full smaller compacts up more) =
+    due_sooner plan taken walk (making_room walk journal) later (omega arith) kept (kept_is_due pair plan taken (making_room walk journal) later kept more)
+kept_is_due pair plan taken walk _ _ (coordinator.checkpoint_breaks _ what journal first full smaller compacts down) = All-nil (IsDueWithin plan taken walk (record walk { journal = journal }))
+kept_is_due pair plan taken walk later _ (coordinator.keeps _ _ what kept journal to_keep room kept_so up more) =
+    let on : suc walk.cursor ≤ later.cursor = (passes pair plan taken (past walk journal) later kept more).on in
+    All-cons (IsDueWithin plan taken walk later) what kept (due_now plan taken walk later what to_keep (omega (arith, on))) (due_sooner plan taken walk (past walk journal) later (omega arith) kept (kept_is_due pair plan taken (past walk journal) later kept more))
+kept_is_due pair plan taken walk _ kept (coordinator.record_breaks _ what _ journal to_keep room kept_so down) =
+    all_kept (IsDueWithin plan taken walk (record walk { journal = journal })) pair walk.journal journal what kept kept_so (due_now plan taken walk (record walk { journal = journal }) what to_keep (omega arith))

@@ -11,7 +11,7 @@ use Rattle.syn_headline.specs.Report.{Complete}
 use Rattle.syn_headline.specs.Coordinator.{CoordinatorMachine, Running, Exchange, Call, Takes}
 use Rattle.syn_headline.specs.Coordinator.{CoordinatorStarts, CoordinatorTicks}
 use Rattle.syn_headline.specs.Coordinator.{fault_of, is_unstable, hearing, Walk, IsToKeep, Advances}
-use Rattle.syn_headline.specs.Coordinator.{BothBegun}
+use Rattle.syn_headline.specs.Coordinator.{BothBegun, IsDue}
 use Rattle.syn_headline.specs.Planning.{Planned}
 use Rattle.syn_model.specs.Archive.{Kept}
 use Rattle.syn_headline.specs.Machine.{Halted, Down, IsBefore}
@@ -75,7 +75,7 @@ FailureEnds = (pair : ℕ) (old : CoordinatorMachine) (running : Running) (taken
     Takes pair old running taken new call → new.journal.status ≢ old.journal.status →
     new.running ≡ None
 
--- a refusal of an item of the plan that the one walk came to and the other is past
+-- the refusal is of an item of the plan from the one cursor on and before the other
 abbrev pub IsPassed : List Planned → Walk → Walk → Refusal × Path → Type 0
 IsPassed plan walk later refusal = (item : ℕ) × (planned : Planned) × (walk.cursor ≤ item)
     × (item < later.cursor) × (slice_get plan item ≡ Some planned)
@@ -88,6 +88,17 @@ RefusedIsPassed = (pair : ℕ) (plan : List Planned) (taken : Exchange) (walk la
     (walk.cursor ≤ later.cursor)
     × ((more : List (Refusal × Path)) × (later.refused ≡ walk.refused ++ more)
     × All (IsPassed plan walk later) more)
+
+-- the record is due for an item of the plan from the one cursor on and up to the other
+abbrev pub IsDueWithin : List Planned → Exchange → Walk → Walk → Kept → Type 0
+IsDueWithin plan taken walk later kept = (item : ℕ) × (planned : Planned) × (walk.cursor ≤ item)
+    × (item ≤ later.cursor) × (slice_get plan item ≡ Some planned) × IsDue item planned taken kept
+
+-- and each record that it keeps is due for an item that it came to
+abbrev pub KeptIsDue : Type 0
+KeptIsDue = (pair : ℕ) (plan : List Planned) (taken : Exchange) (walk later : Walk)
+    (kept : List Kept) → Advances pair plan taken walk kept later →
+    All (IsDueWithin plan taken walk later) kept
 
 -- a checkpoint that an answer makes is followed by the record that it was made for, or by nothing
 -- more of that answer

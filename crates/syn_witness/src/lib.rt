@@ -6,7 +6,7 @@ ghost use Rattle.syn_witness.specs.Rows.{SideRows};
 ghost use Rattle.syn_witness.specs.Forbidden.{StaysWithoutStop, ArmedCallsCome, StartsFresh};
 ghost use Rattle.syn_witness.specs.Forbidden.{BeginsOnce, FaultsAlone, UnstableIsIncomplete};
 ghost use Rattle.syn_witness.specs.Forbidden.{ListsAfterBegun, FailureEnds, RefusedIsPassed};
-ghost use Rattle.syn_witness.specs.Forbidden.{RecordsAfterRoom};
+ghost use Rattle.syn_witness.specs.Forbidden.{KeptIsDue, RecordsAfterRoom};
 ghost use Rattle.syn_witness.specs.Forbidden.{CheckpointsAreForRecords, FullAfterCheckpoint};
 ghost use Rattle.syn_witness.specs.Forbidden.{HaltedAfterFailure};
 ghost use Rattle.syn_witness.specs.Short.{StartIsRecovered, ReplacementIsRecovered};
@@ -73,9 +73,9 @@ pub fn short_witnesses()
 /// acknowledged where one of its device calls is armed, a session is not given up at its first
 /// tick, begun twice on a side, ended 22 or 23 for an answer without a fault, called Complete with
 /// an unstable path, or gone on with once its archive's device failed; no side is asked for a
-/// listing before both have begun, and no item is reported refused before the session came to it;
-/// no checkpoint is made within an answer but for the one record that is kept next, and no session
-/// ends 8 without it; and no machine is halted before a device call of it failed.
+/// listing before both have begun, and no item is refused or recorded before the session came to
+/// it; no checkpoint is made within an answer but for the one record that is kept next, and no
+/// session ends 8 without it; and no machine is halted before a device call of it failed.
 pub fn forbidden()
     ensures up { StaysWithoutStop }
     ensures armed { ArmedCallsCome }
@@ -86,6 +86,7 @@ pub fn forbidden()
     ensures lists { ListsAfterBegun }
     ensures fails { FailureEnds }
     ensures refuses { RefusedIsPassed }
+    ensures keeps { KeptIsDue }
     ensures room { RecordsAfterRoom }
     ensures checkpoints { CheckpointsAreForRecords }
     ensures full { FullAfterCheckpoint }

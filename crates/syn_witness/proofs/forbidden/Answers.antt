@@ -1,7 +1,7 @@
 use Rattle.syn_witness.proofs.FailureLemmas.{halted_after_failure}
 use Rattle.syn_witness.proofs.StopLemmas.{stay_without_stop, armed_calls_come}
 use Rattle.syn_witness.proofs.ForbiddenLemmas.{starts_fresh, begins_once, faults_alone, unstable_is_incomplete, failure_ends}
-use Rattle.syn_witness.proofs.TurnLemmas.{lists_after_begun, refused_is_passed}
+use Rattle.syn_witness.proofs.TurnLemmas.{lists_after_begun, refused_is_passed, kept_is_due}
 use Rattle.syn_witness.proofs.RoomLemmas.{records_after_room, checkpoints_are_for_records, full_after_checkpoint}
 use Rattle.syn_witness.proofs.forbidden.Goals as goal
 
@@ -43,3 +43,6 @@ returns-clause-lists c = lists_after_begun
 
 pub returns-clause-refuses : goal.returns-clause-refuses
 returns-clause-refuses c = refused_is_passed
+
+pub returns-clause-keeps : goal.returns-clause-keeps
+returns-clause-keeps c = kept_is_due
