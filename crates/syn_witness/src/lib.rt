@@ -10,6 +10,7 @@ ghost use Rattle.syn_witness.specs.Forbidden.{KeptIsDue, RecordsAfterRoom};
 ghost use Rattle.syn_witness.specs.Forbidden.{CheckpointsAreForRecords, FullAfterCheckpoint};
 ghost use Rattle.syn_witness.specs.Forbidden.{HaltedAfterFailure};
 ghost use Rattle.syn_witness.specs.Short.{StartIsRecovered, ReplacementIsRecovered};
+ghost use Rattle.syn_witness.specs.Short.{RecordIsRecovered};
 ghost use Rattle.syn_witness.specs.Short.{CheckpointIsMade, ArchiveIsReopened, ResendIsAnswered};
 ghost use Rattle.syn_witness.specs.Short.{LateIsOld};
 ghost use Rattle.syn_witness.specs.Refused.{SecondStartIsBusy, FullIsCompacted, StartFails};
@@ -52,13 +53,14 @@ pub fn witnesses()
     ensures removal { RemovalIsCarried }
 {}
 
-/// Short runs of the same: a start and a replacement that a stop cuts off and an opening recovers,
-/// checkpoints of a side and of the archive with a reopening, a request that is sent again and
+/// Short runs of the same: a start, a replacement and a record of the archive that a stop cuts off
+/// and an opening recovers, checkpoints of a side and of the archive with a reopening, a request that is sent again and
 /// answered twice, and a replacement of a session that is over; a start while a session runs, an
 /// edit that has no room before a checkpoint, and a start and a reopening whose device call fails.
 pub fn short_witnesses()
     ensures start { StartIsRecovered }
     ensures replacement { ReplacementIsRecovered }
+    ensures recorded { RecordIsRecovered }
     ensures checkpoint { CheckpointIsMade }
     ensures archive { ArchiveIsReopened }
     ensures resent { ResendIsAnswered }

@@ -1,4 +1,4 @@
-use Rattle.syn_witness.proofs.ShortLemmas.{start_is_recovered, replacement_is_recovered, checkpoint_is_made, archive_is_reopened, resend_is_answered, late_is_old}
+use Rattle.syn_witness.proofs.ShortLemmas.{start_is_recovered, replacement_is_recovered, record_is_recovered, checkpoint_is_made, archive_is_reopened, resend_is_answered, late_is_old}
 use Rattle.syn_witness.proofs.RefusedCalls.{second_start_is_busy, full_is_compacted, start_fails, reopening_fails}
 use Rattle.syn_witness.proofs.short_witnesses.Goals as goal
 
@@ -31,3 +31,6 @@ returns-clause-fails c = start_fails
 
 pub returns-clause-unopened : goal.returns-clause-unopened
 returns-clause-unopened c = reopening_fails
+
+pub returns-clause-recorded : goal.returns-clause-recorded
+returns-clause-recorded c = record_is_recovered
