@@ -20,7 +20,10 @@ pub mod RoomLemmas
 pub mod TurnLemmas
 pub mod ShortLemmas
 pub mod RefusedCalls
+pub mod OneListing
+pub mod TwoFilesLemmas
 pub mod ConflictScans
 pub mod ConflictLemmas
 pub mod UnstableLemmas
 pub mod RemovalLemmas
+pub mod BothRemovedLemmas

@@ -5,4 +5,5 @@ pub mod Refused
 pub mod Conflict
 pub mod Unstable
 pub mod Removal
+pub mod Still
 pub mod Forbidden

@@ -17,6 +17,7 @@ ghost use Rattle.syn_witness.specs.Refused.{SecondStartIsBusy, FullIsCompacted, 
 ghost use Rattle.syn_witness.specs.Refused.{ReopeningFails};
 ghost use Rattle.syn_witness.specs.Conflict.{ConflictIsReported};
 ghost use Rattle.syn_witness.specs.Removal.{RemovalIsCarried};
+ghost use Rattle.syn_witness.specs.Still.{FilesConflict, RemovedIsMarked, RoomIsMade};
 ghost use Rattle.syn_witness.specs.Unstable.{VanishedIsUnstable};
 ghost use Rattle.syn_witness.specs.Witness.{OpenedIsStart, NewRoomIs, StopIsRecovered};
 ghost use Rattle.syn_witness.specs.Witness.{FailIsRefused, CheckpointIsCut, SilenceEnds};
@@ -56,7 +57,9 @@ pub fn witnesses()
 /// Short runs of the same: a start, a replacement and a record of the archive that a stop cuts off
 /// and an opening recovers, checkpoints of a side and of the archive with a reopening, a request that is sent again and
 /// answered twice, and a replacement of a session that is over; a start while a session runs, an
-/// edit that has no room before a checkpoint, and a start and a reopening whose device call fails.
+/// edit that has no room before a checkpoint, and a start and a reopening whose device call fails;
+/// sessions that carry nothing, of two files in conflict, of one that both sides removed, and of
+/// one whose record has no room before a checkpoint.
 pub fn short_witnesses()
     ensures start { StartIsRecovered }
     ensures replacement { ReplacementIsRecovered }
@@ -69,6 +72,9 @@ pub fn short_witnesses()
     ensures full { FullIsCompacted }
     ensures fails { StartFails }
     ensures unopened { ReopeningFails }
+    ensures files { FilesConflict }
+    ensures removed { RemovedIsMarked }
+    ensures room { RoomIsMade }
 {}
 
 /// What no run does: without a stop among the steps no machine goes down, an edit is not

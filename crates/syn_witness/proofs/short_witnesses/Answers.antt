@@ -1,5 +1,7 @@
 use Rattle.syn_witness.proofs.ShortLemmas.{start_is_recovered, replacement_is_recovered, record_is_recovered, checkpoint_is_made, archive_is_reopened, resend_is_answered, late_is_old}
 use Rattle.syn_witness.proofs.RefusedCalls.{second_start_is_busy, full_is_compacted, start_fails, reopening_fails}
+use Rattle.syn_witness.proofs.TwoFilesLemmas.{files_conflict, room_is_made}
+use Rattle.syn_witness.proofs.BothRemovedLemmas.{removed_is_marked}
 use Rattle.syn_witness.proofs.short_witnesses.Goals as goal
 
 pub returns-clause-start : goal.returns-clause-start
@@ -34,3 +36,12 @@ returns-clause-unopened c = reopening_fails
 
 pub returns-clause-recorded : goal.returns-clause-recorded
 returns-clause-recorded c = record_is_recovered
+
+pub returns-clause-files : goal.returns-clause-files
+returns-clause-files c = files_conflict
+
+pub returns-clause-room : goal.returns-clause-room
+returns-clause-room c = room_is_made
+
+pub returns-clause-removed : goal.returns-clause-removed
+returns-clause-removed c = removed_is_marked
