@@ -10,8 +10,8 @@ use Rattle.syn_headline.specs.Acknowledged.{Happened, Kept_by}
 use Rattle.syn_headline.specs.World.{World, At, Coordinator, Edits, Start, Checkpoint, Fail, Reopen}
 use Rattle.syn_headline.specs.World.{failures_of}
 use Rattle.syn_headline.specs.Headline.{IsStart}
-use Rattle.syn_witness.specs.Witness.{IsWitness, IsWitnessFrom, opened_world, new_machine, new_journal}
-use Rattle.syn_witness.specs.Witness.{put_one}
+use Rattle.syn_witness.specs.Witness.{IsWitness, IsWitnessFrom, opened_world, new_machine}
+use Rattle.syn_witness.specs.Witness.{new_journal, put_one}
 
 -- a start while a session runs is refused 12, and the session still runs
 abbrev pub SecondStartIsBusy : Type 0

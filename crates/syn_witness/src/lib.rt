@@ -54,12 +54,13 @@ pub fn witnesses()
     ensures removal { RemovalIsCarried }
 {}
 
-/// Short runs of the same: a start, a replacement and a record of the archive that a stop cuts off
-/// and an opening recovers, checkpoints of a side and of the archive with a reopening, a request that is sent again and
-/// answered twice, and a replacement of a session that is over; a start while a session runs, an
-/// edit that has no room before a checkpoint, and a start and a reopening whose device call fails;
-/// sessions that carry nothing, of two files in conflict, of one that both sides removed, and of
-/// one whose record has no room before a checkpoint.
+/// Short runs of the same, and some from disks with little room: a start, a replacement and a
+/// record of the archive that a stop cuts off and an opening recovers; checkpoints of a side and of
+/// the archive, with a reopening; a request that is sent again and answered twice, and a
+/// replacement of a session that is over; a start while a session runs, an edit that has no room
+/// before a checkpoint, and a start and a reopening whose device call fails; and sessions that
+/// carry nothing: of two files in conflict, of one that both sides removed, and of one whose record
+/// has no room before a checkpoint.
 pub fn short_witnesses()
     ensures start { StartIsRecovered }
     ensures replacement { ReplacementIsRecovered }
