@@ -7,6 +7,7 @@ pub mod FailLemmas
 pub mod StopLemmas
 pub mod ForbiddenLemmas
 pub mod FailureLemmas
+pub mod DeviceLemmas
 pub mod WitnessScans
 pub mod WitnessSteps
 pub mod WitnessSession

@@ -48,7 +48,7 @@ lists_after_begun pair old running taken _ _ (coordinator.goes_on plan logged wa
 -- What is refused
 
 -- what a walk adds to what it refused
-record Passes (plan : List Planned) (walk later : Walk) : Type 0 where
+pub record Passes (plan : List Planned) (walk later : Walk) : Type 0 where
   pub on : walk.cursor ≤ later.cursor
   pub more : List (Refusal × Path)
   pub adds : later.refused ≡ walk.refused ++ more
@@ -87,7 +87,7 @@ module _ (plan : List Planned) where
         passed = All-cons (IsPassed plan walk later) one p.more (walk.cursor, planned, omega arith, omega (arith, on), at, refl) (sooner walk (refusing walk why planned) later (omega arith) p.more p.passed);
       }
 
-passes : (pair : ℕ) (plan : List Planned) (taken : Exchange) (walk later : Walk) (kept : List Kept) → Advances pair plan taken walk kept later → Passes plan walk later
+pub passes : (pair : ℕ) (plan : List Planned) (taken : Exchange) (walk later : Walk) (kept : List Kept) → Advances pair plan taken walk kept later → Passes plan walk later
 passes pair plan taken walk _ _ (coordinator.stands _) = stands_still plan walk walk refl refl
 passes pair plan taken walk later kept (coordinator.conflicts _ _ _ planned path first at is more) =
     goes_past plan walk (past walk walk.journal) later (omega arith) refl (passes pair plan taken (past walk walk.journal) later kept more)

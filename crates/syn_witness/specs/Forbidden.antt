@@ -1,7 +1,7 @@
 -- What no run does.
-use Rattle.std.specs.Prelude.{ℕ, ◌+◌, ◌≤◌, ◌<◌, ◌≡◌, ◌≢◌, ◌⊎◌, true, List, ◌++◌, length, slice_get}
+use Rattle.std.specs.Prelude.{ℕ, ◌+◌, ◌≤◌, ◌<◌, ◌≡◌, ◌≢◌, ◌⊎◌, true, List, [], ◌∷◌, ◌++◌, length, slice_get}
 use Rattle.std.specs.Prelude.{Some, None, IsSomeAnd, All, Contains}
-use Rattle.syn_model.specs.Refusal.{Refusal, JournalFull, NoAnswer, TooLarge, BadMessage}
+use Rattle.syn_model.specs.Refusal.{Refusal, Device, JournalFull, NoAnswer, TooLarge, BadMessage}
 use Rattle.syn_model.specs.Event.{Edit}
 use Rattle.syn_model.specs.Path.{Path}
 use Rattle.syn_model.specs.Decision.{path_of}
@@ -11,11 +11,11 @@ use Rattle.syn_headline.specs.Report.{Complete}
 use Rattle.syn_headline.specs.Coordinator.{CoordinatorMachine, Running, Exchange, Call, Takes}
 use Rattle.syn_headline.specs.Coordinator.{CoordinatorStarts, CoordinatorTicks}
 use Rattle.syn_headline.specs.Coordinator.{fault_of, is_unstable, hearing, Walk, IsToKeep, Advances}
-use Rattle.syn_headline.specs.Coordinator.{BothBegun, IsDue}
+use Rattle.syn_headline.specs.Coordinator.{BothBegun, IsDue, HasNoRoom}
 use Rattle.syn_headline.specs.Planning.{Planned}
 use Rattle.syn_model.specs.Archive.{Kept}
 use Rattle.syn_headline.specs.Machine.{Halted, Down, IsBefore}
-use Rattle.syn_headline.specs.World.{World, Machine, Step, Edits, Stop, Steps, Runs, side_of}
+use Rattle.syn_headline.specs.World.{World, Machine, At, Step, Edits, Stop, Steps, Runs, side_of}
 use Rattle.syn_headline.specs.World.{status_of, failures_of}
 use Rattle.syn_headline.specs.Headline.{IsStart}
 
@@ -24,6 +24,13 @@ abbrev pub StaysWithoutStop : Type 0
 StaysWithoutStop = (old new : World) (steps : List Step) → IsStart old → Runs old steps new →
     ((machine : Machine) (call : ℕ) → Contains steps (Stop machine call) → ⊥) →
     (machine : Machine) → status_of new machine ≢ Down
+
+-- an edit takes its side down only where a stop is armed at one of its four device calls
+abbrev pub StopsAsArmed : Type 0
+StopsAsArmed = (old new : World) (side : Which) (user : ℕ) (edit : Edit) →
+    Steps old (Edits side user edit) new → status_of old (At side) ≢ Down →
+    status_of new (At side) ≡ Down → let stop = (side_of old side).journal.arms.stop in
+    (1 ≤ stop) × (stop ≤ 4)
 
 -- an edit is not acknowledged where one of its four device calls is armed
 abbrev pub ArmedCallsCome : Type 0
@@ -109,7 +116,16 @@ RecordsAfterRoom = (pair : ℕ) (plan : List Planned) (taken : Exchange) (walk l
     ((later.cursor ≡ walk.cursor) × (later.journal.generation ≡ walk.journal.generation))
     ⊎ IsSomeAnd (slice_get kept 0) (IsToKeep plan taken walk)
 
--- so an answer makes at most one checkpoint more than it keeps records
+-- a walk that makes a checkpoint comes to a record that is due and does not fit
+abbrev pub CheckpointsAreNeeded : Type 0
+CheckpointsAreNeeded = (pair : ℕ) (plan : List Planned) (taken : Exchange) (walk later : Walk)
+    (kept : List Kept) → Advances pair plan taken walk kept later →
+    walk.journal.generation < later.journal.generation →
+    (between : Walk) × (earlier : List Kept) × (what : Kept)
+    × Advances pair plan taken walk earlier between × (between.cursor ≤ later.cursor)
+    × HasNoRoom pair plan taken between what
+
+-- an answer makes at most one checkpoint more than it keeps records
 abbrev pub CheckpointsAreForRecords : Type 0
 CheckpointsAreForRecords = (pair : ℕ) (old : CoordinatorMachine) (running : Running)
     (taken : Exchange)
@@ -132,3 +148,17 @@ HaltedAfterFailure = (old new : World) (steps : List Step) → IsStart old → R
     (machine : Machine) →
     (failures_of old machine ≤ failures_of new machine)
     × (status_of new machine ≡ Halted → failures_of old machine < failures_of new machine)
+
+-- a step that is refused 9 had a device call that failed
+abbrev pub RefusedAfterFailure : Type 0
+RefusedAfterFailure = (old new : World) (step : Step) → Steps old step new →
+    new.refusals ≡ old.refusals ++ Device ∷ [] →
+    (machine : Machine) × (failures_of old machine < failures_of new machine)
+
+-- and so had an answer without a fault that ends a session 9
+abbrev pub EndsAfterFailure : Type 0
+EndsAfterFailure = (pair : ℕ) (old : CoordinatorMachine) (running : Running) (taken : Exchange)
+    (new : CoordinatorMachine) (call : Call) → Takes pair old running taken new call →
+    fault_of running.taken taken.side taken.request taken.reply ≡ None →
+    All (λ report. report.ended ≡ Some Device →
+    old.journal.failures < new.journal.failures) call.reports

@@ -6,9 +6,10 @@ ghost use Rattle.syn_witness.specs.Rows.{SideRows};
 ghost use Rattle.syn_witness.specs.Forbidden.{StaysWithoutStop, ArmedCallsCome, StartsFresh};
 ghost use Rattle.syn_witness.specs.Forbidden.{BeginsOnce, FaultsAlone, UnstableIsIncomplete};
 ghost use Rattle.syn_witness.specs.Forbidden.{ListsAfterBegun, FailureEnds, RefusedIsPassed};
-ghost use Rattle.syn_witness.specs.Forbidden.{KeptIsDue, RecordsAfterRoom};
+ghost use Rattle.syn_witness.specs.Forbidden.{KeptIsDue, RecordsAfterRoom, CheckpointsAreNeeded};
 ghost use Rattle.syn_witness.specs.Forbidden.{CheckpointsAreForRecords, FullAfterCheckpoint};
-ghost use Rattle.syn_witness.specs.Forbidden.{HaltedAfterFailure};
+ghost use Rattle.syn_witness.specs.Forbidden.{HaltedAfterFailure, RefusedAfterFailure};
+ghost use Rattle.syn_witness.specs.Forbidden.{EndsAfterFailure, StopsAsArmed};
 ghost use Rattle.syn_witness.specs.Short.{StartIsRecovered, ReplacementIsRecovered};
 ghost use Rattle.syn_witness.specs.Short.{RecordIsRecovered};
 ghost use Rattle.syn_witness.specs.Short.{CheckpointIsMade, ArchiveIsReopened, ResendIsAnswered};
@@ -78,15 +79,17 @@ pub fn short_witnesses()
     ensures room { RoomIsMade }
 {}
 
-/// What no run does: without a stop among the steps no machine goes down, an edit is not
-/// acknowledged where one of its device calls is armed, a session is not given up at its first
-/// tick, begun twice on a side, ended 22 or 23 for an answer without a fault, called Complete with
-/// an unstable path, or gone on with once its archive's device failed; no side is asked for a
-/// listing before both have begun, and no item is refused or recorded before the session came to
-/// it; no checkpoint is made within an answer but for the one record that is kept next, and no
-/// session ends 8 without it; and no machine is halted before a device call of it failed.
+/// What no run does. Without a stop among the steps no machine goes down, and an edit takes its
+/// side down only as a stop is armed there. An edit is not acknowledged where one of its device
+/// calls is armed. A session is not given up at its first tick, begun twice on a side, ended 22 or
+/// 23 for an answer without a fault, called Complete with an unstable path, or gone on with once
+/// its archive's device failed. No side is asked for a listing before both have begun, and no item
+/// is refused or recorded before the session came to it. No checkpoint is made within an answer but
+/// for a record that does not fit, which is kept next, and no session ends 8 without it. No machine
+/// is halted, no step is refused 9 and no session ends 9 but behind a device call that failed.
 pub fn forbidden()
     ensures up { StaysWithoutStop }
+    ensures stops { StopsAsArmed }
     ensures armed { ArmedCallsCome }
     ensures fresh { StartsFresh }
     ensures begins { BeginsOnce }
@@ -97,7 +100,10 @@ pub fn forbidden()
     ensures refuses { RefusedIsPassed }
     ensures keeps { KeptIsDue }
     ensures room { RecordsAfterRoom }
+    ensures needed { CheckpointsAreNeeded }
     ensures checkpoints { CheckpointsAreForRecords }
     ensures full { FullAfterCheckpoint }
     ensures halted { HaltedAfterFailure }
+    ensures refused { RefusedAfterFailure }
+    ensures ended { EndsAfterFailure }
 {}
