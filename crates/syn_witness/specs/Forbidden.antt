@@ -1,6 +1,6 @@
 -- What no run does.
-use Rattle.std.specs.Prelude.{ℕ, ◌+◌, ◌≤◌, ◌<◌, ◌≡◌, ◌≢◌, ◌⊎◌, true, List, [], ◌∷◌, ◌++◌, length, slice_get}
-use Rattle.std.specs.Prelude.{Some, None, IsSomeAnd, All, Contains}
+use Rattle.std.specs.Prelude.{ℕ, ◌+◌, ◌≤◌, ◌<◌, ◌≡◌, ◌≢◌, ◌⊎◌, true, List, [], ◌∷◌, ◌++◌, length}
+use Rattle.std.specs.Prelude.{slice_get, Some, None, IsSomeAnd, All, Contains}
 use Rattle.syn_model.specs.Refusal.{Refusal, Device, JournalFull, NoAnswer, TooLarge, BadMessage}
 use Rattle.syn_model.specs.Event.{Edit}
 use Rattle.syn_model.specs.Path.{Path}
