@@ -16,16 +16,16 @@ use Rattle.syn_headline.specs.Headline.{IsStart}
 use Rattle.syn_witness.specs.Forbidden.{HaltedAfterFailure}
 
 -- a machine has counted at least so many failures, and more where it is halted
-abbrev IsCounted : ℕ → Status → ℕ → Type 0
+abbrev pub IsCounted : ℕ → Status → ℕ → Type 0
 IsCounted base status failures = (base ≤ failures) × (status ≡ Halted → base < failures)
 
 abbrev AllCounted : (Machine → ℕ) → World → Type 0
 AllCounted base world = (machine : Machine) → IsCounted (base machine) (status_of world machine) (failures_of world machine)
 
-abbrev IsCountedJournal : {V W : Type 0} → ℕ → Journaled V W → Type 0
+abbrev pub IsCountedJournal : {V W : Type 0} → ℕ → Journaled V W → Type 0
 IsCountedJournal base journal = IsCounted base journal.status journal.failures
 
-up_not_halted : Up ≢ Halted
+pub up_not_halted : Up ≢ Halted
 up_not_halted e = cc
 
 down_not_halted : Down ≢ Halted
@@ -42,12 +42,12 @@ with_none base status failures h = (let least = h.0 in omega (arith, least), λ 
 
 -- What a journal's calls leave
 
-writes_counted : {V W : Type 0} (base : ℕ) (layout : Layout V W) (old new : Journaled V W) (what : W) (kept : List W) → IsCountedJournal base old → Writes layout old what new kept → IsCountedJournal base new
+pub writes_counted : {V W : Type 0} (base : ℕ) (layout : Layout V W) (old new : Journaled V W) (what : W) (kept : List W) → IsCountedJournal base old → Writes layout old what new kept → IsCountedJournal base new
 writes_counted base layout old _ what _ h (idle is) = h
 writes_counted base layout old _ what _ h (written arms is meets) = h
 writes_counted base layout old _ what _ h (unwritten status arms failed is broken meets) = meets_counted base _ _ old.failures _ _ _ h.0 meets
 
-compacts_counted : {V W : Type 0} (base : ℕ) (layout : Layout V W) (old new : Journaled V W) → IsCountedJournal base old → Compacts layout old new → IsCountedJournal base new
+pub compacts_counted : {V W : Type 0} (base : ℕ) (layout : Layout V W) (old new : Journaled V W) → IsCountedJournal base old → Compacts layout old new → IsCountedJournal base new
 compacts_counted base layout old _ h (compacted arms meets) = h
 compacts_counted base layout old _ h (not_compacted status arms failed broken meets) = meets_counted base _ _ old.failures _ _ _ h.0 meets
 
@@ -60,7 +60,7 @@ keeps_counted base pair old _ what _ h (writes new kept w) = writes_counted base
 keeps_counted base pair old _ what _ h (cut_behind is fail stop) = (h.0, λ e. absurd (down_not_halted e))
 
 module _ (base pair : ℕ) (plan : List Planned) (taken : Exchange) where
-  advances_counted : (walk later : Walk) (kept : List Kept) → IsCountedJournal base walk.journal → Advances pair plan taken walk kept later → IsCountedJournal base later.journal
+  pub advances_counted : (walk later : Walk) (kept : List Kept) → IsCountedJournal base walk.journal → Advances pair plan taken walk kept later → IsCountedJournal base later.journal
   advances_counted walk _ _ h (coordinator.stands _) = h
   advances_counted walk later kept h (coordinator.conflicts _ _ _ planned path first at is more) = advances_counted (past walk walk.journal) later kept h more
   advances_counted walk later kept h (coordinator.side_refuses _ _ _ planned why first at is for more) = advances_counted (refusing walk why planned) later kept h more
@@ -83,7 +83,7 @@ answer_counted : (base pair : ℕ) (old : CoordinatorMachine) (from : Which) (se
 answer_counted base pair old from session number reply _ _ h (coordinator.takes r request new call expected t) = takes_counted base pair old r _ new call h t
 answer_counted base pair old from session number reply _ _ h (coordinator.ignores none) = h
 
-starts_counted : (base pair : ℕ) (old new : CoordinatorMachine) (call : Call) → IsCountedJournal base old.journal → CoordinatorStarts pair old new call → IsCountedJournal base new.journal
+pub starts_counted : (base pair : ℕ) (old new : CoordinatorMachine) (call : Call) → IsCountedJournal base old.journal → CoordinatorStarts pair old new call → IsCountedJournal base new.journal
 starts_counted base pair old _ _ h (coordinator.starts session journal next lawful kept_so up) = keeps_counted base pair old.journal journal (Session session) (Session session ∷ []) h kept_so
 starts_counted base pair old _ _ h (coordinator.start_breaks session journal kept next kept_so broken) = keeps_counted base pair old.journal journal (Session session) kept h kept_so
 

@@ -7,6 +7,7 @@ pub mod FailLemmas
 pub mod StopLemmas
 pub mod ForbiddenLemmas
 pub mod FailureLemmas
+pub mod DeviceLemmas
 pub mod WitnessScans
 pub mod WitnessSteps
 pub mod WitnessSession
@@ -17,8 +18,13 @@ pub mod MarkedScans
 pub mod MarkedLemmas
 pub mod RefusedLemmas
 pub mod RoomLemmas
+pub mod TurnLemmas
 pub mod ShortLemmas
+pub mod RefusedCalls
+pub mod OneListing
+pub mod TwoFilesLemmas
 pub mod ConflictScans
 pub mod ConflictLemmas
 pub mod UnstableLemmas
 pub mod RemovalLemmas
+pub mod BothRemovedLemmas

@@ -55,19 +55,19 @@ right_history = Edited 2 put_one ∷ Began 1 ∷ []
 abbrev one_bytes : Bytes
 one_bytes = 49 ∷ []
 
-abbrev one_pairs : List Pair
+abbrev pub one_pairs : List Pair
 one_pairs = with_file 97 (content one_bytes)
 
-abbrev mark_pairs : List Pair
+abbrev pub mark_pairs : List Pair
 mark_pairs = with_file 97 (digest one_bytes)
 
-abbrev one_tree : Tree
+abbrev pub one_tree : Tree
 one_tree = replace empty_directory a_path one
 
-one-entries : entries one_tree ≡ one_pairs
+pub one-entries : entries one_tree ≡ one_pairs
 one-entries = put-entries empty_directory one 97 (content one_bytes) alone-entries (file-entries one_bytes)
 
-removed-entries : (t : Tree) (c : Content) → entries t ≡ with_file 97 c → entries (replace t a_path absent) ≡ alone
+pub removed-entries : (t : Tree) (c : Content) → entries t ≡ with_file 97 c → entries (replace t a_path absent) ≡ alone
 removed-entries t c e = replace-entries t a_path absent (with_file 97 c) [] e absent-entries
 
 before-entries : entries (tree_of left_before) ≡ one_pairs
@@ -88,7 +88,7 @@ left_scan = record { marks = mark (tree_of left_history); unstable = [] }
 abbrev right_scan : Scan
 right_scan = record { marks = mark (tree_of right_history); unstable = [] }
 
-abbrev marks_before : Tree
+abbrev pub marks_before : Tree
 marks_before = archive_before.marks
 
 left_marks-entries : entries left_scan.marks ≡ alone
@@ -97,7 +97,7 @@ left_marks-entries = mark-entries (tree_of left_history) alone left-entries
 right_marks-entries : entries right_scan.marks ≡ mark_pairs
 right_marks-entries = marked-entries (tree_of right_history) 97 one_bytes right-entries
 
-archive-entries : entries marks_before ≡ mark_pairs
+pub archive-entries : entries marks_before ≡ mark_pairs
 archive-entries = marked-entries (tree_of left_before) 97 one_bytes before-entries
 
 -- The start
@@ -122,7 +122,7 @@ kept_is_start = record {
   nothing_yet = (refl, refl, refl, refl);
 }
 
-remove_allowed : IsAllowed left_before (Edited 1 remove_a)
+pub remove_allowed : IsAllowed left_before (Edited 1 remove_a)
 unfolding tree_of
 remove_allowed = record {
   lawful = (omega arith, path_of_letter 97 letter_a);
@@ -365,7 +365,7 @@ makes_plan = record {
 none_in_absent : (path : Path) (content : Content) → get absent path ≡ Some content → ⊥
 none_in_absent path content e = none-some _ (sym (get_by absent [] path absent-entries) ∙ e)
 
-can_record : CanKeep begun_archive (Recorded a_path absent)
+pub can_record : CanKeep begun_archive (Recorded a_path absent)
 can_record = record {
   lawful = (path_of_letter 97 letter_a, record { part = absent-is_part; digests = λ path contents e. absurd (none_in_absent path _ e) });
   not_refused = rw (get_by marks_before mark_pairs root archive-entries, fits_archive_by (replace marks_before a_path absent) alone (removed-entries marks_before (digest one_bytes) archive-entries)) refl;
@@ -423,7 +423,7 @@ replaces : Steps (at_work right_staged right_replaces 13) (Deliver 12) replaced
 replaces = adds_so (at_work right_staged right_replaces 13) Right 1 3 (Replace 0 a_path 2 1) (Some absent) right_done Done (Replaced (token_of 1 0) a_path 2 absent) refl refl reads_absent done_is refl
 
 -- a record of nothing has ten bytes
-gone_size : record_size (kept_spelling (Recorded a_path absent)) ≡ 10
+pub gone_size : record_size (kept_spelling (Recorded a_path absent)) ≡ 10
 gone_size = ap (λ spelled. record_size (2 ∷ 1 ∷ 1 ∷ 97 ∷ spelled)) (mark_spelling_unfolds absent ∙ ap (mark_content_spelling mark_spelling absent) (get_by absent [] root absent-entries))
 
 takes_done : Steps replaced (Deliver 13) carried

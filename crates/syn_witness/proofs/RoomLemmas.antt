@@ -6,11 +6,12 @@ use Rattle.syn_model.specs.Refusal.{Full, Memory, Device, Halted, JournalFull}
 use Rattle.syn_model.specs.Archive.{Archive, Kept}
 use Rattle.syn_headline.specs.Machine.{Status, Up, Journaled, idle, written, unwritten, Compacts, compacted, not_compacted}
 use Rattle.syn_headline.specs.Planning.{Planned}
-use Rattle.syn_headline.specs.Coordinator.{CoordinatorMachine, Call, Walk, Exchange, Running, archive_layout, past, refusing, making_room, start_of, IsToKeep, Keeps, writes, cut_behind, Takes, Advances, EndsFor, fault_of, hearing, advanced, report_of}
+use Rattle.syn_headline.specs.Coordinator.{CoordinatorMachine, Call, Walk, Exchange, Running, archive_layout, past, refusing, making_room, start_of, IsToKeep, HasNoRoom, Keeps, writes, cut_behind, Takes, Advances, EndsFor, fault_of, hearing, advanced, report_of}
 use Rattle.syn_headline.specs.Coordinator as coordinator
 use Rattle.syn_headline.proofs.View.{not_up}
 use Rattle.syn_witness.proofs.ForbiddenLemmas.{one_report}
-use Rattle.syn_witness.specs.Forbidden.{RecordsAfterRoom, CheckpointsAreForRecords, FullAfterCheckpoint}
+use Rattle.syn_witness.proofs.TurnLemmas.{passes}
+use Rattle.syn_witness.specs.Forbidden.{RecordsAfterRoom, CheckpointsAreNeeded, CheckpointsAreForRecords, FullAfterCheckpoint}
 
 keeps_generation : (pair : ℕ) (old new : Journaled Archive Kept) (what : Kept) (kept : List Kept) → Keeps pair old what new kept → new.generation ≡ old.generation
 keeps_generation pair old _ what _ (writes _ _ (idle is)) = refl
@@ -106,6 +107,50 @@ module _ (pair : ℕ) (plan : List Planned) (taken : Exchange) where
       after_record walk later journal what kept (keeps_generation pair walk.journal journal what (what ∷ []) kept_so) (advances_up (past walk journal) later kept more)
   advances_up walk _ kept (coordinator.record_breaks _ what _ journal to_keep room kept_so down) =
       stays_there walk (record walk { journal = journal }) kept (keeps_generation pair walk.journal journal what kept kept_so) refl
+
+-- A checkpoint is for a record that does not fit
+
+-- a walk came to such a record
+record ComesToFull (pair : ℕ) (plan : List Planned) (taken : Exchange) (walk later : Walk) : Type 0 where
+  pub between : Walk
+  pub earlier : List Kept
+  pub what : Kept
+  pub there : Advances pair plan taken walk earlier between
+  pub on_the_way : between.cursor ≤ later.cursor
+  pub full : HasNoRoom pair plan taken between what
+
+-- where it did from a later walk on, by a step that leads there
+comes_on : (pair : ℕ) (plan : List Planned) (taken : Exchange) (walk next later : Walk) → ((between : Walk) (earlier : List Kept) → Advances pair plan taken next earlier between → (kept : List Kept) × Advances pair plan taken walk kept between) → ComesToFull pair plan taken next later → ComesToFull pair plan taken walk later
+comes_on pair plan taken walk next later step c =
+    let there = step c.between c.earlier c.there in
+    record { between = c.between; earlier = there.0; what = c.what; there = there.1; on_the_way = c.on_the_way; full = c.full }
+
+-- a step that leaves the generation
+still_up : (old new later : ℕ) → new ≡ old → old < later → new < later
+still_up old new later same up = omega (arith, same, up)
+
+comes_to_full : (pair : ℕ) (plan : List Planned) (taken : Exchange) (walk later : Walk) (kept : List Kept) → Advances pair plan taken walk kept later → walk.journal.generation < later.journal.generation → ComesToFull pair plan taken walk later
+comes_to_full pair plan taken walk _ _ (coordinator.stands _) up = absurd (omega (arith, up))
+comes_to_full pair plan taken walk later kept (coordinator.conflicts _ _ _ planned path first at is more) up =
+    comes_on pair plan taken walk (past walk walk.journal) later (λ between earlier a. (earlier, coordinator.conflicts walk between earlier planned path first at is a)) (comes_to_full pair plan taken (past walk walk.journal) later kept more up)
+comes_to_full pair plan taken walk later kept (coordinator.side_refuses _ _ _ planned why first at is for more) up =
+    comes_on pair plan taken walk (refusing walk why planned) later (λ between earlier a. (earlier, coordinator.side_refuses walk between earlier planned why first at is for a)) (comes_to_full pair plan taken (refusing walk why planned) later kept more up)
+comes_to_full pair plan taken walk later kept (coordinator.archive_refuses _ _ _ planned what why first at is may refused more) up =
+    comes_on pair plan taken walk (refusing walk why planned) later (λ between earlier a. (earlier, coordinator.archive_refuses walk between earlier planned what why first at is may refused a)) (comes_to_full pair plan taken (refusing walk why planned) later kept more up)
+comes_to_full pair plan taken walk later kept (coordinator.no_checkpoint _ _ _ what first full greatest more) up =
+    record { between = walk; earlier = []; what = what; there = coordinator.stands walk; on_the_way = let on = (passes pair plan taken (refusing walk Full full.to_keep.planned) later kept more).on in omega (arith, on); full = full }
+comes_to_full pair plan taken walk later kept (coordinator.checkpoints _ _ _ what journal first full smaller compacts now_up more) up =
+    record { between = walk; earlier = []; what = what; there = coordinator.stands walk; on_the_way = (passes pair plan taken (making_room walk journal) later kept more).on; full = full }
+comes_to_full pair plan taken walk _ _ (coordinator.checkpoint_breaks _ what journal first full smaller compacts down) up =
+    record { between = walk; earlier = []; what = what; there = coordinator.stands walk; on_the_way = omega arith; full = full }
+comes_to_full pair plan taken walk later _ (coordinator.keeps _ _ what kept journal to_keep room kept_so now_up more) up =
+    comes_on pair plan taken walk (past walk journal) later (λ between earlier a. (what ∷ earlier, coordinator.keeps walk between what earlier journal to_keep room kept_so now_up a))
+    (comes_to_full pair plan taken (past walk journal) later kept more (still_up _ _ _ (keeps_generation pair walk.journal journal what (what ∷ []) kept_so) up))
+comes_to_full pair plan taken walk _ kept (coordinator.record_breaks _ what _ journal to_keep room kept_so down) up =
+    absurd (let same = keeps_generation pair walk.journal journal what kept kept_so in omega (arith, same, up))
+
+pub checkpoints_are_needed : CheckpointsAreNeeded
+checkpoints_are_needed pair plan taken walk later kept advances up = let c = comes_to_full pair plan taken walk later kept advances up in (c.between, c.earlier, c.what, c.there, c.on_the_way, c.full)
 
 pub checkpoints_are_for_records : CheckpointsAreForRecords
 checkpoints_are_for_records pair old running taken _ _ (coordinator.ends_at_once why fault) = omega arith

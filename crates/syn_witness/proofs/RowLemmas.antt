@@ -1,5 +1,5 @@
 -- The worked examples of a side hold.
-use Rattle.std.proofs.Common.{refl}
+use Rattle.std.proofs.Common.{refl, inr}
 use Rattle.syn_witness.specs.Rows.{SideRows}
 
 pub side_rows : SideRows
@@ -16,4 +16,7 @@ side_rows = record {
   next_stages = refl;
   older = refl;
   not_staged = refl;
+  halted = refl;
+  halted_stages = refl;
+  halted_memory = inr refl;
 }

@@ -1,27 +1,29 @@
 -- The short runs, step by step.
 use Rattle.std.proofs.lemmas.Option.{none-some, same_Some}
-use Rattle.std.proofs.Common.{ℕ, ◌++◌, [], ◌∷◌, map, refl, sym, ap, ◌∙◌, subst, Some, None, arith, inl, inr}
+use Rattle.std.proofs.Common.{ℕ, nat_le, ◌++◌, [], ◌∷◌, map, refl, sym, ap, ◌∙◌, subst, Some, None, arith, inl, inr}
 use Rattle.syn_model.specs.Path.{root}
 use Rattle.syn_model.specs.Tree.{empty_directory, replace}
 use Rattle.syn_model.specs.Refusal.{OldSession}
 use Rattle.syn_model.specs.Event.{Event, Edited, Began, Replaced}
 use Rattle.syn_model.specs.History.{IsAllowed, tree_of}
-use Rattle.syn_model.specs.Archive.{Archive, Session, CanKeep, new_archive}
+use Rattle.syn_model.specs.Archive.{Archive, Kept, Session, Recorded, CanKeep, new_archive}
+use Rattle.syn_model.specs.Mark.{mark}
+use Rattle.syn_model.proofs.TreeLemmas.{subtree-replace}
 use Rattle.syn_headline.specs.Machine.{Down, unarmed, written, unwritten, one_stops, compacted, opened, recovered}
 use Rattle.syn_headline.specs.Side.{Side, Request, Begin, Begun, Replace, Done, Refused, answer, token_of}
 use Rattle.syn_headline.specs.SideMachine.{adds}
 use Rattle.syn_headline.specs.Network.{Left, Right, Asks, Answers}
 use Rattle.syn_headline.specs.Acknowledged.{Happened, Kept_by}
-use Rattle.syn_headline.specs.Coordinator.{Running, writes, start_breaks, stays, stands, start_of, ignores, IsExpected, asked_of, no_call}
+use Rattle.syn_headline.specs.Coordinator.{Running, writes, start_breaks, stays, stands, start_of, ignores, IsExpected, asked_of, no_call, Advances, record_breaks, done, takes, stops}
 use Rattle.syn_headline.specs.World.{World, coordinator_goes, At, Coordinator, Start, Deliver, Checkpoint, Stop, Open, Steps, starts, to_side, to_coordinator, compacts_side, compacts_archive, opens, opens_side, opens_archive, reopens}
 use Rattle.syn_witness.specs.Witness.{opened_world, new_journal, new_archive_room, a_path, put_one, one, up_to_replacement}
-use Rattle.syn_witness.specs.Short.{StartIsRecovered, ReplacementIsRecovered, CheckpointIsMade, ArchiveIsReopened, ResendIsAnswered, LateIsOld}
+use Rattle.syn_witness.specs.Short.{StartIsRecovered, ReplacementIsRecovered, CheckpointIsMade, ArchiveIsReopened, ResendIsAnswered, LateIsOld, RecordIsRecovered}
 use Rattle.syn_witness.proofs.WitnessMessages.{number_of}
 use Rattle.syn_witness.proofs.WitnessTrees.{get_by, fits_by}
-use Rattle.syn_witness.proofs.WitnessFiles.{alone, with_file, content, alone-entries, file-entries, put-entries, path_of_letter, one_byte, file_is_part}
+use Rattle.syn_witness.proofs.WitnessFiles.{letter_size, alone, with_file, content, alone-entries, file-entries, put-entries, path_of_letter, one_byte, file_is_part}
 use Rattle.syn_witness.proofs.WitnessSteps.{archive_left, machine_of, meets_unarmed, edits_so, starts_so, says_so, adds_so, goes_on_so, asks_so, not_last, reads_nothing, runs_with, waits, took, runs_on_from, up_not_down}
 use Rattle.syn_witness.proofs.WitnessLemmas.{letter_a, edit_allowed, new_room_is, begins_sent, begin_again, waiting_for, waiting, start_waits, sends_again}
-use Rattle.syn_witness.proofs.WitnessSession.{replacing, right_staged, right_done, done_is, run_to_replacement}
+use Rattle.syn_witness.proofs.WitnessSession.{replacing, replaced, replaces, right_staged, right_done, right_replaces, planned, plan, recorded_archive, can_record, done_is, run_to_replacement}
 use Rattle.syn_witness.proofs.RefusedLemmas.{reads_one}
 
 -- A start that is cut off
@@ -121,6 +123,59 @@ replacement_is_recovered = record {
   acknowledged_then = refl;
   reported = refl;
   ends_well = (refl, refl, refl);
+}
+
+-- A record that is cut off
+
+abbrev what_is_due : Kept
+what_is_due = Recorded a_path (mark one)
+
+armed_archive : World
+armed_archive = record replaced { coordinator = record replaced.coordinator { journal = record replaced.coordinator.journal { arms = record { fail = 0; stop = 2 } } } }
+
+cut_archive : World
+cut_archive = record replaced { coordinator = record { journal = record replaced.coordinator.journal { status = Down; writing = Some what_is_due }; running = None } }
+
+recovered_archive : World
+recovered_archive = record replaced {
+  coordinator = record { journal = new_journal recorded_archive (archive_left new_archive_room (Session 1 ∷ what_is_due ∷ [])); running = None };
+  acknowledged = replaced.acknowledged ++ Kept_by what_is_due ∷ [];
+}
+
+breaks_off : Advances 7 plan (took Right 3 (Replace 0 a_path 1 6) Done) (start_of armed_archive.coordinator right_replaces) [] (record (start_of armed_archive.coordinator right_replaces) { journal = cut_archive.coordinator.journal })
+unfolding armed_archive cut_archive
+breaks_off =
+    record_breaks (start_of armed_archive.coordinator right_replaces) what_is_due [] cut_archive.coordinator.journal
+    (record { planned = planned; at = refl; due = done a_path 1 6 refl refl refl; can = can_record; up = refl })
+    (ap (λ size. nat_le size 4194252) (letter_size 97 (49 ∷ [])))
+    (writes cut_archive.coordinator.journal [] (unwritten Down unarmed 0 refl (inr refl) (one_stops 1 0 (omega arith) (inl refl) refl (omega arith) (λ e. absurd (omega (arith, e)))))) (λ e. up_not_down (sym e))
+
+cuts_record : Steps armed_archive (Deliver 13) cut_archive
+unfolding armed_archive cut_archive
+cuts_record = to_coordinator Right 1 3 Done cut_archive.coordinator _
+    (takes right_replaces (Replace 0 a_path 1 6) _ _ (record { runs = refl; of_session = refl; asked = refl }) (stops (Some plan) [] _ [] refl stays breaks_off refl))
+
+pub record_is_recovered : RecordIsRecovered
+unfolding armed_archive cut_archive recovered_archive
+record_is_recovered = record {
+  new = recovered_archive;
+  runs = runs_on_from opened_world replacing recovered_archive up_to_replacement (Deliver 12 ∷ Stop Coordinator 2 ∷ Deliver 13 ∷ Open Coordinator ∷ []) run_to_replacement (
+    replaced,
+    replaces,
+    (
+      armed_archive,
+      inr (up_not_down, refl),
+      (
+        cut_archive,
+        cuts_record,
+        (recovered_archive, inr (refl, opens 0 recovered_archive (opens_archive recovered_archive.coordinator.journal (what_is_due ∷ []) (recovered unarmed what_is_due (meets_unarmed 0) refl can_record))), refl),
+      ),
+    ),
+  );
+  sent = refl;
+  acknowledged_then = refl;
+  reported = refl;
+  ends_well = (refl, refl, subtree-replace empty_directory a_path (mark one));
 }
 
 -- Checkpoints that are made, and a reopening

@@ -1,5 +1,5 @@
 -- Without a stop among the steps no machine goes down, and a device call that is armed comes.
-use Rattle.std.proofs.Common.{◌≡◌, ◌≢◌, ◌-◌, ℕ, suc, Bool, true, false, true≢false, if◌then◌else◌, List, [], ◌∷◌, ◌++◌, append-nil, map, refl, sym, ap, ◌∙◌, subst, Option, arith, inl, inr, slice_get}
+use Rattle.std.proofs.Common.{◌≡◌, ◌≢◌, ◌≤◌, ◌-◌, ℕ, suc, Bool, true, false, true≢false, if◌then◌else◌, List, [], ◌∷◌, ◌++◌, append-nil, map, refl, sym, ap, ◌∙◌, subst, Option, arith, inl, inr, slice_get}
 use Rattle.std.specs.Prelude.{Contains}
 use Rattle.std.proofs.lemmas.List.Elements.{Contains-append_right}
 use Rattle.syn_model.specs.Refusal.{Refusal, Device, Memory, Full, Cause}
@@ -17,7 +17,7 @@ use Rattle.syn_headline.specs.Coordinator as coordinator
 use Rattle.syn_headline.specs.World.{World, Machine, At, Coordinator, says, Step, Edits, Start, Deliver, Tick, Checkpoint, Fail, Stop, Open, Reopen, side_of, side_goes, side_writes, coordinator_goes, status_of, arms_of, refuses_with, is_halted, answered_by, UnlessDown, Calls, EditsSide, edits, Starts, CompactsMachine, compacts_side, compacts_archive, Delivers, no_message, to_no_side, to_side, to_coordinator, Ticks, ticks, OpensMachine, opens_side, opens_archive, set_device, FailsDevice, fails_device, Reopens, reopens, reopen_fails, reopen_is_cut, no_memory_to_reopen, full_generation, generation_of, Steps, Runs}
 use Rattle.syn_headline.specs.World as world
 use Rattle.syn_headline.specs.Headline.{IsStart}
-use Rattle.syn_witness.specs.Forbidden.{StaysWithoutStop, ArmedCallsCome}
+use Rattle.syn_witness.specs.Forbidden.{StaysWithoutStop, StopsAsArmed, ArmedCallsCome}
 
 -- a machine that is not down and has no stop to come
 abbrev IsSafe : Status → Arms → Type 0
@@ -247,3 +247,46 @@ armed_calls_come old new side user edit armed (inl (down, e)) = ap (λ w. w.ackn
 armed_calls_come old new side user edit armed (inr (up, inl (reason, first, e))) = ap (λ w. w.acknowledged) e
 armed_calls_come old new side user edit armed (inr (up, inr (none, made, g, e))) =
     ap (λ w. w.acknowledged) e ∙ (answered_acknowledged (At side) made ∙ made_acknowledges old side (Edited user edit) made armed g)
+
+-- A stop within the calls of an edit
+
+IsWithin : ℕ → Type 0
+IsWithin stop = (1 ≤ stop) × (stop ≤ 4)
+
+stopped_within : (arms : Arms) (status : Status) (after : Arms) (failed : ℕ) → Meets arms 4 status after failed → status ≡ Down → IsWithin arms.stop
+unfolding IsWithin
+stopped_within arms _ _ _ (all_made fail stop) e = absurd (up_not_down e)
+stopped_within arms _ _ _ (one_fails made few fail stop) e = absurd (halted_not_down e)
+stopped_within arms _ _ _ (one_stops made failed few fail stop once at) e = (omega (arith, stop), omega (arith, few, stop))
+
+written_within : (pair : ℕ) (old new : Journaled History Event) (event : Event) (events : List Event) → old.status ≢ Down → Writes (side_layout pair) old event new events → new.status ≡ Down → IsWithin old.arms.stop
+written_within pair old _ event _ up (idle is) e = absurd (up e)
+written_within pair old _ event _ up (written arms is meets) e = absurd (up e)
+written_within pair old _ event _ up (unwritten status arms failed is broken meets) e = stopped_within old.arms status arms failed meets e
+
+refused_status : (made : World) (reason : Refusal) (machine : Machine) → status_of (refuses_with made reason) machine ≡ status_of made machine
+refused_status made reason (At Left) = refl
+refused_status made reason (At Right) = refl
+refused_status made reason Coordinator = refl
+
+answered_status : (machine : Machine) (made : World) → status_of (answered_by machine made) machine ≡ status_of made machine
+answered_status machine made = told (is_halted (status_of made machine))
+  where
+    told : (b : Bool) → status_of (if b then refuses_with made Device else made) machine ≡ status_of made machine
+    told true = refused_status made Device machine
+    told false = refl
+
+side_status : (old : World) (side : Which) (journal : Journaled History Event) (events : List Event) → status_of (side_writes old side journal events) (At side) ≡ journal.status
+side_status old Left journal events = refl
+side_status old Right journal events = refl
+
+edited_within : (old : World) (side : Which) (event : Event) (made : World) → status_of old (At side) ≢ Down → EditsSide old side event made → status_of made (At side) ≡ Down → IsWithin (side_of old side).journal.arms.stop
+edited_within old side event _ up (edits journal events lawful w) e = written_within old.pair (side_of old side).journal journal event events up w (sym (side_status old side journal events) ∙ e)
+
+pub stops_as_armed : StopsAsArmed
+unfolding IsWithin
+stops_as_armed old new side user edit (inl (down, e)) up stopped = absurd (up down)
+stops_as_armed old new side user edit (inr (_, inl (reason, first, e))) up stopped =
+    absurd (up (sym (refused_status old reason (At side)) ∙ (sym (ap (λ w. status_of w (At side)) e) ∙ stopped)))
+stops_as_armed old new side user edit (inr (_, inr (none, made, g, e))) up stopped =
+    edited_within old side (Edited user edit) made up g (sym (answered_status (At side) made) ∙ (sym (ap (λ w. status_of w (At side)) e) ∙ stopped))

@@ -93,7 +93,7 @@ names_of es = keys (from_entries {X = Content} {R = name_cmp} es)
 pub no_names : entries (empty {X = Content} {R = name_cmp}) ≡ []
 no_names = no_entries (entries (empty {X = Content} {R = name_cmp})) (sym (len-entries (empty {X = Content} {R = name_cmp})) ∙ len-empty name_cmp Content)
 
-one_name_of : (content : Content) → names_of ((a_name, content) ∷ []) ≡ a_name ∷ []
+pub one_name_of : (content : Content) → names_of ((a_name, content) ∷ []) ≡ a_name ∷ []
 one_name_of content = ap (map (λ e. e.0)) (entries-insert name_total empty a_name content ∙ ap (put name_cmp a_name content) no_names)
 
 -- where one of three trees alone has a name in its root

@@ -77,7 +77,7 @@ plan = planned ∷ []
 abbrev pub begun_archive : Archive
 begun_archive = record { marks = empty_directory; last_session = 1 }
 
-abbrev recorded_archive : Archive
+abbrev pub recorded_archive : Archive
 recorded_archive = record { marks = replace empty_directory a_path (mark one); last_session = 1 }
 
 -- what the sides listed
@@ -281,7 +281,7 @@ takes_left_listing : Steps both_listed (Deliver 6) right_list_awaited
 takes_left_listing = goes_on_so both_listed both_list Left 1 (ListAt root) (Listed 2 (children left_scan.marks root)) None [] (start_of both_listed.coordinator both_list) [] [] [] refl refl left_listing stays (stands (start_of both_listed.coordinator both_list)) refl refl not_last
     (asks_so number_of begun_archive right_lists [] [] tt tt tt (omega arith) (omega arith) ((refl, (refl, (refl, tt))), tt, (refl, tt)) (omega arith, omega arith, omega arith))
 
-can_record : CanKeep begun_archive (Recorded a_path (mark one))
+pub can_record : CanKeep begun_archive (Recorded a_path (mark one))
 can_record =
     let new = put-entries empty_directory (mark one) 97 (digest (49 ∷ [])) alone-entries (file_mark-entries (49 ∷ [])) in
     record {

@@ -2,10 +2,11 @@
 use Rattle.std.specs.Prelude.{◌≡◌, Bool, true, [], ◌∷◌, None}
 use Rattle.syn_model.specs.Path.{Bytes}
 use Rattle.syn_model.specs.Rows.{a_name}
-use Rattle.syn_model.specs.Refusal.{OldSession, NotStaged, BadStage, WrongPair}
+use Rattle.syn_model.specs.Refusal.{OldSession, NotStaged, BadStage, WrongPair, Halted, Memory}
 use Rattle.syn_model.specs.Event.{Event, Began}
 use Rattle.syn_headline.specs.Side.{Side, Request, Begin, Stage, Replace, Served, Begun, Staged}
 use Rattle.syn_headline.specs.Side.{Refused, answer, serve}
+use Rattle.syn_headline.specs.SideMachine.{serve_halted, ServesHalted}
 
 -- a side of pair 7 that was just formatted, with room for all
 abbrev pub new_side : Side
@@ -44,3 +45,6 @@ pub record SideRows : Type 0 where
   pub next_stages : (asked staged (Stage 1 0 file_bytes)).reply ≡ Staged
   pub older : asked staged_next (Stage 0 0 file_bytes) ≡ answer staged_next (Refused OldSession)
   pub not_staged : (asked staged_next (Replace 2 (a_name ∷ []) 1 6)).reply ≡ Refused NotStaged
+  pub halted : serve_halted begun 1 (Begin 7) ≡ answer begun (Refused Halted)
+  pub halted_stages : serve_halted begun 1 (Stage 0 0 file_bytes) ≡ answer staged Staged
+  pub halted_memory : ServesHalted begun 1 (Stage 0 0 file_bytes) (answer begun (Refused Memory))

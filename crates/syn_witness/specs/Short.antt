@@ -1,11 +1,13 @@
--- Short runs: stops within a start and a replacement, checkpoints, a reopening, requests that come
--- again or late.
+-- Short runs: stops within a start, a replacement and a record, checkpoints, a reopening, requests
+-- that come again or late.
 use Rattle.std.specs.Prelude.{◌≡◌, [], ◌∷◌, ◌++◌, None, Some, map, slice_get}
 use Rattle.syn_model.specs.Refusal.{OldSession}
 use Rattle.syn_model.specs.Event.{Edited, Began, Replaced}
 use Rattle.syn_model.specs.Image.{image_spelling}
 use Rattle.syn_model.specs.History.{standing_of}
-use Rattle.syn_model.specs.Archive.{Session}
+use Rattle.syn_model.specs.Archive.{Session, Recorded}
+use Rattle.syn_model.specs.Mark.{mark}
+use Rattle.syn_model.specs.Tree.{subtree}
 use Rattle.syn_headline.specs.Machine.{Up, room_behind}
 use Rattle.syn_headline.specs.Side.{Begun, Refused, token_of}
 use Rattle.syn_headline.specs.Network.{Left, Right, Answers}
@@ -31,6 +33,17 @@ ReplacementIsRecovered =
     (acknowledged_then ++ Happened Right (Replaced (token_of 1 0) a_path 1 one) ∷ []) []
     (λ world. (world.right.journal.status ≡ Up) × (world.right.staging ≡ None)
     × (world.right.journal.value ≡ Began 1 ∷ Replaced (token_of 1 0) a_path 1 one ∷ []))
+
+-- a stop after the second device call of a record cuts it off: the session ends without a report,
+-- and the opening recovers the record
+abbrev pub RecordIsRecovered : Type 0
+RecordIsRecovered =
+    IsWitness (up_to_replacement
+    ++ (Deliver 12 ∷ Stop Coordinator 2 ∷ Deliver 13 ∷ Open Coordinator ∷ [])) 14
+    (acknowledged_then ++ Happened Right (Replaced (token_of 1 0) a_path 1 one)
+    ∷ Kept_by (Recorded a_path (mark one)) ∷ []) []
+    (λ world. (world.coordinator.journal.status ≡ Up) × (world.coordinator.running ≡ None)
+    × (subtree world.coordinator.journal.value.marks a_path ≡ mark one))
 
 -- a checkpoint leaves the image alone, with the next generation
 abbrev pub CheckpointIsMade : Type 0

@@ -5,14 +5,20 @@
 ghost use Rattle.syn_witness.specs.Rows.{SideRows};
 ghost use Rattle.syn_witness.specs.Forbidden.{StaysWithoutStop, ArmedCallsCome, StartsFresh};
 ghost use Rattle.syn_witness.specs.Forbidden.{BeginsOnce, FaultsAlone, UnstableIsIncomplete};
-ghost use Rattle.syn_witness.specs.Forbidden.{FailureEnds, RecordsAfterRoom};
+ghost use Rattle.syn_witness.specs.Forbidden.{ListsAfterBegun, FailureEnds, RefusedIsPassed};
+ghost use Rattle.syn_witness.specs.Forbidden.{KeptIsDue, RecordsAfterRoom, CheckpointsAreNeeded};
 ghost use Rattle.syn_witness.specs.Forbidden.{CheckpointsAreForRecords, FullAfterCheckpoint};
-ghost use Rattle.syn_witness.specs.Forbidden.{HaltedAfterFailure};
+ghost use Rattle.syn_witness.specs.Forbidden.{HaltedAfterFailure, RefusedAfterFailure};
+ghost use Rattle.syn_witness.specs.Forbidden.{EndsAfterFailure, StopsAsArmed};
 ghost use Rattle.syn_witness.specs.Short.{StartIsRecovered, ReplacementIsRecovered};
+ghost use Rattle.syn_witness.specs.Short.{RecordIsRecovered};
 ghost use Rattle.syn_witness.specs.Short.{CheckpointIsMade, ArchiveIsReopened, ResendIsAnswered};
 ghost use Rattle.syn_witness.specs.Short.{LateIsOld};
+ghost use Rattle.syn_witness.specs.Refused.{SecondStartIsBusy, FullIsCompacted, StartFails};
+ghost use Rattle.syn_witness.specs.Refused.{ReopeningFails};
 ghost use Rattle.syn_witness.specs.Conflict.{ConflictIsReported};
 ghost use Rattle.syn_witness.specs.Removal.{RemovalIsCarried};
+ghost use Rattle.syn_witness.specs.Still.{FilesConflict, RemovedIsMarked, RoomIsMade};
 ghost use Rattle.syn_witness.specs.Unstable.{VanishedIsUnstable};
 ghost use Rattle.syn_witness.specs.Witness.{OpenedIsStart, NewRoomIs, StopIsRecovered};
 ghost use Rattle.syn_witness.specs.Witness.{FailIsRefused, CheckpointIsCut, SilenceEnds};
@@ -49,34 +55,55 @@ pub fn witnesses()
     ensures removal { RemovalIsCarried }
 {}
 
-/// Short runs of the same: a start and a replacement that a stop cuts off and an opening recovers,
-/// checkpoints of a side and of the archive with a reopening, a request that is sent again and
-/// answered twice, and a replacement of a session that is over.
+/// Short runs of the same, and some from disks with little room: a start, a replacement and a
+/// record of the archive that a stop cuts off and an opening recovers; checkpoints of a side and of
+/// the archive, with a reopening; a request that is sent again and answered twice, and a
+/// replacement of a session that is over; a start while a session runs, an edit that has no room
+/// before a checkpoint, and a start and a reopening whose device call fails; and sessions that
+/// carry nothing: of two files in conflict, of one that both sides removed, and of one whose record
+/// has no room before a checkpoint.
 pub fn short_witnesses()
     ensures start { StartIsRecovered }
     ensures replacement { ReplacementIsRecovered }
+    ensures recorded { RecordIsRecovered }
     ensures checkpoint { CheckpointIsMade }
     ensures archive { ArchiveIsReopened }
     ensures resent { ResendIsAnswered }
     ensures late { LateIsOld }
+    ensures busy { SecondStartIsBusy }
+    ensures full { FullIsCompacted }
+    ensures fails { StartFails }
+    ensures unopened { ReopeningFails }
+    ensures files { FilesConflict }
+    ensures removed { RemovedIsMarked }
+    ensures room { RoomIsMade }
 {}
 
-/// What no run does: without a stop among the steps no machine goes down, an edit is not
-/// acknowledged where one of its device calls is armed, a session is not given up at its first
-/// tick, begun twice on a side, ended 22 or 23 for an answer without a fault, called Complete with
-/// an unstable path, or gone on with once its archive's device failed; no checkpoint is made within
-/// an answer but for the one record that is kept next, and no session ends 8 without it; and no
-/// machine is halted before a device call of it failed.
+/// What no run does. Without a stop among the steps no machine goes down, and an edit takes its
+/// side down only as a stop is armed there. An edit is not acknowledged where one of its device
+/// calls is armed. A session is not given up at its first tick, begun twice on a side, ended 22 or
+/// 23 for an answer without a fault, called Complete with an unstable path, or gone on with once
+/// its archive's device failed. No side is asked for a listing before both have begun, and no item
+/// is refused or recorded before the session came to it. No checkpoint is made within an answer but
+/// for a record that does not fit, which is kept next, and no session ends 8 without it. No machine
+/// is halted, no step is refused 9 and no session ends 9 but behind a device call that failed.
 pub fn forbidden()
     ensures up { StaysWithoutStop }
+    ensures stops { StopsAsArmed }
     ensures armed { ArmedCallsCome }
     ensures fresh { StartsFresh }
     ensures begins { BeginsOnce }
     ensures faults { FaultsAlone }
     ensures unstable { UnstableIsIncomplete }
+    ensures lists { ListsAfterBegun }
     ensures fails { FailureEnds }
+    ensures refuses { RefusedIsPassed }
+    ensures keeps { KeptIsDue }
     ensures room { RecordsAfterRoom }
+    ensures needed { CheckpointsAreNeeded }
     ensures checkpoints { CheckpointsAreForRecords }
     ensures full { FullAfterCheckpoint }
     ensures halted { HaltedAfterFailure }
+    ensures refused { RefusedAfterFailure }
+    ensures ended { EndsAfterFailure }
 {}
