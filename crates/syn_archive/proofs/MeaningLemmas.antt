@@ -40,6 +40,24 @@ own_refusal NoImage pair bytes value means h damaged = absurd h
 own_refusal Damaged pair bytes value means h damaged = inr (value, means, damaged refl)
 own_refusal WrongPair pair bytes value means h damaged = absurd h
 
+-- what is refused of a payload that is not damaged
+pub memory_alone : (e : ArchiveError) → IsOfPayload e → ¬ (e ≡ Damaged) → e ≡ Memory
+memory_alone NoParent of whole = absurd of
+memory_alone Root of whole = absurd of
+memory_alone Full of whole = absurd of
+memory_alone JournalFull of whole = absurd of
+memory_alone Device of whole = absurd of
+memory_alone Halted of whole = absurd of
+memory_alone Memory of whole = refl
+memory_alone NoImage of whole = absurd of
+memory_alone Damaged of whole = absurd (whole refl)
+memory_alone WrongPair of whole = absurd of
+
+-- what shows that it is halted does not show it where it runs
+pub runs_on : (shown halted : Bool) → (shown ≡ true → halted ≡ true) → halted ≡ false → shown ≡ false
+runs_on true halted is runs = absurd (true≢false (sym (is refl) ∙ runs))
+runs_on false halted is runs = refl
+
 -- a disk means one value
 pub one_value : (d : Result Value Fault) (a b : Value) → d ≡ Ok a → d ≡ Ok b → a ≡ b
 one_value d a b x y = ap (λ r. value_or r a) (sym x ∙ y)

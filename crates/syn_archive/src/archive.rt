@@ -1,11 +1,12 @@
 //! An archive over a journal.
-ghost use Rattle.std.specs.Prelude.{◌≡◌, ◌⊎◌, ◌↔◌, ◌+◌, ◌<◌, ◌≤◌, ◌^◌, [], ℕ, length, OnOk, IfOk};
-ghost use Rattle.std.specs.Prelude.{IfErr};
+ghost use Rattle.std.specs.Prelude.{◌≡◌, ◌≢◌, ◌⊎◌, ◌↔◌, ◌+◌, ◌<◌, ◌≤◌, ◌^◌, [], ℕ, length, OnOk};
+ghost use Rattle.std.specs.Prelude.{IfOk, IfErr};
 ghost use Rattle.std.specs.Prelude.{IsErrAnd, MatchResult, Err, None, Some, true, false};
 ghost use Rattle.std.specs.Prelude.{option_map};
 ghost use Rattle.syn_model.specs.Archive.{Archive as KeptArchive, Session, Recorded, RecordedDir};
 ghost use Rattle.syn_model.specs.Archive.{new_archive, after_kept, kept_refusal};
 ghost use Rattle.syn_model.specs.Refusal.{Refusal};
+ghost use Rattle.std.specs.FinMap.{get};
 ghost use Rattle.syn_model.specs.Tree.{empty_directory, is_directory, subtree};
 ghost use Rattle.syn_archive.specs.Disks.{DiskKeeps};
 ghost use Rattle.syn_model.specs.Path.{Bytes, is_root};
@@ -152,11 +153,13 @@ impl<D: Disk> Archive<D> {
             kept (left_shown self.now) (generation_shown self.now) bytes }
     {}
 
-    /// The marks at and below the path; none where nothing is. Refused 11 where memory is refused.
+    /// The marks at and below the path; none where nothing is. Refused 11 where memory is refused,
+    /// which is not asked for where nothing is.
     pub fn subtree(&self, alloc: Global, path: &Path) -> Result<Option<MarkTree>, ArchiveError>
         ensures ok { IfOk result
             (λ marks. or_absent marks ≡ subtree (marks_shown self.now) path.now) }
-        ensures memory { IfErr result (λ e. e ≡ ArchiveError.Memory) }
+        ensures memory { IfErr result (λ e. (e ≡ ArchiveError.Memory)
+            × (get (marks_shown self.now) path.now ≢ None)) }
     {
         Ok(self.marks.subtree(alloc, path)?)
     }

@@ -178,7 +178,8 @@ impl MarkTree {
     /// The marks at and below the path; none where nothing is. Refused 11 where memory is refused.
     pub fn subtree(&self, alloc: Global, path: &Path) -> Result<Option<MarkTree>, TreeError>
         ensures ok { IfOk result (λ marks. or_absent marks ≡ subtree self.now path.now) }
-        ensures memory { IfErr result (λ e. e ≡ TreeError.Memory) }
+        ensures memory { IfErr result (λ e. (e ≡ TreeError.Memory)
+            × (get self.now path.now ≢ None)) }
     {
         let part = part_at(&self.list, path.names());
         let Some(mark) = self.get(path) else {

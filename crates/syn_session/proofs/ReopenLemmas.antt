@@ -2,6 +2,7 @@
 use Rattle.std.proofs.Common.{◌≡◌, ◌≢◌, ◌⊎◌, ◌≤◌, ℕ, false, List, [], Result, Ok, Err, refl, sym, ap, ◌∙◌, subst, inl, inr}
 use Rattle.syn_archive.specs.Archive.{Stands as ArchiveStands, IsHalted, SameMemory, pair_of, disk_of, left_shown, generation_shown}
 use Rattle.syn_archive.specs.Disks.{DiskKeeps, DiskStands, IsReopenRefusal}
+use Rattle.syn_archive.specs.Refusals.{refusal_of}
 use Rattle.syn_archive.specs.declared.archive.Archive.{Archive}
 use Rattle.syn_archive.specs.declared.error.ArchiveError.{ArchiveError}
 use Rattle.syn_archive.specs.declared.error.ArchiveError.TheVariants as error
@@ -16,6 +17,7 @@ use Rattle.syn_model.specs.Path.{Bytes}
 use Rattle.syn_model.specs.Archive as model
 use Rattle.syn_model.specs.Archive.{Kept, CanKeep}
 use Rattle.syn_model.specs.ArchiveImage.{ArchiveStandsFor}
+use Rattle.syn_model.specs.Refusal as why
 use Rattle.syn_recovery.specs.Calls.{armed_at, goes_on, goes_down, MadeReadsMeet, BrokenCallsMeet}
 use Rattle.syn_recovery.specs.Machines.{of_archive, ArchivesOpen}
 use Rattle.syn_recovery.specs.Meaning.{MayBeOf, MayMean, as_kept, with_record, compacted}
@@ -23,6 +25,13 @@ use Rattle.syn_session.specs.Machines.{Journal, LeavesMachine, Runs, Fails, IsMa
 use Rattle.syn_session.specs.inner.Steps.{Moves, moves_on, moves_down}
 use Rattle.syn_session.proofs.CheckpointLemmas.{one_value}
 use Rattle.syn_session.proofs.MachineLemmas.{may_be}
+
+-- a device that fails is no want of memory
+pub no_memory : (e : ArchiveError) → e ≡ error.Device → refusal_of e ≢ why.Memory
+no_memory e is memory = apart (sym (ap refusal_of is) ∙ memory)
+  where
+    apart : why.Device ≢ why.Memory
+    apart same = cc
 
 -- one disk has one generation
 pub one_generation : (bytes : Bytes) (a b : Value) (m n : ℕ) → HasJournal bytes a m → HasJournal bytes b n → m ≡ n

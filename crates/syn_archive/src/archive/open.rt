@@ -1,12 +1,13 @@
 //! An opening: an archive finds out what a disk, or its own, stands for.
-ghost use Rattle.std.specs.Prelude.{◌≡◌, ◌⊎◌, ◌<◌, ◌^◌, ℕ, Err, Some, IfOk, IfErr, OnOk};
+ghost use Rattle.std.specs.Prelude.{◌≡◌, ◌≢◌, ◌⊎◌, ◌<◌, ◌^◌, ℕ, true, false, Some, IfOk, IfErr, OnOk};
 ghost use Rattle.std.specs.Prelude.{MatchResult};
 ghost use Rattle.syn_disk.specs.Calls.{MakesAtLeast};
 ghost use Rattle.syn_disk.specs.Stops.{Untouched};
 ghost use Rattle.syn_model.specs.Archive.{Archive as KeptArchive, Kept, after_kept};
 ghost use Rattle.syn_archive.specs.Disks.{DiskStands};
 ghost use Rattle.syn_archive.specs.Disks.{IsOpenRefusal, IsReopenRefusal, IsWanted};
-ghost use Rattle.syn_archive.specs.Refusals.{AfterReads, CountsFailures};
+ghost use Rattle.syn_archive.specs.Refusals.{AfterReads, CountsFailures, refusal_of};
+ghost use Rattle.syn_model.specs.Refusal.{Memory};
 
 use super::Archive;
 use crate::error::ArchiveError;
@@ -88,8 +89,8 @@ impl<D: Disk> Archive<D> {
     /// Opens the archive's own disk again. An archive that was halted runs again.
     ///
     /// Refused 9 where a device call fails, 18 where the disk holds no image, 19 where its layout
-    /// is broken or it means no archive of the pair, and 11 where memory is refused. After 9 the
-    /// archive is halted; after any other refusal it is as it was, halted or not. Nothing is
+    /// is broken or it means no archive of the pair, and 11 where memory is refused. After 11 the
+    /// archive is as it was, halted or not; after any other refusal it is halted. Nothing is
     /// written.
     pub fn reopen(&mut self, alloc: Global) -> Result<(), ArchiveError>
         // It shows what the disk stands for, and stands for each archive that the disk stands for.
@@ -109,7 +110,7 @@ impl<D: Disk> Archive<D> {
         // Each refusal has its cause.
         ensures refusals { IfErr result (λ e.
             IsReopenRefusal e (pair_of self.old) (D.seen (disk_of self.old))) }
-        ensures halts { result ≡ Err ArchiveError.Device → IsHalted self.new }
+        ensures halts { IfErr result (λ e. refusal_of e ≢ Memory → IsHalted self.new) }
 
         // What stays after a refusal.
         ensures memory { IfErr result (λ _. SameMemory self.old self.new) }
@@ -143,11 +144,28 @@ impl<D: Disk> Archive<D> {
                 Ok(())
             }
             Err(error) => {
-                if was_halted {
-                    self.journal.halt();
-                }
+                self.settle(was_halted, error);
                 Err(error)
             }
+        }
+    }
+
+    /// Halts the archive where it was halted, or its disk means none of the pair. Where memory was
+    /// refused, one that ran goes on.
+    fn settle(&mut self, was_halted: bool, error: ArchiveError)
+        ensures halted { was_halted ≡ true → IsHalted self.new }
+        ensures halts { refusal_of error ≢ Memory → IsHalted self.new }
+        ensures goes_on { was_halted ≡ false → error ≡ ArchiveError.Memory → self.new ≡ self.old }
+        ensures disk { disk_of self.new ≡ disk_of self.old }
+        ensures readings { KeepsReadings self.old self.new }
+    {
+        if was_halted {
+            self.journal.halt();
+            return;
+        }
+        match error {
+            ArchiveError::Memory => {}
+            _ => self.journal.halt(),
         }
     }
 }

@@ -1,4 +1,4 @@
-use Rattle.std.proofs.Common.{◌≡◌, ap, ◌∙◌}
+use Rattle.std.proofs.Common.{ap, ◌∙◌}
 use Rattle.std.proofs.lemmas.Result.{IfOk-weaker}
 use Rattle.syn_mark.specs.inner.Placings.{marks_of}
 use Rattle.syn_mark.proofs.MarkLemmas.{children-mark}

@@ -1,4 +1,4 @@
-use Rattle.std.proofs.Common.{◌≡◌, ℕ, ◌++◌, ◌∷◌, [], Option, Some, None, Bor, option_map, inl, refl, sym, ap, ap₂, ◌∙◌, subst}
+use Rattle.std.proofs.Common.{◌≡◌, ℕ, Option, Some, None, Bor, option_map, inl, refl, sym, ap, ap₂, ◌∙◌}
 use Rattle.std.specs.Option.{option_copied}
 use Rattle.syn_journal.specs.Layout.{with_payload, IsBeforeOrAfter}
 use Rattle.syn_model.specs.Tree.{Tree, replace}
@@ -6,7 +6,6 @@ use Rattle.syn_model.specs.Archive.{Archive, Recorded, CanKeep, after_kept, kept
 use Rattle.syn_model.specs.MarkSpelling.{kept_spelling}
 use Rattle.syn_mark.specs.Marks.{or_absent}
 use Rattle.syn_mark.specs.declared.tree.MarkTree.{MarkTree}
-use Rattle.syn_archive.specs.Archive.{shown}
 use Rattle.syn_archive.specs.Archive.{KeepsBeforeOrAfter, left_shown}
 use Rattle.syn_archive.proofs.StandLemmas.{keeps_now, not_written, payload_keeps, stop_keeps, left_behind, leaves_weaker, seen_is_left}
 use Rattle.syn_archive.proofs.archive.Archive.record.Goals as goal

@@ -4,7 +4,6 @@ use Rattle.syn_model.specs.Tree.{Tree, empty_directory, replace}
 use Rattle.syn_model.specs.Archive.{Archive, RecordedDir, CanKeep, after_kept, kept_refusal}
 use Rattle.syn_model.specs.MarkSpelling.{kept_spelling}
 use Rattle.syn_mark.specs.Changes.{replace_refusal}
-use Rattle.syn_archive.specs.Archive.{shown}
 use Rattle.syn_archive.specs.Archive.{KeepsBeforeOrAfter, left_shown}
 use Rattle.syn_archive.proofs.StandLemmas.{payload_keeps, stop_keeps, left_behind, leaves_weaker, seen_is_left}
 use Rattle.syn_archive.proofs.DirLemmas.{dir_allowed, dir_after}

@@ -9,7 +9,7 @@ use Rattle.syn_archive.specs.Archive.{disk_of}
 use Rattle.syn_archive.specs.Disks.{IsReopenRefusal}
 use Rattle.syn_archive.specs.Refusals.{AfterReads}
 use Rattle.syn_session.proofs.RefusedLemmas.{reopen_does, not_reopened, halted_not_down, halted_not_up, not_down, error_is}
-use Rattle.syn_session.proofs.ReopenLemmas.{reopen_ok, reopen_failed, reopen_stayed, only_memory}
+use Rattle.syn_session.proofs.ReopenLemmas.{no_memory, reopen_ok, reopen_failed, reopen_stayed, only_memory}
 use Rattle.syn_session.proofs.coordinator.Coordinator.reopen.Goals as goal
 
 pub returns-in-Ok-clause-ok : goal.returns-in-Ok-clause-ok
@@ -21,7 +21,7 @@ pub returns-in-Err-clause-device : goal.returns-in-Err-clause-device
 returns-in-Err-clause-device g c pair machine stands is_device =
     let device = error_is c.in-Err.error _ is_device in
     not_reopened c.args.self.now _ pair machine stands refl refl _ _ halted_not_down (λ _. halted_not_up)
-    (reopen_failed c.args.self.now.archive c.reopen.new.self pair machine.journal stands.journal c.in-Err.ensures.pair c.in-Err.ensures.untouched g.met.D.Disk.seen_may_stay c.keeps_on_disk-in-Err.ensures c.in-Err.ensures.memory (c.in-Err.ensures.halts (ap (λ e. Err e) device)) c.device_laws.ensures.broken
+    (reopen_failed c.args.self.now.archive c.reopen.new.self pair machine.journal stands.journal c.in-Err.ensures.pair c.in-Err.ensures.untouched g.met.D.Disk.seen_may_stay c.keeps_on_disk-in-Err.ensures c.in-Err.ensures.memory (c.in-Err.ensures.halts (no_memory _ device)) c.device_laws.ensures.broken
     (subst (λ e. AfterReads 1 e (g.D.Disk.arms (disk_of c.args.self.now.archive)) (g.D.Disk.arms (disk_of c.reopen.new.self))) device c.in-Err.ensures.calls))
 
 pub returns-in-Err-clause-memory : goal.returns-in-Err-clause-memory
