@@ -5,9 +5,10 @@ ghost use Rattle.syn_history.specs.Events.{token_of};
 use syn_history::Token;
 use syn_message::Reply;
 use syn_refusal::Refusal;
+use syn_tree::LONGEST_SPELLING;
 
 /// The most bytes that are staged for an item.
-pub const MAX_STAGED: usize = 524_288;
+pub const MAX_STAGED: usize = LONGEST_SPELLING;
 
 /// The bytes that came for an item, under its token.
 #[derive(Debug, Drop)]

@@ -27,8 +27,8 @@ pub use Rattle.syn_headline.specs.Session.{is_recorded, archive_layout, outstand
 pub use Rattle.syn_headline.specs.Session.{asked_of, without, asked_count, numbered, asking}
 pub use Rattle.syn_headline.specs.Session.{messages_to, most_outstanding, Waits, WasTaken}
 pub use Rattle.syn_headline.specs.Session.{WasAsked, AsksOnce, BothBegun, IsShown, is_not_dir}
-pub use Rattle.syn_headline.specs.Session.{is_unstable, most_nodes, entries_in, nodes_shown}
-pub use Rattle.syn_headline.specs.Session.{piece_total, first_total, most_piece, fits_piece}
+pub use Rattle.syn_headline.specs.Session.{is_unstable, entries_in, nodes_shown}
+pub use Rattle.syn_headline.specs.Session.{piece_total, first_total, fits_piece}
 pub use Rattle.syn_headline.specs.Session.{fault_of, plan_of, MakesPlan, HasPlan, record_for}
 pub use Rattle.syn_headline.specs.Session.{AtCursor, IsStagedTo, MayAsk, AsksNext, stays, makes}
 

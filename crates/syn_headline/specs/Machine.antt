@@ -3,6 +3,7 @@
 use Rattle.std.specs.Prelude.{ℕ, suc, Bool, true, false, nat_le, ◌||◌, ◌+◌, ◌-◌, ◌<◌, ◌≤◌, ◌≡◌, ◌⊎◌}
 use Rattle.std.specs.Prelude.{List, [], ◌∷◌}
 use Rattle.std.specs.Prelude.{length, Option, Some, None}
+use Rattle.syn_model.specs.Limits.{half_size}
 use Rattle.syn_model.specs.Path.{Bytes}
 
 pub data Status : Type 0 where
@@ -66,7 +67,7 @@ record_size payload = 5 + length payload
 -- the bytes of a half of the disk but for the image, what stands before it
 -- (a gate, a generation, its length) and a gate behind it
 abbrev pub room_behind : Bytes → ℕ
-room_behind image = 4194304 - (14 + length image)
+room_behind image = half_size - (14 + length image)
 
 -- the record need not be written, or fits into what the journal has left
 abbrev pub has_room : {V W : Type 0} → Layout V W → Journaled V W → W → Bool

@@ -10,7 +10,7 @@ use Rattle.std.specs.Prelude.{filter_map, length}
 use Rattle.std.specs.Prelude.{slice_get, sum_by, Option, Some, None, All, Contains}
 use Rattle.syn_model.specs.Path.{Path, Name, root, child, path_cmp}
 use Rattle.syn_model.specs.Tree.{Content, Directory, is_directory}
-use Rattle.syn_model.specs.Limits.{fits_path}
+use Rattle.syn_model.specs.Limits.{fits_path, greatest_piece, most_nodes}
 use Rattle.syn_model.specs.Dirty.{IsScanBy}
 use Rattle.syn_model.specs.Refusal.{Refusal, TooLarge, BadMessage, first_cause}
 use Rattle.syn_model.specs.Archive.{Archive, Kept, Session, Recorded, RecordedDir, after_kept}
@@ -168,10 +168,6 @@ is_unstable running = list_any (λ exchange. is_not_dir exchange.reply) running.
 
 -- What an answer brings
 
--- the most nodes of a scan
-abbrev pub most_nodes : ℕ
-most_nodes = 4096
-
 abbrev pub entries_in : Reply → ℕ
 entries_in (Listed position entries) = length entries
 entries_in _ = 0
@@ -192,16 +188,12 @@ abbrev pub first_total : List Exchange → Path → Option ℕ
 first_total taken path =
     slice_get (filter_map (λ exchange. piece_total path exchange.request exchange.reply) taken) 0
 
--- the most bytes of a piece
-abbrev pub most_piece : ℕ
-most_piece = 32768
-
 -- a piece has the length that the item's first piece gave for the whole, and all the bytes that it
 -- can
 abbrev pub fits_piece : Option ℕ → ℕ → ℕ → ℕ → Bool
 fits_piece first offset total count =
     option_map_or (λ was. total == was) first true && nat_le offset total
-    && count == min most_piece (total - offset)
+    && count == min greatest_piece (total - offset)
 
 -- The refusal with which an answer ends the session at once, if it does: a begin or a listing is
 -- refused, a scan grows too large, or the answer does not belong. A refusal of another request

@@ -1,3 +1,5 @@
+//! What an event adds to a trail. A replica moves the bytes of an edit into its tree, so the event
+//! itself is gone when its step is recorded.
 ghost use Rattle.std.specs.Prelude.{◌≡◌, IfOk, IfErr};
 ghost use Rattle.syn_history.specs.Events.{event_of};
 ghost use Rattle.syn_history.specs.Trails.{step_of};

@@ -1,3 +1,5 @@
+//! Which path an event changed, and at which position. From these a trail tells whether a path was
+//! touched.
 ghost use Rattle.std.specs.Prelude.{◌≡◌, ◌<◌, ◌^◌};
 ghost use Rattle.syn_model.specs.Path.{IsPath};
 

@@ -1,3 +1,5 @@
+//! The trail of a history: what a replica keeps of it beside the tree, so that it need not keep the
+//! events.
 ghost use Rattle.std.specs.Prelude.{◌≡◌, ◌≢◌, ◌↔◌, ◌⊎◌, ◌<◌, ◌≤◌, ◌++◌, ◌∷◌, [], Err, not, length};
 ghost use Rattle.std.specs.Prelude.{take, drop, option_map, All, IfOk, IfErr, IfSome, IfNone};
 ghost use Rattle.std.specs.Prelude.{IsTrue, OnOk, OnErr};

@@ -8,20 +8,19 @@ use Rattle.std.specs.Prelude.{◌≡◌, ◌⊎◌, ◌+◌, ◌-◌, ◌==◌, 
 use Rattle.std.specs.Prelude.{false, if◌then◌else◌, List, [], ◌∷◌, ◌++◌, length, take, drop}
 use Rattle.std.specs.Prelude.{slice_index, Option, Some, None, Result, Ok, Err}
 use Rattle.std.specs.Int.{w32, w64, from_be_bytes, to_be_bytes}
+use Rattle.syn_model.specs.Limits.{greatest_image}
+pub use Rattle.syn_model.specs.Limits.{half_size}
 use Rattle.syn_journal.specs.declared.half.Half.{Half}
 use Rattle.syn_journal.specs.declared.layout.TheConstants.{IMAGE_AT, IMAGE_LENGTH_AT}
 use Rattle.syn_journal.specs.declared.layout.TheConstants.{RECORD_HEADER}
 use Rattle.syn_journal.specs.declared.half.Half.TheVariants.{First, Second}
-
-abbrev pub half_size : ℕ
-half_size = 4194304
 
 abbrev pub open_gate : ℕ
 open_gate = 165
 
 -- with it the first gate is the last byte of its half
 abbrev pub longest_image : ℕ
-longest_image = 4194290
+longest_image = greatest_image
 
 -- what a journal keeps
 pub record Value : Type 0 where

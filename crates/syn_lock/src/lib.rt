@@ -7,8 +7,6 @@ mod guard;
 mod own;
 mod pool;
 mod rule;
-#[cfg(test)]
-mod tests;
 mod view;
 
 pub use error::{LockError, Refused};

@@ -1,7 +1,9 @@
-// The rule of the lock's table, and what each of its steps tells. Word 1 is the lock's word: twice
-// the position of the state that was left last, and 1 more while the lock is taken. A position from
-// 2^63 on is word 0, which is 0 up to then. Word 2 counts passes. Slot 0 has the state while the
-// lock is free, in a box, so that a hold moves no more than a pointer.
+//! The rule of the lock's table, and what each of its steps tells.
+//!
+//! Word 1 is the lock's word: twice the position of the state that was left last, and 1 more while
+//! the lock is taken. A position from 2^63 on is word 0, which is 0 up to then. Word 2 counts
+//! passes. Slot 0 has the state while the lock is free, in a box, so that a hold moves no more than
+//! a pointer.
 use crate::grows::Grows;
 use crate::view::Known;
 use atomic_table::{Join, Play, Split, TableRule};

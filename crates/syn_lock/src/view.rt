@@ -1,4 +1,4 @@
-// What a pass knows. It exists in proofs alone.
+//! What a pass knows of the lock's history. It exists in proofs alone.
 use std::collections::LinkedList;
 
 /// One hold of the lock, or one step on the lock's word: who made it, what was there before, and

@@ -1,3 +1,5 @@
+//! A change of a tree of marks, ready to be made. An archive takes all memory for it before it
+//! writes its journal.
 ghost use Rattle.std.specs.Prelude.{◌≡◌, ◌≤◌, ◌+◌, vec_capacity};
 ghost use Rattle.std.specs.FinMap.{len};
 ghost use Rattle.syn_model.specs.Tree.{Tree as Pairs};

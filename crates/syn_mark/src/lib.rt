@@ -17,4 +17,4 @@ pub use laws::replacement_laws;
 pub use listing::list_marks;
 pub use mark::Mark;
 pub use marking::mark_of;
-pub use tree::{MarkEntry, MarkTree};
+pub use tree::{MOST_NODES, MarkEntry, MarkTree};

@@ -1,3 +1,5 @@
+//! What stands for a file or a directory where its bytes are not kept, as in an archive and in a
+//! listing.
 ghost use Rattle.std.specs.Prelude.{◌≡◌};
 ghost use Rattle.syn_model.specs.Mark.{mark_of};
 ghost use Rattle.syn_model.specs.Tree.{File, contents_of};

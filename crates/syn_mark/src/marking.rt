@@ -1,6 +1,7 @@
 //! The marks of what stands in a tree.
 ghost use Rattle.std.specs.Prelude.{◌≡◌, ◌≢◌, ◌<◌, ◌++◌, OnOk, IfOk, IfErr};
 ghost use Rattle.std.specs.FinMap.{len};
+ghost use Rattle.syn_model.specs.Limits.{most_nodes};
 ghost use Rattle.syn_model.specs.Mark.{mark, mark_of};
 ghost use Rattle.syn_tree.specs.Nodes.{node_tree};
 ghost use Rattle.syn_mark.specs.Marks.{content_of};
@@ -20,7 +21,7 @@ use syn_tree::{Entries, Entry, Node, TreeError};
 pub fn mark_of(alloc: Global, node: &Node) -> Result<MarkTree, TreeError>
     ensures ok { IfOk result (λ marks. marks ≡ mark (node_tree node.now)) }
     ensures full { IfErr result (λ e. e ≢ TreeError.Memory → (e ≡ TreeError.Full)
-        × (4096 < len (node_tree node.now))) }
+        × (most_nodes < len (node_tree node.now))) }
 {
     match node {
         Node::File(bytes) => MarkTree::of_mark(alloc, Mark::of_file(bytes)),
@@ -32,7 +33,7 @@ pub fn mark_of(alloc: Global, node: &Node) -> Result<MarkTree, TreeError>
 fn mark_of_directory(alloc: Global, entries: &Entries) -> Result<MarkTree, TreeError>
     ensures ok { IfOk result (λ marks. marks ≡ mark entries.now) }
     ensures full { IfErr result (λ e. e ≢ TreeError.Memory → (e ≡ TreeError.Full)
-        × (4096 < len entries.now)) }
+        × (most_nodes < len entries.now)) }
 {
     let below = entries.as_slice();
     if below.len() >= MOST_NODES {

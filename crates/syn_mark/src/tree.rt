@@ -1,3 +1,5 @@
+//! A tree of marks, within the limits of an archive by its type: what an archive keeps, and what a
+//! scan finds.
 ghost use Rattle.std.specs.Prelude.{◌≡◌, ◌≢◌, ◌↔◌, IsTrue, true, length, Some, None, filter};
 ghost use Rattle.std.specs.Prelude.{option_map, IfOk, IfErr, IfSome, IfNone};
 ghost use Rattle.std.specs.FinMap.{entries, get, len};
@@ -28,7 +30,7 @@ use syn_tree::{Placed, Standing, TreeError};
 pub type MarkEntry = Placed<Mark>;
 
 /// The most nodes of a tree of marks, with its root.
-pub(crate) const MOST_NODES: usize = 4096;
+pub const MOST_NODES: usize = 4096;
 
 /// The marks of a file, or of a directory with all below it: at most 4,096 nodes with the root, and
 /// each path, taken from the root, within the limits of a path. No limit binds the names in a

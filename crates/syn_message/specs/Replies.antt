@@ -2,6 +2,7 @@
 use Rattle.std.specs.Prelude.{◌≡◌, ◌≤◌, ◌<◌, ◌^◌, ℕ, [], ◌∷◌, ◌++◌, length, Option}
 use Rattle.std.specs.Int.{to_be_bytes, w32, w64}
 use Rattle.syn_headline.specs.Side as model
+use Rattle.syn_model.specs.Limits.{greatest_piece}
 use Rattle.syn_model.specs.Event.{AreBytes}
 use Rattle.syn_model.specs.Path.{Bytes}
 use Rattle.syn_model.specs.Refusal.{number}
@@ -63,7 +64,7 @@ answering_spelling answering = body_spelling (reply_kind answering.reply) answer
 
 -- what is fetched at a time
 abbrev pub IsFetchedBytes : Bytes → Type 0
-IsFetchedBytes bytes = (length bytes ≤ 32768) × AreBytes bytes
+IsFetchedBytes bytes = (length bytes ≤ greatest_piece) × AreBytes bytes
 
 -- its numbers, bytes and entries are lawful
 abbrev pub IsLawfulReply : model.Reply → Type 0

@@ -2,6 +2,7 @@
 use Rattle.std.specs.Prelude.{◌≡◌, ◌≤◌, ◌<◌, ◌^◌, ℕ, [], ◌∷◌, length, Option, Some, None}
 use Rattle.std.specs.Option.{option_map}
 use Rattle.std.specs.Int.{to_be_bytes, w64}
+use Rattle.syn_model.specs.Limits.{greatest_file}
 use Rattle.syn_model.specs.Event.{AreBytes}
 use Rattle.syn_model.specs.Path.{Bytes}
 use Rattle.syn_model.specs.Refusal.{Refusal, number}
@@ -56,7 +57,7 @@ telling_spelling telling =
 
 -- a file within the limit of each file
 abbrev pub IsWithinFile : Bytes → Type 0
-IsWithinFile bytes = (length bytes ≤ 16384) × AreBytes bytes
+IsWithinFile bytes = (length bytes ≤ greatest_file) × AreBytes bytes
 
 abbrev pub IsFound : Option Content → Type 0
 IsFound None = Unit {0}

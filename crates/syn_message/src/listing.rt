@@ -14,10 +14,8 @@ use std::alloc::Global;
 use std::str;
 use syn_mark::Mark;
 use syn_path::{Name, PathError};
+use syn_tree::MOST_CHILDREN;
 use syn_wire::{WireError, read_u16, spelling_laws, write_u16};
-
-/// The most names of a directory.
-const MAX_ENTRIES: u16 = 256;
 
 /// The kind of a file's mark.
 const FILE: u8 = 1;
@@ -74,7 +72,7 @@ pub(crate) fn read_entries(
     let Some((count, after)) = read_u16(bytes) else {
         return Ok(None);
     };
-    if count > MAX_ENTRIES {
+    if usize::from(count) > MOST_CHILDREN {
         return Ok(None);
     }
     let Some((entries, rest)) = read_each(alloc, count, after)? else {

@@ -11,10 +11,9 @@ use crate::head::read_head;
 use crate::kind::{BEGUN, DONE, LISTED, NOT_DIR, PIECE, REFUSED, STAGED};
 use crate::listing::read_entries;
 use crate::reply::{Answered, Reply};
-use crate::request_reading::MAX_PIECE;
 use std::alloc::Global;
 use syn_refusal::Refusal;
-use syn_wire::{WireError, read_file, read_u32, read_u64, spelling_laws};
+use syn_wire::{LONGEST_PIECE, WireError, read_file, read_u32, read_u64, spelling_laws};
 
 /// The reply that the body spells; none where it spells no reply.
 ///
@@ -103,7 +102,7 @@ fn read_piece(alloc: Global, fields: &[u8]) -> Result<Option<Reply>, WireError>
     Ok(Some(Reply::Piece { total, bytes }))
 }
 
-/// At most `MAX_PIECE` bytes behind their length, with nothing behind them.
+/// At most `LONGEST_PIECE` bytes behind their length, with nothing behind them.
 fn read_fetched(alloc: Global, bytes: &[u8]) -> Result<Option<Vec<u8>>, WireError>
     ensures { IfOk result (λ read. IsWholeReading IsFetchedBytes file_spelling bytes.now
         (option_map (λ piece. piece.items) read)) }
@@ -112,7 +111,7 @@ fn read_fetched(alloc: Global, bytes: &[u8]) -> Result<Option<Vec<u8>>, WireErro
     let Some((piece, rest)) = read_file(alloc, bytes)? else {
         return Ok(None);
     };
-    if !rest.is_empty() || piece.len() > MAX_PIECE {
+    if !rest.is_empty() || piece.len() > LONGEST_PIECE {
         return Ok(None);
     }
     Ok(Some(piece))

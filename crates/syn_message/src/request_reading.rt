@@ -11,10 +11,7 @@ use crate::head::read_head;
 use crate::kind::{BEGIN, FETCH, LIST, REPLACE, STAGE};
 use crate::request::{Asked, Request};
 use std::alloc::Global;
-use syn_wire::{WireError, decode_path, read_file, read_u32, read_u64, spelling_laws};
-
-/// How many bytes are staged at most at a time.
-pub const MAX_PIECE: usize = 32_768;
+use syn_wire::{LONGEST_PIECE, WireError, decode_path, read_file, read_u32, read_u64, spelling_laws};
 
 /// The request that the body spells; none where it spells no request.
 ///
@@ -114,7 +111,7 @@ fn read_stage(alloc: Global, fields: &[u8]) -> Result<Option<Request>, WireError
     }))
 }
 
-/// From 1 to `MAX_PIECE` bytes behind their length, with nothing behind them.
+/// From 1 to `LONGEST_PIECE` bytes behind their length, with nothing behind them.
 fn read_piece(alloc: Global, bytes: &[u8]) -> Result<Option<Vec<u8>>, WireError>
     ensures { IfOk result (λ read. IsWholeReading IsPieceBytes file_spelling bytes.now
         (option_map (λ piece. piece.items) read)) }
@@ -126,7 +123,7 @@ fn read_piece(alloc: Global, bytes: &[u8]) -> Result<Option<Vec<u8>>, WireError>
     if !rest.is_empty() {
         return Ok(None);
     }
-    if piece.is_empty() || piece.len() > MAX_PIECE {
+    if piece.is_empty() || piece.len() > LONGEST_PIECE {
         return Ok(None);
     }
     Ok(Some(piece))

@@ -12,11 +12,8 @@ use crate::kind::{EDITED, GOT, REFUSED};
 use crate::reply_reading::read_refusal;
 use crate::user_reply::{ABSENT, AnsweredToUser, DIRECTORY, FILE, UserReply};
 use std::alloc::Global;
-use syn_tree::Content;
+use syn_tree::{Content, LONGEST_FILE};
 use syn_wire::{WireError, read_file, read_u64, spelling_laws};
-
-/// The most bytes of a file.
-const MAX_FILE: usize = 16_384;
 
 /// The reply to a user that the body spells; none where it spells none.
 ///
@@ -92,7 +89,7 @@ fn read_found(alloc: Global, fields: &[u8]) -> Result<Option<Option<Content>>, W
     }
 }
 
-/// At most `MAX_FILE` bytes behind their length, with nothing behind them.
+/// At most `LONGEST_FILE` bytes behind their length, with nothing behind them.
 fn read_whole_file(alloc: Global, bytes: &[u8]) -> Result<Option<Vec<u8>>, WireError>
     ensures { IfOk result (λ read. IsWholeReading IsWithinFile file_spelling bytes.now
         (option_map (λ file. file.items) read)) }
@@ -101,7 +98,7 @@ fn read_whole_file(alloc: Global, bytes: &[u8]) -> Result<Option<Vec<u8>>, WireE
     let Some((file, rest)) = read_file(alloc, bytes)? else {
         return Ok(None);
     };
-    if !rest.is_empty() || file.len() > MAX_FILE {
+    if !rest.is_empty() || file.len() > LONGEST_FILE {
         return Ok(None);
     }
     Ok(Some(file))

@@ -8,7 +8,8 @@ use Rattle.std.specs.FinMap.{get}
 use Rattle.syn_model.specs.Path.{Bytes, Path, path_cmp, path_key, key_cmp, root, comparable}
 use Rattle.syn_model.specs.Path.{strip_prefix, IsName, IsPath}
 use Rattle.syn_model.specs.Tree.{Tree, Contents, File, IsPart, IsTree, StandsIn, subtree, replace}
-use Rattle.syn_model.specs.Limits.{greatest_image, fits_part, fits_paths, fits_replica}
+use Rattle.syn_model.specs.Limits.{greatest_file, greatest_image, fits_part, fits_paths}
+use Rattle.syn_model.specs.Limits.{fits_replica}
 use Rattle.syn_model.specs.Standing.{Standing, new_standing, standing_after, AllAllowedAt}
 use Rattle.syn_model.specs.History.{History, IsHistory, IsAllowed, AllAllowed, tree_of, standing_of}
 use Rattle.syn_model.specs.History.{floor, last_touches, is_quiet}
@@ -98,7 +99,7 @@ HistoryFits = (history : History) → IsHistory history → fits_replica (tree_o
 -- where a put that fits is no longer than a file may be
 abbrev pub PutFits : Type 0
 PutFits = (tree : Tree) (path : Path) (bytes : Bytes) →
-    fits_replica (after_edit tree (Put path bytes)) ≡ true → length bytes ≤ 16384
+    fits_replica (after_edit tree (Put path bytes)) ≡ true → length bytes ≤ greatest_file
 
 -- and a history with an allowed event is one
 abbrev pub AllowedGoesOn : Type 0

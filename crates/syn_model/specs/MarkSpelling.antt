@@ -2,6 +2,7 @@
 use Rattle.std.specs.Prelude.{ℕ, zero, suc, ◌≡◌, ◌≤◌, [], ◌∷◌, ◌++◌, Option, Some}
 use Rattle.std.specs.Int.{to_be_bytes, w64}
 use Rattle.std.specs.FinMap.{get, len}
+use Rattle.syn_model.specs.Limits.{most_nodes}
 use Rattle.syn_model.specs.Path.{Bytes, root, path_spelling}
 use Rattle.syn_model.specs.Tree.{Tree, Content, File}
 use Rattle.syn_model.specs.Mark.{IsMarks}
@@ -44,6 +45,6 @@ MarkSpellingUnfolds = (marks : Tree) →
 
 -- no spelling of marks begins that of others, so that a spelling tells its marks
 abbrev pub NoMarkSpellingBeginsAnother : Type 0
-NoMarkSpellingBeginsAnother = (t u : Tree) (r s : Bytes) → IsMarks t → IsMarks u → len t ≤ 4096 →
-    len u ≤ 4096 →
+NoMarkSpellingBeginsAnother = (t u : Tree) (r s : Bytes) → IsMarks t → IsMarks u →
+    len t ≤ most_nodes → len u ≤ most_nodes →
     mark_spelling t ++ r ≡ mark_spelling u ++ s → (t ≡ u) × (r ≡ s)

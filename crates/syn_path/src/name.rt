@@ -1,3 +1,4 @@
+//! A name in a directory, lawful by its type: what paths and listings are made of.
 ghost use Rattle.std.specs.Prelude.{◌≡◌, ◌↔◌, IfOk, IfErr, IsTrue};
 ghost use Rattle.syn_model.specs.Path.{IsName};
 

@@ -1,3 +1,4 @@
+//! A path of a replica, lawful by its type, so that no layer above looks at its limits again.
 ghost use Rattle.std.specs.Prelude.{◌≡◌, ◌↔◌, ◌++◌, ◌∷◌, [], ◌+◌, ◌==◌, ◌<◌, ◌≤◌, length, map};
 ghost use Rattle.std.specs.Prelude.{IfOk, IfSome, IfNone, IfErr, IsTrue, Contains, All};
 ghost use Rattle.std.specs.List.{slice_split};

@@ -12,8 +12,9 @@ use crate::line::machine_of;
 use crate::notes::{is_set, lowest_unset, note_step};
 use std::alloc::Global;
 use syn_disk::Disk;
+use syn_host::SimulatedDisk;
 use syn_script::Line;
-use syn_world::{Disks, SimulatedDisk, Step, World};
+use syn_world::{Disks, Step, World};
 
 /// A draining delivers at most so many messages, so that it ends whatever the machines say.
 pub const MOST_DRAINED: usize = 100_000;

@@ -1,6 +1,7 @@
 //! What a transfer carries, and what it asks for that.
 ghost use Rattle.std.specs.Prelude.{◌≡◌, ◌≤◌, length, IfErr, IfOk};
 ghost use Rattle.syn_headline.specs.Side.{IsLawfulBody, Fetch, Stage, Replace};
+ghost use Rattle.syn_model.specs.Limits.{greatest_piece};
 ghost use Rattle.syn_model.specs.Path.{IsPath};
 
 use crate::error::TransferError;
@@ -51,7 +52,7 @@ impl Carriage {
     pub(crate) fn stage(&self, offset: u32, bytes: Vec<u8>) -> Next
         ensures asks { AsksFor result (target_of self.now)
             (Stage self.now.item offset bytes.items) }
-        ensures lawful { 1 ≤ length bytes.items → length bytes.items ≤ 32768
+        ensures lawful { 1 ≤ length bytes.items → length bytes.items ≤ greatest_piece
             → IsLawfulBody (Stage self.now.item offset bytes.items) }
     {
         let item = self.item;

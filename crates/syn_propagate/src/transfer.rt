@@ -17,7 +17,7 @@ use crate::carriage::Carriage;
 use crate::error::TransferError;
 use crate::next::Next;
 use std::alloc::Global;
-use syn_message::{MAX_PIECE, Reply};
+use syn_message::{LONGEST_PIECE, Reply};
 
 /// How far a transfer has come.
 #[derive(Clone, Copy, Debug)]
@@ -245,7 +245,7 @@ fn fits_piece(known: Option<u32>, offset: u32, total: u32, count: usize) -> bool
         Some(told) => total == told,
         None => true,
     };
-    as_told && offset <= total && count == MAX_PIECE.min((total - offset) as usize)
+    as_told && offset <= total && count == LONGEST_PIECE.min((total - offset) as usize)
 }
 
 /// What a transfer waits for is for what it carries.

@@ -1,3 +1,4 @@
+//! The items of a plan: what is to be done, each at one path.
 ghost use Rattle.std.specs.Prelude.{◌≡◌};
 ghost use Rattle.syn_model.specs.Decision.{path_of};
 ghost use Rattle.syn_recon.specs.Items.{item_of};

@@ -3,6 +3,7 @@ use Rattle.std.specs.Prelude.{◌≡◌, ℕ, Bool, true, false, not, ◌||◌, 
 use Rattle.std.specs.Prelude.{if◌then◌else◌}
 use Rattle.std.specs.Prelude.{List, [], ◌∷◌, ◌++◌, length, take, drop, Option}
 use Rattle.std.specs.Option.{option_map_or}
+use Rattle.syn_model.specs.Limits.{greatest_piece}
 use Rattle.syn_model.specs.Path.{Bytes, Path}
 use Rattle.syn_model.specs.Tree.{Tree, subtree, replace}
 use Rattle.syn_model.specs.Refusal.{Refusal, JournalFull, OldSession, WrongPair, BelowFloor}
@@ -50,14 +51,10 @@ since_causes history path since =
     (nat_lt since (floor history) || nat_lt (length history) since, BelowFloor)
     ∷ (not (is_quiet history since (length history) path), Touched) ∷ []
 
--- what is fetched at a time
-abbrev pub longest_piece : ℕ
-longest_piece = 32768
-
 -- the bytes of a subtree's spelling from the offset on, the first of them where there are more
 abbrev pub piece : History → Path → ℕ → Bytes
 piece history path offset =
-    take longest_piece (drop offset (spelling (subtree (tree_of history) path)))
+    take greatest_piece (drop offset (spelling (subtree (tree_of history) path)))
 
 -- a token that is done stays done, and nothing changes
 abbrev pub replaced : History → Token → Path → ℕ → Tree → History

@@ -8,7 +8,7 @@ use Rattle.std.specs.FinMap.{len, insert, empty}
 use Rattle.std.specs.FinMap.Entries.{is_sorted}
 use Rattle.syn_model.specs.Path.{Path, Name, path_cmp, name_cmp, root, child}
 use Rattle.syn_model.specs.Tree.{Tree, Content, Directory, empty_directory, replace}
-use Rattle.syn_model.specs.Limits.{fits_path}
+use Rattle.syn_model.specs.Limits.{fits_path, most_nodes}
 use Rattle.syn_tree.specs.Pairs.{Pairs}
 use Rattle.syn_mark.specs.Marks.{marks_with, content_of}
 use Rattle.syn_mark.specs.declared.mark.Mark.{Mark}
@@ -70,7 +70,7 @@ with_no_directory found path position = record found {
 
 -- with the listing the scan would be too large
 abbrev pub is_too_large : Found → List (Name × Content) → Bool
-is_too_large found entries = nat_lt 4096 (len found.marks + length entries)
+is_too_large found entries = nat_lt most_nodes (len found.marks + length entries)
 
 -- the names strictly rise
 abbrev pub names_rise : List (Name × Content) → Bool

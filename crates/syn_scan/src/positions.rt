@@ -1,3 +1,5 @@
+//! The positions at which a side answered, by path. A replacement is made only where nothing
+//! touched its path since.
 ghost use Rattle.std.specs.Prelude.{◌≡◌, OnOk, OnErr, IfErr, None, length};
 ghost use Rattle.std.specs.List.{list_any};
 ghost use Rattle.std.specs.Ordering.{eq_by_cmp};

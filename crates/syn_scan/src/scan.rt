@@ -1,3 +1,4 @@
+//! What a side showed in a session. A plan is made of the scans of both sides.
 ghost use Rattle.std.specs.Prelude.{◌≡◌, ◌≢◌, ◌≤◌, ◌+◌, true, false, OnOk, OnErr, IfOk, IfErr};
 ghost use Rattle.std.specs.Prelude.{◌<◌, length, slice_index_or};
 ghost use Rattle.std.specs.FinMap.{entries, get, insert, len};

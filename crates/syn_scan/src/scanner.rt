@@ -1,6 +1,9 @@
+//! Makes the scan of a side: it says which directory is asked for next, and takes the listings one
+//! by one.
 ghost use Rattle.std.specs.Prelude.{◌≡◌, ◌≢◌, ◌<◌, ◌∷◌, ◌++◌, [], true, false, OnOk, OnErr, IfOk};
 ghost use Rattle.std.specs.Prelude.{IfErr, IfSome, IfNone, Ok, None, length, not};
 ghost use Rattle.std.specs.Ordering.{eq_by_cmp};
+ghost use Rattle.syn_model.specs.Limits.{most_nodes};
 ghost use Rattle.syn_model.specs.Path.{path_cmp, IsPath};
 ghost use Rattle.syn_model.specs.Dirty.{IsScanBy};
 ghost use Rattle.syn_mark.specs.Marks.{AreMarks, AreMarkPairs};
@@ -18,11 +21,8 @@ use crate::scan::Scan;
 use std::alloc::Global;
 use std::cmp::Ordering;
 use std::marker::Model;
-use syn_mark::{Mark, MarkEntry, MarkTree};
+use syn_mark::{MOST_NODES, Mark, MarkEntry, MarkTree};
 use syn_path::{Name, Path};
-
-/// The most nodes of a scan, with its root.
-const MOST_NODES: usize = 4096;
 
 /// Makes a scan of one side, a listing at a time. Contracts see it as what was found so far, and
 /// the paths that were handed out and not answered yet.
@@ -226,7 +226,7 @@ fn directory_of(alloc: Global, entries: Vec<(Name, Mark)>) -> Result<MarkTree, S
     ensures marks { OnOk result (AreMarks (listing_pairs (contents_in entries.items))) }
     ensures rising { OnOk result (names_rise (contents_in entries.items) ≡ true) }
     ensures bad { IfErr result (λ e. e ≢ ScanError.Memory → (e ≡ ScanError.BadMessage)
-        × (length entries.items < 4096 → names_rise (contents_in entries.items) ≡ false)) }
+        × (length entries.items < most_nodes → names_rise (contents_in entries.items) ≡ false)) }
 {
     let mut list = Vec::new(alloc);
     list.push(MarkEntry::new(Path::root(alloc), Mark::Dir))?;

@@ -11,7 +11,8 @@ use Rattle.std.proofs.lemmas.List.Elements.{Contains-append_left, Contains-push,
 use Rattle.std.proofs.lemmas.List.Sums.{sum_by-append}
 use Rattle.std.proofs.lemmas.Option.{none-some, same_Some}
 use Rattle.syn_headline.specs.Network.{Which, Left, Right, is_side}
-use Rattle.syn_headline.specs.Session.{Exchange, WasTaken, IsShown, nodes_shown, entries_in, fault_of, most_nodes}
+use Rattle.syn_headline.specs.Session.{Exchange, WasTaken, IsShown, nodes_shown, entries_in, fault_of}
+use Rattle.syn_model.specs.Limits.{most_nodes}
 use Rattle.syn_headline.specs.Side.{ListAt, Listed, NotDir}
 use Rattle.syn_headline.specs.Side as model
 use Rattle.syn_message.specs.Listings.{AreRising}

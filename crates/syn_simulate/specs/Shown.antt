@@ -1,16 +1,16 @@
 -- What is printed of a world.
 use Rattle.std.specs.Prelude.{ℕ, List, ◌++◌, codes, flat_map, Option, Some, None}
 use Rattle.syn_disk.specs.declared.disk.Disk.{Ghosts}
+use Rattle.syn_host.specs.Sides.{replica_of}
+use Rattle.syn_host.specs.declared.coordinator.CoordinatorHost.{CoordinatorHost}
+use Rattle.syn_host.specs.declared.coordinator.CoordinatorHost.TheVariants as machine
+use Rattle.syn_host.specs.declared.side.SideHost.{SideHost}
 use Rattle.syn_replica.specs.declared.replica.Replica.{Replica}
 use Rattle.syn_session.specs.Coordinators.{archive_of}
 use Rattle.syn_session.specs.Reports.{report_model}
 use Rattle.syn_session.specs.declared.report.Report.{Report}
 use Rattle.syn_show.specs.Reports.{report_lines}
 use Rattle.syn_show.specs.Shown.{archive_shown, replica_shown}
-use Rattle.syn_world.specs.Sides.{replica_of}
-use Rattle.syn_world.specs.declared.coordinator.CoordinatorHost.{CoordinatorHost}
-use Rattle.syn_world.specs.declared.coordinator.CoordinatorHost.TheVariants as machine
-use Rattle.syn_world.specs.declared.side.SideHost.{SideHost}
 use Rattle.syn_world.specs.declared.world.World.{World}
 
 -- the line of a machine that is down

@@ -3,12 +3,13 @@
 use crate::chart::Chart;
 use std::alloc::{AllocError, Global};
 use syn_disk::Disk;
+use syn_host::{CoordinatorHost, SideHost};
 use syn_message::Side;
 use syn_script::{Line, Machine as Named};
 use syn_session::End;
 use syn_tree::Edit;
 use syn_wire::Kept;
-use syn_world::{Ack, CoordinatorHost, Machine, SideHost, World};
+use syn_world::{Ack, Machine, World};
 
 /// What a world had heard at some moment, and which of its machines were up.
 #[derive(Clone, Copy, Debug)]

@@ -7,9 +7,10 @@ ghost use Rattle.syn_simulate.specs.Shown.{side_or_down, world_shown};
 use std::alloc::Global;
 use std::io::Write;
 use syn_disk::Disk;
+use syn_host::{CoordinatorHost, SideHost};
 use syn_session::Report;
 use syn_show::{ShowError, show_archive, show_replica, show_report};
-use syn_world::{CoordinatorHost, SideHost, World};
+use syn_world::World;
 
 /// Prints the world: the report of each session that ended, in order, and then for `left`, `right`
 /// and `archive` that word and what its machine's image shows, or `down`.

@@ -8,9 +8,10 @@ use crate::messages::{came, ends_of, is_late, sent};
 use crate::start::formatted_world;
 use std::alloc::{AllocError, Global};
 use syn_disk::Disk;
+use syn_host::SimulatedDisk;
 use syn_play::{MOST_DRAINED, Player};
 use syn_script::{Line, Script};
-use syn_world::{Disks, SimulatedDisk, World};
+use syn_world::{Disks, World};
 
 /// The chart of what happens as `simulate` runs the script: a column for each machine, and a row for
 /// each step, message, record, report, stop and opening, in order of time.

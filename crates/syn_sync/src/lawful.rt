@@ -4,10 +4,10 @@ ghost use Rattle.syn_headline.specs.Side.{IsLawfulBody, IsPieceBytes};
 ghost use Rattle.syn_message.specs.Requests.{IsLawfulAsking, asking_of, request_of};
 ghost use Rattle.syn_model.specs.Path.{IsPath};
 
-use syn_message::{Asked, MAX_PIECE, Request};
+use syn_message::{Asked, LONGEST_PIECE, Request};
 use syn_path::Path;
 
-/// Whether the request can be sent: sessions count from 1, and a piece has 1 to `MAX_PIECE`
+/// Whether the request can be sent: sessions count from 1, and a piece has 1 to `LONGEST_PIECE`
 /// bytes. A coordinator sends no other.
 pub(crate) fn has_body(asked: &Asked) -> bool
     ensures { result ≡ true → IsLawfulAsking (asking_of asked.now) }
@@ -72,5 +72,5 @@ fn is_short(number: u32) -> bool
 fn is_piece(bytes: &[u8]) -> bool
     ensures { result ≡ true → IsPieceBytes bytes.now }
 {
-    !bytes.is_empty() && bytes.len() <= MAX_PIECE
+    !bytes.is_empty() && bytes.len() <= LONGEST_PIECE
 }

@@ -1,3 +1,5 @@
+//! A change of a tree, ready to be made. A replica takes all memory for it before it writes its
+//! journal.
 ghost use Rattle.std.specs.Prelude.{◌≡◌, IfOk, IfErr};
 ghost use Rattle.syn_model.specs.Tree.{absent, at_root};
 ghost use Rattle.syn_tree.specs.Contents.{content_of, IsLawful};

@@ -1,3 +1,4 @@
+//! What stands at a path of a tree: owned where it is put, and lent where it is found.
 ghost use Rattle.std.specs.Prelude.{◌≡◌, Some};
 ghost use Rattle.syn_model.specs.Tree.{is_directory_content};
 ghost use Rattle.syn_tree.specs.Contents.{found_content};

@@ -1,3 +1,4 @@
+//! The edits that a user may make. `Tree` says what each does, and why it is refused.
 use syn_path::Path;
 
 /// A change that a user makes at one path of a tree.

@@ -1,3 +1,5 @@
+//! What stands below a directory, lawful by its type but for the limits of a whole tree. A reader
+//! checks here what it has read.
 ghost use Rattle.std.specs.Prelude.{◌≡◌, true, length, IfSome, IfNone, IsTrue};
 ghost use Rattle.std.specs.FinMap.{entries};
 ghost use Rattle.syn_model.specs.Tree.{IsTree, empty_directory};

@@ -1,3 +1,4 @@
+//! A path with what stands there. A tree and a tree of marks are lists of such entries.
 ghost use Rattle.std.specs.Prelude.{◌≡◌, ◌++◌, IfOk, IfErr, Some};
 ghost use Rattle.syn_model.specs.Path.{IsPath};
 ghost use Rattle.syn_model.specs.Limits.{last_name_spelling_length, content_spelling_length};

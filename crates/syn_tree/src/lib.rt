@@ -21,5 +21,6 @@ pub use edit::Edit;
 pub use entries::Entries;
 pub use entry::{Entry, Placed, Standing};
 pub use error::TreeError;
+pub use measures::{LONGEST_FILE, LONGEST_SPELLING, MOST_CHILDREN};
 pub use node::Node;
 pub use tree::Tree;

@@ -14,13 +14,13 @@ use crate::list::{entry_at, part_at, replace_part};
 use syn_path::{Name, Path};
 
 /// The most bytes of the spelling of a replica's tree.
-pub(crate) const LONGEST_SPELLING: usize = 524_288;
+pub const LONGEST_SPELLING: usize = 524_288;
 
 /// The most entries of a directory.
-pub(crate) const MOST_CHILDREN: usize = 256;
+pub const MOST_CHILDREN: usize = 256;
 
 /// The most bytes of a file.
-pub(crate) const LONGEST_FILE: usize = 16_384;
+pub const LONGEST_FILE: usize = 16_384;
 
 /// What stands at the path of these names, of entries below a root directory.
 pub(crate) fn find<'a>(list: &'a [Entry], names: &[Name]) -> Option<Found<'a>>

@@ -1,3 +1,5 @@
+//! A whole tree, within the limits of a replica by its type, with the edits and replacements that
+//! change it.
 ghost use Rattle.std.specs.Prelude.{◌≡◌, ◌≢◌, ◌↔◌, ◌⊎◌, Err, ◌<◌, ◌^◌, ◌&&◌, ◌||◌, not, nat_le};
 ghost use Rattle.std.specs.Prelude.{nat_lt, count_by, ℕ, List, true, false, Some, None, length};
 ghost use Rattle.std.specs.Prelude.{filter, option_map, IfOk, IfErr, OnOk, OnErr};

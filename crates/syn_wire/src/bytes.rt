@@ -8,6 +8,9 @@ use crate::error::WireError;
 use crate::number::{read_u32, write_u32};
 use std::alloc::Global;
 
+/// The most bytes of a spelling that a session carries at a time.
+pub const LONGEST_PIECE: usize = 32_768;
+
 // The bytes behind their length, and the rest. Takes no memory, so that a length is believed only
 // once its bytes are seen.
 pub(crate) fn split_file(bytes: &[u8]) -> Option<(&[u8], &[u8])>

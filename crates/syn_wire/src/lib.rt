@@ -28,7 +28,7 @@ mod readable;
 mod tree;
 mod tree_reading;
 
-pub use bytes::{read_file, write_file};
+pub use bytes::{LONGEST_PIECE, read_file, write_file};
 pub use error::WireError;
 pub use event::{decode_event, edit_length, encode_edit, encode_event};
 pub use image::{Image, encode_image};

@@ -13,10 +13,7 @@ use crate::spelling_laws;
 use crate::tree::{ABSENT, DIRECTORY, FILE};
 use std::alloc::Global;
 use syn_path::Path;
-use syn_tree::{Entries, Node, Tree, TreeError};
-
-// The most bytes of a file.
-const LONGEST_FILE: usize = 16_384;
+use syn_tree::{Entries, LONGEST_FILE, Node, Tree, TreeError};
 
 /// The tree that the bytes begin with, and the rest; none where no front of them is the spelling of
 /// a tree within all limits of a replica.

@@ -1,7 +1,7 @@
 -- Laws of the program's commands as `clap` sees them.
-use Rattle.std.proofs.Common.{◌≡◌, ◌∙◌, List, [], Option, Some, None, option_map, is_some, true, false, true≢false, refl, sym, ap₂, subst, inl, inr}
+use Rattle.std.proofs.Common.{◌≡◌, ◌∙◌, ◌⊎◌, ◌↔◌, Bool, IsTrue, codes, List, [], Option, Some, None, option_map, is_some, true, false, true≢false, refl, sym, ap₂, subst, inl, inr}
 use Rattle.std.proofs.lemmas.Option.{none-some, same_Some}
-use Rattle.clap.specs.Words.{App, HasKind, HasMatchesOf, IsAmong, Kinds, Row, Text, fault_of, first_of, first_value, has_subcommand, is_simple, is_simple_and_free, kind_of, rows_of, subcommand_name_of, subcommand_of, subcommand_rows_of}
+use Rattle.clap.specs.Words.{App, HasKind, HasMatchesOf, IsAmong, Kinds, Row, Text, fault_of, first_of, first_value, has_subcommand, is_simple, is_simple_and_free, found_of, kind_of, matches_of, rows_of, subcommand_name_of, subcommand_of, subcommand_rows_of}
 use Rattle.clap.specs.declared.error.Error.{Error}
 use Rattle.clap.specs.declared.error.kind.ErrorKind.{ErrorKind}
 use Rattle.clap.specs.declared.error.kind.ErrorKind.TheVariants.{OutOfMemory}
@@ -10,7 +10,7 @@ use Rattle.clap.specs.declared.parser.matches.ArgMatches.TheViews.{out-ArgMatche
 use Rattle.clap.proofs.OnLiterals.{clap_on_literals}
 use Rattle.clap.proofs.WalkLemmas.{first_value-rows}
 use Rattle.syn_words.specs.App.{syn_app}
-use Rattle.syn_words.specs.Reads.{Asks, AsksHelp, IfUsage, IsMistake, IsRequest, IsValue, NothingReads, Reads, ReadsRows}
+use Rattle.syn_words.specs.Reads.{Asks, AsksHelp, AsksWhy, IfUsage, IsMistake, IsRequest, IsSet, IsSetIn, IsValue, NothingReads, Reads, ReadsRows}
 use Rattle.syn_words.specs.declared.error.LineError.{LineError}
 use Rattle.syn_words.specs.declared.error.LineError.TheVariants.{Usage, Value, Memory}
 use Rattle.syn_words.specs.declared.line.Line.{Line}
@@ -69,6 +69,22 @@ subcommand_is m app words name rows same matches named rowed =
     let P : App → Type 0 = λ a. HasMatchesOf a words m in
     let met = subst P same matches syn_is_simple in
     sym met.1 ∙ pair_found (out-ArgMatches m).subcommand _ _ name rows named rowed
+
+-- the values before the command, by what the matches have
+pub rows_are : (m : ArgMatches) (app : App) (words : List Text) → app ≡ syn_app → HasMatchesOf app words m
+    → rows_of (found_of m) ≡ matches_of syn_app words
+rows_are m app words same matches =
+    let P : App → Type 0 = λ a. HasMatchesOf a words m in (subst P same matches syn_is_simple).0
+
+-- a flag before the command or behind it, said of the words
+pub asks_why : (flag : Bool) (words : List Text) (top rows : List Row) (name : Text)
+    → top ≡ matches_of syn_app words → subcommand_of syn_app words ≡ Some (name, rows)
+    → (IsTrue flag ↔ (IsSet top (codes "verbose") ⊎ IsSet rows (codes "verbose"))) → IsTrue flag ↔ AsksWhy words
+asks_why flag words top rows name before behind is_set =
+    let P : List Row → Type 0 = λ r. IsTrue flag ↔ (IsSet r (codes "verbose") ⊎ IsSet rows (codes "verbose")) in
+    let Q : Option (Text × List Row) → Type 0 =
+    λ f. IsTrue flag ↔ (IsSet (matches_of syn_app words) (codes "verbose") ⊎ IsSetIn f (codes "verbose")) in
+    subst Q (sym behind) (subst P before is_set)
 
 -- where the getter gives none, the words name none
 pub subcommand_none : (m : ArgMatches) (app : App) (words : List Text) → app ≡ syn_app → HasMatchesOf app words m → false ≡ has_subcommand m

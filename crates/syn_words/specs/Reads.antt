@@ -2,7 +2,8 @@
 use Rattle.std.specs.Prelude.{◌≡◌, ◌≢◌, ◌⊎◌, ◌↔◌, ◌<◌, ◌^◌, ℕ, List, [], ◌∷◌, Option, Some, None}
 use Rattle.std.specs.Prelude.{IsTrue, codes}
 use Rattle.std.specs.Str.Parse.{IsNumeral, digits_value}
-use Rattle.clap.specs.Words.{IsAmong, Row, Text, fault_of, first_of, kind_of, subcommand_of}
+use Rattle.clap.specs.Words.{IsAmong, Row, Text, fault_of, first_of, kind_of, matches_of}
+use Rattle.clap.specs.Words.{subcommand_of}
 use Rattle.clap.specs.declared.error.Error.{Error}
 use Rattle.clap.specs.declared.error.kind.ErrorKind.TheVariants.{DisplayHelp, DisplayVersion}
 use Rattle.syn_words.specs.App.{syn_app}
@@ -158,6 +159,16 @@ pub record Asks (words : List Text) (line : Line) : Type 0 where
 abbrev pub AsksHelp : List Text → Type 0
 AsksHelp words = IsAmong DisplayHelp (fault_of syn_app words)
     ⊎ IsAmong DisplayVersion (fault_of syn_app words)
+
+-- the flag is used behind the command
+abbrev pub IsSetIn : Option (Text × List Row) → Text → Type 0
+IsSetIn None id = ⊥
+IsSetIn (Some found) id = IsSet found.1 id
+
+-- the words ask for an explanation, before the command or behind it
+abbrev pub AsksWhy : List Text → Type 0
+AsksWhy words = IsSet (matches_of syn_app words) (codes "verbose")
+    ⊎ IsSetIn (subcommand_of syn_app words) (codes "verbose")
 
 -- a value is wrong
 abbrev pub IsValue : LineError → Type 0

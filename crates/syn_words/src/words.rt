@@ -1,9 +1,9 @@
 //! Reads a command line by `clap`.
-ghost use Rattle.std.specs.Prelude.{◌≡◌, ◌≢◌, [], IfOk, IfErr, map};
+ghost use Rattle.std.specs.Prelude.{◌≡◌, ◌≢◌, ◌↔◌, ◌⊎◌, [], IfOk, IfErr, IsTrue, map, codes};
 ghost use Rattle.clap.specs.Words.{IsAmong, fault_of, found_of, kind_of, rows_of, subcommand_of};
 ghost use Rattle.syn_words.specs.App.{syn_app};
-ghost use Rattle.syn_words.specs.Reads.{Asks, AsksHelp, IfUsage, IfValue, IsMistake, IsRequest};
-ghost use Rattle.syn_words.specs.Reads.{IsValue, IsWrongValue, ReadsRows};
+ghost use Rattle.syn_words.specs.Reads.{Asks, AsksHelp, AsksWhy, IfUsage, IfValue, IsMistake};
+ghost use Rattle.syn_words.specs.Reads.{IsRequest, IsSet, IsValue, IsWrongValue, ReadsRows};
 ghost use Rattle.syn_words.specs.declared.line.Line.{Line};
 ghost use Rattle.syn_words.specs.inner.Lacking.{IsLackOf};
 
@@ -12,6 +12,7 @@ use crate::error::LineError;
 use crate::line::Asked;
 use crate::lines::line_of;
 use crate::value::ValueName;
+use crate::values::is_set;
 use crate::verb::read_verb;
 use clap::ArgMatches;
 use clap::error::ErrorKind;
@@ -23,6 +24,8 @@ use std::alloc::Global;
 /// its name. Refused memory is `Memory`.
 pub fn read_words<'a>(alloc: Global, words: &'a [&'a str]) -> Result<Asked<'a>, LineError>
     ensures ok { IfOk result (λ asked. Asks (map (λ word. word.now) words.entry.now) asked.line) }
+    ensures verbose { IfOk result (λ asked. IsTrue asked.is_verbose
+        ↔ AsksWhy (map (λ word. word.now) words.entry.now)) }
 
     // The help and the version are told only where the words ask for them.
     ensures asked { IfErr result (λ error. IsRequest error
@@ -54,8 +57,15 @@ pub fn read_words<'a>(alloc: Global, words: &'a [&'a str]) -> Result<Asked<'a>, 
     let Some((name, found)) = matches.subcommand() else {
         return Err(LineError::Value(ValueName::Command));
     };
-    let is_verbose = matches.get_flag("verbose") || found.get_flag("verbose");
-    asked_of(name, found, is_verbose)
+    asked_of(name, found, is_verbose(&matches, found))
+}
+
+/// Whether a refusal is to be explained: the flag may stand before the command or behind it.
+fn is_verbose(matches: &ArgMatches<'_>, found: &ArgMatches<'_>) -> bool
+    ensures { IsTrue result ↔ (IsSet (rows_of (found_of matches.now)) (codes "verbose")
+        ⊎ IsSet (rows_of (found_of found.now)) (codes "verbose")) }
+{
+    is_set(matches, "verbose") || is_set(found, "verbose")
 }
 
 /// What a parse that failed is told as.
@@ -78,6 +88,7 @@ fn asked_of<'a>(
 ) -> Result<Asked<'a>, LineError>
     ensures ok { IfOk result (λ asked.
         ReadsRows name.entry.now (rows_of (found_of found.now)) asked.line) }
+    ensures verbose { IfOk result (λ asked. asked.is_verbose ≡ is_verbose) }
     ensures lacks { IfErr result (IsLackOf name.entry.now (rows_of (found_of found.now))) }
 {
     let Some(verb) = read_verb(name) else {

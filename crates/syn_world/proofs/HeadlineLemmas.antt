@@ -10,21 +10,21 @@ use Rattle.syn_headline.specs.Headline.{stores_of}
 use Rattle.syn_headline.specs.Network.{Left, Right, Which}
 use Rattle.syn_headline.specs.SideMachine.{SideMachine}
 use Rattle.syn_headline.specs.World.{World as ModelWorld, Runs, Step, side_of}
+use Rattle.syn_host.specs.Coordinators.{IsCoordinator, archive_disk}
+use Rattle.syn_host.specs.Sides.{IsHost, side_disk}
+use Rattle.syn_host.specs.Starts.{IsFree}
+use Rattle.syn_host.specs.declared.coordinator.CoordinatorHost.{CoordinatorHost}
+use Rattle.syn_host.specs.declared.coordinator.CoordinatorHost.TheVariants as machine
+use Rattle.syn_host.specs.declared.side.SideHost.{SideHost}
+use Rattle.syn_host.specs.declared.side.SideHost.TheVariants as host
 use Rattle.syn_model.specs.Path.{Bytes}
 use Rattle.syn_recovery.specs.Headline.{Disks as Shown, Headline, IsCrashSafe, IsOpenedFrom}
 use Rattle.syn_recovery.specs.Headline.{MayBeLeft, disk_of}
 use Rattle.syn_recovery.specs.Machines.{of_archive, of_side}
 use Rattle.syn_recovery.specs.Meaning.{MayBeOf}
-use Rattle.syn_world.specs.Coordinators.{IsCoordinator}
-use Rattle.syn_world.specs.Headlines.{AreSafe, IsSafeRun, MayHold, Recovers, archive_disk, disks_of}
-use Rattle.syn_world.specs.Headlines.{side_disk}
-use Rattle.syn_world.specs.Openings.{ComeBack, IsFree, OpensFrom, StandFor, shown_on}
-use Rattle.syn_world.specs.Sides.{IsHost}
+use Rattle.syn_world.specs.Headlines.{AreSafe, IsSafeRun, MayHold, Recovers, disks_of}
+use Rattle.syn_world.specs.Openings.{ComeBack, OpensFrom, StandFor, shown_on}
 use Rattle.syn_world.specs.Worlds.{AreLeft, RunsMachines}
-use Rattle.syn_world.specs.declared.coordinator.CoordinatorHost.{CoordinatorHost}
-use Rattle.syn_world.specs.declared.coordinator.CoordinatorHost.TheVariants as machine
-use Rattle.syn_world.specs.declared.side.SideHost.{SideHost}
-use Rattle.syn_world.specs.declared.side.SideHost.TheVariants as host
 use Rattle.syn_world.specs.declared.world.Disks.{Disks}
 use Rattle.syn_world.specs.declared.world.World.{World}
 use Rattle.syn_world.proofs.PairLemmas.{run_keeps_pair}

@@ -10,6 +10,9 @@ use Rattle.syn_headline.specs.Coordinator.{Call}
 use Rattle.syn_headline.specs.Network.{Answers, Message, Which}
 use Rattle.syn_headline.specs.Report.{Report}
 use Rattle.syn_headline.specs.World.{World as ModelWorld, says}
+use Rattle.syn_host.specs.Outcomes.{Acknowledges, Tells, refused_in}
+use Rattle.syn_host.specs.declared.outcome.CoordinatorOutcome.{CoordinatorOutcome}
+use Rattle.syn_host.specs.declared.outcome.Outcome.{Outcome}
 use Rattle.syn_message.specs.Replies.{IsLawfulReply, reply_of}
 use Rattle.syn_message.specs.Sides.{which_of}
 use Rattle.syn_message.specs.declared.reply.Reply.{Reply}
@@ -23,12 +26,9 @@ use Rattle.syn_session.specs.Sendings.{messages_of}
 use Rattle.syn_session.specs.declared.sending.Sending.{Sending}
 use Rattle.syn_wire.specs.Marks.{kept_of}
 use Rattle.syn_wire.specs.declared.kept.Kept.{Kept}
-use Rattle.syn_world.specs.Outcomes.{Acknowledges, Tells, refused_in}
 use Rattle.syn_world.specs.Worlds.{CanBeSent, Goes, GrowsBy, Hears, IsListed, Notes, Takes}
 use Rattle.syn_world.specs.Worlds.{message_of, report_in, told_by, told_in, told_kept}
 use Rattle.syn_world.specs.declared.lists.Lists.{Lists}
-use Rattle.syn_world.specs.declared.outcome.CoordinatorOutcome.{CoordinatorOutcome}
-use Rattle.syn_world.specs.declared.outcome.Outcome.{Outcome}
 
 -- requests are no replies
 requests_can : (sends : List Sending) → All CanBeSent (messages_of sends)

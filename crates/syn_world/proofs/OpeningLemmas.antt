@@ -4,10 +4,16 @@ use Rattle.std.proofs.Common.{option_map, subst, sym}
 use Rattle.std.specs.Prelude.{Result}
 use Rattle.syn_disk.specs.declared.disk.Disk.{Ghosts}
 use Rattle.syn_headline.specs.Coordinator.{Call, CoordinatorMachine, no_call, with_archive}
-use Rattle.syn_headline.specs.Machine.{Down, Halted, Up}
+use Rattle.syn_headline.specs.Machine.{Down, Halted}
 use Rattle.syn_headline.specs.World.{World as ModelWorld, Coordinator, Open, Reopen, Step, Steps}
 use Rattle.syn_headline.specs.World.{fails_device, opens_archive, refuses_with}
 use Rattle.syn_headline.specs.World as model
+use Rattle.syn_host.specs.CoordinatorOpenings.{OpensDown, ReopensMachine, found_by, with_device}
+use Rattle.syn_host.specs.CoordinatorOpenings as step
+use Rattle.syn_host.specs.Coordinators.{IsCoordinator}
+use Rattle.syn_host.specs.Outcomes.{Tells, causes_in}
+use Rattle.syn_host.specs.declared.coordinator.open.CoordinatorOpening.{CoordinatorOpening}
+use Rattle.syn_host.specs.declared.outcome.CoordinatorOutcome.{CoordinatorOutcome}
 use Rattle.syn_model.specs.Archive.{Kept}
 use Rattle.syn_model.specs.Refusal.{Refusal, Device, Memory}
 use Rattle.syn_refusal.specs.declared.refusal.Refusal.{Refusal as Code}
@@ -15,13 +21,8 @@ use Rattle.syn_session.specs.Coordinators.{in_report}
 use Rattle.syn_session.specs.Reports.{report_model}
 use Rattle.syn_session.specs.Sendings.{messages_of}
 use Rattle.syn_wire.specs.declared.kept.Kept.{Kept as Record}
-use Rattle.syn_world.specs.CoordinatorOpenings.{OpensDown, ReopensMachine, found_by, with_device}
-use Rattle.syn_world.specs.CoordinatorOpenings as step
-use Rattle.syn_world.specs.Coordinators.{IsCoordinator}
-use Rattle.syn_world.specs.Outcomes.{Tells, TellsFound, causes_in}
 use Rattle.syn_world.specs.Worlds.{EndsSo, Goes, GoesSo, IsListed, IsWorld, RunsMachines}
-use Rattle.syn_world.specs.declared.coordinator.open.CoordinatorOpening.{CoordinatorOpening}
-use Rattle.syn_world.specs.declared.outcome.CoordinatorOutcome.{CoordinatorOutcome}
+use Rattle.syn_world.specs.Worlds.{TellsFound}
 use Rattle.syn_world.specs.declared.world.Disks.{Disks}
 use Rattle.syn_world.specs.declared.world.World.{World}
 use Rattle.syn_world.proofs.CoordinatorLemmas.{coordinator_is}

@@ -14,7 +14,7 @@ use Rattle.syn_headline.specs.World.{Step, Steps, Stop, Tick, Ticks, UnlessDown,
 use Rattle.syn_headline.specs.World.{answered_by, full_generation, generation_of, is_halted}
 use Rattle.syn_headline.specs.World.{refuses_with, set_device, set_side, side_of, status_of}
 use Rattle.syn_model.specs.Event.{Edited, Event}
-use Rattle.syn_model.specs.Refusal.{Cause, Device, Refusal}
+use Rattle.syn_model.specs.Refusal.{Cause, Device}
 
 abbrev SamePair : World → World → Type 0
 SamePair old new = new.pair ≡ old.pair

@@ -1,5 +1,5 @@
 -- A world that goes by steps, one after another.
-use Rattle.std.proofs.Common.{◌≡◌, ℕ, List, [], ◌∷◌, ◌++◌, Option, Some, None, Result, Ok, Err}
+use Rattle.std.proofs.Common.{◌≡◌, ℕ, List, [], ◌∷◌, ◌++◌, Option, Result, Ok, Err}
 use Rattle.std.proofs.Common.{refl, sym, ap, ◌∙◌, subst}
 use Rattle.std.specs.Prelude.{map, option_map, slice_get}
 use Rattle.std.proofs.lemmas.Option.{slice_get-map}
@@ -8,7 +8,7 @@ use Rattle.syn_disk.specs.declared.disk.Disk.{Ghosts}
 use Rattle.syn_headline.specs.Network.{Message as Sent}
 use Rattle.syn_headline.specs.World.{World as ModelWorld, Step, Steps, Runs}
 use Rattle.syn_world.specs.Runs.{EndsWithin, HasRun, StepsSo, no_memory, steps}
-use Rattle.syn_world.specs.Worlds.{AreLeft, GoesSo, IsWorld, StaysSo, message_of}
+use Rattle.syn_world.specs.Worlds.{AreLeft, StaysSo, message_of}
 use Rattle.syn_world.specs.declared.lists.Message.{Message}
 use Rattle.syn_world.specs.declared.world.Disks.{Disks}
 use Rattle.syn_world.specs.declared.world.World.{World}

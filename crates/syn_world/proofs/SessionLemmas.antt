@@ -13,14 +13,14 @@ use Rattle.syn_headline.specs.World.{World as ModelWorld, Checkpoint, Coordinato
 use Rattle.syn_headline.specs.World.{Start, Steps, Tick, Ticks, answered_by, compacts_archive}
 use Rattle.syn_headline.specs.World.{coordinator_goes, is_halted, refuses_with, starts, ticks}
 use Rattle.syn_headline.specs.World.{to_coordinator}
+use Rattle.syn_host.specs.CoordinatorSteps.{CallStep, CallsSo, Checkpoints, Starts, Unrefused}
+use Rattle.syn_host.specs.CoordinatorSteps as steps
+use Rattle.syn_host.specs.Outcomes.{Tells}
+use Rattle.syn_host.specs.SideSteps.{refused_by}
+use Rattle.syn_host.specs.declared.coordinator.CoordinatorCall.{CoordinatorCall}
 use Rattle.syn_model.specs.Refusal.{Refusal, Device}
-use Rattle.syn_world.specs.CoordinatorSteps.{CallStep, CallsSo, Checkpoints, Starts, Unrefused}
-use Rattle.syn_world.specs.CoordinatorSteps as steps
-use Rattle.syn_world.specs.Outcomes.{Tells}
-use Rattle.syn_world.specs.SideSteps.{refused_by}
 use Rattle.syn_world.specs.Worlds.{EndsSo, Goes, GoesSo, IsListed, IsWorld, RunsMachines}
 use Rattle.syn_headline.specs.World as model
-use Rattle.syn_world.specs.declared.coordinator.CoordinatorCall.{CoordinatorCall}
 use Rattle.syn_world.specs.declared.world.Disks.{Disks}
 use Rattle.syn_world.specs.declared.world.World.{World}
 

@@ -12,12 +12,12 @@ use Rattle.syn_headline.specs.World.{compacts_side, OpensDown, Reopens, answered
 use Rattle.syn_headline.specs.World.{opens_side, fails_device, refuses_with, set_device, set_side}
 use Rattle.syn_headline.specs.World.{side_goes, side_of, side_writes, status_of}
 use Rattle.syn_headline.specs.World as world
+use Rattle.syn_host.specs.SideSteps.{Answers, Checkpoints, Edits, Fails, Journal, OpensSide}
+use Rattle.syn_host.specs.SideSteps.{ReopensSide}
+use Rattle.syn_host.specs.SideSteps.{StopsSide, refused_by, stopped, with_arms, with_device}
+use Rattle.syn_host.specs.SideSteps as step
 use Rattle.syn_model.specs.Event.{Edit, Edited, Event}
 use Rattle.syn_model.specs.Refusal.{Refusal, Device}
-use Rattle.syn_world.specs.SideSteps.{Answers, Checkpoints, Edits, Fails, Journal, OpensSide}
-use Rattle.syn_world.specs.SideSteps.{ReopensSide}
-use Rattle.syn_world.specs.SideSteps.{StopsSide, refused_by, stopped, with_arms, with_device}
-use Rattle.syn_world.specs.SideSteps as step
 
 -- the world behind a side's step
 abbrev pub side_next : World → Which → SideMachine → List Message → List Event → List Refusal →

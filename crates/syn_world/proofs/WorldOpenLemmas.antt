@@ -6,6 +6,10 @@ use Rattle.syn_headline.specs.Acknowledged.{Stores}
 use Rattle.syn_headline.specs.Headline.{IsPair, stores_of}
 use Rattle.syn_headline.specs.Network.{Which, Left, Right}
 use Rattle.syn_headline.specs.World.{World as ModelWorld, side_of}
+use Rattle.syn_host.specs.Starts.{CanStart, StartsCoordinator, StartsSide}
+use Rattle.syn_host.specs.declared.coordinator.CoordinatorHost.TheVariants as machine
+use Rattle.syn_host.specs.declared.side.SideHost.TheVariants as host
+use Rattle.syn_host.specs.declared.side.UpSide.{UpSide}
 use Rattle.syn_model.specs.Archive.{Archive}
 use Rattle.syn_model.specs.History.{History}
 use Rattle.syn_refusal.specs.Refusals.{cause_of}
@@ -13,13 +17,9 @@ use Rattle.syn_recovery.specs.Headline.{disk_of}
 use Rattle.syn_recovery.specs.Machines.{of_archive, of_side}
 use Rattle.syn_recovery.specs.Meaning.{IsOf}
 use Rattle.syn_session.specs.declared.coordinator.Coordinator.{Coordinator}
-use Rattle.syn_world.specs.Openings.{CanStart, OpensFrom, StandFor, StartsCoordinator, StartsSide}
-use Rattle.syn_world.specs.Openings.{shown_on}
+use Rattle.syn_world.specs.Openings.{OpensFrom, StandFor, shown_on}
 use Rattle.syn_world.specs.Worlds.{message_of, report_in, told_in}
-use Rattle.syn_world.specs.declared.coordinator.CoordinatorHost.TheVariants as machine
 use Rattle.syn_world.specs.declared.lists.Lists.{Lists}
-use Rattle.syn_world.specs.declared.side.SideHost.TheVariants as host
-use Rattle.syn_world.specs.declared.side.UpSide.{UpSide}
 use Rattle.syn_world.specs.declared.world.Disks.{Disks}
 
 abbrev made : History → History → Archive → Stores

@@ -4,30 +4,18 @@ use Rattle.syn_disk.specs.declared.disk.Disk.{Ghosts}
 use Rattle.syn_headline.specs.Acknowledged.{Stores}
 use Rattle.syn_headline.specs.Headline.{stores_of}
 use Rattle.syn_headline.specs.World.{World as ModelWorld, Step, Runs}
+use Rattle.syn_host.specs.Coordinators.{archive_disk}
+use Rattle.syn_host.specs.Sides.{side_disk}
+use Rattle.syn_host.specs.Starts.{IsFromOutside}
 use Rattle.syn_model.specs.Path.{Bytes}
 use Rattle.syn_model.specs.Refusal as why
 use Rattle.syn_recovery.specs.Headline.{Disks as Shown, IsCrashSafe, IsOpenedFrom}
 use Rattle.syn_refusal.specs.Refusals.{cause_of}
 use Rattle.syn_refusal.specs.declared.refusal.Refusal.{Refusal}
-use Rattle.syn_replica.specs.Replica.{disk_of}
-use Rattle.syn_session.specs.Coordinators.{device_of}
-use Rattle.syn_world.specs.Openings.{ComeBack, IsFromOutside, OpensFrom, shown_on}
+use Rattle.syn_world.specs.Openings.{ComeBack, OpensFrom, shown_on}
 use Rattle.syn_world.specs.Worlds.{IsWorld}
-use Rattle.syn_world.specs.declared.coordinator.CoordinatorHost.{CoordinatorHost}
-use Rattle.syn_world.specs.declared.coordinator.CoordinatorHost.TheVariants as machine
-use Rattle.syn_world.specs.declared.side.SideHost.{SideHost}
-use Rattle.syn_world.specs.declared.side.SideHost.TheVariants as host
 use Rattle.syn_world.specs.declared.world.Disks.{Disks}
 use Rattle.syn_world.specs.declared.world.World.{World}
-
--- the disk of a machine, up or down
-abbrev pub side_disk : {D : Type 0} → {disk : Ghosts D} → SideHost D disk → D
-side_disk (host.Up side) = disk_of side.replica
-side_disk (host.Down side) = side.disk
-
-abbrev pub archive_disk : {D : Type 0} → {disk : Ghosts D} → CoordinatorHost D disk → D
-archive_disk (machine.Up coordinator) = device_of coordinator
-archive_disk (machine.Down rest) = rest.disk
 
 -- the three disks of a world
 abbrev pub disks_of : {D : Type 0} → {disk : Ghosts D} → World D disk → Disks D

@@ -1,9 +1,3 @@
-pub mod Outcomes
-pub mod SideSteps
-pub mod Sides
-pub mod Coordinators
-pub mod CoordinatorSteps
-pub mod CoordinatorOpenings
 pub mod Worlds
 pub mod Steps
 pub mod Runs

@@ -1,5 +1,4 @@
 -- Which of the model's steps a step is.
-use Rattle.std.specs.Prelude.{ℕ}
 use Rattle.syn_headline.specs.World as model
 use Rattle.syn_message.specs.Sides.{which_of}
 use Rattle.syn_tree.specs.Edits.{edit_of}

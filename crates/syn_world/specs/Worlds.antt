@@ -1,6 +1,6 @@
 -- Which of the model's worlds a world is.
 use Rattle.std.specs.Prelude.{◌≡◌, ◌++◌, ℕ, List, length, map, All, MatchResult, Result}
-use Rattle.std.specs.Prelude.{Option, option_map}
+use Rattle.std.specs.Prelude.{[], Option, None, option_map}
 use Rattle.syn_disk.specs.declared.disk.Disk.{Ghosts}
 use Rattle.syn_headline.specs.Acknowledged as model
 use Rattle.syn_headline.specs.Acknowledged.{Happened, Kept_by}
@@ -8,6 +8,11 @@ use Rattle.syn_headline.specs.Coordinator.{Call}
 use Rattle.syn_headline.specs.Network.{Which, Answers, Asks, Message as Sent}
 use Rattle.syn_headline.specs.Report.{Report as Reported}
 use Rattle.syn_headline.specs.World.{World as ModelWorld, Step, Steps, says}
+use Rattle.syn_host.specs.Coordinators.{IsCoordinator}
+use Rattle.syn_host.specs.Outcomes.{Acknowledges, causes_in, refused_in}
+use Rattle.syn_host.specs.Sides.{IsHost}
+use Rattle.syn_host.specs.declared.outcome.CoordinatorOutcome.{CoordinatorOutcome}
+use Rattle.syn_host.specs.declared.outcome.Outcome.{Outcome}
 use Rattle.syn_message.specs.Replies.{IsLawfulReply, reply_of}
 use Rattle.syn_message.specs.Sides.{which_of}
 use Rattle.syn_message.specs.declared.reply.Reply.{Reply}
@@ -20,22 +25,19 @@ use Rattle.syn_model.specs.Spelling.{event_spelling}
 use Rattle.syn_recovery.specs.Machines.{of_archive, of_side}
 use Rattle.syn_recovery.specs.Meaning.{MayBeOf}
 use Rattle.syn_refusal.specs.Refusals.{cause_of}
+use Rattle.syn_refusal.specs.declared.refusal.Refusal.{Refusal as Code}
 use Rattle.syn_session.specs.Coordinators.{in_report}
 use Rattle.syn_session.specs.Reports.{report_model}
 use Rattle.syn_session.specs.Sendings as sendings
+use Rattle.syn_session.specs.Tries.{listed}
 use Rattle.syn_session.specs.declared.report.Report.{Report}
 use Rattle.syn_wire.specs.Marks.{kept_of}
 use Rattle.syn_wire.specs.declared.kept.Kept.{Kept as KeptBy}
-use Rattle.syn_world.specs.Coordinators.{IsCoordinator}
-use Rattle.syn_world.specs.Outcomes.{Acknowledges, causes_in, refused_in}
-use Rattle.syn_world.specs.Sides.{IsHost}
 use Rattle.syn_world.specs.declared.lists.Ack.{Ack}
 use Rattle.syn_world.specs.declared.lists.Ack.TheVariants as acks
 use Rattle.syn_world.specs.declared.lists.Lists.{Lists}
 use Rattle.syn_world.specs.declared.lists.Message.{Message}
 use Rattle.syn_world.specs.declared.lists.Message.TheVariants as messages
-use Rattle.syn_world.specs.declared.outcome.CoordinatorOutcome.{CoordinatorOutcome}
-use Rattle.syn_world.specs.declared.outcome.Outcome.{Outcome}
 use Rattle.syn_world.specs.declared.world.Disks.{Disks}
 use Rattle.syn_world.specs.declared.world.World.{World}
 
@@ -155,6 +157,14 @@ pub record Takes (old new : Lists) (outcome : CoordinatorOutcome) : Type 0 where
       (in_report (option_map report_model outcome.ended))
   pub refusals : map cause_of new.refusals.items
       ≡ map cause_of old.refusals.items ++ causes_in outcome.refused
+
+-- an opening found this and was refused so, if it was, and nothing else came of it
+pub record TellsFound (outcome : CoordinatorOutcome) (found : Option KeptBy)
+    (refused : Option Code) : Type 0 where
+  pub kept : map kept_of outcome.kept.items ≡ listed (option_map kept_of found)
+  pub sent : outcome.sent.items ≡ []
+  pub ended : outcome.ended ≡ None
+  pub refused_is : outcome.refused ≡ refused
 
 -- the lists of a world behind a step of the coordinator
 pub record Goes (old new : ModelWorld) (made : Call) (refusals : List Refusal) : Type 0 where

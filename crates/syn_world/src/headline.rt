@@ -2,14 +2,15 @@
 ghost use Rattle.std.specs.Prelude.{◌<◌, ◌^◌, ℕ, IfErr, IfOk, map};
 ghost use Rattle.syn_headline.specs.Acknowledged.{Stores};
 ghost use Rattle.syn_headline.specs.World.{World as ModelWorld};
+ghost use Rattle.syn_host.specs.Starts.{IsFromOutside};
 ghost use Rattle.syn_world.specs.Headlines.{AreSafe, Recovers, RunsSafely};
-ghost use Rattle.syn_world.specs.Openings.{ComeBack, IsFromOutside, StandFor};
+ghost use Rattle.syn_world.specs.Openings.{ComeBack, StandFor};
 ghost use Rattle.syn_world.specs.Steps.{step_of};
 
-use crate::disk::SimulatedDisk;
 use crate::step::Step;
 use crate::world::{Disks, World};
 use std::alloc::Global;
+use syn_host::SimulatedDisk;
 use syn_recovery::headline;
 use syn_refusal::Refusal;
 

@@ -7,12 +7,9 @@ ghost use Rattle.syn_message.specs.Sides.{which_of};
 ghost use Rattle.syn_model.specs.Event.{Event};
 ghost use Rattle.syn_model.specs.Refusal.{Refusal as Cause};
 
-use crate::coordinator::CoordinatorHost;
-use crate::disk::SimulatedDisk;
 use crate::lists::Lists;
-use crate::outcome::{CoordinatorOutcome, Outcome};
-use crate::side::SideHost;
 use syn_disk::Disk;
+use syn_host::{CoordinatorHost, CoordinatorOutcome, Outcome, SideHost, SimulatedDisk};
 use syn_message::{Reply, Side};
 
 mod coordinators;
@@ -44,7 +41,7 @@ pub struct World<D: Disk> {
 
 impl<D: SimulatedDisk> World<D> {
     ghost use Rattle.syn_world.specs.Headlines.{disks_of};
-    ghost use Rattle.syn_world.specs.Outcomes.{Acknowledges, Tells, refused_in};
+    ghost use Rattle.syn_host.specs.Outcomes.{Acknowledges, Tells, refused_in};
     ghost use Rattle.syn_world.specs.Worlds.{AreLeft, EndsSo, Goes, Grows, GrowsBy, IsListed};
     ghost use Rattle.syn_world.specs.Worlds.{RunsMachines};
 

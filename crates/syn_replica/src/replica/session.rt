@@ -3,6 +3,7 @@ ghost use Rattle.std.specs.Prelude.{◌≡◌, ◌≢◌, ◌⊎◌, ◌↔◌, 
 ghost use Rattle.std.specs.Prelude.{IsErrAnd, MatchResult, Err, Ok, Some, true, false, take, drop};
 ghost use Rattle.syn_disk.specs.Calls.{Makes};
 ghost use Rattle.syn_disk.specs.Stops.{LeavesOnly};
+ghost use Rattle.syn_model.specs.Limits.{greatest_piece};
 ghost use Rattle.syn_model.specs.Event.{Began, Replaced};
 ghost use Rattle.syn_model.specs.History.{History, is_old_token, last_session, tree_of};
 ghost use Rattle.syn_model.specs.Refusal.{Refusal, Device, Memory, first_cause};
@@ -27,10 +28,7 @@ use syn_journal::JournalError;
 use syn_model::tree_laws;
 use syn_path::Path;
 use syn_tree::{Node, Tree};
-use syn_wire::encode_node;
-
-/// The most bytes of a piece.
-const LONGEST_PIECE: usize = 32_768;
+use syn_wire::{LONGEST_PIECE, encode_node};
 
 /// How many bytes spell the record of a session that begins.
 const BEGAN_LENGTH: usize = 9;
@@ -154,7 +152,7 @@ impl<D: Disk> Replica<D> {
         ensures piece { (history : History) → Stands self.now history
             → IfOk result (λ found. (found.bytes.items ≡ piece history path.now offset)
             × (found.total ≡ length (spelling (subtree (tree_of history) path.now)))) }
-        ensures short { IfOk result (λ found. length found.bytes.items ≤ 32768) }
+        ensures short { IfOk result (λ found. length found.bytes.items ≤ greatest_piece) }
 
         // Each refusal has its cause, and each cause its refusal: the first of them is answered.
         ensures cause { (history : History) → Stands self.now history
@@ -309,7 +307,7 @@ fn spelled_at(alloc: Global, tree: &Tree, path: &Path) -> Result<Vec<u8>, Replic
 
 /// The bytes from the offset on, the first of them where there are more than a piece has.
 fn cut(bytes: &[u8], offset: usize) -> &[u8]
-    ensures { result.now ≡ take LONGEST_PIECE (drop offset bytes.now) }
+    ensures { result.now ≡ take greatest_piece (drop offset bytes.now) }
 {
     if offset >= bytes.len() {
         return &[];

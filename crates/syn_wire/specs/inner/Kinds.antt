@@ -5,7 +5,7 @@ use Rattle.syn_model.specs.Path.{Bytes}
 use Rattle.syn_model.specs.Event.{AreBytes}
 use Rattle.syn_model.specs.Tree.{Tree, Content, File, contents_of, IsPart}
 use Rattle.syn_model.specs.Mark.{IsMarks}
-use Rattle.syn_model.specs.Limits.{fits_part}
+use Rattle.syn_model.specs.Limits.{fits_part, most_nodes}
 use Rattle.syn_model.specs.Spelling.{spelling}
 use Rattle.syn_model.specs.MarkSpelling.{mark_spelling}
 use Rattle.syn_wire.specs.Events.{IsFile, file_spelling}
@@ -32,7 +32,7 @@ IsFileOf OfMarks digest = AreBytes digest × (length digest ≡ 32)
 -- what may stand at a path of such a tree, within the limits there
 abbrev pub IsPartOf : Kind → Tree → Type 0
 IsPartOf OfContents t = IsPart t × (fits_part t ≡ true)
-IsPartOf OfMarks t = IsMarks t × (len t ≤ 4096)
+IsPartOf OfMarks t = IsMarks t × (len t ≤ most_nodes)
 
 -- what a reader found behind the kind of a file: the file, or that none is there
 abbrev pub IsFileRead : Kind → Bytes → Option (Content × Bytes) → Type 0

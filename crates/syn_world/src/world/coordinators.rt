@@ -3,8 +3,8 @@ ghost use Rattle.syn_headline.specs.World.{World as ModelWorld, Checkpoint, Coor
 ghost use Rattle.syn_headline.specs.World.{Fail, Stop};
 
 use super::{Disks, World};
-use crate::disk::SimulatedDisk;
 use std::alloc::Global;
+use syn_host::SimulatedDisk;
 
 impl<D: SimulatedDisk> World<D> {
     ghost use Rattle.syn_world.specs.Worlds.{GoesSo, IsWorld, StaysSo};

@@ -1,11 +1,10 @@
 //! A message is delivered.
-ghost use Rattle.std.specs.Prelude.{◌≡◌};
 ghost use Rattle.syn_headline.specs.World.{World as ModelWorld, Deliver};
 
 use super::{Disks, World};
-use crate::disk::SimulatedDisk;
 use crate::lists::Message;
 use std::alloc::Global;
+use syn_host::SimulatedDisk;
 
 impl<D: SimulatedDisk> World<D> {
     ghost use Rattle.syn_world.specs.Runs.{StepsSo};

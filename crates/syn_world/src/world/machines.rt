@@ -4,9 +4,9 @@ ghost use Rattle.syn_headline.specs.World.{Stop};
 ghost use Rattle.syn_world.specs.Steps.{machine_of};
 
 use super::{Disks, World};
-use crate::disk::SimulatedDisk;
 use crate::step::Machine;
 use std::alloc::Global;
+use syn_host::SimulatedDisk;
 
 impl<D: SimulatedDisk> World<D> {
     ghost use Rattle.syn_world.specs.Worlds.{GoesSo, IsWorld, StaysSo};

@@ -1,10 +1,13 @@
 //! The openings of the world's coordinator.
+ghost use Rattle.std.specs.Prelude.{IfSome};
 ghost use Rattle.syn_headline.specs.World.{World as ModelWorld, Coordinator, Open, Reopen};
+ghost use Rattle.syn_world.specs.Worlds.{TellsFound};
 
 use super::{Disks, World};
-use crate::disk::SimulatedDisk;
-use crate::outcome::CoordinatorOutcome;
 use std::alloc::Global;
+use syn_host::{CoordinatorOutcome, SimulatedDisk};
+use syn_refusal::Refusal;
+use syn_wire::Kept;
 
 impl<D: SimulatedDisk> World<D> {
     ghost use Rattle.syn_world.specs.Worlds.{GoesSo, IsWorld};
@@ -18,7 +21,7 @@ impl<D: SimulatedDisk> World<D> {
         let mut world = self;
         let opening = world.coordinator.open(alloc, world.pair);
         world.coordinator = opening.coordinator;
-        world.told(CoordinatorOutcome::opened_with(alloc, opening.found, opening.refused))
+        world.told(opened_with(alloc, opening.found, opening.refused))
     }
 
     /// The coordinator opens its own disk again, unless its machine is down. The record that was
@@ -30,6 +33,29 @@ impl<D: SimulatedDisk> World<D> {
         let mut world = self;
         let opening = world.coordinator.reopen(alloc);
         world.coordinator = opening.coordinator;
-        world.told(CoordinatorOutcome::opened_with(alloc, opening.found, opening.refused))
+        world.told(opened_with(alloc, opening.found, opening.refused))
     }
+}
+
+/// What came of an opening that found this record, or none, and was refused so, if it was. None
+/// where memory for it is refused.
+fn opened_with(
+    alloc: Global,
+    found: Option<Kept>,
+    refused: Option<Refusal>,
+) -> Option<CoordinatorOutcome>
+    ensures { IfSome result (λ outcome. TellsFound outcome found refused) }
+{
+    let mut kept = Vec::new(alloc);
+    if let Some(record) = found {
+        if kept.push(record).is_err() {
+            return None;
+        }
+    }
+    Some(CoordinatorOutcome {
+        kept,
+        sent: Vec::new(alloc),
+        ended: None,
+        refused,
+    })
 }

@@ -1,12 +1,12 @@
 //! A world goes by steps.
-ghost use Rattle.std.specs.Prelude.{◌≡◌, map};
+ghost use Rattle.std.specs.Prelude.{map};
 ghost use Rattle.syn_headline.specs.World.{World as ModelWorld};
 ghost use Rattle.syn_world.specs.Steps.{step_of};
 
 use super::{Disks, World};
-use crate::disk::SimulatedDisk;
 use crate::step::Step;
 use std::alloc::Global;
+use syn_host::SimulatedDisk;
 
 impl<D: SimulatedDisk> World<D> {
     ghost use Rattle.syn_world.specs.Runs.{RunsSo, StepsSo};

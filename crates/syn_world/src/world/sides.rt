@@ -9,9 +9,8 @@ ghost use Rattle.syn_message.specs.Sides.{which_of};
 ghost use Rattle.syn_tree.specs.Edits.{edit_of};
 
 use super::{Disks, World};
-use crate::disk::SimulatedDisk;
-use crate::side::SideAnswer;
 use std::alloc::Global;
+use syn_host::{SideAnswer, SimulatedDisk};
 use syn_message::{Request, Side};
 use syn_tree::Edit;
 

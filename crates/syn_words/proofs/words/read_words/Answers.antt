@@ -1,7 +1,8 @@
-use Rattle.std.proofs.Common.{map}
+use Rattle.std.proofs.Common.{◌↔◌, Bool, IsTrue, map, subst, sym}
 use Rattle.std.proofs.lemmas.Result.{IfOk-weaker, IfErr-weaker}
 use Rattle.clap.specs.Words.{found_of, rows_of}
-use Rattle.syn_words.proofs.LineLemmas.{is_asked, is_no_line, is_no_request, no_fault, nothing_read, reads_found, subcommand_is, subcommand_none, told_among}
+use Rattle.syn_words.proofs.LineLemmas.{asks_why, is_asked, is_no_line, is_no_request, no_fault, nothing_read, reads_found, rows_are, subcommand_is, subcommand_none, told_among}
+use Rattle.syn_words.specs.Reads.{AsksWhy}
 use Rattle.syn_words.proofs.WrongLemmas.{lack_nothing, lack_wrong, names_one}
 use Rattle.syn_words.proofs.words.read_words.Goals as goal
 
@@ -33,6 +34,18 @@ returns-clause-ok c =
       taken = no_fault _ _ c.in_ok-command.ensures c.in-Ok.ensures.kinds;
       reads = reads_found _ _ _ told.line found read;
     }) c.asked_of.ensures.ok
+
+pub returns-clause-verbose : goal.returns-clause-verbose
+returns-clause-verbose c =
+    let words = map (λ word. word.now) c.args.words.now in
+    let found =
+    subcommand_is c.in-Ok.matches _ words c.in-Some.name.now
+    (rows_of (found_of c.in-Some.found.now)) c.in_ok-command.ensures c.in-Ok.ensures.matches
+    c.in-Some.ensures.name c.in-Some.ensures.rows in
+    let before = rows_are c.in-Ok.matches _ words c.in_ok-command.ensures c.in-Ok.ensures.matches in
+    let P : Bool → Type 0 = λ flag. IsTrue flag ↔ AsksWhy words in
+    IfOk-weaker c.asked_of.result _ _ (λ told same.
+    subst P (sym same) (asks_why _ words _ _ _ before found c.is_verbose.ensures)) c.asked_of.ensures.verbose
 
 pub returns-clause-asked : goal.returns-clause-asked
 returns-clause-asked c =

@@ -1,5 +1,5 @@
 use Rattle.syn_headline.specs.World.{Checkpoint, Coordinator}
-use Rattle.syn_world.specs.CoordinatorSteps.{Checkpoints}
+use Rattle.syn_host.specs.CoordinatorSteps.{Checkpoints}
 use Rattle.syn_world.proofs.SessionLemmas.{goes_coordinator, lift_checkpoint}
 use Rattle.syn_world.proofs.world.World.checkpoint_coordinator.Goals as goal
 

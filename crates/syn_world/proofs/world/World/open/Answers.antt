@@ -1,6 +1,6 @@
 use Rattle.std.proofs.Common.{◌∙◌, Some, ap, inl, inr, refl, subst, sym}
+use Rattle.syn_host.specs.Starts.{CanStart, StartsCoordinator}
 use Rattle.syn_recovery.specs.Machines.{of_archive}
-use Rattle.syn_world.specs.Openings.{CanStart, StartsCoordinator}
 use Rattle.syn_world.proofs.WorldOpenLemmas.{archive_can, left_can, right_can, world_opens}
 use Rattle.syn_world.proofs.world.World.open.Goals as goal
 

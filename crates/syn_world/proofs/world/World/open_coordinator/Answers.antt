@@ -1,7 +1,7 @@
 use Rattle.std.proofs.Common.{subst, sym}
 use Rattle.syn_headline.specs.World.{Coordinator, Open}
-use Rattle.syn_world.specs.CoordinatorOpenings.{OpensSo}
-use Rattle.syn_world.specs.Coordinators.{IsCoordinator}
+use Rattle.syn_host.specs.CoordinatorOpenings.{OpensSo}
+use Rattle.syn_host.specs.Coordinators.{IsCoordinator}
 use Rattle.syn_world.proofs.OpeningLemmas.{goes_found, lift_open}
 use Rattle.syn_world.proofs.world.World.open_coordinator.Goals as goal
 

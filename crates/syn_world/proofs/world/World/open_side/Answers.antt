@@ -1,10 +1,10 @@
 use Rattle.std.proofs.Common.{[], subst, sym}
 use Rattle.syn_headline.specs.Network.{Left, Right}
 use Rattle.syn_headline.specs.World.{At, Open}
+use Rattle.syn_host.specs.Outcomes.{refused_in}
+use Rattle.syn_host.specs.Sides.{IsHost, OpensSo}
 use Rattle.syn_message.specs.Sides.{which_of}
-use Rattle.syn_world.specs.Outcomes.{refused_in}
 use Rattle.syn_world.specs.Worlds.{GoesSo}
-use Rattle.syn_world.specs.Sides.{IsHost, OpensSo}
 use Rattle.syn_world.proofs.StepLemmas.{lift_open, side_next}
 use Rattle.syn_world.proofs.WorldLemmas.{goes_left, goes_right}
 use Rattle.syn_world.proofs.world.World.open_side.Goals as goal

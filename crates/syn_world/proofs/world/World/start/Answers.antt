@@ -1,5 +1,5 @@
 use Rattle.syn_headline.specs.World.{Start}
-use Rattle.syn_world.specs.CoordinatorSteps.{Starts}
+use Rattle.syn_host.specs.CoordinatorSteps.{Starts}
 use Rattle.syn_world.proofs.SessionLemmas.{goes_coordinator, lift_start}
 use Rattle.syn_world.proofs.world.World.start.Goals as goal
 

@@ -1,0 +1,262 @@
+-- A call of a coordinator that was made is a step of its machine, and what came of it is told.
+use Rattle.std.proofs.Common.{◌≡◌, ◌≢◌, ◌∙◌, ℕ, List, [], None, Option, Some, IfSome, refl, sym}
+use Rattle.std.proofs.Common.{ap, map, option_map, subst}
+use Rattle.std.specs.Global.{Vec}
+use Rattle.syn_disk.specs.declared.disk.Disk.{Ghosts}
+use Rattle.syn_headline.specs.Coordinator.{Call, CoordinatorMachine, CoordinatorStarts}
+use Rattle.syn_headline.specs.Coordinator.{CoordinatorTicks, Keeps, archive_layout, cut_behind}
+use Rattle.syn_headline.specs.Coordinator.{gives_up, no_call, no_session, resends, running_after}
+use Rattle.syn_headline.specs.Coordinator.{start_breaks, writes}
+use Rattle.syn_headline.specs.Coordinator as walk
+use Rattle.syn_headline.specs.Machine.{Status, Down, Compacts, compacted, not_compacted, unarmed}
+use Rattle.syn_headline.specs.Machine.{Writes, idle, unwritten}
+use Rattle.syn_headline.specs.Machine as kinds
+use Rattle.syn_headline.specs.Network.{Message}
+use Rattle.syn_headline.specs.Report.{Report}
+use Rattle.syn_host.specs.Coordinators.{IsCoordinator}
+use Rattle.syn_host.specs.CoordinatorSteps.{CallStep, CallsSo, Checkpoints, IsToTell, Settles}
+use Rattle.syn_host.specs.CoordinatorSteps.{Starts, Unrefused, refuses_nothing}
+use Rattle.syn_host.specs.CoordinatorSteps as steps
+use Rattle.syn_host.specs.Outcomes.{Tells, TellsRefused, causes_in}
+use Rattle.syn_host.specs.SideSteps.{refused_by}
+use Rattle.syn_host.specs.declared.coordinator.CoordinatorCall.{CoordinatorCall}
+use Rattle.syn_host.specs.declared.coordinator.CoordinatorHost.{CoordinatorHost}
+use Rattle.syn_host.specs.declared.outcome.CoordinatorOutcome.{CoordinatorOutcome}
+use Rattle.syn_model.specs.Archive.{Kept}
+use Rattle.syn_model.specs.Refusal.{Refusal, first_cause}
+use Rattle.syn_refusal.specs.declared.refusal.Refusal.{Refusal as Refused}
+use Rattle.syn_session.specs.Coordinators.{Does, Stands, checkpoint_refusals, ended_in, goes_down}
+use Rattle.syn_session.specs.Coordinators.{goes_on, in_report, refusals_of, written}
+use Rattle.syn_session.specs.Coordinators.{Checkpoints as DoesCheckpoint}
+use Rattle.syn_session.specs.Coordinators.{checkpoints as does_checkpoint}
+use Rattle.syn_session.specs.Machines.{Journal}
+use Rattle.syn_session.specs.Reports.{report_model}
+use Rattle.syn_session.specs.Sendings.{messages_of}
+use Rattle.syn_session.specs.declared.coordinator.Coordinator.{Coordinator as Session}
+use Rattle.syn_session.specs.declared.sending.Sending.{Sending}
+use Rattle.syn_wire.specs.Marks.{kept_of}
+use Rattle.syn_wire.specs.declared.kept.Kept.{Kept as Record}
+use Rattle.syn_host.proofs.AnswerLemmas.{meets_down}
+use Rattle.syn_host.proofs.CoordinatorLemmas.{is_not_down}
+use Rattle.syn_host.proofs.SideLemmas.{up_not_down}
+
+-- a machine that a call left down: nothing is armed, no session runs, and nothing was said
+pub record IsCut (next : CoordinatorMachine) (made : Call) : Type 0 where
+  pub unarmed_is : next.journal.arms ≡ unarmed
+  pub idle : next.running ≡ None
+  pub silent : made.messages ≡ []
+  pub reportless : made.reports ≡ []
+
+-- a call that is cut wherever it leaves the machine down
+abbrev pub IsCutSo : (CoordinatorMachine → Call → Type 0) → Type 0
+IsCutSo Step = (next : CoordinatorMachine) (made : Call) → Step next made →
+    next.journal.status ≡ Down → IsCut next made
+
+-- what is told of one call is told of another that gives the same
+retell : (outcome : Option CoordinatorOutcome) (told made : Call) (refused refusals : List Refusal)
+    → told.kept ≡ made.kept → told.messages ≡ made.messages → told.reports ≡ made.reports
+    → refused ≡ refusals → IfSome outcome (λ o. Tells o told refused)
+    → IfSome outcome (λ o. Tells o made refusals)
+retell None told made refused refusals kept messages reports same tells = tells
+retell (Some o) told made refused refusals kept messages reports same tells = record {
+  kept = tells.kept ∙ kept;
+  sent = tells.sent ∙ messages;
+  reports = tells.reports ∙ reports;
+  refusals_are = tells.refusals_are ∙ same;
+}
+
+module _ {D : Type 0} {disk : Ghosts D} (old new : Session D disk) (pair : ℕ)
+    (Step : CoordinatorMachine → Call → Type 0) (told : Call)
+    (refusals_at : Status → List Refusal) (none : refusals_at Down ≡ [])
+    (call : CoordinatorCall D disk) (settles : Settles new told refusals_at call)
+    (cuts : IsCutSo Step)
+    (same : (next : CoordinatorMachine) (made : Call) → Step next made
+    → made.reports ≡ ended_in old new → made.reports ≡ told.reports)
+    (Whole : CallStep)
+    (lift : (next : CoordinatorMachine) (made : Call) → Step next made
+    → Whole next made (refusals_at next.journal.status)) where
+  pub does_call : Does old new pair Step told.kept told.messages → CallsSo pair Whole call
+  does_call (goes_on next made step now kept messages reports) =
+      let behind = settles.goes_on pair next now in
+      record {
+        next = next;
+        made = made;
+        refusals = refusals_at next.journal.status;
+        step = lift next made step;
+        tells = retell call.outcome told made _ _ (sym kept) (sym messages)
+            (sym (same next made step reports)) refl behind.0;
+        is = behind.1;
+      }
+  does_call (goes_down next made step stopped down leaves kept tried) =
+      let cut = cuts next made step down in
+      let behind = settles.stops stopped pair next (record {
+        down = down;
+        unarmed_is = cut.unarmed_is;
+        idle = cut.idle;
+        leaves = leaves;
+        tries = tried;
+      }) in
+      record {
+        next = next;
+        made = made;
+        refusals = refusals_at next.journal.status;
+        step = lift next made step;
+        tells = retell call.outcome (record no_call { kept = told.kept }) made _ _ (sym kept)
+            (sym cut.silent) (sym cut.reportless) (sym (ap refusals_at down ∙ none)) behind.0;
+        is = behind.1;
+      }
+
+-- Which calls are cut
+
+-- the journal that a checkpoint left down has nothing armed
+pub compacts_down : (pair : ℕ) (machine journal : Journal) → machine.status ≢ Down
+    → Compacts (archive_layout pair) machine journal → journal.status ≡ Down
+    → journal.arms ≡ unarmed
+compacts_down pair machine _ other (compacted arms meets) down = absurd (other down)
+compacts_down pair machine _ other (not_compacted status arms failed either meets) down =
+    meets_down machine.arms arms 6 failed status meets down
+
+-- and so has the one that a record left down
+writes_down : (pair : ℕ) (machine journal : Journal) (kept : Kept) (told : List Kept)
+    → machine.status ≢ Down → Writes (archive_layout pair) machine kept journal told
+    → journal.status ≡ Down → journal.arms ≡ unarmed
+writes_down pair machine _ kept _ other (idle is) down = absurd (other down)
+writes_down pair machine _ kept _ other (kinds.written arms is meets) down = absurd (other down)
+writes_down pair machine _ kept _ other (unwritten status arms failed is either meets) down =
+    meets_down machine.arms arms 4 failed status meets down
+
+pub keeps_down : (pair : ℕ) (machine journal : Journal) (kept : Kept) (told : List Kept)
+    → machine.status ≢ Down → Keeps pair machine kept journal told
+    → journal.status ≡ Down → journal.arms ≡ unarmed
+keeps_down pair machine journal kept told other (writes _ _ done) down =
+    writes_down pair machine journal kept told other done down
+keeps_down pair machine _ kept _ other (cut_behind fresh before stop) down = refl
+
+module _ (pair : ℕ) (machine : CoordinatorMachine)
+    (other : machine.journal.status ≢ Down) where
+  pub checkpoint_is_cut : IsCutSo (DoesCheckpoint pair machine)
+  checkpoint_is_cut _ _ (does_checkpoint journal compacts) down = record {
+    unarmed_is = compacts_down pair machine.journal journal other compacts down;
+    idle = ap (λ s. running_after s machine.running) down;
+    silent = refl;
+    reportless = refl;
+  }
+
+  pub start_is_cut : IsCutSo (CoordinatorStarts pair machine)
+  start_is_cut _ _ (walk.CoordinatorStarts.starts session journal is lawful keeps up) down =
+      absurd (up_not_down (sym up ∙ down))
+  start_is_cut _ _ (start_breaks session journal kept is keeps broke) down = record {
+    unarmed_is = keeps_down pair machine.journal journal _ kept other keeps down;
+    idle = refl;
+    silent = refl;
+    reportless = refl;
+  }
+
+  -- a start reports nothing
+  pub start_reports : (next : CoordinatorMachine) (made : Call)
+      → CoordinatorStarts pair machine next made → made.reports ≡ []
+  start_reports _ _ (walk.CoordinatorStarts.starts session journal is lawful keeps up) = refl
+  start_reports _ _ (start_breaks session journal kept is keeps broke) = refl
+
+  pub tick_is_cut : IsCutSo (CoordinatorTicks machine)
+  tick_is_cut _ _ (no_session none) down = absurd (other down)
+  tick_is_cut _ _ (resends running is not) down = absurd (other down)
+  tick_is_cut _ _ (gives_up running why is either) down = absurd (other down)
+
+-- What is gathered of a call is what is to be told of it
+pub gathered_tells : {D : Type 0} {disk : Ghosts D} (coordinator : Session D disk)
+    (outcome : Option CoordinatorOutcome) (kept : List Record) (sent : Vec Sending)
+    (ended : Option Report) (refused : Option Refused) (told : Call)
+    (refusals_at : Status → List Refusal)
+    → IfSome outcome (λ o. map kept_of o.kept.items ≡ map kept_of kept)
+    → IfSome outcome (λ o. o.sent ≡ sent)
+    → IfSome outcome (λ o. option_map report_model o.ended ≡ ended)
+    → IfSome outcome (λ o. o.refused ≡ refused)
+    → map kept_of kept ≡ told.kept → messages_of sent.items ≡ told.messages
+    → in_report ended ≡ told.reports
+    → ((pair : ℕ) (machine : CoordinatorMachine) → Stands coordinator pair machine
+    → causes_in refused ≡ refusals_at machine.journal.status)
+    → IfSome outcome (λ o. IsToTell coordinator o told refusals_at)
+gathered_tells coordinator None kept sent ended refused told refusals_at keeps sends ends refuses k
+    m r c = keeps
+gathered_tells coordinator (Some o) kept sent ended refused told refusals_at keeps sends ends
+    refuses k m r c = record {
+      kept = keeps ∙ k;
+      sent = ap (λ sends. messages_of sends.items) sends ∙ m;
+      reports = ap in_report ends ∙ r;
+      refusals = λ pair machine stands. ap causes_in refuses ∙ c pair machine stands;
+    }
+
+-- The calls
+
+module _ {D : Type 0} {disk : Ghosts D} (old new : Session D disk) (pair : ℕ)
+    (machine : CoordinatorMachine) (stands : Stands old pair machine)
+    (call : CoordinatorCall D disk) where
+  abbrev other : machine.journal.status ≢ Down
+  other = is_not_down pair old machine stands
+
+  pub checkpoint_call : Settles new no_call refused_by call
+      → first_cause (checkpoint_refusals machine) ≡ None
+      → Does old new pair (DoesCheckpoint pair machine) [] []
+      → CallsSo pair (Checkpoints pair machine) call
+  checkpoint_call settles none does =
+      does_call old new pair (DoesCheckpoint pair machine) no_call refused_by refl call settles
+      (checkpoint_is_cut pair machine other) same (Checkpoints pair machine) lift does
+    where
+      same : (next : CoordinatorMachine) (made : Call) → DoesCheckpoint pair machine next made
+          → made.reports ≡ ended_in old new → made.reports ≡ []
+      same _ _ (does_checkpoint journal compacts) is = refl
+
+      lift : (next : CoordinatorMachine) (made : Call) → DoesCheckpoint pair machine next made
+          → Checkpoints pair machine next made (refused_by next.journal.status)
+      lift _ _ (does_checkpoint journal compacts) =
+          steps.Checkpoints.checkpoints journal other none compacts
+
+  pub start_call : (messages : List Message)
+      → Settles new (record no_call { kept = written new; messages = messages }) refused_by call
+      → first_cause (refusals_of pair machine) ≡ None
+      → Does old new pair (CoordinatorStarts pair machine) (written new) messages
+      → CallsSo pair (Starts pair machine) call
+  start_call messages settles none does =
+      does_call old new pair (CoordinatorStarts pair machine)
+      (record no_call { kept = written new; messages = messages }) refused_by refl call settles
+      (start_is_cut pair machine other)
+      (λ next made step is. start_reports pair machine other next made step) (Starts pair machine)
+      (λ next made step. steps.Starts.starts next made other none step) does
+
+  pub tick_call : (messages : List Message)
+      → Settles new (record no_call { messages = messages; reports = ended_in old new })
+      refuses_nothing call
+      → Does old new pair (CoordinatorTicks machine) [] messages
+      → CallsSo pair (Unrefused (CoordinatorTicks machine)) call
+  tick_call messages settles does =
+      does_call old new pair (CoordinatorTicks machine)
+      (record no_call { messages = messages; reports = ended_in old new }) refuses_nothing refl
+      call settles (tick_is_cut pair machine other) (λ next made step is. is)
+      (Unrefused (CoordinatorTicks machine))
+      (λ next made step. record { step = step; none = refl }) does
+
+-- A call that was not made
+pub refused_call : {D : Type 0} {disk : Ghosts D} (pair : ℕ) (machine : CoordinatorMachine)
+    (was : CoordinatorHost D disk) (call : CoordinatorCall D disk) (refused : Option Refused)
+    (refusals : List Refusal) (Whole : CallStep) → IsCoordinator pair was machine
+    → call.coordinator ≡ was → IfSome call.outcome (λ told. TellsRefused told refused)
+    → causes_in refused ≡ refusals → Whole machine no_call refusals → CallsSo pair Whole call
+refused_call pair machine was call refused refusals Whole is same told causes step = record {
+  next = machine;
+  made = no_call;
+  refusals = refusals;
+  step = step;
+  tells = by call.outcome told;
+  is = subst (λ host. IsCoordinator pair host machine) (sym same) is;
+}
+  where
+    by : (outcome : Option CoordinatorOutcome) → IfSome outcome (λ o. TellsRefused o refused)
+        → IfSome outcome (λ o. Tells o no_call refusals)
+    by None tells = tells
+    by (Some o) tells = record {
+      kept = ap (map kept_of) tells.kept;
+      sent = ap messages_of tells.sent;
+      reports = ap (λ r. in_report (option_map report_model r)) tells.ended;
+      refusals_are = ap causes_in tells.refused_is ∙ causes;
+    }

@@ -1,0 +1,107 @@
+-- What is armed at a coordinator, and a stop of it, are steps of its machine.
+use Rattle.std.proofs.Common.{◌≡◌, ◌≢◌, ◌∙◌, ℕ, None, Option, Some, inl, inr, refl, sym, ap}
+use Rattle.syn_disk.specs.declared.disk.Disk.{Ghosts}
+use Rattle.syn_headline.specs.Coordinator.{CoordinatorMachine, running_after, with_archive}
+use Rattle.syn_headline.specs.Machine.{Status, Up, Halted, Down, Arms, after_device, unarmed}
+use Rattle.syn_headline.specs.Session.{Running}
+use Rattle.syn_host.specs.Coordinators.{with_device_arms}
+use Rattle.syn_model.specs.Path.{Bytes}
+use Rattle.syn_recovery.specs.Machines.{of_archive}
+use Rattle.syn_recovery.specs.Meaning.{MayBeOf, MayMean, as_kept, compacted, with_record}
+use Rattle.syn_journal.specs.Layout.{Value}
+use Rattle.syn_session.specs.Coordinators.{Stands, with_arms}
+use Rattle.syn_session.specs.Machines.{Journal}
+use Rattle.syn_session.specs.Tries.{Tries}
+use Rattle.syn_session.specs.declared.tried.Tried.{Tried}
+use Rattle.syn_session.specs.declared.coordinator.Coordinator.{Coordinator as Session}
+use Rattle.syn_host.proofs.SideLemmas.{halted_not_down, up_not_down}
+
+-- device calls that write nothing leave what may be the machine's
+pub archive_still : (pair : ℕ) (machine : Journal) (status : Status) (arms : Arms) (failed : ℕ)
+    (bytes : Bytes) → MayBeOf (of_archive pair) machine bytes
+    → MayBeOf (of_archive pair) (after_device machine status arms failed) bytes
+archive_still pair machine status arms failed bytes may = record {
+  value = may.value;
+  generation = may.generation;
+  journal = may.journal;
+  means = still may.means;
+}
+  where
+    still : {value : Value} {generation : ℕ}
+        → MayMean (of_archive pair) machine value generation
+        → MayMean (of_archive pair) (after_device machine status arms failed) value generation
+    still (as_kept m) = as_kept (record {
+      stands = m.stands;
+      room = m.room;
+      numbered = m.numbered;
+    })
+    still (with_record m) = with_record (record {
+      added = m.added;
+      writing = m.writing;
+      can_add = m.can_add;
+      stands = m.stands;
+      room = m.room;
+      numbered = m.numbered;
+    })
+    still (compacted m) = compacted (record {
+      compacting = m.compacting;
+      stands = m.stands;
+      alone = m.alone;
+      numbered = m.numbered;
+    })
+
+down_not_up : Down ≢ Up
+down_not_up e = up_not_down (sym e)
+
+-- what was tried is remembered as its machine stops
+pub tries_stopped : (pair : ℕ) (tried : Option Tried) (machine : Journal)
+    → Tries pair tried machine → Tries pair tried (after_device machine Down unarmed 0)
+tries_stopped pair None machine tries = tries
+tries_stopped pair (Some tried) machine tries = record {
+  stopped = down_not_up;
+  left = tries.left;
+  room_is = tries.room_is;
+  as_left = tries.as_left;
+  writing = λ kept is. let was = tries.writing kept is in record {
+    kept_is = was.kept_is;
+    left_is = was.left_is;
+    generation_is = was.generation_is;
+    fits = was.fits;
+  };
+}
+
+-- a machine that runs no session runs none behind an opening
+pub with_journal_alone : (machine : CoordinatorMachine) (journal : Journal)
+    → machine.running ≡ None
+    → record { journal = journal; running = None } ≡ with_archive machine journal
+with_journal_alone machine journal idle =
+    ap (λ r. record { journal = journal; running = r })
+    (sym (ap (λ r. running_after journal.status r) idle ∙ none_runs journal.status))
+  where
+    none_runs : (status : Status) → running_after status None ≡ None
+    none_runs Up = refl
+    none_runs Halted = refl
+    none_runs Down = refl
+
+module _ {D : Type 0} {disk : Ghosts D} (pair : ℕ) (coordinator : Session D disk)
+    (machine : CoordinatorMachine) (stands : Stands coordinator pair machine) where
+  pub is_not_down : machine.journal.status ≢ Down
+  is_not_down down = elim stands.journal.state [
+    | inl was ↦ up_not_down (sym was.up ∙ down)
+    | inr failed ↦ halted_not_down (sym failed.halted ∙ down)
+  ]
+
+still_runs : (status : Status) (running : Option Running) → status ≢ Down
+    → running ≡ running_after status running
+still_runs Up running other = refl
+still_runs Halted running other = refl
+still_runs Down running other = absurd (other refl)
+
+-- a machine that is not down keeps its session as its device is armed
+pub same_arms : (machine : CoordinatorMachine) (arms : Arms) → machine.journal.status ≢ Down
+    → with_arms machine arms ≡ with_device_arms machine arms
+same_arms machine arms other =
+    ap (λ r. record {
+      journal = after_device machine.journal machine.journal.status arms 0;
+      running = r;
+    }) (still_runs machine.journal.status machine.running other)

@@ -1,0 +1,15 @@
+mod CauseLemmas
+mod SideLemmas
+mod EditLemmas
+mod CheckpointLemmas
+mod ArmLemmas
+mod AnswerLemmas
+mod OpenLemmas
+mod ReopenLemmas
+mod HostLemmas
+mod CoordinatorLemmas
+mod CallLemmas
+mod ReplyLemmas
+mod CoordinatorOpenLemmas
+mod CoordinatorReopenLemmas
+mod StartLemmas

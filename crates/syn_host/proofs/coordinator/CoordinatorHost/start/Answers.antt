@@ -1,0 +1,17 @@
+use Rattle.std.proofs.Common.{refl, subst}
+use Rattle.syn_host.specs.Coordinators.{IsCoordinator}
+use Rattle.syn_host.specs.CoordinatorSteps.{Starts}
+use Rattle.syn_host.specs.CoordinatorSteps as steps
+use Rattle.syn_host.proofs.CallLemmas.{refused_call}
+use Rattle.syn_host.proofs.coordinator.CoordinatorHost.start.Goals as goal
+
+pub returns-in-Up : goal.returns-in-Up
+returns-in-Up g c pair machine is =
+    c.begin.ensures pair machine (subst (λ s. IsCoordinator pair s machine) c.in-Up.is is)
+
+pub returns-in-Down : goal.returns-in-Down
+returns-in-Down g c pair machine is =
+    let rests = subst (λ s. IsCoordinator pair s machine) c.in-Down.is is in
+    refused_call pair machine _ c.refused.result _ _ (Starts pair machine) rests
+    c.refused.ensures.coordinator c.refused.ensures.outcome refl
+    (steps.Starts.is_down rests.down)

@@ -1,0 +1,39 @@
+use Rattle.std.proofs.Common.{◌∙◌, ◌<◌, arith, sym, subst, inl, inr}
+use Rattle.std.specs.Prelude.{◌^◌, option_map}
+use Rattle.syn_host.specs.Sides.{Gains}
+use Rattle.syn_replica.specs.Refusals.{AfterReads}
+use Rattle.syn_host.proofs.CauseLemmas.{device_is, memory_not_device, reads_made}
+use Rattle.syn_host.proofs.OpenLemmas.{open_failed, open_ok, open_refused, some_stands}
+use Rattle.syn_host.proofs.side.DownSide.open.Goals as goal
+
+pub returns-in-Ok : goal.returns-in-Ok
+returns-in-Ok g c machine rests =
+    let fits : c.args.pair < 2 ^ 64 = omega arith in
+    let tried = option_map (λ spelled. spelled.items) c.args.self.tried in
+    open_ok g.D.Disk c.args.pair c.args.self machine rests g.met.D.Disk.seen_may_stay
+    c.device_laws.ensures.reads c.in-Ok.replica c.new-agent.result c.gained-outcome.result tried
+    rests.tries fits c.in-Ok.ensures.untouched c.in-Ok.ensures.each c.new-agent.ensures
+    (c.machine_laws.ensures.up c.args.pair)
+    (subst (λ n. Gains c.gained-outcome.result c.args.self.position n tried) c.position.ensures
+    c.gained-outcome.ensures) c.opening_laws.ensures.sides c.in-Ok.ensures.calls
+
+pub returns-in-Err : goal.returns-in-Err
+returns-in-Err g c machine rests =
+    let fits : c.args.pair < 2 ^ 64 = omega arith in
+    let bytes = g.D.Disk.seen c.args.self.disk in
+    let found = some_stands c.args.pair machine.journal bytes
+    (rests.leaves bytes (g.met.D.Disk.seen_may_stay c.args.self.disk)) in
+    elim (c.disk_laws.ensures c.args.pair bytes found.0 c.in-Err.error fits found.1
+    c.in-Err.ensures.refusals) [
+      | inl device ↦ open_failed g.D.Disk c.args.pair c.args.self machine rests
+          g.met.D.Disk.seen_may_stay c.device_laws.ensures.reads c.in-Err.disk
+          c.in-Err.ensures.untouched c.refusal.result (c.refusal.ensures ∙ device)
+          c.device_laws.ensures.broken (subst (λ e. AfterReads 1 e
+          (g.D.Disk.arms c.args.self.disk) (g.D.Disk.arms c.in-Err.disk))
+          (device_is c.in-Err.error device) c.in-Err.ensures.calls)
+      | inr memory ↦ open_refused g.D.Disk c.args.pair c.args.self machine rests
+          g.met.D.Disk.seen_may_stay c.device_laws.ensures.reads c.in-Err.disk
+          c.in-Err.ensures.untouched c.refusal.result (c.refusal.ensures ∙ memory)
+          (reads_made c.in-Err.error 1 _ _ (λ device. memory_not_device (sym memory ∙ device))
+          c.in-Err.ensures.calls)
+    ]

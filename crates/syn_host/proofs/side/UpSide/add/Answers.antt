@@ -1,0 +1,88 @@
+use Rattle.std.proofs.Common.{◌≡◌, ◌⊎◌, ◌∙◌, ◌-◌, Some, ap, arith, inl, inr, refl, subst, sym}
+use Rattle.std.proofs.Common.{[], ◌∷◌}
+use Rattle.syn_headline.specs.SideMachine.{causes_of}
+use Rattle.syn_host.specs.Sides.{EditsSo}
+use Rattle.syn_model.specs.Refusal.{Refusal, first_cause}
+use Rattle.syn_model.specs.Refusal as why
+use Rattle.syn_replica.specs.Edits.{event_by}
+use Rattle.syn_replica.specs.Refusals.{MakesIfDevice, refusal_of}
+use Rattle.syn_replica.specs.Replica.{Stands, disk_of, left_shown, room_shown}
+use Rattle.syn_replica.specs.Steps.{add_refusal}
+use Rattle.syn_tree.specs.Edits.{edit_of}
+use Rattle.syn_host.proofs.CauseLemmas.{causes_are, causes_none, causes_some, device_is, never_device}
+use Rattle.syn_host.proofs.CauseLemmas.{no_calls, none_of, outside, reason_is}
+use Rattle.syn_host.proofs.EditLemmas.{edit_failed, edit_ok, edit_refused}
+use Rattle.syn_host.proofs.SideLemmas.{position_is, when_up}
+use Rattle.syn_host.proofs.side.UpSide.add.Goals as goal
+
+pub returns-in-Ok : goal.returns-in-Ok
+returns-in-Ok g c pair machine runs =
+    let old = c.args.self.replica in
+    let event = event_by c.args.user c.args.edit in
+    let is_up = when_up pair c.args.self machine runs c.requires.running in
+    let room_is : room_shown old ≡ left_shown old - 5 = omega arith in
+    let same = causes_are pair (room_shown old) (left_shown old) c.args.user
+    (edit_of c.args.edit) machine room_is (runs.is.room is_up.0) in
+    let none = causes_none machine (causes_of pair machine event) is_up.0 (sym same
+    ∙ none_of (add_refusal (room_shown old) machine.journal.value event)
+    (λ why some. absurd (c.in-Ok.ensures.refused machine.journal.value why is_up.1 some))) in
+    edit_ok pair old c.edit.new.self c.args.self.agent machine event runs is_up.0
+    c.requires.lawful c.settle_added.result _
+    (c.position-position.ensures ∙ position_is pair c.args.self machine runs)
+    g.met.D.Disk.counts_now c.machine_laws.ensures.written
+    (c.in-Ok.ensures.any_moment machine.journal.value is_up.1) c.in-Ok.ensures.tried
+    c.settle_added.ensures none (c.machine_laws.ensures.up pair)
+    (c.in-Ok.ensures.acknowledged machine.journal.value is_up.1).1 c.in-Ok.ensures.record
+    c.device_laws.ensures.made c.in-Ok.ensures.calls
+
+pub returns-in-Err : goal.returns-in-Err
+returns-in-Err g c pair machine runs =
+    let old = c.args.self.replica in
+    let event = event_by c.args.user c.args.edit in
+    let value = machine.journal.value in
+    let e = c.in-Err.error in
+    let is_up = when_up pair c.args.self machine runs c.requires.running in
+    let room_is : room_shown old ≡ left_shown old - 5 = omega arith in
+    let same = causes_are pair (room_shown old) (left_shown old) c.args.user
+    (edit_of c.args.edit) machine room_is (runs.is.room is_up.0) in
+    let position_now = c.position-position.ensures ∙ position_is pair c.args.self machine runs in
+    elim c.in-Err.ensures.tried as (λ _. EditsSo pair machine event c.settle.result) [
+      | inl device ↦
+          let none = causes_none machine (causes_of pair machine event) is_up.0 (sym same
+          ∙ none_of (add_refusal (room_shown old) value event)
+          (λ why some. never_device (room_shown old) value c.args.user (edit_of c.args.edit)
+          why some (sym (c.in-Err.ensures.refused value why is_up.1 some) ∙ device.0))) in
+          edit_failed pair old c.edit.new.self c.args.self.agent machine event runs is_up.0
+          c.requires.lawful c.settle.result _ position_now g.met.D.Disk.counts_now
+          c.machine_laws-in-Err.ensures.written
+          (c.in-Err.ensures.any_moment value is_up.1) device.1 _ c.settle.ensures
+          (ap (λ r. r ∷ []) (c.refusal.ensures ∙ device.0)) refl none
+          (c.in-Err.ensures.halts device.0) c.in-Err.ensures.readings
+          c.device_laws.ensures.broken
+          (subst (λ e. MakesIfDevice e 4 (g.D.Disk.arms (disk_of old))
+          (g.D.Disk.arms (disk_of c.edit.new.self))) (device_is e device.0)
+          c.in-Err.ensures.calls)
+      | inr other ↦
+          let stands : Stands c.edit.new.self value =
+          elim (c.in-Err.ensures.unchanged value is_up.1) [
+            | inl device ↦ absurd (other.0 device)
+            | inr stays ↦ stays
+          ] in
+          let either : (refusal_of e ≡ why.Memory)
+          ⊎ (first_cause (causes_of pair machine event) ≡ Some (refusal_of e)) =
+          elim (c.in-Err.ensures.cause value is_up.1) [
+            | inl out ↦ elim (outside e out) [
+              | inl memory ↦ inl memory
+              | inr device ↦ absurd (other.0 device)
+            ]
+            | inr some ↦ inr (sym same ∙ some)
+          ] in
+          let some = causes_some machine (causes_of pair machine event) is_up.0 (refusal_of e)
+          (reason_is (causes_of pair machine event) (refusal_of e)
+          (λ found is. c.in-Err.ensures.refused value found is_up.1 (same ∙ is)) either) in
+          edit_refused pair old c.edit.new.self c.args.self.agent machine runs is_up.0 stands
+          c.in-Err.ensures.readings other.1
+          (no_calls e 4 _ _ other.0 c.in-Err.ensures.calls) (c.machine_laws-in-Err.ensures.up pair)
+          event _ (refusal_of e) c.settle.result _ c.settle.ensures
+          (ap (λ r. r ∷ []) c.refusal.ensures) refl some
+    ]

@@ -1,0 +1,19 @@
+use Rattle.std.proofs.Common.{◌∙◌, inl, inr}
+use Rattle.syn_host.proofs.StartLemmas.{as_wanted, side_starts, stands_for}
+use Rattle.syn_host.proofs.side.start.start_side.Goals as goal
+
+pub returns-in-Ok-clause-starts : goal.returns-in-Ok-clause-starts
+returns-in-Ok-clause-starts g c number history fits can =
+    side_starts g.D.Disk number c.args.disk history fits can c.in-Ok.replica c.new-agent.result
+    c.in-Ok.ensures.untouched c.in-Ok.ensures.each c.device_laws.ensures.reads
+    c.in-Ok.ensures.calls c.new-agent.ensures (c.machine_laws.ensures.up number)
+
+pub returns-in-Err-clause-refused : goal.returns-in-Err-clause-refused
+returns-in-Err-clause-refused g c number history fits wanted can =
+    let bytes = g.D.Disk.seen c.args.disk in
+    elim (c.disk_laws.ensures number bytes history c.in-Err.error fits
+    (stands_for g.D.Disk number c.args.disk history fits can)
+    (as_wanted c.in-Err.error c.args.pair number bytes wanted c.in-Err.ensures.refusals)) [
+      | inl device ↦ inl (c.refusal.ensures ∙ device)
+      | inr memory ↦ inr (c.refusal.ensures ∙ memory)
+    ]
