@@ -25,12 +25,11 @@ pub use reply_reading::decode_reply;
 pub use request::{Asked, Request, encode_request};
 pub use request_reading::decode_request;
 pub use side::Side;
+pub use syn_wire::LONGEST_PIECE;
 pub use user::{AskedByUser, UserRequest, encode_user_request};
 pub use user_reading::decode_user_request;
 pub use user_reply::{AnsweredToUser, UserReply, encode_user_reply};
 pub use user_reply_reading::decode_user_reply;
-
-pub use syn_wire::LONGEST_PIECE;
 
 /// No two messages have one body, so what was written is read again.
 pub fn message_laws()

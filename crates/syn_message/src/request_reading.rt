@@ -11,7 +11,9 @@ use crate::head::read_head;
 use crate::kind::{BEGIN, FETCH, LIST, REPLACE, STAGE};
 use crate::request::{Asked, Request};
 use std::alloc::Global;
-use syn_wire::{LONGEST_PIECE, WireError, decode_path, read_file, read_u32, read_u64, spelling_laws};
+use syn_wire::{
+    LONGEST_PIECE, WireError, decode_path, read_file, read_u32, read_u64, spelling_laws,
+};
 
 /// The request that the body spells; none where it spells no request.
 ///
