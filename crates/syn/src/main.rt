@@ -12,21 +12,10 @@
 //! command, 3 where a session is incomplete and 4 where it is complete with conflicts.
 #![tactic(auto)]
 
-mod check;
 mod command;
-mod edit;
-mod error;
-mod failure;
 mod files;
 mod format;
-mod image;
-mod network;
-mod outcome;
-mod report;
-mod sessions;
-mod show;
 mod simulation;
-mod status;
 
 use command::command;
 use std::io::{self, BufWriter, IsTerminal};
