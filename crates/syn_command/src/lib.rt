@@ -1,8 +1,8 @@
-//! What a command does with a disk that is open, why it is refused, and the status that it ends with.
+//! What a command does with a disk, why it is refused, and the status that it ends with.
 //!
-//! An image on a disk is opened, made, shown and checked, and an edit of a replica is made as a line
-//! asks for it. How a command came out is told on standard error, and is the exit status. Which disk
-//! it is, is the caller's to say: nothing here opens a file or a connection.
+//! An image on a disk is opened, made, shown and checked, and an edit of a replica is made as a
+//! line asks for it. How a command came out is told on standard error, and is the exit status.
+//! Which disk it is, is the caller's to say: nothing here opens a file or a connection.
 #![tactic(auto)]
 
 mod check;

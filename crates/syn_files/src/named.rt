@@ -8,6 +8,7 @@ use syn_replica::Replica;
 
 /// Disks that have names.
 pub trait NamedDisks {
+    /// A disk that is open.
     type Disk: Disk + Drop + Send;
 
     /// The disk of that name, which no other process may open as long as this one has it.

@@ -52,9 +52,9 @@ where
 
 /// Asks the server at the address for the line's edit, and answers the new position.
 ///
-/// Refused as the server refuses it, and 9 where the address cannot be reached. Refused 9 also where
-/// the connection ends before the answer, or none comes in a minute: then the edit may have been
-/// made.
+/// Refused as the server refuses it, and 9 where the address cannot be reached. Refused 9 also
+/// where the connection ends before the answer, or none comes in a minute: then the edit may have
+/// been made.
 pub fn edit_served<H: Net<Stream = TcpStream>, I: Read>(
     rt: &H,
     alloc: Global,
