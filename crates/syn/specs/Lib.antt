@@ -1,7 +1,1 @@
-pub mod Asked
-pub mod Errors
-pub mod Images
-pub mod Printed
-pub mod Shown
 pub mod Simulated
-pub mod Status

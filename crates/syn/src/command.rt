@@ -1,24 +1,11 @@
 //! Carries out a command.
-ghost use Rattle.std.specs.Prelude.{◌≡◌, ◌≢◌, ◌⊎◌, map, IfOk, IsErrAnd};
-ghost use Rattle.syn_path.specs.Paths.{NamesPath};
-ghost use Rattle.syn_model.specs.Path.{Path as ModelPath};
-ghost use Rattle.syn.specs.Errors.{IsOfPath};
+ghost use Rattle.std.specs.Prelude.{◌≡◌, ◌≢◌, ◌⊎◌, map, IfOk};
 ghost use Rattle.syn_words.specs.Reads.{Asks, AsksHelp, IsMistake, IsRequest};
 ghost use Rattle.syn_words.specs.declared.line.Line.{Line};
 
-use crate::check::check_image;
-use crate::edit::make_edit;
-use crate::error::CommandError;
-use crate::failure::Failure;
-use crate::files::{image_in, replica_in, replica_to_read};
+use crate::files::DisksInFiles;
 use crate::format::format;
-use crate::network::{edit_served, serve_file, show_served};
-use crate::outcome::Outcome;
-use crate::report::{print_meanings, report};
-use crate::sessions::{Between, Telling, run_session};
-use crate::show::{show_image, show_path};
 use crate::simulation::{run_script, trace_script};
-use crate::status::Status;
 use clap::error::ErrorKind;
 use std::alloc::Global;
 use std::fs::Files;
@@ -27,9 +14,12 @@ use std::net::{Net, TcpListener, TcpStream};
 use std::sync::Wait;
 use std::thread::Threads;
 use std::time::Clock;
+use syn_command::{CommandError, Failure, Outcome, Status, print_meanings, report};
 use syn_disk::HostFile;
-use syn_path::Path;
-use syn_words::{Asked, EditLine, Line, LineError, Place, read_words};
+use syn_files::{
+    Between, Telling, edit, print_image, print_numbers, run_session, serve_named, show,
+};
+use syn_words::{Asked, Line, LineError, read_words};
 
 /// Carries out what the words ask for, of which the first is the program's own name. What is asked
 /// for goes to `output`, and why it is refused to `errors`, with what is told of a session. Whether
@@ -64,7 +54,17 @@ where
         Ok(asked) => asked,
         Err(error) => return tell(&error, output, errors),
     };
-    let answer = carry_out(rt, alloc, &asked, files, input, output, errors, is_terminal);
+    let disks = DisksInFiles(files);
+    let answer = carry_out(
+        rt,
+        alloc,
+        &asked,
+        &disks,
+        input,
+        output,
+        errors,
+        is_terminal,
+    );
     if asked.is_verbose {
         report(Some(&asked.line), &answer, errors)
     } else {
@@ -111,7 +111,7 @@ fn carry_out<H, F, I, O, E>(
     rt: &H,
     alloc: Global,
     asked: &Asked<'_>,
-    files: &F,
+    disks: &DisksInFiles<'_, F>,
     input: &mut I,
     output: &mut O,
     errors: &mut E,
@@ -134,18 +134,18 @@ where
             right,
         } => {
             let between = Between::Servers { left, right };
-            run_session(rt, alloc, files, between, archive, telling, output, errors)?
+            run_session(rt, alloc, disks, between, archive, telling, output, errors)?
         }
         Line::Run {
             left,
             right,
             archive,
         } => {
-            let between = Between::Files { left, right };
-            run_session(rt, alloc, files, between, archive, telling, output, errors)?
+            let between = Between::Named { left, right };
+            run_session(rt, alloc, disks, between, archive, telling, output, errors)?
         }
         _ => {
-            carry_out_one(rt, alloc, &asked.line, files, input, output)?;
+            carry_out_one(rt, alloc, &asked.line, disks, input, output)?;
             Outcome::Done
         }
     };
@@ -167,7 +167,7 @@ fn carry_out_one<H, F, I, O>(
     rt: &H,
     alloc: Global,
     line: &Line<'_>,
-    files: &F,
+    disks: &DisksInFiles<'_, F>,
     input: &mut I,
     output: &mut O,
 ) -> Result<(), Failure>
@@ -181,23 +181,23 @@ where
 {
     match line {
         Line::Format { kind, pair, file } => {
-            format(alloc, files, file, *kind, *pair)?;
+            format(alloc, disks.0, file, *kind, *pair)?;
             writeln!(output, "ok")?;
         }
         Line::Edit(line) => {
-            let position = edit(rt, alloc, line, files, input)?;
+            let position = edit(rt, alloc, line, disks, input)?;
             writeln!(output, "ok {position}")?;
         }
-        Line::Show { file } => print_image(alloc, files, file, output)?,
-        Line::ShowPath { place, path } => show(rt, alloc, files, *place, path, output)?,
-        Line::Check { file } => print_numbers(alloc, files, file, output)?,
+        Line::Show { file } => print_image(alloc, disks, file, output)?,
+        Line::ShowPath { place, path } => show(rt, alloc, disks, *place, path, output)?,
+        Line::Check { file } => print_numbers(alloc, disks, file, output)?,
         Line::Serve {
             file,
             address,
             connections,
-        } => serve_file(rt, alloc, files, file, address, *connections)?,
+        } => serve_named(rt, alloc, disks, file, address, *connections)?,
         Line::Simulate { script, is_traced } => {
-            play_script(alloc, files, script, *is_traced, output)?;
+            play_script(alloc, disks.0, script, *is_traced, output)?;
         }
         Line::Sync { .. } | Line::Run { .. } => {}
     }
@@ -221,78 +221,4 @@ where
         run_script(alloc, files, script, output)?;
     }
     Ok(())
-}
-
-/// Prints the whole image in the file.
-fn print_image<F: Files, O: Write>(
-    alloc: Global,
-    files: &F,
-    file: &str,
-    output: &mut O,
-) -> Result<(), CommandError>
-where
-    F::File: HostFile,
-{
-    show_image(alloc, &image_in(alloc, files, file)?, output)
-}
-
-/// Prints the numbers of the image in the file.
-fn print_numbers<F: Files, O: Write>(
-    alloc: Global,
-    files: &F,
-    file: &str,
-    output: &mut O,
-) -> Result<(), CommandError>
-where
-    F::File: HostFile,
-{
-    check_image(alloc, &image_in(alloc, files, file)?, output)
-}
-
-/// Makes the edit where the line says, and answers the new position. A text that names no path is
-/// refused, whatever the file or the server is.
-fn edit<H: Net<Stream = TcpStream>, F: Files, I: Read>(
-    rt: &H,
-    alloc: Global,
-    line: &EditLine<'_>,
-    files: &F,
-    input: &mut I,
-) -> Result<u64, CommandError>
-where
-    F::File: HostFile,
-    ensures { ((path : ModelPath) → ¬ NamesPath line.entry.now.path.now path)
-        → IsErrAnd result IsOfPath }
-{
-    let path = Path::parse(alloc, line.path)?;
-    match line.place {
-        Place::File(file) => {
-            let mut replica = replica_in(alloc, files, file)?;
-            make_edit(alloc, &mut replica, line, path, input)
-        }
-        Place::Served(address) => edit_served(rt, alloc, address, line, path, input),
-    }
-}
-
-/// Prints what stands at the path. A text that names no path is refused, whatever the file or the
-/// server is.
-fn show<H: Net<Stream = TcpStream>, F: Files, O: Write>(
-    rt: &H,
-    alloc: Global,
-    files: &F,
-    place: Place<'_>,
-    path: &str,
-    output: &mut O,
-) -> Result<(), CommandError>
-where
-    F::File: HostFile,
-    ensures { ((at : ModelPath) → ¬ NamesPath path.now at) → IsErrAnd result IsOfPath }
-{
-    let path = Path::parse(alloc, path)?;
-    match place {
-        Place::File(file) => {
-            let replica = replica_to_read(alloc, files, file)?;
-            show_path(alloc, &replica, &path, output)
-        }
-        Place::Served(address) => show_served(rt, alloc, address, &path, output),
-    }
 }

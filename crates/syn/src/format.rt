@@ -1,10 +1,9 @@
 //! Makes a file an image.
 
-use crate::error::CommandError;
-use crate::image::format_image;
 use std::alloc::Global;
 use std::fs::{Files, OpenFile, OpenOptions, TryLockError};
 use std::io;
+use syn_command::{CommandError, format_image};
 use syn_disk::{Access, DISK_SIZE, FileDisk, HostFile, OpenError};
 use syn_words::ImageKind;
 

@@ -5,28 +5,17 @@
 //! directory and remove what is there. `syn show FILE [PATH]` prints an image, and `syn check FILE`
 //! its numbers. `syn serve FILE ADDR` serves a replica to users, who give `--served` and its
 //! address in the place of FILE, and to sessions. `syn sync ARCHIVE LEFT RIGHT` runs a session of
-//! two that are served, and `syn run LEFT RIGHT ARCHIVE` of two in files. `syn simulate SCRIPT` runs
-//! the steps of a script on machines in memory, and prints what comes of them.
+//! two that are served, and `syn run LEFT RIGHT ARCHIVE` of two in files. `syn simulate SCRIPT`
+//! runs the steps of a script on machines in memory, and prints what comes of them.
 //!
-//! The exit status is 0 where the command was done, 1 where it was refused, 2 where the words are no
-//! command, 3 where a session is incomplete and 4 where it is complete with conflicts.
+//! The exit status is 0 where the command was done, 1 where it was refused, 2 where the words are
+//! no command, 3 where a session is incomplete and 4 where it is complete with conflicts.
 #![tactic(auto)]
 
-mod check;
 mod command;
-mod edit;
-mod error;
-mod failure;
 mod files;
 mod format;
-mod image;
-mod network;
-mod outcome;
-mod report;
-mod sessions;
-mod show;
 mod simulation;
-mod status;
 
 use command::command;
 use std::io::{self, BufWriter, IsTerminal};

@@ -2,13 +2,12 @@
 ghost use Rattle.std.specs.Prelude.{IfOk};
 ghost use Rattle.syn.specs.Simulated.{PrintsRun};
 
-use crate::error::CommandError;
-use crate::failure::Failure;
 use std::alloc::Global;
 use std::fs::{Files, OpenOptions};
 use std::io::{Read, Write};
+use syn_command::{CommandError, Failure};
 use syn_disk::{Cut, HostFile, MemDisk};
-use syn_simulate::{show_world, simulate, trace};
+use syn_simulate::{SimulateError, show_world, simulate, trace};
 use syn_world::World;
 
 /// Runs the script in the file, and prints the world behind it, which it answers.
@@ -41,7 +40,7 @@ where
     F::File: HostFile,
 {
     let script = read_script(alloc, files, name)?;
-    let chart = trace(alloc, &script)?;
+    let chart = trace(alloc, &script).map_err(failure_of)?;
     output.write_all(chart.as_bytes())?;
     print_world(alloc, &script, output)
 }
@@ -54,7 +53,7 @@ fn print_world<O: Write>(
 ) -> Result<World<Cut<MemDisk>>, Failure>
     ensures { IfOk result (PrintsRun (O.contents output.old) (O.contents output.new)) }
 {
-    let world = simulate(alloc, script)?;
+    let world = simulate(alloc, script).map_err(failure_of)?;
     show_world(alloc, &world, output)?;
     Ok(world)
 }
@@ -68,4 +67,13 @@ where
     let mut script = Vec::new(alloc);
     file.read_to_end(&mut script)?;
     Ok(script)
+}
+
+/// Why the script was not run.
+fn failure_of(error: SimulateError) -> Failure {
+    match error {
+        SimulateError::Script(number) => Failure::Line(number),
+        SimulateError::Refused(why) => Failure::Refused(CommandError::Machine(why)),
+        SimulateError::Memory => Failure::Refused(CommandError::Memory),
+    }
 }

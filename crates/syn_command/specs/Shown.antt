@@ -4,9 +4,9 @@ use Rattle.syn_disk.specs.declared.disk.Disk.{Ghosts}
 use Rattle.syn_replica.specs.Replica as replica
 use Rattle.syn_archive.specs.Archive as archive
 use Rattle.syn_show.specs.Shown.{replica_shown, archive_shown}
-use Rattle.syn.specs.declared.image.Image.{Image}
-use Rattle.syn.specs.declared.image.Image.TheVariants as image
-use Rattle.syn.specs.Printed.{replica_numbers, archive_numbers}
+use Rattle.syn_command.specs.declared.image.Image.{Image}
+use Rattle.syn_command.specs.declared.image.Image.TheVariants as image
+use Rattle.syn_command.specs.Printed.{replica_numbers, archive_numbers}
 
 abbrev pub image_shown : {D : Type 0} → {disk : Ghosts D} → Image D disk → List ℕ
 image_shown (image.Replica r) = replica_shown r

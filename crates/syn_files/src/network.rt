@@ -1,18 +1,15 @@
 //! What goes over the network: a server, and a user of a served replica.
 
-use crate::edit::read_edit;
-use crate::error::CommandError;
-use crate::files::replica_in;
+use crate::named::{NamedDisks, replica_in};
 use log::{LevelFilter, Logged};
 use std::alloc::Global;
-use std::fs::Files;
 use std::io::{Read, Write};
 use std::net::{Net, TcpListener, TcpStream};
 use std::sync::Wait;
 use std::thread::Threads;
 use std::time::{Clock, Duration};
+use syn_command::{CommandError, read_edit};
 use syn_daemon::{OpenGates, Plain, serve};
-use syn_disk::HostFile;
 use syn_path::Path;
 use syn_refusal::Refusal;
 use syn_shared::SharedReplica;
@@ -23,26 +20,25 @@ use syn_words::EditLine;
 /// How long a user waits for the answer of a server.
 const MOST_SECONDS: u64 = 60;
 
-/// Serves the replica in the file at the address, `HOST:PORT`, until so many connections were
+/// Serves the replica of that name at the address, `HOST:PORT`, until so many connections were
 /// opened and served; with none it serves on. It logs to the handle's standard error.
 ///
-/// Refused as an opening of the file is, 9 where the address cannot be bound, and 11 where memory
+/// Refused as an opening of the disk is, 9 where the address cannot be bound, and 11 where memory
 /// is refused.
-pub fn serve_file<H, F>(
+pub fn serve_named<H, N>(
     rt: &H,
     alloc: Global,
-    files: &F,
-    file: &str,
+    disks: &N,
+    name: &str,
     address: &str,
     connections: Option<u64>,
 ) -> Result<(), CommandError>
 where
     H: Net<Listener = TcpListener, Stream = TcpStream> + Threads + Wait + Clock + Eprint,
     H: Copy + Sync,
-    F: Files,
-    F::File: HostFile + Send,
+    N: NamedDisks,
 {
-    let replica = replica_in(alloc, files, file)?;
+    let replica = replica_in(alloc, disks, name)?;
     let listener = TcpListener::bind(rt, address)?;
     let Ok(shared) = SharedReplica::new(alloc, replica) else {
         return Err(CommandError::Memory);
@@ -56,9 +52,9 @@ where
 
 /// Asks the server at the address for the line's edit, and answers the new position.
 ///
-/// Refused as the server refuses it, and 9 where the address cannot be reached. Refused 9 also where
-/// the connection ends before the answer, or none comes in a minute: then the edit may have been
-/// made.
+/// Refused as the server refuses it, and 9 where the address cannot be reached. Refused 9 also
+/// where the connection ends before the answer, or none comes in a minute: then the edit may have
+/// been made.
 pub fn edit_served<H: Net<Stream = TcpStream>, I: Read>(
     rt: &H,
     alloc: Global,

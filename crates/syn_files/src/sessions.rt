@@ -1,19 +1,17 @@
-//! Sessions of images in files and of served replicas.
+//! Sessions of images that have names, and of served replicas.
 
-use crate::error::CommandError;
-use crate::files::{SystemDisk, archive_in, replica_in};
-use crate::outcome::{Outcome, outcome_of};
+use crate::named::{NamedDisks, archive_in, replica_in};
 use log::sink::Discard;
 use log::{LevelFilter, Logged};
 use std::alloc::Global;
-use std::fs::Files;
 use std::io::Write;
 use std::net::{Net, TcpListener, TcpStream};
 use std::sync::Wait;
 use std::thread::Threads;
 use std::time::Clock;
+use syn_command::{CommandError, Outcome, outcome_of};
 use syn_daemon::{OpenGates, run, sync};
-use syn_disk::{Cut, Disk, HostFile, Limit};
+use syn_disk::{Cut, Disk, Limit};
 use syn_refusal::Refusal;
 use syn_session::{Coordinator, Report};
 use syn_shared::SharedReplica;
@@ -25,8 +23,8 @@ use syn_sync::{Progress, Unwatched, Watch};
 pub enum Between<'a> {
     /// The replicas that are served at these addresses, each `HOST:PORT`.
     Servers { left: &'a str, right: &'a str },
-    /// The replicas in these files.
-    Files { left: &'a str, right: &'a str },
+    /// The replicas of these names.
+    Named { left: &'a str, right: &'a str },
 }
 
 /// How much is told of a session as it goes.
@@ -40,18 +38,15 @@ pub enum Telling {
     ItemsAndCounts,
 }
 
-/// The coordinator of an archive in a file.
-type FileCoordinator<F> = Coordinator<Cut<SystemDisk<F>>>;
-
-/// Runs a session over the archive in the file, prints its report, and answers what it came to.
+/// Runs a session over the archive of that name, prints its report, and answers what it came to.
 /// What is told of it goes to `errors`.
 ///
-/// Refused as an opening of a file is, left first and the archive last; 9 where an address cannot
+/// Refused as an opening of a disk is, left first and the archive last; 9 where an address cannot
 /// be reached; and as the start of a session is.
-pub fn run_session<H, F, O, E>(
+pub fn run_session<H, N, O, E>(
     rt: &H,
     alloc: Global,
-    files: &F,
+    disks: &N,
     between: Between<'_>,
     archive: &str,
     telling: Telling,
@@ -60,50 +55,48 @@ pub fn run_session<H, F, O, E>(
 ) -> Result<Outcome, CommandError>
 where
     H: Net<Listener = TcpListener, Stream = TcpStream> + Threads + Wait + Clock + Copy + Sync,
-    F: Files,
-    F::File: HostFile + Send,
+    N: NamedDisks,
     O: Write,
     E: Write,
 {
     if let Telling::Nothing = telling {
-        let coordinator = drive(rt, alloc, files, between, archive, &mut Unwatched)?;
+        let coordinator = drive(rt, alloc, disks, between, archive, &mut Unwatched)?;
         return print_session(alloc, reported(&coordinator)?, output);
     }
     let counts = telling == Telling::ItemsAndCounts;
     let mut progress = Progress::new(alloc, errors, counts);
-    let coordinator = drive(rt, alloc, files, between, archive, &mut progress)?;
+    let coordinator = drive(rt, alloc, disks, between, archive, &mut progress)?;
     let report = reported(&coordinator)?;
     progress.finish(report);
     print_session(alloc, report, output)
 }
 
 /// Runs a session, and answers the coordinator that ran it.
-fn drive<H, F, V>(
+fn drive<H, N, V>(
     rt: &H,
     alloc: Global,
-    files: &F,
+    disks: &N,
     between: Between<'_>,
     archive: &str,
     watch: &mut V,
-) -> Result<FileCoordinator<F::File>, CommandError>
+) -> Result<Coordinator<Cut<N::Disk>>, CommandError>
 where
     H: Net<Listener = TcpListener, Stream = TcpStream> + Threads + Wait + Clock + Copy + Sync,
-    F: Files,
-    F::File: HostFile + Send,
+    N: NamedDisks,
     V: Watch,
 {
     match between {
         Between::Servers { left, right } => {
-            let mut coordinator = Coordinator::new(alloc, archive_in(alloc, files, archive)?);
+            let mut coordinator = Coordinator::new(alloc, archive_in(alloc, disks, archive)?);
             match sync(rt, alloc, &mut coordinator, left, right, watch) {
                 Ok(()) => Ok(coordinator),
                 Err(why) => Err(CommandError::Network(why)),
             }
         }
-        Between::Files { left, right } => {
-            let left = shared_in(alloc, files, left)?;
-            let right = shared_in(alloc, files, right)?;
-            let coordinator = Coordinator::new(alloc, archive_in(alloc, files, archive)?);
+        Between::Named { left, right } => {
+            let left = shared_in(alloc, disks, left)?;
+            let right = shared_in(alloc, disks, right)?;
+            let coordinator = Coordinator::new(alloc, archive_in(alloc, disks, archive)?);
             drive_shared(rt, alloc, &left, &right, coordinator, watch)
         }
     }
@@ -142,16 +135,13 @@ where
     }
 }
 
-/// The replica in the file, under a lock.
-fn shared_in<F: Files>(
+/// The replica of that name, under a lock.
+fn shared_in<N: NamedDisks>(
     alloc: Global,
-    files: &F,
+    disks: &N,
     name: &str,
-) -> Result<SharedReplica<SystemDisk<F::File>>, CommandError>
-where
-    F::File: HostFile,
-{
-    match SharedReplica::new(alloc, replica_in(alloc, files, name)?) {
+) -> Result<SharedReplica<N::Disk>, CommandError> {
+    match SharedReplica::new(alloc, replica_in(alloc, disks, name)?) {
         Ok(shared) => Ok(shared),
         Err(_) => Err(CommandError::Memory),
     }

@@ -4,10 +4,10 @@ ghost use Rattle.std.specs.FinMap.{get};
 ghost use Rattle.std.specs.Io.KnownBytes.{Appends};
 ghost use Rattle.syn_model.specs.Tree.{Content, is_present};
 ghost use Rattle.syn_replica.specs.Replica.{tree_shown};
-ghost use Rattle.syn.specs.Printed.{content_shown};
-ghost use Rattle.syn.specs.Shown.{image_shown};
+ghost use Rattle.syn_command.specs.Printed.{content_shown};
+ghost use Rattle.syn_command.specs.Shown.{image_shown};
 ghost use Rattle.syn_model.specs.Refusal.{Absent};
-ghost use Rattle.syn.specs.Errors.{refusal_of, IsOfStream};
+ghost use Rattle.syn_command.specs.Errors.{refusal_of, IsOfStream};
 
 use crate::error::CommandError;
 use crate::image::Image;

@@ -6,9 +6,9 @@ use Rattle.syn_model.specs.Event.{Edit, Edited}
 use Rattle.syn_model.specs.History.{IsHistory, event_refusal, standing_of}
 use Rattle.syn_replica.specs.Replica.{KeepsBeforeOrAfter, Stands, room_shown}
 use Rattle.syn_tree.specs.Edits.{edit_of}
-use Rattle.syn.specs.Asked.{edit_asked}
-use Rattle.syn.proofs.EditLemmas.{same_edit, before_or_after, same_refusal, not_written}
-use Rattle.syn.proofs.edit.make_edit.Goals as goal
+use Rattle.syn_command.specs.Asked.{edit_asked}
+use Rattle.syn_command.proofs.EditLemmas.{same_edit, before_or_after, same_refusal, not_written}
+use Rattle.syn_command.proofs.edit.make_edit.Goals as goal
 
 pub returns-in_err-edit-clause-any_moment : goal.returns-in_err-edit-clause-any_moment
 returns-in_err-edit-clause-any_moment g c history left stands e =

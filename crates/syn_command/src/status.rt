@@ -1,6 +1,6 @@
 //! What a run of the program tells the shell.
 ghost use Rattle.std.specs.Prelude.{◌≡◌};
-ghost use Rattle.syn.specs.Status.{code_of, status_in};
+ghost use Rattle.syn_command.specs.Status.{code_of, status_in};
 
 use crate::outcome::Outcome;
 

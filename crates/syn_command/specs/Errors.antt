@@ -7,10 +7,10 @@ use Rattle.syn_replica.specs.Refusals.{refusal_of as of_replica}
 use Rattle.syn_archive.specs.Refusals.{refusal_of as of_archive}
 use Rattle.syn_refusal.specs.Refusals.{cause_of}
 use Rattle.syn_user.specs.Refusals.{refusal_of as of_user}
-use Rattle.syn.specs.declared.error.CommandError.{CommandError}
-use Rattle.syn.specs.declared.error.CommandError.TheVariants.{Path, Open, Replica, Archive, Machine}
-use Rattle.syn.specs.declared.error.CommandError.TheVariants.{Device, Longer, Memory}
-use Rattle.syn.specs.declared.error.CommandError.TheVariants.{Network, User}
+use Rattle.syn_command.specs.declared.error.CommandError.{CommandError}
+use Rattle.syn_command.specs.declared.error.CommandError.TheVariants.{Path, Open, Replica, Archive, Machine}
+use Rattle.syn_command.specs.declared.error.CommandError.TheVariants.{Device, Longer, Memory}
+use Rattle.syn_command.specs.declared.error.CommandError.TheVariants.{Network, User}
 
 -- it is that of what refused
 abbrev pub refusal_of : CommandError → Refusal

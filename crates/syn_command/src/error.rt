@@ -2,7 +2,7 @@
 ghost use Rattle.std.specs.Prelude.{◌≡◌, Some};
 ghost use Rattle.syn_model.specs.Refusal.{number, name_of};
 ghost use Rattle.syn_refusal.specs.Refusals.{cause_of};
-ghost use Rattle.syn.specs.Errors.{refusal_of};
+ghost use Rattle.syn_command.specs.Errors.{refusal_of};
 
 use std::alloc::{AllocError, AllocFailed};
 use std::{fmt, io};
@@ -76,7 +76,7 @@ impl fmt::Display for CommandError {
 }
 
 impl From<PathError> for CommandError {
-    ghost use Rattle.syn.specs.declared.error.CommandError.TheVariants.{Path};
+    ghost use Rattle.syn_command.specs.declared.error.CommandError.TheVariants.{Path};
 
     ghost from_gives = { λ error e. e ≡ Path error };
 
@@ -86,7 +86,7 @@ impl From<PathError> for CommandError {
 }
 
 impl From<OpenError> for CommandError {
-    ghost use Rattle.syn.specs.declared.error.CommandError.TheVariants.{Open};
+    ghost use Rattle.syn_command.specs.declared.error.CommandError.TheVariants.{Open};
 
     ghost from_gives = { λ error e. e ≡ Open error };
 
@@ -96,7 +96,7 @@ impl From<OpenError> for CommandError {
 }
 
 impl From<ReplicaError> for CommandError {
-    ghost use Rattle.syn.specs.declared.error.CommandError.TheVariants.{Replica};
+    ghost use Rattle.syn_command.specs.declared.error.CommandError.TheVariants.{Replica};
 
     ghost from_gives = { λ error e. e ≡ Replica error };
 
@@ -106,7 +106,7 @@ impl From<ReplicaError> for CommandError {
 }
 
 impl From<ArchiveError> for CommandError {
-    ghost use Rattle.syn.specs.declared.error.CommandError.TheVariants.{Archive};
+    ghost use Rattle.syn_command.specs.declared.error.CommandError.TheVariants.{Archive};
 
     ghost from_gives = { λ error e. e ≡ Archive error };
 
@@ -116,7 +116,7 @@ impl From<ArchiveError> for CommandError {
 }
 
 impl From<UserError> for CommandError {
-    ghost use Rattle.syn.specs.declared.error.CommandError.TheVariants.{User};
+    ghost use Rattle.syn_command.specs.declared.error.CommandError.TheVariants.{User};
 
     ghost from_gives = { λ error e. e ≡ User error };
 
@@ -126,7 +126,7 @@ impl From<UserError> for CommandError {
 }
 
 impl From<io::Error> for CommandError {
-    ghost use Rattle.syn.specs.Errors.{IsOfStream};
+    ghost use Rattle.syn_command.specs.Errors.{IsOfStream};
 
     ghost from_gives = { λ _ e. IsOfStream e };
 
@@ -139,7 +139,7 @@ impl From<io::Error> for CommandError {
 }
 
 impl From<ShowError> for CommandError {
-    ghost use Rattle.syn.specs.Errors.{IsOfStream};
+    ghost use Rattle.syn_command.specs.Errors.{IsOfStream};
 
     ghost from_gives = { λ _ e. IsOfStream e };
 
@@ -152,7 +152,7 @@ impl From<ShowError> for CommandError {
 }
 
 impl From<AllocError> for CommandError {
-    ghost use Rattle.syn.specs.declared.error.CommandError.TheVariants.{Memory};
+    ghost use Rattle.syn_command.specs.declared.error.CommandError.TheVariants.{Memory};
 
     ghost from_gives = { λ _ e. e ≡ Memory };
 

@@ -1,6 +1,6 @@
 //! What a command that was done came to.
 ghost use Rattle.std.specs.Prelude.{◌≡◌};
-ghost use Rattle.syn.specs.Status.{outcome_by};
+ghost use Rattle.syn_command.specs.Status.{outcome_by};
 
 use syn_session::{End, Report};
 

@@ -1,11 +1,10 @@
 //! Why a command was not done.
 ghost use Rattle.std.specs.Prelude.{◌≡◌};
-ghost use Rattle.syn.specs.declared.failure.Failure.TheVariants.{Refused};
+ghost use Rattle.syn_command.specs.declared.failure.Failure.TheVariants.{Refused};
 
 use crate::error::CommandError;
 use std::io;
 use syn_show::ShowError;
-use syn_simulate::SimulateError;
 
 /// Why a command was not done.
 #[derive(Debug, Drop)]
@@ -33,15 +32,5 @@ impl From<io::Error> for Failure {
 impl From<ShowError> for Failure {
     fn from(error: ShowError) -> Failure {
         Failure::Refused(CommandError::from(error))
-    }
-}
-
-impl From<SimulateError> for Failure {
-    fn from(error: SimulateError) -> Failure {
-        match error {
-            SimulateError::Script(number) => Failure::Line(number),
-            SimulateError::Refused(why) => Failure::Refused(CommandError::Machine(why)),
-            SimulateError::Memory => Failure::Refused(CommandError::Memory),
-        }
     }
 }

@@ -9,8 +9,8 @@ ghost use Rattle.syn_path.specs.Paths.{NamesPath};
 ghost use Rattle.syn_replica.specs.Replica.{KeepsBeforeOrAfter, Stands, disk_of};
 ghost use Rattle.syn_tree.specs.Edits.{edit_of};
 ghost use Rattle.syn_model.specs.Refusal.{Device};
-ghost use Rattle.syn.specs.Asked.{IsInput, edit_asked, event_asked};
-ghost use Rattle.syn.specs.Errors.{refusal_of, IsOfStream};
+ghost use Rattle.syn_command.specs.Asked.{IsInput, edit_asked, event_asked};
+ghost use Rattle.syn_command.specs.Errors.{refusal_of, IsOfStream};
 
 use crate::error::CommandError;
 use std::alloc::Global;

@@ -5,8 +5,8 @@ ghost use Rattle.syn_journal.specs.Layout.{Value, meaning};
 ghost use Rattle.syn_model.specs.Archive as model;
 ghost use Rattle.syn_model.specs.History.{History};
 ghost use Rattle.syn_replica.specs.Disks as replica;
-ghost use Rattle.syn.specs.Images.{IsFormatted, IsImageRefusal, IsOn, letters_of};
-ghost use Rattle.syn.specs.Images.{StandsForArchive, StandsForHistory};
+ghost use Rattle.syn_command.specs.Images.{IsFormatted, IsImageRefusal, IsOn, letters_of};
+ghost use Rattle.syn_command.specs.Images.{StandsForArchive, StandsForHistory};
 ghost use Rattle.std.specs.Prelude.{take};
 
 use crate::error::CommandError;

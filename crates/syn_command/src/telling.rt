@@ -1,6 +1,6 @@
 //! Tells how a command came out.
 ghost use Rattle.std.specs.Prelude.{◌≡◌};
-ghost use Rattle.syn.specs.Status.{status_of};
+ghost use Rattle.syn_command.specs.Status.{status_of};
 
 use crate::error::CommandError;
 use crate::failure::Failure;

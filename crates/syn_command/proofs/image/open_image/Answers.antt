@@ -1,6 +1,6 @@
 use Rattle.std.proofs.Common.{sym, subst}
 use Rattle.syn_replica.specs.Disks as replica
-use Rattle.syn.proofs.image.open_image.Goals as goal
+use Rattle.syn_command.proofs.image.open_image.Goals as goal
 
 -- the disk was read as an archive's before, which changed nothing of what a read gives
 pub returns-in-Ok-open-clause-replica : goal.returns-in-Ok-open-clause-replica

@@ -2,9 +2,9 @@
 ghost use Rattle.std.specs.Prelude.{◌≡◌, IfOk, IfErr, OnOk};
 ghost use Rattle.std.specs.Io.KnownBytes.{Appends};
 ghost use Rattle.std.specs.String.{string_bytes};
-ghost use Rattle.syn.specs.declared.image.Image.TheVariants as image;
-ghost use Rattle.syn.specs.Errors.{IsOfStream};
-ghost use Rattle.syn.specs.Shown.{numbers_shown};
+ghost use Rattle.syn_command.specs.declared.image.Image.TheVariants as image;
+ghost use Rattle.syn_command.specs.Errors.{IsOfStream};
+ghost use Rattle.syn_command.specs.Shown.{numbers_shown};
 
 use crate::error::CommandError;
 use crate::image::Image;

@@ -1,11 +1,11 @@
 -- What a run of the program tells the shell.
 use Rattle.std.specs.Prelude.{ℕ, List, [], ◌∷◌, Result, Ok, Err}
-use Rattle.syn.specs.declared.failure.Failure.{Failure}
-use Rattle.syn.specs.declared.outcome.Outcome.{Outcome}
-use Rattle.syn.specs.declared.outcome.Outcome.TheVariants as outcome
-use Rattle.syn.specs.declared.status.Status.{Status}
-use Rattle.syn.specs.declared.status.Status.TheVariants.{Done, Refused, Usage, Incomplete}
-use Rattle.syn.specs.declared.status.Status.TheVariants.{Conflicts}
+use Rattle.syn_command.specs.declared.failure.Failure.{Failure}
+use Rattle.syn_command.specs.declared.outcome.Outcome.{Outcome}
+use Rattle.syn_command.specs.declared.outcome.Outcome.TheVariants as outcome
+use Rattle.syn_command.specs.declared.status.Status.{Status}
+use Rattle.syn_command.specs.declared.status.Status.TheVariants.{Done, Refused, Usage, Incomplete}
+use Rattle.syn_command.specs.declared.status.Status.TheVariants.{Conflicts}
 use Rattle.syn_session.specs.declared.report.End.{End}
 use Rattle.syn_session.specs.declared.report.End.TheVariants as end
 

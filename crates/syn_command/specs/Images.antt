@@ -9,10 +9,10 @@ use Rattle.syn_replica.specs.Disks as replica_disk
 use Rattle.syn_archive.specs.Archive as archive
 use Rattle.syn_archive.specs.Disks as archive_disk
 use Rattle.syn_archive.specs.declared.error.ArchiveError.TheVariants.{Damaged}
-use Rattle.syn.specs.declared.error.CommandError.{CommandError}
-use Rattle.syn.specs.declared.error.CommandError.TheVariants as error
-use Rattle.syn.specs.declared.image.Image.{Image}
-use Rattle.syn.specs.declared.image.Image.TheVariants.{Replica, Archive}
+use Rattle.syn_command.specs.declared.error.CommandError.{CommandError}
+use Rattle.syn_command.specs.declared.error.CommandError.TheVariants as error
+use Rattle.syn_command.specs.declared.image.Image.{Image}
+use Rattle.syn_command.specs.declared.image.Image.TheVariants.{Replica, Archive}
 use Rattle.syn_words.specs.declared.line.ImageKind.{ImageKind}
 use Rattle.syn_words.specs.declared.line.ImageKind.TheVariants as kind
 

@@ -16,7 +16,7 @@ use Rattle.syn_journal.specs.Layout.{half_size}
 use Rattle.syn_replica.specs.Disks.{DiskKeeps, event_size}
 use Rattle.syn_replica.specs.Replica.{KeepsBeforeOrAfter, Stands, pair_of, disk_of, left_shown, generation_shown}
 use Rattle.syn_replica.specs.declared.replica.Replica.{Replica}
-use Rattle.syn.specs.Asked.{edit_asked}
+use Rattle.syn_command.specs.Asked.{edit_asked}
 use Rattle.syn_words.specs.declared.line.Change.{Change}
 use Rattle.syn_words.specs.declared.line.Change.TheVariants as change
 

@@ -1,0 +1,6 @@
+pub mod Asked
+pub mod Errors
+pub mod Images
+pub mod Printed
+pub mod Shown
+pub mod Status

@@ -1,0 +1,16 @@
+//! What a line does with images that have names, and with replicas that are served.
+//!
+//! An image lies on a disk that is opened by its name. What such a disk is, `NamedDisks` leaves
+//! open: the program's are files of the system. An image is shown, checked and edited, a replica is
+//! served to others, and a session runs between two replicas.
+#![tactic(auto)]
+
+mod images;
+mod named;
+mod network;
+mod sessions;
+
+pub use images::{edit, print_image, print_numbers, show};
+pub use named::NamedDisks;
+pub use network::serve_named;
+pub use sessions::{Between, Telling, run_session};
