@@ -4,9 +4,9 @@ use Rattle.syn_play.proofs.player.Player.step.Goals as goal
 
 pub returns-in-Ok : goal.returns-in-Ok
 returns-in-Ok g c state is =
-    step_made state (step_of c.args.step) c.args.self c.in-Ok.world c.in-Some.delivered is
+    step_made state (step_of c.args.step) c.args.self c.in-Ok.world c.in-Some-2.delivered c.in-Some.turns is
     (c.in-Ok.ensures state.world is.world)
-    (c.in-Some.ensures state is.world.lists is.flags)
+    (c.in-Some-2.ensures state is.world.lists is.flags)
 
 pub returns-in-Err : goal.returns-in-Err
 returns-in-Err g c state is =
