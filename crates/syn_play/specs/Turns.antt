@@ -5,9 +5,12 @@ use Rattle.syn_host.specs.Sides.{replica_of}
 use Rattle.syn_host.specs.declared.coordinator.CoordinatorHost.{CoordinatorHost}
 use Rattle.syn_host.specs.declared.coordinator.CoordinatorHost.TheVariants as machine
 use Rattle.syn_host.specs.declared.side.SideHost.{SideHost}
+use Rattle.syn_message.specs.declared.side.Side.TheVariants.{Left, Right}
 use Rattle.syn_play.specs.declared.player.Player.{Player}
 use Rattle.syn_play.specs.declared.turn.Moment.{Moment}
 use Rattle.syn_play.specs.declared.turn.Turn.{Turn}
+use Rattle.syn_world.specs.declared.step.Machine.{Machine}
+use Rattle.syn_world.specs.declared.step.Machine.TheVariants as place
 use Rattle.syn_world.specs.declared.step.Step.{Step}
 use Rattle.syn_world.specs.declared.step.Step.TheVariants.{Deliver}
 use Rattle.syn_world.specs.declared.world.World.{World}
@@ -31,6 +34,12 @@ moment_of world = record {
   is_coordinator_up = is_coordinator_up world.coordinator;
   is_right_up = is_side_up world.right;
 }
+
+-- whether a machine was up
+abbrev pub is_up : Moment → Machine → Bool
+is_up moment (place.Side Left) = moment.is_left_up
+is_up moment (place.Side Right) = moment.is_right_up
+is_up moment place.Coordinator = moment.is_coordinator_up
 
 -- the message that a step delivers
 abbrev pub delivery_of : Step → Option ℕ

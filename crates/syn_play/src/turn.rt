@@ -1,6 +1,6 @@
 //! What a world had heard before each of its steps.
 ghost use Rattle.std.specs.Prelude.{◌≡◌, ◌++◌, ◌∷◌, [], IfSome};
-ghost use Rattle.syn_play.specs.Turns.{delivery_of, is_side_up, moment_of, turn_of};
+ghost use Rattle.syn_play.specs.Turns.{delivery_of, is_side_up, is_up, moment_of, turn_of};
 
 use syn_disk::Disk;
 use syn_host::{CoordinatorHost, SideHost};
@@ -41,7 +41,9 @@ impl Moment {
     }
 
     /// Whether the machine was up.
-    pub fn is_up(&self, machine: Machine) -> bool {
+    pub fn is_up(&self, machine: Machine) -> bool
+        ensures { result ≡ is_up self.now machine }
+    {
         match machine {
             Machine::Side(Side::Left) => self.is_left_up,
             Machine::Coordinator => self.is_coordinator_up,
