@@ -7,7 +7,10 @@ use std::fs::{Files, OpenOptions};
 use std::io::{Read, Write};
 use syn_command::{CommandError, Failure};
 use syn_disk::{Cut, HostFile, MemDisk};
-use syn_simulate::{SimulateError, show_world, simulate, trace};
+use syn_play::{Moment, Player};
+use syn_script::Script;
+use syn_simulate::{SimulateError, play, show_world, simulate};
+use syn_trace::draw;
 use syn_world::World;
 
 /// Runs the script in the file, and prints the world behind it, which it answers.
@@ -40,9 +43,23 @@ where
     F::File: HostFile,
 {
     let script = read_script(alloc, files, name)?;
-    let chart = trace(alloc, &script).map_err(failure_of)?;
+    let player = play(alloc, &script).map_err(failure_of)?;
+    let chart = chart_of(alloc, &script, &player).map_err(failure_of)?;
     output.write_all(chart.as_bytes())?;
-    print_world(alloc, &script, output)
+    show_world(alloc, player.world(), output)?;
+    Ok(player.into_world())
+}
+
+/// The chart of the script, which was played.
+fn chart_of(
+    alloc: Global,
+    script: &[u8],
+    player: &Player<Cut<MemDisk>>,
+) -> Result<String, SimulateError> {
+    let lines = Script::parse(alloc, script)?;
+    let world = player.world();
+    let last = Moment::of(world);
+    Ok(draw(alloc, &lines, player.turns(), &world.lists, &last)?)
 }
 
 /// Runs the script, and prints the world behind it, which it answers.

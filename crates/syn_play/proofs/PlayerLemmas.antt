@@ -9,6 +9,7 @@ use Rattle.syn_play.specs.Lines.{Begins, Plays, Said, Says}
 use Rattle.syn_play.specs.Players.{AreFlags, HasBegun, HasPlayed, IsPlayer}
 use Rattle.syn_play.specs.States.{Moves, State, noted}
 use Rattle.syn_play.specs.declared.player.Player.{Player}
+use Rattle.syn_play.specs.declared.turn.Turn.{Turn}
 use Rattle.syn_play.proofs.LineLemmas.{begins_moves, plays_moves}
 use Rattle.syn_play.proofs.MoveLemmas.{moves_run, stays_noted}
 use Rattle.syn_world.specs.Runs.{StepsSo, no_memory, steps}
@@ -55,11 +56,15 @@ module _ {D : Type 0} {disk : Ghosts D} where
 
     -- the world behind a step, and what is then delivered
     pub step_made : (step : Step) (player : Player D disk) (world : World D disk)
-        (flags : Vec Bool) → IsPlayer player old
+        (flags : Vec Bool) (turns : Vec Turn) → IsPlayer player old
         → StepsSo old.world step (Ok world) → AreFlags flags (noted old step)
-        → HasPlayed (Says (step ∷ [])) old
-        (record { world = world; delivered = flags; lowest = player.lowest })
-    step_made step player world flags was (steps so) are =
+        → HasPlayed (Says (step ∷ [])) old (record {
+          world = world;
+          delivered = flags;
+          lowest = player.lowest;
+          turns = turns;
+        })
+    step_made step player world flags turns was (steps so) are =
         has_played (Says (step ∷ [])) (step ∷ []) (behind old step so.new) _
         (refl, one old step so.new so.steps)
         (record {
@@ -67,7 +72,7 @@ module _ {D : Type 0} {disk : Ghosts D} where
           flags = are;
           below = λ number low. stays_noted old step number (was.below number low);
         })
-    step_made step player world flags was (no_memory disks is left) are =
+    step_made step player world flags turns was (no_memory disks is left) are =
         absurd (ok_not_err world disks is)
       where
         ok_not_err : (w : World D disk) (d : Disks D) → Ok w ≡ Err d → ⊥

@@ -2,3 +2,4 @@ pub mod States
 pub mod Drains
 pub mod Lines
 pub mod Players
+pub mod Turns

@@ -4,5 +4,7 @@
 mod line;
 mod notes;
 mod player;
+mod turn;
 
 pub use player::{MOST_DRAINED, Player};
+pub use turn::{Moment, Turn};

@@ -1,15 +1,17 @@
 //! A world on which lines are played.
-ghost use Rattle.std.specs.Prelude.{◌≡◌, ◌≤◌, ◌↔◌, ◌∷◌, [], true, vec_len};
+ghost use Rattle.std.specs.Prelude.{◌≡◌, ◌≤◌, ◌↔◌, ◌∷◌, ◌++◌, [], IfOk, true, vec_len};
 ghost use Rattle.syn_headline.specs.World.{World as ModelWorld, Deliver};
 ghost use Rattle.syn_play.specs.Drains.{IsNextLeft};
 ghost use Rattle.syn_play.specs.Lines.{Says, ToDrain, deliveries, said};
 ghost use Rattle.syn_play.specs.Players.{PlaysAllTo, PlaysTo, IsPlayer, world_of};
 ghost use Rattle.syn_play.specs.States.{State, fresh};
+ghost use Rattle.syn_play.specs.Turns.{turn_of, turns_of};
 ghost use Rattle.syn_world.specs.Steps.{step_of};
 ghost use Rattle.syn_world.specs.Worlds.{IsWorld};
 
 use crate::line::machine_of;
 use crate::notes::{is_set, lowest_unset, note_step};
+use crate::turn::{Turn, add_turn};
 use std::alloc::Global;
 use syn_disk::Disk;
 use syn_host::SimulatedDisk;
@@ -19,7 +21,8 @@ use syn_world::{Disks, Step, World};
 /// A draining delivers at most so many messages, so that it ends whatever the machines say.
 pub const MOST_DRAINED: usize = 100_000;
 
-/// A world on which lines are played, and which of its messages were delivered already.
+/// A world on which lines are played, with which of its messages were delivered already and the
+/// turns that were played.
 ///
 /// Each call that plays takes it and gives it back, or the disks of its world where memory is
 /// refused.
@@ -30,6 +33,8 @@ pub struct Player<D: Disk> {
     delivered: Vec<bool>,
     /// Each message with a lower number was delivered.
     lowest: usize,
+    /// The steps that were played, in order.
+    turns: Vec<Turn>,
 }
 
 impl<D: SimulatedDisk> Player<D> {
@@ -38,11 +43,13 @@ impl<D: SimulatedDisk> Player<D> {
         ensures world { world_of result ≡ world }
         ensures fresh { (model : ModelWorld) → IsWorld world model
             → IsPlayer result (fresh model) }
+        ensures turns { turns_of result ≡ [] }
     {
         Player {
             world,
             delivered: Vec::new(alloc),
             lowest: 0,
+            turns: Vec::new(alloc),
         }
     }
 
@@ -60,16 +67,29 @@ impl<D: SimulatedDisk> Player<D> {
         self.world
     }
 
-    /// Makes a step of the world, and notes a message that it delivers.
+    /// The steps that were played, in order, each with what the world had heard before it.
+    pub fn turns(&self) -> &[Turn]
+        ensures { result.now ≡ turns_of self.now }
+    {
+        &self.turns
+    }
+
+    /// Makes a step of the world, and notes its turn and a message that it delivers.
     pub fn step(self, alloc: Global, step: Step) -> Result<Player<D>, Disks<D>>
-        ensures { (state : State) → IsPlayer self state
+        ensures plays { (state : State) → IsPlayer self state
             → PlaysTo (Says (step_of step ∷ [])) state result }
+        ensures turns { IfOk result (λ player. turns_of player
+            ≡ turns_of self ++ turn_of (world_of self) step ∷ []) }
     {
         let Player {
             world,
             delivered,
             lowest,
+            turns,
         } = self;
+        let Some(turns) = add_turn(turns, Turn::of(&world, &step)) else {
+            return Err(world.into_disks());
+        };
         let Some(delivered) = note_step(&world.lists, delivered, &step) else {
             return Err(world.into_disks());
         };
@@ -78,6 +98,7 @@ impl<D: SimulatedDisk> Player<D> {
                 world,
                 delivered,
                 lowest,
+                turns,
             }),
             Err(disks) => Err(disks),
         }

@@ -1,5 +1,5 @@
 -- The world behind a script.
-use Rattle.std.proofs.Common.{◌≡◌, List, sym, subst}
+use Rattle.std.proofs.Common.{List}
 use Rattle.syn_disk.specs.declared.disk.Disk.{Ghosts}
 use Rattle.syn_play.specs.Players.{HasPlayedAll, world_of}
 use Rattle.syn_play.specs.States.{fresh}
@@ -9,15 +9,14 @@ use Rattle.syn_script.specs.Words.{Text}
 use Rattle.syn_script.specs.declared.line.Line.{Line}
 use Rattle.syn_simulate.specs.Simulations.{RunsScript}
 use Rattle.syn_simulate.specs.Starts.{StartsFormatted}
-use Rattle.syn_world.specs.Worlds.{IsWorld}
 use Rattle.syn_world.specs.declared.world.World.{World}
 
 -- a new world, on which the lines of a script are played
 pub runs_script : {D : Type 0} {disk : Ghosts D} (script : Text) (lines : List Line)
-    (start world : World D disk) (player : Player D disk) → SaySteps (lines_of script) lines
+    (start : World D disk) (player : Player D disk) → SaySteps (lines_of script) lines
     → (starts : StartsFormatted 1 start) → HasPlayedAll lines (fresh starts.opens.model) player
-    → world ≡ world_of player → RunsScript script world
-runs_script script lines start world player say starts played is = record {
+    → RunsScript script (world_of player)
+runs_script script lines start player say starts played = record {
   lines = lines;
   say = say;
   plays = record {
@@ -27,6 +26,6 @@ runs_script script lines start world player say starts played is = record {
     new = played.new;
     plays = played.plays;
     runs = played.runs;
-    ends = subst (λ w. IsWorld w played.new.world) (sym is) played.is.world;
+    ends = played.is.world;
   };
 }

@@ -1,5 +1,6 @@
 //! Scripts that are run.
 ghost use Rattle.std.specs.Prelude.{◌≡◌, ℕ, IfOk, IfErr};
+ghost use Rattle.syn_play.specs.Players.{world_of};
 ghost use Rattle.syn_script.specs.Scripts.{IsFirstFault, lines_of};
 ghost use Rattle.syn_simulate.specs.Simulations.{RunsScript};
 ghost use Rattle.syn_simulate.specs.declared.error.SimulateError.TheVariants.{Script as Fault};
@@ -13,14 +14,14 @@ use syn_play::Player;
 use syn_script::Script;
 use syn_world::World;
 
-/// The world behind the steps of the script. It starts with three machines that are up: two sides
-/// with an empty replica each, and a coordinator with an empty archive, all of pair 1. A machine's
-/// i-th stop leaves of its disk what its i-th stop line says.
+/// The player behind the steps of the script. Its world starts with three machines that are up: two
+/// sides with an empty replica each, and a coordinator with an empty archive, all of pair 1. A
+/// machine's i-th stop leaves of its disk what its i-th stop line says.
 ///
 /// Refused with the number of the first line that says no step, counted from 1, before anything is
 /// done; and 11 where memory is refused.
-pub fn simulate(alloc: Global, script: &[u8]) -> Result<World<Cut<MemDisk>>, SimulateError>
-    ensures run { IfOk result (RunsScript script.now) }
+pub fn play(alloc: Global, script: &[u8]) -> Result<Player<Cut<MemDisk>>, SimulateError>
+    ensures run { IfOk result (λ player. RunsScript script.now (world_of player)) }
     ensures fault { IfErr result (λ e. (number : ℕ) → e ≡ Fault number
         → IsFirstFault (lines_of script.now) number) }
 {
@@ -28,7 +29,16 @@ pub fn simulate(alloc: Global, script: &[u8]) -> Result<World<Cut<MemDisk>>, Sim
     let stops = stops_of(alloc, &lines)?;
     let world = formatted_world(alloc, stops)?;
     match Player::new(alloc, world).play_all(alloc, lines) {
-        Ok(player) => Ok(player.into_world()),
+        Ok(player) => Ok(player),
         Err(_) => Err(SimulateError::Memory),
     }
+}
+
+/// The world behind the steps of the script, as `play` leaves it. It is refused as that is.
+pub fn simulate(alloc: Global, script: &[u8]) -> Result<World<Cut<MemDisk>>, SimulateError>
+    ensures run { IfOk result (RunsScript script.now) }
+    ensures fault { IfErr result (λ e. (number : ℕ) → e ≡ Fault number
+        → IsFirstFault (lines_of script.now) number) }
+{
+    Ok(play(alloc, script)?.into_world())
 }

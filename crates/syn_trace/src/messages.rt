@@ -21,7 +21,11 @@ fn goes_right(message: &Message) -> bool {
 }
 
 /// The message as it is sent: an arrow leads away from it.
-pub(crate) fn sent(alloc: Global, number: usize, message: &Message) -> Result<String, AllocError> {
+pub(crate) fn sent_text(
+    alloc: Global,
+    number: usize,
+    message: &Message,
+) -> Result<String, AllocError> {
     let said = said(alloc, message)?;
     if goes_right(message) {
         return format!(in alloc; "{number} {said} -->");
@@ -30,7 +34,7 @@ pub(crate) fn sent(alloc: Global, number: usize, message: &Message) -> Result<St
 }
 
 /// The message as it comes: an arrow leads to it. What is behind it says what became of it.
-pub(crate) fn came(
+pub(crate) fn came_text(
     alloc: Global,
     number: usize,
     message: &Message,

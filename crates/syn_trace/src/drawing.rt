@@ -1,0 +1,120 @@
+//! The chart of a run is drawn from what was heard in it.
+
+use crate::chart::Chart;
+use crate::happened::Happened;
+use crate::messages::{came_text, ends_of, is_late, sent_text};
+use crate::rows::{Row, rows_of};
+use std::alloc::{AllocError, Global};
+use std::mem;
+use syn_play::{Moment, Turn};
+use syn_script::Line;
+use syn_world::Lists;
+
+/// The chart of what happened as the lines were played: a column for each machine, and a row for
+/// each step, message, record, report, stop and opening, in order of time.
+///
+/// The turns are those of the lines, and the lists and the last moment those of the world behind
+/// them. It is refused where memory is.
+///
+/// An arrow leads away from a message that is sent, and to one that comes. Behind a message that
+/// comes stands `again` where it came before, `late` where nobody waits for it any more, and `lost`
+/// where the machine is down. At the end the messages that never came are named.
+pub fn draw(
+    alloc: Global,
+    lines: &[Line],
+    turns: &[Turn],
+    lists: &Lists,
+    last: &Moment,
+) -> Result<String, AllocError> {
+    let rows = rows_of(alloc, lines)?;
+    let mut rows = rows.iter();
+    let mut drawing = Drawing {
+        alloc,
+        lists,
+        has_come: vec![in alloc; false; lists.sent.len()]?,
+        chart: Chart::new(alloc)?,
+    };
+    for (index, turn) in turns.iter().enumerate() {
+        let happened = Happened {
+            lists,
+            before: turn.before,
+            behind: match turns.get(index + 1) {
+                Some(next) => next.before,
+                None => *last,
+            },
+        };
+        match turn.delivered {
+            Some(number) => drawing.add_coming(&turn.before, number)?,
+            None => drawing.add_step(rows.next(), &happened)?,
+        }
+        happened.add_to(alloc, &mut drawing.chart)?;
+    }
+    drawing.add_lost()?;
+    Ok(drawing.chart.into_text())
+}
+
+/// A chart that is drawn of a world with these lists.
+#[derive(Drop)]
+struct Drawing<'a> {
+    alloc: Global,
+    lists: &'a Lists,
+    /// Whether the message with each number came already.
+    has_come: Vec<bool>,
+    chart: Chart,
+}
+
+impl Drawing<'_> {
+    /// Adds the row of a line's step, with what became of it.
+    fn add_step(&mut self, row: Option<&Row>, happened: &Happened) -> Result<(), AllocError> {
+        let Some(row) = row else {
+            return Ok(());
+        };
+        let behind = happened.outcome(self.alloc, row.at, row.is_opening)?;
+        let text = format!(in self.alloc; "{}{behind}", row.text)?;
+        self.chart.add(row.at, &text)
+    }
+
+    /// Adds the row of a message that comes, if it was sent by then.
+    fn add_coming(&mut self, before: &Moment, number: usize) -> Result<(), AllocError> {
+        let Some(messages) = self.lists.sent.get(..before.sent) else {
+            return Ok(());
+        };
+        let Some(message) = messages.get(number) else {
+            return Ok(());
+        };
+        let (_, to) = ends_of(message);
+        let came_before = self.note(number);
+        let behind = if !before.is_up(to) {
+            " (lost)"
+        } else if came_before {
+            " (again)"
+        } else if is_late(messages, message) {
+            " (late)"
+        } else {
+            ""
+        };
+        let text = came_text(self.alloc, number, message, behind)?;
+        self.chart.add(to, &text)
+    }
+
+    /// Notes that the message with the number comes, and tells whether it came before.
+    fn note(&mut self, number: usize) -> bool {
+        match self.has_come.get_mut(number) {
+            Some(flag) => mem::replace(flag, true),
+            None => false,
+        }
+    }
+
+    /// Adds a row for each message that never came.
+    fn add_lost(&mut self) -> Result<(), AllocError> {
+        for (number, message) in self.lists.sent.iter().enumerate() {
+            if self.has_come.get(number) == Some(&false) {
+                let (from, _) = ends_of(message);
+                let text = sent_text(self.alloc, number, message)?;
+                let text = format!(in self.alloc; "{text} never came")?;
+                self.chart.add(from, &text)?;
+            }
+        }
+        Ok(())
+    }
+}

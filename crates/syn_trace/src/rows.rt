@@ -1,0 +1,70 @@
+//! What a chart says of the lines of a script.
+
+use std::alloc::{AllocError, Global};
+use syn_script::{Line, Machine as Named};
+use syn_tree::Edit;
+use syn_world::Machine;
+
+/// What a chart says of a line that makes one step at one machine.
+#[derive(Drop)]
+pub(crate) struct Row {
+    pub(crate) at: Machine,
+    pub(crate) text: String,
+    /// Whether the step opens the machine's disk.
+    pub(crate) is_opening: bool,
+}
+
+/// The rows of the lines, in order. A line that delivers messages has none: each message that
+/// comes has one.
+pub(crate) fn rows_of(alloc: Global, lines: &[Line]) -> Result<Vec<Row>, AllocError> {
+    let mut rows = Vec::new(alloc);
+    for line in lines {
+        if let Some(row) = row_of(alloc, line)? {
+            rows.push(row)?;
+        }
+    }
+    Ok(rows)
+}
+
+fn row_of(alloc: Global, line: &Line) -> Result<Option<Row>, AllocError> {
+    let (at, text) = match line {
+        Line::Edit(side, user, edit) => (
+            Machine::Side(*side),
+            format!(in alloc; "user {user}: {}", edit_text(alloc, edit)?)?,
+        ),
+        Line::Start => (Machine::Coordinator, format!(in alloc; "start")?),
+        Line::Tick => (Machine::Coordinator, format!(in alloc; "tick")?),
+        Line::Deliver(_, _) | Line::Drain => return Ok(None),
+        Line::Checkpoint(at) => (machine_of(*at), format!(in alloc; "checkpoint")?),
+        Line::Fail(at, call) => (
+            machine_of(*at),
+            format!(in alloc; "device call {call} is to fail")?,
+        ),
+        Line::Stop(at, calls, _) => (
+            machine_of(*at),
+            format!(in alloc; "to stop behind call {calls}")?,
+        ),
+        Line::Open(at) => (machine_of(*at), format!(in alloc; "open")?),
+        Line::Reopen(at) => (machine_of(*at), format!(in alloc; "reopen")?),
+    };
+    Ok(Some(Row {
+        at,
+        text,
+        is_opening: matches!(line, Line::Open(_) | Line::Reopen(_)),
+    }))
+}
+
+fn edit_text(alloc: Global, edit: &Edit) -> Result<String, AllocError> {
+    match edit {
+        Edit::Put(path, bytes) => format!(in alloc; "put {path} of {}", bytes.len()),
+        Edit::MakeDir(path) => format!(in alloc; "mkdir {path}"),
+        Edit::Remove(path) => format!(in alloc; "rm {path}"),
+    }
+}
+
+fn machine_of(named: Named) -> Machine {
+    match named {
+        Named::Side(side) => Machine::Side(side),
+        Named::Coordinator => Machine::Coordinator,
+    }
+}
