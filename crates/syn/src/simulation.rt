@@ -43,11 +43,32 @@ where
     F::File: HostFile,
 {
     let script = read_script(alloc, files, name)?;
-    let player = play(alloc, &script).map_err(failure_of)?;
-    let chart = chart_of(alloc, &script, &player).map_err(failure_of)?;
+    print_traced(alloc, &script, output)
+}
+
+/// Plays the script, and prints its chart and then the world behind it, which it answers.
+fn print_traced<O: Write>(
+    alloc: Global,
+    script: &[u8],
+    output: &mut O,
+) -> Result<World<Cut<MemDisk>>, Failure> {
+    let player = play(alloc, script).map_err(failure_of)?;
+    print_chart(alloc, script, &player, output)?;
+    let world = player.into_world();
+    show_world(alloc, &world, output)?;
+    Ok(world)
+}
+
+/// Prints the chart of the script, which was played.
+fn print_chart<O: Write>(
+    alloc: Global,
+    script: &[u8],
+    player: &Player<Cut<MemDisk>>,
+    output: &mut O,
+) -> Result<(), Failure> {
+    let chart = chart_of(alloc, script, player).map_err(failure_of)?;
     output.write_all(chart.as_bytes())?;
-    show_world(alloc, player.world(), output)?;
-    Ok(player.into_world())
+    Ok(())
 }
 
 /// The chart of the script, which was played.
