@@ -17,9 +17,9 @@ use std::time::Clock;
 use syn_command::{CommandError, Failure, Outcome, Status, print_meanings, report};
 use syn_disk::HostFile;
 use syn_files::{
-    Between, Telling, edit, print_image, print_numbers, run_session, serve_named, show,
+    Between, NamedDisks, Telling, edit, print_image, print_numbers, run_session, serve_named, show,
 };
-use syn_words::{Asked, Line, LineError, read_words};
+use syn_words::{Line, LineError, read_words};
 
 /// Carries out what the words ask for, of which the first is the program's own name. What is asked
 /// for goes to `output`, and why it is refused to `errors`, with what is told of a session. Whether
@@ -54,16 +54,16 @@ where
         Ok(asked) => asked,
         Err(error) => return tell(&error, output, errors),
     };
-    let disks = DisksInFiles(files);
-    let answer = carry_out(
+    let telling = telling_of(asked.is_verbose, is_terminal);
+    let answer = answer_of(
         rt,
         alloc,
-        &asked,
-        &disks,
+        &asked.line,
+        telling,
+        files,
         input,
         output,
         errors,
-        is_terminal,
     );
     if asked.is_verbose {
         report(Some(&asked.line), &answer, errors)
@@ -106,16 +106,25 @@ fn help<O: Write>(asked: &clap::Error, output: &mut O) -> Result<Outcome, Failur
     Ok(Outcome::Done)
 }
 
-/// Carries out the line, and answers what it came to.
-fn carry_out<H, F, I, O, E>(
+/// How much is told of a session.
+fn telling_of(is_verbose: bool, is_terminal: bool) -> Telling {
+    match (is_verbose, is_terminal) {
+        (false, _) => Telling::Nothing,
+        (true, false) => Telling::Items,
+        (true, true) => Telling::ItemsAndCounts,
+    }
+}
+
+/// Carries out the line on files and the disks in them, and answers what it came to.
+fn answer_of<H, F, I, O, E>(
     rt: &H,
     alloc: Global,
-    asked: &Asked<'_>,
-    disks: &DisksInFiles<'_, F>,
+    line: &Line<'_>,
+    telling: Telling,
+    files: &F,
     input: &mut I,
     output: &mut O,
     errors: &mut E,
-    is_terminal: bool,
 ) -> Result<Outcome, Failure>
 where
     H: Net<Listener = TcpListener, Stream = TcpStream> + Threads + Wait + Clock + Eprint,
@@ -126,8 +135,35 @@ where
     O: Write,
     E: Write,
 {
-    let telling = telling_of(asked.is_verbose, is_terminal);
-    let outcome = match asked.line {
+    let disks = DisksInFiles(files);
+    carry_out(
+        rt, alloc, line, telling, files, &disks, input, output, errors,
+    )
+}
+
+/// Carries out the line, and answers what it came to. The disks may be any.
+fn carry_out<H, F, N, I, O, E>(
+    rt: &H,
+    alloc: Global,
+    line: &Line<'_>,
+    telling: Telling,
+    files: &F,
+    disks: &N,
+    input: &mut I,
+    output: &mut O,
+    errors: &mut E,
+) -> Result<Outcome, Failure>
+where
+    H: Net<Listener = TcpListener, Stream = TcpStream> + Threads + Wait + Clock + Eprint,
+    H: Copy + Sync,
+    F: Files,
+    F::File: HostFile,
+    N: NamedDisks,
+    I: Read,
+    O: Write,
+    E: Write,
+{
+    let outcome = match *line {
         Line::Sync {
             archive,
             left,
@@ -145,7 +181,7 @@ where
             run_session(rt, alloc, disks, between, archive, telling, output, errors)?
         }
         _ => {
-            carry_out_one(rt, alloc, &asked.line, disks, input, output)?;
+            carry_out_one(rt, alloc, line, files, disks, input, output)?;
             Outcome::Done
         }
     };
@@ -153,21 +189,13 @@ where
     Ok(outcome)
 }
 
-/// How much is told of a session.
-fn telling_of(is_verbose: bool, is_terminal: bool) -> Telling {
-    match (is_verbose, is_terminal) {
-        (false, _) => Telling::Nothing,
-        (true, false) => Telling::Items,
-        (true, true) => Telling::ItemsAndCounts,
-    }
-}
-
 /// Carries out a line that runs no session.
-fn carry_out_one<H, F, I, O>(
+fn carry_out_one<H, F, N, I, O>(
     rt: &H,
     alloc: Global,
     line: &Line<'_>,
-    disks: &DisksInFiles<'_, F>,
+    files: &F,
+    disks: &N,
     input: &mut I,
     output: &mut O,
 ) -> Result<(), Failure>
@@ -175,13 +203,14 @@ where
     H: Net<Listener = TcpListener, Stream = TcpStream> + Threads + Wait + Clock + Eprint,
     H: Copy + Sync,
     F: Files,
-    F::File: HostFile + Send,
+    F::File: HostFile,
+    N: NamedDisks,
     I: Read,
     O: Write,
 {
     match line {
         Line::Format { kind, pair, file } => {
-            format(alloc, disks.0, file, *kind, *pair)?;
+            format(alloc, files, file, *kind, *pair)?;
             writeln!(output, "ok")?;
         }
         Line::Edit(line) => {
@@ -197,7 +226,7 @@ where
             connections,
         } => serve_named(rt, alloc, disks, file, address, *connections)?,
         Line::Simulate { script, is_traced } => {
-            play_script(alloc, disks.0, script, *is_traced, output)?;
+            play_script(alloc, files, script, *is_traced, output)?;
         }
         Line::Sync { .. } | Line::Run { .. } => {}
     }
