@@ -5,7 +5,7 @@ ghost use Rattle.syn_words.specs.declared.line.Line.{Line};
 
 use crate::files::DisksInFiles;
 use crate::format::format;
-use crate::simulation::{run_script, trace_script};
+use crate::simulation::{let_go, run_script, trace_script};
 use clap::error::ErrorKind;
 use std::alloc::Global;
 use std::fs::Files;
@@ -245,9 +245,9 @@ where
     F::File: HostFile,
 {
     if is_traced {
-        trace_script(alloc, files, script, output)?;
+        let_go(trace_script(alloc, files, script, output)?);
     } else {
-        run_script(alloc, files, script, output)?;
+        let_go(run_script(alloc, files, script, output)?);
     }
     Ok(())
 }

@@ -1,12 +1,15 @@
 //! What `syn simulate` prints.
 ghost use Rattle.std.specs.Prelude.{IfOk};
 ghost use Rattle.syn.specs.Simulated.{PrintsRun};
+ghost use Rattle.syn_script.specs.Words.{Text};
+ghost use Rattle.syn_simulate.specs.Simulations.{RunsScript};
 
 use std::alloc::Global;
 use std::fs::{Files, OpenOptions};
 use std::io::{Read, Write};
 use syn_command::{CommandError, Failure};
 use syn_disk::{Cut, HostFile, MemDisk};
+use syn_host::SimulatedDisk;
 use syn_play::{Moment, Player};
 use syn_script::Script;
 use syn_simulate::{SimulateError, play, show_world, simulate};
@@ -28,7 +31,7 @@ where
     ensures { IfOk result (PrintsRun (O.contents output.old) (O.contents output.new)) }
 {
     let script = read_script(alloc, files, name)?;
-    print_world(alloc, &script, output)
+    print_script(alloc, &script, output)
 }
 
 /// Draws each message, stop, opening and record of the script in the file, and prints the world
@@ -43,27 +46,40 @@ where
     F::File: HostFile,
 {
     let script = read_script(alloc, files, name)?;
-    print_traced(alloc, &script, output)
+    let player = play(alloc, &script).map_err(failure_of)?;
+    print_traced(alloc, &script, player, output)
 }
 
-/// Plays the script, and prints its chart and then the world behind it, which it answers.
-fn print_traced<O: Write>(
+/// Lets the world go. It is taken apart first: to let go of a whole one is long to prove, with all
+/// that it has.
+pub fn let_go<D: SimulatedDisk + Drop>(world: World<D>) {
+    let _ = world.into_disks();
+}
+
+/// Prints the chart of the script, which was played, and then the world behind it, which it
+/// answers.
+fn print_traced<D: SimulatedDisk + Drop, O: Write>(
     alloc: Global,
     script: &[u8],
+    player: Player<D>,
     output: &mut O,
-) -> Result<World<Cut<MemDisk>>, Failure> {
-    let player = play(alloc, script).map_err(failure_of)?;
-    print_chart(alloc, script, &player, output)?;
+) -> Result<World<D>, Failure> {
+    let printed = print_chart(alloc, script, &player, output);
     let world = player.into_world();
-    show_world(alloc, &world, output)?;
-    Ok(world)
+    match printed {
+        Ok(()) => print_world(alloc, world, output),
+        Err(why) => {
+            let_go(world);
+            Err(why)
+        }
+    }
 }
 
 /// Prints the chart of the script, which was played.
-fn print_chart<O: Write>(
+fn print_chart<D: SimulatedDisk, O: Write>(
     alloc: Global,
     script: &[u8],
-    player: &Player<Cut<MemDisk>>,
+    player: &Player<D>,
     output: &mut O,
 ) -> Result<(), Failure> {
     let chart = chart_of(alloc, script, player).map_err(failure_of)?;
@@ -72,10 +88,10 @@ fn print_chart<O: Write>(
 }
 
 /// The chart of the script, which was played.
-fn chart_of(
+fn chart_of<D: SimulatedDisk>(
     alloc: Global,
     script: &[u8],
-    player: &Player<Cut<MemDisk>>,
+    player: &Player<D>,
 ) -> Result<String, SimulateError> {
     let lines = Script::parse(alloc, script)?;
     let world = player.world();
@@ -84,7 +100,7 @@ fn chart_of(
 }
 
 /// Runs the script, and prints the world behind it, which it answers.
-fn print_world<O: Write>(
+fn print_script<O: Write>(
     alloc: Global,
     script: &[u8],
     output: &mut O,
@@ -92,8 +108,25 @@ fn print_world<O: Write>(
     ensures { IfOk result (PrintsRun (O.contents output.old) (O.contents output.new)) }
 {
     let world = simulate(alloc, script).map_err(failure_of)?;
-    show_world(alloc, &world, output)?;
-    Ok(world)
+    print_world(alloc, world, output)
+}
+
+/// Prints the world, which it answers.
+fn print_world<D: SimulatedDisk + Drop, O: Write>(
+    alloc: Global,
+    world: World<D>,
+    output: &mut O,
+) -> Result<World<D>, Failure>
+    ensures { (script : Text) → RunsScript script world
+        → IfOk result (PrintsRun (O.contents output.old) (O.contents output.new)) }
+{
+    match show_world(alloc, &world, output) {
+        Ok(()) => Ok(world),
+        Err(why) => {
+            let_go(world);
+            Err(Failure::from(why))
+        }
+    }
 }
 
 /// The bytes of the file.
