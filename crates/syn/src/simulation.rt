@@ -107,8 +107,10 @@ fn print_script<O: Write>(
 ) -> Result<World<Cut<MemDisk>>, Failure>
     ensures { IfOk result (PrintsRun (O.contents output.old) (O.contents output.new)) }
 {
-    let world = simulate(alloc, script).map_err(failure_of)?;
-    print_world(alloc, world, output)
+    match simulate(alloc, script) {
+        Ok(world) => print_world(alloc, world, output),
+        Err(error) => Err(failure_of(error)),
+    }
 }
 
 /// Prints the world, which it answers.
