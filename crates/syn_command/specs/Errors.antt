@@ -8,7 +8,8 @@ use Rattle.syn_archive.specs.Refusals.{refusal_of as of_archive}
 use Rattle.syn_refusal.specs.Refusals.{cause_of}
 use Rattle.syn_user.specs.Refusals.{refusal_of as of_user}
 use Rattle.syn_command.specs.declared.error.CommandError.{CommandError}
-use Rattle.syn_command.specs.declared.error.CommandError.TheVariants.{Path, Open, Replica, Archive, Machine}
+use Rattle.syn_command.specs.declared.error.CommandError.TheVariants.{Path, Open, Replica, Archive}
+use Rattle.syn_command.specs.declared.error.CommandError.TheVariants.{Machine}
 use Rattle.syn_command.specs.declared.error.CommandError.TheVariants.{Device, Longer, Memory}
 use Rattle.syn_command.specs.declared.error.CommandError.TheVariants.{Network, User}
 

@@ -10,6 +10,7 @@ use std::thread::Threads;
 use std::time::{Clock, Duration};
 use syn_command::{CommandError, read_edit};
 use syn_daemon::{OpenGates, Plain, serve};
+use syn_disk::Disk;
 use syn_path::Path;
 use syn_refusal::Refusal;
 use syn_shared::SharedReplica;
@@ -39,12 +40,28 @@ where
     N: NamedDisks,
 {
     let replica = replica_in(alloc, disks, name)?;
+    match SharedReplica::new(alloc, replica) {
+        Ok(shared) => serve_shared(rt, alloc, &shared, address, connections),
+        Err(_) => Err(CommandError::Memory),
+    }
+}
+
+/// Serves the replica at the address.
+fn serve_shared<H, D>(
+    rt: &H,
+    alloc: Global,
+    shared: &SharedReplica<D>,
+    address: &str,
+    connections: Option<u64>,
+) -> Result<(), CommandError>
+where
+    H: Net<Listener = TcpListener, Stream = TcpStream> + Threads + Wait + Clock + Eprint,
+    H: Copy + Sync,
+    D: Disk + Send,
+{
     let listener = TcpListener::bind(rt, address)?;
-    let Ok(shared) = SharedReplica::new(alloc, replica) else {
-        return Err(CommandError::Memory);
-    };
     let logged = Logged::new(*rt, LevelFilter::Info, Plain(*rt));
-    match serve(&logged, alloc, &shared, &listener, connections, &OpenGates) {
+    match serve(&logged, alloc, shared, &listener, connections, &OpenGates) {
         Ok(()) => Ok(()),
         Err(why) => Err(CommandError::Network(why)),
     }

@@ -61,14 +61,12 @@ where
 {
     if let Telling::Nothing = telling {
         let coordinator = drive(rt, alloc, disks, between, archive, &mut Unwatched)?;
-        return print_session(alloc, reported(&coordinator)?, output);
+        return print_session(alloc, &coordinator, output);
     }
     let counts = telling == Telling::ItemsAndCounts;
     let mut progress = Progress::new(alloc, errors, counts);
     let coordinator = drive(rt, alloc, disks, between, archive, &mut progress)?;
-    let report = reported(&coordinator)?;
-    progress.finish(report);
-    print_session(alloc, report, output)
+    print_told(alloc, &coordinator, &mut progress, output)
 }
 
 /// Runs a session, and answers the coordinator that ran it.
@@ -95,11 +93,47 @@ where
         }
         Between::Named { left, right } => {
             let left = shared_in(alloc, disks, left)?;
-            let right = shared_in(alloc, disks, right)?;
-            let coordinator = Coordinator::new(alloc, archive_in(alloc, disks, archive)?);
-            drive_shared(rt, alloc, &left, &right, coordinator, watch)
+            drive_with(rt, alloc, disks, &left, right, archive, watch)
         }
     }
+}
+
+/// Runs a session between a replica and that of the name.
+fn drive_with<H, N, V>(
+    rt: &H,
+    alloc: Global,
+    disks: &N,
+    left: &SharedReplica<N::Disk>,
+    right: &str,
+    archive: &str,
+    watch: &mut V,
+) -> Result<Coordinator<Cut<N::Disk>>, CommandError>
+where
+    H: Net<Listener = TcpListener, Stream = TcpStream> + Threads + Wait + Clock + Copy + Sync,
+    N: NamedDisks,
+    V: Watch,
+{
+    let right = shared_in(alloc, disks, right)?;
+    drive_over(rt, alloc, disks, left, &right, archive, watch)
+}
+
+/// Runs a session between two replicas, over the archive of the name.
+fn drive_over<H, N, V>(
+    rt: &H,
+    alloc: Global,
+    disks: &N,
+    left: &SharedReplica<N::Disk>,
+    right: &SharedReplica<N::Disk>,
+    archive: &str,
+    watch: &mut V,
+) -> Result<Coordinator<Cut<N::Disk>>, CommandError>
+where
+    H: Net<Listener = TcpListener, Stream = TcpStream> + Threads + Wait + Clock + Copy + Sync,
+    N: NamedDisks,
+    V: Watch,
+{
+    let coordinator = Coordinator::new(alloc, archive_in(alloc, disks, archive)?);
+    drive_shared(rt, alloc, left, right, coordinator, watch)
 }
 
 /// Serves both replicas on loopback ports as long as a session between them runs. The servers log
@@ -155,12 +189,26 @@ fn reported<D: Disk>(coordinator: &Coordinator<D>) -> Result<&Report, CommandErr
     }
 }
 
-/// Prints the report, and answers what the session came to.
-fn print_session<O: Write>(
+/// Prints the report of the session, and answers what it came to.
+fn print_session<D: Disk, O: Write>(
     alloc: Global,
-    report: &Report,
+    coordinator: &Coordinator<D>,
     output: &mut O,
 ) -> Result<Outcome, CommandError> {
+    let report = reported(coordinator)?;
+    show_report(alloc, report, output)?;
+    Ok(outcome_of(report))
+}
+
+/// Ends what is told of the session, and then does the same.
+fn print_told<D: Disk, O: Write, W: Write>(
+    alloc: Global,
+    coordinator: &Coordinator<D>,
+    progress: &mut Progress<W>,
+    output: &mut O,
+) -> Result<Outcome, CommandError> {
+    let report = reported(coordinator)?;
+    progress.finish(report);
     show_report(alloc, report, output)?;
     Ok(outcome_of(report))
 }

@@ -1,6 +1,6 @@
 //! The commands of the program, as `clap` reads and explains them.
 ghost use Rattle.std.specs.Prelude.{◌≡◌, IfOk, false};
-ghost use Rattle.clap.specs.Words.{app_of, with_rule};
+ghost use Rattle.clap.specs.Words.{app_of, rule_of, with_rule};
 ghost use Rattle.clap.specs.declared.Command.TheViews.{out-Command};
 ghost use Rattle.syn_words.specs.App.{flag_rule, option_rule, syn_app, top_app, verb_app};
 ghost use Rattle.syn_words.specs.App.{verbose_rule, with_options, word_app};
@@ -28,7 +28,15 @@ const SERVED: &str = "Asks the server at HOST:PORT, which stands in the place of
 /// What the help says of the flag by which a simulation tells its steps.
 const TRACE: &str = "Prints each message, stop and opening before the reports";
 
-/// The command with the flag, whose id is its long name too.
+/// A flag, whose id is its long name too.
+fn flag<'a>(alloc: Global, id: &'a str) -> Arg<'a>
+    ensures rule { rule_of result ≡ flag_rule id.entry.now }
+    ensures local { result.global ≡ false }
+{
+    Arg::new(alloc, id).long(id).action(ArgAction::SetTrue)
+}
+
+/// The command with the flag of this long name.
 fn with_flag<'a>(
     alloc: Global,
     command: Command<'a>,
@@ -40,8 +48,7 @@ fn with_flag<'a>(
         app_of c ≡ with_rule (app_of command.entry) (flag_rule id.entry.now)) }
     ensures globals { IfOk result (λ c. (out-Command c).has_globals ≡ false) }
 {
-    let flag = Arg::new(alloc, id).long(id).action(ArgAction::SetTrue);
-    command.arg(flag.help(help))
+    command.arg(flag(alloc, id).help(help))
 }
 
 /// The command with the option of this long name, which has a value.
@@ -67,11 +74,7 @@ fn with_verbose<'a>(alloc: Global, command: Command<'a>) -> Result<Command<'a>, 
     ensures app { IfOk result (λ c. app_of c ≡ with_rule (app_of command.entry) verbose_rule) }
     ensures globals { IfOk result (λ c. (out-Command c).has_globals ≡ false) }
 {
-    let flag = Arg::new(alloc, "verbose")
-        .short('v')
-        .long("verbose")
-        .action(ArgAction::SetTrue);
-    command.arg(flag.help(VERBOSE))
+    command.arg(flag(alloc, "verbose").short('v').help(VERBOSE))
 }
 
 /// A command with its values, each required, in the order of their names.

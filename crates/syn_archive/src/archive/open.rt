@@ -1,6 +1,6 @@
 //! An opening: an archive finds out what a disk, or its own, stands for.
-ghost use Rattle.std.specs.Prelude.{◌≡◌, ◌≢◌, ◌⊎◌, ◌<◌, ◌^◌, ℕ, true, false, Some, IfOk, IfErr, OnOk};
-ghost use Rattle.std.specs.Prelude.{MatchResult};
+ghost use Rattle.std.specs.Prelude.{◌≡◌, ◌≢◌, ◌⊎◌, ◌<◌, ◌^◌, ℕ, true, false, Some, IfOk, IfErr};
+ghost use Rattle.std.specs.Prelude.{OnOk, MatchResult};
 ghost use Rattle.syn_disk.specs.Calls.{MakesAtLeast};
 ghost use Rattle.syn_disk.specs.Stops.{Untouched};
 ghost use Rattle.syn_model.specs.Archive.{Archive as KeptArchive, Kept, after_kept};
