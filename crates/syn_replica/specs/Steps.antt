@@ -45,12 +45,6 @@ abbrev pub is_done : History → Token → Bool
 is_done history token =
     option_map_or (λ last. is_same_token last token) (last_token history) false
 
--- the path was touched since, or the position does not tell
-abbrev pub since_causes : History → Path → ℕ → List Cause
-since_causes history path since =
-    (nat_lt since (floor history) || nat_lt (length history) since, BelowFloor)
-    ∷ (not (is_quiet history since (length history) path), Touched) ∷ []
-
 -- the bytes of a subtree's spelling from the offset on, the first of them where there are more
 abbrev pub piece : History → Path → ℕ → Bytes
 piece history path offset =
