@@ -13,6 +13,7 @@ use Rattle.syn_replica.specs.Steps.{add_refusal, room_causes, replace_refusal, i
 use Rattle.syn_standing.specs.Causes.{since_causes}
 use Rattle.syn_standing.specs.declared.error.ReplicaError.{ReplicaError}
 use Rattle.syn_standing.proofs.CauseLemmas.{first_stays, first_skips}
+use Rattle.syn_standing.proofs.SinceLemmas.{first_true, first_false}
 
 -- ---- the causes of a replacement in a row
 

@@ -1,15 +1,14 @@
 -- What the bytes of a disk stand for.
-use Rattle.std.specs.Prelude.{◌≡◌, ◌≢◌, ◌⊎◌, ◌<◌, ◌^◌, ℕ, List, [], Ok, Err, Option}
-use Rattle.std.specs.Prelude.{Some}
+use Rattle.std.specs.Prelude.{◌≡◌, ◌⊎◌, ◌<◌, ℕ, List, [], Ok, Err, Option, Some}
 use Rattle.syn_journal.specs.Layout.{Value, HasJournal, meaning, bytes_left, record_size}
 use Rattle.syn_journal.specs.Layout.{image_alone, no_image, damaged}
 use Rattle.syn_journal.specs.declared.error.JournalError.TheVariants as journal
-use Rattle.syn_model.specs.Path.{Bytes}
 use Rattle.syn_model.specs.Event.{Event}
 use Rattle.syn_model.specs.Standing.{Standing}
 use Rattle.syn_model.specs.History.{History}
 use Rattle.syn_model.specs.Spelling.{event_spelling}
 use Rattle.syn_model.specs.Image.{Gives, StandsFor, image_spelling}
+use Rattle.syn_standing.specs.Readings.{GivesOtherPair, GivesNothing}
 use Rattle.syn_standing.specs.declared.error.ReplicaError.{ReplicaError}
 use Rattle.syn_standing.specs.declared.error.ReplicaError.TheVariants.{Journal, Memory, Damaged}
 use Rattle.syn_standing.specs.declared.error.ReplicaError.TheVariants.{WrongPair}

@@ -15,6 +15,7 @@ use Rattle.syn_model.specs.History.{is_quiet, last_session, last_token, floor}
 use Rattle.syn_model.specs.Spelling.{event_spelling, spelling}
 use Rattle.syn_disk.specs.Arms.{Arms}
 use Rattle.syn_disk.specs.Calls.{Makes}
+use Rattle.syn_standing.specs.Causes.{since_causes}
 use Rattle.syn_replica.specs.declared.replica.session.TokenStanding.{TokenStanding}
 use Rattle.syn_replica.specs.declared.replica.session.TokenStanding.TheVariants.{Done, Old, Open}
 
