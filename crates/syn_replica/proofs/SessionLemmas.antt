@@ -1,14 +1,14 @@
 -- Why a replacement is refused, as it is found out step by step.
-use Rattle.std.proofs.Common.{◌≡◌, ◌≢◌, ◌==◌, ◌⊎◌, ◌<◌, ℕ, Bool, true, false, not, ◌||◌, if◌then◌else◌, nat_lt, List, [], ◌∷◌, ◌++◌, length, refl, sym, ap, ap₂, ◌∙◌, Some, None, inl, inr, append_assoc, arith, ◌+◌, Result, Ok, Err}
+use Rattle.std.proofs.Common.{◌≡◌, ◌≢◌, ◌==◌, ℕ, true, false, if◌then◌else◌, List, [], ◌∷◌, ◌++◌, length, sym, ap, ◌∙◌, Some, None, append_assoc, arith, ◌+◌, Result, Ok, Err}
 use Rattle.std.specs.Prelude.{IfOk}
 use Rattle.std.proofs.lemmas.List.{length-append}
 use Rattle.std.proofs.lemmas.Bool.Decides.{nat_tests}
 use Rattle.syn_model.specs.Path.{Path}
 use Rattle.syn_model.specs.Tree.{Tree, replace}
 use Rattle.syn_model.specs.Event.{Token, Event, Began, Replaced}
-use Rattle.syn_model.specs.Refusal.{Refusal, OldSession, BelowFloor, Touched, Cause, first_cause}
+use Rattle.syn_model.specs.Refusal.{Refusal, OldSession, Cause, first_cause}
 use Rattle.syn_model.specs.Standing.{place_causes, full_causes}
-use Rattle.syn_model.specs.History.{History, tree_of, floor, is_quiet, is_old_token, last_session, position_causes}
+use Rattle.syn_model.specs.History.{History, tree_of, is_old_token, last_session, position_causes}
 use Rattle.syn_replica.specs.Steps.{add_refusal, room_causes, replace_refusal, is_done, replaced, begun}
 use Rattle.syn_standing.specs.Causes.{since_causes}
 use Rattle.syn_standing.specs.declared.error.ReplicaError.{ReplicaError}

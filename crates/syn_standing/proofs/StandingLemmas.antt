@@ -1,12 +1,9 @@
 -- Why an event is refused in a standing, as it is found out step by step.
-use Rattle.std.proofs.Common.{◌≡◌, ◌≢◌, ◌⊎◌, ◌<◌, ◌≤◌, ℕ, true, false, if◌then◌else◌, nat_le, nat_lt, List, [], ◌∷◌, ◌++◌, length, sym, ap, ◌∙◌, Option, Some, None, inl, inr, refl, append_assoc, arith}
-use Rattle.std.specs.Int.{to_be_bytes, w32, w64}
-use Rattle.std.proofs.lemmas.Bool.Decides.{nat_tests}
-use Rattle.syn_model.specs.Spelling.{event_spelling, spelling, token_spelling}
+use Rattle.std.proofs.Common.{◌≡◌, ◌≢◌, ◌⊎◌, ℕ, nat_le, List, [], ◌∷◌, ◌++◌, sym, ap, ◌∙◌, Option, Some, None, inl, inr, refl, append_assoc}
 use Rattle.std.proofs.lemmas.Option.{none-some}
 use Rattle.syn_model.specs.Tree.{Tree, replace}
-use Rattle.syn_model.specs.Path.{Path, path_spelling}
-use Rattle.syn_model.specs.Event.{Token, Edit, Put, MakeDir, Remove, Event, Edited, Began, Replaced, after_edit}
+use Rattle.syn_model.specs.Path.{Path}
+use Rattle.syn_model.specs.Event.{Token, Edit, Event, Edited, Began, Replaced, after_edit}
 use Rattle.syn_model.specs.Refusal.{Refusal, OldSession, Cause, first_cause}
 use Rattle.syn_model.specs.Refusal as why
 use Rattle.syn_model.specs.Standing.{Standing, causes_at, refusal_at, edit_refusal, edit_causes, full_causes, full_position, place_causes, is_old}

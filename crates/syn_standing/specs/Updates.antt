@@ -1,10 +1,10 @@
 -- How a standing goes on by an event.
-use Rattle.std.specs.Prelude.{◌≡◌, ◌<◌, ℕ, List, [], ◌∷◌, ◌++◌, Option, Some, None, IfSome, refl}
+use Rattle.std.specs.Prelude.{◌≡◌, ◌<◌, List, [], ◌∷◌, Option, Some, None, IfSome, refl}
 use Rattle.std.specs.Coded.{Coded, code_by, coded×}
 use Rattle.syn_model.specs.Tree.{Tree, coded_tree}
 use Rattle.syn_model.specs.Limits.{greatest}
 use Rattle.syn_model.specs.Event.{Event, Edited, Began, Replaced, after_event}
-use Rattle.syn_model.specs.Refusal.{Refusal, Cause, OldSession, first_cause}
+use Rattle.syn_model.specs.Refusal.{Refusal, Cause, OldSession}
 use Rattle.syn_model.specs.Standing.{Standing, causes_at, edit_refusal, is_old}
 use Rattle.syn_tree.specs.Change.{Replacement, IsPreparedFor, after_change}
 use Rattle.syn_tree.specs.Lists.{replace_refusal}
