@@ -24,12 +24,12 @@ use Rattle.syn_model.specs.Refusal.{Refusal, Cause, first_cause, WrongPair, OldS
 use Rattle.syn_model.specs.Refusal as why
 use Rattle.syn_model.specs.Spelling.{event_spelling}
 use Rattle.syn_replica.specs.Refusals.{CountsFailures, IsOneOf, MakesIfDevice, outside_refusals}
-use Rattle.syn_replica.specs.Refusals.{refusal_of}
+use Rattle.syn_standing.specs.Refusals.{refusal_of}
 use Rattle.syn_replica.specs.Replica.{HasRecord, IsHalted, KeepsBeforeOrAfter, KeepsReadings}
 use Rattle.syn_replica.specs.Replica.{Stands, Tries, disk_of, journal_of, left_shown, pair_of}
 use Rattle.syn_replica.specs.Replica.{room_shown, standing_shown, tried_shown}
 use Rattle.syn_replica.specs.Steps.{MakesIfNew, begin_refusal, begun, room_causes}
-use Rattle.syn_replica.specs.declared.error.ReplicaError.{ReplicaError}
+use Rattle.syn_standing.specs.declared.error.ReplicaError.{ReplicaError}
 use Rattle.syn_replica.specs.declared.replica.Replica.{Replica}
 
 module _ (room left own session pair : ℕ) (history : History) (agent : Agent)

@@ -10,10 +10,11 @@ use Rattle.syn_headline.specs.Side.{Side, Served, Reply, Refused, answer, unless
 use Rattle.syn_journal.specs.declared.error.JournalError.TheVariants as journal
 use Rattle.syn_model.specs.Refusal.{Refusal, Cause, first_cause, number}
 use Rattle.syn_model.specs.Refusal as why
-use Rattle.syn_replica.specs.Refusals.{IsOneOf, outside_refusals, refusal_of}
+use Rattle.syn_replica.specs.Refusals.{IsOneOf, outside_refusals}
+use Rattle.syn_standing.specs.Refusals.{refusal_of}
 use Rattle.syn_replica.specs.Refusals as replica
-use Rattle.syn_replica.specs.declared.error.ReplicaError.{ReplicaError}
-use Rattle.syn_replica.specs.declared.error.ReplicaError.TheVariants.{Tree, History, Journal}
+use Rattle.syn_standing.specs.declared.error.ReplicaError.{ReplicaError}
+use Rattle.syn_standing.specs.declared.error.ReplicaError.TheVariants.{Tree, History, Journal}
 use Rattle.syn_history.specs.Refusals.{refusal_of as of_history}
 use Rattle.syn_history.specs.declared.error.HistoryError.{HistoryError}
 use Rattle.syn_history.specs.declared.error.HistoryError.TheVariants as history

@@ -29,13 +29,13 @@ use Rattle.syn_model.specs.Spelling.{event_spelling}
 use Rattle.syn_model.specs.Standing.{full_causes, place_causes}
 use Rattle.syn_model.specs.Tree.{Tree, replace}
 use Rattle.syn_replica.specs.Refusals.{CountsFailures, IsOneOf, MakesIfDevice, outside_refusals}
-use Rattle.syn_replica.specs.Refusals.{refusal_of}
+use Rattle.syn_standing.specs.Refusals.{refusal_of}
 use Rattle.syn_replica.specs.Replica.{HasRecord, IsHalted, KeepsBeforeOrAfter, KeepsReadings}
 use Rattle.syn_replica.specs.Replica.{Stands, Tries, disk_of, journal_of, left_shown, pair_of}
 use Rattle.syn_replica.specs.Replica.{room_shown, tried_shown}
 use Rattle.syn_replica.specs.Steps.{MakesIfNew, is_done, replace_refusal, replaced, room_causes}
-use Rattle.syn_replica.specs.Steps.{since_causes}
-use Rattle.syn_replica.specs.declared.error.ReplicaError.{ReplicaError}
+use Rattle.syn_standing.specs.Causes.{since_causes}
+use Rattle.syn_standing.specs.declared.error.ReplicaError.{ReplicaError}
 use Rattle.syn_replica.specs.declared.replica.Replica.{Replica}
 use Rattle.syn_replica.specs.declared.replica.session.TokenStanding.TheVariants as TokenStanding
 

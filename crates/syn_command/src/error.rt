@@ -10,7 +10,7 @@ use syn_archive::ArchiveError;
 use syn_disk::OpenError;
 use syn_path::PathError;
 use syn_refusal::Refusal;
-use syn_replica::ReplicaError;
+use syn_standing::ReplicaError;
 use syn_show::ShowError;
 use syn_user::UserError;
 use thiserror::Error;

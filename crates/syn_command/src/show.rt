@@ -15,7 +15,8 @@ use std::alloc::Global;
 use std::io::Write;
 use syn_disk::Disk;
 use syn_path::Path;
-use syn_replica::{Replica, ReplicaError};
+use syn_replica::Replica;
+use syn_standing::ReplicaError;
 use syn_show::{show_archive, show_below, show_replica};
 use syn_tree::{Found, TreeError};
 

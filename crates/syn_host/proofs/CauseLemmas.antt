@@ -18,11 +18,12 @@ use Rattle.syn_model.specs.Refusal.{Refusal, Cause, first_cause, number}
 use Rattle.syn_model.specs.Refusal as why
 use Rattle.syn_model.specs.Spelling.{event_spelling}
 use Rattle.syn_replica.specs.Refusals.{AfterReads, IsOneOf, MakesIfDevice, checkpoint_refusals}
-use Rattle.syn_replica.specs.Refusals.{outside_refusals, refusal_of}
+use Rattle.syn_replica.specs.Refusals.{outside_refusals}
+use Rattle.syn_standing.specs.Refusals.{refusal_of}
 use Rattle.syn_replica.specs.Steps.{add_refusal, room_causes}
-use Rattle.syn_replica.specs.declared.error.ReplicaError.{ReplicaError}
-use Rattle.syn_replica.specs.declared.error.ReplicaError.TheVariants.{Tree, History as OfHistory}
-use Rattle.syn_replica.specs.declared.error.ReplicaError.TheVariants.{Journal}
+use Rattle.syn_standing.specs.declared.error.ReplicaError.{ReplicaError}
+use Rattle.syn_standing.specs.declared.error.ReplicaError.TheVariants.{Tree, History as OfHistory}
+use Rattle.syn_standing.specs.declared.error.ReplicaError.TheVariants.{Journal}
 use Rattle.syn_history.specs.Refusals.{refusal_of as of_history}
 use Rattle.syn_history.specs.declared.error.HistoryError.{HistoryError}
 use Rattle.syn_history.specs.declared.error.HistoryError.TheVariants as history

@@ -27,9 +27,9 @@ use Rattle.syn_recovery.specs.Machines.{of_archive, of_side}
 use Rattle.syn_recovery.specs.Meaning.{MayBeOf, MeansAsKept, as_kept}
 use Rattle.syn_replica.specs.Disks.{DiskStands, IsOpenRefusal}
 use Rattle.syn_replica.specs.Replica.{Stands, disk_of, pair_of}
-use Rattle.syn_replica.specs.declared.error.ReplicaError.{ReplicaError}
-use Rattle.syn_replica.specs.declared.error.ReplicaError.TheVariants.{WrongPair}
-use Rattle.syn_replica.specs.declared.error.ReplicaError.TheVariants.{Journal as OfJournal}
+use Rattle.syn_standing.specs.declared.error.ReplicaError.{ReplicaError}
+use Rattle.syn_standing.specs.declared.error.ReplicaError.TheVariants.{WrongPair}
+use Rattle.syn_standing.specs.declared.error.ReplicaError.TheVariants.{Journal as OfJournal}
 use Rattle.syn_replica.specs.declared.replica.Replica.{Replica}
 use Rattle.syn_session.specs.Coordinators.{Stands as StandsAs}
 use Rattle.syn_session.specs.Machines.{IsMachine, Journal}

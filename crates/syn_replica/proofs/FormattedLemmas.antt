@@ -11,7 +11,7 @@ use Rattle.syn_journal.specs.Refusals.{IsFormatRefusal}
 use Rattle.syn_journal.specs.declared.error.JournalError.{JournalError}
 use Rattle.syn_journal.specs.declared.error.JournalError.TheVariants as journal
 use Rattle.syn_replica.specs.Refusals.{IsOneOf, format_refusals}
-use Rattle.syn_replica.specs.declared.error.ReplicaError.TheVariants.{Journal}
+use Rattle.syn_standing.specs.declared.error.ReplicaError.TheVariants.{Journal}
 
 pub nothing_yet : new_standing ≡ standing_of []
 unfolding tree_of

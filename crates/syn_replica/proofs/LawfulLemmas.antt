@@ -8,12 +8,12 @@ use Rattle.syn_model.specs.History.{History}
 use Rattle.syn_model.specs.Image.{StandsFor}
 use Rattle.syn_model.specs.Refusal.{Device, Memory as NoMemory}
 use Rattle.syn_replica.specs.Disks.{DiskStands, IsOpenRefusal}
-use Rattle.syn_replica.specs.Refusals.{refusal_of}
-use Rattle.syn_replica.specs.declared.error.ReplicaError.{ReplicaError}
-use Rattle.syn_replica.specs.declared.error.ReplicaError.TheVariants.{Tree, History as OfHistory}
-use Rattle.syn_replica.specs.declared.error.ReplicaError.TheVariants.{Journal, Memory, Touched}
-use Rattle.syn_replica.specs.declared.error.ReplicaError.TheVariants.{OldSession, Damaged, WrongPair}
-use Rattle.syn_replica.specs.inner.Openings.{OneIsGiven}
+use Rattle.syn_standing.specs.Refusals.{refusal_of}
+use Rattle.syn_standing.specs.declared.error.ReplicaError.{ReplicaError}
+use Rattle.syn_standing.specs.declared.error.ReplicaError.TheVariants.{Tree, History as OfHistory}
+use Rattle.syn_standing.specs.declared.error.ReplicaError.TheVariants.{Journal, Memory, Touched}
+use Rattle.syn_standing.specs.declared.error.ReplicaError.TheVariants.{OldSession, Damaged, WrongPair}
+use Rattle.syn_standing.specs.Readings.{OneIsGiven}
 
 not_both : (r : Result Value Fault) (v : Value) (f : Fault) → r ≡ Ok v → r ≡ Err f → ⊥
 not_both r v f ok err = cc

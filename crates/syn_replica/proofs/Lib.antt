@@ -1,7 +1,4 @@
-pub mod CauseLemmas
-pub mod StandingLemmas
-pub mod AlikeLemmas
-pub mod OpeningLemmas
+pub mod RoomLemmas
 pub mod StandLemmas
 pub mod RefusalLemmas
 pub mod MeaningLemmas

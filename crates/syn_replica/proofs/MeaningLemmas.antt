@@ -6,11 +6,12 @@ use Rattle.syn_journal.specs.Layout.{Value, Fault, meaning}
 use Rattle.syn_journal.specs.Refusals as journal
 use Rattle.syn_journal.specs.declared.error.JournalError.{JournalError}
 use Rattle.syn_journal.specs.declared.error.JournalError.TheVariants as refused
-use Rattle.syn_replica.specs.Disks.{IsOfOtherPair, GivesOtherPair, GivesNothing, IsOpenRefusal}
+use Rattle.syn_replica.specs.Disks.{IsOfOtherPair, IsOpenRefusal}
+use Rattle.syn_standing.specs.Readings.{GivesOtherPair, GivesNothing}
 use Rattle.syn_replica.specs.Refusals.{CountsFailures, AfterReads, IsOneOf, hiding_refusals}
-use Rattle.syn_replica.specs.inner.Openings.{IsOfMeaning}
-use Rattle.syn_replica.specs.declared.error.ReplicaError.{ReplicaError}
-use Rattle.syn_replica.specs.declared.error.ReplicaError.TheVariants.{Tree, History, Journal, Memory, Touched, OldSession, Damaged, WrongPair}
+use Rattle.syn_standing.specs.Readings.{IsOfMeaning}
+use Rattle.syn_standing.specs.declared.error.ReplicaError.{ReplicaError}
+use Rattle.syn_standing.specs.declared.error.ReplicaError.TheVariants.{Tree, History, Journal, Memory, Touched, OldSession, Damaged, WrongPair}
 
 is_ok : Result Value Fault → Bool
 is_ok (Ok value) = true

@@ -8,8 +8,9 @@ use Rattle.syn_model.specs.Refusal.{Refusal, number, Cause, first_cause}
 use Rattle.syn_model.specs.Refusal as why
 use Rattle.syn_model.specs.Event.{Edit, Put, MakeDir, Remove, Edited}
 use Rattle.syn_model.specs.Standing.{Standing, causes_at, refusal_at}
-use Rattle.syn_replica.specs.Refusals.{IsOneOf, refusal_of, edit_refusals, outside_refusals}
-use Rattle.syn_replica.specs.declared.error.ReplicaError.{ReplicaError}
+use Rattle.syn_replica.specs.Refusals.{IsOneOf, edit_refusals, outside_refusals}
+use Rattle.syn_standing.specs.Refusals.{refusal_of}
+use Rattle.syn_standing.specs.declared.error.ReplicaError.{ReplicaError}
 
 abbrev pub is_among : List Refusal → Refusal → Bool
 is_among refusals refusal = list_any (λ why. number why == number refusal) refusals

@@ -14,10 +14,10 @@ use Rattle.syn_replica.specs.Growth.{KeepsUp, WithTried}
 use Rattle.syn_replica.specs.Refusals.{IsOneOf, outside_refusals}
 use Rattle.syn_replica.specs.Replica.{pair_of, position_shown, disk_of, tried_shown, Stands}
 use Rattle.syn_replica.specs.Growing.{remembered}
-use Rattle.syn_replica.specs.inner.Openings.{OneIsGiven, IsOfMeaning}
+use Rattle.syn_standing.specs.Readings.{OneIsGiven, IsOfMeaning}
 use Rattle.syn_replica.specs.declared.replica.Replica.{Replica}
-use Rattle.syn_replica.specs.declared.error.ReplicaError.{ReplicaError}
-use Rattle.syn_replica.specs.declared.error.ReplicaError.TheVariants.{Tree, History as OfHistory, Journal, Memory, Touched, OldSession, Damaged, WrongPair}
+use Rattle.syn_standing.specs.declared.error.ReplicaError.{ReplicaError}
+use Rattle.syn_standing.specs.declared.error.ReplicaError.TheVariants.{Tree, History as OfHistory, Journal, Memory, Touched, OldSession, Damaged, WrongPair}
 use Rattle.syn_replica.proofs.GrowthLemmas.{disk_keeps}
 use Rattle.syn_replica.proofs.MeaningLemmas.{no_value, one_value}
 

@@ -1,55 +1,19 @@
 -- Why a replacement is refused, as it is found out step by step.
-use Rattle.std.proofs.Common.{◌≡◌, ◌≢◌, ◌==◌, ◌⊎◌, ◌<◌, ℕ, Bool, true, false, not, ◌||◌, if◌then◌else◌, nat_lt, List, [], ◌∷◌, ◌++◌, length, refl, sym, ap, ap₂, ◌∙◌, Some, None, inl, inr, append_assoc, arith, ◌+◌, Result, Ok, Err}
+use Rattle.std.proofs.Common.{◌≡◌, ◌≢◌, ◌==◌, ℕ, true, false, if◌then◌else◌, List, [], ◌∷◌, ◌++◌, length, sym, ap, ◌∙◌, Some, None, append_assoc, arith, ◌+◌, Result, Ok, Err}
 use Rattle.std.specs.Prelude.{IfOk}
 use Rattle.std.proofs.lemmas.List.{length-append}
 use Rattle.std.proofs.lemmas.Bool.Decides.{nat_tests}
 use Rattle.syn_model.specs.Path.{Path}
 use Rattle.syn_model.specs.Tree.{Tree, replace}
 use Rattle.syn_model.specs.Event.{Token, Event, Began, Replaced}
-use Rattle.syn_model.specs.Refusal.{Refusal, OldSession, BelowFloor, Touched, Cause, first_cause}
+use Rattle.syn_model.specs.Refusal.{Refusal, OldSession, Cause, first_cause}
 use Rattle.syn_model.specs.Standing.{place_causes, full_causes}
-use Rattle.syn_model.specs.History.{History, tree_of, floor, is_quiet, is_old_token, last_session, position_causes}
-use Rattle.syn_replica.specs.Steps.{add_refusal, room_causes, since_causes, replace_refusal, is_done, replaced, begun}
-use Rattle.syn_replica.specs.declared.error.ReplicaError.{ReplicaError}
-use Rattle.syn_replica.proofs.CauseLemmas.{first_stays, first_skips}
-
-first_true : (b : Bool) (why : Refusal) (rest : List Cause) → b ≡ true → first_cause ((b, why) ∷ rest) ≡ Some why
-first_true b why rest e = ap (λ b. first_cause ((b, why) ∷ rest)) e
-
-first_false : (b : Bool) (why : Refusal) (rest : List Cause) → b ≡ false → first_cause ((b, why) ∷ rest) ≡ first_cause rest
-first_false b why rest e = ap (λ b. first_cause ((b, why) ∷ rest)) e
-
--- ---- whether the path was touched since
-
-module _ (history : History) (path : Path) (since : ℕ) where
-  is_below : Bool
-  is_below = nat_lt since (floor history) || nat_lt (length history) since
-
-  below_test : (a b c : ℕ) → (a < b) ⊎ (c < a) → (nat_lt a b || nat_lt c a) ≡ true
-  below_test a b c (inl h) = ap (λ x. x || nat_lt c a) (lt a b h)
-    where
-      lt : (m n : ℕ) → m < n → nat_lt m n ≡ true
-      lt m n h = grind (arith, nat_tests)
-  below_test a b c (inr h) = by_first (nat_lt a b) (nat_lt c a) (lt c a h)
-    where
-      lt : (m n : ℕ) → m < n → nat_lt m n ≡ true
-      lt m n h = grind (arith, nat_tests)
-
-      by_first : (x y : Bool) → y ≡ true → (x || y) ≡ true
-      by_first true y e = refl
-      by_first false y e = e
-
-  above_test : (a b c : ℕ) → ((a < b) ⊎ (c < a) → ⊥) → (nat_lt a b || nat_lt c a) ≡ false
-  above_test a b c h = ap₂ (λ x y. x || y) (not_lt a b (λ l. h (inl l))) (not_lt c a (λ l. h (inr l)))
-    where
-      not_lt : (m n : ℕ) → (m < n → ⊥) → nat_lt m n ≡ false
-      not_lt m n h = grind (arith, nat_tests)
-
-  pub since_below : (since < floor history) ⊎ (length history < since) → first_cause (since_causes history path since) ≡ Some BelowFloor
-  since_below h = first_true (nat_lt since (floor history) || nat_lt (length history) since) BelowFloor ((not (is_quiet history since (length history) path), Touched) ∷ []) (below_test since (floor history) (length history) h)
-
-  pub since_told : ((since < floor history) ⊎ (length history < since) → ⊥) → first_cause (since_causes history path since) ≡ (if not (is_quiet history since (length history) path) then Some Touched else None)
-  since_told h = first_false (nat_lt since (floor history) || nat_lt (length history) since) BelowFloor ((not (is_quiet history since (length history) path), Touched) ∷ []) (above_test since (floor history) (length history) h)
+use Rattle.syn_model.specs.History.{History, tree_of, is_old_token, last_session, position_causes}
+use Rattle.syn_replica.specs.Steps.{add_refusal, room_causes, replace_refusal, is_done, replaced, begun}
+use Rattle.syn_standing.specs.Causes.{since_causes}
+use Rattle.syn_standing.specs.declared.error.ReplicaError.{ReplicaError}
+use Rattle.syn_standing.proofs.CauseLemmas.{first_stays, first_skips}
+use Rattle.syn_standing.proofs.SinceLemmas.{first_true, first_false}
 
 -- ---- the causes of a replacement in a row
 

@@ -12,7 +12,7 @@ use Rattle.syn_model.specs.History.{History, IsAllowed, IsHistory, standing_of}
 use Rattle.syn_model.specs.Spelling.{event_spelling}
 use Rattle.syn_model.specs.Image.{Gives, StandsFor, image_spelling}
 use Rattle.syn_replica.specs.Disks.{DiskStands, DiskKeeps, DiskCompacted, event_size}
-use Rattle.syn_replica.specs.inner.Openings.{OneIsGiven}
+use Rattle.syn_standing.specs.Readings.{OneIsGiven}
 use Rattle.syn_model.specs.Refusal as why
 use Rattle.syn_journal.specs.Refusals.{refusal_of as of_journal}
 use Rattle.syn_journal.specs.declared.error.JournalError.{JournalError}

@@ -1,18 +1,17 @@
 -- What the bytes of a disk stand for.
-use Rattle.std.specs.Prelude.{◌≡◌, ◌≢◌, ◌⊎◌, ◌<◌, ◌^◌, ℕ, List, [], Ok, Err, Option}
-use Rattle.std.specs.Prelude.{Some}
+use Rattle.std.specs.Prelude.{◌≡◌, ◌⊎◌, ◌<◌, ℕ, List, [], Ok, Err, Option, Some}
 use Rattle.syn_journal.specs.Layout.{Value, HasJournal, meaning, bytes_left, record_size}
 use Rattle.syn_journal.specs.Layout.{image_alone, no_image, damaged}
 use Rattle.syn_journal.specs.declared.error.JournalError.TheVariants as journal
-use Rattle.syn_model.specs.Path.{Bytes}
 use Rattle.syn_model.specs.Event.{Event}
 use Rattle.syn_model.specs.Standing.{Standing}
 use Rattle.syn_model.specs.History.{History}
 use Rattle.syn_model.specs.Spelling.{event_spelling}
 use Rattle.syn_model.specs.Image.{Gives, StandsFor, image_spelling}
-use Rattle.syn_replica.specs.declared.error.ReplicaError.{ReplicaError}
-use Rattle.syn_replica.specs.declared.error.ReplicaError.TheVariants.{Journal, Memory, Damaged}
-use Rattle.syn_replica.specs.declared.error.ReplicaError.TheVariants.{WrongPair}
+use Rattle.syn_standing.specs.Readings.{GivesOtherPair, GivesNothing}
+use Rattle.syn_standing.specs.declared.error.ReplicaError.{ReplicaError}
+use Rattle.syn_standing.specs.declared.error.ReplicaError.TheVariants.{Journal, Memory, Damaged}
+use Rattle.syn_standing.specs.declared.error.ReplicaError.TheVariants.{WrongPair}
 
 -- a replica disk of the pair stands for the history
 pub record DiskStands (pair : ℕ) (bytes : List ℕ) (history : History) : Type 0 where
@@ -46,27 +45,11 @@ pub record DiskGives (pair : ℕ) (bytes : List ℕ) (standing : Standing) : Typ
   pub means : meaning bytes ≡ Ok value
   pub gives : Gives pair value.image value.payloads standing
 
--- image and payloads are those of another pair than the wanted one
-pub record GivesOtherPair (wanted : Option ℕ) (image : Bytes) (payloads : List Bytes)
-    : Type 0 where
-  pub pair : ℕ
-  pub fits : pair < 2 ^ 64
-  pub standing : Standing
-  pub gives : Gives pair image payloads standing
-  pub asked : ℕ
-  pub wanted_is : wanted ≡ Some asked
-  pub differ : asked ≢ pair
-
 -- a replica disk of another pair than the wanted one
 pub record IsOfOtherPair (wanted : Option ℕ) (bytes : List ℕ) : Type 0 where
   pub value : Value
   pub means : meaning bytes ≡ Ok value
   pub other : GivesOtherPair wanted value.image value.payloads
-
--- image and payloads give nothing, of whatever pair
-abbrev pub GivesNothing : Bytes → List Bytes → Type 0
-GivesNothing image payloads = (pair : ℕ) (standing : Standing) → pair < 2 ^ 64
-    → ¬ Gives pair image payloads standing
 
 -- the disk has a journal, whose image and payloads give nothing
 pub record IsUnlawful (bytes : List ℕ) : Type 0 where

@@ -12,8 +12,8 @@ use Rattle.syn_model.specs.Path.{Bytes}
 use Rattle.syn_model.specs.Event.{Event}
 use Rattle.syn_model.specs.Refusal.{Device}
 use Rattle.syn_model.specs.Spelling.{event_spelling}
-use Rattle.syn_replica.specs.Refusals.{refusal_of}
-use Rattle.syn_replica.specs.declared.error.ReplicaError.{ReplicaError}
+use Rattle.syn_standing.specs.Refusals.{refusal_of}
+use Rattle.syn_standing.specs.declared.error.ReplicaError.{ReplicaError}
 use Rattle.syn_model.specs.Image.{StandsFor}
 use Rattle.syn_replica.specs.Disks.{DiskKeeps, DiskCompacted, event_size}
 use Rattle.syn_replica.specs.declared.replica.Replica.{Replica}

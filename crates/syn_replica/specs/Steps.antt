@@ -1,20 +1,21 @@
 -- The steps of a side: what they leave, and why they are refused, the first cause first.
-use Rattle.std.specs.Prelude.{◌≡◌, ℕ, Bool, true, false, not, ◌||◌, ◌==◌, nat_lt}
+use Rattle.std.specs.Prelude.{◌≡◌, ℕ, Bool, true, false, not, ◌==◌, nat_lt}
 use Rattle.std.specs.Prelude.{if◌then◌else◌}
 use Rattle.std.specs.Prelude.{List, [], ◌∷◌, ◌++◌, length, take, drop, Option}
 use Rattle.std.specs.Option.{option_map_or}
 use Rattle.syn_model.specs.Limits.{greatest_piece}
 use Rattle.syn_model.specs.Path.{Bytes, Path}
 use Rattle.syn_model.specs.Tree.{Tree, subtree, replace}
-use Rattle.syn_model.specs.Refusal.{Refusal, JournalFull, OldSession, WrongPair, BelowFloor}
-use Rattle.syn_model.specs.Refusal.{Touched, Cause, first_cause}
+use Rattle.syn_model.specs.Refusal.{Refusal, JournalFull, OldSession, WrongPair}
+use Rattle.syn_model.specs.Refusal.{Cause, first_cause}
 use Rattle.syn_model.specs.Event.{Token, Event, Began, Replaced, is_same_token}
 use Rattle.syn_model.specs.Standing.{place_causes, full_causes}
 use Rattle.syn_model.specs.History.{History, tree_of, event_causes, position_causes, is_old_token}
-use Rattle.syn_model.specs.History.{is_quiet, last_session, last_token, floor}
+use Rattle.syn_model.specs.History.{last_session, last_token}
 use Rattle.syn_model.specs.Spelling.{event_spelling, spelling}
 use Rattle.syn_disk.specs.Arms.{Arms}
 use Rattle.syn_disk.specs.Calls.{Makes}
+use Rattle.syn_standing.specs.Causes.{since_causes}
 use Rattle.syn_replica.specs.declared.replica.session.TokenStanding.{TokenStanding}
 use Rattle.syn_replica.specs.declared.replica.session.TokenStanding.TheVariants.{Done, Old, Open}
 
@@ -44,12 +45,6 @@ begin_refusal room own history pair session =
 abbrev pub is_done : History → Token → Bool
 is_done history token =
     option_map_or (λ last. is_same_token last token) (last_token history) false
-
--- the path was touched since, or the position does not tell
-abbrev pub since_causes : History → Path → ℕ → List Cause
-since_causes history path since =
-    (nat_lt since (floor history) || nat_lt (length history) since, BelowFloor)
-    ∷ (not (is_quiet history since (length history) path), Touched) ∷ []
 
 -- the bytes of a subtree's spelling from the offset on, the first of them where there are more
 abbrev pub piece : History → Path → ℕ → Bytes

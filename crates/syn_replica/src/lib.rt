@@ -2,13 +2,8 @@
 //! it, which outlives stops of its machine.
 #![tactic(auto)]
 
-mod error;
 mod lawful;
-mod laws;
-mod opening;
 mod replica;
-mod standing;
 
-pub use error::ReplicaError;
 pub use lawful::disk_laws;
 pub use replica::{Listing, Piece, Replica, TokenStanding};

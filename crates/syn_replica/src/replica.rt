@@ -17,28 +17,27 @@ ghost use Rattle.syn_history.specs.Events.{event_of};
 ghost use Rattle.syn_journal.specs.Journal.{Takes};
 ghost use Rattle.syn_disk.specs.Calls.{Makes, MakesAtLeast};
 ghost use Rattle.syn_disk.specs.Stops.{LeavesOnly, Untouched};
-ghost use Rattle.syn_replica.specs.Refusals.{refusal_of, IsOneOf, format_refusals};
+ghost use Rattle.syn_standing.specs.Refusals.{refusal_of};
+ghost use Rattle.syn_replica.specs.Refusals.{IsOneOf, format_refusals};
 ghost use Rattle.syn_replica.specs.Refusals.{reading_refusals};
 ghost use Rattle.syn_replica.specs.Refusals.{edit_refusals, outside_refusals, hiding_refusals};
 ghost use Rattle.syn_replica.specs.Refusals.{CountsFailures, MakesIfDevice, AfterReads};
 ghost use Rattle.syn_replica.specs.Disks.{DiskGives, DiskStands, IsOfOtherPair, IsOpenRefusal};
 ghost use Rattle.syn_replica.specs.Edits.{event_by};
 ghost use Rattle.syn_replica.specs.Steps.{add_refusal};
-ghost use Rattle.syn_replica.specs.inner.Updates.{IsReady, IsOf, early_causes, add_refusal_at};
+ghost use Rattle.syn_standing.specs.Updates.{IsReady, IsOf, early_causes};
+ghost use Rattle.syn_replica.specs.inner.Additions.{add_refusal_at};
 ghost use Rattle.syn_wire.specs.Events.{IsShort};
 ghost use Rattle.syn_journal.specs.Journal as journal;
 ghost use Rattle.syn_journal.specs.Layout.{image_alone};
 
-use crate::error::ReplicaError;
-use crate::laws::opening_laws;
-use crate::opening::read_replica;
-use crate::standing::{Standing, Update};
 use std::alloc::Global;
 use syn_disk::Disk;
 use syn_history::Event;
 use syn_journal::{Journal, JournalError, Opened, layout_laws};
 use syn_model::{history_laws, worked_rows};
 use syn_path::{Name, Path};
+use syn_standing::{ReplicaError, Standing, Update, opening_laws, read_replica};
 use syn_tree::{Content, Edit, Found, Tree, TreeError};
 use syn_wire::{edit_length, encode_event, encode_image};
 
@@ -81,6 +80,7 @@ impl<D: Disk> Replica<D> {
     pub fn format(alloc: Global, disk: D, pair: u64) -> Result<Replica<D>, (ReplicaError, D)>
         ensures formatted { IfOk result (λ replica. Stands replica []) }
         ensures pair { IfOk result (λ replica. pair_of replica ≡ pair) }
+        ensures generation { IfOk result (λ replica. generation_shown replica ≡ 1) }
         ensures tried { IfOk result (λ replica. tried_shown replica ≡ None) }
         ensures refusals { IfErr result (λ refused. IsOneOf format_refusals refused.0) }
         ensures unchanged { IfErr result (λ refused. (refusal_of refused.0 ≡ Device)

@@ -22,7 +22,8 @@ use syn_message::{
     Answered, AnsweredToUser, Asked, AskedByUser, Reply, Request, UserReply, UserRequest,
 };
 use syn_path::Path;
-use syn_replica::{Replica, ReplicaError};
+use syn_replica::Replica;
+use syn_standing::ReplicaError;
 use syn_shared::SharedReplica;
 use syn_tree::{Content, Edit, TreeError};
 

@@ -15,11 +15,13 @@ use Rattle.syn_model.specs.Refusal.{Refusal, Cause, first_cause, JournalFull}
 use Rattle.syn_model.specs.Refusal as why
 use Rattle.syn_model.specs.Standing.{place_causes, full_causes}
 use Rattle.syn_model.specs.Spelling.{event_spelling}
-use Rattle.syn_replica.specs.Refusals.{refusal_of, IsOneOf, outside_refusals, checkpoint_refusals, AfterReads}
-use Rattle.syn_replica.specs.Steps.{add_refusal, replace_refusal, room_causes, since_causes}
-use Rattle.syn_replica.specs.declared.error.ReplicaError.{ReplicaError}
-use Rattle.syn_replica.specs.declared.error.ReplicaError.TheVariants.{Tree, Journal, Memory, Touched, OldSession, Damaged, WrongPair}
-use Rattle.syn_replica.specs.declared.error.ReplicaError.TheVariants as replica_error
+use Rattle.syn_standing.specs.Refusals.{refusal_of}
+use Rattle.syn_replica.specs.Refusals.{IsOneOf, outside_refusals, checkpoint_refusals, AfterReads}
+use Rattle.syn_replica.specs.Steps.{add_refusal, replace_refusal, room_causes}
+use Rattle.syn_standing.specs.Causes.{since_causes}
+use Rattle.syn_standing.specs.declared.error.ReplicaError.{ReplicaError}
+use Rattle.syn_standing.specs.declared.error.ReplicaError.TheVariants.{Tree, Journal, Memory, Touched, OldSession, Damaged, WrongPair}
+use Rattle.syn_standing.specs.declared.error.ReplicaError.TheVariants as replica_error
 use Rattle.syn_tree.specs.declared.error.TreeError.TheVariants as tree_error
 use Rattle.syn_shared.proofs.StepLemmas.{not_of_tree, not_of_history, outside_is}
 

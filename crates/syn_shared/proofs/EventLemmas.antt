@@ -21,9 +21,10 @@ use Rattle.syn_recovery.specs.Calls as calls
 use Rattle.syn_recovery.specs.Machines.{of_side}
 use Rattle.syn_recovery.specs.Meaning.{MayBeOf}
 use Rattle.syn_replica.specs.Disks.{DiskKeeps, event_size}
-use Rattle.syn_replica.specs.Refusals.{refusal_of, MakesIfDevice}
+use Rattle.syn_standing.specs.Refusals.{refusal_of}
+use Rattle.syn_replica.specs.Refusals.{MakesIfDevice}
 use Rattle.syn_replica.specs.Replica.{IsHalted, Stands, Remembers, SameMemory, KeepsReadings, HasRecord, KeepsBeforeOrAfter, disk_of, journal_of, left_shown, generation_shown}
-use Rattle.syn_replica.specs.declared.error.ReplicaError.{ReplicaError}
+use Rattle.syn_standing.specs.declared.error.ReplicaError.{ReplicaError}
 use Rattle.syn_replica.specs.declared.replica.Replica.{Replica}
 use Rattle.syn_shared.proofs.CauseLemmas.{device_or_other}
 use Rattle.syn_shared.proofs.StepLemmas.{stands_still}

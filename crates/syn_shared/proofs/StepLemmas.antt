@@ -20,12 +20,13 @@ use Rattle.syn_model.specs.Spelling.{event_spelling}
 use Rattle.syn_model.specs.Refusal.{Refusal, number}
 use Rattle.syn_model.specs.Refusal as why
 use Rattle.syn_replica.specs.Growth.{IsCutOff, StandsOrTried}
-use Rattle.syn_replica.specs.Refusals.{refusal_of, IsOneOf, outside_refusals, CountsFailures, MakesIfDevice}
+use Rattle.syn_standing.specs.Refusals.{refusal_of}
+use Rattle.syn_replica.specs.Refusals.{IsOneOf, outside_refusals, CountsFailures, MakesIfDevice}
 use Rattle.syn_replica.specs.Replica.{room_shown, pair_of, disk_of, journal_of, tried_shown, IsHalted, Stands, SameMemory, KeepsReadings, HasRecord, KeepsBeforeOrAfter, Tries}
 use Rattle.syn_replica.specs.Steps.{is_done, replaced, replace_refusal, MakesIfNew}
-use Rattle.syn_replica.specs.declared.error.ReplicaError.{ReplicaError}
-use Rattle.syn_replica.specs.declared.error.ReplicaError.TheVariants.{Tree, Journal, Memory, Touched, OldSession, Damaged, WrongPair}
-use Rattle.syn_replica.specs.declared.error.ReplicaError.TheVariants as replica_error
+use Rattle.syn_standing.specs.declared.error.ReplicaError.{ReplicaError}
+use Rattle.syn_standing.specs.declared.error.ReplicaError.TheVariants.{Tree, Journal, Memory, Touched, OldSession, Damaged, WrongPair}
+use Rattle.syn_standing.specs.declared.error.ReplicaError.TheVariants as replica_error
 use Rattle.syn_replica.specs.declared.replica.Replica.{Replica}
 use Rattle.syn_shared.specs.Steps.{StepsBy, adds, breaks, refuses}
 use Rattle.syn_tree.specs.Refusals.{refusal_of as of_tree}

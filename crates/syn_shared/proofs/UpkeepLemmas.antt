@@ -23,9 +23,9 @@ use Rattle.syn_recovery.specs.Calls as calls
 use Rattle.syn_recovery.specs.Machines.{of_side, SidesOpen}
 use Rattle.syn_recovery.specs.Meaning.{MayBeOf, MayMean, as_kept, with_record, compacted as is_compacted}
 use Rattle.syn_replica.specs.Disks.{DiskKeeps, DiskCompacted, DiskStands}
-use Rattle.syn_replica.specs.Refusals.{refusal_of}
+use Rattle.syn_standing.specs.Refusals.{refusal_of}
 use Rattle.syn_replica.specs.Replica.{IsHalted, Stands, Remembers, SameMemory, KeepsReadings, KeepsOrCompacts, disk_of, journal_of, standing_shown, left_shown, generation_shown, pair_of}
-use Rattle.syn_replica.specs.declared.error.ReplicaError.{ReplicaError}
+use Rattle.syn_standing.specs.declared.error.ReplicaError.{ReplicaError}
 use Rattle.syn_replica.specs.declared.replica.Replica.{Replica}
 use Rattle.syn_shared.proofs.EventLemmas.{met, value}
 use Rattle.syn_shared.specs.Machines.{Says, IsMade, CompactsSide, compacts, ReopensSide, opens, stops_within, fails, has_no_memory}

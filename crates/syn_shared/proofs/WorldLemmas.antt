@@ -28,11 +28,12 @@ use Rattle.syn_recovery.specs.Calls.{BrokenCallsMeet, MadeCallsMeet, MadeReadsMe
 use Rattle.syn_recovery.specs.Machines.{of_side, SidesOpen}
 use Rattle.syn_recovery.specs.Meaning.{MayBeOf, MayMean, as_kept, with_record, compacted}
 use Rattle.syn_replica.specs.Disks.{DiskStands}
-use Rattle.syn_replica.specs.Refusals.{refusal_of, IsOneOf, outside_refusals, checkpoint_refusals, MakesIfDevice, AfterReads}
+use Rattle.syn_standing.specs.Refusals.{refusal_of}
+use Rattle.syn_replica.specs.Refusals.{IsOneOf, outside_refusals, checkpoint_refusals, MakesIfDevice, AfterReads}
 use Rattle.syn_replica.specs.Replica.{IsHalted, Stands, Remembers, SameMemory, KeepsReadings, HasRecord, KeepsBeforeOrAfter, KeepsOrCompacts, disk_of, journal_of, room_shown, left_shown, position_shown, standing_shown, generation_shown, pair_of}
 use Rattle.syn_replica.specs.Steps.{add_refusal, replace_refusal, replaced, is_done, MakesIfNew}
-use Rattle.syn_replica.specs.declared.error.ReplicaError.{ReplicaError}
-use Rattle.syn_replica.specs.declared.error.ReplicaError.TheVariants.{Journal}
+use Rattle.syn_standing.specs.declared.error.ReplicaError.{ReplicaError}
+use Rattle.syn_standing.specs.declared.error.ReplicaError.TheVariants.{Journal}
 use Rattle.syn_replica.specs.declared.replica.Replica.{Replica}
 use Rattle.syn_shared.proofs.CauseLemmas.{device_or_other, memory_or_device, checkpoint_one, after_reads, edit_never, replace_never, same_causes, cause_first, memory_last}
 use Rattle.syn_shared.proofs.EventLemmas.{event_up, event_halted, still_of}

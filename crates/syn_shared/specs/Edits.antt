@@ -12,13 +12,14 @@ use Rattle.syn_model.specs.Event.{Event}
 use Rattle.syn_model.specs.History.{History}
 use Rattle.syn_model.specs.Refusal.{Refusal, Device}
 use Rattle.syn_replica.specs.Growth.{IsGrown}
-use Rattle.syn_replica.specs.Refusals.{refusal_of, IsOneOf, edit_refusals, outside_refusals}
+use Rattle.syn_standing.specs.Refusals.{refusal_of}
+use Rattle.syn_replica.specs.Refusals.{IsOneOf, edit_refusals, outside_refusals}
 use Rattle.syn_replica.specs.Refusals.{CountsFailures, MakesIfDevice}
 use Rattle.syn_replica.specs.Replica.{disk_of, journal_of, room_shown, IsHalted, Stands}
 use Rattle.syn_replica.specs.Replica.{KeepsReadings, HasRecord, KeepsBeforeOrAfter, Tries}
 use Rattle.syn_replica.specs.Steps.{add_refusal}
-use Rattle.syn_replica.specs.declared.error.ReplicaError.{ReplicaError}
-use Rattle.syn_replica.specs.declared.error.ReplicaError.TheVariants.{Journal}
+use Rattle.syn_standing.specs.declared.error.ReplicaError.{ReplicaError}
+use Rattle.syn_standing.specs.declared.error.ReplicaError.TheVariants.{Journal}
 use Rattle.syn_replica.specs.declared.replica.Replica.{Replica}
 use Rattle.syn_shared.specs.Machines.{EditsSide}
 use Rattle.syn_shared.specs.Steps.{StepsBy}

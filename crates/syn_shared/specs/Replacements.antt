@@ -13,13 +13,14 @@ use Rattle.syn_model.specs.Path.{Path}
 use Rattle.syn_model.specs.Refusal.{Refusal, Device, Memory}
 use Rattle.syn_model.specs.Tree.{Tree}
 use Rattle.syn_replica.specs.Growth.{IsGrown}
-use Rattle.syn_replica.specs.Refusals.{refusal_of, IsOneOf, replace_refusals, outside_refusals}
+use Rattle.syn_standing.specs.Refusals.{refusal_of}
+use Rattle.syn_replica.specs.Refusals.{IsOneOf, replace_refusals, outside_refusals}
 use Rattle.syn_replica.specs.Refusals.{CountsFailures, MakesIfDevice}
 use Rattle.syn_replica.specs.Replica.{disk_of, journal_of, room_shown, tried_shown, IsHalted}
 use Rattle.syn_replica.specs.Replica.{Stands, KeepsReadings, HasRecord, KeepsBeforeOrAfter, Tries}
 use Rattle.syn_replica.specs.Steps.{is_done, replaced, replace_refusal, MakesIfNew}
-use Rattle.syn_replica.specs.declared.error.ReplicaError.{ReplicaError}
-use Rattle.syn_replica.specs.declared.error.ReplicaError.TheVariants.{Journal}
+use Rattle.syn_standing.specs.declared.error.ReplicaError.{ReplicaError}
+use Rattle.syn_standing.specs.declared.error.ReplicaError.TheVariants.{Journal}
 use Rattle.syn_replica.specs.declared.replica.Replica.{Replica}
 use Rattle.syn_shared.specs.Machines.{WritesEvent, IsRefusedEarly}
 use Rattle.syn_shared.specs.Steps.{StepsBy}

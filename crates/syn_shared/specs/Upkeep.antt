@@ -20,13 +20,14 @@ use Rattle.syn_model.specs.Refusal.{Device, Full, Memory}
 use Rattle.syn_model.specs.Refusal as why
 use Rattle.syn_replica.specs.Disks.{DiskGives, DiskStands, IsReopenRefusal}
 use Rattle.syn_replica.specs.Growth.{IsGrown, KeepsUp, WithTried}
-use Rattle.syn_replica.specs.Refusals.{refusal_of, IsOneOf, checkpoint_refusals, outside_refusals}
+use Rattle.syn_standing.specs.Refusals.{refusal_of}
+use Rattle.syn_replica.specs.Refusals.{IsOneOf, checkpoint_refusals, outside_refusals}
 use Rattle.syn_replica.specs.Refusals.{CountsFailures, MakesIfDevice, AfterReads}
 use Rattle.syn_replica.specs.Replica.{pair_of, standing_shown, position_shown, disk_of, journal_of}
 use Rattle.syn_replica.specs.Replica.{generation_shown, tried_shown, IsHalted, Stands, SameMemory}
 use Rattle.syn_replica.specs.Replica.{KeepsReadings, KeepsBeforeOrAfter, KeepsOrCompacts, ShowsDisk}
-use Rattle.syn_replica.specs.declared.error.ReplicaError.{ReplicaError}
-use Rattle.syn_replica.specs.declared.error.ReplicaError.TheVariants.{Journal}
+use Rattle.syn_standing.specs.declared.error.ReplicaError.{ReplicaError}
+use Rattle.syn_standing.specs.declared.error.ReplicaError.TheVariants.{Journal}
 use Rattle.syn_replica.specs.declared.replica.Replica.{Replica}
 use Rattle.syn_shared.specs.Machines.{CompactsSide, ReopensSide}
 

@@ -26,9 +26,10 @@ use Rattle.syn_recovery.specs.Machines.{of_archive, of_side}
 use Rattle.syn_recovery.specs.Meaning.{IsDiskOf}
 use Rattle.syn_refusal.specs.Refusals.{cause_of}
 use Rattle.syn_refusal.specs.declared.refusal.Refusal as refusals
-use Rattle.syn_replica.specs.Refusals.{IsOneOf, format_refusals, refusal_of}
+use Rattle.syn_replica.specs.Refusals.{IsOneOf, format_refusals}
+use Rattle.syn_standing.specs.Refusals.{refusal_of}
 use Rattle.syn_replica.specs.Replica as replicas
-use Rattle.syn_replica.specs.declared.error.ReplicaError.{ReplicaError}
+use Rattle.syn_standing.specs.declared.error.ReplicaError.{ReplicaError}
 use Rattle.syn_replica.specs.declared.replica.Replica.{Replica}
 use Rattle.syn_world.specs.Openings.{StandFor, shown_on}
 use Rattle.syn_world.specs.declared.world.Disks.{Disks}

@@ -8,16 +8,16 @@ ghost use Rattle.syn_journal.specs.Layout.{image_alone, longest_image};
 ghost use Rattle.syn_model.specs.History.{History};
 ghost use Rattle.syn_model.specs.Image.{image_spelling};
 ghost use Rattle.syn_model.specs.Refusal.{Device, Full, Halted, Memory};
-ghost use Rattle.syn_replica.specs.Refusals.{refusal_of, IsOneOf, checkpoint_refusals};
+ghost use Rattle.syn_standing.specs.Refusals.{refusal_of};
+ghost use Rattle.syn_replica.specs.Refusals.{IsOneOf, checkpoint_refusals};
 ghost use Rattle.syn_replica.specs.Refusals.{CountsFailures, MakesIfDevice};
 
 use super::Replica;
-use crate::error::ReplicaError;
-use crate::laws::opening_laws;
 use std::alloc::Global;
 use syn_disk::Disk;
 use syn_journal::JournalError;
 use syn_model::history_laws;
+use syn_standing::{ReplicaError, opening_laws};
 use syn_wire::encode_image;
 
 impl<D: Disk> Replica<D> {

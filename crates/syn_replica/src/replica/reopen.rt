@@ -11,18 +11,16 @@ ghost use Rattle.syn_journal.specs.Opened.{payloads_of, value_read};
 ghost use Rattle.syn_model.specs.Image.{Gives};
 ghost use Rattle.syn_model.specs.Standing as model_standing;
 ghost use Rattle.syn_replica.specs.Disks.{DiskGives, DiskStands, IsReopenRefusal};
-ghost use Rattle.syn_replica.specs.Refusals.{refusal_of, CountsFailures, AfterReads};
+ghost use Rattle.syn_standing.specs.Refusals.{refusal_of};
+ghost use Rattle.syn_replica.specs.Refusals.{CountsFailures, AfterReads};
 ghost use Rattle.syn_replica.specs.Refusals.{IsOneOf, outside_refusals};
-ghost use Rattle.syn_replica.specs.inner.Openings.{IsOfMeaning};
+ghost use Rattle.syn_standing.specs.Readings.{IsOfMeaning};
 
 use super::Replica;
-use crate::error::ReplicaError;
-use crate::laws::opening_laws;
-use crate::opening::read_replica;
-use crate::standing::Standing;
 use std::alloc::Global;
 use syn_disk::Disk;
 use syn_journal::Reopened;
+use syn_standing::{ReplicaError, Standing, opening_laws, read_replica};
 
 impl<D: Disk> Replica<D> {
     ghost use Rattle.syn_replica.specs.Replica.{pair_of, standing_shown, tried_shown, disk_of};

@@ -11,22 +11,23 @@ ghost use Rattle.syn_model.specs.Spelling.{spelling};
 ghost use Rattle.syn_model.specs.Tree.{subtree};
 ghost use Rattle.syn_history.specs.Events.{token_of};
 ghost use Rattle.syn_tree.specs.Nodes.{part_of};
-ghost use Rattle.syn_replica.specs.Refusals.{refusal_of, IsOneOf, outside_refusals};
+ghost use Rattle.syn_standing.specs.Refusals.{refusal_of};
+ghost use Rattle.syn_replica.specs.Refusals.{IsOneOf, outside_refusals};
 ghost use Rattle.syn_replica.specs.Refusals.{begin_refusals, fetch_refusals, replace_refusals};
 ghost use Rattle.syn_replica.specs.Refusals.{CountsFailures, MakesIfDevice};
-ghost use Rattle.syn_replica.specs.Steps.{begun, begin_refusal, is_done, piece, since_causes};
+ghost use Rattle.syn_replica.specs.Steps.{begun, begin_refusal, is_done, piece};
+ghost use Rattle.syn_standing.specs.Causes.{since_causes};
 ghost use Rattle.syn_replica.specs.Steps.{replaced, replace_refusal, how_stands, MakesIfNew};
 ghost use Rattle.std.specs.Prelude.{◌==◌};
 
 use super::Replica;
-use crate::error::ReplicaError;
-use crate::laws::opening_laws;
 use std::alloc::Global;
 use syn_disk::Disk;
 use syn_history::{Event, Token};
 use syn_journal::JournalError;
 use syn_model::tree_laws;
 use syn_path::Path;
+use syn_standing::{ReplicaError, opening_laws};
 use syn_tree::{Node, Tree};
 use syn_wire::{LONGEST_PIECE, encode_node};
 

@@ -1,7 +1,7 @@
 use Rattle.std.proofs.Common.{◌≡◌, ◌++◌, ◌∷◌, ◌∙◌, [], inl, take, ap, subst}
 use Rattle.std.proofs.lemmas.Result.{err_from_is_err_and}
 use Rattle.syn_replica.proofs.StandLemmas.{leaves_weaker}
-use Rattle.syn_replica.proofs.StandingLemmas.{refused_at}
+use Rattle.syn_replica.proofs.RoomLemmas.{refused_at}
 use Rattle.syn_model.specs.Event.{Edit, Edited}
 use Rattle.syn_model.specs.History.{IsHistory, event_refusal, standing_of}
 use Rattle.syn_replica.specs.Replica.{KeepsBeforeOrAfter, Stands, room_shown}

@@ -8,7 +8,8 @@ use Rattle.syn_agent.proofs.agent.Agent.list.Goals as goal
 use Rattle.syn_headline.specs.Side.{ListAt, Refused}
 use Rattle.syn_model.specs.Refusal as why
 use Rattle.syn_refusal.specs.Refusals.{cause_of}
-use Rattle.syn_replica.specs.Refusals.{reading_refusals, refusal_in, refusal_of}
+use Rattle.syn_replica.specs.Refusals.{reading_refusals}
+use Rattle.syn_standing.specs.Refusals.{refusal_in, refusal_of}
 use Rattle.syn_replica.specs.Replica.{tree_shown}
 
 pub returns-in-Ok-clause-answers : goal.returns-in-Ok-clause-answers

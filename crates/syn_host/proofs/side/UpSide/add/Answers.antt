@@ -5,7 +5,8 @@ use Rattle.syn_host.specs.Sides.{EditsSo}
 use Rattle.syn_model.specs.Refusal.{Refusal, first_cause}
 use Rattle.syn_model.specs.Refusal as why
 use Rattle.syn_replica.specs.Edits.{event_by}
-use Rattle.syn_replica.specs.Refusals.{MakesIfDevice, refusal_of}
+use Rattle.syn_replica.specs.Refusals.{MakesIfDevice}
+use Rattle.syn_standing.specs.Refusals.{refusal_of}
 use Rattle.syn_replica.specs.Replica.{Stands, disk_of, left_shown, room_shown}
 use Rattle.syn_replica.specs.Steps.{add_refusal}
 use Rattle.syn_tree.specs.Edits.{edit_of}

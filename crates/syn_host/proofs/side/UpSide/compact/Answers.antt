@@ -5,7 +5,8 @@ use Rattle.syn_headline.specs.World.{full_generation}
 use Rattle.syn_host.specs.Sides.{CheckpointsSo}
 use Rattle.syn_model.specs.Refusal.{first_cause}
 use Rattle.syn_model.specs.Refusal as why
-use Rattle.syn_replica.specs.Refusals.{MakesIfDevice, refusal_of}
+use Rattle.syn_replica.specs.Refusals.{MakesIfDevice}
+use Rattle.syn_standing.specs.Refusals.{refusal_of}
 use Rattle.syn_replica.specs.Replica.{disk_of, journal_of}
 use Rattle.syn_host.proofs.CauseLemmas.{causes_none, causes_some, device_is, halted_is, no_calls}
 use Rattle.syn_host.proofs.CauseLemmas.{memory_not_device, of_checkpoint}

@@ -2,11 +2,12 @@ use Rattle.std.proofs.Common.{◌≡◌, ◌<◌, length, sym, ap, ◌∙◌, su
 use Rattle.std.proofs.lemmas.Result.{err_from_is_err_and}
 use Rattle.syn_model.specs.Spelling.{event_spelling}
 use Rattle.syn_history.specs.Events.{event_of}
-use Rattle.syn_replica.specs.Refusals.{outside_refusals, refusal_of}
+use Rattle.syn_replica.specs.Refusals.{outside_refusals}
+use Rattle.syn_standing.specs.Refusals.{refusal_of}
 use Rattle.syn_replica.specs.Replica.{room_shown, standing_shown}
 use Rattle.syn_replica.proofs.RefusalLemmas.{is_among}
 use Rattle.syn_replica.proofs.StandLemmas.{keeps_now, not_written, allowed_after}
-use Rattle.syn_replica.proofs.StandingLemmas.{refused_at, room_at}
+use Rattle.syn_replica.proofs.RoomLemmas.{refused_at, room_at}
 use Rattle.syn_replica.specs.Growing.{itself}
 use Rattle.syn_replica.proofs.replica.Replica.add.Goals as goal
 

@@ -2,12 +2,13 @@ use Rattle.std.proofs.Common.{◌<◌, Some, sym, ap, ◌∙◌, subst, inr}
 use Rattle.std.proofs.lemmas.Result.{err_from_is_err_and}
 use Rattle.syn_tree.specs.Edits.{edit_of}
 use Rattle.syn_replica.specs.Edits.{event_by}
-use Rattle.syn_replica.specs.Refusals.{refusal_of, refusal_in}
+use Rattle.syn_standing.specs.Refusals.{refusal_of, refusal_in}
 use Rattle.syn_replica.specs.Replica.{room_shown, standing_shown}
 use Rattle.syn_replica.specs.Steps.{add_refusal}
-use Rattle.syn_replica.specs.inner.Updates.{add_refusal_at}
+use Rattle.syn_replica.specs.inner.Additions.{add_refusal_at}
 use Rattle.syn_replica.proofs.RefusalLemmas.{edit_among, same_refusal}
-use Rattle.syn_replica.proofs.StandingLemmas.{early_at, refused_at, room_at}
+use Rattle.syn_standing.proofs.StandingLemmas.{early_at}
+use Rattle.syn_replica.proofs.RoomLemmas.{refused_at, room_at}
 use Rattle.syn_replica.specs.Growing.{itself}
 use Rattle.syn_replica.proofs.replica.Replica.edit.Goals as goal
 

@@ -2,8 +2,8 @@ use Rattle.std.proofs.Common.{sym, ap, ◌∙◌, subst}
 use Rattle.syn_journal.specs.Layout.{meaning}
 use Rattle.syn_journal.specs.Opened.{value_read}
 use Rattle.syn_model.specs.Image.{Gives}
-use Rattle.syn_replica.specs.inner.Openings.{bytes_of_each}
-use Rattle.syn_replica.specs.Disks.{GivesOtherPair}
+use Rattle.syn_standing.specs.Readings.{bytes_of_each}
+use Rattle.syn_standing.specs.Readings.{GivesOtherPair}
 use Rattle.syn_replica.proofs.MeaningLemmas.{meaning_refusal}
 use Rattle.syn_replica.proofs.StandLemmas.{stands_for_each}
 use Rattle.syn_replica.proofs.replica.Replica.open.Goals as goal

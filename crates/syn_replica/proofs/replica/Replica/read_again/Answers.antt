@@ -3,8 +3,8 @@ use Rattle.std.proofs.lemmas.Result.{err_from_is_err_and}
 use Rattle.syn_journal.specs.Opened.{value_read}
 use Rattle.syn_history.specs.Past.{Past}
 use Rattle.syn_model.specs.Image.{Gives}
-use Rattle.syn_replica.specs.Disks.{GivesOtherPair}
-use Rattle.syn_replica.specs.inner.Openings.{bytes_of_each}
+use Rattle.syn_standing.specs.Readings.{GivesOtherPair}
+use Rattle.syn_standing.specs.Readings.{bytes_of_each}
 use Rattle.syn_replica.proofs.MeaningLemmas.{meaning_refusal}
 use Rattle.syn_replica.proofs.ReopenLemmas.{of_open}
 use Rattle.syn_replica.proofs.replica.Replica.read_again.Goals as goal

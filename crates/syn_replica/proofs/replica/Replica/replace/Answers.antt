@@ -11,11 +11,12 @@ use Rattle.syn_model.specs.Tree.{replace}
 use Rattle.syn_history.specs.Events.{token_of}
 use Rattle.syn_tree.specs.Nodes.{part_of}
 use Rattle.syn_tree.specs.Refusals.{refusal_of as of_tree}
-use Rattle.syn_replica.specs.Refusals.{IsOneOf, outside_refusals, refusal_of, refusal_in}
+use Rattle.syn_replica.specs.Refusals.{IsOneOf, outside_refusals}
+use Rattle.syn_standing.specs.Refusals.{refusal_of, refusal_in}
 use Rattle.syn_replica.specs.Replica.{Stands, KeepsBeforeOrAfter, room_shown, disk_of}
 use Rattle.syn_replica.specs.Steps.{add_refusal, replace_refusal}
-use Rattle.syn_replica.specs.inner.Updates.{add_refusal_at}
-use Rattle.syn_replica.specs.declared.error.ReplicaError.TheVariants.{Tree}
+use Rattle.syn_replica.specs.inner.Additions.{add_refusal_at}
+use Rattle.syn_standing.specs.declared.error.ReplicaError.TheVariants.{Tree}
 use Rattle.syn_replica.proofs.RefusalLemmas.{same_refusal, refused_by}
 use Rattle.syn_replica.proofs.SessionLemmas.{replaced_since, replaced_part, replaced_rest, one_longer, not_done}
 use Rattle.syn_replica.specs.Growing.{itself}

@@ -1,0 +1,5 @@
+pub mod CauseLemmas
+pub mod StandingLemmas
+pub mod SinceLemmas
+pub mod AlikeLemmas
+mod ReadingLemmas

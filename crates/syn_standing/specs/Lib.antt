@@ -1,0 +1,4 @@
+pub mod Refusals
+pub mod Causes
+pub mod Updates
+pub mod Readings

@@ -1,0 +1,151 @@
+//! A replica from what its disk holds.
+ghost use Rattle.std.specs.Prelude.{◌≡◌, ◌≢◌, ◌⊎◌, ◌<◌, ◌^◌, ℕ, List, IfOk, IfErr, OnOk, IsErrAnd};
+ghost use Rattle.std.specs.Prelude.{Some, true, false, option_map, map};
+ghost use Rattle.syn_model.specs.Event as model;
+ghost use Rattle.syn_model.specs.Image.{Gives};
+ghost use Rattle.syn_model.specs.Spelling.{event_spelling};
+ghost use Rattle.syn_model.specs.Standing as model_standing;
+ghost use Rattle.syn_model.specs.Standing.{AllAllowedAt, IsAllowedAt};
+ghost use Rattle.syn_history.specs.Events.{event_of};
+ghost use Rattle.syn_standing.specs.Readings.{GivesOtherPair};
+ghost use Rattle.syn_standing.specs.Refusals.{refusal_of};
+ghost use Rattle.syn_model.specs.Refusal as why;
+ghost use Rattle.syn_standing.specs.Readings.{AddsEvent, Replays, IsEventOf, bytes_of_each};
+ghost use Rattle.syn_standing.specs.Readings.{IsOfMeaning, IsOfPayload, IsImageOf};
+
+use crate::error::ReplicaError;
+use crate::laws::opening_laws;
+use crate::standing::Standing;
+use std::alloc::Global;
+use syn_history::Event;
+use syn_refusal::Refusal;
+use syn_wire::{Image, WireError, decode_event, decode_image, spelling_laws};
+
+/// The pair and the standing that the image and the payloads give.
+///
+/// Refused 19 where they give none, 20 where they do but the pair is not the wanted one, and 11
+/// where memory is refused.
+pub fn read_replica(
+    alloc: Global,
+    image: &[u8],
+    wanted: Option<u64>,
+    payloads: &[Vec<u8>],
+) -> Result<(u64, Standing), ReplicaError>
+    ensures fits { IfOk result (λ read. read.0 < 2 ^ 64) }
+    ensures gives { IfOk result
+        (λ read. Gives read.0 image.now (bytes_of_each payloads.now) read.1) }
+    ensures one { IfOk result (λ read. (pair : ℕ) (standing : model_standing.Standing)
+        → pair < 2 ^ 64 → Gives pair image.now (bytes_of_each payloads.now) standing
+        → (pair ≡ read.0) × (standing ≡ read.1)) }
+    ensures wanted { IfOk result (λ read. (asked : ℕ) → wanted ≡ Some asked → asked ≡ read.0) }
+    ensures refusals { IfErr result IsOfMeaning }
+    ensures damaged { IfErr result (λ e. e ≡ ReplicaError.Damaged
+        → (pair : ℕ) (standing : model_standing.Standing) → pair < 2 ^ 64
+        → ¬ Gives pair image.now (bytes_of_each payloads.now) standing) }
+    ensures other { IfErr result (λ e. e ≡ ReplicaError.WrongPair
+        → GivesOtherPair wanted image.now (bytes_of_each payloads.now)) }
+    ensures wrong_pair { GivesOtherPair wanted image.now (bytes_of_each payloads.now)
+        → IsErrAnd result (λ e. (e ≡ ReplicaError.Memory) ⊎ (e ≡ ReplicaError.WrongPair)) }
+{
+    opening_laws();
+    let (pair, first) = read_image(alloc, image)?;
+    let standing = replayed(alloc, first, payloads)?;
+    if is_other(wanted, pair) {
+        return Err(ReplicaError::WrongPair);
+    }
+    Ok((pair, standing))
+}
+
+/// The pair is not the wanted one.
+fn is_other(wanted: Option<u64>, pair: u64) -> bool
+    ensures other { result ≡ true → (asked : ℕ) × (wanted ≡ Some asked) × (asked ≢ pair) }
+    ensures same { result ≡ false → (asked : ℕ) → wanted ≡ Some asked → asked ≡ pair }
+{
+    match wanted {
+        Some(asked) => asked != pair,
+        None => false,
+    }
+}
+
+/// The pair and the standing of which it is the image.
+///
+/// Refused 19 where it is of none, and 11 where memory is refused.
+fn read_image(alloc: Global, image: &[u8]) -> Result<(u64, Standing), ReplicaError>
+    ensures read { IfOk result (λ read. IsImageOf image.now read.0 read.1) }
+    ensures refusals { IfErr result IsOfPayload }
+    ensures damaged { IfErr result (λ e. e ≡ ReplicaError.Damaged
+        → (pair : ℕ) (standing : model_standing.Standing) → ¬ IsImageOf image.now pair standing) }
+{
+    spelling_laws();
+    let Some((read, rest)) = decode_image(alloc, image)? else {
+        return Err(ReplicaError::Damaged);
+    };
+    if !rest.is_empty() {
+        return Err(ReplicaError::Damaged);
+    }
+    let Image { pair, tree, trail } = read;
+    Ok((pair, Standing::of(tree, trail)))
+}
+
+/// The standing after each payload in turn, each of which has to be an event that is allowed.
+///
+/// Refused 19 where one is not, and 11 where memory is refused.
+fn replayed(alloc: Global, first: Standing, payloads: &[Vec<u8>]) -> Result<Standing, ReplicaError>
+    ensures replays { IfOk result
+        (λ standing. Replays first (bytes_of_each payloads.now) standing) }
+    ensures refusals { IfErr result IsOfPayload }
+    ensures damaged { IfErr result (λ e. e ≡ ReplicaError.Damaged → (events : List model.Event)
+        → AllAllowedAt first events → bytes_of_each payloads.now ≢ map event_spelling events) }
+{
+    opening_laws();
+    let mut standing = first;
+    for payload in payloads {
+        add_payload(alloc, &mut standing, payload)?;
+    }
+    Ok(standing)
+}
+
+/// Adds the event of one payload.
+///
+/// Refused 19 where it is no event that is allowed, and 11 where memory is refused.
+fn add_payload(alloc: Global, standing: &mut Standing, payload: &[u8]) -> Result<(), ReplicaError>
+    ensures added { OnOk result (AddsEvent standing.old payload.now standing.new) }
+    ensures refusals { IfErr result IsOfPayload }
+    ensures damaged { IfErr result (λ e. e ≡ ReplicaError.Damaged → (event : model.Event)
+        → payload.now ≡ event_spelling event → ¬ IsAllowedAt standing.old event) }
+{
+    opening_laws();
+    let Some(event) = read_event(alloc, payload)? else {
+        return Err(ReplicaError::Damaged);
+    };
+    match standing.add(alloc, event) {
+        Ok(()) => Ok(()),
+        Err(error) => Err(damage(error)),
+    }
+}
+
+/// The event that the payload is; none where it is none. Refused 11 where memory is refused.
+fn read_event(alloc: Global, payload: &[u8]) -> Result<Option<Event>, WireError>
+    ensures { IfOk result (λ read. IsEventOf payload.now (option_map event_of read)) }
+{
+    spelling_laws();
+    let Some((event, rest)) = decode_event(alloc, payload)? else {
+        return Ok(None);
+    };
+    if rest.is_empty() {
+        Ok(Some(event))
+    } else {
+        Ok(None)
+    }
+}
+
+/// What a payload is whose event is refused: damage, unless memory is refused.
+fn damage(error: ReplicaError) -> ReplicaError
+    ensures damaged { result ≡ ReplicaError.Damaged → refusal_of error ≢ why.Memory }
+    ensures refusals { (result ≡ ReplicaError.Memory) ⊎ (result ≡ ReplicaError.Damaged) }
+{
+    match error.refusal() {
+        Refusal::Memory => ReplicaError::Memory,
+        _ => ReplicaError::Damaged,
+    }
+}
