@@ -12,7 +12,7 @@ use Rattle.syn_model.specs.Refusal.{Refusal, Full, BadMessage}
 use Rattle.syn_model.specs.MarkSpelling.{kept_spelling}
 use Rattle.syn_mark.specs.Changes.{PutPartFits}
 use Rattle.syn_mark.proofs.ChangeLemmas.{allowed_parts}
-use Rattle.syn_wire.specs.Marks.{NoKeptBeginsAnother, NoArchiveBeginsAnother}
+use Rattle.syn_image.specs.Archives.{NoKeptBeginsAnother, NoArchiveBeginsAnother}
 use Rattle.syn_archive.specs.inner.Openings.{AddsKept, Replays, OneStands, KeptIsSpelled, KeptIsTold}
 
 first_payload : List Bytes → Bytes

@@ -6,8 +6,8 @@ use Rattle.syn_model.specs.Path.{Bytes}
 use Rattle.syn_model.specs.Archive.{Archive, Kept}
 use Rattle.syn_model.specs.ArchiveImage.{ArchiveStandsFor}
 use Rattle.syn_model.specs.MarkSpelling.{kept_spelling}
-use Rattle.syn_wire.specs.Marks.{IsSpelledArchive, IsSpelledKept, spelled_archive, NoArchiveBeginsAnother, NoKeptBeginsAnother}
 use Rattle.syn_wire.specs.Reads.{BeginsWith, IsReading}
+use Rattle.syn_image.specs.Archives.{IsSpelledArchive, IsSpelledKept, spelled_archive, NoArchiveBeginsAnother, NoKeptBeginsAnother}
 use Rattle.syn_archive.specs.inner.Openings.{Replays, IsImageOf, OneStands, bytes_of_each}
 use Rattle.syn_archive.proofs.AlikeLemmas.{replays_nothing}
 

@@ -27,13 +27,13 @@ ghost use Rattle.syn_journal.specs.Layout.{image_alone};
 use crate::error::ArchiveError;
 use std::alloc::Global;
 use syn_disk::{Arm, Disk, Limit};
+use syn_image::{
+    dir_length, encode_archive, encode_dir, encode_record, encode_session, record_length,
+};
 use syn_journal::{Journal, layout_laws};
 use syn_mark::{Mark, MarkTree};
 use syn_model::archive_laws;
 use syn_path::Path;
-use syn_wire::{
-    dir_length, encode_archive, encode_dir, encode_record, encode_session, record_length,
-};
 
 mod checkpoint;
 mod open;

@@ -2,9 +2,9 @@
 ghost use Rattle.syn_archive.specs.inner.Openings.{OneStands, KeptIsSpelled, KeptIsTold};
 ghost use Rattle.syn_model.specs.ArchiveImage.{KeepingStaysSound};
 
+use syn_image::image_laws;
 use syn_mark::replacement_laws;
 use syn_model::archive_laws;
-use syn_wire::spelling_laws;
 
 /// An image and payloads stand for one archive of one pair at most.
 pub(crate) fn opening_laws()
@@ -13,7 +13,7 @@ pub(crate) fn opening_laws()
     ensures told { KeptIsTold }
     ensures keeping { KeepingStaysSound }
 {
-    spelling_laws();
+    image_laws();
     archive_laws();
     replacement_laws();
 }

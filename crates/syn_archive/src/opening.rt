@@ -10,7 +10,7 @@ ghost use Rattle.syn_model.specs.Path.{IsPath};
 ghost use Rattle.syn_model.specs.Tree.{replace};
 ghost use Rattle.syn_mark.specs.Changes.{replace_refusal};
 ghost use Rattle.syn_mark.specs.Marks.{or_absent};
-ghost use Rattle.syn_wire.specs.Marks.{kept_of};
+ghost use Rattle.syn_image.specs.Archives.{kept_of};
 ghost use Rattle.syn_archive.specs.Disks.{StandsForNone, StandsForOther};
 ghost use Rattle.syn_archive.specs.inner.Openings.{AddsKept, Keeps, Replays, IsKeptOf, IsImageOf};
 ghost use Rattle.syn_archive.specs.inner.Openings.{archive_read, bytes_of_each, CannotKeep};
@@ -19,10 +19,11 @@ ghost use Rattle.syn_archive.specs.inner.Openings.{IsOfMeaning, IsOfPayload};
 use crate::error::ArchiveError;
 use crate::laws::opening_laws;
 use std::alloc::Global;
+use syn_image::{ArchiveImage, Kept, decode_archive, decode_kept, image_laws};
 use syn_mark::{Mark, MarkTree};
 use syn_path::Path;
 use syn_tree::TreeError;
-use syn_wire::{ArchiveImage, Kept, WireError, decode_archive, decode_kept, spelling_laws};
+use syn_wire::WireError;
 
 /// The pair and the archive that the image with the payloads stands for.
 ///
@@ -97,7 +98,7 @@ fn read_image(alloc: Global, image: &[u8]) -> Result<ArchiveImage, ArchiveError>
     ensures damaged { IfErr result (λ e. e ≡ ArchiveError.Damaged
         → (pair : ℕ) (archive : model.Archive) → ¬ IsImageOf image.now pair archive) }
 {
-    spelling_laws();
+    image_laws();
     let Some((read, rest)) = decode_archive(alloc, image)? else {
         return Err(ArchiveError::Damaged);
     };
@@ -158,7 +159,7 @@ fn add_payload(
 fn read_kept(alloc: Global, payload: &[u8]) -> Result<Option<Kept>, WireError>
     ensures { IfOk result (λ read. IsKeptOf payload.now (option_map kept_of read)) }
 {
-    spelling_laws();
+    image_laws();
     let Some((kept, rest)) = decode_kept(alloc, payload)? else {
         return Ok(None);
     };

@@ -34,8 +34,8 @@ use Rattle.syn_session.specs.Reports.{report_model}
 use Rattle.syn_session.specs.Sendings.{messages_of}
 use Rattle.syn_session.specs.declared.coordinator.Coordinator.{Coordinator as Session}
 use Rattle.syn_session.specs.declared.sending.Sending.{Sending}
-use Rattle.syn_wire.specs.Marks.{kept_of}
-use Rattle.syn_wire.specs.declared.kept.Kept.{Kept as Record}
+use Rattle.syn_image.specs.Archives.{kept_of}
+use Rattle.syn_image.specs.declared.kept.Kept.{Kept as Record}
 use Rattle.syn_host.proofs.AnswerLemmas.{meets_down}
 use Rattle.syn_host.proofs.CoordinatorLemmas.{is_not_down}
 use Rattle.syn_host.proofs.SideLemmas.{up_not_down}

@@ -26,7 +26,7 @@ use Rattle.syn_session.specs.Machines.{Journal, LeavesMachine, cut_off, opened_a
 use Rattle.syn_session.specs.Machines.{went_down}
 use Rattle.syn_session.specs.Tries.{Tries}
 use Rattle.syn_session.specs.declared.coordinator.Coordinator.{Coordinator as Session}
-use Rattle.syn_wire.specs.declared.kept.Kept.{Kept as Record}
+use Rattle.syn_image.specs.declared.kept.Kept.{Kept as Record}
 use Rattle.syn_host.proofs.AnswerLemmas.{meets_down}
 use Rattle.syn_host.proofs.CoordinatorLemmas.{is_not_down}
 use Rattle.syn_host.proofs.SideLemmas.{halted_not_down, up_not_down}

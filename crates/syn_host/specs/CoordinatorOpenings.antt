@@ -15,8 +15,8 @@ use Rattle.syn_session.specs.Coordinators.{Stands, device_of}
 use Rattle.syn_session.specs.Machines.{Journal}
 use Rattle.syn_session.specs.Tries.{listed}
 use Rattle.syn_session.specs.declared.coordinator.Coordinator.{Coordinator}
-use Rattle.syn_wire.specs.Marks.{kept_of}
-use Rattle.syn_wire.specs.declared.kept.Kept.{Kept as Record}
+use Rattle.syn_image.specs.Archives.{kept_of}
+use Rattle.syn_image.specs.declared.kept.Kept.{Kept as Record}
 
 -- its device is left so
 abbrev pub with_device : CoordinatorMachine → Status → Arms → ℕ → CoordinatorMachine

@@ -20,7 +20,7 @@ use Rattle.syn_session.specs.Machines.{Journal, LeavesMachine}
 use Rattle.syn_session.specs.Reports.{report_model}
 use Rattle.syn_session.specs.Sendings.{messages_of}
 use Rattle.syn_session.specs.declared.coordinator.Coordinator.{Coordinator}
-use Rattle.syn_wire.specs.Marks.{kept_of}
+use Rattle.syn_image.specs.Archives.{kept_of}
 
 -- what a call may leave of the machine, what it gives, and what a user was refused
 abbrev pub CallStep : Type 1

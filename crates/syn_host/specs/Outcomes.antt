@@ -13,8 +13,8 @@ use Rattle.syn_refusal.specs.declared.refusal.Refusal.{Refusal}
 use Rattle.syn_session.specs.Coordinators.{in_report}
 use Rattle.syn_session.specs.Reports.{report_model}
 use Rattle.syn_session.specs.Sendings.{messages_of}
-use Rattle.syn_wire.specs.Marks.{kept_of}
-use Rattle.syn_wire.specs.declared.kept.Kept.{Kept}
+use Rattle.syn_image.specs.Archives.{kept_of}
+use Rattle.syn_image.specs.declared.kept.Kept.{Kept}
 
 -- what a user was refused
 abbrev pub refused_in : Outcome → List model.Refusal

@@ -1,13 +1,14 @@
 //! Equal values of their own.
 ghost use Rattle.std.specs.Prelude.{◌≡◌, IfOk, map};
 ghost use Rattle.syn_session.specs.Reports.{report_model};
-ghost use Rattle.syn_wire.specs.Marks.{kept_of};
+ghost use Rattle.syn_image.specs.Archives.{kept_of};
 
 use std::alloc::Global;
+use syn_image::Kept;
 use syn_path::{Path, PathError};
 use syn_refusal::Refusal;
 use syn_session::Report;
-use syn_wire::{Kept, WireError};
+use syn_wire::WireError;
 
 /// The same records. Refused 11 where memory is refused.
 pub(crate) fn copy_kept(alloc: Global, source: &[Kept]) -> Result<Vec<Kept>, WireError>

@@ -1,13 +1,13 @@
 //! What came of a step of a machine.
 ghost use Rattle.std.specs.Prelude.{◌≡◌, IfSome, map, option_map};
 ghost use Rattle.syn_session.specs.Reports.{report_model};
-ghost use Rattle.syn_wire.specs.Marks.{kept_of};
+ghost use Rattle.syn_image.specs.Archives.{kept_of};
 
 use crate::copies::{copy_kept, copy_report};
 use std::alloc::Global;
+use syn_image::Kept;
 use syn_refusal::Refusal;
 use syn_session::{Report, Sending};
-use syn_wire::Kept;
 
 /// What came of a step of a side.
 #[derive(Debug, Drop)]

@@ -34,12 +34,13 @@ ghost use Rattle.syn_journal.specs.Layout.{image_alone};
 use std::alloc::Global;
 use syn_disk::Disk;
 use syn_history::Event;
+use syn_image::encode_image;
 use syn_journal::{Journal, JournalError, Opened, layout_laws};
 use syn_model::{history_laws, worked_rows};
 use syn_path::{Name, Path};
 use syn_standing::{ReplicaError, Standing, Update, opening_laws, read_replica};
 use syn_tree::{Content, Edit, Found, Tree, TreeError};
-use syn_wire::{edit_length, encode_event, encode_image};
+use syn_wire::{edit_length, encode_event};
 
 mod checkpoint;
 mod device;

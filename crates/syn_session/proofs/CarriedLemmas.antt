@@ -49,7 +49,7 @@ use Rattle.syn_session.proofs.FreshLemmas.{asked_then}
 use Rattle.syn_session.proofs.PassLemmas.{asks_here, at_turn, is_carried, some_in, turn_asks, turn_ends, turn_further}
 use Rattle.syn_session.proofs.SettleLemmas.{carries_on, carrying_more}
 use Rattle.syn_session.proofs.WalkLemmas.{passes_refused}
-use Rattle.syn_wire.specs.Marks.{kept_of}
+use Rattle.syn_image.specs.Archives.{kept_of}
 
 -- ---- a request for what is carried is one for the item
 

@@ -36,7 +36,7 @@ use Rattle.syn_session.specs.inner.Answering.{IsHeard, asks_of, asks_to}
 use Rattle.syn_session.specs.inner.Hearing.{IsAsking, IsFresh, MayGoOn}
 use Rattle.syn_session.specs.inner.Sessions.{IsLine, IsStage, Tells, TellsOf, waiting_of}
 use Rattle.syn_session.specs.declared.requests.Waiting.{Waiting}
-use Rattle.syn_wire.specs.Marks.{kept_of}
+use Rattle.syn_image.specs.Archives.{kept_of}
 use Rattle.std.proofs.lemmas.Option.{none-some}
 use Rattle.syn_session.specs.inner.Stages.{Carries, IsCarriageOf, IsCarriedFor, IsCourse, Reached, asks_now, found_on, line_of, plan_in, reached_by}
 use Rattle.syn_session.specs.inner.Taking.{TakesEnd, TakesOn, Walks, reaching}

@@ -26,7 +26,7 @@ use Rattle.syn_session.specs.inner.Doings.{IsCarriedFrom, IsDoing, IsDoingFor, K
 use Rattle.syn_session.specs.inner.Plans.{planned_by}
 use Rattle.syn_session.specs.inner.Recording.{IsOfItem}
 use Rattle.syn_session.specs.inner.Stages.{IsCarriageOf, IsCourse, Reached, plan_in}
-use Rattle.syn_wire.specs.Marks.{kept_of}
+use Rattle.syn_image.specs.Archives.{kept_of}
 use Rattle.std.specs.Prelude.{IfOk, Result, Ok, Err}
 use Rattle.syn_session.specs.declared.error.SessionError.{SessionError}
 use Rattle.syn_session.proofs.PlanLemmas.{same_marks}

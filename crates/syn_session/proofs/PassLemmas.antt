@@ -43,7 +43,7 @@ use Rattle.syn_session.specs.inner.Walking.{Ends, IsAtItem, Passes, ends, walk_a
 use Rattle.syn_session.proofs.FreshLemmas.{asked_past}
 use Rattle.syn_session.proofs.SettleLemmas.{at_walk, ends_for_memory}
 use Rattle.syn_session.proofs.WalkLemmas.{comes_behind, ends_behind, keeps_none, passes_more, passes_none, passes_unfit}
-use Rattle.syn_wire.specs.Marks.{kept_of}
+use Rattle.syn_image.specs.Archives.{kept_of}
 
 -- ---- what is answered
 

@@ -19,7 +19,7 @@ use Rattle.syn_model.specs.Plan.{PlanIsOrderly}
 use Rattle.syn_propagate.specs.Carrying.{IsFresh}
 use Rattle.syn_propagate.specs.Transfers.{carriage_of}
 use Rattle.syn_propagate.specs.declared.transfer.Transfer.{Transfer}
-use Rattle.syn_wire.specs.Marks.{kept_of}
+use Rattle.syn_image.specs.Archives.{kept_of}
 use Rattle.syn_session.specs.declared.course.Carried.{Carried}
 use Rattle.syn_session.proofs.FreshLemmas.{asked_past, is_fresh}
 use Rattle.syn_recon.specs.Items.{item_of, items_of}

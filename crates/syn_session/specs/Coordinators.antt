@@ -22,7 +22,7 @@ use Rattle.syn_session.specs.Tries.{Tries, record_of}
 use Rattle.syn_session.specs.declared.coordinator.Coordinator.{Coordinator}
 use Rattle.syn_session.specs.declared.tried.Tried.{Tried}
 use Rattle.syn_session.specs.inner.Sessions.{IsRunning}
-use Rattle.syn_wire.specs.Marks.{kept_of}
+use Rattle.syn_image.specs.Archives.{kept_of}
 
 module _ {D : Type 0} {disk : Ghosts D} (coordinator : Coordinator D disk) where
   abbrev pub archive_of : Archive D disk

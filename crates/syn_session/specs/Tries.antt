@@ -10,7 +10,7 @@ use Rattle.syn_headline.specs.Machine.{IsAsLeft, Up}
 use Rattle.syn_model.specs.Archive.{Kept}
 use Rattle.syn_session.specs.Machines.{Journal}
 use Rattle.syn_session.specs.declared.tried.Tried.{Tried}
-use Rattle.syn_wire.specs.Marks.{kept_of}
+use Rattle.syn_image.specs.Archives.{kept_of}
 
 abbrev pub record_of : Tried → Kept
 record_of tried = kept_of tried.kept

@@ -11,10 +11,10 @@ ghost use Rattle.syn_session.specs.inner.Answering.{exchange_of};
 
 use crate::course::{Carried, Course};
 use std::alloc::Global;
+use syn_image::Kept;
 use syn_message::{Reply, Request, Side};
 use syn_propagate::{Next, transfer_laws};
 use syn_refusal::Refusal;
-use syn_wire::Kept;
 
 /// What an answer for the item that is carried comes to.
 #[derive(Debug, Drop)]

@@ -6,17 +6,17 @@ ghost use Rattle.syn_mark.specs.Marks.{or_absent};
 ghost use Rattle.syn_model.specs.Tree.{subtree};
 ghost use Rattle.syn_propagate.specs.Transfers.{IsReady, carriage_of};
 ghost use Rattle.syn_scan.specs.Found.{position_of};
-ghost use Rattle.syn_wire.specs.Marks.{kept_of};
+ghost use Rattle.syn_image.specs.Archives.{kept_of};
 
 use crate::course::Carried;
 use crate::error::SessionError;
 use std::alloc::Global;
+use syn_image::Kept;
 use syn_mark::MarkTree;
 use syn_message::Side;
 use syn_path::Path;
 use syn_propagate::{Carriage, Transfer};
 use syn_scan::Scan;
-use syn_wire::Kept;
 
 impl Carried {
     /// What stands at the path on the source is carried to the other side, for the item with this

@@ -17,7 +17,7 @@ ghost use Rattle.syn_session.specs.Sendings.{messages_of};
 ghost use Rattle.syn_session.specs.declared.session.Session.{Session as Ran};
 ghost use Rattle.syn_session.specs.inner.Sessions.{IsSession, Tells, begin_messages, begun};
 ghost use Rattle.syn_session.specs.inner.Steps.{KeepsSo};
-ghost use Rattle.syn_wire.specs.Marks.{kept_of};
+ghost use Rattle.syn_image.specs.Archives.{kept_of};
 
 use crate::error::SessionError;
 use crate::report::Report;
@@ -27,9 +27,9 @@ use crate::tried::Tried;
 use std::alloc::Global;
 use syn_archive::{Archive, ArchiveError};
 use syn_disk::Disk;
+use syn_image::Kept;
 use syn_recovery::device_laws;
 use syn_refusal::Refusal;
-use syn_wire::Kept;
 
 mod answers;
 mod carried;

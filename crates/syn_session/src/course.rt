@@ -6,13 +6,13 @@ ghost use Rattle.syn_scan.specs.Found.{scan_of};
 
 use crate::error::SessionError;
 use std::alloc::Global;
+use syn_image::Kept;
 use syn_mark::MarkTree;
 use syn_path::Path;
 use syn_propagate::Transfer;
 use syn_recon::{Item, plan};
 use syn_refusal::Refusal;
 use syn_scan::Scan;
-use syn_wire::Kept;
 
 /// A plan of more items than this is refused.
 const MAX_ITEMS: usize = 0xffff_ffff;

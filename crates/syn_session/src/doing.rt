@@ -7,12 +7,12 @@ use crate::carried::{copy_marks, copy_path};
 use crate::course::{Carried, Course};
 use crate::error::SessionError;
 use std::alloc::Global;
+use syn_image::Kept;
 use syn_message::Side;
 use syn_model::plan_laws;
 use syn_path::Path;
 use syn_recon::Item;
 use syn_scan::Scan;
-use syn_wire::Kept;
 
 /// What is to be done for the item that a session has come to.
 #[derive(Debug, Drop)]

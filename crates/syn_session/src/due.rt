@@ -18,17 +18,17 @@ ghost use Rattle.syn_session.specs.inner.Due.{IsReady, Settles};
 ghost use Rattle.syn_session.specs.inner.Recording.{Checkpoints, CountsFailures};
 ghost use Rattle.syn_session.specs.inner.Recording.{CountsFailuresOrStops, IsOfItem, MakesRoomNow};
 ghost use Rattle.syn_session.specs.inner.Recording.{Writes, ended_by};
-ghost use Rattle.syn_wire.specs.Marks.{kept_of};
+ghost use Rattle.syn_image.specs.Archives.{kept_of};
 
 use std::alloc::Global;
 use syn_archive::{Archive, ArchiveError};
 use syn_disk::{Disk, Limit};
+use syn_image::{Kept, dir_length, record_length};
 use syn_mark::{Mark, MarkTree};
 use syn_path::Path;
 use syn_recovery::device_laws;
 use syn_refusal::Refusal;
 use syn_tree::TreeError;
-use syn_wire::{Kept, dir_length, record_length};
 
 /// What became of a record that was due.
 #[derive(Clone, Copy, Debug, PartialEq, Eq)]

@@ -1,11 +1,11 @@
 //! A record that could not be kept.
 ghost use Rattle.std.specs.Prelude.{◌≡◌, option_map};
 ghost use Rattle.syn_session.specs.Tries.{IsTriedBy, found_in, is_in, record_of};
-ghost use Rattle.syn_wire.specs.Marks.{kept_of};
+ghost use Rattle.syn_image.specs.Archives.{kept_of};
 
 use syn_archive::Archive;
 use syn_disk::Disk;
-use syn_wire::Kept;
+use syn_image::Kept;
 
 /// A record that was being written as a device call failed, with what the archive's journal showed
 /// behind it. Whether the disk has the record shows when it is opened again.

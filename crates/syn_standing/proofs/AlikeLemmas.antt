@@ -5,7 +5,7 @@ use Rattle.syn_model.specs.Event.{Event}
 use Rattle.syn_model.specs.Standing.{Standing, standing_after, IsAllowedAt, AllAllowedAt}
 use Rattle.syn_model.specs.Spelling.{event_spelling}
 use Rattle.syn_wire.specs.Laws.{NoEventBeginsAnother}
-use Rattle.syn_wire.specs.Images.{NoImageBeginsAnother}
+use Rattle.syn_image.specs.Images.{NoImageBeginsAnother}
 use Rattle.syn_standing.specs.Readings.{AddsEvent, Replays, OneIsGiven, AllowedIsSpelled, EventsAreTold}
 
 first_payload : List Bytes → Bytes

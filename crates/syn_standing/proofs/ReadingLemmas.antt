@@ -8,9 +8,9 @@ use Rattle.syn_model.specs.Standing.{Standing}
 use Rattle.syn_model.specs.Spelling.{event_spelling}
 use Rattle.syn_model.specs.Image.{Gives}
 use Rattle.syn_wire.specs.Events.{IsSpelledEvent}
-use Rattle.syn_wire.specs.Images.{IsImage, spelled_image, NoImageBeginsAnother}
 use Rattle.syn_wire.specs.Laws.{NoEventBeginsAnother}
 use Rattle.syn_wire.specs.Reads.{BeginsWith, IsReading}
+use Rattle.syn_image.specs.Images.{IsImage, spelled_image, NoImageBeginsAnother}
 use Rattle.syn_standing.specs.Readings.{Replays, IsEventOf, IsImageOf, OneIsGiven, bytes_of_each}
 use Rattle.syn_standing.specs.Readings.{IsOfPayload}
 use Rattle.syn_standing.specs.declared.error.ReplicaError.{ReplicaError}

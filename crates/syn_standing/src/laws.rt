@@ -2,6 +2,7 @@
 ghost use Rattle.syn_standing.specs.Readings.{OneIsGiven, AllowedIsSpelled, EventsAreTold};
 ghost use Rattle.syn_standing.specs.Readings.{NotRefusedIsShort};
 
+use syn_image::image_laws;
 use syn_model::{history_laws, spelling_laws as tree_spelling_laws, tree_laws};
 use syn_wire::spelling_laws;
 
@@ -13,6 +14,7 @@ pub fn opening_laws()
     ensures told { EventsAreTold }
 {
     spelling_laws();
+    image_laws();
     tree_spelling_laws();
     history_laws();
     tree_laws();

@@ -18,8 +18,9 @@ use crate::laws::opening_laws;
 use crate::standing::Standing;
 use std::alloc::Global;
 use syn_history::Event;
+use syn_image::{Image, decode_image, image_laws};
 use syn_refusal::Refusal;
-use syn_wire::{Image, WireError, decode_event, decode_image, spelling_laws};
+use syn_wire::{WireError, decode_event, spelling_laws};
 
 /// The pair and the standing that the image and the payloads give.
 ///
@@ -76,7 +77,7 @@ fn read_image(alloc: Global, image: &[u8]) -> Result<(u64, Standing), ReplicaErr
     ensures damaged { IfErr result (λ e. e ≡ ReplicaError.Damaged
         → (pair : ℕ) (standing : model_standing.Standing) → ¬ IsImageOf image.now pair standing) }
 {
-    spelling_laws();
+    image_laws();
     let Some((read, rest)) = decode_image(alloc, image)? else {
         return Err(ReplicaError::Damaged);
     };

@@ -6,11 +6,11 @@ use crate::told::{carried_line, conflict_line, count_line, marked_line, refused_
 use crate::watch::Watch;
 use std::alloc::{AllocError, Global};
 use std::io::Write;
+use syn_image::Kept;
 use syn_message::{Answered, Reply, Request, Side};
 use syn_path::Path;
 use syn_refusal::Refusal;
 use syn_session::{Report, Sending};
-use syn_wire::Kept;
 
 /// What a terminal takes for: back to the beginning of the line, and nothing in it.
 const CLEARED: &str = "\r\x1b[K";

@@ -1,8 +1,8 @@
 //! Who is told how a session goes.
 
+use syn_image::Kept;
 use syn_message::{Answered, Side};
 use syn_session::Sending;
-use syn_wire::Kept;
 
 /// Is told what happens in a session, as it happens. It sees the session, and changes nothing of
 /// it. No clause says what it is told.

@@ -3,10 +3,10 @@
 use crate::chart::Chart;
 use crate::messages::{ends_of, sent_text};
 use std::alloc::{AllocError, Global};
+use syn_image::Kept;
 use syn_message::Side;
 use syn_play::Moment;
 use syn_session::End;
-use syn_wire::Kept;
 use syn_world::{Ack, Lists, Machine};
 
 /// What happened in one turn: what the lists have from the moment before it to the one behind it.

@@ -13,5 +13,4 @@ pub mod PartsLemmas
 pub mod ReadingLemmas
 pub mod MadeLemmas
 pub mod ListedLemmas
-pub mod ImageLemmas
-pub mod KeptLemmas
+pub mod MarkTreeLemmas

@@ -4,5 +4,4 @@ pub mod Laws
 pub mod Events
 pub mod Trees
 pub mod Marks
-pub mod Images
 pub mod inner

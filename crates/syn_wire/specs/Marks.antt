@@ -1,28 +1,15 @@
--- How marks are spelled, what an archive keeps, and which of them are read.
-use Rattle.std.specs.Prelude.{◌≡◌, ◌<◌, ◌^◌, ℕ, true}
-use Rattle.syn_model.specs.Path.{Bytes, IsPath, root}
+-- How marks are spelled, and which of them are read.
+use Rattle.std.specs.Prelude.{◌≡◌, true}
+use Rattle.syn_model.specs.Path.{Bytes, root}
 use Rattle.syn_model.specs.Tree.{Tree, is_present}
 use Rattle.syn_model.specs.Limits.{fits_archive}
 use Rattle.syn_model.specs.Mark.{IsMarks}
-use Rattle.syn_model.specs.Archive.{Archive, Session, Recorded, RecordedDir}
-use Rattle.syn_model.specs.Archive as model
-use Rattle.syn_model.specs.ArchiveImage.{IsArchive}
-use Rattle.syn_model.specs.MarkSpelling.{mark_spelling, kept_spelling, archive_spelling}
-use Rattle.syn_mark.specs.Marks.{or_absent}
+use Rattle.syn_model.specs.MarkSpelling.{mark_spelling}
 use Rattle.syn_wire.specs.Reads.{NoneBeginsAnother}
-use Rattle.syn_wire.specs.declared.kept.ArchiveImage.{ArchiveImage}
-use Rattle.syn_wire.specs.declared.kept.Kept.{Kept}
-use Rattle.syn_wire.specs.declared.kept.Kept.TheVariants as has
 
 -- a file's mark is its digest, with no length
 abbrev pub digest_spelling : Bytes → Bytes
 digest_spelling digest = digest
-
--- what is kept, as the model has it
-abbrev pub kept_of : Kept → model.Kept
-kept_of (has.Session session) = Session session
-kept_of (has.Record path marks) = Recorded path (or_absent marks)
-kept_of (has.Dir path) = RecordedDir path
 
 -- the marks of a file, of a directory with all below it, or of nothing, within the limits of an
 -- archive
@@ -35,29 +22,6 @@ pub record IsMarkTree (t : Tree) : Type 0 where
   pub optional : IsOptionalMarkTree t
   pub present : is_present t root ≡ true
 
--- what the spelling of a record may be of
-abbrev pub IsSpelledKept : model.Kept → Type 0
-IsSpelledKept (Session session) = session < 2 ^ 64
-IsSpelledKept (Recorded path marks) = IsPath path × IsOptionalMarkTree marks
-IsSpelledKept (RecordedDir path) = IsPath path
-
--- a pair with the archive of an image
-abbrev pub archive_in : ArchiveImage → ℕ × Archive
-archive_in image =
-    (image.pair, record { marks = image.marks; last_session = image.last_session })
-
-abbrev pub IsSpelledArchive : ℕ × Archive → Type 0
-IsSpelledArchive image = (image.0 < 2 ^ 64) × IsArchive image.1
-
-abbrev pub spelled_archive : ℕ × Archive → Bytes
-spelled_archive image = archive_spelling image.0 image.1
-
--- no spelling of marks, of a record or of an archive begins that of another
+-- no spelling of marks begins that of others
 abbrev pub NoMarksBeginOthers : Type 0
 NoMarksBeginOthers = NoneBeginsAnother IsOptionalMarkTree mark_spelling
-
-abbrev pub NoKeptBeginsAnother : Type 0
-NoKeptBeginsAnother = NoneBeginsAnother IsSpelledKept kept_spelling
-
-abbrev pub NoArchiveBeginsAnother : Type 0
-NoArchiveBeginsAnother = NoneBeginsAnother IsSpelledArchive spelled_archive

@@ -2,4 +2,3 @@
 pub mod Names
 pub mod Kinds
 pub mod Parts
-pub mod Pasts

@@ -233,8 +233,9 @@ fn read_item(alloc: Global, bytes: &[u8]) -> Result<Option<(Token, Path, &[u8])>
     }
 }
 
-// The number of a session, and that of its item.
-pub(crate) fn read_token(bytes: &[u8]) -> Option<(Token, &[u8])>
+/// The token that the bytes begin with, the number of a session and that of its item, and the rest;
+/// none where there are fewer than twelve bytes.
+pub fn read_token(bytes: &[u8]) -> Option<(Token, &[u8])>
     ensures { IsReading IsLawfulToken token_spelling bytes.now
         (option_map (λ found. (token_of found.0, found.1.now)) result) }
 {
@@ -243,8 +244,9 @@ pub(crate) fn read_token(bytes: &[u8]) -> Option<(Token, &[u8])>
     Some((Token { session, item }, rest))
 }
 
-// Adds the number of a session, and that of its item.
-pub(crate) fn write_token(out: &mut Vec<u8>, token: &Token) -> Result<(), WireError>
+/// Adds the number of a session, and that of its item. Refused 11 where memory is refused; a
+/// beginning of it may then have been added.
+pub fn write_token(out: &mut Vec<u8>, token: &Token) -> Result<(), WireError>
     ensures added { OnOk result (out.new.items ≡ out.old.items
         ++ token_spelling (token_of token.now)) }
     ensures lawful { OnOk result (IsLawfulToken (token_of token.now)) }

@@ -53,8 +53,8 @@ pub fn write_marks(out: &mut Vec<u8>, marks: &MarkTree) -> Result<(), WireError>
     Ok(())
 }
 
-// How many bytes spell the marks at a path, or nothing. It takes no memory.
-pub(crate) fn optional_marks_length(marks: Option<&MarkTree>) -> usize
+/// How many bytes spell the marks at a path, or nothing. It takes no memory.
+pub fn optional_marks_length(marks: Option<&MarkTree>) -> usize
     ensures length { result ≡ length
         (mark_spelling (or_absent (option_map (λ there. there.now) marks.entry))) }
     ensures brief { result ≤ 401408 }

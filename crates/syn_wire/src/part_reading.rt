@@ -127,8 +127,8 @@ fn read_child<'a>(
     }
 }
 
-// An equal path of its own.
-pub(crate) fn copied(alloc: Global, path: &Path) -> Result<Path, WireError>
+/// An equal path of its own. Refused 11 where memory is refused.
+pub fn copied(alloc: Global, path: &Path) -> Result<Path, WireError>
     ensures { IfOk result (λ copy. copy ≡ path.now) }
 {
     match path.copy(alloc) {

@@ -57,8 +57,8 @@ pub fn write_path(out: &mut Vec<u8>, path: &Path) -> Result<(), WireError>
     Ok(())
 }
 
-// How many bytes spell the path.
-pub(crate) fn path_length(path: &Path) -> usize
+/// How many bytes spell the path. It takes no memory.
+pub fn path_length(path: &Path) -> usize
     ensures length { result ≡ length (path_spelling path.now) }
     ensures brief { result ≤ 255 }
 {

@@ -24,8 +24,8 @@ use Rattle.syn_session.specs.Coordinators.{in_report}
 use Rattle.syn_session.specs.Reports.{report_model}
 use Rattle.syn_session.specs.Sendings.{messages_of}
 use Rattle.syn_session.specs.declared.sending.Sending.{Sending}
-use Rattle.syn_wire.specs.Marks.{kept_of}
-use Rattle.syn_wire.specs.declared.kept.Kept.{Kept}
+use Rattle.syn_image.specs.Archives.{kept_of}
+use Rattle.syn_image.specs.declared.kept.Kept.{Kept}
 use Rattle.syn_world.specs.Worlds.{CanBeSent, Goes, GrowsBy, Hears, IsListed, Notes, Takes}
 use Rattle.syn_world.specs.Worlds.{message_of, report_in, told_by, told_in, told_kept}
 use Rattle.syn_world.specs.declared.lists.Lists.{Lists}

@@ -20,7 +20,7 @@ use Rattle.syn_refusal.specs.declared.refusal.Refusal.{Refusal as Code}
 use Rattle.syn_session.specs.Coordinators.{in_report}
 use Rattle.syn_session.specs.Reports.{report_model}
 use Rattle.syn_session.specs.Sendings.{messages_of}
-use Rattle.syn_wire.specs.declared.kept.Kept.{Kept as Record}
+use Rattle.syn_image.specs.declared.kept.Kept.{Kept as Record}
 use Rattle.syn_world.specs.Worlds.{EndsSo, Goes, GoesSo, IsListed, IsWorld, RunsMachines}
 use Rattle.syn_world.specs.Worlds.{TellsFound}
 use Rattle.syn_world.specs.declared.world.Disks.{Disks}

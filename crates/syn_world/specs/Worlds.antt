@@ -31,8 +31,8 @@ use Rattle.syn_session.specs.Reports.{report_model}
 use Rattle.syn_session.specs.Sendings as sendings
 use Rattle.syn_session.specs.Tries.{listed}
 use Rattle.syn_session.specs.declared.report.Report.{Report}
-use Rattle.syn_wire.specs.Marks.{kept_of}
-use Rattle.syn_wire.specs.declared.kept.Kept.{Kept as KeptBy}
+use Rattle.syn_image.specs.Archives.{kept_of}
+use Rattle.syn_image.specs.declared.kept.Kept.{Kept as KeptBy}
 use Rattle.syn_world.specs.declared.lists.Ack.{Ack}
 use Rattle.syn_world.specs.declared.lists.Ack.TheVariants as acks
 use Rattle.syn_world.specs.declared.lists.Lists.{Lists}

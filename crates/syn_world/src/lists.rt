@@ -8,10 +8,10 @@ ghost use Rattle.syn_session.specs.Sendings.{messages_of};
 ghost use Rattle.syn_world.specs.Worlds.{message_of, report_in, told_in, told_kept};
 
 use syn_host::{CoordinatorOutcome, Outcome};
+use syn_image::Kept;
 use syn_message::{Answered, Reply, Side};
 use syn_refusal::Refusal;
 use syn_session::{Report, Sending};
-use syn_wire::Kept;
 
 /// A message that was sent.
 #[derive(Debug, Drop)]

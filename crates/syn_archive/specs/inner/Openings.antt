@@ -5,8 +5,8 @@ use Rattle.syn_model.specs.Path.{Bytes}
 use Rattle.syn_model.specs.Archive.{Archive, Kept, CanKeep, after_kept, archive_of}
 use Rattle.syn_model.specs.ArchiveImage.{ArchiveStandsFor, AllKept, IsArchive}
 use Rattle.syn_model.specs.MarkSpelling.{archive_spelling, kept_spelling}
-use Rattle.syn_wire.specs.Marks.{IsSpelledKept, archive_in}
-use Rattle.syn_wire.specs.declared.kept.ArchiveImage.{ArchiveImage}
+use Rattle.syn_image.specs.Archives.{IsSpelledKept, archive_in}
+use Rattle.syn_image.specs.declared.kept.ArchiveImage.{ArchiveImage}
 use Rattle.syn_archive.specs.declared.error.ArchiveError.{ArchiveError}
 use Rattle.syn_archive.specs.declared.error.ArchiveError.TheVariants.{Memory, Damaged, WrongPair}
 

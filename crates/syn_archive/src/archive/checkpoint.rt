@@ -13,8 +13,8 @@ use super::Archive;
 use crate::error::ArchiveError;
 use std::alloc::Global;
 use syn_disk::Disk;
+use syn_image::encode_archive;
 use syn_model::archive_laws;
-use syn_wire::encode_archive;
 
 impl<D: Disk> Archive<D> {
     ghost use Rattle.syn_archive.specs.Archive.{pair_of, shown, disk_of, journal_of};

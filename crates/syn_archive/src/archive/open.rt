@@ -15,8 +15,8 @@ use crate::laws::opening_laws;
 use crate::opening::{read_archive, read_own};
 use std::alloc::Global;
 use syn_disk::Disk;
+use syn_image::ArchiveImage;
 use syn_journal::{Journal, Opened};
-use syn_wire::ArchiveImage;
 
 impl<D: Disk> Archive<D> {
     ghost use Rattle.syn_archive.specs.Archive.{pair_of, shown, disk_of};

@@ -15,10 +15,10 @@ use crate::disk::SimulatedDisk;
 use std::alloc::Global;
 use syn_archive::Archive;
 use syn_disk::Disk;
+use syn_image::Kept;
 use syn_recovery::device_laws;
 use syn_refusal::Refusal;
 use syn_session::Coordinator;
-use syn_wire::Kept;
 
 /// Opens the disk of the pair's archive, with no session and nothing known of it. Nothing is
 /// written, and the disk comes back where it is refused.

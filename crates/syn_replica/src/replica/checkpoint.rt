@@ -15,10 +15,10 @@ ghost use Rattle.syn_replica.specs.Refusals.{CountsFailures, MakesIfDevice};
 use super::Replica;
 use std::alloc::Global;
 use syn_disk::Disk;
+use syn_image::encode_image;
 use syn_journal::JournalError;
 use syn_model::history_laws;
 use syn_standing::{ReplicaError, opening_laws};
-use syn_wire::encode_image;
 
 impl<D: Disk> Replica<D> {
     ghost use Rattle.syn_replica.specs.Replica.{pair_of, standing_shown, tried_shown, disk_of};

@@ -26,7 +26,7 @@ use Rattle.syn_session.specs.declared.report.Ended.{Ended}
 use Rattle.syn_session.specs.declared.report.Ended.TheVariants.{Early}
 use Rattle.syn_session.specs.inner.Settling.{AsksSo, EndsSo, IsQuiet}
 use Rattle.syn_session.specs.inner.Stages.{AreAskedBefore, Carries, IsCourse, Reached, plan_in}
-use Rattle.syn_wire.specs.Marks.{kept_of}
+use Rattle.syn_image.specs.Archives.{kept_of}
 
 -- the item at the cursor is carried no further, and no request is out for a later one
 pub record IsCarriedOut (course : Course) (left right : Found) (all : List Exchange)

@@ -20,7 +20,7 @@ use Rattle.syn_session.specs.declared.doing.Doing.{Doing}
 use Rattle.syn_session.specs.declared.doing.Doing.TheVariants as has
 use Rattle.syn_session.specs.inner.Recording.{IsOfItem}
 use Rattle.syn_session.specs.inner.Stages.{IsCarriageOf, plan_in}
-use Rattle.syn_wire.specs.Marks.{kept_of}
+use Rattle.syn_image.specs.Archives.{kept_of}
 
 -- what stands at the path on the source is carried for the item with the number
 pub record IsCarriedFrom (carried : Carried) (source : Side) (item : ℕ) (path : Path)

@@ -30,7 +30,7 @@ use Rattle.syn_session.specs.declared.course.Course.{Course}
 use Rattle.syn_session.specs.declared.line.Line.{Line}
 use Rattle.syn_session.specs.declared.session.Session.{Session}
 use Rattle.syn_session.specs.inner.Plans.{AreRecordedBefore, Plan, planned_all, recorded_count}
-use Rattle.syn_wire.specs.Marks.{kept_of}
+use Rattle.syn_image.specs.Archives.{kept_of}
 
 -- the request that waits on a line
 abbrev pub asks_now : Line → Option Request

@@ -13,7 +13,7 @@ ghost use Rattle.syn_session.specs.Machines.{IsMachine, Journal};
 ghost use Rattle.syn_session.specs.inner.Answering.{exchange_of};
 ghost use Rattle.syn_session.specs.inner.Carrying.{IsCarriedOut};
 ghost use Rattle.syn_session.specs.inner.Stages.{Carries, IsCourse, Reached, plan_in};
-ghost use Rattle.syn_wire.specs.Marks.{kept_of};
+ghost use Rattle.syn_image.specs.Archives.{kept_of};
 
 use super::Coordinator;
 use crate::answering::Carrying;
@@ -21,10 +21,10 @@ use crate::course::Course;
 use crate::report::Ended;
 use std::alloc::Global;
 use syn_disk::Limit;
+use syn_image::Kept;
 use syn_message::{Reply, Request, Side};
 use syn_refusal::Refusal;
 use syn_scan::Scan;
-use syn_wire::Kept;
 
 impl<D: Limit> Coordinator<D> {
     ghost use Rattle.syn_session.specs.Coordinators.{archive_of};

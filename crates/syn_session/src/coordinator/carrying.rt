@@ -20,7 +20,7 @@ ghost use Rattle.syn_session.specs.inner.Settling.{nothing_asked};
 ghost use Rattle.syn_session.specs.inner.Stages.{AreAskedBefore, Carries, IsCarriedFor};
 ghost use Rattle.syn_session.specs.inner.Stages.{IsCarriageOf, IsCourse, Reached, plan_in};
 ghost use Rattle.syn_session.specs.inner.Walking.{IsAtItem, Passes};
-ghost use Rattle.syn_wire.specs.Marks.{kept_of};
+ghost use Rattle.syn_image.specs.Archives.{kept_of};
 
 use super::Coordinator;
 use crate::course::{Carried, Course};
@@ -30,13 +30,13 @@ use crate::report::Ended;
 use crate::tried::Tried;
 use std::alloc::Global;
 use syn_disk::Limit;
+use syn_image::Kept;
 use syn_message::{Request, Side};
 use syn_model::plan_laws;
 use syn_path::Path;
 use syn_propagate::Next;
 use syn_refusal::Refusal;
 use syn_scan::Scan;
-use syn_wire::Kept;
 
 impl<D: Limit> Coordinator<D> {
     ghost use Rattle.syn_session.specs.Coordinators.{archive_of, tried_shown, written};

@@ -16,9 +16,9 @@ use crate::tried::found;
 use std::alloc::Global;
 use syn_archive::ArchiveError;
 use syn_disk::{Arm, Disk, Limit};
+use syn_image::Kept;
 use syn_model::archive_laws;
 use syn_recovery::{device_laws, opening_laws};
-use syn_wire::Kept;
 
 impl<D: Disk> Coordinator<D> {
     ghost use Rattle.syn_session.specs.Coordinators.{Checkpoints, Does};
@@ -74,7 +74,7 @@ impl<D: Limit> Coordinator<D> {
     ghost use Rattle.syn_session.specs.Coordinators.{Stands, archive_of, device_of, report_shown};
     ghost use Rattle.syn_session.specs.Coordinators.{runs, tried_shown, written};
     ghost use Rattle.syn_session.specs.Tries.{found_in, listed};
-    ghost use Rattle.syn_wire.specs.Marks.{kept_of};
+    ghost use Rattle.syn_image.specs.Archives.{kept_of};
 
     /// Opens the archive's own disk again. A session that runs goes on; an archive that was halted
     /// runs again. It answers the record that was being written as the device failed, if the disk

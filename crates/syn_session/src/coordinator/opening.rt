@@ -3,15 +3,15 @@ ghost use Rattle.std.specs.Prelude.{IfErr, IfOk, option_map};
 ghost use Rattle.syn_session.specs.Machines.{Journal};
 ghost use Rattle.syn_session.specs.Openings.{OpensAs, RestsStill, RestsWith};
 ghost use Rattle.syn_session.specs.Tries.{listed};
-ghost use Rattle.syn_wire.specs.Marks.{kept_of};
+ghost use Rattle.syn_image.specs.Archives.{kept_of};
 
 use super::Coordinator;
 use crate::tried::{Tried, found};
 use std::alloc::Global;
 use syn_archive::{Archive, ArchiveError};
 use syn_disk::Disk;
+use syn_image::Kept;
 use syn_recovery::{device_laws, opening_laws};
-use syn_wire::Kept;
 
 impl<D: Disk> Coordinator<D> {
     /// Opens the disk of a coordinator whose machine was down, and which had tried this last. It

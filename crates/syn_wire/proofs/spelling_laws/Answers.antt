@@ -1,6 +1,5 @@
 use Rattle.syn_wire.proofs.EventLemmas.{event_tells, file_tells}
-use Rattle.syn_wire.proofs.ImageLemmas.{images_tell}
-use Rattle.syn_wire.proofs.KeptLemmas.{marks_tell, kept_tells, archives_tell}
+use Rattle.syn_wire.proofs.MarkTreeLemmas.{marks_tell}
 use Rattle.syn_wire.proofs.NameLemmas.{paths_tell}
 use Rattle.syn_wire.proofs.NumberLemmas.{u16_tells, u32_tells, u64_tells}
 use Rattle.syn_wire.proofs.WalkLemmas.{spelling_walks, spelling_measured}
@@ -33,14 +32,5 @@ returns-clause-walk c = spelling_walks
 pub returns-clause-measured : goal.returns-clause-measured
 returns-clause-measured c = spelling_measured
 
-pub returns-clause-image : goal.returns-clause-image
-returns-clause-image c = images_tell c.spelling_laws.ensures.tells
-
 pub returns-clause-marks : goal.returns-clause-marks
 returns-clause-marks c = marks_tell c.mark_laws.ensures.tells
-
-pub returns-clause-kept : goal.returns-clause-kept
-returns-clause-kept c = kept_tells (marks_tell c.mark_laws.ensures.tells)
-
-pub returns-clause-archive : goal.returns-clause-archive
-returns-clause-archive c = archives_tell (marks_tell c.mark_laws.ensures.tells)

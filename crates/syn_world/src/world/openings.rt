@@ -6,8 +6,8 @@ ghost use Rattle.syn_world.specs.Worlds.{TellsFound};
 use super::{Disks, World};
 use std::alloc::Global;
 use syn_host::{CoordinatorOutcome, SimulatedDisk};
+use syn_image::Kept;
 use syn_refusal::Refusal;
-use syn_wire::Kept;
 
 impl<D: SimulatedDisk> World<D> {
     ghost use Rattle.syn_world.specs.Worlds.{GoesSo, IsWorld};

@@ -1,7 +1,7 @@
 use Rattle.std.proofs.Common.{sym, ◌∙◌, subst, option_map}
 use Rattle.std.proofs.lemmas.Result.{IfErr-weaker}
 use Rattle.syn_model.specs.Archive.{CanKeep}
-use Rattle.syn_wire.specs.Marks.{kept_of}
+use Rattle.syn_image.specs.Archives.{kept_of}
 use Rattle.syn_archive.specs.inner.Openings.{IsKeptOf, CannotKeep, archive_read}
 use Rattle.syn_archive.proofs.opening.add_payload.Goals as goal
 

@@ -5,7 +5,7 @@ use Rattle.syn_host.specs.SideSteps.{refused_by}
 use Rattle.syn_session.specs.Coordinators.{in_report}
 use Rattle.syn_session.specs.Reports.{report_model}
 use Rattle.syn_session.specs.Sendings.{messages_of}
-use Rattle.syn_wire.specs.Marks.{kept_of}
+use Rattle.syn_image.specs.Archives.{kept_of}
 use Rattle.syn_host.proofs.coordinator.settle_compacted.Goals as goal
 
 pub returns : goal.returns

@@ -1,5 +1,5 @@
 use Rattle.std.proofs.Common.{◌≡◌, map, take}
-use Rattle.syn_wire.specs.Marks.{kept_of}
+use Rattle.syn_image.specs.Archives.{kept_of}
 use Rattle.syn_host.proofs.copies.copy_kept.Given as goal
 
 abbrev pub invariant-loop-kept : goal.invariant-loop-kept

@@ -5,7 +5,7 @@ use Rattle.syn_headline.specs.Machine.{has_room}
 use Rattle.syn_model.specs.Archive.{kept_refusal}
 use Rattle.syn_session.specs.inner.Due.{archive_refuses, failed_before, has_some}
 use Rattle.syn_session.proofs.DueLemmas.{is_ready, room_is, settled, when_halted, when_runs}
-use Rattle.syn_wire.specs.Marks.{kept_of}
+use Rattle.syn_image.specs.Archives.{kept_of}
 use Rattle.syn_session.proofs.due.keep_due.Goals as goal
 
 pub returns-then-is_halted-clause-settles : goal.returns-then-is_halted-clause-settles

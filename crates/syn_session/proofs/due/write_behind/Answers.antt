@@ -6,7 +6,7 @@ use Rattle.syn_session.specs.declared.due.Due.TheVariants.{Ends}
 use Rattle.syn_session.specs.inner.Due.{Settles, makes_some, no_room_left}
 use Rattle.syn_session.specs.inner.Recording.{MakesRoomNow, has_made}
 use Rattle.syn_session.proofs.DueLemmas.{ready_still, room_is, settled, when_up, without_room}
-use Rattle.syn_wire.specs.Marks.{kept_of}
+use Rattle.syn_image.specs.Archives.{kept_of}
 use Rattle.syn_session.proofs.due.write_behind.Goals as goal
 
 pub returns-in-Some-clause-settles : goal.returns-in-Some-clause-settles

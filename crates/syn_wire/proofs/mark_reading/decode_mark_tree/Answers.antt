@@ -1,7 +1,7 @@
 use Rattle.std.proofs.Common.{option_map, subst}
 use Rattle.syn_wire.specs.inner.Kinds.{OfMarks}
 use Rattle.syn_wire.specs.inner.Parts.{PartIsRead, ReadsPart}
-use Rattle.syn_wire.proofs.KeptLemmas.{no_part_read, not_marks, marks_made}
+use Rattle.syn_wire.proofs.MarkTreeLemmas.{no_part_read, not_marks, marks_made}
 use Rattle.syn_wire.proofs.mark_reading.decode_mark_tree.Goals as goal
 
 pub returns-in_default : goal.returns-in_default

@@ -2,7 +2,7 @@ use Rattle.std.proofs.Common.{◌-◌, ◌∷◌, ◌++◌, length, option_map, 
 use Rattle.syn_model.specs.MarkSpelling.{mark_spelling}
 use Rattle.syn_wire.specs.Marks.{IsMarkTree}
 use Rattle.syn_wire.specs.Reads.{IsReading}
-use Rattle.syn_wire.proofs.KeptLemmas.{no_marks_there, none_without_byte, nothing_lawful}
+use Rattle.syn_wire.proofs.MarkTreeLemmas.{no_marks_there, none_without_byte, nothing_lawful}
 use Rattle.syn_wire.proofs.MarkLemmas.{no_marks}
 use Rattle.syn_wire.proofs.NameLemmas.{first_and_rest}
 use Rattle.syn_wire.proofs.mark_reading.decode_marks.Goals as goal

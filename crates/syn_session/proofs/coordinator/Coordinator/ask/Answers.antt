@@ -3,7 +3,7 @@ use Rattle.syn_headline.specs.Network.{Left, Right, Which}
 use Rattle.syn_session.specs.Sendings.{messages_of}
 use Rattle.syn_session.specs.inner.Answering.{IsAskedOn, asks_of}
 use Rattle.syn_session.specs.inner.Stages.{line_of}
-use Rattle.syn_wire.specs.Marks.{kept_of}
+use Rattle.syn_image.specs.Archives.{kept_of}
 use Rattle.syn_session.proofs.ReplyLemmas.{asked_so, asks_no_more, tells_same}
 use Rattle.syn_session.proofs.coordinator.Coordinator.ask.Goals as goal
 

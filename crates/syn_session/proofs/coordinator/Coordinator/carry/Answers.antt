@@ -3,7 +3,7 @@ use Rattle.syn_model.specs.Archive.{kept_refusal}
 use Rattle.syn_session.proofs.CourseLemmas.{no_conflict}
 use Rattle.syn_session.proofs.PassLemmas.{asks_here, carried_unfit, ends_here, past_so}
 use Rattle.syn_session.specs.inner.Settling.{AsksSo, EndsSo}
-use Rattle.syn_wire.specs.Marks.{kept_of}
+use Rattle.syn_image.specs.Archives.{kept_of}
 use Rattle.syn_session.proofs.coordinator.Coordinator.carry.Goals as goal
 
 pub returns-in-Some : goal.returns-in-Some

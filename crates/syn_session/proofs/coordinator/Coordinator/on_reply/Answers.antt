@@ -5,7 +5,7 @@ use Rattle.syn_message.specs.Requests.{request_of}
 use Rattle.syn_message.specs.Sides.{which_of}
 use Rattle.syn_session.specs.Sendings.{messages_of}
 use Rattle.syn_session.specs.inner.Answering.{exchange_of}
-use Rattle.syn_wire.specs.Marks.{kept_of}
+use Rattle.syn_image.specs.Archives.{kept_of}
 use Rattle.syn_session.proofs.ReplyLemmas.{answered_does, ends_so, expects, ignored_does, none_runs, none_waits}
 use Rattle.syn_session.proofs.coordinator.Coordinator.on_reply.Goals as goal
 

@@ -1,7 +1,7 @@
 use Rattle.std.proofs.Common.{◌<◌, ◌^◌, arith, inr, refl}
 use Rattle.std.specs.Prelude.{option_map}
 use Rattle.syn_session.proofs.DownLemmas.{open_not, open_ok, some_stands}
-use Rattle.syn_wire.specs.Marks.{kept_of}
+use Rattle.syn_image.specs.Archives.{kept_of}
 use Rattle.syn_session.proofs.coordinator.Coordinator.open.Goals as goal
 
 pub returns-in-Ok-clause-opens : goal.returns-in-Ok-clause-opens

@@ -1,7 +1,7 @@
 use Rattle.std.proofs.Common.{Err, List, ap, subst, refl, sym, inl, inr}
 use Rattle.syn_headline.specs.Machine.{Up}
 use Rattle.std.specs.Prelude.{option_map}
-use Rattle.syn_wire.specs.Marks.{kept_of}
+use Rattle.syn_image.specs.Archives.{kept_of}
 use Rattle.syn_model.specs.Archive.{Kept}
 use Rattle.syn_session.specs.Machines.{Reopened}
 use Rattle.syn_session.specs.inner.Steps.{Moves}

@@ -6,7 +6,7 @@ use Rattle.syn_session.proofs.AdvanceLemmas.{record_due}
 use Rattle.syn_session.proofs.CourseLemmas.{no_conflict}
 use Rattle.syn_session.proofs.SettleLemmas.{ends_for_memory, is_cut_off, is_ended, is_kept, is_refused, still_is, tries_by}
 use Rattle.syn_session.specs.declared.due.Due.TheVariants as due
-use Rattle.syn_wire.specs.Marks.{kept_of}
+use Rattle.syn_image.specs.Archives.{kept_of}
 use Rattle.syn_session.proofs.coordinator.Coordinator.settle.Goals as goal
 
 pub returns-then-is_cut-clause-step : goal.returns-then-is_cut-clause-step

@@ -1,6 +1,6 @@
 use Rattle.std.proofs.Common.{ap, subst}
 use Rattle.syn_headline.specs.Coordinator.{IsDue}
-use Rattle.syn_wire.specs.Marks.{kept_of}
+use Rattle.syn_image.specs.Archives.{kept_of}
 use Rattle.syn_session.proofs.CarriedLemmas.{no_session_due}
 use Rattle.syn_session.proofs.coordinator.Coordinator.settle_carried.Goals as goal
 

@@ -1,7 +1,7 @@
 use Rattle.std.proofs.Common.{◌≡◌, ◌≢◌, ◌<◌, ◌^◌, ◌+◌, [], ◌∷◌, ◌++◌, Some, None, Err, inl, inr, sym, ap, ap₂, ◌∙◌, subst, map, true}
 use Rattle.syn_headline.specs.Coordinator.{CoordinatorStarts}
-use Rattle.syn_wire.specs.Marks.{kept_of}
-use Rattle.syn_wire.specs.declared.kept.Kept.TheVariants as has
+use Rattle.syn_image.specs.Archives.{kept_of}
+use Rattle.syn_image.specs.declared.kept.Kept.TheVariants as has
 use Rattle.syn_headline.specs.Machine.{Up, Halted}
 use Rattle.syn_model.specs.Archive.{Session}
 use Rattle.syn_model.specs.Refusal as why

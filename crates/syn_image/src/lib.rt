@@ -1,0 +1,31 @@
+//! What stands on a disk in bytes: the image of a replica, and the image and the records of an
+//! archive.
+//!
+//! Each has one spelling, made of those of single values, and no spelling of one begins another.
+#![tactic(auto)]
+
+ghost use Rattle.syn_image.specs.Images.{NoImageBeginsAnother};
+ghost use Rattle.syn_image.specs.Archives.{NoKeptBeginsAnother, NoArchiveBeginsAnother};
+
+mod image;
+mod image_reading;
+mod kept;
+mod kept_reading;
+
+pub use image::{Image, encode_image};
+pub use image_reading::decode_image;
+pub use kept::{
+    ArchiveImage, Kept, dir_length, encode_archive, encode_dir, encode_kept, encode_record,
+    encode_session, record_length,
+};
+pub use kept_reading::{decode_archive, decode_kept};
+
+/// No spelling of an image or of a record begins that of another.
+pub fn image_laws()
+    ensures image { NoImageBeginsAnother }
+    ensures kept { NoKeptBeginsAnother }
+    ensures archive { NoArchiveBeginsAnother }
+{
+    syn_model::spelling_laws();
+    syn_model::mark_laws();
+}

@@ -1,6 +1,0 @@
-use Rattle.std.proofs.Common.{◌≡◌, ◌++◌, take}
-use Rattle.syn_wire.specs.inner.Pasts.{each_spelling}
-use Rattle.syn_wire.proofs.image.write_each.Given as goal
-
-abbrev pub invariant-loop-touch : goal.invariant-loop-touch
-invariant-loop-touch l = l.out.items ≡ l.initial.out.items ++ each_spelling (take l.touch-index l.touches)

@@ -1,9 +1,0 @@
-use Rattle.std.proofs.Common.{◌≡◌, ◌++◌}
-use Rattle.syn_wire.specs.inner.Pasts.{AreSoMany, each_spelling}
-use Rattle.syn_wire.proofs.image_reading.read_each.Given as goal
-
-abbrev pub invariant-loop-read : goal.invariant-loop-read
-invariant-loop-read l = record {
-  so_far : AreSoMany l._read l.touches.items;
-  spelled : l.bytes ≡ each_spelling l.touches.items ++ l.rest;
-}
