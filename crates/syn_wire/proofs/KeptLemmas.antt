@@ -9,9 +9,9 @@ use Rattle.syn_model.specs.Limits.{fits_archive, greatest}
 use Rattle.syn_model.specs.Mark.{IsMarks}
 use Rattle.syn_model.specs.MarkSpelling.{NoMarkSpellingBeginsAnother, kept_spelling, mark_spelling}
 use Rattle.syn_mark.specs.Marks.{AreMarks, marks_with}
-use Rattle.syn_tree.specs.Pairs.{Pairs, AreRising, under}
-use Rattle.syn_tree.proofs.RisingLemmas.{sorted_of}
-use Rattle.syn_tree.proofs.TreeLemmas.{entries-absent, from_entries-same}
+use Rattle.syn_placed.specs.Pairs.{Pairs, AreRising, under}
+use Rattle.syn_placed.proofs.RisingLemmas.{sorted_of}
+use Rattle.syn_placed.proofs.TreeLemmas.{entries-absent, from_entries-same}
 use Rattle.syn_wire.specs.Events.{Both, both_spelling, number64_spelling}
 use Rattle.syn_wire.specs.Marks.{IsMarkTree, IsOptionalMarkTree, IsSpelledArchive, IsSpelledKept, spelled_archive, digest_spelling, NoMarksBeginOthers, NoKeptBeginsAnother, NoArchiveBeginsAnother}
 use Rattle.syn_wire.specs.Reads.{BeginsWith, IsReading}
