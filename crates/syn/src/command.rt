@@ -15,7 +15,7 @@ use std::sync::Wait;
 use std::thread::Threads;
 use std::time::Clock;
 use syn_command::{CommandError, Failure, Outcome, Status, print_meanings, report};
-use syn_disk::HostFile;
+use syn_file::HostFile;
 use syn_files::{
     Between, NamedDisks, Telling, edit, print_image, print_numbers, run_session, serve_named, show,
 };

@@ -2,7 +2,7 @@
 
 use std::alloc::Global;
 use std::fs::Files;
-use syn_disk::{FileDisk, HostFile, MirroredFile, OpenError};
+use syn_file::{FileDisk, HostFile, MirroredFile, OpenError};
 use syn_files::NamedDisks;
 
 /// The disks in files. The name of one is the path of its file.

@@ -4,7 +4,8 @@ use std::alloc::Global;
 use std::fs::{Files, OpenFile, OpenOptions, TryLockError};
 use std::io;
 use syn_command::{CommandError, format_image};
-use syn_disk::{Access, DISK_SIZE, FileDisk, HostFile, OpenError};
+use syn_disk::DISK_SIZE;
+use syn_file::{Access, FileDisk, HostFile, OpenError};
 use syn_words::ImageKind;
 
 /// Makes the file an image of the kind, for the pair. Where that is refused, the file is as long as

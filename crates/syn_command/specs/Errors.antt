@@ -2,7 +2,7 @@
 use Rattle.syn_model.specs.Refusal.{Refusal}
 use Rattle.syn_model.specs.Refusal as why
 use Rattle.syn_path.specs.Refusals.{refusal_of as of_path}
-use Rattle.syn_disk.specs.OpenError.{refusal_of as of_disk}
+use Rattle.syn_file.specs.OpenError.{refusal_of as of_disk}
 use Rattle.syn_standing.specs.Refusals.{refusal_of as of_replica}
 use Rattle.syn_archive.specs.Refusals.{refusal_of as of_archive}
 use Rattle.syn_refusal.specs.Refusals.{cause_of}

@@ -7,7 +7,7 @@ ghost use Rattle.syn_command.specs.Errors.{refusal_of};
 use std::alloc::{AllocError, AllocFailed};
 use std::{fmt, io};
 use syn_archive::ArchiveError;
-use syn_disk::OpenError;
+use syn_file::OpenError;
 use syn_path::PathError;
 use syn_refusal::Refusal;
 use syn_standing::ReplicaError;

@@ -7,7 +7,8 @@ use crate::failure::Failure;
 use crate::outcome::Outcome;
 use crate::status::{Status, status_in};
 use std::io::Write;
-use syn_disk::{DISK_SIZE, OpenError};
+use syn_disk::DISK_SIZE;
+use syn_file::OpenError;
 use syn_refusal::Refusal;
 use syn_words::Line;
 

@@ -9,7 +9,7 @@ use Rattle.std.proofs.lemmas.Option.{none-some, same_Some}
 use Rattle.syn_model.specs.Path.{Path, path_cmp, is_prefix}
 use Rattle.syn_model.proofs.PathLemmas.{path_total, same_path, path_itself}
 use Rattle.syn_model.proofs.DirtyLemmas.{prefix_chain}
-use Rattle.syn_tree.proofs.OrderLemmas.{between, not_before, under_prefix}
+use Rattle.syn_placed.proofs.OrderLemmas.{between, not_before, under_prefix}
 use Rattle.syn_dirty.specs.Paths.{is_among}
 use Rattle.syn_dirty.specs.inner.Rows.{Row, Rows, begins_first, changed}
 use Rattle.syn_dirty.proofs.RowLemmas.{AfterRow, RisingRows}

@@ -16,8 +16,8 @@ use Rattle.syn_model.proofs.PathLemmas.{path_total, same_path, is_prefix-is}
 use Rattle.syn_model.proofs.TreeLemmas.{same_tree, get-subtree}
 use Rattle.syn_model.proofs.DirtyLemmas.{same_content, bytes_itself, tree_itself, dirty-closed, dirty-safe}
 use Rattle.syn_model.proofs.DirectoryLemmas.{same_content_at}
-use Rattle.syn_tree.proofs.TreeLemmas.{rising-entries}
-use Rattle.syn_tree.proofs.OrderLemmas.{under_prefix}
+use Rattle.syn_placed.proofs.TreeLemmas.{rising-entries}
+use Rattle.syn_placed.proofs.OrderLemmas.{under_prefix}
 use Rattle.syn_scan.specs.Found.{Found, IsFound, scan_of}
 use Rattle.syn_dirty.specs.Paths.{AreInOrder}
 use Rattle.syn_dirty.specs.inner.Rows.{Rows, compared, with_set, changed}

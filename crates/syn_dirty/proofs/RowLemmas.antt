@@ -9,9 +9,9 @@ use Rattle.syn_model.specs.Path.{Path, path_cmp}
 use Rattle.syn_model.specs.Tree.{Content, Pair}
 use Rattle.syn_model.specs.Dirty.{is_same_content}
 use Rattle.syn_model.proofs.PathLemmas.{path_total, same_path}
-use Rattle.syn_tree.specs.Pairs.{Pairs}
-use Rattle.syn_tree.proofs.RisingLemmas.{Rising, After, each-map}
-use Rattle.syn_tree.proofs.FindLemmas.{find_after}
+use Rattle.syn_placed.specs.Pairs.{Pairs}
+use Rattle.syn_placed.proofs.RisingLemmas.{Rising, After, each-map}
+use Rattle.syn_placed.proofs.FindLemmas.{find_after}
 use Rattle.syn_dirty.specs.inner.Rows.{Rows, alone, among, compared, with_set}
 
 -- behind a path, and so for each row and those behind it

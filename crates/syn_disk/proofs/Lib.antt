@@ -1,9 +1,7 @@
-mod Extents
 mod Flags
-mod Joined
-mod Moments
-mod Overwritten
-mod Padding
+pub mod Joined
+pub mod Moments
+pub mod Overwritten
+pub mod Padding
 mod Stopped
 mod Tracking
-mod Written

@@ -5,7 +5,7 @@ use Rattle.std.proofs.lemmas.Bool.{cases_lt}
 use Rattle.std.proofs.lemmas.List.{get_or_past, get_or_append_left, get_or-append_right}
 use Rattle.syn_disk.specs.inner.Memory.{Tracks}
 use Rattle.syn_disk.specs.Padded.{padded}
-use Rattle.syn_disk.specs.inner.PaddedLaws.{length-padded}
+use Rattle.syn_disk.specs.PaddedLaws.{length-padded}
 use Rattle.syn_disk.specs.Stop.{Left, left_byte}
 use Rattle.syn_disk.specs.Written.{is_written}
 use Rattle.syn_disk.specs.declared.simulated.leaves.Leaves.{Leaves}

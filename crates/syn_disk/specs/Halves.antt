@@ -3,7 +3,7 @@ use Rattle.std.specs.Prelude.{◌≡◌, ℕ, Bool, false, List, ◌++◌, lengt
 use Rattle.std.proofs.Common.{arith, length-append}
 use Rattle.syn_disk.specs.Half.{content_of, synced_of, written_of}
 use Rattle.syn_disk.specs.Moments.{MayLeave}
-use Rattle.syn_disk.specs.inner.PaddedLaws.{length-padded}
+use Rattle.syn_disk.specs.PaddedLaws.{length-padded}
 use Rattle.syn_disk.specs.Written.{is_written}
 use Rattle.syn_disk.specs.declared.disk.TheConstants.{DISK_SIZE, HALF_SIZE}
 use Rattle.syn_disk.specs.declared.simulated.half.Half.{Half}

@@ -3,13 +3,13 @@ pub mod Arms
 pub mod Calls
 pub mod Cut
 pub mod Disk
-pub mod FileDisk
 pub mod Half
 pub mod Halves
 pub mod MemDisk
+pub mod MomentLaws
 pub mod Moments
-pub mod OpenError
 pub mod Padded
+pub mod PaddedLaws
 pub mod Stop
 pub mod Stops
 pub mod Written

@@ -3,6 +3,7 @@ ghost use Rattle.std.specs.Prelude.{◌≡◌, ◌≤◌, ◌+◌, ◌-◌, ◌+
 ghost use Rattle.std.specs.Prelude.{take, drop, vec_capacity};
 ghost use Rattle.syn_disk.specs.Disk.{overwritten};
 
+/// Puts these bytes in the place of as many from `at` on.
 pub fn overwrite(content: &mut Vec<u8>, at: usize, bytes: &[u8])
     requires { at + length bytes.now ≤ length content.old.items }
     ensures items { content.new.items ≡ overwritten content.old.items at bytes.now }
@@ -11,7 +12,8 @@ pub fn overwrite(content: &mut Vec<u8>, at: usize, bytes: &[u8])
     content[at..at + bytes.len()].copy_from_slice(bytes);
 }
 
-pub fn copy_range(copy: &mut Vec<u8>, original: &Vec<u8>, from: usize, to: usize)
+/// Copies the bytes of this range of the original to the same range of the copy.
+pub(crate) fn copy_range(copy: &mut Vec<u8>, original: &Vec<u8>, from: usize, to: usize)
     requires ordered { from ≤ to }
     requires within { to ≤ length original.now.items }
     requires fits { to ≤ length copy.old.items }
@@ -22,6 +24,7 @@ pub fn copy_range(copy: &mut Vec<u8>, original: &Vec<u8>, from: usize, to: usize
     overwrite(copy, from, &original[from..to]);
 }
 
+/// Fills `into` with the bytes from `at` on.
 pub fn copy_out(content: &Vec<u8>, at: usize, into: &mut [u8])
     requires { at + length into.old ≤ length content.now.items }
     ensures { into.new ≡ take (length into.old) (drop at content.now.items) }

@@ -19,12 +19,14 @@ impl<A, B> Model for History<A, B> {
 }
 
 impl<A, B> History<A, B> {
+    /// No state is noted.
     pub fn new() -> History<A, B>
         ensures { result ≡ [] }
     {
         History { past: Log::new() }
     }
 
+    /// Notes a state, behind those that are noted.
     pub fn note(&mut self, first: &A, second: &B)
         ensures { self.new ≡ self.old ++ (first.now, second.now) ∷ [] }
     {
@@ -45,12 +47,14 @@ impl Model for Tally {
 }
 
 impl Tally {
+    /// Nothing is counted.
     pub fn new() -> Tally
         ensures { result ≡ 0 }
     {
         Tally { calls: Log::new() }
     }
 
+    /// Counts one more.
     pub fn add_one(&mut self)
         ensures { self.new ≡ self.old + 1 }
     {

@@ -7,22 +7,17 @@
 //! changes nothing that a read gives. A count, which only clauses see, grows exactly when a call
 //! fails. No call takes memory.
 //!
-//! `FileDisk` is the disk of the product. The disks for tests and for simulated machines stand in
-//! `simulated`.
+//! The disk of the product is in a file of the system, and stands in a crate above. The disks for
+//! tests and for simulated machines stand in `simulated`.
 #![tactic(auto)]
 
-mod bytes;
+pub mod bytes;
 mod disk;
-mod error;
-mod file;
 mod history;
 mod simulated;
 
-pub use disk::{DISK_SIZE, DeviceFailed, Disk};
-pub use error::OpenError;
-pub use file::host::{Access, HostFile};
-pub use file::mirror::MirroredFile;
-pub use file::{DiskFile, FileDisk};
+pub use disk::{DISK_SIZE, DeviceFailed, Disk, HALF_SIZE};
+pub use history::{History, Tally};
 pub use simulated::cut::Cut;
 pub use simulated::leaves::Leaves;
 pub use simulated::limit::{Arm, Limit};

@@ -3,7 +3,8 @@
 use std::alloc::Global;
 use syn_archive::Archive;
 use syn_command::{CommandError, Image, open_image};
-use syn_disk::{Cut, Disk, OpenError};
+use syn_disk::{Cut, Disk};
+use syn_file::OpenError;
 use syn_replica::Replica;
 
 /// Disks that have names.

@@ -15,14 +15,14 @@ use Rattle.syn_model.specs.Limits.{fits_archive, fits_path, fits_paths}
 use Rattle.syn_model.specs.Refusal.{Refusal, Root, NoParent, Full, first_cause}
 use Rattle.syn_model.specs.Standing.{place_causes}
 use Rattle.syn_model.proofs.TreeLemmas.{same_tree, get-subtree, get-replace, replace-is_part}
-use Rattle.syn_tree.specs.Pairs.{Pairs, within, before, behind, under}
+use Rattle.syn_placed.specs.Pairs.{Pairs, within, before, behind, under}
 use Rattle.syn_tree.specs.Change.{taken_from}
-use Rattle.syn_tree.proofs.RisingLemmas.{replaced, three_parts, counted}
-use Rattle.syn_tree.proofs.TreeLemmas.{entries-replace, entries-absent, rising-entries, part-under, entries-one}
+use Rattle.syn_placed.proofs.RisingLemmas.{replaced, three_parts, counted}
+use Rattle.syn_placed.proofs.TreeLemmas.{entries-replace, entries-absent, rising-entries, part-under, entries-one}
 use Rattle.syn_tree.proofs.PartLemmas.{length_replaced, length_under}
 use Rattle.syn_tree.proofs.CheckLemmas.{path_fits}
 use Rattle.syn_tree.proofs.FitLemmas.{is_dir}
-use Rattle.syn_tree.proofs.ParentLemmas.{place_free}
+use Rattle.syn_placed.proofs.ParentLemmas.{place_free}
 use Rattle.syn_tree.proofs.ChangeLemmas.{nothing_part}
 use Rattle.syn_mark.specs.Marks.{AreMarks}
 use Rattle.syn_mark.specs.Changes.{Replacement, ArePlaced, IsPreparedFor, PutPartFits, after_change, replace_refusal}

@@ -20,9 +20,9 @@ use Rattle.syn_model.proofs.TreeLemmas.{same_tree, get-subtree}
 use Rattle.syn_model.proofs.HistoryLemmas.{get-at_root, at_root-is_part, only}
 use Rattle.syn_model.proofs.MarkLemmas.{get-mark, mark-digests}
 use Rattle.syn_model.proofs.SubtreeLemmas.{subtree-is_part, subtree-fits_paths}
-use Rattle.syn_tree.specs.Pairs.{Pairs, AreRising}
-use Rattle.syn_tree.proofs.RisingLemmas.{Rising, After, rising_of, are_rising, counted}
-use Rattle.syn_tree.proofs.TreeLemmas.{entries-rising, get-rising, rising-entries, from_entries-same, entries-one, entries-subtree, within-taken}
+use Rattle.syn_placed.specs.Pairs.{Pairs, AreRising}
+use Rattle.syn_placed.proofs.RisingLemmas.{Rising, After, rising_of, are_rising, counted}
+use Rattle.syn_placed.proofs.TreeLemmas.{entries-rising, get-rising, rising-entries, from_entries-same, entries-one, entries-subtree, within-taken}
 use Rattle.syn_tree.proofs.PartLemmas.{length_under}
 use Rattle.syn_mark.specs.Marks.{marks_with, AreMarks, IsDigestOrDirectory}
 use Rattle.syn_mark.specs.inner.Placings.{marked, marks_of}

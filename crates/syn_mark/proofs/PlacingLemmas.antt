@@ -10,12 +10,12 @@ use Rattle.syn_model.specs.Path.{Path, path_cmp, root, is_root, parent}
 use Rattle.syn_model.specs.Tree.{Content, Pair, Directory, File, is_directory_content, IsTree}
 use Rattle.syn_model.specs.Limits.{fits_path, fits_paths}
 use Rattle.syn_tree.specs.Contents.{IsLawful}
-use Rattle.syn_tree.specs.Pairs.{Pairs, rooted, AreRising}
+use Rattle.syn_placed.specs.Pairs.{Pairs, rooted, AreRising}
 use Rattle.syn_tree.specs.Entries.{IsLawfulPair}
-use Rattle.syn_tree.proofs.RisingLemmas.{rising_of, each-map}
-use Rattle.syn_tree.proofs.CountLemmas.{no_root, child_is, child_of_parent}
-use Rattle.syn_tree.proofs.FitLemmas.{all_of, each_of, each-both}
-use Rattle.syn_tree.proofs.TreeLemmas.{get-with, entries-with}
+use Rattle.syn_placed.proofs.RisingLemmas.{rising_of, each-map, each-both}
+use Rattle.syn_placed.proofs.CountLemmas.{no_root, child_is, child_of_parent}
+use Rattle.syn_tree.proofs.FitLemmas.{all_of, each_of}
+use Rattle.syn_placed.proofs.TreeLemmas.{get-with, entries-with}
 use Rattle.syn_tree.proofs.CheckLemmas.{path_fits}
 use Rattle.syn_tree.proofs.LawfulLemmas.{each-find, each_found, below_root, closed_by, lawful_tree}
 use Rattle.syn_mark.specs.Marks.{marks_with, AreMarks, AreMarkPairs, IsMarkPair, IsDigestOrDirectory}

@@ -3,8 +3,8 @@ use Rattle.std.proofs.Common.{◌≡◌, sym, ap, ◌∙◌}
 use Rattle.std.specs.FinMap.{entries}
 use Rattle.syn_model.specs.Path.{Path}
 use Rattle.syn_model.specs.Tree.{Tree, subtree}
-use Rattle.syn_tree.specs.Pairs.{within, under}
-use Rattle.syn_tree.proofs.TreeLemmas.{part-under, within-taken, entries-subtree}
+use Rattle.syn_placed.specs.Pairs.{within, under}
+use Rattle.syn_placed.proofs.TreeLemmas.{part-under, within-taken, entries-subtree}
 use Rattle.syn_mark.specs.Marks.{marks_with}
 
 within_is : (t : Tree) (at : Path) → within at (entries t) ≡ under at (entries (subtree t at))

@@ -8,7 +8,7 @@ use Rattle.syn_model.specs.Limits.{fits_archive}
 use Rattle.syn_model.specs.Mark.{IsMarks}
 use Rattle.syn_model.specs.Refusal.{Refusal, first_cause}
 use Rattle.syn_model.specs.Archive.{record_causes}
-use Rattle.syn_tree.specs.Pairs.{Pairs, under}
+use Rattle.syn_placed.specs.Pairs.{Pairs, under}
 
 pub record Replacement : Type 0 where
   pub at : Path

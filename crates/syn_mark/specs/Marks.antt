@@ -8,7 +8,7 @@ use Rattle.syn_model.specs.Tree as model
 use Rattle.syn_model.specs.Event.{AreBytes}
 use Rattle.syn_model.specs.Mark.{IsMarks}
 use Rattle.syn_model.specs.Limits.{fits_archive}
-use Rattle.syn_tree.specs.Pairs.{Pairs, AreRising}
+use Rattle.syn_placed.specs.Pairs.{Pairs, AreRising}
 use Rattle.syn_mark.specs.declared.mark.Mark.{Mark}
 use Rattle.syn_mark.specs.declared.mark.Mark.TheVariants as mark
 

@@ -10,7 +10,7 @@ ghost use Rattle.syn_mark.specs.inner.Placings.{marks_of};
 use crate::mark::Mark;
 use std::alloc::Global;
 use syn_path::{Name, Path};
-use syn_tree::{Entry, Found, Tree, TreeError};
+use syn_tree::{Entry, Found, Tree, TreeError, found_at};
 
 /// The names in the directory, in byte order, each with the mark of what stands there. Each file in
 /// it is hashed once.
@@ -43,7 +43,7 @@ fn marks_at(alloc: Global, found: Vec<(Name, &Entry)>) -> Result<Vec<(Name, Mark
 pub(crate) fn mark_at(entry: &Entry) -> Mark
     ensures { content_of result ≡ mark_of entry.now.1 }
 {
-    match entry.content() {
+    match found_at(entry) {
         Found::File(bytes) => Mark::of_file(bytes),
         Found::Dir => Mark::Dir,
     }

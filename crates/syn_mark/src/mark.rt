@@ -7,7 +7,7 @@ ghost use Rattle.syn_mark.specs.Marks.{content_of};
 
 use sha2::{Digest, Sha256};
 use std::alloc::{AllocError, Global};
-use syn_tree::Standing;
+use syn_placed::Standing;
 
 /// What stands for a file or a directory.
 #[derive(Clone, Copy, Debug, PartialEq, Eq, Drop)]

@@ -6,7 +6,7 @@ ghost use Rattle.syn_model.specs.Path.{is_root, path_cmp, root};
 ghost use Rattle.syn_model.specs.Tree.{is_directory_content};
 ghost use Rattle.syn_model.specs.Limits.{fits_path};
 ghost use Rattle.syn_model.specs.Mark.{IsMarks};
-ghost use Rattle.syn_tree.specs.Pairs.{rooted, under, AreRising};
+ghost use Rattle.syn_placed.specs.Pairs.{rooted, under, AreRising};
 ghost use Rattle.syn_tree.specs.Lists.{stripped};
 ghost use Rattle.syn_mark.specs.Marks.{content_of, or_absent, AreMarkPairs};
 ghost use Rattle.syn_mark.specs.inner.Placings.{stands_in};
@@ -16,9 +16,10 @@ use crate::mark::Mark;
 use crate::tree::{MarkEntry, MarkTree};
 use std::alloc::Global;
 use syn_path::{Name, Path};
+use syn_placed::Standing;
+use syn_placed::list::{entry_at, is_directory, parent_names};
+use syn_tree::TreeError;
 use syn_tree::copies::{below, push_under};
-use syn_tree::list::{entry_at, is_directory, parent_names};
-use syn_tree::{Standing, TreeError};
 
 /// It stands at the root.
 pub(crate) fn is_root(entry: &MarkEntry) -> bool

@@ -8,7 +8,7 @@ ghost use Rattle.syn_model.specs.Tree.{Tree as Pairs, at_root, is_directory, is_
 ghost use Rattle.syn_model.specs.Tree.{empty_directory, subtree};
 ghost use Rattle.syn_model.specs.Mark.{IsMarks};
 ghost use Rattle.syn_model.specs.Limits.{children, fits_archive};
-ghost use Rattle.syn_tree.specs.Pairs.{is_below};
+ghost use Rattle.syn_placed.specs.Pairs.{is_below};
 ghost use Rattle.syn_tree.specs.Refusals.{refusal_of, refusal_in};
 ghost use Rattle.syn_model.specs.Refusal.{first_cause};
 ghost use Rattle.syn_model.specs.Standing.{place_causes};
@@ -23,8 +23,11 @@ use crate::same::same_entries;
 use std::alloc::Global;
 use std::marker::Model;
 use syn_path::Path;
-use syn_tree::list::{are_rising, count_children_at, entry_at, part_at, part_below, replace_part};
-use syn_tree::{Placed, Standing, TreeError};
+use syn_placed::list::{
+    are_rising, count_children_at, entry_at, part_at, part_below, replace_part,
+};
+use syn_placed::{Placed, Standing};
+use syn_tree::TreeError;
 
 /// A path with its mark. Contracts see it as the pair of the two.
 pub type MarkEntry = Placed<Mark>;

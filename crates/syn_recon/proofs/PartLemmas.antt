@@ -11,9 +11,9 @@ use Rattle.syn_model.specs.Tree.{Pair}
 use Rattle.syn_model.proofs.PathLemmas.{path_total, path_exact, same_name, same_path}
 use Rattle.syn_model.proofs.DirtyLemmas.{prefix_chain}
 use Rattle.syn_model.proofs.PlanOrder.{siblings, apart_below, not_longer, prefix-append}
-use Rattle.syn_tree.specs.Pairs.{Pairs, is_before, is_within, before, within, behind}
-use Rattle.syn_tree.proofs.OrderLemmas.{not_before, under_order}
-use Rattle.syn_tree.proofs.RisingLemmas.{Rising, After, Each, each-map, each-filter, filter-drops, three_parts, rising-filter, behind_parts}
+use Rattle.syn_placed.specs.Pairs.{Pairs, is_before, is_within, before, within, behind}
+use Rattle.syn_placed.proofs.OrderLemmas.{not_before, under_order}
+use Rattle.syn_placed.proofs.RisingLemmas.{Rising, After, Each, each-map, each-filter, filter-drops, three_parts, rising-filter, behind_parts}
 
 -- names in byte order, each once
 abbrev pub RisingNames : List Name → Type 0

@@ -22,8 +22,8 @@ use Rattle.syn_model.proofs.DirtyLemmas.{tree_itself, dirty-closed}
 use Rattle.syn_model.proofs.DirectoryLemmas.{absent_below, not_there}
 use Rattle.syn_model.proofs.PlanOrder.{prefix-append}
 use Rattle.syn_model.proofs.SubtreeLemmas.{parts}
-use Rattle.syn_tree.specs.Pairs.{Pairs, is_within}
-use Rattle.syn_tree.proofs.RisingLemmas.{Rising, After, each-map, filter-keeps}
+use Rattle.syn_placed.specs.Pairs.{Pairs, is_within}
+use Rattle.syn_placed.proofs.RisingLemmas.{Rising, After, each-map, filter-keeps}
 use Rattle.syn_scan.specs.Found.{Found, IsFound, scan_of}
 use Rattle.syn_dirty.specs.Paths.{AreInOrder, is_among}
 use Rattle.syn_recon.specs.inner.Walks.{Row, Rows, decided, merged}

@@ -11,8 +11,8 @@ use Rattle.syn_model.specs.Decision.{Item, Decision, Clean, Do, DoAndGoOn, GoOn}
 use Rattle.syn_model.specs.Plan.{items_from, with_items_below}
 use Rattle.syn_model.proofs.PathLemmas.{path_total, is_prefix-is}
 use Rattle.syn_model.proofs.PlanOrder.{siblings, apart_below, every-append}
-use Rattle.syn_tree.specs.Pairs.{Pairs, is_within, within}
-use Rattle.syn_tree.proofs.RisingLemmas.{Rising, After, Each, each-map, each-filter, rising-filter}
+use Rattle.syn_placed.specs.Pairs.{Pairs, is_within, within}
+use Rattle.syn_placed.proofs.RisingLemmas.{Rising, After, Each, each-map, each-filter, rising-filter}
 use Rattle.syn_recon.specs.inner.Walks.{Row, Rows, is_settled, settled_by, item_in}
 use Rattle.syn_recon.specs.inner.Decided.{walk}
 use Rattle.syn_recon.proofs.PartLemmas.{RisingNames, BelowOne, Headed, head_of, rest_within, by_names, flat_map-same, every-filter, every_x}

@@ -8,9 +8,9 @@ use Rattle.std.proofs.lemmas.Option.{none-some, same_Some}
 use Rattle.syn_model.specs.Path.{Path, path_cmp}
 use Rattle.syn_model.specs.Tree.{Tree, Content, Pair, replace, is_directory_content}
 use Rattle.syn_model.proofs.PathLemmas.{path_total, same_path, path_itself}
-use Rattle.syn_tree.specs.Pairs.{Pairs}
-use Rattle.syn_tree.proofs.RisingLemmas.{Rising, After}
-use Rattle.syn_tree.proofs.TreeLemmas.{rising-entries}
+use Rattle.syn_placed.specs.Pairs.{Pairs}
+use Rattle.syn_placed.proofs.RisingLemmas.{Rising, After}
+use Rattle.syn_placed.proofs.TreeLemmas.{rising-entries}
 use Rattle.syn_scan.specs.inner.Kept.{is_open_entry, NoneOpen, with_tree}
 use Rattle.syn_scan.specs.Asked.{with_no_directory}
 use Rattle.syn_scan.specs.Found.{Found, Positions, is_open, was_listed, was_no_directory, IsWhole, IsFirstOpen}

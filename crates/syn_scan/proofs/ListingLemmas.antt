@@ -15,9 +15,9 @@ use Rattle.syn_model.specs.Path.{Path, Name, path_cmp, name_cmp, root, child}
 use Rattle.syn_model.specs.Tree.{Content, Pair, Directory, replace}
 use Rattle.syn_model.specs.Limits.{children, fits_archive, fits_path, fits_paths}
 use Rattle.syn_model.proofs.PathLemmas.{path_total, path_itself}
-use Rattle.syn_tree.specs.Pairs.{Pairs, before, behind, under}
-use Rattle.syn_tree.proofs.RisingLemmas.{three_parts, rising_of}
-use Rattle.syn_tree.proofs.TreeLemmas.{rising-entries, entries-replace, get-rising}
+use Rattle.syn_placed.specs.Pairs.{Pairs, before, behind, under}
+use Rattle.syn_placed.proofs.RisingLemmas.{three_parts, rising_of}
+use Rattle.syn_placed.proofs.TreeLemmas.{rising-entries, entries-replace, get-rising}
 use Rattle.syn_mark.specs.Marks.{AreMarks}
 use Rattle.syn_mark.specs.declared.mark.Mark.{Mark}
 use Rattle.syn_scan.specs.Found.{Found, WasListedIn, is_open, IsFound}

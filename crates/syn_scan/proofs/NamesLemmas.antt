@@ -7,7 +7,7 @@ use Rattle.std.specs.FinMap.Entries.{is_sorted, below_all}
 use Rattle.std.specs.declared.cmp.Ordering.{Ordering}
 use Rattle.syn_model.specs.Path.{Path, Name, path_cmp, name_cmp, root}
 use Rattle.syn_model.specs.Tree.{Tree, Content, is_directory, is_directory_content}
-use Rattle.syn_tree.specs.Pairs.{Pairs}
+use Rattle.syn_placed.specs.Pairs.{Pairs}
 use Rattle.syn_mark.specs.Marks.{AreMarks, AreMarkPairs}
 use Rattle.syn_mark.specs.inner.Placings.{stands_in}
 use Rattle.syn_mark.proofs.PlacingLemmas.{placed_marks}

@@ -15,12 +15,12 @@ use Rattle.syn_model.proofs.DirectoryLemmas.{absent_below}
 use Rattle.syn_model.proofs.QuietLemmas.{get-children}
 use Rattle.syn_model.proofs.SubtreeLemmas.{subtree_children}
 use Rattle.syn_model.proofs.HistoryLemmas.{get-at_root}
-use Rattle.syn_tree.specs.Pairs.{Pairs, is_child, before, behind, under}
-use Rattle.syn_tree.specs.Pairs as pairs
-use Rattle.syn_tree.proofs.RisingLemmas.{three_parts}
-use Rattle.syn_tree.proofs.TreeLemmas.{rising-entries, entries-replace, entries-subtree, within-taken, entries-one, entries-rising}
-use Rattle.syn_tree.proofs.RisingLemmas.{rising_of}
-use Rattle.syn_tree.proofs.CountLemmas.{child_parent}
+use Rattle.syn_placed.specs.Pairs.{Pairs, is_child, before, behind, under}
+use Rattle.syn_placed.specs.Pairs as pairs
+use Rattle.syn_placed.proofs.RisingLemmas.{three_parts}
+use Rattle.syn_placed.proofs.TreeLemmas.{rising-entries, entries-replace, entries-subtree, within-taken, entries-one, entries-rising}
+use Rattle.syn_placed.proofs.RisingLemmas.{rising_of}
+use Rattle.syn_placed.proofs.CountLemmas.{child_parent}
 use Rattle.syn_mark.specs.Marks.{AreMarks}
 use Rattle.syn_scan.specs.Asked.{named, listing_pairs, directory_with}
 

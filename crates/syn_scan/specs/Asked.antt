@@ -9,7 +9,7 @@ use Rattle.std.specs.FinMap.Entries.{is_sorted}
 use Rattle.syn_model.specs.Path.{Path, Name, path_cmp, name_cmp, root, child}
 use Rattle.syn_model.specs.Tree.{Tree, Content, Directory, empty_directory, replace}
 use Rattle.syn_model.specs.Limits.{fits_path, most_nodes}
-use Rattle.syn_tree.specs.Pairs.{Pairs}
+use Rattle.syn_placed.specs.Pairs.{Pairs}
 use Rattle.syn_mark.specs.Marks.{marks_with, content_of}
 use Rattle.syn_mark.specs.declared.mark.Mark.{Mark}
 use Rattle.syn_scan.specs.Found.{Found, coded_found, WasListedIn}

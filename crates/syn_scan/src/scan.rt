@@ -7,7 +7,7 @@ ghost use Rattle.syn_model.specs.Tree.{replace};
 ghost use Rattle.syn_model.specs.Limits.{fits_archive};
 ghost use Rattle.syn_model.specs.Mark.{IsMarks};
 ghost use Rattle.syn_model.specs.Dirty.{has_unstable, is_unstable};
-ghost use Rattle.syn_tree.specs.Pairs.{within};
+ghost use Rattle.syn_placed.specs.Pairs.{within};
 ghost use Rattle.syn_scan.specs.Found.{scan_of, is_open, IsFound, position_of};
 ghost use Rattle.syn_scan.specs.Asked.{nothing_found, with_no_directory};
 ghost use Rattle.syn_scan.specs.inner.Kept.{IsFlat, with_tree, NoneOpen, is_open_entry};
@@ -18,8 +18,8 @@ use std::alloc::Global;
 use std::marker::Model;
 use syn_mark::{Mark, MarkEntry, MarkTree};
 use syn_path::Path;
-use syn_tree::Standing;
-use syn_tree::list::{parent_names, part_at};
+use syn_placed::Standing;
+use syn_placed::list::{parent_names, part_at};
 
 /// What a side showed in a session: the marks of its tree, each listed directory with the position
 /// of its listing, and each path that was answered as no directory. Contracts see it as that.

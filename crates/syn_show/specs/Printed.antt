@@ -6,7 +6,7 @@ use Rattle.hex.specs.Hex.{encode_lower}
 use Rattle.sha2.specs.Sha256.{sha256}
 use Rattle.syn_model.specs.Path.{Path}
 use Rattle.syn_model.specs.Tree.{Tree, Pair, Content, Directory, File}
-use Rattle.syn_tree.specs.Pairs.{is_below}
+use Rattle.syn_placed.specs.Pairs.{is_below}
 use Rattle.syn_path.specs.Paths.{printed_form}
 
 -- the line of a file: its path, its length, and its digest in lower case hexadecimal digits

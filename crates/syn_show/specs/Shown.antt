@@ -2,7 +2,7 @@
 use Rattle.std.specs.Prelude.{List, ℕ, [], ◌++◌, filter}
 use Rattle.std.specs.FinMap.{entries}
 use Rattle.syn_disk.specs.declared.disk.Disk.{Ghosts}
-use Rattle.syn_tree.specs.Pairs.{is_below}
+use Rattle.syn_placed.specs.Pairs.{is_below}
 use Rattle.syn_replica.specs.Replica as replica
 use Rattle.syn_replica.specs.declared.replica.Replica.{Replica}
 use Rattle.syn_archive.specs.Archive as archive

@@ -16,7 +16,7 @@ use syn_disk::Disk;
 use syn_mark::{Mark, MarkEntry};
 use syn_path::Path;
 use syn_replica::Replica;
-use syn_tree::{Entry, Found, Tree};
+use syn_tree::{Entry, Found, Tree, found_at};
 
 /// Prints the whole replica: a line with its numbers, and a line for each path but the root, in
 /// path order.
@@ -101,7 +101,7 @@ fn archive_line(alloc: Global, pair: u64, session: u64) -> Result<String, AllocE
 fn entry_line(alloc: Global, entry: &Entry) -> Result<String, AllocError>
     ensures { IfOk result (λ line. string_bytes line ≡ content_line entry.now.0 entry.now.1) }
 {
-    match entry.content() {
+    match found_at(entry) {
         Found::File(bytes) => file_line(alloc, entry.path(), bytes),
         Found::Dir => directory_line(alloc, entry.path()),
     }

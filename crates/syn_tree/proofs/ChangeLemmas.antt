@@ -8,9 +8,9 @@ use Rattle.syn_model.specs.Tree.{Tree, Content, Contents, Directory, File, IsPar
 use Rattle.syn_model.specs.Event.{AreBytes}
 use Rattle.syn_model.proofs.HistoryLemmas.{at_root-is_part}
 use Rattle.syn_tree.specs.Contents.{IsLawful}
-use Rattle.syn_tree.specs.Pairs.{Pairs, under, spelling_length, pair_spelling_length}
+use Rattle.syn_placed.specs.Pairs.{Pairs, under, spelling_length, pair_spelling_length}
 use Rattle.syn_tree.specs.Change.{taken_from, ArePlaced}
-use Rattle.syn_tree.proofs.TreeLemmas.{part-under, entries-one, entries-absent}
+use Rattle.syn_placed.proofs.TreeLemmas.{part-under, entries-one, entries-absent}
 
 -- the pairs of a part, each with the path before its own
 pub taken_same : (at : Path) (u : Tree) (pairs : Pairs) → pairs ≡ under at (entries u) → taken_from at pairs ≡ u

@@ -14,14 +14,14 @@ use Rattle.syn_model.specs.Standing.{edit_refusal, place_causes}
 use Rattle.syn_model.proofs.PathLemmas.{strip_prefix-append}
 use Rattle.syn_model.proofs.HistoryLemmas.{get-at_root, get-below_root}
 use Rattle.syn_model.proofs.TreeLemmas.{within}
-use Rattle.syn_tree.specs.Pairs.{under, spelling_length}
+use Rattle.syn_placed.specs.Pairs.{under, spelling_length}
 use Rattle.syn_tree.specs.Lists.{IsMeasured, replace_refusal}
-use Rattle.syn_tree.proofs.RisingLemmas.{replaced}
-use Rattle.syn_tree.proofs.TreeLemmas.{entries-one, entries-absent, rising-entries}
-use Rattle.syn_tree.proofs.CountLemmas.{kids}
+use Rattle.syn_placed.proofs.RisingLemmas.{replaced}
+use Rattle.syn_placed.proofs.TreeLemmas.{entries-one, entries-absent, rising-entries}
+use Rattle.syn_placed.proofs.CountLemmas.{kids}
 use Rattle.syn_tree.proofs.FitLemmas.{part-pairs, pair_fits, all-find, fits-replaced, has_room}
 use Rattle.syn_tree.proofs.PartLemmas.{length_replaced, spelling_replaced}
-use Rattle.syn_tree.proofs.ParentLemmas.{place_free}
+use Rattle.syn_placed.proofs.ParentLemmas.{place_free}
 use Rattle.syn_tree.proofs.ChangeLemmas.{under_one, size_one}
 
 -- the causes in their order, where those of the place are none

@@ -6,10 +6,10 @@ use Rattle.syn_model.specs.Path.{root}
 use Rattle.syn_model.specs.Tree.{IsTree, Directory, at_root, empty_directory}
 use Rattle.syn_model.specs.Limits.{fits_replica, fits_part, fits_paths, fits_path, greatest_spelling}
 use Rattle.syn_model.proofs.HistoryLemmas.{get-at_root}
-use Rattle.syn_tree.specs.Pairs.{Pairs, tree_with, spelling_length}
+use Rattle.syn_placed.specs.Pairs.{Pairs, tree_with, spelling_length}
 use Rattle.syn_tree.specs.Entries.{AreEntries}
 use Rattle.syn_tree.specs.inner.Kept.{IsKept}
-use Rattle.syn_tree.proofs.TreeLemmas.{entries-one, from_entries-same}
+use Rattle.syn_placed.proofs.TreeLemmas.{entries-one, from_entries-same}
 use Rattle.syn_tree.proofs.ChangeLemmas.{lawful_part}
 use Rattle.syn_tree.proofs.CheckLemmas.{one_fits}
 

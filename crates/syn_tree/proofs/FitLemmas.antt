@@ -1,6 +1,6 @@
 -- The limits of a tree with a part replaced.
 use Rattle.std.proofs.Common.{◌≡◌, ◌≤◌, ◌<◌, ◌+◌, ℕ, Bool, true, false, cond, not, ◌&&◌, ◌||◌, nat_le, nat_lt, List, [], ◌∷◌, ◌++◌, length, refl, sym, ap, ap₂, ◌∙◌, subst, Option, Some, None, is_some, true≢false, arith}
-use Rattle.std.specs.List.{list_all, AllByRecursion}
+use Rattle.std.specs.List.{list_all}
 use Rattle.std.specs.Ordering.{eq_by_cmp}
 use Rattle.std.specs.Cmp.{both_ways}
 use Rattle.std.specs.FinMap.{find, entries, get, get-entries, len, len-entries}
@@ -13,11 +13,11 @@ use Rattle.syn_model.specs.Tree.{Tree, Content, Pair, Directory, File, replace, 
 use Rattle.syn_model.specs.Limits.{children, fits_content, fits_path, fits_part, fits_paths, fits_replica, greatest_spelling, tree_spelling_length}
 use Rattle.syn_model.proofs.PathLemmas.{same_path}
 use Rattle.syn_model.proofs.TreeLemmas.{beside}
-use Rattle.syn_tree.specs.Pairs.{Pairs, is_within, before, within, behind, under, is_child, spelling_length}
-use Rattle.syn_tree.proofs.OrderLemmas.{prefix_step}
-use Rattle.syn_tree.proofs.RisingLemmas.{NoneOf, Each, each-map, replaced, three_parts, before_out, behind_out}
-use Rattle.syn_tree.proofs.TreeLemmas.{rising-entries, entries-replace}
-use Rattle.syn_tree.proofs.CountLemmas.{kids, length-children, kids-beside, kids-after, kids-inside, top_of, child_parent, child_of_parent}
+use Rattle.syn_placed.specs.Pairs.{Pairs, is_within, before, within, behind, under, is_child, spelling_length}
+use Rattle.syn_placed.proofs.OrderLemmas.{prefix_step}
+use Rattle.syn_placed.proofs.RisingLemmas.{NoneOf, Each, each-map, replaced, three_parts, before_out, behind_out, each-both}
+use Rattle.syn_placed.proofs.TreeLemmas.{rising-entries, entries-replace}
+use Rattle.syn_placed.proofs.CountLemmas.{kids, length-children, kids-beside, kids-after, kids-inside, top_of, child_parent, child_of_parent}
 
 -- what a pair has to keep among the others
 abbrev pub pair_fits : Pairs → Pair → Bool
@@ -37,10 +37,6 @@ each_of p (x ∷ xs) h = let both = and_parts (p x) (list_all p xs) h in (both.0
 pub all_of : {X : Type 0} (p : X → Bool) (xs : List X) → Each p xs → list_all p xs ≡ true
 all_of p [] h = refl
 all_of p (x ∷ xs) h = ap₂ (λ a b. a && b) h.0 (all_of p xs h.1)
-
-pub each-both : {X : Type 0} (P Q : X → Type 0) (xs : List X) → AllByRecursion P xs → AllByRecursion Q xs → AllByRecursion (λ x. P x × Q x) xs
-each-both P Q [] h k = tt
-each-both P Q (x ∷ xs) h k = ((h.0, k.0), each-both P Q xs h.1 k.1)
 
 -- what holds of each pair holds of what is found
 pub all-find : (f : Pair → Bool) (q : Path) (c : Content) (es : Pairs) → list_all f es ≡ true → find path_cmp q es ≡ Some c → f (q, c) ≡ true

@@ -1,10 +1,9 @@
 -- Entries that were looked at one by one make a lawful whole, and a lawful whole passes.
-use Rattle.std.proofs.Common.{◌≡◌, ◌<◌, ◌+◌, ℕ, zero, suc, Bool, true, false, cond, not, ◌&&◌, ◌||◌, nat_le, [], ◌∷◌, ◌++◌, length, take, refl, sym, ap, ap₂, ◌∙◌, subst, Option, Some, None, is_some, IsSome, slice_index_or, Less, is_lt, is_eq, drop, All, append-nil, true≢false, arith}
+use Rattle.std.proofs.Common.{◌≡◌, ℕ, zero, suc, Bool, true, false, cond, not, ◌&&◌, ◌||◌, nat_le, [], ◌∷◌, ◌++◌, length, refl, sym, ap, ap₂, ◌∙◌, subst, Option, Some, None, is_some, IsSome, Less, is_lt, is_eq, All, append-nil, true≢false, arith}
 use Rattle.std.specs.List.{list_all, AllByRecursion}
 use Rattle.std.specs.Ordering.{eq_by_cmp, ordering_reverse}
 use Rattle.std.specs.FinMap.{find, get}
 use Rattle.std.proofs.lemmas.Bool.{and_parts}
-use Rattle.std.proofs.lemmas.List.{take_more, take-append-drop}
 use Rattle.std.proofs.lemmas.List.Elements.{All-nil}
 use Rattle.std.proofs.lemmas.Option.{none-some, same_Some}
 use Rattle.syn_model.specs.Path.{Name, Path, IsName, path_cmp, root, is_root, parent}
@@ -12,12 +11,12 @@ use Rattle.syn_model.specs.Tree.{Content, Pair, Directory, File, IsTree, is_dire
 use Rattle.syn_model.specs.Limits.{fits_content, fits_path, fits_part}
 use Rattle.syn_model.proofs.PathLemmas.{path_total, same_path, path_itself, parent-append}
 use Rattle.syn_tree.specs.Contents.{IsLawful}
-use Rattle.syn_tree.specs.Pairs.{Pairs, rooted, tree_with, AreRising, is_child}
+use Rattle.syn_placed.specs.Pairs.{Pairs, rooted, tree_with, AreRising, is_child}
 use Rattle.syn_tree.specs.Entries.{AreEntries, has_few, stands_in, IsLawfulPair, AreLawful}
-use Rattle.syn_tree.proofs.RisingLemmas.{Rising, After, rising_of, rising-append, each-map}
-use Rattle.syn_tree.proofs.TreeLemmas.{entries-with, get-with}
-use Rattle.syn_tree.proofs.CountLemmas.{kids, kids-none, child_is, child_parent, child_of_parent}
-use Rattle.syn_tree.proofs.FitLemmas.{part-pairs, pair_fits, all_of, each_of, each-both, is_dir}
+use Rattle.syn_placed.proofs.RisingLemmas.{Rising, rising_of, each-map, each-both}
+use Rattle.syn_placed.proofs.TreeLemmas.{entries-with, get-with}
+use Rattle.syn_placed.proofs.CountLemmas.{kids, kids-none, child_is, child_parent, child_of_parent}
+use Rattle.syn_tree.proofs.FitLemmas.{part-pairs, pair_fits, all_of, each_of, is_dir}
 use Rattle.syn_tree.proofs.PartLemmas.{kids_rooted}
 use Rattle.syn_tree.proofs.CheckLemmas.{path_fits}
 
@@ -153,40 +152,3 @@ entries_stand ds h =
         let up = sym (get-with ds (parent e.0) h.rising) ∙ h.tree.part.parents (parent e.0) split.0 [] some in
         let both = and_parts (fits_content e.1) (nat_le (kids e.0 (rooted ds)) 256) fit in
         ap₂ (λ a b. a && b) (ap₂ (λ a b. a && b) (ap is_directory_content up) both.0) (any_few (is_directory_content (Some e.1)) (nat_le (kids e.0 ds) 256) (sym (ap (λ n. nat_le n 256) (kids_rooted e.0 ds)) ∙ both.1))
-
--- the last of the pairs
-pub record IsLast (pairs : Pairs) (last : Path) : Type 0 where
-  pub front : Pairs
-  pub content : Content
-  pub parts : pairs ≡ front ++ (last, content) ∷ []
-
-after_last : (p : Path) (front : Pairs) (last : Path) (c : Content) → After p (front ++ (last, c) ∷ []) → path_cmp p last ≡ Less
-after_last p [] last c h = h.0
-after_last p (e ∷ front) last c h = after_last p front last c h.1
-
-all_before : (q last : Path) (c : Content) (front : Pairs) → Rising (front ++ (last, c) ∷ []) → path_cmp last q ≡ Less → AllByRecursion (λ e. path_cmp e.0 q ≡ Less) (front ++ (last, c) ∷ [])
-all_before q last c [] h k = (k, tt)
-all_before q last c (e ∷ front) h k = (path_total.trans e.0 last q (after_last e.0 front last c h.0) k, all_before q last c front h.1 k)
-
-pub rising-more : (es : Pairs) (last : Path) (x : Pair) → Rising es → IsLast es last → path_cmp last x.0 ≡ Less → Rising (es ++ x ∷ [])
-rising-more es last x h is k =
-    rising-append es (x ∷ []) h (tt, tt)
-    (each-map (λ e. path_cmp e.0 x.0 ≡ Less) (λ e. After e.0 (x ∷ [])) (λ e l. (l, tt)) es (subst (AllByRecursion (λ e. path_cmp e.0 x.0 ≡ Less)) (sym is.parts) (all_before x.0 last is.content is.front (subst Rising is.parts h) k)))
-
-rising_front : (xs ys : Pairs) → Rising (xs ++ ys) → Rising xs
-rising_front [] ys h = tt
-rising_front (x ∷ xs) ys h = (after_front x.0 xs ys h.0, rising_front xs ys h.1)
-  where
-    after_front : (p : Path) (xs ys : Pairs) → After p (xs ++ ys) → After p xs
-    after_front p [] ys h = tt
-    after_front p (x ∷ xs) ys h = (h.0, after_front p xs ys h.1)
-
-next_less : (front : Pairs) (last : Path) (c : Content) (x : Pair) → Rising ((front ++ (last, c) ∷ []) ++ x ∷ []) → path_cmp last x.0 ≡ Less
-next_less [] last c x h = h.0.0
-next_less (e ∷ front) last c x h = next_less front last c x h.1
-
--- a pair behind the last of those before it
-pub rising-next : (list : Pairs) (i : ℕ) (x : Pair) (last : Path) → i < length list → x ≡ slice_index_or list i x → IsLast (rooted (take i list)) last → AreRising (rooted list) → path_cmp last x.0 ≡ Less
-rising-next list i x last l is before rising =
-    let parts : list ≡ (take i list ++ x ∷ []) ++ drop (i + 1) list = sym (take-append-drop (i + 1) list) ∙ ap (λ xs. xs ++ drop (i + 1) list) (take_more list i x l ∙ ap (λ y. take i list ++ y ∷ []) (sym is)) in
-    next_less before.front last before.content x (subst Rising (ap (λ xs. xs ++ x ∷ []) before.parts) (rising_front (rooted (take i list) ++ x ∷ []) (drop (i + 1) list) (subst Rising (ap rooted parts) (rising_of (rooted list) rising))))

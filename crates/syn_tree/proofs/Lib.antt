@@ -1,12 +1,4 @@
-pub mod OrderLemmas
-pub mod RisingLemmas
-pub mod PointLemmas
-pub mod SpliceLemmas
-pub mod FindLemmas
-pub mod TreeLemmas
-pub mod BelowLemmas
-pub mod ParentLemmas
-pub mod CountLemmas
+pub mod WithinLemmas
 pub mod FitLemmas
 pub mod PartLemmas
 pub mod MeasureLemmas

@@ -1,5 +1,5 @@
 -- The names in a directory, one pair after the other.
-use Rattle.std.proofs.Common.{◌≡◌, ◌<◌, ◌+◌, ℕ, Bool, true, false, [], ◌∷◌, ◌++◌, map, filter_map, length, take, refl, sym, ap, ap₂, ◌∙◌, Option, Some, None, is_some, slice_index_or, true≢false, arith}
+use Rattle.std.proofs.Common.{◌≡◌, ◌<◌, ◌+◌, ℕ, true, false, [], ◌∷◌, ◌++◌, length, take, refl, sym, ap, ap₂, ◌∙◌, Option, Some, None, is_some, slice_index_or, true≢false, arith}
 use Rattle.std.specs.Prelude.{option_map, option_and_then}
 use Rattle.std.specs.List.{cons_option}
 use Rattle.std.specs.Ordering.{eq_by_cmp}
@@ -8,10 +8,10 @@ use Rattle.std.proofs.Math.Seq.{take-length}
 use Rattle.std.proofs.lemmas.List.{take_more}
 use Rattle.std.proofs.lemmas.List.Elements.{filter_map-append}
 use Rattle.syn_model.specs.Path.{Name, Path, path_cmp, strip_prefix}
-use Rattle.syn_model.specs.Tree.{Tree, Content, Pair, is_directory_content}
+use Rattle.syn_model.specs.Tree.{Tree, Pair}
 use Rattle.syn_model.specs.Limits.{children, only_name}
 use Rattle.syn_model.proofs.PathLemmas.{same_path, strip_prefix-append}
-use Rattle.syn_tree.specs.Pairs.{Pairs, rooted, is_child}
+use Rattle.syn_placed.specs.Pairs.{Pairs, rooted, is_child}
 use Rattle.syn_tree.specs.Lists.{child_contents}
 
 no_name : (o : Option Name) → is_some o ≡ false → o ≡ None

@@ -6,11 +6,11 @@ use Rattle.syn_model.specs.Path.{Path, parent}
 use Rattle.syn_model.specs.Tree.{IsPart, IsTree, replace}
 use Rattle.syn_model.specs.Limits.{fits_replica, fits_part, fits_paths, tree_spelling_length, greatest_spelling}
 use Rattle.syn_model.proofs.HistoryLemmas.{replace-is_tree}
-use Rattle.syn_tree.specs.Pairs.{Pairs, AreRising, rooted, tree_with, before, within, behind, under, spelling_length}
+use Rattle.syn_placed.specs.Pairs.{Pairs, AreRising, rooted, tree_with, before, within, behind, under, spelling_length}
 use Rattle.syn_tree.specs.Change.{Replacement, taken_from, ArePlaced, IsPreparedFor, after_change}
 use Rattle.syn_tree.specs.inner.Kept.{IsKept}
-use Rattle.syn_tree.proofs.RisingLemmas.{Rising, rising_of, are_rising, replaced, rising-replaced}
-use Rattle.syn_tree.proofs.TreeLemmas.{entries-with, entries-replace, rising-entries}
+use Rattle.syn_placed.proofs.RisingLemmas.{Rising, rising_of, are_rising, replaced, rising-replaced}
+use Rattle.syn_placed.proofs.TreeLemmas.{entries-with, entries-replace, rising-entries}
 use Rattle.syn_tree.proofs.FitLemmas.{is_dir}
 use Rattle.syn_tree.proofs.PartLemmas.{before_rooted, within_rooted, behind_rooted, spelling_replaced}
 use Rattle.syn_tree.proofs.MeasureLemmas.{at_most_nodes, part_size}

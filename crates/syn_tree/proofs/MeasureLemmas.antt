@@ -8,13 +8,13 @@ use Rattle.syn_model.specs.Tree.{Tree, replace, is_present}
 use Rattle.syn_model.specs.Limits.{fits_replica, fits_part, fits_paths, tree_spelling_length, greatest_spelling}
 use Rattle.syn_model.specs.Refusal.{first_cause}
 use Rattle.syn_model.specs.Standing.{place_causes}
-use Rattle.syn_tree.specs.Pairs.{Pairs, rooted, tree_with, within, spelling_length}
+use Rattle.syn_placed.specs.Pairs.{Pairs, rooted, tree_with, within, spelling_length}
 use Rattle.syn_tree.specs.inner.Kept.{IsKept}
 use Rattle.syn_tree.specs.Lists.{IsMeasured}
-use Rattle.syn_tree.proofs.RisingLemmas.{rising_of, replaced, counted}
-use Rattle.syn_tree.proofs.TreeLemmas.{entries-with}
-use Rattle.syn_tree.proofs.CountLemmas.{kids}
-use Rattle.syn_tree.proofs.ParentLemmas.{place_free}
+use Rattle.syn_placed.proofs.RisingLemmas.{rising_of, replaced, counted}
+use Rattle.syn_placed.proofs.TreeLemmas.{entries-with}
+use Rattle.syn_placed.proofs.CountLemmas.{kids}
+use Rattle.syn_placed.proofs.ParentLemmas.{place_free}
 use Rattle.syn_tree.proofs.FitLemmas.{fits-replaced, has_room}
 use Rattle.syn_tree.proofs.PartLemmas.{present_root, present_within, within_rooted, kids_rooted, length_replaced, spelling_replaced, spelling_within, one_less, some_there}
 

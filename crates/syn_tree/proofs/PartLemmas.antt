@@ -8,11 +8,11 @@ use Rattle.syn_model.specs.Path.{Path, root, is_root, path_cmp}
 use Rattle.syn_model.specs.Tree.{Tree, Content, Directory, HasParents, subtree, is_present}
 use Rattle.syn_model.proofs.PathLemmas.{path_itself}
 use Rattle.syn_model.proofs.TreeLemmas.{get-subtree}
-use Rattle.syn_tree.specs.Pairs.{Pairs, rooted, within, before, behind, under, spelling_length, pair_spelling_length}
-use Rattle.syn_tree.proofs.RisingLemmas.{Rising, replaced, three_parts, counted}
-use Rattle.syn_tree.proofs.TreeLemmas.{taken, within-taken, entries-subtree, rising-entries}
-use Rattle.syn_tree.proofs.CountLemmas.{no_root, present_taken, kids, kids-cons}
-use Rattle.syn_tree.proofs.ParentLemmas.{no_child}
+use Rattle.syn_placed.specs.Pairs.{Pairs, rooted, within, before, behind, under, spelling_length, pair_spelling_length}
+use Rattle.syn_placed.proofs.RisingLemmas.{Rising, replaced, three_parts, counted}
+use Rattle.syn_placed.proofs.TreeLemmas.{taken, within-taken, entries-subtree, rising-entries}
+use Rattle.syn_placed.proofs.CountLemmas.{no_root, present_taken, kids, kids-cons}
+use Rattle.syn_placed.proofs.ParentLemmas.{no_child}
 
 pub length_under : (at : Path) (us : Pairs) → length (under at us) ≡ length us
 length_under at [] = refl

@@ -12,11 +12,11 @@ use Rattle.syn_model.specs.Path.{Path, IsPath, IsName, path_spelling}
 use Rattle.syn_model.specs.Tree.{Tree, Content, Pair, Directory, IsTree, at_root, absent, replace}
 use Rattle.syn_model.specs.Limits.{fits_part, fits_paths, fits_path, fits_content, tree_spelling_length, greatest_spelling}
 use Rattle.syn_tree.specs.Contents.{IsLawful}
-use Rattle.syn_tree.specs.Pairs.{Pairs, rooted, before, behind, under, spelling_length, pair_spelling_length}
+use Rattle.syn_placed.specs.Pairs.{Pairs, rooted, before, behind, under, spelling_length, pair_spelling_length}
 use Rattle.syn_tree.specs.Lists.{IsMeasured, IsPlaceable, FitsNowhere}
 use Rattle.syn_tree.specs.Change.{ArePlaced, taken_from}
 use Rattle.syn_tree.proofs.PartLemmas.{length_under}
-use Rattle.syn_tree.proofs.TreeLemmas.{entries-replace, entries-absent}
+use Rattle.syn_placed.proofs.TreeLemmas.{entries-replace, entries-absent}
 use Rattle.syn_tree.proofs.FitLemmas.{part-pairs, pair_fits}
 use Rattle.syn_tree.proofs.CheckLemmas.{too_long, one_fits, path_fits}
 use Rattle.syn_tree.proofs.ChangeLemmas.{under_one, under_none, lawful_part, nothing_part, placed_part, taken_same}

@@ -18,12 +18,12 @@ use Rattle.std.proofs.lemmas.Option.{none-some, same_Some}
 use Rattle.syn_model.specs.Limits.{fits_path, fits_content, fits_part, fits_paths}
 use Rattle.syn_model.proofs.PathLemmas.{strip_prefix-append, is_prefix-is}
 use Rattle.syn_model.proofs.TreeLemmas.{same_tree, get-subtree}
-use Rattle.syn_tree.specs.Pairs.{Pairs, rooted, before, within, behind, under}
+use Rattle.syn_placed.specs.Pairs.{Pairs, rooted, before, within, behind, under}
 use Rattle.syn_tree.specs.Lists.{below_off, stripped}
 use Rattle.syn_tree.specs.Entries.{AreEntries}
-use Rattle.syn_tree.proofs.RisingLemmas.{Rising, After, three_parts}
-use Rattle.syn_tree.proofs.TreeLemmas.{taken, within-taken, rising-taken, rising-entries, entries-subtree}
-use Rattle.syn_tree.proofs.CountLemmas.{kids, kids-append, kids-under, no_root}
+use Rattle.syn_placed.proofs.RisingLemmas.{Rising, After, three_parts}
+use Rattle.syn_placed.proofs.TreeLemmas.{taken, within-taken, rising-taken, rising-entries, entries-subtree}
+use Rattle.syn_placed.proofs.CountLemmas.{kids, kids-append, kids-under, no_root}
 use Rattle.syn_tree.proofs.FitLemmas.{part-pairs, pair_fits}
 use Rattle.syn_tree.proofs.PartLemmas.{subtree-parents}
 use Rattle.syn_tree.proofs.WholeLemmas.{whole_rising, whole_tree}

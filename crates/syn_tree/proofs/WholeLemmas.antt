@@ -7,10 +7,10 @@ use Rattle.std.proofs.lemmas.List.Sums.{sum_by-cons}
 use Rattle.syn_model.specs.Path.{root}
 use Rattle.syn_model.specs.Tree.{Tree, IsTree, Directory}
 use Rattle.syn_model.specs.Limits.{fits_replica, fits_part, fits_paths, tree_spelling_length, greatest_spelling}
-use Rattle.syn_tree.specs.Pairs.{Pairs, rooted, tree_with, AreRising, spelling_length, pair_spelling_length}
+use Rattle.syn_placed.specs.Pairs.{Pairs, rooted, tree_with, AreRising, spelling_length, pair_spelling_length}
 use Rattle.syn_tree.specs.inner.Kept.{IsKept}
-use Rattle.syn_tree.proofs.RisingLemmas.{Rising, are_rising}
-use Rattle.syn_tree.proofs.TreeLemmas.{rising-entries, from_entries-same}
+use Rattle.syn_placed.proofs.RisingLemmas.{Rising, are_rising}
+use Rattle.syn_placed.proofs.TreeLemmas.{rising-entries, from_entries-same}
 
 few : (n : ℕ) → n ≤ 1023 → nat_le (suc n) 1024 ≡ true
 few n h = grind (arith, nat_tests)

@@ -5,7 +5,7 @@ use Rattle.std.specs.FinMap.{from_sorted, entries}
 use Rattle.syn_model.specs.Path.{Path, IsPath, is_root, parent}
 use Rattle.syn_model.specs.Tree.{Tree, IsPart, subtree, replace, is_directory, coded_tree}
 use Rattle.syn_model.specs.Limits.{fits_replica}
-use Rattle.syn_tree.specs.Pairs.{Pairs, under, spelling_length}
+use Rattle.syn_placed.specs.Pairs.{Pairs, under, spelling_length}
 
 pub record Replacement : Type 0 where
   pub at : Path

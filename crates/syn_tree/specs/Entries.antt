@@ -6,7 +6,7 @@ use Rattle.syn_model.specs.Path.{path_cmp, parent, IsPath}
 use Rattle.syn_model.specs.Tree.{Pair, IsTree, is_directory_content}
 use Rattle.syn_model.specs.Limits.{fits_content, fits_part, fits_paths}
 use Rattle.syn_tree.specs.Contents.{IsLawful}
-use Rattle.syn_tree.specs.Pairs.{Pairs, rooted, tree_with, AreRising, is_child}
+use Rattle.syn_placed.specs.Pairs.{Pairs, rooted, tree_with, AreRising, is_child}
 
 -- they make a tree, within the limits of each file, each directory and each path
 pub record AreEntries (pairs : Pairs) : Type 0 where

@@ -1,5 +1,4 @@
 pub mod Contents
-pub mod Pairs
 pub mod Entries
 pub mod Nodes
 pub mod Edits

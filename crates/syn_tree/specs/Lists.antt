@@ -10,7 +10,7 @@ use Rattle.syn_model.specs.Limits.{only_name, children, fits_part, fits_path, fi
 use Rattle.syn_model.specs.Refusal.{Refusal, first_cause}
 use Rattle.syn_model.specs.Standing.{place_causes, full_causes}
 use Rattle.syn_model.specs.Tree as model
-use Rattle.syn_tree.specs.Pairs.{Pairs, under, spelling_length}
+use Rattle.syn_placed.specs.Pairs.{Pairs, under, spelling_length}
 
 -- names, each with whether it is a directory
 abbrev pub kinds_of : List (Name × Content) → List (Name × Bool)

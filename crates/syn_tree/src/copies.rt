@@ -4,14 +4,14 @@ ghost use Rattle.std.specs.Prelude.{option_map, option_and_then};
 ghost use Rattle.std.specs.List.{list_all};
 ghost use Rattle.syn_model.specs.Path.{IsPath, strip_prefix};
 ghost use Rattle.syn_model.specs.Limits.{fits_path, only_name};
-ghost use Rattle.syn_tree.specs.Pairs.{under};
+ghost use Rattle.syn_placed.specs.Pairs.{under};
 ghost use Rattle.syn_tree.specs.Lists.{stripped, child_contents, contents_at};
 
-use crate::entry::{Placed, Standing};
 use crate::error::TreeError;
 use std::alloc::Global;
 use std::cmp::Ordering;
 use syn_path::{Name, Path, PathError};
+use syn_placed::{Placed, Standing};
 
 /// Equal names, put behind those that are there. Refused 11 where memory is refused, and for no
 /// other cause.

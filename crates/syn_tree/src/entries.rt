@@ -4,21 +4,21 @@ ghost use Rattle.std.specs.Prelude.{◌≡◌, true, length, IfSome, IfNone, IsT
 ghost use Rattle.std.specs.FinMap.{entries};
 ghost use Rattle.syn_model.specs.Tree.{IsTree, empty_directory};
 ghost use Rattle.syn_model.specs.Limits.{children, fits_part, fits_paths};
-ghost use Rattle.syn_tree.specs.Pairs.{rooted, tree_with};
+ghost use Rattle.syn_placed.specs.Pairs.{rooted, tree_with};
 ghost use Rattle.std.specs.List.{list_all};
 ghost use Rattle.syn_model.specs.Limits.{fits_content};
 ghost use Rattle.syn_tree.specs.Contents.{IsLawful};
-ghost use Rattle.syn_tree.specs.Pairs.{AreRising};
+ghost use Rattle.syn_placed.specs.Pairs.{AreRising};
 ghost use Rattle.syn_tree.specs.Entries.{AreEntries, has_few, stands_in, IsLawfulPair, AreLawful};
 
 use crate::content::Found;
-use crate::entry::Entry;
+use crate::entry::{Entry, found_at};
 use crate::lawful::{are_bytes, is_path};
-use crate::list::{are_rising, count_children, count_children_at, is_directory, parent_names};
 use crate::measures::{LONGEST_FILE, MOST_CHILDREN};
 use std::alloc::Global;
 use std::marker::Model;
 use syn_path::Path;
+use syn_placed::list::{are_rising, count_children, count_children_at, is_directory, parent_names};
 
 /// What stands below a directory, in path order: 256 entries a directory, 16,384 bytes a file, and
 /// each path, taken from the directory, within the limits of a path. The number of nodes and their
@@ -36,11 +36,11 @@ impl Model for Entries {
 
     ghost coded = { coded_tree };
 
-    ghost use Rattle.syn_tree.specs.Pairs.{tree_with};
+    ghost use Rattle.syn_placed.specs.Pairs.{tree_with};
     ghost use Rattle.std.specs.List.{list_all};
     ghost use Rattle.syn_model.specs.Limits.{fits_content};
     ghost use Rattle.syn_tree.specs.Contents.{IsLawful};
-    ghost use Rattle.syn_tree.specs.Pairs.{AreRising};
+    ghost use Rattle.syn_placed.specs.Pairs.{AreRising};
     ghost use Rattle.syn_tree.specs.Entries.{AreEntries, stands_in, IsLawfulPair, AreLawful};
 
     ghost view = { λ e. tree_with e.list.items };
@@ -146,7 +146,7 @@ fn has_few(list: &[Entry], entry: &Entry) -> bool
     requires { AreRising (rooted list.now) }
     ensures { result ≡ has_few list.now entry.now }
 {
-    !entry.content().is_directory() || count_children_at(list, entry.path()) <= MOST_CHILDREN
+    !found_at(entry).is_directory() || count_children_at(list, entry.path()) <= MOST_CHILDREN
 }
 
 /// The entry is a directory, or a file within its limit.
@@ -154,7 +154,7 @@ fn is_brief(entry: &Entry) -> bool
     ensures value { result ≡ fits_content entry.now.1 }
     ensures lawful { IsLawful entry.now.1 }
 {
-    match entry.content() {
+    match found_at(entry) {
         Found::File(bytes) => {
             are_bytes(bytes);
             bytes.len() <= LONGEST_FILE

@@ -5,13 +5,13 @@ ghost use Rattle.std.specs.FinMap.{find};
 ghost use Rattle.syn_model.specs.Path.{path_cmp, IsPath};
 ghost use Rattle.syn_model.specs.Limits.{last_name_spelling_length};
 ghost use Rattle.syn_tree.specs.Contents.{found_content};
-ghost use Rattle.syn_tree.specs.Pairs.{rooted, AreRising, before, within, behind};
-ghost use Rattle.syn_tree.specs.Pairs.{pair_spelling_length, spelling_length};
+ghost use Rattle.syn_placed.specs.Pairs.{rooted, AreRising, before, within, behind};
+ghost use Rattle.syn_placed.specs.Pairs.{pair_spelling_length, spelling_length};
 
 use crate::content::Found;
-use crate::entry::Entry;
-use crate::list::{entry_at, part_at, replace_part};
+use crate::entry::{Entry, found_at};
 use syn_path::{Name, Path};
+use syn_placed::list::{entry_at, part_at, replace_part};
 
 /// The most bytes of the spelling of a replica's tree.
 pub const LONGEST_SPELLING: usize = 524_288;
@@ -32,7 +32,7 @@ pub(crate) fn find<'a>(list: &'a [Entry], names: &[Name]) -> Option<Found<'a>>
         return Some(Found::Dir);
     }
     match entry_at(list, names) {
-        Some(entry) => Some(entry.content()),
+        Some(entry) => Some(found_at(entry)),
         None => None,
     }
 }
@@ -55,7 +55,7 @@ pub(crate) fn entry_spelled(entry: &Entry) -> usize
     ensures fits { result < 2 ^ 63 + 128 }
 {
     let name = name_spelled(entry.path());
-    match entry.content() {
+    match found_at(entry) {
         Found::File(bytes) => name + 5 + bytes.len(),
         Found::Dir => name + 3,
     }

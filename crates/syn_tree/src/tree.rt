@@ -17,7 +17,7 @@ ghost use Rattle.syn_tree.specs.Contents.{found_content};
 ghost use Rattle.syn_tree.specs.Nodes.{part_of};
 ghost use Rattle.syn_tree.specs.Edits.{edit_of};
 ghost use Rattle.syn_model.specs.Path.{parent};
-ghost use Rattle.syn_tree.specs.Pairs.{rooted, AreRising, is_below, is_child};
+ghost use Rattle.syn_placed.specs.Pairs.{rooted, AreRising, is_below, is_child};
 ghost use Rattle.syn_tree.specs.Change.{IsPreparedFor, after_change};
 ghost use Rattle.syn_tree.specs.Lists.{listing, kinds_of, contents_at, replace_refusal};
 ghost use Rattle.syn_tree.specs.Lists.{IsMeasured};
@@ -28,12 +28,9 @@ use crate::content::{Content, Found};
 use crate::copies::{below, children};
 use crate::edit::Edit;
 use crate::entries::Entries;
-use crate::entry::{Entry, Standing};
+use crate::entry::Entry;
 use crate::error::TreeError;
 use crate::lawful::are_bytes;
-use crate::list::{
-    count_children, count_children_at, is_directory, parent_names, part_at, part_below,
-};
 use crate::measures::{
     LONGEST_FILE, LONGEST_SPELLING, MOST_CHILDREN, find, measured, name_spelled, spelled, splice,
 };
@@ -42,6 +39,10 @@ use crate::placing::placed;
 use std::alloc::Global;
 use std::marker::Model;
 use syn_path::{Name, Path};
+use syn_placed::Standing;
+use syn_placed::list::{
+    count_children, count_children_at, is_directory, parent_names, part_at, part_below,
+};
 
 /// The most nodes of a tree below its root.
 const MOST_BELOW: usize = 1023;
@@ -66,7 +67,7 @@ impl Model for Tree {
 
     ghost coded = { coded_tree };
 
-    ghost use Rattle.syn_tree.specs.Pairs.{tree_with};
+    ghost use Rattle.syn_placed.specs.Pairs.{tree_with};
     ghost use Rattle.syn_tree.specs.inner.Kept.{IsKept};
 
     ghost view = { λ t. tree_with t.list.items };

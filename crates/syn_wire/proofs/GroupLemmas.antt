@@ -8,11 +8,11 @@ use Rattle.syn_model.specs.Path.{Name, Path, name_cmp, path_cmp, root, strip_pre
 use Rattle.syn_model.specs.Tree.{Tree, Content, Pair, Directory, HasParents, subtree}
 use Rattle.syn_model.specs.Limits.{only_name, children}
 use Rattle.syn_model.proofs.PathLemmas.{path_total, same_name, same_path, name_itself, path_itself}
-use Rattle.syn_tree.specs.Pairs.{Pairs, is_within, within, under}
-use Rattle.syn_tree.proofs.OrderLemmas.{not_before, between}
-use Rattle.syn_tree.proofs.RisingLemmas.{Rising, After, NoneOf, each-map, filter-drops}
-use Rattle.syn_tree.proofs.FindLemmas.{find_after}
-use Rattle.syn_tree.proofs.TreeLemmas.{rising-entries, within-taken, entries-subtree, taken}
+use Rattle.syn_placed.specs.Pairs.{Pairs, is_within, within, under}
+use Rattle.syn_placed.proofs.OrderLemmas.{not_before, between}
+use Rattle.syn_placed.proofs.RisingLemmas.{Rising, After, NoneOf, each-map, filter-drops}
+use Rattle.syn_placed.proofs.FindLemmas.{find_after}
+use Rattle.syn_placed.proofs.TreeLemmas.{rising-entries, within-taken, entries-subtree, taken}
 
 -- the names in a directory, of the pairs below it
 abbrev pub tops : Pairs → List (Name × Content)

@@ -13,11 +13,10 @@ use Rattle.syn_model.specs.Path.{Bytes, Name, Path, name_cmp, path_cmp, root, st
 use Rattle.syn_model.specs.Tree.{Tree, Content, Contents, Pair, Directory, File, contents_of, subtree, taken_off}
 use Rattle.syn_model.specs.Limits.{children, only_name}
 use Rattle.syn_model.proofs.PathLemmas.{name_total, path_itself, same_name, strip_prefix-append}
-use Rattle.syn_tree.specs.Pairs.{Pairs, rooted, under}
-use Rattle.syn_tree.proofs.OrderLemmas.{under_order}
-use Rattle.syn_tree.proofs.RisingLemmas.{Rising, After, each-append, each-map, are_rising, rising_of}
-use Rattle.syn_tree.proofs.FitLemmas.{each-both}
-use Rattle.syn_tree.proofs.TreeLemmas.{entries-rising, entries-subtree, get-rising, taken}
+use Rattle.syn_placed.specs.Pairs.{Pairs, rooted, under}
+use Rattle.syn_placed.proofs.OrderLemmas.{under_order}
+use Rattle.syn_placed.proofs.RisingLemmas.{Rising, After, each-append, each-map, are_rising, rising_of, each-both}
+use Rattle.syn_placed.proofs.TreeLemmas.{entries-rising, entries-subtree, get-rising, taken}
 use Rattle.syn_wire.specs.inner.Kinds.{Kind, IsFileOf, file_spelling_of, spelling_of}
 use Rattle.syn_wire.specs.Reads.{BeginsWith}
 use Rattle.syn_wire.specs.Trees.{last_name_spelling}

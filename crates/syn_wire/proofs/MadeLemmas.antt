@@ -13,12 +13,12 @@ use Rattle.syn_model.specs.Spelling.{spelling, content_spelling}
 use Rattle.syn_model.proofs.PathLemmas.{same_path}
 use Rattle.syn_model.proofs.SpellingLemmas.{spelling_unfolds}
 use Rattle.syn_tree.specs.Entries.{AreEntries}
-use Rattle.syn_tree.specs.Pairs.{Pairs, rooted, tree_with, AreRising, under}
+use Rattle.syn_placed.specs.Pairs.{Pairs, rooted, tree_with, AreRising, under}
 use Rattle.syn_tree.proofs.ChangeLemmas.{lawful_part, nothing_part}
 use Rattle.syn_tree.proofs.CheckLemmas.{one_fits}
 use Rattle.syn_tree.proofs.PlaceableLemmas.{fits-path}
-use Rattle.syn_tree.proofs.RisingLemmas.{sorted_of}
-use Rattle.syn_tree.proofs.TreeLemmas.{entries-absent, entries-one, from_entries-same}
+use Rattle.syn_placed.proofs.RisingLemmas.{sorted_of}
+use Rattle.syn_placed.proofs.TreeLemmas.{entries-absent, entries-one, from_entries-same}
 use Rattle.syn_wire.specs.Events.{IsFile, file_spelling}
 use Rattle.syn_wire.specs.Reads.{BeginsWith, IsReading}
 use Rattle.syn_wire.specs.Trees.{NoTreeBeginsAnother, IsDirectoryTree, IsOptionalTree, IsWholeTree}

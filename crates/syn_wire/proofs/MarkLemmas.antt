@@ -11,8 +11,8 @@ use Rattle.syn_model.specs.Tree.{Tree, Content, Pair, Directory, File, HasParent
 use Rattle.syn_model.specs.Limits.{children, fits_archive, fits_paths}
 use Rattle.syn_model.specs.MarkSpelling.{mark_spelling, mark_spelling_within}
 use Rattle.syn_model.proofs.SubtreeLemmas.{subtree_smaller}
-use Rattle.syn_tree.specs.Pairs.{Pairs, is_child}
-use Rattle.syn_tree.proofs.CountLemmas.{length-children}
+use Rattle.syn_placed.specs.Pairs.{Pairs, is_child}
+use Rattle.syn_placed.proofs.CountLemmas.{length-children}
 use Rattle.syn_wire.specs.Marks.{digest_spelling}
 use Rattle.syn_wire.specs.Trees.{pair_by}
 use Rattle.syn_wire.proofs.WalkLemmas.{content_by, walks_by}

@@ -8,9 +8,9 @@ use Rattle.syn_model.specs.Limits.{fits_archive}
 use Rattle.syn_model.specs.Mark.{IsMarks}
 use Rattle.syn_model.specs.MarkSpelling.{NoMarkSpellingBeginsAnother, mark_spelling}
 use Rattle.syn_mark.specs.Marks.{AreMarks, marks_with}
-use Rattle.syn_tree.specs.Pairs.{Pairs, AreRising, under}
-use Rattle.syn_tree.proofs.RisingLemmas.{sorted_of}
-use Rattle.syn_tree.proofs.TreeLemmas.{entries-absent, from_entries-same}
+use Rattle.syn_placed.specs.Pairs.{Pairs, AreRising, under}
+use Rattle.syn_placed.proofs.RisingLemmas.{sorted_of}
+use Rattle.syn_placed.proofs.TreeLemmas.{entries-absent, from_entries-same}
 use Rattle.syn_wire.specs.Marks.{IsMarkTree, IsOptionalMarkTree, digest_spelling, NoMarksBeginOthers}
 use Rattle.syn_wire.specs.Reads.{BeginsWith, IsReading}
 use Rattle.syn_wire.specs.inner.Kinds.{OfMarks}

@@ -9,7 +9,7 @@ use Rattle.syn_model.specs.Limits.{children, fits_content, fits_part}
 use Rattle.syn_model.specs.Spelling.{spelling, content_spelling}
 use Rattle.syn_model.proofs.HistoryLemmas.{get-at_root}
 use Rattle.syn_model.proofs.SpellingLemmas.{spelling_unfolds}
-use Rattle.syn_tree.proofs.TreeLemmas.{entries-one}
+use Rattle.syn_placed.proofs.TreeLemmas.{entries-one}
 use Rattle.syn_wire.specs.Events.{file_spelling}
 
 pub absent_spelled : spelling absent ≡ 0 ∷ []

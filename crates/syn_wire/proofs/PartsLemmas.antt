@@ -14,8 +14,8 @@ use Rattle.syn_model.specs.Tree.{Tree, Content, Contents, Pair, Directory, File,
 use Rattle.syn_model.specs.Limits.{children}
 use Rattle.syn_model.proofs.TreeLemmas.{get-subtree}
 use Rattle.syn_model.proofs.HistoryLemmas.{no_file}
-use Rattle.syn_tree.specs.Pairs.{Pairs, under}
-use Rattle.syn_tree.proofs.RisingLemmas.{each-map}
+use Rattle.syn_placed.specs.Pairs.{Pairs, under}
+use Rattle.syn_placed.proofs.RisingLemmas.{each-map}
 use Rattle.syn_wire.specs.inner.Kinds.{Kind, IsFileOf, IsPartOf, file_spelling_of, spelling_of}
 use Rattle.syn_wire.specs.inner.Names.{name_spelling}
 use Rattle.syn_wire.specs.Reads.{BeginsWith, IsReading, NoneBeginsAnother}

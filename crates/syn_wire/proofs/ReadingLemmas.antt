@@ -3,7 +3,7 @@ use Rattle.std.proofs.Common.{◌≡◌, ◌≢◌, ◌<◌, ◌^◌, ℕ, [], �
 use Rattle.std.specs.Int.{to_be_bytes, w16}
 use Rattle.syn_model.specs.Path.{Bytes, Path, root}
 use Rattle.syn_model.specs.Tree.{Pair, Directory, File, contents_of}
-use Rattle.syn_tree.specs.Pairs.{Pairs, under}
+use Rattle.syn_placed.specs.Pairs.{Pairs, under}
 use Rattle.syn_wire.specs.Reads.{BeginsWith, IsReading}
 use Rattle.syn_wire.specs.inner.Kinds.{Kind, IsFileOf, file_spelling_of}
 use Rattle.syn_wire.specs.inner.Parts.{ReadsPart, ReadsParts, parts_pairs, parts_spelling}

@@ -18,10 +18,10 @@ use Rattle.syn_model.proofs.HistoryLemmas.{no_file}
 use Rattle.syn_model.proofs.QuietLemmas.{get-children}
 use Rattle.syn_model.proofs.SubtreeLemmas.{subtree_children, subtree_smaller}
 use Rattle.syn_model.proofs.SpellingLemmas.{spelling_unfolds}
-use Rattle.syn_tree.specs.Pairs.{Pairs, under}
+use Rattle.syn_placed.specs.Pairs.{Pairs, under}
 use Rattle.syn_tree.proofs.PartLemmas.{subtree-parents}
-use Rattle.syn_tree.proofs.RisingLemmas.{Rising, After, each-map}
-use Rattle.syn_tree.proofs.TreeLemmas.{rising-entries}
+use Rattle.syn_placed.proofs.RisingLemmas.{Rising, After, each-map}
+use Rattle.syn_placed.proofs.TreeLemmas.{rising-entries}
 use Rattle.syn_wire.specs.Events.{file_spelling}
 use Rattle.syn_wire.specs.Trees.{last_name_spelling, standing_by, standing_spelling, pair_by, pair_spelling, SpellingIsWalk, SpellingIsMeasured}
 use Rattle.syn_wire.proofs.GroupLemmas.{IsRooted, is_rooted, file_alone, directory_grouped}

@@ -13,7 +13,7 @@ use Rattle.syn_model.specs.Limits.{children, fits_content, fits_part, fits_repli
 use Rattle.std.specs.FinMap.{len}
 use Rattle.std.proofs.lemmas.Option.{none-some, same_Some}
 use Rattle.syn_model.specs.Spelling.{spelling}
-use Rattle.syn_tree.specs.Pairs.{Pairs, rooted}
+use Rattle.syn_placed.specs.Pairs.{Pairs, rooted}
 use Rattle.syn_wire.specs.Events.{file_spelling}
 use Rattle.syn_wire.specs.Trees.{last_name_spelling, standing_by, standing_spelling, pair_by, pair_spelling}
 use Rattle.syn_wire.proofs.WalkLemmas.{content_by, walks_by, tree_unfolds}

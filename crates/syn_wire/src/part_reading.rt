@@ -12,7 +12,7 @@ use crate::readable::Readable;
 use crate::tree::{DIRECTORY, FILE};
 use std::alloc::Global;
 use syn_path::{Path, PathError};
-use syn_tree::Placed;
+use syn_placed::Placed;
 
 // Adds so many names of a directory, each with what stands there and all below it, and answers what
 // is left.

@@ -7,7 +7,8 @@ use crate::bytes::read_file;
 use crate::error::WireError;
 use std::alloc::Global;
 use syn_mark::Mark;
-use syn_tree::{Content, Standing};
+use syn_placed::Standing;
+use syn_tree::Content;
 
 // How many bytes a digest has.
 const DIGEST_LENGTH: usize = 32;

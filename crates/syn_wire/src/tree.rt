@@ -12,7 +12,7 @@ use crate::error::WireError;
 use crate::number::write_u16;
 use std::alloc::Global;
 use syn_path::Path;
-use syn_tree::{Entries, Entry, Found, Node, Tree};
+use syn_tree::{Entries, Entry, Found, Node, Tree, found_at};
 
 pub(crate) const ABSENT: u8 = 0;
 
@@ -115,7 +115,7 @@ fn count_in_tree(tree: &Tree, entry: &Entry) -> usize
         ≡ standing_spelling (length (children tree.now entry.now.0)) entry.now.1 }
     ensures few { result ≤ length (children tree.now entry.now.0) }
 {
-    match entry.content() {
+    match found_at(entry) {
         Found::File(_) => 0,
         Found::Dir => tree.child_count(entry.path()),
     }
@@ -127,7 +127,7 @@ fn count_in_entries(entries: &Entries, entry: &Entry) -> usize
         ≡ standing_spelling (length (children entries.now entry.now.0)) entry.now.1 }
     ensures few { result ≤ length (children entries.now entry.now.0) }
 {
-    match entry.content() {
+    match found_at(entry) {
         Found::File(_) => 0,
         Found::Dir => entries.child_count(entry.path()),
     }
@@ -142,7 +142,7 @@ fn write_entry(out: &mut Vec<u8>, entry: &Entry, count: usize) -> Result<(), Wir
     ensures kept { IsBeginning out.old.items out.new.items }
 {
     write_last_name(out, entry.path())?;
-    match entry.content() {
+    match found_at(entry) {
         Found::File(bytes) => {
             out.push(FILE)?;
             write_file(out, bytes)

@@ -5,7 +5,7 @@ use Rattle.std.specs.FinMap.Entries.{by_order}
 use Rattle.syn_model.specs.Path.{Path, path_cmp, is_prefix}
 use Rattle.syn_model.specs.Tree.{Pair}
 use Rattle.syn_model.specs.Dirty.{is_same_content}
-use Rattle.syn_tree.specs.Pairs.{Pairs}
+use Rattle.syn_placed.specs.Pairs.{Pairs}
 
 -- a path, and whether something differs at it
 abbrev pub Row : Type 0

@@ -6,7 +6,7 @@ ghost use Rattle.syn_disk.specs.Arms.{no_arms};
 ghost use Rattle.syn_disk.specs.Disk.{overwritten, Torn, Follows, NothingNew, Only};
 ghost use Rattle.syn_disk.specs.Halves.{HalvesMayLeave, length-halves};
 ghost use Rattle.syn_disk.specs.Moments.{LeftSince};
-ghost use Rattle.syn_disk.specs.inner.MomentLaws.{now_counts, only_now};
+ghost use Rattle.syn_disk.specs.MomentLaws.{now_counts, only_now};
 ghost use Rattle.syn_disk.specs.Stop.{Left};
 
 use super::half::Half;

@@ -4,7 +4,7 @@ use Rattle.std.specs.FinMap.{find}
 use Rattle.syn_model.specs.Path.{Name, path_cmp, parent}
 use Rattle.syn_model.specs.Tree.{Pair, Content, is_directory_content}
 use Rattle.syn_model.specs.Mark.{mark_of}
-use Rattle.syn_tree.specs.Pairs.{Pairs, rooted}
+use Rattle.syn_placed.specs.Pairs.{Pairs, rooted}
 
 -- the pair stands in a directory, among pairs below a root directory
 abbrev pub stands_in : Pairs → Pair → Bool

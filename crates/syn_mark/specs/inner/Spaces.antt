@@ -1,7 +1,7 @@
 -- What a prepared change keeps.
 use Rattle.std.specs.Prelude.{◌≡◌, []}
 use Rattle.syn_model.specs.Path.{Path}
-use Rattle.syn_tree.specs.Pairs.{Pairs}
+use Rattle.syn_placed.specs.Pairs.{Pairs}
 use Rattle.syn_tree.specs.Change.{taken_from}
 use Rattle.syn_mark.specs.Changes.{ArePlaced}
 

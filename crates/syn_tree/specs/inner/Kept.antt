@@ -2,7 +2,7 @@
 use Rattle.std.specs.Prelude.{◌≡◌, ◌≤◌, ℕ, true}
 use Rattle.syn_model.specs.Tree.{IsTree}
 use Rattle.syn_model.specs.Limits.{fits_replica}
-use Rattle.syn_tree.specs.Pairs.{Pairs, rooted, tree_with, AreRising, spelling_length}
+use Rattle.syn_placed.specs.Pairs.{Pairs, rooted, tree_with, AreRising, spelling_length}
 
 -- the pairs make a tree within all limits, the length of its spelling is known, and there is room
 -- for the most nodes

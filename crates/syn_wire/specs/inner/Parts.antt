@@ -6,7 +6,7 @@ use Rattle.std.specs.List.{AllByRecursion}
 use Rattle.std.specs.FinMap.{entries, from_sorted, get}
 use Rattle.syn_model.specs.Path.{Bytes, Name, Path, root, IsPath}
 use Rattle.syn_model.specs.Tree.{Tree, Content, is_present}
-use Rattle.syn_tree.specs.Pairs.{Pairs, AreRising, rooted, under}
+use Rattle.syn_placed.specs.Pairs.{Pairs, AreRising, rooted, under}
 use Rattle.syn_wire.specs.inner.Kinds.{Kind, IsPartOf, spelling_of}
 
 -- what stands at a path, within the limits there

@@ -1,7 +1,7 @@
 use Rattle.std.proofs.Common.{sym, ap, ◌∙◌, subst}
 use Rattle.std.specs.FinMap.{entries}
 use Rattle.syn_model.specs.Mark.{IsMarks}
-use Rattle.syn_tree.specs.Pairs.{under}
+use Rattle.syn_placed.specs.Pairs.{under}
 use Rattle.syn_mark.specs.Marks.{or_absent}
 use Rattle.syn_mark.proofs.ChangeLemmas.{none_under, nothing_marks}
 use Rattle.syn_mark.proofs.placing.placed.Goals as goal

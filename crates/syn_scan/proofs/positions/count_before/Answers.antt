@@ -1,7 +1,7 @@
 use Rattle.std.proofs.Common.{rules, ◌≡◌, ◌≤◌, length, sym, subst, true, false}
 use Rattle.std.proofs.lemmas.List.Sorted.{IsPartitionPoint-from_clause}
 use Rattle.std.specs.List.Sorted.{IsPartitionedBy, IsPartitionPoint}
-use Rattle.syn_tree.proofs.PointLemmas.{partitioned, point}
+use Rattle.syn_placed.proofs.PointLemmas.{partitioned, point}
 use Rattle.syn_scan.specs.inner.Kept.{earlier}
 use Rattle.syn_scan.proofs.PositionLemmas.{is_earlier, later, rising_of, two_parts, each_earlier, each_later}
 use Rattle.syn_scan.proofs.positions.count_before.Goals as goal

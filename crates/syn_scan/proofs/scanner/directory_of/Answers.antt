@@ -2,7 +2,7 @@ use Rattle.std.proofs.Common.{◌≡◌, ◌∙◌, ◌<◌, ◌++◌, ◌∷◌
 use Rattle.std.specs.FinMap.{entries, from_sorted}
 use Rattle.syn_model.specs.Path.{path_cmp, root}
 use Rattle.syn_model.specs.Tree.{Directory}
-use Rattle.syn_tree.proofs.TreeLemmas.{from_entries-same}
+use Rattle.syn_placed.proofs.TreeLemmas.{from_entries-same}
 use Rattle.syn_mark.specs.Marks.{AreMarks}
 use Rattle.syn_mark.proofs.MarkLemmas.{are_marks}
 use Rattle.syn_scan.specs.Asked.{named, contents_in, listing_pairs}

@@ -4,7 +4,7 @@ use Rattle.std.specs.FinMap.{entries}
 use Rattle.std.specs.Io.KnownBytes.{Appends}
 use Rattle.syn_archive.specs.Archive.{pair_of, session_shown, marks_shown}
 use Rattle.syn_model.specs.Tree.{Tree}
-use Rattle.syn_tree.specs.Pairs.{is_below}
+use Rattle.syn_placed.specs.Pairs.{is_below}
 use Rattle.syn_show.specs.Printed.{archive_line, lines_of_marks}
 use Rattle.syn_show.proofs.ShowLemmas.{appends_more}
 use Rattle.syn_show.proofs.lines.show_archive.Goals as goal

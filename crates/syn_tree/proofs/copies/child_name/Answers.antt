@@ -1,10 +1,10 @@
-use Rattle.std.proofs.Common.{rules, ◌≡◌, ◌<◌, ◌-◌, Some, None, option_map, take, length, sym, ap, ◌∙◌, subst, arith}
+use Rattle.std.proofs.Common.{rules, ◌≡◌, ◌<◌, ◌-◌, take, length, sym, ap, ◌∙◌, subst, arith}
 use Rattle.std.specs.Prelude.{option_and_then}
 use Rattle.std.specs.Ordering.{eq_by_cmp}
 use Rattle.syn_model.specs.Path.{path_cmp, strip_prefix}
 use Rattle.syn_model.specs.Limits.{only_name}
-use Rattle.syn_tree.specs.Pairs.{is_child}
-use Rattle.syn_tree.proofs.ParentLemmas.{child-take, no_child}
+use Rattle.syn_placed.specs.Pairs.{is_child}
+use Rattle.syn_placed.proofs.ParentLemmas.{child-take, no_child}
 use Rattle.syn_tree.proofs.ListingLemmas.{named_last, not_named}
 use Rattle.syn_tree.proofs.copies.child_name.Goals as goal
 

@@ -1,10 +1,8 @@
-use Rattle.std.proofs.Common.{◌≡◌, ◌++◌, ◌∷◌, [], Some, None, option_map, map, take, length, refl, sym, ap, ap₂, ◌∙◌, append-nil, arith}
+use Rattle.std.proofs.Common.{◌≡◌, ◌++◌, ◌∷◌, [], Some, None, option_map, take, length, sym, ap, ◌∙◌, append-nil, arith}
 use Rattle.std.proofs.Math.Seq.{take-length}
 use Rattle.std.proofs.lemmas.List.{map-append}
-use Rattle.std.specs.Borrow.{Bor}
 use Rattle.std.specs.Prelude.{option_and_then}
-use Rattle.syn_model.specs.Path.{Name, strip_prefix}
-use Rattle.syn_model.specs.Tree.{Pair, Content}
+use Rattle.syn_model.specs.Path.{strip_prefix}
 use Rattle.syn_model.specs.Limits.{only_name}
 use Rattle.syn_tree.specs.Lists.{child_contents, contents_at}
 use Rattle.syn_tree.proofs.ListingLemmas.{contents-more, one_more}

@@ -2,7 +2,7 @@ use Rattle.std.proofs.Common.{◌≡◌, ◌≢◌, ◌++◌, ◌∷◌, [], Lis
 use Rattle.std.proofs.lemmas.Result.{err_from_is_err_and}
 use Rattle.syn_model.specs.Path.{Path, IsPath}
 use Rattle.syn_model.specs.Limits.{fits_path}
-use Rattle.syn_tree.specs.Pairs.{Pairs, under}
+use Rattle.syn_placed.specs.Pairs.{Pairs, under}
 use Rattle.syn_model.specs.Tree.{Pair, Content}
 use Rattle.syn_tree.proofs.PlaceableLemmas.{paths_fit, under-append, paths-more, paths-fail, no_path}
 use Rattle.syn_path.specs.declared.error.PathError.{PathError}

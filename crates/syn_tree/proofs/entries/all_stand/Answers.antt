@@ -4,7 +4,7 @@ use Rattle.std.proofs.Math.Seq.{take-length}
 use Rattle.std.proofs.lemmas.List.{take_more}
 use Rattle.std.proofs.lemmas.List.Folds.{list_all_more, list_all_at}
 use Rattle.syn_tree.specs.Entries.{stands_in, AreLawful, IsLawfulPair}
-use Rattle.syn_tree.proofs.RisingLemmas.{each-append}
+use Rattle.syn_placed.proofs.RisingLemmas.{each-append}
 use Rattle.syn_tree.proofs.entries.all_stand.Goals as goal
 
 pub loop-entry-init : goal.loop-entry-init

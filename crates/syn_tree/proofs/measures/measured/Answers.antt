@@ -1,7 +1,7 @@
 use Rattle.std.proofs.Common.{◌≡◌, take, ap, ◌∙◌, arith, length}
 use Rattle.std.proofs.Math.Seq.{take-length}
 use Rattle.std.proofs.lemmas.List.Sums.{sum_by_more, sum_by_more_le}
-use Rattle.syn_tree.specs.Pairs.{spelling_length, pair_spelling_length}
+use Rattle.syn_placed.specs.Pairs.{spelling_length, pair_spelling_length}
 use Rattle.syn_tree.proofs.measures.measured.Goals as goal
 
 pub returns-then-size-gt-LONGEST_SPELLING-clause-none : goal.returns-then-size-gt-LONGEST_SPELLING-clause-none

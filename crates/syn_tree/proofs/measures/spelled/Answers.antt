@@ -1,7 +1,7 @@
 use Rattle.std.proofs.Common.{◌≡◌, take, ap, ◌∙◌, arith, length}
 use Rattle.std.proofs.Math.Seq.{take-length}
 use Rattle.std.proofs.lemmas.List.Sums.{sum_by_more, sum_by_more_le}
-use Rattle.syn_tree.specs.Pairs.{spelling_length, pair_spelling_length}
+use Rattle.syn_placed.specs.Pairs.{spelling_length, pair_spelling_length}
 use Rattle.syn_tree.proofs.measures.spelled.Goals as goal
 
 pub overflow_add-size : goal.overflow_add-size

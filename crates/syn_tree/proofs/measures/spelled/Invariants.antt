@@ -1,5 +1,5 @@
 use Rattle.std.proofs.Common.{◌≡◌, take}
-use Rattle.syn_tree.specs.Pairs.{spelling_length}
+use Rattle.syn_placed.specs.Pairs.{spelling_length}
 use Rattle.syn_tree.proofs.measures.spelled.Given as goal
 
 abbrev pub invariant-loop-entry : goal.invariant-loop-entry

@@ -2,7 +2,7 @@ use Rattle.std.proofs.Common.{◌++◌, ◌∷◌, [], ap, ap₂, ◌∙◌}
 use Rattle.std.proofs.lemmas.Result.{err_from_is_err_and}
 use Rattle.syn_model.specs.Path.{Path}
 use Rattle.syn_model.specs.Tree.{Directory}
-use Rattle.syn_tree.specs.Pairs.{under}
+use Rattle.syn_placed.specs.Pairs.{under}
 use Rattle.syn_tree.proofs.PlaceableLemmas.{placeable_directory, nowhere_directory}
 use Rattle.syn_tree.proofs.placing.placed_directory.Goals as goal
 

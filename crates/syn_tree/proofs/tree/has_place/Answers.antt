@@ -1,8 +1,8 @@
 use Rattle.std.proofs.Common.{◌≡◌, ◌≤◌, ◌<◌, ℕ, true, nat_lt, length, sym, ap, ◌∙◌, arith}
 use Rattle.std.proofs.lemmas.Bool.Decides.{nat_tests}
 use Rattle.std.proofs.lemmas.List.Sums.{count_by-le-length}
-use Rattle.syn_tree.specs.Pairs.{is_child}
-use Rattle.syn_tree.proofs.CountLemmas.{kids, kids-within}
+use Rattle.syn_placed.specs.Pairs.{is_child}
+use Rattle.syn_placed.proofs.CountLemmas.{kids, kids-within}
 use Rattle.syn_tree.proofs.tree.has_place.Goals as goal
 
 both_few : (n k : ℕ) → n < 256 → k ≤ n → nat_lt n 256 ≡ nat_lt k 256

@@ -2,7 +2,7 @@ use Rattle.std.proofs.Common.{ap, ◌∙◌, option_map}
 use Rattle.std.specs.List.{list_all}
 use Rattle.syn_model.specs.Limits.{fits_part, fits_paths, fits_path}
 use Rattle.syn_tree.specs.Nodes.{part_of}
-use Rattle.syn_tree.proofs.TreeLemmas.{entries-absent}
+use Rattle.syn_placed.proofs.TreeLemmas.{entries-absent}
 use Rattle.syn_tree.proofs.tree.is_brief.Goals as goal
 
 pub returns-in-None-clause-brief : goal.returns-in-None-clause-brief

@@ -1,6 +1,6 @@
 use Rattle.std.proofs.Common.{filter, sym, ap, ◌∙◌}
 use Rattle.std.specs.FinMap.{entries}
-use Rattle.syn_tree.specs.Pairs.{is_below}
+use Rattle.syn_placed.specs.Pairs.{is_below}
 use Rattle.syn_mark.proofs.MarkLemmas.{entries_of}
 use Rattle.syn_mark.proofs.tree.MarkTree.below.Goals as goal
 

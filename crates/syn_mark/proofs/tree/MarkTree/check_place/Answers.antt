@@ -3,8 +3,8 @@ use Rattle.std.specs.FinMap.{find, get}
 use Rattle.syn_model.specs.Path.{Path, path_cmp, parent}
 use Rattle.syn_model.specs.Tree.{Tree, is_directory, is_directory_content}
 use Rattle.syn_model.specs.Refusal.{NoParent}
-use Rattle.syn_tree.specs.Pairs.{Pairs}
-use Rattle.syn_tree.proofs.ParentLemmas.{parent-take, not_root, place_answer}
+use Rattle.syn_placed.specs.Pairs.{Pairs}
+use Rattle.syn_placed.proofs.ParentLemmas.{parent-take, not_root, place_answer}
 use Rattle.syn_mark.specs.Marks.{AreMarks, marks_with}
 use Rattle.syn_mark.proofs.MarkLemmas.{get_of}
 use Rattle.syn_mark.proofs.tree.MarkTree.check_place.Goals as goal

@@ -1,6 +1,6 @@
 use Rattle.std.proofs.Common.{length, sym, ap, ◌∙◌}
 use Rattle.syn_model.specs.Limits.{children}
-use Rattle.syn_tree.proofs.CountLemmas.{kids, length-children}
+use Rattle.syn_placed.proofs.CountLemmas.{kids, length-children}
 use Rattle.syn_mark.proofs.MarkLemmas.{entries_of}
 use Rattle.syn_mark.proofs.tree.MarkTree.child_count.Goals as goal
 

@@ -2,8 +2,8 @@ use Rattle.std.proofs.Common.{◌≡◌, ◌+◌, ◌-◌, length, sym, ap, ap�
 use Rattle.std.specs.FinMap.{entries}
 use Rattle.syn_model.specs.Tree.{replace}
 use Rattle.syn_model.specs.Limits.{fits_archive}
-use Rattle.syn_tree.specs.Pairs.{within, under}
-use Rattle.syn_tree.proofs.RisingLemmas.{rising_of, counted}
+use Rattle.syn_placed.specs.Pairs.{within, under}
+use Rattle.syn_placed.proofs.RisingLemmas.{rising_of, counted}
 use Rattle.syn_mark.specs.Marks.{or_absent}
 use Rattle.syn_mark.proofs.MarkLemmas.{entries_of}
 use Rattle.syn_mark.proofs.ChangeLemmas.{fits_none, fits_some, fits_not, paths_fit}

@@ -1,8 +1,8 @@
 use Rattle.std.proofs.Common.{◌-◌, length, sym, ap, ap₂, ◌∙◌, arith}
 use Rattle.std.specs.FinMap.{entries}
 use Rattle.syn_model.specs.Limits.{fits_archive}
-use Rattle.syn_tree.specs.Pairs.{within}
-use Rattle.syn_tree.proofs.RisingLemmas.{rising_of, counted}
+use Rattle.syn_placed.specs.Pairs.{within}
+use Rattle.syn_placed.proofs.RisingLemmas.{rising_of, counted}
 use Rattle.syn_mark.proofs.MarkLemmas.{entries_of}
 use Rattle.syn_mark.proofs.ChangeLemmas.{fits_dir}
 use Rattle.syn_mark.proofs.tree.MarkTree.fits_dir.Goals as goal

@@ -1,6 +1,6 @@
 use Rattle.std.proofs.Common.{◌∷◌, [], Some, length, sym, ap, ◌∙◌, subst, true≢false, arith}
 use Rattle.syn_model.specs.Tree.{at_root, is_directory_content}
-use Rattle.syn_tree.specs.Pairs.{AreRising, rooted}
+use Rattle.syn_placed.specs.Pairs.{AreRising, rooted}
 use Rattle.syn_mark.specs.Marks.{AreMarks}
 use Rattle.syn_mark.proofs.MarkLemmas.{entries_of, are_marks, one_entries, one_marks, one_present, one_fits}
 use Rattle.syn_mark.proofs.PlacingLemmas.{some_first, first_root, not_many, marks_placed, placed_marks, items_are, none_of, empty_of, others, rooted_is, rooted_directory, not_below_file}

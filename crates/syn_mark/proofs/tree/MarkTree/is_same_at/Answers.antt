@@ -1,6 +1,6 @@
 use Rattle.std.proofs.Common.{sym, ap, ap₂, ◌∙◌}
 use Rattle.std.specs.FinMap.{entries}
-use Rattle.syn_tree.specs.Pairs.{within}
+use Rattle.syn_placed.specs.Pairs.{within}
 use Rattle.syn_mark.proofs.MarkLemmas.{entries_of}
 use Rattle.syn_mark.proofs.SameLemmas.{same_part, same_within}
 use Rattle.syn_mark.proofs.tree.MarkTree.is_same_at.Goals as goal

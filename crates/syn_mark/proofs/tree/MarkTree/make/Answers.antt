@@ -3,7 +3,7 @@ use Rattle.std.specs.FinMap.{entries, len-entries}
 use Rattle.syn_model.specs.Path.{root}
 use Rattle.syn_model.specs.Tree.{is_present}
 use Rattle.syn_model.specs.Mark.{IsMarks}
-use Rattle.syn_tree.specs.Pairs.{before, behind}
+use Rattle.syn_placed.specs.Pairs.{before, behind}
 use Rattle.syn_mark.specs.Changes.{after_change}
 use Rattle.syn_mark.proofs.MarkLemmas.{entries_of, marks_same}
 use Rattle.syn_mark.proofs.ChangeLemmas.{made_entries, made_marks, made_room, placed_change}

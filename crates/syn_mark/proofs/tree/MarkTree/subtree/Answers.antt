@@ -5,9 +5,9 @@ use Rattle.syn_model.specs.Path.{root}
 use Rattle.syn_model.specs.Tree.{subtree}
 use Rattle.syn_model.specs.Mark.{IsMarks}
 use Rattle.syn_model.specs.Limits.{fits_archive}
-use Rattle.syn_tree.specs.Pairs.{within}
+use Rattle.syn_placed.specs.Pairs.{within}
 use Rattle.syn_tree.specs.Lists.{stripped}
-use Rattle.syn_tree.proofs.BelowLemmas.{stripped-within}
+use Rattle.syn_tree.proofs.WithinLemmas.{stripped-within}
 use Rattle.syn_tree.proofs.StripLemmas.{stripped_part, subtree_none}
 use Rattle.syn_mark.specs.Marks.{content_of}
 use Rattle.syn_mark.proofs.MarkLemmas.{entries_of, are_marks, marks_same, part_marks, part_fits, part_present}

@@ -1,7 +1,7 @@
 use Rattle.std.proofs.Common.{sym, subst}
-use Rattle.syn_tree.specs.Pairs.{AreRising}
-use Rattle.syn_tree.proofs.RisingLemmas.{are_rising}
-use Rattle.syn_tree.proofs.TreeLemmas.{rising-entries}
+use Rattle.syn_placed.specs.Pairs.{AreRising}
+use Rattle.syn_placed.proofs.RisingLemmas.{are_rising}
+use Rattle.syn_placed.proofs.TreeLemmas.{rising-entries}
 use Rattle.syn_scan.proofs.scan.Scan.marks.Goals as goal
 
 pub part_at-requires : goal.part_at-requires

@@ -1,6 +1,6 @@
 use Rattle.std.proofs.Common.{sym, ap}
 use Rattle.syn_model.specs.Tree.{absent}
-use Rattle.syn_tree.specs.Pairs.{spelling_length}
+use Rattle.syn_placed.specs.Pairs.{spelling_length}
 use Rattle.syn_tree.proofs.ChangeLemmas.{under_none, placed_part, taken_same, nothing_part}
 use Rattle.syn_tree.proofs.change.Change.none.Goals as goal
 

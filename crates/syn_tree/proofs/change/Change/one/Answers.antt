@@ -2,7 +2,7 @@ use Rattle.std.proofs.Common.{◌≡◌, ◌++◌, ◌∷◌, [], sym, ap, ap₂
 use Rattle.syn_model.specs.Path.{IsPath}
 use Rattle.syn_model.specs.Tree.{at_root}
 use Rattle.syn_tree.specs.Contents.{content_of}
-use Rattle.syn_tree.specs.Pairs.{pair_spelling_length}
+use Rattle.syn_placed.specs.Pairs.{pair_spelling_length}
 use Rattle.syn_tree.proofs.ChangeLemmas.{under_one, placed_part, taken_same, lawful_part, size_one}
 use Rattle.syn_tree.proofs.change.Change.one.Goals as goal
 

@@ -1,7 +1,7 @@
 use Rattle.std.proofs.Common.{sym, ap, ◌∙◌}
 use Rattle.std.specs.FinMap.{entries}
-use Rattle.syn_tree.specs.Pairs.{rooted}
-use Rattle.syn_tree.proofs.TreeLemmas.{entries-with}
+use Rattle.syn_placed.specs.Pairs.{rooted}
+use Rattle.syn_placed.proofs.TreeLemmas.{entries-with}
 use Rattle.syn_tree.proofs.entries.Entries.as_slice.Goals as goal
 
 pub returns-clause-all : goal.returns-clause-all

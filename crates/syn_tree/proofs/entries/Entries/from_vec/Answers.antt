@@ -1,10 +1,10 @@
 use Rattle.std.proofs.Common.{◌≡◌, ◌≤◌, ◌<◌, ℕ, [], nat_le, true, false, true≢false, sym, ap, ◌∙◌, subst, arith}
 use Rattle.std.specs.List.{list_all}
 use Rattle.std.proofs.lemmas.Bool.Decides.{nat_tests}
-use Rattle.syn_tree.specs.Pairs.{AreRising, rooted}
+use Rattle.syn_placed.specs.Pairs.{AreRising, rooted}
 use Rattle.syn_tree.specs.Entries.{AreLawful, stands_in}
-use Rattle.syn_tree.proofs.TreeLemmas.{entries-with}
-use Rattle.syn_tree.proofs.CountLemmas.{kids}
+use Rattle.syn_placed.proofs.TreeLemmas.{entries-with}
+use Rattle.syn_placed.proofs.CountLemmas.{kids}
 use Rattle.syn_tree.proofs.LawfulLemmas.{are_entries, entries_stand}
 use Rattle.syn_tree.proofs.entries.Entries.from_vec.Goals as goal
 

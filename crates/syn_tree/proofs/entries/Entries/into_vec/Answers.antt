@@ -1,6 +1,6 @@
 use Rattle.std.proofs.Common.{sym, ap, ◌∙◌}
 use Rattle.std.specs.FinMap.{entries}
-use Rattle.syn_tree.proofs.TreeLemmas.{entries-with}
+use Rattle.syn_placed.proofs.TreeLemmas.{entries-with}
 use Rattle.syn_tree.proofs.entries.Entries.into_vec.Goals as goal
 
 pub returns-clause-all : goal.returns-clause-all

@@ -1,8 +1,8 @@
 use Rattle.std.proofs.Common.{filter, sym, ap, ◌∙◌}
 use Rattle.std.specs.FinMap.{entries}
-use Rattle.syn_tree.specs.Pairs.{is_below}
-use Rattle.syn_tree.proofs.TreeLemmas.{entries-with}
-use Rattle.syn_tree.proofs.BelowLemmas.{below_rooted}
+use Rattle.syn_placed.specs.Pairs.{is_below}
+use Rattle.syn_placed.proofs.TreeLemmas.{entries-with}
+use Rattle.syn_placed.proofs.BelowLemmas.{below_rooted}
 use Rattle.syn_tree.proofs.tree.Tree.below.Goals as goal
 
 pub returns : goal.returns

@@ -3,9 +3,9 @@ use Rattle.std.specs.FinMap.{find, get}
 use Rattle.syn_model.specs.Path.{Path, path_cmp, parent}
 use Rattle.syn_model.specs.Tree.{Tree, is_directory, is_directory_content}
 use Rattle.syn_model.specs.Refusal.{NoParent}
-use Rattle.syn_tree.specs.Pairs.{Pairs, AreRising, rooted, tree_with}
-use Rattle.syn_tree.proofs.TreeLemmas.{get-with}
-use Rattle.syn_tree.proofs.ParentLemmas.{parent-take, not_root, place_answer}
+use Rattle.syn_placed.specs.Pairs.{Pairs, AreRising, rooted, tree_with}
+use Rattle.syn_placed.proofs.TreeLemmas.{get-with}
+use Rattle.syn_placed.proofs.ParentLemmas.{parent-take, not_root, place_answer}
 use Rattle.syn_tree.proofs.tree.Tree.check_place.Goals as goal
 
 shown : (t : Tree) (es ds : Pairs) (names path : Path) (found : Bool) → AreRising (rooted es) → tree_with es ≡ t → ds ≡ es → names ≡ path → 1 ≤ length names →

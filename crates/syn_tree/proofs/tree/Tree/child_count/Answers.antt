@@ -1,7 +1,7 @@
 use Rattle.std.proofs.Common.{length, sym, ap, ◌∙◌}
 use Rattle.syn_model.specs.Limits.{children}
-use Rattle.syn_tree.proofs.TreeLemmas.{entries-with}
-use Rattle.syn_tree.proofs.CountLemmas.{kids, length-children}
+use Rattle.syn_placed.proofs.TreeLemmas.{entries-with}
+use Rattle.syn_placed.proofs.CountLemmas.{kids, length-children}
 use Rattle.syn_tree.proofs.PartLemmas.{kids_rooted}
 use Rattle.syn_tree.proofs.tree.Tree.child_count.Goals as goal
 

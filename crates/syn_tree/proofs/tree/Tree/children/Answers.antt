@@ -2,9 +2,9 @@ use Rattle.std.proofs.Common.{sym, ap, ap₂, ◌∙◌, Ok, Err}
 use Rattle.std.specs.FinMap.{entries}
 use Rattle.std.specs.Prelude.{Result, IfOk}
 use Rattle.syn_tree.specs.Lists.{child_contents}
-use Rattle.syn_tree.proofs.TreeLemmas.{entries-with}
-use Rattle.syn_tree.specs.Pairs.{within}
-use Rattle.syn_tree.proofs.BelowLemmas.{contents-within}
+use Rattle.syn_placed.proofs.TreeLemmas.{entries-with}
+use Rattle.syn_placed.specs.Pairs.{within}
+use Rattle.syn_tree.proofs.WithinLemmas.{contents-within}
 use Rattle.syn_tree.proofs.ListingLemmas.{children-entries}
 use Rattle.syn_tree.proofs.tree.Tree.children.Goals as goal
 

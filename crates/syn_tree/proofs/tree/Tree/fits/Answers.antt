@@ -4,9 +4,9 @@ use Rattle.syn_model.specs.Tree.{replace}
 use Rattle.syn_model.specs.Limits.{fits_replica}
 use Rattle.syn_model.specs.Refusal.{first_cause}
 use Rattle.syn_model.specs.Standing.{place_causes}
-use Rattle.syn_tree.specs.Pairs.{within, spelling_length}
-use Rattle.syn_tree.proofs.ParentLemmas.{place_free}
-use Rattle.syn_tree.proofs.CountLemmas.{kids}
+use Rattle.syn_placed.specs.Pairs.{within, spelling_length}
+use Rattle.syn_placed.proofs.ParentLemmas.{place_free}
+use Rattle.syn_placed.proofs.CountLemmas.{kids}
 use Rattle.syn_tree.proofs.MeasureLemmas.{kept_size, part_count, part_size, measured}
 use Rattle.syn_tree.proofs.tree.Tree.fits.Goals as goal
 

@@ -1,5 +1,5 @@
 use Rattle.std.proofs.Common.{◌+◌, refl, sym, ap, ◌∙◌, arith}
-use Rattle.syn_tree.specs.Pairs.{rooted, spelling_length}
+use Rattle.syn_placed.specs.Pairs.{rooted, spelling_length}
 use Rattle.syn_tree.proofs.WholeLemmas.{whole_fits, too_many, whole_tree, whole_kept}
 use Rattle.syn_tree.proofs.tree.Tree.from_entries.Goals as goal
 

@@ -1,8 +1,8 @@
 use Rattle.std.proofs.Common.{sym, ap, ap₂, ◌∙◌}
 use Rattle.std.specs.FinMap.{find, get}
 use Rattle.syn_model.specs.Path.{path_cmp}
-use Rattle.syn_tree.specs.Pairs.{rooted}
-use Rattle.syn_tree.proofs.TreeLemmas.{get-with}
+use Rattle.syn_placed.specs.Pairs.{rooted}
+use Rattle.syn_placed.proofs.TreeLemmas.{get-with}
 use Rattle.syn_tree.proofs.tree.Tree.get.Goals as goal
 
 pub returns : goal.returns

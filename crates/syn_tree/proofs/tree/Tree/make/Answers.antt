@@ -1,7 +1,7 @@
 use Rattle.std.proofs.Common.{◌≡◌, ◌+◌, ◌-◌, refl, sym, ap, ap₂, ◌∙◌, subst, arith, vec_capacity}
 use Rattle.syn_model.specs.Path.{Path}
 use Rattle.syn_model.specs.Tree.{Tree}
-use Rattle.syn_tree.specs.Pairs.{Pairs, tree_with}
+use Rattle.syn_placed.specs.Pairs.{Pairs, tree_with}
 use Rattle.syn_tree.specs.Change.{Replacement, taken_from, IsPreparedFor, after_change}
 use Rattle.syn_tree.proofs.MeasureLemmas.{kept_size, part_size}
 use Rattle.syn_tree.proofs.MakeLemmas.{made_kept, made_tree, made_room}

@@ -1,6 +1,6 @@
 use Rattle.std.proofs.Common.{length, ap, ◌∙◌, arith}
 use Rattle.std.specs.FinMap.{len, len-entries}
-use Rattle.syn_tree.proofs.TreeLemmas.{entries-with}
+use Rattle.syn_placed.proofs.TreeLemmas.{entries-with}
 use Rattle.syn_tree.proofs.tree.Tree.node_count.Goals as goal
 
 pub returns : goal.returns

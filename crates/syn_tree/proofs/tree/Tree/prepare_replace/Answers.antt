@@ -5,10 +5,10 @@ use Rattle.syn_model.specs.Tree.{replace, is_directory}
 use Rattle.syn_model.specs.Limits.{fits_replica}
 use Rattle.syn_model.specs.Refusal.{Full}
 use Rattle.syn_tree.specs.Nodes.{part_of}
-use Rattle.syn_tree.specs.Pairs.{spelling_length}
+use Rattle.syn_placed.specs.Pairs.{spelling_length}
 use Rattle.syn_tree.specs.Refusals.{refusal_in, refusal_of}
 use Rattle.syn_tree.proofs.CheckLemmas.{replace_answer}
-use Rattle.syn_tree.proofs.ParentLemmas.{place_free}
+use Rattle.syn_placed.proofs.ParentLemmas.{place_free}
 use Rattle.syn_tree.proofs.PlaceableLemmas.{placeable_measured, placeable_placed, placeable_new, nowhere_size}
 use Rattle.syn_tree.proofs.tree.Tree.prepare_replace.Goals as goal
 

@@ -1,7 +1,7 @@
 use Rattle.std.proofs.Common.{sym, ap, ◌∙◌}
 use Rattle.syn_model.specs.Limits.{tree_spelling_length}
-use Rattle.syn_tree.specs.Pairs.{spelling_length}
-use Rattle.syn_tree.proofs.TreeLemmas.{entries-with}
+use Rattle.syn_placed.specs.Pairs.{spelling_length}
+use Rattle.syn_placed.proofs.TreeLemmas.{entries-with}
 use Rattle.syn_tree.proofs.tree.Tree.spelling_length.Goals as goal
 
 pub returns : goal.returns

@@ -5,11 +5,11 @@ use Rattle.std.proofs.lemmas.Bool.{and_parts}
 use Rattle.syn_model.specs.Tree.{Tree, IsTree, Directory, File, contents_of, file, subtree}
 use Rattle.syn_model.specs.Limits.{fits_replica, fits_part, fits_paths, tree_spelling_length, greatest_spelling}
 use Rattle.syn_tree.specs.Contents.{found_content}
-use Rattle.syn_tree.specs.Pairs.{within}
+use Rattle.syn_placed.specs.Pairs.{within}
 use Rattle.syn_tree.specs.Lists.{stripped}
-use Rattle.syn_tree.proofs.TreeLemmas.{entries-with}
+use Rattle.syn_placed.proofs.TreeLemmas.{entries-with}
 use Rattle.syn_tree.proofs.WholeLemmas.{whole_tree}
-use Rattle.syn_tree.proofs.BelowLemmas.{stripped-within}
+use Rattle.syn_tree.proofs.WithinLemmas.{stripped-within}
 use Rattle.syn_tree.proofs.StripLemmas.{stripped_lawful, stripped_entries, subtree_none, subtree_file}
 use Rattle.syn_tree.proofs.tree.Tree.subtree.Goals as goal
 

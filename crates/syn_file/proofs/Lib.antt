@@ -1,0 +1,2 @@
+mod Extents
+mod Written

@@ -1,0 +1,3 @@
+pub mod FileDisk
+pub mod OpenError
+pub mod inner

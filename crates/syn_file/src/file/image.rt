@@ -1,0 +1,100 @@
+//! The bytes of a disk in memory, of which only as much is kept as is used.
+ghost use Rattle.std.specs.Prelude.{◌≡◌, ◌≤◌, ◌<◌, ◌+◌, ℕ, List, length, take, drop, vec_capacity};
+ghost use Rattle.std.specs.Prelude.{IfOk};
+ghost use Rattle.syn_disk.specs.Disk.{overwritten};
+ghost use Rattle.syn_disk.specs.declared.disk.TheConstants.{DISK_SIZE, HALF_SIZE};
+
+use std::alloc::{AllocError, Global};
+use syn_disk::HALF_SIZE;
+use syn_disk::bytes::{copy_out, extend, overwrite};
+
+/// Half a disk, up to the last byte that was used. All behind it are zero.
+///
+/// Room for the whole half is taken at once, and the system gives it as it is used.
+#[derive(Drop)]
+pub struct Part {
+    kept: Vec<u8>,
+    ghost fits: { length kept.items ≤ HALF_SIZE },
+    ghost room: { HALF_SIZE ≤ vec_capacity kept },
+}
+
+impl Part {
+    ghost use Rattle.syn_file.specs.inner.Mirror.{kept_of};
+
+    fn new(alloc: Global) -> Result<Part, AllocError> {
+        Ok(Part {
+            kept: Vec::with_capacity(alloc, HALF_SIZE)?,
+        })
+    }
+
+    // Keeps the first bytes up to `to`.
+    fn reach(&mut self, to: usize)
+        requires { to ≤ HALF_SIZE }
+        ensures kept { to ≤ length self.new.kept.items }
+        ensures same { kept_of self.new ≡ kept_of self.old }
+    {
+        if self.kept.len() < to {
+            extend(&mut self.kept, to);
+        }
+    }
+
+    fn read(&mut self, at: usize, into: &mut [u8])
+        requires { at + length into.old ≤ HALF_SIZE }
+        ensures into { into.new ≡ take (length into.old) (drop at (kept_of self.old)) }
+        ensures same { kept_of self.new ≡ kept_of self.old }
+    {
+        if !into.is_empty() {
+            self.reach(at + into.len());
+            copy_out(&self.kept, at, into);
+        }
+    }
+
+    fn write(&mut self, at: usize, bytes: &[u8])
+        requires { at + length bytes.now ≤ HALF_SIZE }
+        ensures { kept_of self.new ≡ overwritten (kept_of self.old) at bytes.now }
+    {
+        if !bytes.is_empty() {
+            self.reach(at + bytes.len());
+            overwrite(&mut self.kept, at, bytes);
+        }
+    }
+}
+
+/// The bytes of a disk.
+#[derive(Drop)]
+pub struct Image {
+    low: Part,
+    high: Part,
+}
+
+impl Image {
+    ghost use Rattle.syn_file.specs.inner.Mirror.{bytes_of};
+
+    /// All bytes are zero.
+    pub fn new(alloc: Global) -> Result<Image, AllocError> {
+        let low = Part::new(alloc)?;
+        let high = Part::new(alloc)?;
+        Ok(Image { low, high })
+    }
+
+    pub fn read(&mut self, at: usize, into: &mut [u8])
+        requires { at + length into.old ≤ DISK_SIZE }
+        ensures into { into.new ≡ take (length into.old) (drop at (bytes_of self.old)) }
+        ensures same { bytes_of self.new ≡ bytes_of self.old }
+    {
+        let low = HALF_SIZE.saturating_sub(at).min(into.len());
+        let (front, back) = into.split_at_mut(low);
+        self.low.read(at.min(HALF_SIZE), front);
+        self.high.read(at.saturating_sub(HALF_SIZE), back);
+    }
+
+    pub fn write(&mut self, at: usize, bytes: &[u8])
+        requires { at + length bytes.now ≤ DISK_SIZE }
+        ensures { bytes_of self.new ≡ overwritten (bytes_of self.old) at bytes.now }
+    {
+        let low = HALF_SIZE.saturating_sub(at).min(bytes.len());
+        let (front, back) = bytes.split_at(low);
+        self.low.write(at.min(HALF_SIZE), front);
+        self.high.write(at.saturating_sub(HALF_SIZE), back);
+    }
+}

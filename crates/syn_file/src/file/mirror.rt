@@ -1,0 +1,145 @@
+//! A file of the operating system, with its bytes in memory.
+ghost use Rattle.std.specs.Prelude.{◌≡◌, ◌≤◌, ◌<◌, ◌+◌, [], ◌∷◌, true, false, not, refl, ℕ, List};
+ghost use Rattle.std.specs.Prelude.{length, IfOk, IsOk};
+ghost use Rattle.syn_disk.specs.Moments.{MayLeave, LeftSince};
+ghost use Rattle.syn_file.specs.inner.Extent.{is_in_some};
+ghost use Rattle.syn_file.specs.inner.Mirror.{FileMayLeave, bytes_of, length-bytes};
+ghost use Rattle.syn_disk.specs.MomentLaws.{now_counts, only_now};
+
+use crate::error::OpenError;
+use crate::file::DiskFile;
+use crate::file::host::{Access, HostFile};
+use crate::file::image::Image;
+use std::alloc::Global;
+use std::fs::TryLockError;
+use std::io;
+use syn_disk::{DISK_SIZE, DeviceFailed, History};
+
+/// How much of a file is read at once as it is opened.
+const CHUNK: usize = 16_384;
+
+/// A file of the operating system, with its bytes in memory. A read takes them from there.
+///
+/// No contract can say what the system's file holds. One sentence is taken as given: as long as no
+/// write and no sync failed, it holds what is in memory, a stop spoils no byte but those written
+/// since the last sync, and a sync that succeeds makes it durable.
+#[derive(Drop)]
+pub struct MirroredFile<H> {
+    file: H,
+    image: Image,
+    /// The ranges that were written since the last sync.
+    unsynced: History<usize, usize>,
+    history: History<Image, History<usize, usize>>,
+    /// A write or a sync failed, so that the file need not hold what is in memory.
+    has_failed: bool,
+}
+
+impl<H: HostFile> MirroredFile<H> {
+    ghost use Rattle.syn_file.specs.inner.Mirrored.{has_failed_of};
+
+    /// Takes the system's lock on a file that was opened, and reads what the file keeps.
+    ///
+    /// It is refused 12 where another process has the lock, 9 where the file is of another length
+    /// than a disk, or cannot be locked or read, and 11 for want of memory.
+    pub fn open(alloc: Global, file: H, access: Access) -> Result<MirroredFile<H>, OpenError>
+        ensures sound { IfOk result (λ file. has_failed_of file ≡ false) }
+    {
+        match file.try_lock(access) {
+            Ok(()) => {}
+            Err(TryLockError::WouldBlock) => return Err(OpenError::Busy),
+            Err(TryLockError::Error(error)) => return Err(OpenError::from(error)),
+        }
+        let length = file.metadata()?.len();
+        if length != DISK_SIZE as u64 {
+            return Err(OpenError::Length(length));
+        }
+        if access == Access::Write {
+            file.forget();
+        }
+        let mut image = Image::new(alloc)?;
+        load(&file, &mut image)?;
+        let mut unsynced = History::new();
+        unsynced.note(&0, &DISK_SIZE);
+        Ok(MirroredFile {
+            file,
+            image,
+            unsynced,
+            history: History::new(),
+            has_failed: false,
+        })
+    }
+}
+
+// Reads what the file keeps into an image of zeros.
+fn load<H: HostFile>(file: &H, image: &mut Image) -> io::Result<()> {
+    let mut chunk = [0; CHUNK];
+    let mut next = 0;
+    for index in 0..DISK_SIZE / CHUNK {
+        let at = index * CHUNK;
+        let end = (at + CHUNK) as u64;
+        if next < end {
+            let Some(kept) = file.next_kept(next.max(at as u64))? else {
+                return Ok(());
+            };
+            next = kept;
+        }
+        if next < end {
+            file.read_exact_at(&mut chunk, at as u64)?;
+            image.write(at, &chunk);
+        }
+    }
+    Ok(())
+}
+
+impl<H: HostFile> DiskFile for MirroredFile<H> {
+    ghost seen = { λ f. bytes_of f.image };
+
+    ghost may_leave = { λ f. FileMayLeave (f.image, f.unsynced) };
+
+    ghost moment = { λ f. length f.history };
+
+    ghost left_since = { λ f. LeftSince FileMayLeave f.history (f.image, f.unsynced) };
+
+    ghost is_sound = { λ f. not f.has_failed };
+
+    ghost counts_now = { λ f t c le left. now_counts FileMayLeave f.history (f.image, f.unsynced) c t le left };
+
+    ghost only_now = { λ f c left. only_now FileMayLeave f.history (f.image, f.unsynced) c left };
+
+    ghost seen_may_stay = { λ f. record { whole = length-bytes f.image; kept = λ i none. refl } };
+
+    ghost whole = { λ f t c left. left.2.whole };
+
+    fn read(&mut self, at: usize, into: &mut [u8]) -> Result<(), DeviceFailed> {
+        self.history.note(&self.image, &self.unsynced);
+        self.image.read(at, into);
+        Ok(())
+    }
+
+    fn write(&mut self, at: usize, bytes: &[u8]) -> Result<(), DeviceFailed> {
+        self.history.note(&self.image, &self.unsynced);
+        self.unsynced.note(&at, &bytes.len());
+        self.image.write(at, bytes);
+        match self.file.write_all_at(bytes, at as u64) {
+            Ok(()) => Ok(()),
+            Err(_) => {
+                self.has_failed = true;
+                Err(DeviceFailed)
+            }
+        }
+    }
+
+    fn sync(&mut self) -> Result<(), DeviceFailed> {
+        self.history.note(&self.image, &self.unsynced);
+        match self.file.sync_data() {
+            Ok(()) => {
+                self.unsynced = History::new();
+                Ok(())
+            }
+            Err(_) => {
+                self.has_failed = true;
+                Err(DeviceFailed)
+            }
+        }
+    }
+}

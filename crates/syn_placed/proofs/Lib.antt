@@ -1,0 +1,10 @@
+pub mod OrderLemmas
+pub mod RisingLemmas
+pub mod PointLemmas
+pub mod SpliceLemmas
+pub mod FindLemmas
+pub mod TreeLemmas
+pub mod BelowLemmas
+pub mod ParentLemmas
+pub mod CountLemmas
+pub mod LastLemmas
