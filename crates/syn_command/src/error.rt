@@ -10,8 +10,8 @@ use syn_archive::ArchiveError;
 use syn_file::OpenError;
 use syn_path::PathError;
 use syn_refusal::Refusal;
-use syn_standing::ReplicaError;
 use syn_show::ShowError;
+use syn_standing::ReplicaError;
 use syn_user::UserError;
 use thiserror::Error;
 

@@ -16,8 +16,8 @@ use std::io::Write;
 use syn_disk::Disk;
 use syn_path::Path;
 use syn_replica::Replica;
-use syn_standing::ReplicaError;
 use syn_show::{show_archive, show_below, show_replica};
+use syn_standing::ReplicaError;
 use syn_tree::{Found, TreeError};
 
 /// Prints the whole image: a line with its numbers, and a line for each path but the root, in path
