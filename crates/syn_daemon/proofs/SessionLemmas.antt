@@ -8,8 +8,8 @@ use Rattle.syn_headline.specs.Coordinator.{CoordinatorMachine}
 use Rattle.syn_model.specs.Refusal.{Device, Refusal}
 use Rattle.syn_refusal.specs.Refusals.{cause_of}
 use Rattle.syn_refusal.specs.declared.refusal.Refusal.{Refusal as Answer}
-use Rattle.syn_session.specs.Coordinators.{Stands}
-use Rattle.syn_session.specs.declared.coordinator.Coordinator.{Coordinator}
+use Rattle.syn_coordinator.specs.Coordinators.{Stands}
+use Rattle.syn_coordinator.specs.declared.coordinator.Coordinator.{Coordinator}
 use Rattle.syn_sync.proofs.WriteLemmas.{writes_nothing}
 use Rattle.syn_sync.specs.Drivers.{Lines, Outlets}
 use Rattle.syn_sync.specs.Refusals.{Refuses}

@@ -4,7 +4,7 @@ use Rattle.syn_disk.specs.declared.disk.Disk.{Ghosts}
 use Rattle.syn_headline.specs.Coordinator.{CoordinatorMachine}
 use Rattle.syn_model.specs.Refusal.{Busy, Device, Memory, Refusal}
 use Rattle.syn_refusal.specs.declared.refusal.Refusal.{Refusal as Answer}
-use Rattle.syn_session.specs.declared.coordinator.Coordinator.{Coordinator}
+use Rattle.syn_coordinator.specs.declared.coordinator.Coordinator.{Coordinator}
 use Rattle.syn_sync.specs.Drivers.{Lines, Outlets}
 use Rattle.syn_sync.specs.Refusals.{Refuses}
 use Rattle.syn_sync.specs.Runs.{Begins, Drives}

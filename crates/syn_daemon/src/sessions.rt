@@ -6,7 +6,7 @@ ghost use Rattle.syn_disk.specs.Arms.{is_stopped};
 ghost use Rattle.syn_headline.specs.Coordinator.{CoordinatorMachine};
 ghost use Rattle.syn_model.specs.Refusal.{Device};
 ghost use Rattle.syn_refusal.specs.Refusals.{cause_of};
-ghost use Rattle.syn_session.specs.Coordinators.{Stands, device_of, runs};
+ghost use Rattle.syn_coordinator.specs.Coordinators.{Stands, device_of, runs};
 ghost use Rattle.syn_sync.specs.Refusals.{Refuses};
 
 use crate::gates::Gates;
@@ -19,9 +19,9 @@ use std::sync::Wait;
 use std::thread;
 use std::thread::{Scope, Threads};
 use std::time::{Clock, Duration};
+use syn_coordinator::Coordinator;
 use syn_disk::{Disk, Limit};
 use syn_refusal::Refusal;
-use syn_session::Coordinator;
 use syn_shared::SharedReplica;
 use syn_sync::{Driver, Link, Watch};
 

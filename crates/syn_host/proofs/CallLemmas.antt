@@ -25,14 +25,14 @@ use Rattle.syn_host.specs.declared.outcome.CoordinatorOutcome.{CoordinatorOutcom
 use Rattle.syn_model.specs.Archive.{Kept}
 use Rattle.syn_model.specs.Refusal.{Refusal, first_cause}
 use Rattle.syn_refusal.specs.declared.refusal.Refusal.{Refusal as Refused}
-use Rattle.syn_session.specs.Coordinators.{Does, Stands, checkpoint_refusals, ended_in, goes_down}
-use Rattle.syn_session.specs.Coordinators.{goes_on, in_report, refusals_of, written}
-use Rattle.syn_session.specs.Coordinators.{Checkpoints as DoesCheckpoint}
-use Rattle.syn_session.specs.Coordinators.{checkpoints as does_checkpoint}
-use Rattle.syn_session.specs.Machines.{Journal}
+use Rattle.syn_coordinator.specs.Coordinators.{Does, Stands, checkpoint_refusals, ended_in, goes_down}
+use Rattle.syn_coordinator.specs.Coordinators.{goes_on, in_report, refusals_of, written}
+use Rattle.syn_coordinator.specs.Coordinators.{Checkpoints as DoesCheckpoint}
+use Rattle.syn_coordinator.specs.Coordinators.{checkpoints as does_checkpoint}
+use Rattle.syn_keep.specs.Machines.{Journal}
 use Rattle.syn_session.specs.Reports.{report_model}
 use Rattle.syn_session.specs.Sendings.{messages_of}
-use Rattle.syn_session.specs.declared.coordinator.Coordinator.{Coordinator as Session}
+use Rattle.syn_coordinator.specs.declared.coordinator.Coordinator.{Coordinator as Session}
 use Rattle.syn_session.specs.declared.sending.Sending.{Sending}
 use Rattle.syn_image.specs.Archives.{kept_of}
 use Rattle.syn_image.specs.declared.kept.Kept.{Kept as Record}

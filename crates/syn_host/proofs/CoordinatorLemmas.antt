@@ -9,11 +9,11 @@ use Rattle.syn_model.specs.Path.{Bytes}
 use Rattle.syn_recovery.specs.Machines.{of_archive}
 use Rattle.syn_recovery.specs.Meaning.{MayBeOf, MayMean, as_kept, compacted, with_record}
 use Rattle.syn_journal.specs.Layout.{Value}
-use Rattle.syn_session.specs.Coordinators.{Stands, with_arms}
-use Rattle.syn_session.specs.Machines.{Journal}
-use Rattle.syn_session.specs.Tries.{Tries}
-use Rattle.syn_session.specs.declared.tried.Tried.{Tried}
-use Rattle.syn_session.specs.declared.coordinator.Coordinator.{Coordinator as Session}
+use Rattle.syn_coordinator.specs.Coordinators.{Stands, with_arms}
+use Rattle.syn_keep.specs.Machines.{Journal}
+use Rattle.syn_keep.specs.Tries.{Tries}
+use Rattle.syn_keep.specs.declared.tried.Tried.{Tried}
+use Rattle.syn_coordinator.specs.declared.coordinator.Coordinator.{Coordinator as Session}
 use Rattle.syn_host.proofs.SideLemmas.{halted_not_down, up_not_down}
 
 -- device calls that write nothing leave what may be the machine's

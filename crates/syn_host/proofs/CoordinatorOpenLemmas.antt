@@ -13,8 +13,8 @@ use Rattle.syn_host.specs.declared.coordinator.DownCoordinator.{DownCoordinator}
 use Rattle.syn_model.specs.Path.{Bytes}
 use Rattle.syn_refusal.specs.Refusals.{cause_of}
 use Rattle.syn_refusal.specs.declared.refusal.Refusal.{Refusal as Code}
-use Rattle.syn_session.specs.Openings.{RestsStill, RestsWith, fails, wants_memory}
-use Rattle.syn_session.specs.declared.tried.Tried.{Tried}
+use Rattle.syn_coordinator.specs.Openings.{RestsStill, RestsWith, fails, wants_memory}
+use Rattle.syn_keep.specs.declared.tried.Tried.{Tried}
 
 -- a coordinator that is down rests
 pub rests_with : {D : Type 0} (arms : D → DiskArms) (may_leave : D → Bytes → Type 0) (pair : ℕ)

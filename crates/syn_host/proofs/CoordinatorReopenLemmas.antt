@@ -20,12 +20,12 @@ use Rattle.syn_model.specs.Archive.{CanKeep, Kept}
 use Rattle.syn_model.specs.Refusal.{Refusal, Device, Memory}
 use Rattle.syn_refusal.specs.Refusals.{cause_of}
 use Rattle.syn_refusal.specs.declared.refusal.Refusal.{Refusal as Code}
-use Rattle.syn_session.specs.Coordinators.{Does, Reopens, ReopensNot, Stands, device_of}
-use Rattle.syn_session.specs.Coordinators.{goes_down, goes_on, reopens, reopens_not, tried_shown}
-use Rattle.syn_session.specs.Machines.{Journal, LeavesMachine, cut_off, opened_again, stayed}
-use Rattle.syn_session.specs.Machines.{went_down}
-use Rattle.syn_session.specs.Tries.{Tries}
-use Rattle.syn_session.specs.declared.coordinator.Coordinator.{Coordinator as Session}
+use Rattle.syn_coordinator.specs.Coordinators.{Does, Reopens, ReopensNot, Stands, device_of}
+use Rattle.syn_coordinator.specs.Coordinators.{goes_down, goes_on, reopens, reopens_not, tried_shown}
+use Rattle.syn_keep.specs.Machines.{Journal, LeavesMachine, cut_off, opened_again, stayed}
+use Rattle.syn_keep.specs.Machines.{went_down}
+use Rattle.syn_keep.specs.Tries.{Tries}
+use Rattle.syn_coordinator.specs.declared.coordinator.Coordinator.{Coordinator as Session}
 use Rattle.syn_image.specs.declared.kept.Kept.{Kept as Record}
 use Rattle.syn_host.proofs.AnswerLemmas.{meets_down}
 use Rattle.syn_host.proofs.CoordinatorLemmas.{is_not_down}

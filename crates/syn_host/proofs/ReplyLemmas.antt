@@ -13,8 +13,8 @@ use Rattle.syn_host.specs.CoordinatorSteps.{CallsSo, Settles, Unrefused, refuses
 use Rattle.syn_host.specs.declared.coordinator.CoordinatorCall.{CoordinatorCall}
 use Rattle.syn_model.specs.Archive.{Kept}
 use Rattle.syn_model.specs.Refusal.{Refusal}
-use Rattle.syn_session.specs.Coordinators.{Does, Stands, ended_in, written}
-use Rattle.syn_session.specs.declared.coordinator.Coordinator.{Coordinator as Session}
+use Rattle.syn_coordinator.specs.Coordinators.{Does, Stands, ended_in, written}
+use Rattle.syn_coordinator.specs.declared.coordinator.Coordinator.{Coordinator as Session}
 use Rattle.syn_host.proofs.CallLemmas.{IsCutSo, compacts_down, does_call, keeps_down}
 use Rattle.syn_host.proofs.CoordinatorLemmas.{is_not_down}
 use Rattle.syn_host.proofs.SideLemmas.{halted_not_down, up_not_down}

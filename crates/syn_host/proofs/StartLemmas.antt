@@ -31,9 +31,9 @@ use Rattle.syn_standing.specs.declared.error.ReplicaError.{ReplicaError}
 use Rattle.syn_standing.specs.declared.error.ReplicaError.TheVariants.{WrongPair}
 use Rattle.syn_standing.specs.declared.error.ReplicaError.TheVariants.{Journal as OfJournal}
 use Rattle.syn_replica.specs.declared.replica.Replica.{Replica}
-use Rattle.syn_session.specs.Coordinators.{Stands as StandsAs}
-use Rattle.syn_session.specs.Machines.{IsMachine, Journal}
-use Rattle.syn_session.specs.declared.coordinator.Coordinator.{Coordinator}
+use Rattle.syn_coordinator.specs.Coordinators.{Stands as StandsAs}
+use Rattle.syn_keep.specs.Machines.{IsMachine, Journal}
+use Rattle.syn_coordinator.specs.declared.coordinator.Coordinator.{Coordinator}
 use Rattle.syn_host.proofs.EditLemmas.{side_of}
 use Rattle.syn_host.proofs.OpenLemmas.{knows, never_stops, one_generation, one_value}
 use Rattle.syn_host.proofs.OpenLemmas.{still_unarmed}

@@ -11,10 +11,10 @@ use Rattle.syn_host.specs.declared.coordinator.open.CoordinatorOpening.{Coordina
 use Rattle.syn_model.specs.Archive.{CanKeep, Kept}
 use Rattle.syn_model.specs.Refusal.{Refusal, Device, Memory}
 use Rattle.syn_refusal.specs.declared.refusal.Refusal.{Refusal as Code}
-use Rattle.syn_session.specs.Coordinators.{Stands, device_of}
-use Rattle.syn_session.specs.Machines.{Journal}
-use Rattle.syn_session.specs.Tries.{listed}
-use Rattle.syn_session.specs.declared.coordinator.Coordinator.{Coordinator}
+use Rattle.syn_coordinator.specs.Coordinators.{Stands, device_of}
+use Rattle.syn_keep.specs.Machines.{Journal}
+use Rattle.syn_keep.specs.Tries.{listed}
+use Rattle.syn_coordinator.specs.declared.coordinator.Coordinator.{Coordinator}
 use Rattle.syn_image.specs.Archives.{kept_of}
 use Rattle.syn_image.specs.declared.kept.Kept.{Kept as Record}
 

@@ -12,14 +12,14 @@ use Rattle.syn_host.specs.SideSteps.{refused_by}
 use Rattle.syn_host.specs.declared.coordinator.CoordinatorCall.{CoordinatorCall}
 use Rattle.syn_host.specs.declared.outcome.CoordinatorOutcome.{CoordinatorOutcome}
 use Rattle.syn_model.specs.Refusal.{Refusal, first_cause}
-use Rattle.syn_session.specs.Coordinators.{Stands, all_causes, checkpoint_causes}
-use Rattle.syn_session.specs.Coordinators.{checkpoint_refusals, device_of, in_report}
-use Rattle.syn_session.specs.Coordinators.{refusals_of, tried_shown}
-use Rattle.syn_session.specs.Tries.{Tries}
-use Rattle.syn_session.specs.Machines.{Journal, LeavesMachine}
+use Rattle.syn_coordinator.specs.Coordinators.{Stands, all_causes, checkpoint_causes}
+use Rattle.syn_coordinator.specs.Coordinators.{checkpoint_refusals, device_of, in_report}
+use Rattle.syn_coordinator.specs.Coordinators.{refusals_of, tried_shown}
+use Rattle.syn_keep.specs.Tries.{Tries}
+use Rattle.syn_keep.specs.Machines.{Journal, LeavesMachine}
 use Rattle.syn_session.specs.Reports.{report_model}
 use Rattle.syn_session.specs.Sendings.{messages_of}
-use Rattle.syn_session.specs.declared.coordinator.Coordinator.{Coordinator}
+use Rattle.syn_coordinator.specs.declared.coordinator.Coordinator.{Coordinator}
 use Rattle.syn_image.specs.Archives.{kept_of}
 
 -- what a call may leave of the machine, what it gives, and what a user was refused

@@ -9,10 +9,10 @@ use Rattle.syn_host.specs.declared.coordinator.CoordinatorHost.TheVariants as ho
 use Rattle.syn_host.specs.declared.coordinator.DownCoordinator.{DownCoordinator}
 use Rattle.syn_model.specs.Path.{Bytes}
 use Rattle.syn_recovery.specs.Calls.{armed_at}
-use Rattle.syn_session.specs.Coordinators.{Stands, device_of}
+use Rattle.syn_coordinator.specs.Coordinators.{Stands, device_of}
 use Rattle.syn_recovery.specs.Machines.{of_archive}
 use Rattle.syn_recovery.specs.Meaning.{MayBeOf}
-use Rattle.syn_session.specs.Tries.{Tries}
+use Rattle.syn_keep.specs.Tries.{Tries}
 
 -- the machine is down, with nothing armed and no session, and its disk may be left so; what was
 -- being written is remembered

@@ -10,7 +10,7 @@ use Rattle.syn_model.specs.Refusal as model
 use Rattle.syn_model.specs.Spelling.{event_spelling}
 use Rattle.syn_refusal.specs.Refusals.{cause_of}
 use Rattle.syn_refusal.specs.declared.refusal.Refusal.{Refusal}
-use Rattle.syn_session.specs.Coordinators.{in_report}
+use Rattle.syn_coordinator.specs.Coordinators.{in_report}
 use Rattle.syn_session.specs.Reports.{report_model}
 use Rattle.syn_session.specs.Sendings.{messages_of}
 use Rattle.syn_image.specs.Archives.{kept_of}

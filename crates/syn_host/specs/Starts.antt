@@ -16,9 +16,9 @@ use Rattle.syn_recovery.specs.Machines.{of_archive, of_side}
 use Rattle.syn_recovery.specs.Meaning.{IsDiskOf, IsOf, Keeping}
 use Rattle.syn_refusal.specs.Refusals.{cause_of}
 use Rattle.syn_refusal.specs.declared.refusal.Refusal.{Refusal}
-use Rattle.syn_session.specs.Coordinators.{Stands}
-use Rattle.syn_session.specs.Machines.{Journal}
-use Rattle.syn_session.specs.declared.coordinator.Coordinator.{Coordinator}
+use Rattle.syn_coordinator.specs.Coordinators.{Stands}
+use Rattle.syn_keep.specs.Machines.{Journal}
+use Rattle.syn_coordinator.specs.declared.coordinator.Coordinator.{Coordinator}
 
 -- a disk with these arms was not stopped, and nothing is armed at it
 pub record IsFree (arms : Arms) : Type 0 where

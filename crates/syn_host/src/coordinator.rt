@@ -9,16 +9,17 @@ ghost use Rattle.syn_host.specs.SideSteps.{refused_by};
 ghost use Rattle.syn_recovery.specs.Calls.{armed_at};
 ghost use Rattle.syn_recovery.specs.Machines.{of_archive};
 ghost use Rattle.syn_recovery.specs.Meaning.{MayBeOf};
-ghost use Rattle.syn_session.specs.Coordinators.{Stands, device_of, with_arms};
+ghost use Rattle.syn_coordinator.specs.Coordinators.{Stands, device_of, with_arms};
 
 use crate::coordinator::settle::{down, halted, settle};
 use crate::disk::SimulatedDisk;
 use crate::outcome::CoordinatorOutcome;
 use std::alloc::Global;
 use syn_archive::ArchiveError;
+use syn_coordinator::Coordinator;
 use syn_disk::{Arm, Disk};
+use syn_keep::Tried;
 use syn_refusal::Refusal;
-use syn_session::{Coordinator, Tried};
 
 mod open;
 mod sessions;

@@ -1,24 +1,22 @@
 -- A session whose answer has come.
-use Rattle.std.proofs.Common.{◌≡◌, ◌≤◌, ◌<◌, ◌^◌, ◌⊎◌, ◌+◌, ◌==◌, ℕ, Bool, true, false, not, ◌||◌, cond, if◌then◌else◌, List, [], ◌∷◌, ◌++◌, length, Option, Some, None, refl, sym, ap, ap₂, ◌∙◌, subst, inl, inr, arith}
+use Rattle.std.proofs.Common.{◌≡◌, ◌≤◌, ◌<◌, ◌^◌, ◌+◌, ◌==◌, ℕ, Bool, true, false, not, ◌||◌, cond, if◌then◌else◌, List, [], ◌∷◌, ◌++◌, length, Option, Some, None, refl, sym, ap, ap₂, ◌∙◌, subst, inl, inr, arith}
 use Rattle.std.specs.Prelude.{Contains, unwrap_or}
-use Rattle.std.specs.List.{list_any, count_by, sum_by}
+use Rattle.std.specs.List.{count_by}
 use Rattle.std.proofs.lemmas.List.Elements.{Contains-push, Contains-push_cases}
 use Rattle.std.proofs.lemmas.List.Folds.{list_any-append}
 use Rattle.std.proofs.lemmas.List.Sums.{sum_by-append}
 use Rattle.std.proofs.lemmas.Option.{none-some}
-use Rattle.syn_headline.specs.Coordinator.{Running, Outstanding, outstanding, asked_count, asked_in, asked_of, AsksOnce, hearing, is_not_dir, is_unstable, without}
-use Rattle.syn_headline.specs.Network.{Which, Left, Right, IsRepeat, other, is_side}
+use Rattle.syn_headline.specs.Coordinator.{Running, Outstanding, outstanding, asked_in, asked_of, hearing, is_not_dir, is_unstable, without}
+use Rattle.syn_headline.specs.Network.{Which, Left, Right, other, is_side}
 use Rattle.syn_headline.specs.Session.{Exchange, WasAsked}
 use Rattle.syn_headline.specs.Side.{Request}
 use Rattle.syn_headline.specs.Side as model
-use Rattle.syn_message.specs.Requests.{request_of}
 use Rattle.syn_model.specs.Archive as archive
-use Rattle.syn_session.specs.declared.line.Line.{Line}
 use Rattle.syn_session.specs.declared.requests.Waiting.{Waiting}
 use Rattle.syn_session.specs.declared.session.Session.{Session}
-use Rattle.syn_session.specs.inner.Answering.{IsAnswering, IsHeard, exchange_of}
-use Rattle.syn_session.specs.inner.Sessions.{IsLine, IsSession, outstanding_of, waiting_of}
-use Rattle.syn_session.specs.inner.Stages.{line_of}
+use Rattle.syn_session.specs.Answering.{IsAnswering, IsHeard, exchange_of}
+use Rattle.syn_session.specs.Sessions.{IsLine, IsSession, outstanding_of, waiting_of}
+use Rattle.syn_session.specs.Stages.{line_of}
 
 none_of : {T : Type 0} (x : T) → Contains [] x → ⊥
 none_of x has = omega (arith, has.1)

@@ -1,5 +1,5 @@
 -- What a course tells behind an item.
-use Rattle.std.proofs.Common.{◌≡◌, ◌<◌, ◌^◌, ◌+◌, ℕ, suc, true, false, if◌then◌else◌, List, [], ◌∷◌, ◌++◌, Some, None, length, map, not, Bool, refl, sym, ap, ap₂, ◌∙◌, subst, arith}
+use Rattle.std.proofs.Common.{◌≡◌, ◌<◌, ◌^◌, ◌+◌, ℕ, suc, true, false, if◌then◌else◌, List, [], ◌∷◌, ◌++◌, Some, None, length, map, not, Bool, refl, sym, ap, ap₂, ◌∙◌, subst, arith, Option}
 use Rattle.std.specs.List.{slice_get}
 use Rattle.std.proofs.lemmas.List.{length-map, map_push}
 use Rattle.std.proofs.lemmas.Option.{none-some, slice_get_within}
@@ -15,11 +15,12 @@ use Rattle.syn_refusal.specs.Refusals.{cause_of}
 use Rattle.syn_refusal.specs.declared.refusal.Refusal.{Refusal}
 use Rattle.syn_scan.specs.Found.{Found}
 use Rattle.syn_session.specs.declared.course.Course.{Course}
-use Rattle.syn_session.specs.inner.Advancing.{kept_at, past_at, refused_at}
-use Rattle.syn_session.specs.inner.Plans.{AreRecordedBefore, planned_all, planned_by, recorded_count}
-use Rattle.syn_session.specs.inner.Stages.{IsCourse, Reached, plan_in}
+use Rattle.syn_session.specs.Passing.{kept_at, past_at, refused_at}
+use Rattle.syn_session.specs.Plans.{AreRecordedBefore, planned_all, planned_by, recorded_count}
+use Rattle.syn_session.specs.Stages.{IsCourse, Reached, plan_in}
 use Rattle.syn_session.proofs.PlanLemmas.{named_once}
 use Rattle.syn_session.proofs.TallyLemmas.{conflicts_to, conflict_past, counted_within, other_past, record_counts, recorded_more, recorded_past}
+use Rattle.syn_model.proofs.PathLemmas.{path_itself}
 
 after_one : (n : ℕ) → suc n ≡ n + 1
 after_one n = omega arith
@@ -113,6 +114,21 @@ marks_else planned (ToRight path) what e = refl
 marks_else planned (MarkSame path) what e = refl
 marks_else planned (MarkDir path) what e = refl
 marks_else planned (Conflict path) what e = absurd (none-some _ e)
+
+-- what is recorded for an item is counted for its item
+pub record_is : (planned : Planned) (item : Item) (kept : Kept) → record_for planned item ≡ Some kept → is_record_of item kept ≡ true
+record_is planned item kept e = by item e
+  where
+    is_of : Item → Option Kept → Type 0
+    is_of item None = Unit {0}
+    is_of item (Some kept) = is_record_of item kept ≡ true
+
+    by : (item : Item) → record_for planned item ≡ Some kept → is_record_of item kept ≡ true
+    by (ToLeft path) e = subst (is_of (ToLeft path)) e (path_itself path)
+    by (ToRight path) e = subst (is_of (ToRight path)) e (path_itself path)
+    by (MarkSame path) e = subst (is_of (MarkSame path)) e (path_itself path)
+    by (MarkDir path) e = subst (is_of (MarkDir path)) e (path_itself path)
+    by (Conflict path) e = subst (is_of (Conflict path)) e tt
 
 -- ---- what fits
 

@@ -1,20 +1,18 @@
 -- What is to be done for an item is so in the plan of its course.
-use Rattle.std.proofs.Common.{◌≡◌, ◌<◌, ◌^◌, ℕ, false, List, Option, Some, None, refl, sym, ap, ap₂, ◌∙◌, subst, inl, inr}
-use Rattle.std.specs.Prelude.{map, option_map, slice_get}
+use Rattle.std.proofs.Common.{◌≡◌, ℕ, Option, Some, None, refl, sym, ap, ◌∙◌, subst, inl, inr}
+use Rattle.std.specs.Prelude.{option_map, slice_get, IfOk, Result, Ok, Err}
 use Rattle.std.proofs.lemmas.Option.{slice_get-map}
-use Rattle.syn_headline.specs.Coordinator.{Exchange, IsDue, directory, same}
-use Rattle.syn_headline.specs.Planning.{Planned, WritesTo, seen_on}
+use Rattle.syn_headline.specs.Coordinator.{IsDue, directory, same}
+use Rattle.syn_headline.specs.Planning.{Planned}
 use Rattle.syn_headline.specs.Report.{is_carrying}
 use Rattle.syn_headline.specs.Session.{record_for}
-use Rattle.syn_message.specs.Sides.{which_of}
 use Rattle.syn_message.specs.declared.side.Side.TheVariants as side
-use Rattle.syn_model.specs.Archive.{Recorded, RecordedDir}
+use Rattle.syn_model.specs.Archive.{Recorded}
 use Rattle.syn_model.specs.Decision.{ToLeft, ToRight, MarkSame, MarkDir, Conflict, path_of}
 use Rattle.syn_model.specs.Decision as model
 use Rattle.syn_model.specs.Path.{Path, parent}
 use Rattle.syn_model.specs.Plan.{PlanIsDecided}
 use Rattle.syn_model.specs.Tree.{subtree}
-use Rattle.syn_propagate.specs.Carrying.{source_of, target_of}
 use Rattle.syn_propagate.specs.Transfers.{carriage_of}
 use Rattle.syn_propagate.specs.declared.carriage.Carriage.{Carriage}
 use Rattle.syn_recon.specs.Items.{items_of}
@@ -22,12 +20,11 @@ use Rattle.syn_scan.specs.Found.{Found, position_of}
 use Rattle.syn_session.specs.declared.course.Course.{Course}
 use Rattle.syn_session.specs.declared.doing.Doing.{Doing}
 use Rattle.syn_session.specs.declared.doing.Doing.TheVariants as has
-use Rattle.syn_session.specs.inner.Doings.{IsCarriedFrom, IsDoing, IsDoingFor, KeepsOfItem}
-use Rattle.syn_session.specs.inner.Plans.{planned_by}
-use Rattle.syn_session.specs.inner.Recording.{IsOfItem}
-use Rattle.syn_session.specs.inner.Stages.{IsCarriageOf, IsCourse, Reached, plan_in}
+use Rattle.syn_session.specs.inner.Items.{IsDoingFor}
+use Rattle.syn_session.specs.Doings.{IsDoing, KeepsOfItem, IsOfItem}
+use Rattle.syn_session.specs.Plans.{planned_by}
+use Rattle.syn_session.specs.Stages.{IsCarriageOf, IsCourse, Reached, plan_in}
 use Rattle.syn_image.specs.Archives.{kept_of}
-use Rattle.std.specs.Prelude.{IfOk, Result, Ok, Err}
 use Rattle.syn_session.specs.declared.error.SessionError.{SessionError}
 use Rattle.syn_session.proofs.PlanLemmas.{same_marks}
 
@@ -75,14 +72,14 @@ module _ (course : Course) (left right : Found) (reached : Reached) (is : IsCour
       planned,
       at,
       carried_to_left path (carriage_of carried.transfer) e from.carriage,
-      subst (λ i. record_for (planned_by left right i) i ≡ Some (kept_of carried.record)) (sym e) (ap (λ k. Some k) (sym from.record_is)),
+      subst (λ i. record_for (planned_by left right i) i ≡ Some (kept_of carried.kept)) (sym e) (ap (λ k. Some k) (sym from.record_is)),
       from.ready,
     )
     doing_so (has.Carry carried) (inr (path, e, from)) = (
       planned,
       at,
       carried_to_right path (carriage_of carried.transfer) e from.carriage,
-      subst (λ i. record_for (planned_by left right i) i ≡ Some (kept_of carried.record)) (sym e) (ap (λ k. Some k) (sym from.record_is)),
+      subst (λ i. record_for (planned_by left right i) i ≡ Some (kept_of carried.kept)) (sym e) (ap (λ k. Some k) (sym from.record_is)),
       from.ready,
     )
 

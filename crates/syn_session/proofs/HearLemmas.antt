@@ -1,19 +1,16 @@
 -- What a session that scans comes to with an answer.
-use Rattle.std.proofs.Common.{◌≡◌, ◌≢◌, ◌≤◌, ◌<◌, ◌^◌, ◌⊎◌, ◌+◌, ℕ, Bool, true, false, ◌||◌, cond, if◌then◌else◌, List, [], ◌∷◌, ◌++◌, length, Option, Some, None, refl, sym, ap, ap₂, ◌∙◌, subst, inl, inr, arith}
-use Rattle.std.specs.Prelude.{Contains, IfNone, IfSome, is_some, option_map}
+use Rattle.std.proofs.Common.{◌≡◌, ◌≤◌, ◌<◌, ◌^◌, ◌⊎◌, ◌+◌, ℕ, true, if◌then◌else◌, List, [], ◌∷◌, ◌++◌, length, Option, Some, None, refl, sym, ap, ap₂, ◌∙◌, subst, inl, inr, arith}
+use Rattle.std.specs.Prelude.{Contains, IfNone, IfSome, is_some}
 use Rattle.std.specs.List.{sum_by}
 use Rattle.std.proofs.lemmas.Bool.{false≢true}
-use Rattle.std.proofs.lemmas.List.Elements.{Contains-append_left, Contains-push, Contains-push_cases}
+use Rattle.std.proofs.lemmas.List.Elements.{Contains-append_left, Contains-push_cases}
 use Rattle.std.proofs.lemmas.List.Sums.{sum_by-append}
-use Rattle.std.proofs.lemmas.Option.{none-some}
 use Rattle.syn_headline.specs.Coordinator.{Exchange, MayAsk, Outstanding, Running, asked_in, hearing, is_not_dir, is_unstable, numbered, outstanding}
-use Rattle.syn_headline.specs.Network.{IsRepeat, Left, Right, Which, is_side, other}
-use Rattle.syn_headline.specs.Session.{BothBegun, IsShown, WasAsked, WasTaken, entries_in, fault_of, nodes_shown}
-use Rattle.syn_headline.specs.Side.{Begin, Begun, Fetch, IsLawfulBody, ListAt, Replace, Request, Stage}
-use Rattle.syn_headline.specs.Side as model
+use Rattle.syn_headline.specs.Network.{IsRepeat, Left, Right, Which, is_side}
+use Rattle.syn_headline.specs.Session.{BothBegun, entries_in}
+use Rattle.syn_headline.specs.Side.{Begin, Fetch, IsLawfulBody, ListAt, Replace, Request, Stage}
 use Rattle.syn_message.specs.Requests.{request_of}
 use Rattle.syn_message.specs.declared.request.Request.{Request as Asked}
-use Rattle.syn_model.specs.Archive as archive
 use Rattle.syn_model.specs.Path.{Path}
 use Rattle.syn_scan.specs.Found.{Found, IsWhole}
 use Rattle.syn_session.specs.Scanning.{IsFoundIn, WaitsFor, WasAnswered, found_of}
@@ -21,10 +18,11 @@ use Rattle.syn_session.specs.declared.line.Line.{Line}
 use Rattle.syn_session.specs.declared.requests.Waiting.{Waiting}
 use Rattle.syn_session.specs.declared.session.Asks.{Asks}
 use Rattle.syn_session.specs.declared.session.Session.{Session}
-use Rattle.syn_session.specs.inner.Answering.{IsAnswering, IsAskedOn, IsHeard, IsListed, IsNextListing, KeepsFound, ListsNext, ListsOn, asks_of, exchange_of, next_of, requests_of}
-use Rattle.syn_session.specs.inner.Hearing.{HasHeard, IsAsking, IsFresh, IsScanned, MayGoOn, ScansOn}
-use Rattle.syn_session.specs.inner.Sessions.{IsLine, IsSession, IsStage, Tells, waiting_of}
-use Rattle.syn_session.specs.inner.Stages.{IsScanning, IsToBegin, IsToList, begins, lists, asks_now, found_on, line_of, nothing_reached, reached_by}
+use Rattle.syn_session.specs.Answering.{asks_of, next_of, requests_of}
+use Rattle.syn_session.specs.inner.Listing.{IsListed, IsNextListing, KeepsFound, ListsNext, ListsOn}
+use Rattle.syn_session.specs.Hearing.{HasHeard, IsAsking, IsFresh, IsScanned, ScansOn}
+use Rattle.syn_session.specs.Sessions.{IsLine, IsStage, waiting_of}
+use Rattle.syn_session.specs.Stages.{IsToList, lists, asks_now, found_on, line_of, reached_by}
 use Rattle.syn_session.proofs.SessionLemmas.{asks_first, first_request}
 
 none_at : {T : Type 0} (x : T) → Contains [] x → ⊥

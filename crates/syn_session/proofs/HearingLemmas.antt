@@ -1,6 +1,6 @@
 -- A session that scans hears that a side has begun, or what it lists.
-use Rattle.std.proofs.Common.{◌≡◌, ◌≢◌, ◌≤◌, ◌<◌, ◌^◌, ◌⊎◌, ◌+◌, ℕ, Bool, true, false, ◌||◌, ◌==◌, if◌then◌else◌, List, [], ◌∷◌, ◌++◌, Option, Some, None, refl, sym, ap, ap₂, ◌∙◌, subst, inl, inr, arith}
-use Rattle.std.specs.Prelude.{Contains, is_some, option_map, unwrap_or}
+use Rattle.std.proofs.Common.{◌≡◌, ◌≤◌, ◌<◌, ◌^◌, ◌⊎◌, ℕ, Bool, true, false, ◌||◌, ◌==◌, if◌then◌else◌, List, [], ◌∷◌, ◌++◌, Option, Some, None, refl, sym, ap, ◌∙◌, subst, inl, inr, arith}
+use Rattle.std.specs.Prelude.{Contains, is_some, option_map, unwrap_or, IsErrAnd, Result, Ok, Err}
 use Rattle.std.proofs.lemmas.List.Elements.{Contains-append_left, Contains-push, Contains-push_cases}
 use Rattle.std.proofs.lemmas.Bool.{false≢true}
 use Rattle.std.proofs.lemmas.Option.{none-some}
@@ -14,19 +14,17 @@ use Rattle.syn_message.specs.declared.request.Request.{Request as Asked}
 use Rattle.syn_message.specs.declared.request.Request.TheVariants as has
 use Rattle.syn_model.specs.Archive as archive
 use Rattle.syn_model.specs.Path.{Path}
-use Rattle.syn_model.specs.Refusal.{Memory, Refusal}
-use Rattle.syn_scan.specs.Found.{IsWhole}
 use Rattle.syn_session.specs.Scanning.{IsFoundIn, WaitsFor, found_of}
 use Rattle.syn_session.specs.declared.line.Line.{Line}
 use Rattle.syn_session.specs.declared.requests.Waiting.{Waiting}
 use Rattle.syn_session.specs.declared.session.Asks.{Asks}
 use Rattle.syn_session.specs.declared.session.Session.{Session}
-use Rattle.syn_session.specs.inner.Answering.{IsAnswering, IsHeard, KeepsFound, KeepsRequests, exchange_of}
-use Rattle.syn_session.specs.inner.Hearing.{EndsHearing, HasHeard, Hears, IsAsking, MayGoOn, ScansOn}
+use Rattle.syn_session.specs.Answering.{IsAnswering, IsHeard, exchange_of}
+use Rattle.syn_session.specs.inner.Listing.{KeepsRequests}
+use Rattle.syn_session.specs.Hearing.{EndsHearing, HasHeard, Hears, IsAsking, ScansOn}
 use Rattle.syn_refusal.specs.declared.refusal.Refusal.{Refusal as Why}
-use Rattle.std.specs.Prelude.{IsErrAnd, Result, Ok, Err}
-use Rattle.syn_session.specs.inner.Sessions.{IsLine, IsSession, IsStage, Tells, TellsOf, waiting_of}
-use Rattle.syn_session.specs.inner.Stages.{AreOfScan, IsBeginningOrListing, IsOfScan, IsScanning, IsToBegin, IsToList, begins, lists, asks_now, found_on, line_of, nothing_reached, reached_by}
+use Rattle.syn_session.specs.Sessions.{IsSession, IsStage, Tells, TellsOf, waiting_of}
+use Rattle.syn_session.specs.Stages.{AreOfScan, IsBeginningOrListing, IsOfScan, IsScanning, IsToBegin, IsToList, begins, lists, asks_now, found_on, line_of, nothing_reached, reached_by}
 use Rattle.syn_session.proofs.AnswerLemmas.{heard_so, unstable_then}
 use Rattle.syn_session.proofs.HearLemmas.{found_still}
 use Rattle.syn_session.proofs.SessionLemmas.{asks_first, first_request}
@@ -234,11 +232,11 @@ module _ (kept : archive.Archive) (before now : Session) (running : Running) (si
       one_of_two Left later is = inl is
       one_of_two Right later is = inr is
 
-      nothing_on : (on : Which) (r : Request) → Contains (Rattle.syn_session.specs.inner.Answering.asks_of nothing_asked on) r → ⊥
+      nothing_on : (on : Which) (r : Request) → Contains (Rattle.syn_session.specs.Answering.asks_of nothing_asked on) r → ⊥
       nothing_on Left r has = omega (arith, has.1)
       nothing_on Right r has = omega (arith, has.1)
 
-      free_on : (on : Which) → (Rattle.syn_session.specs.inner.Answering.asks_of nothing_asked on ≡ []) ⊎ ((line_of now on).waiting ≡ None)
+      free_on : (on : Which) → (Rattle.syn_session.specs.Answering.asks_of nothing_asked on ≡ []) ⊎ ((line_of now on).waiting ≡ None)
       free_on Left = inl refl
       free_on Right = inl refl
 

@@ -1,50 +1,24 @@
 -- The plan of a session with what both scans have at each item.
-use Rattle.std.proofs.Common.{◌≡◌, ◌≢◌, ◌<◌, ℕ, Bool, true, false, not, ◌||◌, if◌then◌else◌, List, [], ◌∷◌, Option, Some, None, length, map, get_or, refl, sym, ap, ◌∙◌, subst, inl, inr, arith}
+use Rattle.std.proofs.Common.{◌≡◌, ◌≢◌, ◌<◌, ℕ, Bool, true, false, not, ◌||◌, if◌then◌else◌, List, Option, Some, None, length, get_or, refl, sym, ap, ◌∙◌, subst, inl, inr, arith}
 use Rattle.std.specs.List.{slice_get, AllPairs, All}
 use Rattle.std.specs.Prelude.{option_map}
 use Rattle.std.proofs.lemmas.Bool.{false≢true}
 use Rattle.std.proofs.lemmas.List.{get_or-map, length-map}
-use Rattle.std.proofs.lemmas.List.Elements.{All-map}
 use Rattle.std.proofs.lemmas.Option.{none-some, same_Some, slice_get-map, slice_get_within, get_or_from_slice_get}
-use Rattle.syn_headline.specs.Network.{Which, Left, Right}
-use Rattle.syn_headline.specs.Planning.{Planned, SeesBoth, SessionPlan}
-use Rattle.syn_headline.specs.Session.{BothBegun, MakesPlan, Running}
-use Rattle.syn_model.specs.Archive.{Archive}
+use Rattle.syn_headline.specs.Planning.{Planned}
 use Rattle.syn_model.specs.Decision.{Item, Decision, Clean, Do, DoAndGoOn, GoOn, ToLeft, ToRight, MarkSame, MarkDir, Conflict, path_of, decision}
-use Rattle.syn_model.specs.Dirty.{IsScanBy, Scan, dirty, is_same_tree, is_unstable}
+use Rattle.syn_model.specs.Dirty.{Scan, dirty, is_same_tree, is_unstable}
 use Rattle.syn_model.specs.Path.{Path}
-use Rattle.syn_model.specs.Plan.{IsDecided, IsOrderly, PlanIsOrderly, PlanIsDecided}
+use Rattle.syn_model.specs.Plan.{IsDecided, PlanIsOrderly, PlanIsDecided}
 use Rattle.syn_model.specs.Plan as model
 use Rattle.syn_model.specs.Reconcile.{is_directory_in_both}
 use Rattle.syn_model.specs.Tree.{Tree, is_directory, subtree}
 use Rattle.syn_model.proofs.DirtyLemmas.{same_tree_is}
-use Rattle.syn_scan.specs.Found.{Found, position_of, scan_of}
-use Rattle.syn_session.specs.Scanning.{WasListedAt, WasNoDirectoryAt}
-use Rattle.syn_session.specs.inner.Plans.{planned_all, planned_by}
+use Rattle.syn_scan.specs.Found.{Found, scan_of}
+use Rattle.syn_session.specs.Plans.{planned_all, planned_by}
 use Rattle.syn_session.proofs.TallyLemmas.{NamedOnce}
-
--- both scans, and the positions that each has
-abbrev pub scans_by : Found → Found → Which → Scan
-scans_by left right Left = scan_of left
-scans_by left right Right = scan_of right
-
-abbrev pub since_by : Found → Found → Which → Path → ℕ
-since_by left right Left path = position_of left path
-since_by left right Right path = position_of right path
-
--- its items are those that it was made of
-pub items_of_all : (left right : Found) (items : List Item) → map (λ planned. planned.item) (planned_all left right items) ≡ items
-items_of_all left right [] = refl
-items_of_all left right (item ∷ items) = ap (λ l. item ∷ l) (items_of_all left right items)
-
--- each sees what both scans have at its path
-pub sees_both : (left right : Found) (items : List Item) → All (SeesBoth (scans_by left right) (since_by left right)) (planned_all left right items)
-sees_both left right items =
-    All-map (SeesBoth (scans_by left right) (since_by left right)) (planned_by left right) items (λ k d less. sees (get_or items k d))
-  where
-    sees : (item : Item) → SeesBoth (scans_by left right) (since_by left right) (planned_by left right item)
-    sees item Left = (refl, refl)
-    sees item Right = (refl, refl)
+use Rattle.syn_recon.specs.Items.{item_of, items_of}
+use Rattle.syn_recon.specs.declared.item.Item.{Item as ReconItem}
 
 -- an item of it stands at its place among the items
 pub item_at : (left right : Found) (items : List Item) (at : ℕ) (planned : Planned) → slice_get (planned_all left right items) at ≡ Some planned →
@@ -57,6 +31,12 @@ item_at left right items at planned e = by (slice_get items at) refl
         let is : planned_by left right item ≡ planned = same_Some _ _ (ap (option_map (planned_by left right)) (sym some) ∙ (sym (slice_get-map (planned_by left right) items at) ∙ e)) in
         let same : item ≡ planned.item = ap (λ p. p.item) is in
         (some ∙ ap (λ i. Some i) same, sym is ∙ ap (planned_by left right) same)
+
+-- the item that stands at a place of a plan
+pub stands_at : (left right : Found) (items : List ReconItem) (at : ℕ) (planned : Planned) → slice_get (planned_all left right (items_of items)) at ≡ Some planned → (item : ReconItem) → at < length items → item ≡ get_or items at item → planned.item ≡ item_of item
+stands_at left right items at planned there item less is =
+    sym (get_or_from_slice_get (items_of items) at planned.item (item_of item) (item_at left right (items_of items) at planned there).0)
+    ∙ (get_or-map item_of items at item (item_of item) less ∙ ap item_of (sym is))
 
 -- what is decided is to mark both only where they are the same
 abbrev chosen : Path → Bool → Bool → Bool → Bool → Bool → Bool → Bool → Decision
@@ -126,35 +106,3 @@ module _ (left right : Found) (archive : Tree) (items : List Item) (is_plan : it
       let same = same_tree_is _ _ (decided_same (scan_of left) (scan_of right) archive path (is_same_item (decision (scan_of left) (scan_of right) archive) path one)) in
       let at_path = here.1 ∙ ap (planned_by left right) is in
       ap (λ p. p.left.marks) at_path ∙ (same ∙ sym (ap (λ p. p.right.marks) at_path))
-
--- ---- the plan that a session makes
-
--- with the scans and the archive that it was made of
-abbrev pub made_of : ℕ → Tree → Found → Found → List Item → SessionPlan
-made_of session archive left right items = record {
-  session = session;
-  preference = None;
-  scan = scans_by left right;
-  since = since_by left right;
-  archive = archive;
-  plan = planned_all left right items;
-}
-
--- once both sides had begun, and each scan is that of what its side answered
-pub makes_plan : (running : Running) (archive : Archive) (left right : Found) (items : List Item) → items ≡ model.plan (scan_of left) (scan_of right) archive.marks → BothBegun running.taken →
-    IsScanBy (WasListedAt running.taken Left) (WasNoDirectoryAt running.taken Left) (scan_of left) (position_of left) →
-    IsScanBy (WasListedAt running.taken Right) (WasNoDirectoryAt running.taken Right) (scan_of right) (position_of right) →
-    MakesPlan running archive (made_of running.session archive.marks left right items)
-makes_plan running archive left right items is_plan begun on_left on_right = record {
-  of_session = refl;
-  prefers_none = refl;
-  archive_is = refl;
-  begun = begun;
-  scanned = scanned;
-  items = items_of_all left right items ∙ is_plan;
-  seen = sees_both left right items;
-}
-  where
-    scanned : (side : Which) → IsScanBy (WasListedAt running.taken side) (WasNoDirectoryAt running.taken side) (scans_by left right side) (since_by left right side)
-    scanned Left = on_left
-    scanned Right = on_right

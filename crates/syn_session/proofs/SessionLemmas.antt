@@ -1,12 +1,11 @@
 -- A session that begins, and one whose requests are sent again.
-use Rattle.std.proofs.Common.{◌≡◌, ◌≤◌, ◌<◌, ◌^◌, ◌⊎◌, ◌+◌, ℕ, suc, Bool, true, false, ◌||◌, List, [], ◌∷◌, ◌++◌, length, Option, Some, None, refl, sym, ap, ap₂, ◌∙◌, subst, inl, inr, arith, nat_le}
-use Rattle.std.specs.Prelude.{Contains, map, option_map}
-use Rattle.std.specs.List.{list_any, count_by}
+use Rattle.std.proofs.Common.{◌≡◌, ◌≤◌, ◌<◌, ◌^◌, ◌⊎◌, ◌+◌, ℕ, suc, false, List, [], ◌∷◌, Option, Some, None, refl, sym, ap, ◌∙◌, subst, inl, inr, arith}
+use Rattle.std.specs.Prelude.{Contains, option_map, is_some}
+use Rattle.std.specs.List.{count_by}
 use Rattle.std.proofs.lemmas.List.{length-map}
 use Rattle.std.proofs.lemmas.List.Elements.{Contains-push, Contains-push_cases}
-use Rattle.std.proofs.lemmas.List.Folds.{list_any-append}
-use Rattle.syn_headline.specs.Coordinator.{Running, Outstanding, outstanding, asked_count, AsksOnce, is_resent, most_resends, once_more}
-use Rattle.syn_headline.specs.Network.{Which, Left, Right, IsRepeat, other, is_side}
+use Rattle.syn_headline.specs.Coordinator.{Running, Outstanding, outstanding, asked_count, once_more}
+use Rattle.syn_headline.specs.Network.{Which, Left, Right, other, is_side}
 use Rattle.syn_headline.specs.Session.{Exchange, WasAsked}
 use Rattle.syn_headline.specs.Side.{Request, Begin}
 use Rattle.syn_message.specs.Requests.{request_of}
@@ -16,9 +15,9 @@ use Rattle.syn_session.specs.declared.course.Course.{Course}
 use Rattle.syn_session.specs.declared.line.Line.{Line}
 use Rattle.syn_session.specs.declared.requests.Waiting.{Waiting}
 use Rattle.syn_session.specs.declared.session.Session.{Session}
-use Rattle.syn_session.specs.declared.side_scan.SideScan.{SideScan}
-use Rattle.syn_session.specs.inner.Sessions.{IsLine, IsSession, IsStage, Tells, TellsOf, asks, begin_of, begun, is_worn_now, is_worn_out, outstanding_of, resent_once, waiting_of}
-use Rattle.syn_session.specs.inner.Stages.{IsBeginningOrListing, IsToBegin, IsToList, IsScanning, IsCarrying, Reached, begins, lists, asks_now, line_of, reached_by}
+use Rattle.syn_session.specs.Sessions.{IsLine, IsSession, IsStage, asks, begin_of, begun, outstanding_of, resent_once, waiting_of}
+use Rattle.syn_session.specs.Stages.{IsBeginningOrListing, IsToBegin, IsToList, Reached, begins, lists, asks_now, line_of, reached_by}
+use Rattle.std.proofs.lemmas.Bool.{false≢true}
 
 -- the request of the first that waits
 abbrev pub first_request : List Outstanding → Option Request
@@ -97,8 +96,8 @@ module _ (archive : model.Archive) (old new : Session) (taken : List Exchange) (
     request = is.request;
     waits = same is.to ∙ is.waits;
     alone = same (other is.to) ∙ is.alone;
-    carries = subst (λ r. Rattle.syn_session.specs.inner.Stages.Carries archive course (found_of new.left.scan) (found_of r) taken reached (λ transfer. Rattle.syn_propagate.specs.Transfers.WaitsFor transfer taken is.to is.request)) (sym (scan Right))
-        (subst (λ l. Rattle.syn_session.specs.inner.Stages.Carries archive course (found_of l) (found_of old.right.scan) taken reached (λ transfer. Rattle.syn_propagate.specs.Transfers.WaitsFor transfer taken is.to is.request)) (sym (scan Left)) is.carries);
+    carries = subst (λ r. Rattle.syn_session.specs.Stages.Carries archive course (found_of new.left.scan) (found_of r) taken reached (λ transfer. Rattle.syn_propagate.specs.Transfers.WaitsFor transfer taken is.to is.request)) (sym (scan Right))
+        (subst (λ l. Rattle.syn_session.specs.Stages.Carries archive course (found_of l) (found_of old.right.scan) taken reached (λ transfer. Rattle.syn_propagate.specs.Transfers.WaitsFor transfer taken is.to is.request)) (sym (scan Left)) is.carries);
   }
 
   pub stage_goes_on : new.course ≡ old.course → IsStage archive old old.course taken reached → IsStage archive new new.course taken reached
@@ -152,16 +151,7 @@ module _ (archive : model.Archive) (old new : Session) (running : Running) (is :
     stage = stage_goes_on archive old new running.taken (reached_by running) (λ side. (again side).same) (λ side. (again side).scan) course is.stage;
   }
 
--- whether it was sent again so often
-pub worn_so : (archive : model.Archive) (session : Session) (running : Running) → IsSession archive session running → is_resent running ≡ is_worn_now session
-worn_so archive session running is =
-    list_any-append (λ one. nat_le most_resends one.resent) running.left running.right
-    ∙ ap₂ (λ l r. is_worn_out l || is_worn_out r) (is.line Left).waits (is.line Right).waits
-
--- what a session tells of how far it came
-pub tells_now : (archive : model.Archive) (session : Session) (running : Running) → IsSession archive session running → Tells session running
-tells_now archive session running is = record { number = is.number; unstable = is.unstable; told = by session.course is.stage }
-  where
-    by : (course : Option Course) → IsStage archive session course running.taken (reached_by running) → TellsOf course (reached_by running)
-    by None stage = stage.nothing
-    by (Some course) stage = (_, _, stage.carries.course_is)
+-- none is there
+pub is_none : {A : Type 0} (o : Option A) → is_some o ≡ false → o ≡ None
+is_none None e = refl
+is_none (Some a) e = absurd (false≢true (sym e))

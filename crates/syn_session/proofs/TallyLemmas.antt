@@ -12,7 +12,7 @@ use Rattle.syn_model.specs.Archive.{Kept, Session, Recorded, RecordedDir}
 use Rattle.syn_model.specs.Decision.{Item, ToLeft, ToRight, MarkSame, MarkDir, Conflict, path_of}
 use Rattle.syn_model.specs.Path.{Path}
 use Rattle.syn_model.proofs.PathLemmas.{same_path}
-use Rattle.syn_session.specs.inner.Plans.{Plan, AreRecordedBefore, recorded_count}
+use Rattle.syn_session.specs.Plans.{Plan, AreRecordedBefore, recorded_count}
 
 -- ---- tests that change at one place
 

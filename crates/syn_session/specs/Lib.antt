@@ -2,8 +2,12 @@ pub mod Refusals
 pub mod Reports
 pub mod Sendings
 pub mod Scanning
-pub mod Machines
-pub mod Tries
-pub mod Coordinators
-pub mod Openings
+pub mod Plans
+pub mod Stages
+pub mod Sessions
+pub mod Answering
+pub mod Hearing
+pub mod Passing
+pub mod Doings
+pub mod Carrying
 pub mod inner

@@ -7,7 +7,7 @@ ghost use Rattle.syn_message.specs.Replies.{reply_of};
 ghost use Rattle.syn_model.specs.Archive.{Archive as Keeping};
 ghost use Rattle.syn_propagate.specs.Transfers.{WaitsFor};
 ghost use Rattle.syn_scan.specs.Found.{Found};
-ghost use Rattle.syn_session.specs.inner.Answering.{exchange_of};
+ghost use Rattle.syn_session.specs.Answering.{exchange_of};
 
 use crate::course::{Carried, Course};
 use std::alloc::Global;
@@ -18,7 +18,7 @@ use syn_refusal::Refusal;
 
 /// What an answer for the item that is carried comes to.
 #[derive(Debug, Drop)]
-pub(crate) enum Carrying {
+pub enum Carrying {
     /// The side is to be asked for this next.
     Asks(Side, Request),
     /// The item is in its place on the other side, and the archive is to have this.
@@ -28,12 +28,12 @@ pub(crate) enum Carrying {
 }
 
 impl Course {
-    ghost use Rattle.syn_session.specs.inner.Carrying.{TakesAnswer};
-    ghost use Rattle.syn_session.specs.inner.Stages.{Carries, Reached};
+    ghost use Rattle.syn_session.specs.Carrying.{TakesAnswer};
+    ghost use Rattle.syn_session.specs.Stages.{Carries, Reached};
 
     /// Takes the answer for the item that is carried. Refused 23 where it does not belong to what
     /// was asked, and 11 where memory is refused.
-    pub(crate) fn take_answer(&mut self, alloc: Global, reply: Reply) -> Result<Carrying, Refusal>
+    pub fn take_answer(&mut self, alloc: Global, reply: Reply) -> Result<Carrying, Refusal>
         ensures step { (archive : Keeping) (left right : Found) (all : List Exchange)
             (before : Reached) (to : Which) (number : ℕ) (request : Asked)
             → Carries archive self.old left right all before
@@ -45,14 +45,14 @@ impl Course {
         let Some(taken) = self.carried.take() else {
             return Err(Refusal::BadMessage);
         };
-        let Carried { transfer, record } = taken;
+        let Carried { transfer, kept } = taken;
         let mut transfer = transfer;
         match transfer.step(alloc, Some(reply)) {
             Ok(Next::Ask(side, request)) => {
-                self.carried = Some(Carried { transfer, record });
+                self.carried = Some(Carried { transfer, kept });
                 Ok(Carrying::Asks(side, request))
             }
-            Ok(Next::Done) => Ok(Carrying::Done(record)),
+            Ok(Next::Done) => Ok(Carrying::Done(kept)),
             Ok(Next::Refused(why)) => Ok(Carrying::Refused(why)),
             Err(error) => Err(error.refusal()),
         }

@@ -1,8 +1,8 @@
 //! What is carried for an item of the plan.
 ghost use Rattle.std.specs.Prelude.{◌≡◌, IfErr, IfOk};
+ghost use Rattle.syn_mark.specs.Marks.{or_absent};
 ghost use Rattle.syn_model.specs.Archive.{Recorded};
 ghost use Rattle.syn_model.specs.Path.{parent};
-ghost use Rattle.syn_mark.specs.Marks.{or_absent};
 ghost use Rattle.syn_model.specs.Tree.{subtree};
 ghost use Rattle.syn_propagate.specs.Transfers.{IsReady, carriage_of};
 ghost use Rattle.syn_scan.specs.Found.{position_of};
@@ -36,7 +36,7 @@ impl Carried {
             (carriage_of carried.transfer).source_since ≡ position_of from.now (parent path.now)) }
         ensures target_since { IfOk result (λ carried.
             (carriage_of carried.transfer).target_since ≡ position_of to.now (parent path.now)) }
-        ensures record { IfOk result (λ carried. kept_of carried.record
+        ensures record { IfOk result (λ carried. kept_of carried.kept
             ≡ Recorded path.now (subtree from.now.marks path.now)) }
         ensures ready { IfOk result (λ carried. IsReady carried.transfer) }
         ensures memory { IfErr result (λ e. e ≡ SessionError.Memory) }
@@ -51,7 +51,7 @@ impl Carried {
         };
         Ok(Carried {
             transfer: Transfer::new(carriage),
-            record: Kept::Record(copy_path(alloc, path)?, marks),
+            kept: Kept::Record(copy_path(alloc, path)?, marks),
         })
     }
 }

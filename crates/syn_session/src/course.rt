@@ -19,18 +19,18 @@ const MAX_ITEMS: usize = 0xffff_ffff;
 
 /// What is carried for an item, and what the archive is to have once that is done.
 #[derive(Debug, Drop)]
-pub(crate) struct Carried {
-    pub(crate) transfer: Transfer,
-    pub(crate) record: Kept,
+pub struct Carried {
+    pub transfer: Transfer,
+    pub kept: Kept,
 }
 
 /// The plan of a session, the item that it has come to, and what became of those before.
 #[derive(Debug, Drop)]
-pub(crate) struct Course {
-    pub(crate) items: Vec<Item>,
-    pub(crate) cursor: usize,
+pub struct Course {
+    pub items: Vec<Item>,
+    pub cursor: usize,
     /// What is carried for the item at the cursor, while the session waits for an answer.
-    pub(crate) carried: Option<Carried>,
+    pub carried: Option<Carried>,
     /// How many items were carried to the other side and recorded.
     pub(crate) done: u32,
     /// How many items were recorded since both sides agreed already.
@@ -40,12 +40,12 @@ pub(crate) struct Course {
 }
 
 impl Course {
-    ghost use Rattle.syn_session.specs.inner.Stages.{IsCourse, plan_in};
-    ghost use Rattle.syn_session.specs.inner.Walking.{first_reached};
+    ghost use Rattle.syn_session.specs.Passing.{first_reached};
+    ghost use Rattle.syn_session.specs.Stages.{IsCourse, plan_in};
 
     /// The plan of two scans and the archive, of which nothing is carried out yet. Refused 11 where
     /// memory is refused, or where the plan has 2^32 items or more.
-    pub(crate) fn new(
+    pub fn new(
         alloc: Global,
         left: &Scan,
         right: &Scan,

@@ -1,7 +1,7 @@
 //! What is to be done for an item of the plan.
 ghost use Rattle.std.specs.Prelude.{◌≡◌, IfErr, IfOk};
 ghost use Rattle.syn_recon.specs.Items.{item_of};
-ghost use Rattle.syn_session.specs.inner.Doings.{IsDoingFor, IsMarked};
+ghost use Rattle.syn_session.specs.inner.Items.{IsDoingFor, IsMarked};
 
 use crate::carried::{copy_marks, copy_path};
 use crate::course::{Carried, Course};
@@ -16,7 +16,7 @@ use syn_scan::Scan;
 
 /// What is to be done for the item that a session has come to.
 #[derive(Debug, Drop)]
-pub(crate) enum Doing {
+pub enum Doing {
     /// No item is left.
     Nothing,
     /// Both sides changed there: nothing is done.
@@ -28,16 +28,11 @@ pub(crate) enum Doing {
 }
 
 impl Course {
-    ghost use Rattle.syn_session.specs.inner.Doings.{IsDoing, KeepsOfItem};
-    ghost use Rattle.syn_session.specs.inner.Stages.{IsCourse, Reached};
+    ghost use Rattle.syn_session.specs.Doings.{IsDoing, KeepsOfItem};
+    ghost use Rattle.syn_session.specs.Stages.{IsCourse, Reached};
 
     /// What is to be done for the item at the cursor. Refused 11 where memory is refused.
-    pub(crate) fn doing(
-        &self,
-        alloc: Global,
-        left: &Scan,
-        right: &Scan,
-    ) -> Result<Doing, SessionError>
+    pub fn doing(&self, alloc: Global, left: &Scan, right: &Scan) -> Result<Doing, SessionError>
         ensures ok { (reached : Reached) → IsCourse self.now left.now right.now reached
             → IfOk result (IsDoing self.now left.now right.now) }
         ensures record { IfOk result KeepsOfItem }

@@ -20,12 +20,12 @@ use syn_path::Path;
 use syn_refusal::Refusal;
 
 impl Session {
+    ghost use Rattle.syn_session.specs.Answering.{IsAnswering};
+    ghost use Rattle.syn_session.specs.Hearing.{Hears};
+    ghost use Rattle.syn_session.specs.Sessions.{IsSession};
+    ghost use Rattle.syn_session.specs.Stages.{line_of};
     ghost use Rattle.syn_session.specs.declared.session.Session.{Session as Ran};
-    ghost use Rattle.syn_session.specs.inner.Answering.{IsAnswering, IsListed, KeepsFound};
-    ghost use Rattle.syn_session.specs.inner.Answering.{ListsOn};
-    ghost use Rattle.syn_session.specs.inner.Hearing.{Hears};
-    ghost use Rattle.syn_session.specs.inner.Sessions.{IsSession};
-    ghost use Rattle.syn_session.specs.inner.Stages.{line_of};
+    ghost use Rattle.syn_session.specs.inner.Listing.{IsListed, KeepsFound, ListsOn};
 
     /// What is listed next; none where nothing waits and each directory was answered. Refused 11
     /// where memory is refused.
@@ -110,7 +110,7 @@ impl Session {
     /// asked next; none where each directory of both sides was answered.
     ///
     /// Refused where the answer ends the session, and 11 where memory is refused.
-    pub(crate) fn hear(
+    pub fn hear(
         &mut self,
         alloc: Global,
         from: Side,

@@ -1,12 +1,11 @@
-//! The coordinator of a pair: it runs sessions between the two replicas, over its archive.
+//! One session between two replicas: its requests and scans, and its way through its plan. It has
+//! no archive and no disk.
 #![tactic(auto)]
 
 mod answering;
 mod carried;
-mod coordinator;
 mod course;
 mod doing;
-mod due;
 mod error;
 mod hearing;
 mod line;
@@ -16,11 +15,14 @@ mod requests;
 mod sending;
 mod session;
 mod side_scan;
-mod tried;
 
-pub use coordinator::Coordinator;
+pub use answering::Carrying;
+pub use course::{Carried, Course};
+pub use doing::Doing;
 pub use error::SessionError;
+pub use line::Line;
 pub use report::{End, Report};
+pub use requests::Waiting;
 pub use sending::Sending;
+pub use session::{Asks, Session};
 pub use side_scan::SideScan;
-pub use tried::Tried;

@@ -20,17 +20,18 @@ const MOST_REQUESTS: u64 = 4_294_967_296;
 
 /// What a session asks of one side: a request at a time, and the scan that the answers give.
 #[derive(Debug, Drop)]
-pub(crate) struct Line {
-    pub(crate) waiting: Option<Waiting>,
+pub struct Line {
+    pub waiting: Option<Waiting>,
     /// How many requests were sent there, resends aside.
     pub(crate) asked: u64,
-    pub(crate) scan: SideScan,
+    pub scan: SideScan,
 }
 
 impl Line {
-    ghost use Rattle.syn_session.specs.inner.Sessions.{asks, begin_of, is_worn_out, waiting_of};
-    ghost use Rattle.syn_session.specs.inner.Answering.{IsAskedOn, ListsNext, requests_of};
-    ghost use Rattle.syn_session.specs.inner.Stages.{asks_now};
+    ghost use Rattle.syn_session.specs.Answering.{IsAskedOn, requests_of};
+    ghost use Rattle.syn_session.specs.Sessions.{asks, begin_of, is_worn_out, waiting_of};
+    ghost use Rattle.syn_session.specs.Stages.{asks_now};
+    ghost use Rattle.syn_session.specs.inner.Listing.{ListsNext};
 
     /// The side is to begin the session. Refused 11 where memory is refused.
     pub(crate) fn new(alloc: Global, pair: u64) -> Result<Line, SessionError>

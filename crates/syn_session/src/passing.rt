@@ -18,11 +18,11 @@ use syn_refusal::Refusal;
 
 impl Course {
     ghost use Rattle.std.specs.Prelude.{None};
-    ghost use Rattle.syn_session.specs.inner.Advancing.{kept_at, past_at, refused_at};
-    ghost use Rattle.syn_session.specs.inner.Stages.{IsCourse, Reached, plan_in};
+    ghost use Rattle.syn_session.specs.Passing.{kept_at, past_at, refused_at};
+    ghost use Rattle.syn_session.specs.Stages.{IsCourse, Reached, plan_in};
 
     /// Past an item that is a conflict. Refused 11 where memory is refused.
-    pub(crate) fn pass_conflict(&mut self, path: Path) -> Result<(), SessionError>
+    pub fn pass_conflict(&mut self, path: Path) -> Result<(), SessionError>
         ensures passes { (left right : Found) (reached : Reached) (planned : Planned)
             → IsCourse self.old left right reached
             → slice_get (plan_in self.old left right) self.old.cursor ≡ Some planned
@@ -57,7 +57,7 @@ impl Course {
     }
 
     /// Past the item that it has come to, which is refused so. Refused 11 where memory is refused.
-    pub(crate) fn refuse(&mut self, alloc: Global, why: Refusal) -> Result<(), SessionError>
+    pub fn refuse(&mut self, alloc: Global, why: Refusal) -> Result<(), SessionError>
         ensures passes { (left right : Found) (reached : Reached) (planned : Planned)
             → IsCourse self.old left right reached
             → slice_get (plan_in self.old left right) self.old.cursor ≡ Some planned
@@ -76,7 +76,7 @@ impl Course {
     }
 
     /// Past an item whose record is kept, and that was carried, or only marked.
-    pub(crate) fn pass_kept(&mut self, was_carried: bool)
+    pub fn pass_kept(&mut self, was_carried: bool)
         ensures passes { (left right : Found) (reached : Reached) (planned : Planned) (what : Kept)
             → IsCourse self.old left right reached
             → slice_get (plan_in self.old left right) self.old.cursor ≡ Some planned

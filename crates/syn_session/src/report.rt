@@ -12,15 +12,6 @@ pub enum End {
     Incomplete,
 }
 
-/// Why a session ends.
-#[derive(Clone, Copy, Debug, PartialEq, Eq)]
-pub(crate) enum Ended {
-    /// It came through its plan.
-    Settled,
-    /// It ends early, for this.
-    Early(Refusal),
-}
-
 /// What a session reports as it ends.
 #[derive(Debug, Drop)]
 pub struct Report {

@@ -13,7 +13,7 @@ const MOST_RESENDS: u8 = 8;
 
 /// A request that waits for its answer.
 #[derive(Debug, Drop)]
-pub(crate) struct Waiting {
+pub struct Waiting {
     pub(crate) number: u32,
     pub(crate) request: Request,
     /// How often it was sent again.
@@ -21,7 +21,7 @@ pub(crate) struct Waiting {
 }
 
 impl Waiting {
-    ghost use Rattle.syn_session.specs.inner.Sessions.{asks, outstanding_of, once_later};
+    ghost use Rattle.syn_session.specs.Sessions.{asks, outstanding_of, once_later};
 
     /// The first request of a session to a side: it is to begin there.
     pub(crate) fn begin(pair: u64) -> Waiting

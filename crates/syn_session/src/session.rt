@@ -8,12 +8,12 @@ ghost use Rattle.syn_headline.specs.Side.{ListAt};
 ghost use Rattle.syn_message.specs.Replies.{IsLawfulReply, reply_of};
 ghost use Rattle.syn_message.specs.Requests.{request_of};
 ghost use Rattle.syn_message.specs.Sides.{which_of};
-ghost use Rattle.syn_model.specs.Refusal.{Memory};
 ghost use Rattle.syn_model.specs.Archive.{Archive as Keeping};
+ghost use Rattle.syn_model.specs.Refusal.{Memory};
 ghost use Rattle.syn_refusal.specs.Refusals.{cause_of};
 ghost use Rattle.syn_session.specs.Reports.{end_of, report_model};
 ghost use Rattle.syn_session.specs.Sendings.{messages_of};
-ghost use Rattle.syn_session.specs.inner.Sessions.{end_by};
+ghost use Rattle.syn_session.specs.Sessions.{end_by};
 
 use crate::course::Course;
 use crate::error::SessionError;
@@ -27,36 +27,35 @@ use syn_refusal::Refusal;
 
 /// A session that runs.
 #[derive(Debug, Drop)]
-pub(crate) struct Session {
-    pub(crate) number: u64,
-    pub(crate) left: Line,
-    pub(crate) right: Line,
+pub struct Session {
+    pub number: u64,
+    pub left: Line,
+    pub right: Line,
     /// A path changed its kind under the scan: it was answered as no directory.
-    pub(crate) is_unstable: bool,
+    pub is_unstable: bool,
     /// Its plan, once both scans are whole.
-    pub(crate) course: Option<Course>,
+    pub course: Option<Course>,
 }
 
 /// What is asked of each side next.
 #[derive(Debug, Drop)]
-pub(crate) struct Asks {
-    pub(crate) left: Option<Request>,
-    pub(crate) right: Option<Request>,
+pub struct Asks {
+    pub left: Option<Request>,
+    pub right: Option<Request>,
 }
 
 impl Session {
-    ghost use Rattle.syn_session.specs.inner.Answering.{IsAnswering, IsAskedOn, KeepsFound};
-    ghost use Rattle.syn_session.specs.inner.Answering.{KeepsRequests, ListsNext, asks_of};
-    ghost use Rattle.syn_session.specs.inner.Answering.{messages_asked};
-    ghost use Rattle.syn_session.specs.inner.Stages.{found_on, line_of};
+    ghost use Rattle.syn_session.specs.Answering.{IsAnswering, IsAskedOn, asks_of, messages_asked};
     ghost use Rattle.syn_session.specs.Scanning.{Exchanges, IsFoundIn, WaitsFor};
     ghost use Rattle.syn_session.specs.Scanning.{with_listing_answered};
-    ghost use Rattle.syn_session.specs.inner.Sessions.{IsSession, Tells, begin_messages, begun};
-    ghost use Rattle.syn_session.specs.inner.Sessions.{is_worn_now, messages_now, resent_once};
-    ghost use Rattle.syn_session.specs.inner.Sessions.{waiting_of};
+    ghost use Rattle.syn_session.specs.Sessions.{IsSession, Tells, begin_messages, begun};
+    ghost use Rattle.syn_session.specs.Sessions.{is_worn_now, messages_now, resent_once};
+    ghost use Rattle.syn_session.specs.Sessions.{waiting_of};
+    ghost use Rattle.syn_session.specs.Stages.{found_on, line_of};
+    ghost use Rattle.syn_session.specs.inner.Listing.{KeepsFound, KeepsRequests, ListsNext};
 
     /// Both sides of the pair are to begin the session. Refused 11 where memory is refused.
-    pub(crate) fn new(alloc: Global, number: u64, pair: u64) -> Result<Session, SessionError>
+    pub fn new(alloc: Global, number: u64, pair: u64) -> Result<Session, SessionError>
         ensures begun { (archive : Keeping)
             → IfOk result (λ session. IsSession archive session (begun number pair)) }
         ensures sends { IfOk result (λ session. messages_now session ≡ begin_messages number pair) }
@@ -76,7 +75,7 @@ impl Session {
     }
 
     /// How many items its plan has, once that is made.
-    pub(crate) fn planned(&self) -> Option<usize>
+    pub fn planned(&self) -> Option<usize>
         ensures { result ≡ option_map (λ course. length course.items.items) self.now.course }
     {
         let course = self.course.as_ref()?;
@@ -85,7 +84,7 @@ impl Session {
 
     /// The requests that wait, for the left and then for the right. Refused 11 where memory is
     /// refused.
-    pub(crate) fn waiting(&self, alloc: Global) -> Result<Vec<Sending>, SessionError>
+    pub fn waiting(&self, alloc: Global) -> Result<Vec<Sending>, SessionError>
         ensures ok { IfOk result (λ sends. messages_of sends.items ≡ messages_now self.now) }
         ensures memory { IfErr result (λ e. e ≡ SessionError.Memory) }
     {
@@ -97,14 +96,14 @@ impl Session {
     }
 
     /// Whether a request that waits was sent again as often as it may be.
-    pub(crate) fn is_worn(&self) -> bool
+    pub fn is_worn(&self) -> bool
         ensures { result ≡ is_worn_now self.now }
     {
         self.left.is_worn() || self.right.is_worn()
     }
 
     /// Each request that waits was sent once more.
-    pub(crate) fn count_resend(&mut self)
+    pub fn count_resend(&mut self)
         requires { is_worn_now self.old ≡ false }
         ensures { (archive : Keeping) (running : Running) → IsSession archive self.old running
             → IsSession archive self.new (resent_once running) }
@@ -115,7 +114,7 @@ impl Session {
 
     /// The request that waits for the answer of that number from the side, in that session; none
     /// where none does.
-    pub(crate) fn answered(&mut self, from: Side, session: u64, number: u32) -> Option<Request>
+    pub fn answered(&mut self, from: Side, session: u64, number: u32) -> Option<Request>
         ensures some { IfSome result (λ request. (self.old.number ≡ session)
             × IsAnswering self.old self.new (which_of from) number (request_of request)) }
         ensures none { result ≡ None → (self.new ≡ self.old) × (self.old.number ≡ session
@@ -183,7 +182,7 @@ impl Session {
 
     /// Asks both sides for what comes next, and gives what is to be sent. Refused 11 where memory
     /// is refused, or where a number would need more than four bytes.
-    pub(crate) fn ask(&mut self, alloc: Global, asks: Asks) -> Result<Vec<Sending>, SessionError>
+    pub fn ask(&mut self, alloc: Global, asks: Asks) -> Result<Vec<Sending>, SessionError>
         ensures left { OnOk result (IsAskedOn self.old.left self.new.left (asks_of asks Left)) }
         ensures right { OnOk result (IsAskedOn self.old.right self.new.right (asks_of asks Right)) }
         ensures number { self.new.number ≡ self.old.number }
@@ -203,7 +202,7 @@ impl Session {
 
     /// What it reports where it ends so: early for a refusal, or as it came through its plan. It
     /// takes no memory.
-    pub(crate) fn into_report(self, alloc: Global, ended: Option<Refusal>) -> Report
+    pub fn into_report(self, alloc: Global, ended: Option<Refusal>) -> Report
         ensures { (running : Running) → Tells self running
             → report_model result ≡ report_of running (option_map cause_of ended) }
     {

@@ -6,7 +6,7 @@ use Rattle.syn_host.specs.declared.coordinator.CoordinatorHost.{CoordinatorHost}
 use Rattle.syn_host.specs.declared.coordinator.CoordinatorHost.TheVariants as machine
 use Rattle.syn_host.specs.declared.side.SideHost.{SideHost}
 use Rattle.syn_replica.specs.declared.replica.Replica.{Replica}
-use Rattle.syn_session.specs.Coordinators.{archive_of}
+use Rattle.syn_coordinator.specs.Coordinators.{archive_of}
 use Rattle.syn_session.specs.Reports.{report_model}
 use Rattle.syn_session.specs.declared.report.Report.{Report}
 use Rattle.syn_show.specs.Reports.{report_lines}

@@ -9,8 +9,8 @@ use Rattle.syn_headline.specs.Coordinator.{Call, CoordinatorMachine}
 use Rattle.syn_headline.specs.Network.{Message, Which}
 use Rattle.syn_message.specs.Replies.{Answering}
 use Rattle.syn_model.specs.Archive.{Kept}
-use Rattle.syn_session.specs.Coordinators.{Does, Stands, device_of, goes_down, goes_on}
-use Rattle.syn_session.specs.declared.coordinator.Coordinator.{Coordinator}
+use Rattle.syn_coordinator.specs.Coordinators.{Does, Stands, device_of, goes_down, goes_on}
+use Rattle.syn_coordinator.specs.declared.coordinator.Coordinator.{Coordinator}
 use Rattle.syn_sync.proofs.WriteLemmas.{calm_writes, sends_twice, stopped_none, writes_calm}
 use Rattle.syn_sync.proofs.WriteLemmas.{writes_nothing, writes_twice}
 use Rattle.syn_sync.specs.Drivers.{Lines, Outlets}

@@ -11,10 +11,10 @@ use Rattle.syn_model.specs.Refusal as why
 use Rattle.syn_model.specs.Refusal.{first_cause}
 use Rattle.syn_refusal.specs.Refusals.{cause_of}
 use Rattle.syn_refusal.specs.declared.refusal.Refusal.{Refusal}
-use Rattle.syn_session.specs.Coordinators.{Checkpoints, all_causes, checkpoint_causes}
-use Rattle.syn_session.specs.Coordinators.{device_of}
+use Rattle.syn_coordinator.specs.Coordinators.{Checkpoints, all_causes, checkpoint_causes}
+use Rattle.syn_coordinator.specs.Coordinators.{device_of}
 use Rattle.syn_session.specs.Refusals.{CountsFailures, refusal_of}
-use Rattle.syn_session.specs.declared.coordinator.Coordinator.{Coordinator}
+use Rattle.syn_coordinator.specs.declared.coordinator.Coordinator.{Coordinator}
 use Rattle.syn_session.specs.declared.error.SessionError.{SessionError}
 use Rattle.syn_session.specs.declared.error.SessionError.TheVariants as session
 use Rattle.syn_sync.specs.Refusals.{Refuses, fails, no_room, no_start, no_start_behind, stopped}

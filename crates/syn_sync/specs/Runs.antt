@@ -11,10 +11,10 @@ use Rattle.syn_headline.specs.Network.{Answers, Asks, Message, Which, is_side}
 use Rattle.syn_link.specs.Frames.{Bytes, frame_of}
 use Rattle.syn_message.specs.Replies.{Answering}
 use Rattle.syn_message.specs.Requests.{asking_spelling}
-use Rattle.syn_session.specs.Coordinators.{Checkpoints, Stands, device_of, tried_shown}
-use Rattle.syn_session.specs.Machines.{LeavesMachine}
-use Rattle.syn_session.specs.Tries.{Tries}
-use Rattle.syn_session.specs.declared.coordinator.Coordinator.{Coordinator}
+use Rattle.syn_coordinator.specs.Coordinators.{Checkpoints, Stands, device_of, tried_shown}
+use Rattle.syn_keep.specs.Machines.{LeavesMachine}
+use Rattle.syn_keep.specs.Tries.{Tries}
+use Rattle.syn_coordinator.specs.declared.coordinator.Coordinator.{Coordinator}
 use Rattle.syn_sync.specs.Drivers.{Lines, Outlets}
 use Rattle.syn_sync.specs.Lines.{HearsAll}
 use Rattle.syn_sync.specs.Outlets.{Writes}

@@ -8,8 +8,8 @@ ghost use Rattle.syn_message.specs.Replies.{IsLawfulAnswering, answering_of};
 ghost use Rattle.syn_message.specs.Sides.{which_of};
 ghost use Rattle.syn_model.specs.Refusal.{JournalFull, first_cause};
 ghost use Rattle.syn_refusal.specs.Refusals.{cause_of};
-ghost use Rattle.syn_session.specs.Coordinators.{Does, Stands, archive_of, device_of, runs};
-ghost use Rattle.syn_session.specs.Coordinators.{all_causes, written};
+ghost use Rattle.syn_coordinator.specs.Coordinators.{Does, Stands, archive_of, device_of, runs};
+ghost use Rattle.syn_coordinator.specs.Coordinators.{all_causes, written};
 ghost use Rattle.syn_session.specs.Sendings.{message_of, messages_of};
 ghost use Rattle.syn_sync.specs.Drivers.{Lines, lines_of, link_at, outlets_of};
 ghost use Rattle.syn_sync.specs.Lines.{HearsAll};
@@ -24,10 +24,11 @@ use crate::link::Link;
 use crate::watch::Watch;
 use std::alloc::Global;
 use std::io::{Read, Write};
+use syn_coordinator::Coordinator;
 use syn_disk::Limit;
 use syn_message::{Answered, Side};
 use syn_refusal::Refusal;
-use syn_session::{Coordinator, Sending, SessionError};
+use syn_session::{Sending, SessionError};
 
 /// After so many ticks without an answer a session has ended: each request was sent again eight
 /// times.

@@ -20,7 +20,7 @@ use Rattle.syn_message.specs.declared.side.Side.{Side}
 use Rattle.syn_model.specs.Event.{Event}
 use Rattle.syn_model.specs.Refusal.{Refusal}
 use Rattle.syn_refusal.specs.Refusals.{cause_of}
-use Rattle.syn_session.specs.Coordinators.{in_report}
+use Rattle.syn_coordinator.specs.Coordinators.{in_report}
 use Rattle.syn_session.specs.Reports.{report_model}
 use Rattle.syn_session.specs.Sendings.{messages_of}
 use Rattle.syn_session.specs.declared.sending.Sending.{Sending}

@@ -17,7 +17,7 @@ use Rattle.syn_host.specs.declared.outcome.CoordinatorOutcome.{CoordinatorOutcom
 use Rattle.syn_model.specs.Archive.{Kept}
 use Rattle.syn_model.specs.Refusal.{Refusal, Device, Memory}
 use Rattle.syn_refusal.specs.declared.refusal.Refusal.{Refusal as Code}
-use Rattle.syn_session.specs.Coordinators.{in_report}
+use Rattle.syn_coordinator.specs.Coordinators.{in_report}
 use Rattle.syn_session.specs.Reports.{report_model}
 use Rattle.syn_session.specs.Sendings.{messages_of}
 use Rattle.syn_image.specs.declared.kept.Kept.{Kept as Record}

@@ -16,7 +16,7 @@ use Rattle.syn_refusal.specs.Refusals.{cause_of}
 use Rattle.syn_recovery.specs.Headline.{disk_of}
 use Rattle.syn_recovery.specs.Machines.{of_archive, of_side}
 use Rattle.syn_recovery.specs.Meaning.{IsOf}
-use Rattle.syn_session.specs.declared.coordinator.Coordinator.{Coordinator}
+use Rattle.syn_coordinator.specs.declared.coordinator.Coordinator.{Coordinator}
 use Rattle.syn_world.specs.Openings.{OpensFrom, StandFor, shown_on}
 use Rattle.syn_world.specs.Worlds.{message_of, report_in, told_in}
 use Rattle.syn_world.specs.declared.lists.Lists.{Lists}

@@ -6,8 +6,8 @@ use Rattle.syn_disk.specs.declared.disk.Disk.{Ghosts}
 use Rattle.syn_headline.specs.Coordinator.{CoordinatorMachine}
 use Rattle.syn_refusal.specs.Refusals.{cause_of}
 use Rattle.syn_refusal.specs.declared.refusal.Refusal.{Refusal as Answer}
-use Rattle.syn_session.specs.Coordinators.{Stands, device_of, runs}
-use Rattle.syn_session.specs.declared.coordinator.Coordinator.{Coordinator}
+use Rattle.syn_coordinator.specs.Coordinators.{Stands, device_of, runs}
+use Rattle.syn_coordinator.specs.declared.coordinator.Coordinator.{Coordinator}
 
 pub record RunsSession {D : Type 0} {disk : Ghosts D} (old new : Coordinator D disk)
     (result : Result Unit Answer) : Type 0 where

@@ -7,18 +7,18 @@ ghost use Rattle.syn_host.specs.Coordinators.{IsCoordinator, Rests};
 ghost use Rattle.syn_host.specs.Starts.{CanStart, IsFromOutside, StartsCoordinator};
 ghost use Rattle.syn_model.specs.Archive.{Archive as KeptArchive};
 ghost use Rattle.syn_recovery.specs.Machines.{of_archive};
-ghost use Rattle.syn_session.specs.Coordinators.{Stands};
+ghost use Rattle.syn_coordinator.specs.Coordinators.{Stands};
 
 use super::settle::down;
 use super::{CoordinatorHost, DownCoordinator};
 use crate::disk::SimulatedDisk;
 use std::alloc::Global;
 use syn_archive::Archive;
+use syn_coordinator::Coordinator;
 use syn_disk::Disk;
 use syn_image::Kept;
 use syn_recovery::device_laws;
 use syn_refusal::Refusal;
-use syn_session::Coordinator;
 
 /// Opens the disk of the pair's archive, with no session and nothing known of it. Nothing is
 /// written, and the disk comes back where it is refused.

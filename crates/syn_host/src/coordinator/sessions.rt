@@ -6,7 +6,7 @@ ghost use Rattle.syn_host.specs.CoordinatorSteps.{CallsSo, Settles, Starts, Unre
 ghost use Rattle.syn_host.specs.SideSteps.{refused_by};
 ghost use Rattle.syn_message.specs.Replies.{IsLawfulReply, reply_of};
 ghost use Rattle.syn_message.specs.Sides.{which_of};
-ghost use Rattle.syn_session.specs.Coordinators.{Stands, written};
+ghost use Rattle.syn_coordinator.specs.Coordinators.{Stands, written};
 ghost use Rattle.syn_session.specs.Sendings.{messages_of};
 
 use super::settle::{ended, halted, settle};
@@ -14,8 +14,9 @@ use super::{CoordinatorCall, CoordinatorHost};
 use crate::disk::SimulatedDisk;
 use crate::outcome::CoordinatorOutcome;
 use std::alloc::Global;
+use syn_coordinator::Coordinator;
 use syn_message::{Reply, Side};
-use syn_session::{Coordinator, Sending, SessionError};
+use syn_session::{Sending, SessionError};
 
 impl<D: SimulatedDisk> CoordinatorHost<D> {
     ghost use Rattle.syn_host.specs.Coordinators.{IsCoordinator};

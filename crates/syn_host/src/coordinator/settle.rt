@@ -8,16 +8,17 @@ ghost use Rattle.syn_host.specs.Coordinators.{IsCoordinator};
 ghost use Rattle.syn_host.specs.Outcomes.{TellsKeptOf, causes_in};
 ghost use Rattle.syn_host.specs.SideSteps.{refused_by};
 ghost use Rattle.syn_model.specs.Refusal.{Refusal as Cause};
-ghost use Rattle.syn_session.specs.Coordinators.{Stands, in_report, report_shown, runs};
+ghost use Rattle.syn_coordinator.specs.Coordinators.{Stands, in_report, report_shown, runs};
 ghost use Rattle.syn_session.specs.Reports.{report_model};
 
 use super::{CoordinatorCall, CoordinatorHost, DownCoordinator};
 use crate::disk::SimulatedDisk;
 use crate::outcome::CoordinatorOutcome;
 use std::alloc::Global;
+use syn_coordinator::Coordinator;
 use syn_disk::Disk;
 use syn_refusal::Refusal;
-use syn_session::{Coordinator, Report};
+use syn_session::Report;
 
 /// The machine stopped. What is in memory is lost, and so is a session that ran.
 pub(crate) fn down<D: SimulatedDisk>(coordinator: Coordinator<D>) -> CoordinatorHost<D>

@@ -7,8 +7,8 @@ use Rattle.syn_headline.specs.Network.{Message, Which}
 use Rattle.syn_model.specs.Refusal as why
 use Rattle.syn_refusal.specs.Refusals.{cause_of}
 use Rattle.syn_refusal.specs.declared.refusal.Refusal.{Refusal}
-use Rattle.syn_session.specs.Coordinators.{Stands, device_of, runs}
-use Rattle.syn_session.specs.declared.coordinator.Coordinator.{Coordinator}
+use Rattle.syn_coordinator.specs.Coordinators.{Stands, device_of, runs}
+use Rattle.syn_coordinator.specs.declared.coordinator.Coordinator.{Coordinator}
 use Rattle.syn_sync.specs.Runs.{Acts, Begins, Down, Leads, answers_in, frames_in, frames_to}
 
 -- the acts lead to the coordinator's machine, or it went down in the last; none takes a reply, and

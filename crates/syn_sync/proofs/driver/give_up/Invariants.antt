@@ -1,7 +1,7 @@
 use Rattle.std.proofs.Common.{◌≡◌, ℕ, [], false}
 use Rattle.syn_disk.specs.Arms.{is_stopped}
 use Rattle.syn_headline.specs.Coordinator.{CoordinatorMachine}
-use Rattle.syn_session.specs.Coordinators.{Stands, device_of}
+use Rattle.syn_coordinator.specs.Coordinators.{Stands, device_of}
 use Rattle.syn_sync.proofs.driver.give_up.Given as goal
 use Rattle.syn_sync.specs.inner.Calling.{Calls}
 

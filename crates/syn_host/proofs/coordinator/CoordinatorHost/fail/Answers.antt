@@ -4,7 +4,7 @@ use Rattle.syn_headline.specs.Machine.{Arms}
 use Rattle.syn_host.specs.Coordinators.{IsCoordinator, with_device_arms}
 use Rattle.syn_host.specs.Coordinators as step
 use Rattle.syn_recovery.specs.Calls.{armed_at}
-use Rattle.syn_session.specs.Coordinators.{Stands}
+use Rattle.syn_coordinator.specs.Coordinators.{Stands}
 use Rattle.syn_host.proofs.CoordinatorLemmas.{is_not_down, same_arms}
 use Rattle.syn_host.proofs.coordinator.CoordinatorHost.fail.Goals as goal
 

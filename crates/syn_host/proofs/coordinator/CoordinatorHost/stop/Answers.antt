@@ -6,7 +6,7 @@ use Rattle.syn_headline.specs.Machine.{Arms, Down, unarmed}
 use Rattle.syn_host.specs.Coordinators.{IsCoordinator, StopsMachine, stopped, with_device_arms}
 use Rattle.syn_host.specs.Coordinators as step
 use Rattle.syn_recovery.specs.Calls.{armed_at}
-use Rattle.syn_session.specs.Coordinators.{Stands, device_of}
+use Rattle.syn_coordinator.specs.Coordinators.{Stands, device_of}
 use Rattle.syn_host.proofs.CoordinatorLemmas.{archive_still, is_not_down, same_arms, tries_stopped}
 use Rattle.syn_host.proofs.coordinator.CoordinatorHost.stop.Goals as goal
 

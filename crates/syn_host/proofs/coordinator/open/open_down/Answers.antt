@@ -1,6 +1,6 @@
 use Rattle.std.proofs.Common.{subst}
 use Rattle.syn_host.specs.CoordinatorOpenings.{opens}
-use Rattle.syn_session.specs.Coordinators.{Stands}
+use Rattle.syn_coordinator.specs.Coordinators.{Stands}
 use Rattle.syn_headline.specs.Coordinator.{with_archive}
 use Rattle.syn_host.proofs.CoordinatorLemmas.{with_journal_alone}
 use Rattle.syn_host.proofs.CoordinatorOpenLemmas.{rests_with, stays_down}

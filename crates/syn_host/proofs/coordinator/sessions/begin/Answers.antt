@@ -2,7 +2,7 @@ use Rattle.std.proofs.Common.{◌≡◌, ◌∷◌, [], ◌∙◌, Err, false, a
 use Rattle.syn_headline.specs.Coordinator.{CoordinatorStarts}
 use Rattle.syn_host.specs.CoordinatorSteps.{Starts}
 use Rattle.syn_host.specs.CoordinatorSteps as steps
-use Rattle.syn_session.specs.Coordinators.{Does, written}
+use Rattle.syn_coordinator.specs.Coordinators.{Does, written}
 use Rattle.syn_session.specs.Sendings.{messages_of}
 use Rattle.syn_host.proofs.CallLemmas.{refused_call, start_call}
 use Rattle.syn_host.proofs.CoordinatorLemmas.{is_not_down}

@@ -2,7 +2,7 @@ use Rattle.std.proofs.Common.{◌∙◌, [], ap, refl}
 use Rattle.std.specs.Prelude.{◌&&◌, if◌then◌else◌, not}
 use Rattle.syn_headline.specs.Coordinator.{no_call}
 use Rattle.syn_host.specs.CoordinatorSteps.{refuses_nothing}
-use Rattle.syn_session.specs.Coordinators.{ended_in, in_report, report_shown, runs}
+use Rattle.syn_coordinator.specs.Coordinators.{ended_in, in_report, report_shown, runs}
 use Rattle.syn_session.specs.Sendings.{messages_of}
 use Rattle.syn_host.proofs.CallLemmas.{gathered_tells, tick_call}
 use Rattle.syn_host.proofs.coordinator.sessions.resend.Goals as goal

@@ -2,7 +2,7 @@ use Rattle.std.proofs.Common.{◌∙◌, ap, subst, sym}
 use Rattle.syn_archive.specs.Archive.{disk_of}
 use Rattle.syn_disk.specs.Arms.{is_stopped}
 use Rattle.syn_recovery.specs.Calls.{armed_at}
-use Rattle.syn_session.specs.Tries.{Tries}
+use Rattle.syn_keep.specs.Tries.{Tries}
 use Rattle.syn_host.proofs.coordinator.settle.down.Goals as goal
 
 pub returns : goal.returns

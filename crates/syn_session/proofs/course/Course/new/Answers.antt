@@ -1,9 +1,8 @@
-use Rattle.std.proofs.Common.{ap, refl, sym, ◌∙◌, arith}
+use Rattle.std.proofs.Common.{ap, refl, sym, arith}
 use Rattle.syn_headline.specs.Report.{is_carrying, is_marking}
-use Rattle.syn_session.specs.inner.Plans.{planned_all}
+use Rattle.syn_session.specs.Plans.{planned_all}
 use Rattle.syn_recon.specs.Items.{items_of}
 use Rattle.syn_session.proofs.TallyLemmas.{none_recorded, nothing_counted}
-use Rattle.syn_session.proofs.WalkLemmas.{passes_none}
 use Rattle.syn_session.proofs.course.Course.new.Goals as goal
 
 pub returns-clause-begun : goal.returns-clause-begun

@@ -1,7 +1,6 @@
 use Rattle.std.proofs.Common.{not, refl, ap, ◌∙◌}
 use Rattle.syn_headline.specs.Report.{is_carrying, is_marking}
-use Rattle.syn_session.proofs.AdvanceLemmas.{record_is}
-use Rattle.syn_session.proofs.CourseLemmas.{count_fits, counts_none, counts_one, course_recorded, cursor_fits, marks_else, no_conflict}
+use Rattle.syn_session.proofs.CourseLemmas.{record_is, count_fits, counts_none, counts_one, course_recorded, cursor_fits, marks_else, no_conflict}
 use Rattle.syn_session.proofs.course.Course.pass_carried.Goals as goal
 
 pub returns : goal.returns

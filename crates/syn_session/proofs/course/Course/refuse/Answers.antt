@@ -1,6 +1,6 @@
-use Rattle.std.proofs.Common.{◌≡◌, ◌<◌, ◌∙◌, ap, sym, subst, length, ltb-true, slice_index_or}
+use Rattle.std.proofs.Common.{◌<◌, ◌∙◌, ap, sym, subst, length, ltb-true, slice_index_or}
 use Rattle.syn_model.specs.Decision.{path_of}
-use Rattle.syn_session.proofs.SettleLemmas.{stands_at}
+use Rattle.syn_session.proofs.PlanLemmas.{stands_at}
 use Rattle.syn_session.proofs.course.Course.refuse.Goals as goal
 
 pub returns-clause-passes : goal.returns-clause-passes

@@ -1,4 +1,4 @@
-use Rattle.std.proofs.Common.{◌≡◌, Some, None, refl, sym, ◌∙◌, subst, inl, inr, ap}
+use Rattle.std.proofs.Common.{◌≡◌, None, refl, sym, ◌∙◌, subst}
 use Rattle.std.proofs.lemmas.Option.{none-some}
 use Rattle.syn_headline.specs.Session.{fault_of}
 use Rattle.syn_message.specs.Replies.{reply_of}

@@ -1,13 +1,13 @@
-use Rattle.std.proofs.Common.{◌≡◌, None, Some, Ok, Err, refl, sym, ap, ◌∙◌, inl, inr}
+use Rattle.std.proofs.Common.{refl, sym, ◌∙◌, inl}
 use Rattle.syn_headline.specs.Coordinator.{hearing}
 use Rattle.syn_headline.specs.Side.{Begin}
 use Rattle.syn_message.specs.Replies.{reply_of}
 use Rattle.syn_message.specs.Sides.{which_of}
-use Rattle.syn_session.specs.inner.Answering.{exchange_of}
-use Rattle.syn_session.specs.inner.Hearing.{at_once, behind}
+use Rattle.syn_session.specs.Answering.{exchange_of}
+use Rattle.syn_session.specs.Hearing.{at_once, behind}
 use Rattle.syn_session.proofs.HearLemmas.{heard_new, scans_either}
 use Rattle.syn_session.proofs.HearingLemmas.{begun_heard, begun_lines, both_begun, found_begun, hears_refused, tells_before, tells_heard, waits_on}
-use Rattle.syn_session.proofs.StartLemmas.{is_none}
+use Rattle.syn_session.proofs.SessionLemmas.{is_none}
 use Rattle.syn_session.proofs.session.Session.hear_begun.Goals as goal
 
 pub returns-in_err-check_begun : goal.returns-in_err-check_begun

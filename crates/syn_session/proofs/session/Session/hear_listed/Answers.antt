@@ -1,10 +1,10 @@
-use Rattle.std.proofs.Common.{◌≡◌, None, Some, Ok, Err, refl, sym, ap, ◌∙◌, inl, inr}
-use Rattle.syn_headline.specs.Coordinator.{hearing, is_not_dir}
+use Rattle.std.proofs.Common.{refl, ap, ◌∙◌}
+use Rattle.syn_headline.specs.Coordinator.{hearing}
 use Rattle.syn_headline.specs.Side.{ListAt}
 use Rattle.syn_message.specs.Replies.{reply_of}
 use Rattle.syn_message.specs.Sides.{which_of}
-use Rattle.syn_session.specs.inner.Answering.{exchange_of}
-use Rattle.syn_session.specs.inner.Hearing.{at_once, behind}
+use Rattle.syn_session.specs.Answering.{exchange_of}
+use Rattle.syn_session.specs.Hearing.{at_once, behind}
 use Rattle.std.specs.Prelude.{◌||◌}
 use Rattle.syn_session.proofs.HearLemmas.{heard_new, scans_either}
 use Rattle.syn_session.proofs.HearingLemmas.{found_before, hears_refused, listed_begun, listed_found, listed_heard, listed_lines, swapped, tells_before, tells_heard, waits_for}

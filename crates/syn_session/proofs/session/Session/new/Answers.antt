@@ -2,9 +2,7 @@ use Rattle.std.proofs.Common.{◌≡◌, [], refl}
 use Rattle.syn_headline.specs.Network.{Which, Left, Right}
 use Rattle.syn_session.specs.Scanning.{IsFoundIn, found_of}
 use Rattle.syn_session.specs.declared.line.Line.{Line}
-use Rattle.syn_session.specs.declared.session.Session.{Session}
-use Rattle.syn_session.specs.inner.Sessions.{begin_of, waiting_of}
-use Rattle.syn_session.specs.inner.Stages.{line_of}
+use Rattle.syn_session.specs.Sessions.{begin_of, waiting_of}
 use Rattle.syn_session.proofs.SessionLemmas.{session_begins}
 use Rattle.syn_session.proofs.session.Session.new.Goals as goal
 

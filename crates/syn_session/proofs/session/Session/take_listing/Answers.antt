@@ -5,9 +5,9 @@ use Rattle.syn_message.specs.Replies.{reply_of}
 use Rattle.syn_message.specs.Sides.{which_of}
 use Rattle.syn_model.specs.Refusal.{Memory}
 use Rattle.syn_refusal.specs.Refusals.{cause_of}
-use Rattle.syn_session.specs.Scanning.{IsFoundIn, WaitsFor, with_listing_answered, found_of}
+use Rattle.syn_session.specs.Scanning.{IsFoundIn, WaitsFor, with_listing_answered}
 use Rattle.syn_message.specs.declared.side.Side.TheVariants.{Left, Right}
-use Rattle.syn_session.specs.inner.Stages.{found_on, line_of}
+use Rattle.syn_session.specs.Stages.{found_on, line_of}
 use Rattle.syn_session.specs.declared.session.Session.{Session}
 use Rattle.syn_session.proofs.session.Session.take_listing.Goals as goal
 

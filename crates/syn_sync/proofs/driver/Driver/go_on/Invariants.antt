@@ -1,6 +1,6 @@
 use Rattle.std.proofs.Common.{ℕ}
 use Rattle.syn_headline.specs.Coordinator.{CoordinatorMachine}
-use Rattle.syn_session.specs.Coordinators.{Stands}
+use Rattle.syn_coordinator.specs.Coordinators.{Stands}
 use Rattle.syn_sync.proofs.driver.Driver.go_on.Given as goal
 use Rattle.syn_sync.specs.Drivers.{lines_of, outlets_of}
 use Rattle.syn_sync.specs.Runs.{Drives}

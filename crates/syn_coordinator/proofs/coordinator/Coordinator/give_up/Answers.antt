@@ -1,0 +1,30 @@
+use Rattle.std.proofs.Common.{sym, []}
+use Rattle.std.proofs.lemmas.List.{append-nil}
+use Rattle.syn_refusal.specs.Refusals.{cause_of}
+use Rattle.syn_session.specs.Passing.{refused_at}
+use Rattle.syn_coordinator.proofs.SettleLemmas.{ends_for_memory}
+use Rattle.syn_coordinator.proofs.coordinator.Coordinator.give_up.Goals as goal
+
+pub returns-in-Ok : goal.returns-in-Ok
+returns-in-Ok g c = record {
+  step = λ pair journal left right taken before planned is quiet course_is at none passes.
+      let later = c.in-Ok.ensures.passes left right before planned course_is at none in (
+        [],
+        sym (append-nil _),
+        later.cursor,
+        record {
+          journal = journal;
+          after = refused_at before (cause_of c.args.why) planned;
+          passes = passes;
+          is = is;
+          course_is = later;
+        },
+        quiet.0,
+      );
+}
+
+pub returns-in-Err : goal.returns-in-Err
+returns-in-Err g c = record {
+  step = λ pair journal left right taken before planned is quiet course_is at none passes.
+      ([], sym (append-nil _), ends_for_memory c.args.self.now.archive c.args.self.now.tried pair taken journal before c.refuse.new.self left right is quiet.0 quiet.1 (c.in-Err.ensures.stays left right before course_is));
+}

@@ -1,0 +1,137 @@
+-- What a coordinator shows, which of the model's machines it is, and what a call does.
+use Rattle.std.specs.Prelude.{◌≡◌, ◌++◌, ℕ, nat_le, Bool, true, not, ◌&&◌, List, [], ◌∷◌, map}
+use Rattle.std.specs.Prelude.{Option, Some, None, length, option_map, is_some, if◌then◌else◌}
+use Rattle.syn_archive.specs.Archive.{disk_of}
+use Rattle.syn_archive.specs.declared.archive.Archive.{Archive}
+use Rattle.syn_coordinator.specs.declared.coordinator.Coordinator.{Coordinator}
+use Rattle.syn_disk.specs.Arms.{is_stopped}
+use Rattle.syn_disk.specs.declared.disk.Disk.{Ghosts}
+use Rattle.syn_headline.specs.Coordinator.{Call, CoordinatorMachine, archive_layout, no_call}
+use Rattle.syn_headline.specs.Coordinator.{Running, start_causes, with_archive}
+use Rattle.syn_headline.specs.Machine.{Arms, Compacts, Down, Status, after_device}
+use Rattle.syn_headline.specs.Network.{Message}
+use Rattle.syn_headline.specs.Report.{Report}
+use Rattle.syn_headline.specs.World.{is_halted}
+use Rattle.syn_keep.specs.Machines.{IsMachine, Journal, LeavesMachine, NotReopened, Reopened}
+use Rattle.syn_keep.specs.Tries.{Tries, record_of}
+use Rattle.syn_keep.specs.declared.tried.Tried.{Tried}
+use Rattle.syn_model.specs.Archive.{Kept}
+use Rattle.syn_model.specs.Limits.{greatest}
+use Rattle.syn_model.specs.Refusal.{Cause, Refusal}
+use Rattle.syn_model.specs.Refusal as why
+use Rattle.syn_session.specs.Reports.{report_model}
+use Rattle.syn_session.specs.Sessions.{IsRunning}
+use Rattle.syn_image.specs.Archives.{kept_of}
+
+module _ {D : Type 0} {disk : Ghosts D} (coordinator : Coordinator D disk) where
+  abbrev pub archive_of : Archive D disk
+  archive_of = coordinator.archive
+
+  abbrev pub device_of : D
+  device_of = disk_of coordinator.archive
+
+  -- the report of the session that ended last, since the last start
+  abbrev pub report_shown : Option Report
+  report_shown = option_map report_model coordinator.report
+
+  -- what the last call that could write wrote into the archive, and what was answered 9 in it
+  abbrev pub written : List Kept
+  written = map kept_of coordinator.written.items
+
+  abbrev pub broken : Option Kept
+  broken = if coordinator.broke then option_map record_of coordinator.tried else None
+
+  -- the record that was tried last and not kept, until the archive is opened again
+  abbrev pub tried_shown : Option Tried
+  tried_shown = coordinator.tried
+
+  -- a session runs
+  abbrev pub runs : Bool
+  runs = is_some coordinator.running
+
+  -- it is this machine of the pair
+  pub record Stands (pair : ℕ) (machine : CoordinatorMachine) : Type 0 where
+    pub journal : IsMachine coordinator.archive pair machine.journal
+    pub running : IsRunning machine.journal.value coordinator.running machine.running
+    -- no record was cut off under a session that still runs
+    pub quiet : is_some machine.running ≡ true → machine.journal.writing ≡ None
+    pub untried : is_some machine.running ≡ true → tried_shown ≡ None
+    -- and it remembers one that was
+    pub tries : Tries pair tried_shown machine.journal
+
+-- how many items the plan of a session that runs has
+abbrev pub items_planned : Option Running → Option ℕ
+items_planned None = None
+items_planned (Some running) = option_map length running.plan
+
+-- the report of a session that ended in a call
+abbrev pub in_report : Option Report → List Report
+in_report None = []
+in_report (Some report) = report ∷ []
+
+abbrev pub ended_in : {D : Type 0} → {disk : Ghosts D} → Coordinator D disk → Coordinator D disk →
+    List Report
+ended_in old new = if runs old && not (runs new) then in_report (report_shown new) else []
+
+-- A call is a step of the machine: it leaves a machine that this coordinator is, with what was
+-- kept, sent and reported; or the machine went down in it, with what was kept so far
+pub data Does {D : Type 0} {disk : Ghosts D} (old new : Coordinator D disk) (pair : ℕ)
+    (Step : CoordinatorMachine → Call → Type 0) (kept : List Kept) (messages : List Message)
+    : Type 0 where
+  goes_on : (machine : CoordinatorMachine) (call : Call) → Step machine call →
+      Stands new pair machine → call.kept ≡ kept → call.messages ≡ messages →
+      call.reports ≡ ended_in old new → Does old new pair Step kept messages
+  goes_down : (machine : CoordinatorMachine) (call : Call) → Step machine call →
+      is_stopped (disk.arms (device_of new)) ≡ true → machine.journal.status ≡ Down →
+      LeavesMachine disk (device_of new) pair machine.journal → call.kept ≡ kept →
+      Tries pair (tried_shown new) machine.journal → Does old new pair Step kept messages
+
+-- what a call answers of reports and of what was kept stays, and so does the session that runs
+pub record KeepsReadings {D : Type 0} {disk : Ghosts D} (old new : Coordinator D disk)
+    : Type 0 where
+  pub report : report_shown new ≡ report_shown old
+  pub written_is : written new ≡ written old
+  pub broken_is : broken new ≡ broken old
+  pub tried_is : tried_shown new ≡ tried_shown old
+  pub runs_still : runs new ≡ runs old
+
+-- why a start is refused, and then for want of memory
+abbrev pub refusals_of : ℕ → CoordinatorMachine → List Cause
+refusals_of pair machine =
+    (is_halted machine.journal.status, why.Halted) ∷ start_causes pair machine
+
+abbrev pub all_causes : ℕ → CoordinatorMachine → List Cause
+all_causes pair machine = refusals_of pair machine ++ (true, why.Memory) ∷ []
+
+-- Calls on the archive as a whole
+
+abbrev pub checkpoint_refusals : CoordinatorMachine → List Cause
+checkpoint_refusals machine =
+    (is_halted machine.journal.status, why.Halted)
+    ∷ (nat_le greatest machine.journal.generation, why.Full) ∷ []
+
+abbrev pub checkpoint_causes : CoordinatorMachine → List Cause
+checkpoint_causes machine = checkpoint_refusals machine ++ (true, why.Memory) ∷ []
+
+-- a checkpoint is made, or its device fails
+pub data Checkpoints (pair : ℕ) (machine : CoordinatorMachine) : CoordinatorMachine → Call →
+    Type 0 where
+  checkpoints : (journal : Journal) → Compacts (archive_layout pair) machine.journal journal →
+      Checkpoints pair machine (with_archive machine journal) no_call
+
+-- another opening gives what the disk then means, with the record that was being written or without
+pub data Reopens (pair : ℕ) (machine : CoordinatorMachine) : CoordinatorMachine → Call →
+    Type 0 where
+  reopens : (journal : Journal) (kept : List Kept) → Reopened pair machine.journal journal kept →
+      Reopens pair machine (with_archive machine journal) (record no_call { kept = kept })
+
+-- or it gives nothing, and its device calls left the machine so
+pub data ReopensNot (machine : CoordinatorMachine) (met left : Status) : CoordinatorMachine →
+    Call → Type 0 where
+  reopens_not : (journal : Journal) → NotReopened machine.journal met left journal →
+      ReopensNot machine met left (with_archive machine journal) no_call
+
+-- with these arms at its device
+abbrev pub with_arms : CoordinatorMachine → Arms → CoordinatorMachine
+with_arms machine arms =
+    record machine { journal = after_device machine.journal machine.journal.status arms 0 }

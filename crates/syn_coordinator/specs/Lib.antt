@@ -1,0 +1,3 @@
+pub mod Coordinators
+pub mod Openings
+pub mod inner

@@ -1,0 +1,58 @@
+-- What a call that carries out a plan has come to, with what it wrote.
+use Rattle.std.specs.Prelude.{◌≡◌, ◌≤◌, ◌++◌, ℕ, suc, List, Option, None, Result, Ok, Err}
+use Rattle.syn_coordinator.specs.Coordinators.{archive_of, tried_shown, written}
+use Rattle.syn_coordinator.specs.declared.coordinator.Coordinator.{Coordinator}
+use Rattle.syn_coordinator.specs.declared.ended.Ended.{Ended}
+use Rattle.syn_coordinator.specs.inner.Walking.{Comes, ComesToAsk, Ends}
+use Rattle.syn_disk.specs.declared.disk.Disk.{Ghosts}
+use Rattle.syn_headline.specs.Coordinator.{Exchange}
+use Rattle.syn_keep.specs.Machines.{Journal}
+use Rattle.syn_message.specs.declared.request.Request.{Request as Asked}
+use Rattle.syn_message.specs.declared.side.Side.{Side}
+use Rattle.syn_model.specs.Archive.{Kept}
+use Rattle.syn_scan.specs.Found.{Found}
+use Rattle.syn_session.specs.Stages.{AreAskedBefore, Reached, plan_in}
+use Rattle.syn_session.specs.declared.course.Course.{Course}
+
+-- it asks for nothing: it is past an item, or it ends
+abbrev pub nothing_asked : {A : Type 0} → Result A Ended → Result (Option (Side × Asked)) Ended
+nothing_asked (Ok went) = Ok None
+nothing_asked (Err ended) = Err ended
+
+-- nothing is being written, and nothing is remembered that was
+abbrev pub IsQuiet : {D : Type 0} → {disk : Ghosts D} → Coordinator D disk → Journal → Type 0
+IsQuiet coordinator journal = (tried_shown coordinator ≡ None) × (journal.writing ≡ None)
+
+module _ {D : Type 0} {disk : Ghosts D} (old new : Coordinator D disk) (pair : ℕ)
+    (taken : Exchange) (journal : Journal) (before : Reached) (course : Course)
+    (left right : Found) where
+  -- it is past this item
+  abbrev pub IsPast : Type 0
+  IsPast = (kept : List Kept) × (written new ≡ written old ++ kept)
+      × (suc before.cursor ≡ course.cursor)
+      × Comes (archive_of new) pair taken journal before kept course left right
+      × (tried_shown new ≡ None)
+
+  -- the session ends so
+  abbrev pub EndsSo : Ended → Type 0
+  EndsSo ended = (kept : List Kept) × (written new ≡ written old ++ kept)
+      × Ends (archive_of new) (tried_shown new) pair taken journal before kept course left right
+      ended
+
+  -- it asks for this
+  abbrev pub AsksSo : List Exchange → Side × Asked → Type 0
+  AsksSo all asks = (kept : List Kept) × (written new ≡ written old ++ kept)
+      × ComesToAsk (archive_of new) pair taken journal before kept course left right all asks
+      × (tried_shown new ≡ None)
+
+  -- it is past this item, and nothing was asked for the next
+  abbrev pub PassesOn : List Exchange → Type 0
+  PassesOn all = IsPast × AreAskedBefore (plan_in course left right) course.cursor all
+
+  -- it is past some items, and nothing was asked for the next
+  abbrev pub HasCome : List Exchange → Type 0
+  HasCome all = (kept : List Kept) × (written new ≡ written old ++ kept)
+      × Comes (archive_of new) pair taken journal before kept course left right
+      × (before.cursor ≤ course.cursor)
+      × AreAskedBefore (plan_in course left right) course.cursor all
+      × (tried_shown new ≡ None)

@@ -1,0 +1,227 @@
+//! The answers that come to a coordinator.
+ghost use Rattle.std.specs.Prelude.{◌≡◌, [], ℕ, None, Some, is_some, option_map, true};
+ghost use Rattle.syn_coordinator.specs.inner.Answered.{Answered};
+ghost use Rattle.syn_coordinator.specs.inner.Taking.{asks_to, TakesOn, TakesSo};
+ghost use Rattle.syn_coordinator.specs.inner.Walking.{ended_by};
+ghost use Rattle.syn_headline.specs.Coordinator.{CoordinatorMachine, CoordinatorTakes, Running};
+ghost use Rattle.syn_headline.specs.Coordinator.{Exchange, hearing, report_of};
+ghost use Rattle.syn_headline.specs.Session.{fault_of};
+ghost use Rattle.syn_keep.specs.Machines.{IsMachine, Journal};
+ghost use Rattle.syn_message.specs.Replies.{IsLawfulReply, reply_of};
+ghost use Rattle.syn_message.specs.Requests.{request_of};
+ghost use Rattle.syn_message.specs.Sides.{which_of};
+ghost use Rattle.syn_refusal.specs.Refusals.{cause_of};
+ghost use Rattle.syn_session.specs.Answering.{IsAnswering, exchange_of};
+ghost use Rattle.syn_session.specs.Hearing.{HasHeard, IsScanned};
+ghost use Rattle.syn_session.specs.Sendings.{messages_of};
+ghost use Rattle.syn_session.specs.Sessions.{IsSession, Tells};
+ghost use Rattle.syn_session.specs.declared.session.Session.{Session as Ran};
+
+use super::Coordinator;
+use crate::ended::Ended;
+use std::alloc::Global;
+use syn_disk::{Disk, Limit};
+use syn_message::{Reply, Request, Side};
+use syn_propagate::transfer_laws;
+use syn_refusal::Refusal;
+use syn_session::{Asks, Course, Sending, Session};
+
+impl<D: Limit> Coordinator<D> {
+    ghost use Rattle.syn_coordinator.specs.Coordinators.{Does, Stands, archive_of, tried_shown};
+    ghost use Rattle.syn_coordinator.specs.Coordinators.{written};
+    ghost use Rattle.syn_coordinator.specs.inner.Settling.{IsQuiet};
+
+    /// Takes an answer of a side, under the session and the number of its request. It goes on
+    /// through the scans and the plan as far as it can, keeps what is due in the archive, and
+    /// answers what is to be sent.
+    ///
+    /// An answer that no request waits for is ignored. A session ends with the refusal of its
+    /// begin or of a listing; 22 where a scan grows too large; 23 where the answer does not belong
+    /// to its request; 9 where a device call fails, and 10 where one had failed before; 8 where a
+    /// record does not fit in the archive's journal, even behind a checkpoint; 11 where memory is
+    /// refused; and with none of these where it comes through its plan.
+    pub fn on_reply(
+        &mut self,
+        alloc: Global,
+        from: Side,
+        session: u64,
+        number: u32,
+        reply: Reply,
+    ) -> Vec<Sending>
+        requires lawful { IsLawfulReply (reply_of reply) }
+        // It is the step of a coordinator that takes an answer, also where its device fails or is
+        // stopped among the calls.
+        ensures step { (pair : ℕ) (machine : CoordinatorMachine) → Stands self.old pair machine
+            → Does self.old self.new pair (CoordinatorTakes pair machine (which_of from) session
+            number (reply_of reply)) (written self.new) (messages_of result.items) }
+    {
+        self.written = Vec::new(alloc);
+        self.broke = false;
+        let Some(mut running) = self.running.take() else {
+            return Vec::new(alloc);
+        };
+        let Some(request) = running.answered(from, session, number) else {
+            self.running = Some(running);
+            return Vec::new(alloc);
+        };
+        match self.take(alloc, &mut running, from, request, reply) {
+            Ok(asks) => self.ask(alloc, running, asks),
+            Err(ended) => {
+                self.finish(alloc, running, ended);
+                Vec::new(alloc)
+            }
+        }
+    }
+
+    /// Takes the answer to a request of the session, and gives what is asked next.
+    fn take(
+        &mut self,
+        alloc: Global,
+        session: &mut Session,
+        from: Side,
+        request: Request,
+        reply: Reply,
+    ) -> Result<Asks, Ended>
+        requires lawful { IsLawfulReply (reply_of reply) }
+        ensures step { (pair number : ℕ) (journal : Journal) (before : Ran) (running : Running)
+            → IsMachine (archive_of self.old) pair journal → IsQuiet self.old journal
+            → IsSession journal.value before running
+            → IsAnswering before session.old (which_of from) number (request_of request)
+            → written self.old ≡ [] → TakesSo (archive_of self.new) (tried_shown self.new) pair
+            journal running
+            (exchange_of (which_of from) number (request_of request) (reply_of reply)) session.new
+            (written self.new) result }
+    {
+        if session.course.is_some() {
+            return self.take_carried(alloc, session, from, request, reply);
+        }
+        match session.hear(alloc, from, request, reply) {
+            Ok(Some(asks)) => Ok(asks),
+            Ok(None) => self.begin_course(alloc, session),
+            Err(why) => Err(Ended::Early(why)),
+        }
+    }
+
+    /// Makes the plan of the session, both sides of which are scanned, and goes through it.
+    fn begin_course(&mut self, alloc: Global, session: &mut Session) -> Result<Asks, Ended>
+        ensures step { (pair : ℕ) (journal : Journal) (running : Running) (taken : Exchange)
+            → IsMachine (archive_of self.old) pair journal → IsQuiet self.old journal
+            → fault_of running.taken taken.side taken.request taken.reply ≡ None
+            → HasHeard session.old (hearing running taken)
+            → IsScanned session.old (hearing running taken)
+            → written self.old ≡ [] → TakesSo (archive_of self.new) (tried_shown self.new) pair
+            journal running taken session.new (written self.new) result }
+    {
+        let left = session.left.scan.found();
+        let right = session.right.scan.found();
+        let Ok(made) = Course::new(alloc, left, right, self.archive.tree()) else {
+            return Err(Ended::Early(Refusal::Memory));
+        };
+        let mut course = made;
+        let asks = self.walk(alloc, &mut course, left, right);
+        session.course = Some(course);
+        match asks {
+            Ok((side, request)) => Ok(asks_to(side, request)),
+            Err(ended) => Err(ended),
+        }
+    }
+
+    /// Takes the answer to a request for the item that the session has come to.
+    fn take_carried(
+        &mut self,
+        alloc: Global,
+        session: &mut Session,
+        from: Side,
+        request: Request,
+        reply: Reply,
+    ) -> Result<Asks, Ended>
+        ensures step { (pair number : ℕ) (journal : Journal) (before : Ran) (running : Running)
+            → IsMachine (archive_of self.old) pair journal → IsQuiet self.old journal
+            → IsSession journal.value before running
+            → IsAnswering before session.old (which_of from) number (request_of request)
+            → is_some before.course ≡ true
+            → written self.old ≡ [] → TakesSo (archive_of self.new) (tried_shown self.new) pair
+            journal running
+            (exchange_of (which_of from) number (request_of request) (reply_of reply)) session.new
+            (written self.new) result }
+    {
+        transfer_laws();
+        let Some(taken) = session.course.take() else {
+            return Err(Ended::Early(Refusal::BadMessage));
+        };
+        let mut course = taken;
+        let left = session.left.scan.found();
+        let right = session.right.scan.found();
+        let asks = self.on_carried(alloc, &mut course, left, right, reply);
+        session.course = Some(course);
+        match asks {
+            Ok((side, request)) => Ok(asks_to(side, request)),
+            Err(ended) => Err(ended),
+        }
+    }
+}
+
+impl<D: Disk> Coordinator<D> {
+    ghost use Rattle.syn_coordinator.specs.Coordinators.{Does, Stands, archive_of, broken};
+    ghost use Rattle.syn_coordinator.specs.Coordinators.{report_shown, runs, tried_shown, written};
+
+    /// Asks both sides for what comes next. Where memory is refused the session ends 11.
+    fn ask(&mut self, alloc: Global, session: Session, asks: Asks) -> Vec<Sending>
+        ensures step { (pair : ℕ) (machine : CoordinatorMachine) (running : Running)
+            (taken : Exchange) → machine.journal.writing ≡ None → tried_shown self.old ≡ None
+            → TakesOn (archive_of self.old) pair machine.journal running taken session
+            (written self.old) asks → Answered self.new pair machine running taken
+            (written self.new) (messages_of result.items) }
+    {
+        let mut session = session;
+        match session.ask(alloc, asks) {
+            Ok(sends) => {
+                self.running = Some(session);
+                sends
+            }
+            Err(_) => {
+                self.finish(alloc, session, Ended::Early(Refusal::Memory));
+                Vec::new(alloc)
+            }
+        }
+    }
+
+    /// Ends the session, and keeps its report. It takes no memory.
+    fn finish(&mut self, alloc: Global, session: Session, ended: Ended)
+        ensures running { self.new.running ≡ None }
+        ensures archive { self.new.archive ≡ self.old.archive }
+        ensures kept { (self.new.written ≡ self.old.written) × (self.new.broke ≡ self.old.broke)
+            × (self.new.tried ≡ self.old.tried) }
+        ensures report { (running : Running) → Tells session running
+            → report_shown self.new ≡ Some (report_of running (ended_by ended)) }
+    {
+        self.running = None;
+        self.report = Some(session.into_report(alloc, refusal_in(ended)));
+    }
+}
+
+/// What ended the session early, if anything did.
+fn refusal_in(ended: Ended) -> Option<Refusal>
+    ensures { option_map cause_of result ≡ ended_by ended }
+{
+    match ended {
+        Ended::Settled => None,
+        Ended::Early(why) => Some(why),
+    }
+}
+
+/// The request for a side, and nothing for the other.
+fn asks_to(side: Side, request: Request) -> Asks
+    ensures { result ≡ asks_to side request }
+{
+    match side {
+        Side::Left => Asks {
+            left: Some(request),
+            right: None,
+        },
+        Side::Right => Asks {
+            left: None,
+            right: Some(request),
+        },
+    }
+}

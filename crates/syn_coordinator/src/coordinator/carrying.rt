@@ -1,0 +1,278 @@
+//! How a coordinator carries out the plan of its session.
+ghost use Rattle.std.specs.Prelude.{◌≡◌, ◌++◌, ℕ, List, [], MatchResult, None, Some, slice_get};
+ghost use Rattle.std.specs.Prelude.{IfErr, IfOk, MatchOption, OnErr};
+ghost use Rattle.syn_coordinator.specs.inner.Advancing.{kept_by};
+ghost use Rattle.syn_coordinator.specs.inner.Settling.{nothing_asked};
+ghost use Rattle.syn_coordinator.specs.inner.Walking.{IsAtItem, Passes};
+ghost use Rattle.syn_headline.specs.Coordinator.{Exchange, IsDue};
+ghost use Rattle.syn_headline.specs.Planning.{Planned};
+ghost use Rattle.syn_headline.specs.Report.{conflict_at, is_carrying};
+ghost use Rattle.syn_headline.specs.Session.{record_for};
+ghost use Rattle.syn_keep.specs.Due.{Settles, TriesBy, IsOfItem};
+ghost use Rattle.syn_keep.specs.Machines.{IsMachine, Journal};
+ghost use Rattle.syn_message.specs.Requests.{request_of};
+ghost use Rattle.syn_message.specs.Sides.{which_of};
+ghost use Rattle.syn_model.specs.Archive.{Archive as Keeping};
+ghost use Rattle.syn_model.specs.Decision.{Conflict};
+ghost use Rattle.syn_propagate.specs.Transfers.{Asks, IsReady, carriage_of};
+ghost use Rattle.syn_refusal.specs.Refusals.{cause_of};
+ghost use Rattle.syn_scan.specs.Found.{Found};
+ghost use Rattle.syn_session.specs.Passing.{refused_at};
+ghost use Rattle.syn_session.specs.Stages.{AreAskedBefore, Carries, IsCarriedFor, IsCarriageOf};
+ghost use Rattle.syn_session.specs.Stages.{IsCourse, Reached, plan_in};
+ghost use Rattle.syn_image.specs.Archives.{kept_of};
+
+use super::Coordinator;
+use crate::ended::Ended;
+use std::alloc::Global;
+use syn_disk::Limit;
+use syn_image::Kept;
+use syn_keep::{Due, Tried, keep_due, refusal_for};
+use syn_message::{Request, Side};
+use syn_model::plan_laws;
+use syn_path::Path;
+use syn_propagate::Next;
+use syn_refusal::Refusal;
+use syn_scan::Scan;
+use syn_session::{Carried, Course, Doing};
+
+impl<D: Limit> Coordinator<D> {
+    ghost use Rattle.syn_coordinator.specs.Coordinators.{archive_of, tried_shown, written};
+    ghost use Rattle.syn_coordinator.specs.inner.Settling.{AsksSo, EndsSo, IsPast, IsQuiet};
+    ghost use Rattle.syn_coordinator.specs.inner.Settling.{PassesOn};
+
+    /// Keeps in the archive what is due for the item that the session has come to, and goes past
+    /// the item. The session ends as its record does, and 11 where memory is refused.
+    pub(super) fn settle(
+        &mut self,
+        alloc: Global,
+        course: &mut Course,
+        kept: Kept,
+        was_carried: bool,
+    ) -> Result<(), Ended>
+        requires { IsOfItem (kept_of kept) }
+        ensures step { (pair : ℕ) (journal : Journal) (left right : Found) (taken : Exchange)
+            (before : Reached) (planned : Planned) → IsMachine (archive_of self.old) pair journal
+            → IsQuiet self.old journal → IsCourse course.old left right before
+            → slice_get (plan_in course.old left right) course.old.cursor ≡ Some planned
+            → IsDue course.old.cursor planned taken (kept_of kept)
+            → is_carrying planned.item ≡ was_carried
+            → MatchResult result
+            (λ _. IsPast self.old self.new pair taken journal before course.new left right)
+            (EndsSo self.old self.new pair taken journal before course.new left right) }
+        ensures running { self.new.running ≡ self.old.running }
+        ensures report { self.new.report ≡ self.old.report }
+    {
+        let due = self.keep(alloc, kept);
+        if self.archive.is_cut() {
+            return Err(Ended::Early(Refusal::Device));
+        }
+        match due {
+            Due::Recorded => {
+                course.pass_kept(was_carried);
+                Ok(())
+            }
+            Due::Refused(why) => match course.refuse(alloc, why) {
+                Ok(()) => Ok(()),
+                Err(_) => Err(Ended::Early(Refusal::Memory)),
+            },
+            Due::Ends(why) => Err(Ended::Early(why)),
+        }
+    }
+
+    /// Keeps what is due in the archive, and tells it among what was written. The session ends 11
+    /// where memory is refused.
+    fn keep(&mut self, alloc: Global, kept: Kept) -> Due
+        requires { IsOfItem (kept_of kept) }
+        ensures settles { (pair : ℕ) (journal : Journal)
+            → IsMachine (archive_of self.old) pair journal
+            → Settles (archive_of self.new) pair journal (kept_of kept) result }
+        ensures written { written self.new ≡ written self.old ++ kept_by (kept_of kept) result }
+        ensures tried { TriesBy (archive_of self.new) (kept_of kept) (tried_shown self.old)
+            (tried_shown self.new) result }
+        ensures running { self.new.running ≡ self.old.running }
+        ensures report { self.new.report ≡ self.old.report }
+    {
+        if self.written.reserve(1).is_err() {
+            return Due::Ends(Refusal::Memory);
+        }
+        let due = keep_due(alloc, &mut self.archive, &kept);
+        match due {
+            Due::Recorded => self.written.push_reserved(kept),
+            Due::Refused(_) => {}
+            Due::Ends(Refusal::Device) => {
+                self.tried = Some(Tried::new(kept, &self.archive));
+                self.broke = true;
+            }
+            Due::Ends(_) => {}
+        }
+        due
+    }
+
+    /// Goes past the item that the session has come to, which is a conflict. The session ends 11
+    /// where memory is refused.
+    fn pass_conflict(&self, course: &mut Course, path: Path) -> Result<(), Ended>
+        ensures step { (pair : ℕ) (journal : Journal) (left right : Found) (taken : Exchange)
+            (before : Reached) (planned : Planned) → IsMachine (archive_of self.now) pair journal
+            → IsQuiet self.now journal → IsCourse course.old left right before
+            → slice_get (plan_in course.old left right) course.old.cursor ≡ Some planned
+            → planned.item ≡ Conflict path
+            → MatchResult result
+            (λ _. IsPast self.now self.now pair taken journal before course.new left right)
+            (EndsSo self.now self.now pair taken journal before course.new left right) }
+    {
+        match course.pass_conflict(path) {
+            Ok(()) => Ok(()),
+            Err(_) => Err(Ended::Early(Refusal::Memory)),
+        }
+    }
+
+    /// Goes past the item that the session has come to, which is refused so. The session ends 11
+    /// where memory is refused.
+    pub(super) fn give_up(
+        &self,
+        alloc: Global,
+        course: &mut Course,
+        why: Refusal,
+    ) -> Result<(), Ended>
+        ensures step { (pair : ℕ) (journal : Journal) (left right : Found) (taken : Exchange)
+            (before : Reached) (planned : Planned) → IsMachine (archive_of self.now) pair journal
+            → IsQuiet self.now journal → IsCourse course.old left right before
+            → slice_get (plan_in course.old left right) course.old.cursor ≡ Some planned
+            → conflict_at planned.item ≡ None → Passes pair taken journal before journal
+            (refused_at before (cause_of why) planned) []
+            → MatchResult result
+            (λ _. IsPast self.now self.now pair taken journal before course.new left right)
+            (EndsSo self.now self.now pair taken journal before course.new left right) }
+    {
+        match course.refuse(alloc, why) {
+            Ok(()) => Ok(()),
+            Err(_) => Err(Ended::Early(Refusal::Memory)),
+        }
+    }
+
+    /// Asks for the first piece of the item that the session has come to, which is carried; or goes
+    /// past the item where the archive refuses its record. The session ends 11 where memory is
+    /// refused.
+    fn carry(
+        &self,
+        alloc: Global,
+        course: &mut Course,
+        carried: Carried,
+    ) -> Result<Option<(Side, Request)>, Ended>
+        requires { IsOfItem (kept_of carried.kept) }
+        ensures step { (pair : ℕ) (journal : Journal) (left right : Found) (taken : Exchange)
+            (all : List Exchange) (before : Reached) (planned : Planned)
+            → IsMachine (archive_of self.now) pair journal → IsQuiet self.now journal
+            → IsAtItem course.old left right all before
+            → slice_get (plan_in course.old left right) course.old.cursor ≡ Some planned
+            → IsCarriageOf (carriage_of carried.transfer) planned course.old.cursor
+            → record_for planned planned.item ≡ Some (kept_of carried.kept)
+            → IsReady carried.transfer
+            → MatchResult result (λ next. MatchOption next
+            (IsPast self.now self.now pair taken journal before course.new left right)
+            (AsksSo self.now self.now pair taken journal before course.new left right all))
+            (EndsSo self.now self.now pair taken journal before course.new left right) }
+    {
+        if let Some(why) = refusal_for(&self.archive, &carried.kept) {
+            return nothing_asked(self.give_up(alloc, course, why));
+        }
+        match ask_first(alloc, course, carried) {
+            Ok(asks) => Ok(Some(asks)),
+            Err(ended) => Err(ended),
+        }
+    }
+
+    /// Goes on through the plan, until it asks for the first piece of an item, or the session ends.
+    /// It ends without a refusal where no item is left, and else as an item ends it. It ends 11
+    /// behind 2^64 - 1 items, and no plan has as many.
+    pub(super) fn walk(
+        &mut self,
+        alloc: Global,
+        course: &mut Course,
+        left: &Scan,
+        right: &Scan,
+    ) -> Result<(Side, Request), Ended>
+        ensures step { (pair : ℕ) (journal : Journal) (taken : Exchange) (all : List Exchange)
+            (before : Reached) → IsMachine (archive_of self.old) pair journal
+            → IsQuiet self.old journal → IsAtItem course.old left.now right.now all before
+            → MatchResult result
+            (AsksSo self.old self.new pair taken journal before course.new left.now right.now all)
+            (EndsSo self.old self.new pair taken journal before course.new left.now right.now) }
+        ensures running { self.new.running ≡ self.old.running }
+        ensures report { self.new.report ≡ self.old.report }
+    {
+        for _ in 0..u64::MAX {
+            match self.pass(alloc, course, left, right) {
+                Ok(Some(asks)) => return Ok(asks),
+                Ok(None) => {}
+                Err(ended) => return Err(ended),
+            }
+        }
+        Err(Ended::Early(Refusal::Memory))
+    }
+
+    /// Goes past the item that the session has come to, or asks for its first piece. The session
+    /// ends without a refusal where no item is left, 11 where memory is refused, and else as the
+    /// record of the item does.
+    fn pass(
+        &mut self,
+        alloc: Global,
+        course: &mut Course,
+        left: &Scan,
+        right: &Scan,
+    ) -> Result<Option<(Side, Request)>, Ended>
+        ensures step { (pair : ℕ) (journal : Journal) (taken : Exchange) (all : List Exchange)
+            (before : Reached) → IsMachine (archive_of self.old) pair journal
+            → IsQuiet self.old journal → IsAtItem course.old left.now right.now all before
+            → MatchResult result (λ next. MatchOption next
+            (PassesOn self.old self.new pair taken journal before course.new left.now right.now all)
+            (AsksSo self.old self.new pair taken journal before course.new left.now right.now all))
+            (EndsSo self.old self.new pair taken journal before course.new left.now right.now) }
+        ensures running { self.new.running ≡ self.old.running }
+        ensures report { self.new.report ≡ self.old.report }
+    {
+        match course.doing(alloc, left, right) {
+            Ok(Doing::Nothing) => Err(Ended::Settled),
+            Ok(Doing::Conflict(path)) => nothing_asked(self.pass_conflict(course, path)),
+            Ok(Doing::Mark(kept)) => nothing_asked(self.settle(alloc, course, kept, false)),
+            Ok(Doing::Carry(carried)) => self.carry(alloc, course, carried),
+            Err(_) => Err(Ended::Early(Refusal::Memory)),
+        }
+    }
+}
+
+/// The session asks for nothing: it is past an item, or it ends.
+fn nothing_asked(went: Result<(), Ended>) -> Result<Option<(Side, Request)>, Ended>
+    ensures { result ≡ nothing_asked went }
+{
+    match went {
+        Ok(()) => Ok(None),
+        Err(ended) => Err(ended),
+    }
+}
+
+/// Asks for the first piece of the item that the session has come to, which is carried. The session
+/// ends 11 where memory is refused.
+fn ask_first(alloc: Global, course: &mut Course, carried: Carried) -> Result<(Side, Request), Ended>
+    ensures step { (archive : Keeping) (left right : Found) (all : List Exchange)
+        (before : Reached) (planned : Planned) → IsCourse course.old left right before
+        → slice_get (plan_in course.old left right) course.old.cursor ≡ Some planned
+        → IsCarriedFor archive carried planned course.old.cursor → IsReady carried.transfer
+        → AreAskedBefore (plan_in course.old left right) course.old.cursor all
+        → IfOk result (λ asks. Carries archive course.new left right all before
+        (λ transfer. Asks transfer all (which_of asks.0) (request_of asks.1))) }
+    ensures memory { IfErr result (λ ended. ended ≡ Ended.Early Refusal.Memory) }
+    ensures stays { OnErr result (course.new ≡ course.old) }
+{
+    plan_laws();
+    let mut carried = carried;
+    match carried.transfer.step(alloc, None) {
+        Ok(Next::Ask(side, request)) => {
+            course.carried = Some(carried);
+            Ok((side, request))
+        }
+        // A transfer that has asked for nothing yet is not done, and no side refused anything.
+        _ => Err(Ended::Early(Refusal::Memory)),
+    }
+}

@@ -1,0 +1,179 @@
+//! The coordinator's archive as a whole: a checkpoint, another opening, and the arms of its device.
+ghost use Rattle.std.specs.Prelude.{◌≡◌, ◌≢◌, ◌<◌, ◌^◌, [], ℕ, true, false, Err, IfErr, OnOk, IfOk};
+ghost use Rattle.std.specs.Prelude.{MatchResult, None, Some, option_map};
+ghost use Rattle.syn_archive.specs.Refusals.{CountsFailures, refusal_of};
+ghost use Rattle.syn_coordinator.specs.Coordinators.{with_arms};
+ghost use Rattle.syn_disk.specs.Armed.{armed};
+ghost use Rattle.syn_disk.specs.Arms.{is_stopped};
+ghost use Rattle.syn_disk.specs.Disk.{SameOutcomes};
+ghost use Rattle.syn_headline.specs.Coordinator.{CoordinatorMachine};
+ghost use Rattle.syn_headline.specs.Machine.{Halted, Up};
+ghost use Rattle.syn_model.specs.Refusal.{first_cause};
+ghost use Rattle.syn_recovery.specs.Calls.{armed_at};
+
+use super::Coordinator;
+use std::alloc::Global;
+use syn_archive::ArchiveError;
+use syn_disk::{Arm, Disk, Limit};
+use syn_image::Kept;
+use syn_keep::found;
+use syn_model::archive_laws;
+use syn_recovery::{device_laws, opening_laws};
+
+impl<D: Disk> Coordinator<D> {
+    ghost use Rattle.syn_coordinator.specs.Coordinators.{Checkpoints, Does, KeepsReadings, Stands};
+    ghost use Rattle.syn_coordinator.specs.Coordinators.{checkpoint_causes, checkpoint_refusals};
+    ghost use Rattle.syn_coordinator.specs.Coordinators.{device_of};
+
+    /// Writes the archive as one image, so that its journal has room again. A session that runs
+    /// goes on.
+    ///
+    /// Refused 10 while the archive is halted, 7 where its generation is the greatest that can be
+    /// written, 11 where memory is refused, and 9 where a device call fails. After 9 the archive is
+    /// halted; it shows the same in each case.
+    pub fn checkpoint(&mut self, alloc: Global) -> Result<(), ArchiveError>
+        // It is a checkpoint of the machine, also where its device fails or is stopped.
+        ensures step { (pair : ℕ) (machine : CoordinatorMachine) → Stands self.old pair machine
+            → MatchResult result
+            (λ _. Does self.old self.new pair (Checkpoints pair machine) [] [])
+            (λ e. e ≡ ArchiveError.Device
+            → Does self.old self.new pair (Checkpoints pair machine) [] []) }
+
+        // Any other refusal is the first cause that stands, and changes nothing.
+        ensures refused { (pair : ℕ) (machine : CoordinatorMachine) → Stands self.old pair machine
+            → IfErr result (λ e. e ≢ ArchiveError.Device
+            → (first_cause (checkpoint_causes machine) ≡ Some (refusal_of e))
+            × Stands self.new pair machine) }
+
+        // It is made, or its device fails, only where no cause stands.
+        ensures allowed { (pair : ℕ) (machine : CoordinatorMachine) → Stands self.old pair machine
+            → MatchResult result (λ _. first_cause (checkpoint_refusals machine) ≡ None)
+            (λ e. e ≡ ArchiveError.Device → first_cause (checkpoint_refusals machine) ≡ None) }
+        ensures same { KeepsReadings self.old self.new }
+        ensures failures { MatchResult result
+            (λ _. D.failures (device_of self.new) ≡ D.failures (device_of self.old))
+            (λ e. CountsFailures e (D.failures (device_of self.old))
+            (D.failures (device_of self.new))) }
+    {
+        device_laws();
+        archive_laws();
+        let generation = self.archive.generation();
+        is_long(generation);
+        match self.archive.checkpoint(alloc) {
+            Ok(()) => {
+                self.archive.keeps_on_disk();
+                Ok(())
+            }
+            Err(error) => Err(error),
+        }
+    }
+}
+
+impl<D: Limit> Coordinator<D> {
+    ghost use Rattle.syn_coordinator.specs.Coordinators.{Does, KeepsReadings, Reopens, ReopensNot};
+    ghost use Rattle.syn_coordinator.specs.Coordinators.{Stands, archive_of, device_of};
+    ghost use Rattle.syn_coordinator.specs.Coordinators.{report_shown, runs, tried_shown, written};
+    ghost use Rattle.syn_keep.specs.Tries.{found_in, listed};
+    ghost use Rattle.syn_image.specs.Archives.{kept_of};
+
+    /// Opens the archive's own disk again. A session that runs goes on; an archive that was halted
+    /// runs again. It answers the record that was being written as the device failed, if the disk
+    /// has it.
+    ///
+    /// Refused 9 where a device call fails, and 11 where memory is refused. After 9 the archive is
+    /// halted; after 11 it is as it was. Nothing is written. What was tried is forgotten once the
+    /// archive is open, unless the machine stopped in the call.
+    pub fn reopen(&mut self, alloc: Global) -> Result<Option<Kept>, ArchiveError>
+        // It is another opening of the machine, and answers the record that it found.
+        ensures ok { (pair : ℕ) (machine : CoordinatorMachine) → Stands self.old pair machine
+            → IfOk result (λ found. Does self.old self.new pair (Reopens pair machine)
+            (listed (option_map kept_of found)) []) }
+        ensures device { (pair : ℕ) (machine : CoordinatorMachine) → Stands self.old pair machine
+            → result ≡ Err ArchiveError.Device
+            → Does self.old self.new pair (ReopensNot machine Halted Halted) [] [] }
+        ensures memory { (pair : ℕ) (machine : CoordinatorMachine) → Stands self.old pair machine
+            → IfErr result (λ e. e ≢ ArchiveError.Device → (e ≡ ArchiveError.Memory)
+            × Does self.old self.new pair
+            (ReopensNot machine Up machine.journal.status) [] []) }
+        ensures same { IfErr result (λ _. KeepsReadings self.old self.new) }
+        ensures again { OnOk result ((report_shown self.new ≡ report_shown self.old)
+            × (written self.new ≡ written self.old) × (runs self.new ≡ runs self.old)) }
+        ensures forgets { OnOk result (is_stopped (D.Disk.arms (device_of self.new)) ≡ false
+            → tried_shown self.new ≡ None) }
+        ensures failures { MatchResult result
+            (λ _. D.Disk.failures (device_of self.new) ≡ D.Disk.failures (device_of self.old))
+            (λ e. CountsFailures e (D.Disk.failures (device_of self.old))
+            (D.Disk.failures (device_of self.new))) }
+    {
+        device_laws();
+        opening_laws();
+        self.archive.keeps_on_disk();
+        match self.archive.reopen(alloc) {
+            Ok(()) => {
+                self.archive.keeps_on_disk();
+                Ok(self.recovered())
+            }
+            Err(error) => {
+                self.archive.keeps_on_disk();
+                Err(error)
+            }
+        }
+    }
+
+    /// What was tried, where the archive has it now; and it is forgotten. Where the machine is
+    /// stopped it is still remembered, and nothing is answered.
+    fn recovered(&mut self) -> Option<Kept>
+        ensures goes { is_stopped (D.Disk.arms (device_of self.new)) ≡ false
+            → (tried_shown self.new ≡ None) × (option_map kept_of result
+            ≡ found_in (tried_shown self.old) (archive_of self.new)) }
+        ensures stopped { is_stopped (D.Disk.arms (device_of self.new)) ≡ true
+            → (tried_shown self.new ≡ tried_shown self.old)
+            × (option_map kept_of result ≡ None) }
+        ensures archive { self.new.archive ≡ self.old.archive }
+        ensures running { self.new.running ≡ self.old.running }
+        ensures report { self.new.report ≡ self.old.report }
+        ensures written { self.new.written ≡ self.old.written }
+    {
+        if self.archive.is_cut() {
+            return None;
+        }
+        found(self.tried.take(), &self.archive)
+    }
+
+    /// Arms the archive's disk. It takes the place of an arm of its kind that is still to come.
+    pub fn arm(&mut self, arm: Arm)
+        ensures arms { D.Disk.arms (device_of self.new) ≡ armed (D.Disk.arms (device_of self.old))
+            arm }
+        ensures stands { (pair : ℕ) (machine : CoordinatorMachine) → Stands self.old pair machine
+            → is_stopped (D.Disk.arms (device_of self.new)) ≡ false
+            → Stands self.new pair (with_arms machine
+            (armed_at (D.Disk.arms (device_of self.new)))) }
+
+        // It changes nothing that a read gives or a stop leaves, nor what the coordinator shows.
+        ensures seen { D.Disk.seen (device_of self.new) ≡ D.Disk.seen (device_of self.old) }
+        ensures stop { SameOutcomes (D.Disk.may_leave (device_of self.old))
+            (D.Disk.may_leave (device_of self.new)) }
+        ensures moment { D.Disk.moment (device_of self.new) ≡ D.Disk.moment (device_of self.old) }
+        ensures past { (t : ℕ) → SameOutcomes (D.Disk.left_since (device_of self.old) t)
+            (D.Disk.left_since (device_of self.new) t) }
+        ensures failures { D.Disk.failures (device_of self.new)
+            ≡ D.Disk.failures (device_of self.old) }
+        ensures same { KeepsReadings self.old self.new }
+    {
+        self.archive.arm(arm);
+    }
+
+    /// Whether all the device calls before a stop are made.
+    pub fn is_cut(&self) -> bool
+        ensures { result ≡ is_stopped (D.Disk.arms (device_of self.now)) }
+    {
+        self.archive.is_cut()
+    }
+}
+
+/// Eight bytes spell it.
+fn is_long(number: u64)
+    ensures { number < 2 ^ 64 }
+{
+    let _ = number;
+}

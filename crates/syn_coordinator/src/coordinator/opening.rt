@@ -1,0 +1,48 @@
+//! The machine of a coordinator is started again.
+ghost use Rattle.std.specs.Prelude.{IfErr, IfOk, option_map};
+ghost use Rattle.syn_coordinator.specs.Openings.{OpensAs, RestsStill, RestsWith};
+ghost use Rattle.syn_keep.specs.Machines.{Journal};
+ghost use Rattle.syn_keep.specs.Tries.{listed};
+ghost use Rattle.syn_image.specs.Archives.{kept_of};
+
+use super::Coordinator;
+use std::alloc::Global;
+use syn_archive::{Archive, ArchiveError};
+use syn_disk::Disk;
+use syn_image::Kept;
+use syn_keep::{Tried, found};
+use syn_recovery::{device_laws, opening_laws};
+
+impl<D: Disk> Coordinator<D> {
+    /// Opens the disk of a coordinator whose machine was down, and which had tried this last. It
+    /// answers the record that was being written as the device failed or the machine stopped, if
+    /// the disk has it.
+    ///
+    /// Refused 9 where a device call fails, and 11 where memory is refused; the disk comes back
+    /// with what was tried. Nothing is written.
+    pub fn open(
+        alloc: Global,
+        disk: D,
+        pair: u64,
+        tried: Option<Tried>,
+    ) -> Result<(Coordinator<D>, Option<Kept>), (ArchiveError, D, Option<Tried>)>
+        ensures opens { (machine : Journal) → RestsWith D.arms D.may_leave pair disk tried
+            machine → IfOk result (λ made. OpensAs made.0 pair machine
+            (listed (option_map kept_of made.1))) }
+        ensures rests { (machine : Journal) → RestsWith D.arms D.may_leave pair disk tried
+            machine → IfErr result (λ refused. RestsStill D.arms D.may_leave pair refused.1
+            refused.2 machine refused.0) }
+    {
+        device_laws();
+        opening_laws();
+        match Archive::open(alloc, disk, Some(pair)) {
+            Ok(archive) => {
+                archive.keeps_on_disk();
+                let kept = found(tried, &archive);
+                let coordinator = Coordinator::new(alloc, archive);
+                Ok((coordinator, kept))
+            }
+            Err((error, disk)) => Err((error, disk, tried)),
+        }
+    }
+}

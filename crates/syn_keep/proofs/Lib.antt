@@ -1,0 +1,5 @@
+pub mod MachineLemmas
+pub mod StayLemmas
+pub mod CheckpointLemmas
+pub mod OutcomeLemmas
+pub mod DueLemmas

@@ -1,0 +1,5 @@
+pub mod Machines
+pub mod Tries
+pub mod Steps
+pub mod Due
+pub mod inner

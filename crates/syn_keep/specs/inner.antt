@@ -1,0 +1,2 @@
+-- Definitions of what is private.
+pub mod Recording

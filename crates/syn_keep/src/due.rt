@@ -1,0 +1,310 @@
+//! A record that is due for an item of the plan.
+ghost use Rattle.std.specs.Prelude.{◌≡◌, ◌||◌, ◌<◌, ◌^◌, ℕ, nat_le, IfErr, IfOk, None, Some, false};
+ghost use Rattle.std.specs.Prelude.{option_map};
+ghost use Rattle.syn_archive.specs.Archive.{disk_of, left_shown, marks_shown, pair_of, shown};
+ghost use Rattle.syn_archive.specs.Disks.{kept_size};
+ghost use Rattle.syn_disk.specs.Arms.{is_stopped};
+ghost use Rattle.syn_headline.specs.Coordinator.{archive_layout};
+ghost use Rattle.syn_headline.specs.Machine.{has_room};
+ghost use Rattle.syn_headline.specs.Session.{is_recorded};
+ghost use Rattle.syn_keep.specs.Due.{IsReady, Settles, CountsFailures, CountsFailuresOrStops};
+ghost use Rattle.syn_keep.specs.Due.{IsOfItem};
+ghost use Rattle.syn_keep.specs.Machines.{IsMachine, Journal};
+ghost use Rattle.syn_keep.specs.inner.Recording.{Checkpoints, MakesRoomNow, Writes, ended_by};
+ghost use Rattle.syn_mark.specs.Marks.{or_absent};
+ghost use Rattle.syn_model.specs.Archive.{IsLawfulKept, Recorded as RecordOf, RecordedDir};
+ghost use Rattle.syn_model.specs.Archive.{kept_refusal};
+ghost use Rattle.syn_model.specs.Mark.{IsMarks};
+ghost use Rattle.syn_model.specs.Tree.{is_directory};
+ghost use Rattle.syn_refusal.specs.Refusals.{cause_of};
+ghost use Rattle.syn_image.specs.Archives.{kept_of};
+
+use std::alloc::Global;
+use syn_archive::{Archive, ArchiveError};
+use syn_disk::{Disk, Limit};
+use syn_image::{Kept, dir_length, record_length};
+use syn_mark::{Mark, MarkTree};
+use syn_path::Path;
+use syn_recovery::device_laws;
+use syn_refusal::Refusal;
+use syn_tree::TreeError;
+
+/// What became of a record that was due.
+#[derive(Clone, Copy, Debug, PartialEq, Eq)]
+pub enum Due {
+    /// It is in the archive.
+    Recorded,
+    /// Its item is refused so.
+    Refused(Refusal),
+    /// The session ends for this.
+    Ends(Refusal),
+}
+
+/// Records in the archive what is due for an item; a directory that is recorded already is left as
+/// it is. Where the record does not fit into the journal, one checkpoint makes room for it.
+///
+/// The item is refused as the archive refuses the record: 6 at the root, 2 where the parent is no
+/// directory, 7 where the archive would pass a limit; and 7 where no checkpoint can be made.
+/// The session ends 10 where the archive is halted, 9 where a device call fails or the machine is
+/// stopped behind the checkpoint, 8 where that leaves no room either, and 11 where memory is
+/// refused.
+pub fn keep_due<D: Limit>(alloc: Global, archive: &mut Archive<D>, kept: &Kept) -> Due
+    requires { IsOfItem (kept_of kept.now) }
+    ensures settles { (pair : ℕ) (machine : Journal) → IsMachine archive.old pair machine
+        → Settles archive.new pair machine (kept_of kept.now) result }
+    ensures failures { CountsFailuresOrStops result
+        (is_stopped (D.Disk.arms (disk_of archive.new)))
+        (D.Disk.failures (disk_of archive.old)) (D.Disk.failures (disk_of archive.new)) }
+    ensures pair { pair_of archive.new ≡ pair_of archive.old }
+{
+    is_lawful(kept);
+    if archive.is_halted() {
+        return Due::Ends(Refusal::Halted);
+    }
+    match refusal_for(archive, kept) {
+        Some(why) => Due::Refused(why),
+        None if has_room(archive, kept) => write(alloc, archive, kept),
+        None => write_behind(alloc, archive, kept),
+    }
+}
+
+/// Records behind a checkpoint what the archive does not refuse and has no room for.
+fn write_behind<D: Limit>(alloc: Global, archive: &mut Archive<D>, kept: &Kept) -> Due
+    requires { IsOfItem (kept_of kept.now) }
+    ensures settles { (pair : ℕ) (machine : Journal) → IsMachine archive.old pair machine
+        → IsReady machine (kept_of kept.now)
+        → has_room (archive_layout pair) machine (kept_of kept.now) ≡ false
+        → Settles archive.new pair machine (kept_of kept.now) result }
+    ensures failures { CountsFailuresOrStops result
+        (is_stopped (D.Disk.arms (disk_of archive.new)))
+        (D.Disk.failures (disk_of archive.old)) (D.Disk.failures (disk_of archive.new)) }
+    ensures pair { pair_of archive.new ≡ pair_of archive.old }
+{
+    match make_room(alloc, archive) {
+        Some(due) => due,
+        None if has_room(archive, kept) => write(alloc, archive, kept),
+        None => Due::Ends(Refusal::JournalFull),
+    }
+}
+
+/// It can be kept in an archive, if the archive does not refuse it.
+fn is_lawful(kept: &Kept)
+    ensures { IsLawfulKept (kept_of kept.now) }
+{
+    match kept {
+        Kept::Session(_) => {}
+        Kept::Record(path, marks) => {
+            let _ = path.names();
+            are_lawful(marks.as_ref());
+        }
+        Kept::Dir(path) => {
+            let _ = path.names();
+        }
+    }
+}
+
+/// They are marks, or none.
+fn are_lawful(marks: Option<&MarkTree>)
+    ensures { IsMarks (or_absent (option_map (λ there. there.now) marks.entry)) }
+{
+    match marks {
+        None => {}
+        Some(there) => {
+            let _ = there.as_slice();
+        }
+    }
+}
+
+/// Why the archive refuses the record of an item, but for its journal and its device.
+pub fn refusal_for<D: Disk>(archive: &Archive<D>, kept: &Kept) -> Option<Refusal>
+    requires { IsOfItem (kept_of kept.now) }
+    ensures { option_map cause_of result ≡ kept_refusal (shown archive.now) (kept_of kept.now) }
+{
+    match kept {
+        Kept::Session(_) => unreachable!(),
+        Kept::Record(path, marks) => match archive.fits(path, marks.as_ref()) {
+            Ok(()) => None,
+            Err(error) => Some(error.refusal()),
+        },
+        Kept::Dir(path) => refusal_for_dir(archive, path),
+    }
+}
+
+/// The same of a directory.
+fn refusal_for_dir<D: Disk>(archive: &Archive<D>, path: &Path) -> Option<Refusal>
+    ensures { option_map cause_of result ≡ kept_refusal (shown archive.now) (RecordedDir path.now) }
+{
+    if path.names().is_empty() {
+        return Some(Refusal::Root);
+    }
+    if has_dir(archive, path) {
+        return None;
+    }
+    match archive.tree().check_dir(path) {
+        Ok(()) => None,
+        Err(error) => Some(error.refusal()),
+    }
+}
+
+/// Whether a directory is recorded at the path.
+fn has_dir<D: Disk>(archive: &Archive<D>, path: &Path) -> bool
+    ensures { result ≡ is_directory (marks_shown archive.now) path.now }
+{
+    matches!(archive.tree().get(path), Some(Mark::Dir))
+}
+
+/// Whether the record need not be written, or fits into what the journal has left.
+fn has_room<D: Disk>(archive: &Archive<D>, kept: &Kept) -> bool
+    requires { IsOfItem (kept_of kept.now) }
+    ensures { result ≡ (is_recorded (shown archive.now) (kept_of kept.now)
+        || nat_le (kept_size (kept_of kept.now)) (left_shown archive.now)) }
+{
+    match kept {
+        Kept::Session(_) => unreachable!(),
+        Kept::Record(path, marks) => record_length(path, marks.as_ref()) <= archive.room(),
+        Kept::Dir(path) => has_dir(archive, path) || dir_length(path) <= archive.room(),
+    }
+}
+
+/// Writes a checkpoint, so that the journal has room again, and answers nothing; or how what is due
+/// ends without one.
+fn make_room<D: Limit>(alloc: Global, archive: &mut Archive<D>) -> Option<Due>
+    ensures room { (pair : ℕ) (machine : Journal) → IsMachine archive.old pair machine
+        → MakesRoomNow archive.new pair machine result }
+    ensures failures { (due : Due) → result ≡ Some due → CountsFailuresOrStops due
+        (is_stopped (D.Disk.arms (disk_of archive.new)))
+        (D.Disk.failures (disk_of archive.old)) (D.Disk.failures (disk_of archive.new)) }
+    ensures none { result ≡ None
+        → D.Disk.failures (disk_of archive.new) ≡ D.Disk.failures (disk_of archive.old) }
+    ensures pair { pair_of archive.new ≡ pair_of archive.old }
+{
+    match checkpoint(alloc, archive) {
+        Some(due) => Some(due),
+        None if archive.is_cut() => Some(Due::Ends(Refusal::Device)),
+        None => None,
+    }
+}
+
+/// Writes a checkpoint, and answers nothing; or how what is due ends without one.
+fn checkpoint<D: Disk>(alloc: Global, archive: &mut Archive<D>) -> Option<Due>
+    ensures made { (pair : ℕ) (machine : Journal) → IsMachine archive.old pair machine
+        → Checkpoints archive.new pair machine result }
+    ensures failures { (due : Due) → result ≡ Some due → CountsFailures due
+        (D.failures (disk_of archive.old)) (D.failures (disk_of archive.new)) }
+    ensures none { result ≡ None
+        → D.failures (disk_of archive.new) ≡ D.failures (disk_of archive.old) }
+    ensures pair { pair_of archive.new ≡ pair_of archive.old }
+{
+    device_laws();
+    let generation = archive.generation();
+    is_long(generation);
+    match archive.checkpoint(alloc) {
+        Ok(()) => {
+            archive.keeps_on_disk();
+            None
+        }
+        Err(ArchiveError::Full) => Some(Due::Refused(Refusal::Full)),
+        Err(error) => Some(ending(error)),
+    }
+}
+
+/// How what is due ends where the archive fails so: for the device, and else for want of memory,
+/// since each other cause was looked at before.
+fn ending(error: ArchiveError) -> Due
+    ensures { result ≡ ended_by error }
+{
+    match error {
+        ArchiveError::Device => Due::Ends(Refusal::Device),
+        ArchiveError::NoParent
+        | ArchiveError::Root
+        | ArchiveError::Full
+        | ArchiveError::JournalFull
+        | ArchiveError::Halted
+        | ArchiveError::Memory
+        | ArchiveError::NoImage
+        | ArchiveError::Damaged
+        | ArchiveError::WrongPair => Due::Ends(Refusal::Memory),
+    }
+}
+
+/// Eight bytes spell it.
+fn is_long(number: u64)
+    ensures { number < 2 ^ 64 }
+{
+    let _ = number;
+}
+
+/// Writes the record of an item, which the archive does not refuse.
+fn write<D: Disk>(alloc: Global, archive: &mut Archive<D>, kept: &Kept) -> Due
+    requires { IsOfItem (kept_of kept.now) }
+    ensures writes { (pair : ℕ) (machine : Journal) → IsMachine archive.old pair machine
+        → IsReady machine (kept_of kept.now)
+        → Writes archive.new pair machine (kept_of kept.now) result }
+    ensures failures { CountsFailures result (D.failures (disk_of archive.old))
+        (D.failures (disk_of archive.new)) }
+    ensures pair { pair_of archive.new ≡ pair_of archive.old }
+{
+    match kept {
+        Kept::Session(_) => unreachable!(),
+        Kept::Record(path, marks) => match copied(alloc, marks.as_ref()) {
+            Ok(copy) => write_record(alloc, archive, path, copy),
+            Err(_) => Due::Ends(Refusal::Memory),
+        },
+        Kept::Dir(path) => write_dir(alloc, archive, path),
+    }
+}
+
+/// Equal marks of their own, or none. Refused 11 where memory is refused.
+fn copied(alloc: Global, marks: Option<&MarkTree>) -> Result<Option<MarkTree>, TreeError>
+    ensures ok { IfOk result (λ copy. or_absent copy
+        ≡ or_absent (option_map (λ there. there.now) marks.entry)) }
+    ensures memory { IfErr result (λ e. e ≡ TreeError.Memory) }
+{
+    match marks {
+        None => Ok(None),
+        Some(there) => Ok(Some(there.copy(alloc)?)),
+    }
+}
+
+/// Writes the record of what is at the path.
+fn write_record<D: Disk>(
+    alloc: Global,
+    archive: &mut Archive<D>,
+    path: &Path,
+    marks: Option<MarkTree>,
+) -> Due
+    ensures writes { (pair : ℕ) (machine : Journal) → IsMachine archive.old pair machine
+        → let kept = RecordOf path.now (or_absent marks) in IsReady machine kept
+        → Writes archive.new pair machine kept result }
+    ensures failures { CountsFailures result (D.failures (disk_of archive.old))
+        (D.failures (disk_of archive.new)) }
+    ensures pair { pair_of archive.new ≡ pair_of archive.old }
+{
+    device_laws();
+    match archive.record(alloc, path, marks) {
+        Ok(()) => {
+            archive.keeps_on_disk();
+            Due::Recorded
+        }
+        Err(error) => ending(error),
+    }
+}
+
+/// Writes the record of a directory at the path, if none is recorded there.
+fn write_dir<D: Disk>(alloc: Global, archive: &mut Archive<D>, path: &Path) -> Due
+    ensures writes { (pair : ℕ) (machine : Journal) → IsMachine archive.old pair machine
+        → IsReady machine (RecordedDir path.now)
+        → Writes archive.new pair machine (RecordedDir path.now) result }
+    ensures failures { CountsFailures result (D.failures (disk_of archive.old))
+        (D.failures (disk_of archive.new)) }
+    ensures pair { pair_of archive.new ≡ pair_of archive.old }
+{
+    device_laws();
+    match archive.record_dir(alloc, path) {
+        Ok(()) => {
+            archive.keeps_on_disk();
+            Due::Recorded
+        }
+        Err(error) => ending(error),
+    }
+}

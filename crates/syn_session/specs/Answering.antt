@@ -1,0 +1,62 @@
+-- A session whose answer has come, and what it asks next.
+use Rattle.std.specs.Prelude.{◌≡◌, ◌⊎◌, ◌≤◌, ◌<◌, ◌^◌, ◌+◌, ℕ, length, List, [], ◌∷◌, ◌++◌, Option}
+use Rattle.std.specs.Prelude.{Some, None}
+use Rattle.syn_headline.specs.Coordinator.{AsksOnce, Exchange, Running, asked_in, messages_to}
+use Rattle.syn_headline.specs.Coordinator.{numbered}
+use Rattle.syn_headline.specs.Network.{Message, Which, Left, Right, other}
+use Rattle.syn_headline.specs.Side.{Reply, Request}
+use Rattle.syn_message.specs.Requests.{request_of}
+use Rattle.syn_message.specs.declared.request.Request.{Request as Asked}
+use Rattle.syn_session.specs.Sessions.{IsLine, waiting_of}
+use Rattle.syn_session.specs.Stages.{line_of}
+use Rattle.syn_session.specs.declared.line.Line.{Line}
+use Rattle.syn_session.specs.declared.session.Asks.{Asks}
+use Rattle.syn_session.specs.declared.session.Session.{Session}
+
+-- the line of the side has nothing that waits any more, which was this request; all else stays
+pub record IsAnswering (old new : Session) (side : Which) (number : ℕ) (request : Request)
+    : Type 0 where
+  pub asked : asked_in (waiting_of (line_of old side).waiting) number ≡ Some request
+  pub silent : (line_of new side).waiting ≡ None
+  pub count : (line_of new side).asked ≡ (line_of old side).asked
+  pub scan : (line_of new side).scan ≡ (line_of old side).scan
+  pub across : line_of new (other side) ≡ line_of old (other side)
+  pub number_is : new.number ≡ old.number
+  pub unstable : new.is_unstable ≡ old.is_unstable
+  pub course : new.course ≡ old.course
+
+-- a session with these exchanges, whatever it is at
+pub record IsHeard (session : Session) (running : Running) : Type 0 where
+  pub number : running.session ≡ session.number
+  pub lawful : session.number < 2 ^ 64
+  pub line : (side : Which) → IsLine (line_of session side) running side
+  pub once : AsksOnce running
+
+abbrev pub requests_of : Option Asked → List Request
+requests_of None = []
+requests_of (Some request) = request_of request ∷ []
+
+abbrev pub next_of : Asks → Which → Option Asked
+next_of asks Left = asks.left
+next_of asks Right = asks.right
+
+abbrev pub asks_of : Asks → Which → List Request
+asks_of asks side = requests_of (next_of asks side)
+
+-- an answer of a side, to what it was asked
+abbrev pub exchange_of : Which → ℕ → Request → Reply → Exchange
+exchange_of side number request reply =
+    record { side = side; number = number; request = request; reply = reply }
+
+-- the line asks for what comes now
+pub record IsAskedOn (old new : Line) (requests : List Request) : Type 0 where
+  pub waits : (requests ≡ []) ⊎ (old.waiting ≡ None)
+      → waiting_of new.waiting ≡ waiting_of old.waiting ++ numbered old.asked requests
+  pub count : new.asked ≡ old.asked + length requests
+  pub few : (requests ≡ []) ⊎ (new.asked ≤ 2 ^ 32)
+  pub scan : new.scan ≡ old.scan
+
+abbrev pub messages_asked : Session → Asks → List Message
+messages_asked session asks =
+    messages_to session.number Left (numbered session.left.asked (asks_of asks Left))
+    ++ messages_to session.number Right (numbered session.right.asked (asks_of asks Right))

@@ -1,0 +1,52 @@
+-- What an answer for the item that is carried comes to.
+use Rattle.std.specs.Prelude.{◌≡◌, ◌⊎◌, suc, true, false, List, [], ◌∷◌, ◌++◌, None, Some, Result}
+use Rattle.std.specs.Prelude.{Ok, Err, slice_get}
+use Rattle.syn_headline.specs.Coordinator.{Exchange, IsDue, IsFor, fault_of, is_last}
+use Rattle.syn_headline.specs.Planning.{Planned}
+use Rattle.syn_headline.specs.Report.{conflict_at, is_carrying}
+use Rattle.syn_headline.specs.Side as model
+use Rattle.syn_message.specs.Requests.{request_of}
+use Rattle.syn_message.specs.Sides.{which_of}
+use Rattle.syn_model.specs.Archive.{Archive}
+use Rattle.syn_model.specs.Refusal.{Memory}
+use Rattle.syn_propagate.specs.Transfers.{Asks as TransferAsks}
+use Rattle.syn_refusal.specs.Refusals.{cause_of}
+use Rattle.syn_refusal.specs.declared.refusal.Refusal.{Refusal}
+use Rattle.syn_scan.specs.Found.{Found}
+use Rattle.syn_session.specs.Stages.{AreAskedBefore, Carries, IsCourse, Reached, plan_in}
+use Rattle.syn_session.specs.declared.answering.Carrying.{Carrying}
+use Rattle.syn_session.specs.declared.answering.Carrying.TheVariants.{Asks, Done, Refused}
+use Rattle.syn_session.specs.declared.course.Course.{Course}
+use Rattle.syn_image.specs.Archives.{kept_of}
+
+-- the item at the cursor is carried no further, and no request is out for a later one
+pub record IsCarriedOut (course : Course) (left right : Found) (all : List Exchange)
+    (before : Reached) (planned : Planned) : Type 0 where
+  pub course_is : IsCourse course left right before
+  pub at : slice_get (plan_in course left right) course.cursor ≡ Some planned
+  pub carries : is_carrying planned.item ≡ true
+  pub apart : conflict_at planned.item ≡ None
+  pub asked : AreAskedBefore (plan_in course left right) (suc course.cursor) all
+
+module _ (archive : Archive) (left right : Found) (all : List Exchange) (before : Reached)
+    (taken : Exchange) (course : Course) where
+  -- what the answer comes to
+  abbrev pub ComesTo : Carrying → Type 0
+  ComesTo (Asks side request) = (is_last taken.reply ≡ false)
+      × Carries archive course left right (all ++ taken ∷ []) before
+      (λ transfer. TransferAsks transfer (all ++ taken ∷ []) (which_of side) (request_of request))
+  ComesTo (Done kept) = (planned : Planned)
+      × IsCarriedOut course left right (all ++ taken ∷ []) before planned
+      × IsDue course.cursor planned taken (kept_of kept)
+  ComesTo (Refused why) = (planned : Planned)
+      × IsCarriedOut course left right (all ++ taken ∷ []) before planned
+      × (taken.reply ≡ model.Refused (cause_of why))
+      × IsFor course.cursor planned taken.request
+
+  -- it ends the session, or what it comes to follows
+  abbrev pub TakesAnswer : Result Carrying Refusal → Type 0
+  TakesAnswer (Ok next) =
+      (fault_of all taken.side taken.request taken.reply ≡ None) × ComesTo next
+  TakesAnswer (Err why) =
+      ((fault_of all taken.side taken.request taken.reply ≡ Some (cause_of why))
+      ⊎ (cause_of why ≡ Memory)) × IsCourse course left right before

@@ -1,0 +1,79 @@
+-- What a session that scans comes to with an answer.
+use Rattle.std.specs.Prelude.{◌≡◌, ◌⊎◌, ℕ, true, is_some, [], Option, Some, None, Contains}
+use Rattle.std.specs.Prelude.{Result, Ok, Err}
+use Rattle.syn_headline.specs.Coordinator.{Exchange, Running, hearing, is_unstable}
+use Rattle.syn_headline.specs.Network.{Which, IsRepeat}
+use Rattle.syn_headline.specs.Session.{BothBegun, MayAsk, WasAsked, fault_of}
+use Rattle.syn_headline.specs.Side.{IsLawfulBody, Reply, Request}
+use Rattle.syn_model.specs.Archive as model
+use Rattle.syn_model.specs.Refusal.{Memory}
+use Rattle.syn_refusal.specs.Refusals.{cause_of}
+use Rattle.syn_refusal.specs.declared.refusal.Refusal.{Refusal}
+use Rattle.syn_scan.specs.Found.{IsWhole}
+use Rattle.syn_session.specs.Answering.{IsAskedOn, IsHeard, asks_of, exchange_of}
+use Rattle.syn_session.specs.Scanning.{IsFoundIn}
+use Rattle.syn_session.specs.Sessions.{IsStage, Tells}
+use Rattle.syn_session.specs.Stages.{AreOfScan, found_on, line_of, nothing_reached, reached_by}
+use Rattle.syn_session.specs.declared.session.Asks.{Asks}
+use Rattle.syn_session.specs.declared.session.Session.{Session}
+
+-- a request that no other was before
+abbrev pub IsFresh : Running → Which → Request → Type 0
+IsFresh heard side request = (n : ℕ) (before : Request) → WasAsked heard side n before
+    → IsRepeat before request → ⊥
+
+-- it asks for this on both lines
+pub record IsAsking (old new : Session) (asks : Asks) : Type 0 where
+  pub line : (side : Which) → IsAskedOn (line_of old side) (line_of new side) (asks_of asks side)
+  pub course : new.course ≡ old.course
+
+-- what is asked next may be, for the first time, where nothing waits; and something waits then
+pub record MayGoOn (archive : model.Archive) (session : Session) (heard : Running) (asks : Asks)
+    : Type 0 where
+  pub free : (side : Which) → (asks_of asks side ≡ []) ⊎ ((line_of session side).waiting ≡ None)
+  pub fresh : (side : Which) (request : Request) → Contains (asks_of asks side) request
+      → IsFresh heard side request
+  pub may : (side : Which) (request : Request) → Contains (asks_of asks side) request
+      → MayAsk archive heard side request × IsLawfulBody request
+  pub some : (next : Session) → IsAsking session next asks
+      → (is_some next.left.waiting ≡ true) ⊎ (is_some next.right.waiting ≡ true)
+  pub stage : (next : Session) → IsAsking session next asks
+      → IsStage archive next next.course heard.taken (reached_by heard)
+
+-- it has taken the answer, and goes on to scan; or each directory of both sides was answered
+pub record IsScanned (session : Session) (heard : Running) : Type 0 where
+  pub begun : BothBegun heard.taken
+  pub found : (side : Which) → IsFoundIn (found_on session side) side heard.taken
+  pub whole : (side : Which) → IsWhole (found_on session side)
+  pub silent : (side : Which) → (line_of session side).waiting ≡ None
+
+abbrev pub ScansOn : Session → Running → Option Asks → Type 0
+ScansOn session heard None = IsScanned session heard
+ScansOn session heard (Some asks) = (archive : model.Archive)
+    → MayGoOn archive session heard asks
+
+pub record HasHeard (session : Session) (heard : Running) : Type 0 where
+  pub heard_is : IsHeard session heard
+  pub unstable : is_unstable heard ≡ session.is_unstable
+  pub scans : session.course ≡ None
+  pub reached : reached_by heard ≡ nothing_reached
+  pub of_scan : AreOfScan heard.taken
+
+-- the session ends with the answer at once; or behind it, for want of memory
+pub data EndsHearing (session : Session) (running : Running) (taken : Exchange) (why : Refusal)
+    : Type 0 where
+  at_once : (fault_of running.taken taken.side taken.request taken.reply ≡ Some (cause_of why))
+      ⊎ (cause_of why ≡ Memory) → Tells session running → EndsHearing session running taken why
+  behind : fault_of running.taken taken.side taken.request taken.reply ≡ None →
+      cause_of why ≡ Memory → Tells session (hearing running taken) →
+      EndsHearing session running taken why
+
+-- what comes of it
+abbrev pub Hears : Session → Running → Which → ℕ → Request → Reply →
+    Result (Option Asks) Refusal → Type 0
+Hears session running side number request reply (Ok next) =
+    let heard = hearing running (exchange_of side number request reply) in
+    (fault_of running.taken side request reply ≡ None) × HasHeard session heard
+    × ScansOn session heard next
+Hears session running side number request reply (Err why) =
+    EndsHearing session running (exchange_of side number request reply) why

@@ -1,0 +1,111 @@
+-- A session that runs, as the model has it.
+use Rattle.std.specs.List.{list_any}
+use Rattle.std.specs.Prelude.{◌≡◌, ◌<◌, ◌≤◌, ◌^◌, ℕ, suc, Bool, nat_le, List, [], ◌∷◌, ◌++◌, nat_lt}
+use Rattle.std.specs.Prelude.{is_some, not, ◌&&◌, ◌||◌, if◌then◌else◌, Option, Some, None}
+use Rattle.syn_headline.specs.Coordinator.{Outstanding, Running, begins, asking, new_session}
+use Rattle.syn_headline.specs.Coordinator.{messages_to, once_more, outstanding, asked_count}
+use Rattle.syn_headline.specs.Coordinator.{AsksOnce, Exchange, is_unstable, most_resends}
+use Rattle.syn_headline.specs.Network.{Which, Left, Right, Message}
+use Rattle.syn_headline.specs.Report.{End, Complete, Incomplete}
+use Rattle.syn_headline.specs.Side.{Request, Begin}
+use Rattle.syn_message.specs.Requests.{request_of}
+use Rattle.syn_model.specs.Archive as model
+use Rattle.syn_model.specs.Refusal.{Refusal}
+use Rattle.syn_scan.specs.Found.{Found}
+use Rattle.syn_session.specs.Stages.{IsCarrying, IsCourse, IsScanning, Reached, line_of}
+use Rattle.syn_session.specs.Stages.{nothing_reached, reached_by}
+use Rattle.syn_session.specs.declared.course.Course.{Course}
+use Rattle.syn_session.specs.declared.line.Line.{Line}
+use Rattle.syn_session.specs.declared.requests.Waiting.{Waiting}
+use Rattle.syn_session.specs.declared.session.Session.{Session}
+
+abbrev pub asks : ℕ → Request → Outstanding
+asks number request = record { number = number; request = request; resent = 0 }
+
+abbrev pub begin_of : ℕ → List Outstanding
+begin_of pair = asks 0 (Begin pair) ∷ []
+
+abbrev pub outstanding_of : Waiting → Outstanding
+outstanding_of waiting = record {
+  number = waiting.number;
+  request = request_of waiting.request;
+  resent = waiting.resent;
+}
+
+abbrev pub once_later : Outstanding → Outstanding
+once_later one = record one { resent = suc one.resent }
+
+abbrev pub waiting_of : Option Waiting → List Outstanding
+waiting_of None = []
+waiting_of (Some waiting) = outstanding_of waiting ∷ []
+
+abbrev pub is_worn_out : List Outstanding → Bool
+is_worn_out waiting = list_any (λ one. nat_le most_resends one.resent) waiting
+
+-- what waits on the side is what the line has, and so many requests were sent there
+pub record IsLine (line : Line) (running : Running) (side : Which) : Type 0 where
+  pub waits : outstanding running side ≡ waiting_of line.waiting
+  pub count : asked_count running side ≡ line.asked
+  pub few : line.asked ≤ 2 ^ 32
+
+-- it scans both sides, or it goes through its plan
+abbrev pub IsStage : model.Archive → Session → Option Course → List Exchange → Reached → Type 0
+IsStage archive session None taken reached = IsScanning session taken reached
+IsStage archive session (Some course) taken reached =
+    IsCarrying archive session course taken reached
+
+-- The session is the running one of a machine that has this archive
+pub record IsSession (archive : model.Archive) (session : Session) (running : Running)
+    : Type 0 where
+  pub number : running.session ≡ session.number
+  pub lawful : session.number < 2 ^ 64
+  pub line : (side : Which) → IsLine (line_of session side) running side
+  pub once : AsksOnce running
+  pub unstable : is_unstable running ≡ session.is_unstable
+  pub stage : IsStage archive session session.course running.taken (reached_by running)
+
+-- both run no session, or the same one
+abbrev pub IsRunning : model.Archive → Option Session → Option Running → Type 0
+IsRunning archive None None = Unit {0}
+IsRunning archive (Some session) (Some running) = IsSession archive session running
+IsRunning archive _ _ = ⊥
+
+-- what it tells of how far it came: nothing without a plan
+abbrev pub TellsOf : Option Course → Reached → Type 0
+TellsOf None reached = reached ≡ nothing_reached
+TellsOf (Some course) reached =
+    (left : Found) × (right : Found) × IsCourse course left right reached
+
+pub record Tells (session : Session) (running : Running) : Type 0 where
+  pub number : running.session ≡ session.number
+  pub unstable : is_unstable running ≡ session.is_unstable
+  pub told : TellsOf session.course (reached_by running)
+
+-- how a session ends, by what ended it early, how many items were refused, and whether a path was
+-- unstable
+abbrev pub end_by : Option Refusal → ℕ → Bool → End
+end_by ended refused unstable = if not (is_some ended) && not (nat_lt 0 refused) && not unstable
+    then Complete else Incomplete
+
+-- both sides are to begin it
+abbrev pub begun : ℕ → ℕ → Running
+begun number pair = asking (new_session number) (begins pair) (begins pair)
+
+abbrev pub messages_now : Session → List Message
+messages_now session = messages_to session.number Left (waiting_of session.left.waiting)
+    ++ messages_to session.number Right (waiting_of session.right.waiting)
+
+abbrev pub begin_messages : ℕ → ℕ → List Message
+begin_messages number pair = messages_to number Left (begin_of pair)
+    ++ messages_to number Right (begin_of pair)
+
+abbrev pub is_worn_now : Session → Bool
+is_worn_now session = is_worn_out (waiting_of session.left.waiting)
+    || is_worn_out (waiting_of session.right.waiting)
+
+-- each request that waits is sent again
+abbrev pub resent_once : Running → Running
+resent_once running = record running {
+  left = once_more running.left;
+  right = once_more running.right;
+}

@@ -1,0 +1,171 @@
+-- What a session that runs is at: it scans both sides, or it carries out its plan.
+use Rattle.std.specs.Option.{option_map}
+use Rattle.std.specs.Prelude.{◌≡◌, ◌<◌, ◌^◌, ◌⊎◌, ℕ, suc, List, [], map, filter_map}
+use Rattle.std.specs.Prelude.{length, take, slice_get, Option, Some, None, Contains}
+use Rattle.syn_headline.specs.Coordinator.{Running}
+use Rattle.syn_headline.specs.Network.{Which, Left, Right, other}
+use Rattle.syn_headline.specs.Planning.{Planned, WritesTo, seen_on}
+use Rattle.syn_headline.specs.Report.{conflict_at, is_carrying, is_marking}
+use Rattle.syn_headline.specs.Session.{BothBegun, Exchange, WasTaken, record_for}
+use Rattle.syn_headline.specs.Side.{Request, Begin, ListAt, Fetch, Stage, Replace, Begun}
+use Rattle.syn_message.specs.Requests.{request_of}
+use Rattle.syn_model.specs.Archive.{Kept, kept_refusal}
+use Rattle.syn_model.specs.Archive as model
+use Rattle.syn_model.specs.Decision.{path_of}
+use Rattle.syn_model.specs.Path.{Path}
+use Rattle.syn_model.specs.Plan.{plan as planned_items}
+use Rattle.syn_model.specs.Refusal.{Refusal}
+use Rattle.syn_model.specs.Tree.{Tree}
+use Rattle.syn_propagate.specs.Carrying.{source_of, target_of}
+use Rattle.syn_propagate.specs.Transfers.{WaitsFor as TransferWaitsFor, carriage_of}
+use Rattle.syn_propagate.specs.declared.carriage.Carriage.{Carriage}
+use Rattle.syn_propagate.specs.declared.transfer.Transfer.{Transfer}
+use Rattle.syn_recon.specs.Items.{items_of}
+use Rattle.syn_refusal.specs.Refusals.{cause_of}
+use Rattle.syn_scan.specs.Found.{Found, IsWhole, scan_of}
+use Rattle.syn_session.specs.Plans.{AreRecordedBefore, Plan, planned_all, recorded_count}
+use Rattle.syn_session.specs.Scanning.{IsFoundIn, WaitsFor, found_of}
+use Rattle.syn_session.specs.declared.course.Carried.{Carried}
+use Rattle.syn_session.specs.declared.course.Course.{Course}
+use Rattle.syn_session.specs.declared.line.Line.{Line}
+use Rattle.syn_session.specs.declared.session.Session.{Session}
+use Rattle.syn_image.specs.Archives.{kept_of}
+
+-- the request that waits on a line
+abbrev pub asks_now : Line → Option Request
+asks_now line = option_map (λ waiting. request_of waiting.request) line.waiting
+
+abbrev pub line_of : Session → Which → Line
+line_of session Left = session.left
+line_of session Right = session.right
+
+-- what was found on a side so far
+abbrev pub found_on : Session → Which → Found
+found_on session side = found_of (line_of session side).scan
+
+-- How far a session came: its plan, the item that it has come to, and what it recorded and refused
+pub record Reached : Type 0 where
+  pub plan : Option Plan
+  pub cursor : ℕ
+  pub kept : List Kept
+  pub refused : List (Refusal × Path)
+
+abbrev pub reached_by : Running → Reached
+reached_by running = record {
+  plan = running.plan;
+  cursor = running.cursor;
+  kept = running.kept;
+  refused = running.refused;
+}
+
+-- While it scans
+
+-- a session without a plan has recorded and refused nothing
+abbrev pub nothing_reached : Reached
+nothing_reached = record { plan = None; cursor = 0; kept = []; refused = [] }
+
+-- the side is to begin the session, or did
+abbrev pub IsToBegin : Session → List Exchange → Which → Type 0
+IsToBegin session taken side =
+    ((pair : ℕ) × (asks_now (line_of session side) ≡ Some (Begin pair)))
+    ⊎ ((asks_now (line_of session side) ≡ None) × (pair : ℕ) × (position : ℕ)
+    × WasTaken taken side (Begin pair) (Begun position))
+
+-- a directory of the side is to be listed, or each was
+abbrev pub IsToList : Session → Which → Type 0
+IsToList session side =
+    ((path : Path) × (asks_now (line_of session side) ≡ Some (ListAt path))
+    × WaitsFor (line_of session side).scan path)
+    ⊎ ((asks_now (line_of session side) ≡ None) × IsWhole (found_on session side))
+
+-- no directory is listed before both sides have begun
+pub data IsBeginningOrListing (session : Session) (taken : List Exchange) : Type 0 where
+  begins : ((side : Which) → IsToBegin session taken side) → IsBeginningOrListing session taken
+  lists : BothBegun taken → ((side : Which) → IsToList session side) →
+      IsBeginningOrListing session taken
+
+-- nothing but begins and listings was asked for
+abbrev pub IsOfScan : Request → Type 0
+IsOfScan (Begin pair) = Unit {0}
+IsOfScan (ListAt path) = Unit {0}
+IsOfScan _ = ⊥
+
+abbrev pub AreOfScan : List Exchange → Type 0
+AreOfScan taken = (exchange : Exchange) → Contains taken exchange → IsOfScan exchange.request
+
+pub record IsScanning (session : Session) (taken : List Exchange) (reached : Reached)
+    : Type 0 where
+  pub nothing : reached ≡ nothing_reached
+  pub of_scan : AreOfScan taken
+  pub found : (side : Which) → IsFoundIn (found_on session side) side taken
+  pub at : IsBeginningOrListing session taken
+
+-- While it carries out its plan
+
+-- the plan, with what the scans of both sides have at each path
+abbrev pub plan_in : Course → Found → Found → Plan
+plan_in course left right = planned_all left right (items_of course.items.items)
+
+-- what it has come to, and what it tells of the items before
+pub record IsCourse (course : Course) (left right : Found) (reached : Reached) : Type 0 where
+  pub plan : reached.plan ≡ Some (plan_in course left right)
+  pub made : (archive : Tree)
+      × (items_of course.items.items ≡ planned_items (scan_of left) (scan_of right) archive)
+  pub short : length course.items.items < 2 ^ 32
+  pub cursor : reached.cursor ≡ course.cursor
+  pub recorded : AreRecordedBefore (plan_in course left right) course.cursor reached.kept
+  pub done : recorded_count is_carrying (plan_in course left right) reached.kept ≡ course.done
+  pub marked : recorded_count is_marking (plan_in course left right) reached.kept ≡ course.marked
+  pub conflicts : filter_map (λ planned. conflict_at planned.item)
+      (take course.cursor (plan_in course left right)) ≡ course.conflicts.items
+  pub refused : reached.refused ≡ map (λ one. (cause_of one.0, one.1)) course.refused.items
+
+-- the request is for an item before that one, or for none
+abbrev pub IsAskedBefore : Plan → ℕ → Request → Type 0
+IsAskedBefore plan cursor (Begin pair) = Unit {0}
+IsAskedBefore plan cursor (ListAt path) = Unit {0}
+IsAskedBefore plan cursor (Fetch path since offset) = (at : ℕ) × (planned : Planned)
+    × (at < cursor) × (slice_get plan at ≡ Some planned) × (path ≡ path_of planned.item)
+IsAskedBefore plan cursor (Stage item offset bytes) = item < cursor
+IsAskedBefore plan cursor (Replace item path since size) = item < cursor
+
+abbrev pub AreAskedBefore : Plan → ℕ → List Exchange → Type 0
+AreAskedBefore plan cursor taken = (exchange : Exchange) → Contains taken exchange
+    → IsAskedBefore plan cursor exchange.request
+
+-- the carriage is that of the item with the number
+pub record IsCarriageOf (carriage : Carriage) (planned : Planned) (item : ℕ) : Type 0 where
+  pub item_is : carriage.item ≡ item
+  pub path_is : carriage.path ≡ path_of planned.item
+  pub writes : WritesTo planned.item (target_of carriage) carriage.path
+  pub source_since : carriage.source_since ≡ (seen_on planned (source_of carriage)).since
+  pub target_since : carriage.target_since ≡ (seen_on planned (target_of carriage)).since
+
+-- it is carried for the item, and the archive does not refuse its record
+pub record IsCarriedFor (archive : model.Archive) (carried : Carried) (planned : Planned)
+    (item : ℕ) : Type 0 where
+  pub carriage : IsCarriageOf (carriage_of carried.transfer) planned item
+  pub record_is : record_for planned planned.item ≡ Some (kept_of carried.kept)
+  pub can : kept_refusal archive (kept_of carried.kept) ≡ None
+
+-- the item at the cursor is carried, by a transfer of which this holds
+pub record Carries (archive : model.Archive) (course : Course) (left right : Found)
+    (taken : List Exchange) (reached : Reached) (Is : Transfer → Type 0) : Type 0 where
+  pub course_is : IsCourse course left right reached
+  pub carried : Carried
+  pub is_carried : course.carried ≡ Some carried
+  pub planned : Planned
+  pub at : slice_get (plan_in course left right) course.cursor ≡ Some planned
+  pub carries : IsCarriedFor archive carried planned course.cursor
+  pub asked : AreAskedBefore (plan_in course left right) (suc course.cursor) taken
+  pub is : Is carried.transfer
+
+-- and waits for the answer to one request
+pub record IsCarrying (archive : model.Archive) (session : Session) (course : Course)
+    (taken : List Exchange) (reached : Reached) : Type 0 where
+  pub to : Which
+  pub request : Request
+  pub waits : asks_now (line_of session to) ≡ Some request
+  pub alone : asks_now (line_of session (other to)) ≡ None
+  pub carries : Carries archive course (found_on session Left) (found_on session Right) taken
+      reached (λ transfer. TransferWaitsFor transfer taken to request)

@@ -1,0 +1,47 @@
+-- What is to be done for an item, by the item alone.
+use Rattle.std.specs.Prelude.{◌≡◌, ◌⊎◌, ℕ}
+use Rattle.syn_message.specs.declared.side.Side.{Side}
+use Rattle.syn_message.specs.declared.side.Side.TheVariants as side
+use Rattle.syn_model.specs.Archive.{Recorded, RecordedDir}
+use Rattle.syn_model.specs.Decision.{ToLeft, ToRight, MarkSame, MarkDir, Conflict}
+use Rattle.syn_model.specs.Decision as model
+use Rattle.syn_model.specs.Path.{Path, parent}
+use Rattle.syn_model.specs.Tree.{subtree}
+use Rattle.syn_propagate.specs.Transfers.{IsReady, carriage_of}
+use Rattle.syn_scan.specs.Found.{Found, position_of}
+use Rattle.syn_session.specs.declared.course.Carried.{Carried}
+use Rattle.syn_session.specs.declared.doing.Doing.{Doing}
+use Rattle.syn_session.specs.declared.doing.Doing.TheVariants as has
+use Rattle.syn_image.specs.Archives.{kept_of}
+
+-- what stands at the path on the source is carried for the item with the number
+pub record IsCarriedFrom (carried : Carried) (source : Side) (item : ℕ) (path : Path)
+    (from to : Found) : Type 0 where
+  pub carriage : carriage_of carried.transfer ≡ record {
+    source = source;
+    item = item;
+    path = path;
+    source_since = position_of from (parent path);
+    target_since = position_of to (parent path);
+  }
+  pub record_is : kept_of carried.kept ≡ Recorded path (subtree from.marks path)
+  pub ready : IsReady carried.transfer
+
+-- by the item alone, and what both scans have at its path
+abbrev pub IsDoingFor : model.Item → ℕ → Found → Found → Doing → Type 0
+IsDoingFor item number left right has.Nothing = ⊥
+IsDoingFor item number left right (has.Conflict path) = item ≡ Conflict path
+IsDoingFor item number left right (has.Mark kept) =
+    ((path : Path) × (item ≡ MarkSame path)
+    × (kept_of kept ≡ Recorded path (subtree left.marks path)))
+    ⊎ ((path : Path) × (item ≡ MarkDir path) × (kept_of kept ≡ RecordedDir path))
+IsDoingFor item number left right (has.Carry carried) =
+    ((path : Path) × (item ≡ ToLeft path)
+    × IsCarriedFrom carried side.Right number path right left)
+    ⊎ ((path : Path) × (item ≡ ToRight path)
+    × IsCarriedFrom carried side.Left number path left right)
+
+-- the marks at the path are to be recorded
+abbrev pub IsMarked : Path → Found → Doing → Type 0
+IsMarked path left (has.Mark kept) = kept_of kept ≡ Recorded path (subtree left.marks path)
+IsMarked path left _ = ⊥
