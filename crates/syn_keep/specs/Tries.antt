@@ -22,7 +22,8 @@ pub record IsTriedBy {D : Type 0} {disk : Ghosts D} (archive : Archive D disk) (
   pub room_is : tried.room ≡ room_shown archive
   pub generation_is : tried.generation ≡ generation_shown archive
 
--- the archive shows its journal as the machine was left; exactly so where a record was being written
+-- the archive shows its journal as the machine was left; exactly so where a record was being
+-- written
 pub record IsShown {D : Type 0} {disk : Ghosts D} (archive : Archive D disk) (pair : ℕ)
     (journal : Journal) : Type 0 where
   pub as_left : IsAsLeft (archive_layout pair) journal (left_shown archive)
