@@ -9,7 +9,9 @@
 //! - `start`, `tick`, `drain`
 //! - `deliver A`, `deliver A B`
 //! - `checkpoint M`, `open M`, `reopen M`
-//! - `fail M J`, `stop M J MODE`, where MODE is `lose`, `keep` or `noise`
+//! - `fail M J`: the J-th device call of M from now on fails; with 0 none does
+//! - `stop M J MODE`: M makes J device calls more, and is then down. What it had not synced is lost
+//!   on its disk (`lose`), is there (`keep`), or is bytes of no meaning (`noise`)
 #![tactic(auto)]
 
 mod error;

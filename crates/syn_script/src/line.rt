@@ -27,9 +27,9 @@ pub enum Line {
     Drain,
     /// The machine writes a checkpoint.
     Checkpoint(Machine),
-    /// So many calls from now on, a call of the machine's device fails.
+    /// The device call of the machine that has this number from now on fails; with 0 none does.
     Fail(Machine, u64),
-    /// At that call of its device the machine stops, and its disk is left so.
+    /// The machine makes so many device calls more, and is then down with its disk left so.
     Stop(Machine, u64, Leaves),
     /// The machine opens its image.
     Open(Machine),

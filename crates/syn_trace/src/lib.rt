@@ -1,4 +1,7 @@
 //! Charts of what happened as the lines of a script were played.
+//!
+//! A chart is drawn from the turns that the player noted (`syn_play`) and from what the world heard
+//! and kept. It is for the eye alone, so no clause says what it shows: tests do.
 #![tactic(auto)]
 
 mod chart;
