@@ -11,8 +11,7 @@ use Rattle.syn_headline.specs.Planning.{Planned}
 use Rattle.syn_headline.specs.Side as model
 use Rattle.syn_message.specs.declared.request.Request.{Request as Asked}
 use Rattle.syn_message.specs.declared.side.Side.{Side}
-use Rattle.syn_model.specs.Archive.{Kept, Session}
-use Rattle.syn_keep.specs.Due.{IsOfItem}
+use Rattle.syn_model.specs.Archive.{Kept, Session, IsOfItem}
 use Rattle.syn_model.specs.Refusal.{Refusal as Why}
 use Rattle.syn_scan.specs.Found.{Found}
 use Rattle.syn_keep.specs.Machines.{IsMachine, Journal}

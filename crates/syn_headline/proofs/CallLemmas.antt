@@ -381,7 +381,7 @@ module _ (plans : Plans) (old : fine_world.World) (k : IsKept plans (view old)) 
         whole : (why : Option Refusal) → EndsFor old.pair later exchange old.coordinator.journal.status walk why → why ≡ None → IsSome plan × (slice_get (list_of plan) walk.cursor ≡ None)
         whole _ (fine.settled some over up) none = (some, over)
         whole _ (fine.fails was now) none = absurd (none-some _ (sym none))
-        whole _ (fine.failed_before planned what at due was now) none = absurd (none-some _ (sym none))
+        whole _ (fine.failed_before planned what at _ was now) none = absurd (none-some _ (sym none))
         whole _ (fine.no_room_left what full room) none = absurd (none-some _ (sym none))
         whole _ (fine.no_memory same) none = absurd (none-some _ (sym none))
 

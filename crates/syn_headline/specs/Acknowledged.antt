@@ -69,7 +69,7 @@ pub record IsFrom (sent : Sent) (source : Which) (source_history : History) (ses
   pub directory : is_directory (tree_at source_history position) (parent path) ≡ true
   pub held : new ≡ subtree (tree_at source_history position) path
 
--- what a replacement may overwrite, whichever side its session prefers: what the archive recorded
+-- what a replacement may overwrite: what the archive recorded; no session prefers a side yet
 abbrev pub MayOverwrite : SessionPlan → Stores → Which → Path → Type 0
 MayOverwrite made written side path = subtree (mark (tree_of (history_of written side))) path
     ≡ subtree written.archive.marks path

@@ -10,18 +10,11 @@ use Rattle.syn_keep.specs.Tries.{HoldsTried}
 use Rattle.syn_keep.specs.declared.due.Due.{Due}
 use Rattle.syn_keep.specs.declared.due.Due.TheVariants.{Recorded, Refused, Ends}
 use Rattle.syn_keep.specs.declared.tried.Tried.{Tried}
-use Rattle.syn_model.specs.Archive as model
 use Rattle.syn_model.specs.Archive.{CanKeep, Kept, kept_refusal}
 use Rattle.syn_model.specs.Limits.{greatest}
 use Rattle.syn_refusal.specs.Refusals.{cause_of}
 use Rattle.syn_refusal.specs.declared.refusal.Refusal.{Refusal}
 use Rattle.syn_refusal.specs.declared.refusal.Refusal.TheVariants as refusal
-
--- a session is no record of an item
-abbrev pub IsOfItem : Kept → Type 0
-IsOfItem (model.Session session) = ⊥
-IsOfItem (model.Recorded path marks) = Unit {0}
-IsOfItem (model.RecordedDir path) = Unit {0}
 
 -- the count of failed device calls grows exactly where the session ends for the device
 abbrev pub CountsFailures : Due → ℕ → ℕ → Type 0

@@ -21,7 +21,8 @@ use Rattle.syn_session.specs.declared.course.Course.{Course}
 use Rattle.syn_session.specs.declared.doing.Doing.{Doing}
 use Rattle.syn_session.specs.declared.doing.Doing.TheVariants as has
 use Rattle.syn_session.specs.inner.Items.{IsDoingFor}
-use Rattle.syn_session.specs.Doings.{IsDoing, KeepsOfItem, IsOfItem}
+use Rattle.syn_model.specs.Archive.{IsOfItem}
+use Rattle.syn_session.specs.Doings.{IsDoing, KeepsOfItem}
 use Rattle.syn_session.specs.Plans.{planned_by}
 use Rattle.syn_session.specs.Stages.{IsCarriageOf, IsCourse, Reached, plan_in}
 use Rattle.syn_image.specs.Archives.{kept_of}

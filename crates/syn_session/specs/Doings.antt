@@ -4,7 +4,7 @@ use Rattle.syn_headline.specs.Coordinator.{Exchange, IsDue}
 use Rattle.syn_headline.specs.Planning.{Planned}
 use Rattle.syn_headline.specs.Report.{is_carrying}
 use Rattle.syn_headline.specs.Session.{record_for}
-use Rattle.syn_model.specs.Archive.{Kept, Session, Recorded, RecordedDir}
+use Rattle.syn_model.specs.Archive.{Kept, IsOfItem}
 use Rattle.syn_model.specs.Decision.{Conflict}
 use Rattle.syn_propagate.specs.Transfers.{IsReady, carriage_of}
 use Rattle.syn_scan.specs.Found.{Found}
@@ -13,12 +13,6 @@ use Rattle.syn_session.specs.declared.course.Course.{Course}
 use Rattle.syn_session.specs.declared.doing.Doing.{Doing}
 use Rattle.syn_session.specs.declared.doing.Doing.TheVariants as has
 use Rattle.syn_image.specs.Archives.{kept_of}
-
--- a session is no record of an item
-abbrev pub IsOfItem : Kept → Type 0
-IsOfItem (Session session) = ⊥
-IsOfItem (Recorded path marks) = Unit {0}
-IsOfItem (RecordedDir path) = Unit {0}
 
 -- what is to be done in the plan of a course
 abbrev pub IsDoing : Course → Found → Found → Doing → Type 0

@@ -1,7 +1,8 @@
 //! The one spelling of a single value in bytes: what is written, and what is read from it.
 //!
 //! All numbers are big-endian. Each value has one spelling, and no spelling of a value begins
-//! another.
+//! another. A `Node` is a file, or a directory with all that is below it. A replica's tree is
+//! spelled as one that is a directory, and what a session carries as one, or as nothing.
 #![tactic(auto)]
 
 ghost use Rattle.syn_wire.specs.Laws.{NoU16BeginsAnother, NoU32BeginsAnother, NoU64BeginsAnother};

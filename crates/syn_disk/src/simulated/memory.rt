@@ -95,11 +95,13 @@ impl Disk for MemDisk {
 
     ghost arms = { λ _. no_arms };
 
-    ghost counts_now = { λ m t c le left. now_counts HalvesMayLeave m.history (m.low, m.high) c t le left };
+    ghost counts_now = { λ m t c le left.
+        now_counts HalvesMayLeave m.history (m.low, m.high) c t le left };
 
     ghost only_now = { λ m c left. only_now HalvesMayLeave m.history (m.low, m.high) c left };
 
-    ghost seen_may_stay = { λ m. record { whole = length-halves m.low m.high; kept = λ i none. refl } };
+    ghost seen_may_stay = { λ m.
+        record { whole = length-halves m.low m.high; kept = λ i none. refl } };
 
     ghost whole = { λ m t c left. left.2.whole };
 

@@ -102,7 +102,8 @@ impl<H: HostFile> DiskFile for MirroredFile<H> {
 
     ghost is_sound = { λ f. not f.has_failed };
 
-    ghost counts_now = { λ f t c le left. now_counts FileMayLeave f.history (f.image, f.unsynced) c t le left };
+    ghost counts_now = { λ f t c le left.
+        now_counts FileMayLeave f.history (f.image, f.unsynced) c t le left };
 
     ghost only_now = { λ f c left. only_now FileMayLeave f.history (f.image, f.unsynced) c left };
 
