@@ -2,8 +2,7 @@
 ghost use Rattle.std.specs.Prelude.{ℕ};
 ghost use Rattle.syn_headline.specs.SideMachine.{SideMachine};
 ghost use Rattle.syn_replica.specs.Replica.{tree_shown};
-ghost use Rattle.syn_agent.specs.Machines.{CompactedIsOf, IsOf, IsUpAs, UpIsOf};
-ghost use Rattle.syn_agent.specs.Machines.{WrittenIsOf};
+ghost use Rattle.syn_agent.specs.Machines.{CompactedIsOf, IsOf, IsUpAs, UpIsOf, WrittenIsOf};
 ghost use Rattle.syn_agent.specs.inner.Lawful.{ListsLawfully};
 
 use crate::agent::Agent;

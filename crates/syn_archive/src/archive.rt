@@ -1,8 +1,7 @@
 //! An archive over a journal.
 ghost use Rattle.std.specs.Prelude.{◌≡◌, ◌≢◌, ◌⊎◌, ◌↔◌, ◌+◌, ◌<◌, ◌≤◌, ◌^◌, [], ℕ, length, OnOk};
-ghost use Rattle.std.specs.Prelude.{IfOk, IfErr};
-ghost use Rattle.std.specs.Prelude.{IsErrAnd, MatchResult, Err, None, Some, true, false};
-ghost use Rattle.std.specs.Prelude.{option_map};
+ghost use Rattle.std.specs.Prelude.{IfOk, IfErr, IsErrAnd, MatchResult, Err, None, Some, true};
+ghost use Rattle.std.specs.Prelude.{false, option_map};
 ghost use Rattle.syn_model.specs.Archive.{Archive as KeptArchive, Session, Recorded, RecordedDir};
 ghost use Rattle.syn_model.specs.Archive.{new_archive, after_kept, kept_refusal};
 ghost use Rattle.syn_model.specs.Refusal.{Refusal};

@@ -9,9 +9,8 @@ use Rattle.syn_refusal.specs.Refusals.{cause_of}
 use Rattle.syn_user.specs.Refusals.{refusal_of as of_user}
 use Rattle.syn_command.specs.declared.error.CommandError.{CommandError}
 use Rattle.syn_command.specs.declared.error.CommandError.TheVariants.{Path, Open, Replica, Archive}
-use Rattle.syn_command.specs.declared.error.CommandError.TheVariants.{Machine}
-use Rattle.syn_command.specs.declared.error.CommandError.TheVariants.{Device, Longer, Memory}
-use Rattle.syn_command.specs.declared.error.CommandError.TheVariants.{Network, User}
+use Rattle.syn_command.specs.declared.error.CommandError.TheVariants.{Machine, Device, Longer}
+use Rattle.syn_command.specs.declared.error.CommandError.TheVariants.{Memory, Network, User}
 
 -- it is that of what refused
 abbrev pub refusal_of : CommandError → Refusal

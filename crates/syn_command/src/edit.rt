@@ -4,11 +4,10 @@ ghost use Rattle.std.specs.Prelude.{IfSome, IsErrAnd, Some};
 ghost use Rattle.syn_disk.specs.Stops.{LeavesOnly};
 ghost use Rattle.syn_model.specs.History.{History, event_refusal};
 ghost use Rattle.syn_model.specs.Path.{Bytes};
-ghost use Rattle.syn_model.specs.Refusal.{Refusal as Why};
+ghost use Rattle.syn_model.specs.Refusal.{Refusal as Why, Device};
 ghost use Rattle.syn_path.specs.Paths.{NamesPath};
 ghost use Rattle.syn_replica.specs.Replica.{KeepsBeforeOrAfter, Stands, disk_of};
 ghost use Rattle.syn_tree.specs.Edits.{edit_of};
-ghost use Rattle.syn_model.specs.Refusal.{Device};
 ghost use Rattle.syn_command.specs.Asked.{IsInput, edit_asked, event_asked};
 ghost use Rattle.syn_command.specs.Errors.{refusal_of, IsOfStream};
 

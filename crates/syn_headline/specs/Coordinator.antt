@@ -4,8 +4,7 @@ use Rattle.std.specs.Option.{option_map_or}
 use Rattle.std.specs.List.{list_any, count_by}
 use Rattle.std.specs.Prelude.{ℕ, suc, Bool, true, false, not, nat_le, nat_lt, if◌then◌else◌, ◌&&◌}
 use Rattle.std.specs.Prelude.{◌+◌, ◌≡◌, ◌≢◌, ◌⊎◌, List, [], ◌∷◌, ◌++◌, map, filter_map, length}
-use Rattle.std.specs.Prelude.{take}
-use Rattle.std.specs.Prelude.{slice_get, Option, Some, None, is_some, IsSome}
+use Rattle.std.specs.Prelude.{take, slice_get, Option, Some, None, is_some, IsSome}
 use Rattle.syn_model.specs.Path.{Path}
 use Rattle.syn_model.specs.Limits.{greatest}
 use Rattle.syn_model.specs.Refusal.{Refusal, Device, Memory, Full, JournalFull, Busy, TooLarge}

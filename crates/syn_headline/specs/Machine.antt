@@ -1,8 +1,7 @@
 -- A machine that keeps a value in a journal on its device: an opening, a record, a checkpoint, a
 -- stop and a failure.
 use Rattle.std.specs.Prelude.{ℕ, suc, Bool, true, false, nat_le, ◌||◌, ◌+◌, ◌-◌, ◌<◌, ◌≤◌, ◌≡◌, ◌⊎◌}
-use Rattle.std.specs.Prelude.{List, [], ◌∷◌}
-use Rattle.std.specs.Prelude.{length, Option, Some, None}
+use Rattle.std.specs.Prelude.{List, [], ◌∷◌, length, Option, Some, None}
 use Rattle.syn_model.specs.Limits.{half_size}
 use Rattle.syn_model.specs.Path.{Bytes}
 

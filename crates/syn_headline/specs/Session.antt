@@ -4,10 +4,9 @@ use Rattle.std.specs.Option.{option_map_or}
 use Rattle.std.specs.List.{list_any, list_all, count_by}
 use Rattle.std.specs.Ordering.{eq_by_cmp}
 use Rattle.std.specs.Prelude.{ℕ, suc, min, Bool, true, false, not, nat_le, nat_lt, if◌then◌else◌}
-use Rattle.std.specs.Prelude.{◌&&◌, ◌==◌}
-use Rattle.std.specs.Prelude.{◌+◌, ◌-◌, ◌^◌, ◌≤◌, ◌≡◌, ◌⊎◌, List, [], ◌∷◌, ◌++◌, map, filter}
-use Rattle.std.specs.Prelude.{filter_map, length}
-use Rattle.std.specs.Prelude.{slice_get, sum_by, Option, Some, None, All, Contains}
+use Rattle.std.specs.Prelude.{◌&&◌, ◌==◌, ◌+◌, ◌-◌, ◌^◌, ◌≤◌, ◌≡◌, ◌⊎◌, List, [], ◌∷◌, ◌++◌, map}
+use Rattle.std.specs.Prelude.{filter, filter_map, length, slice_get, sum_by, Option, Some, None}
+use Rattle.std.specs.Prelude.{All, Contains}
 use Rattle.syn_model.specs.Path.{Path, Name, root, child, path_cmp}
 use Rattle.syn_model.specs.Tree.{Content, Directory, is_directory}
 use Rattle.syn_model.specs.Limits.{fits_path, greatest_piece, most_nodes}

@@ -1,7 +1,6 @@
 -- Three machines and the network between them, and what a step may do.
 use Rattle.std.specs.Prelude.{ℕ, zero, suc, Bool, true, false, nat_le, if◌then◌else◌, ◌≤◌, ◌≡◌, ◌≢◌}
-use Rattle.std.specs.Prelude.{◌⊎◌}
-use Rattle.std.specs.Prelude.{List, [], ◌∷◌, ◌++◌, slice_get, map, length, Option, Some, None}
+use Rattle.std.specs.Prelude.{◌⊎◌, List, [], ◌∷◌, ◌++◌, slice_get, map, length, Option, Some, None}
 use Rattle.syn_model.specs.Refusal.{Refusal, Device, Full, Memory, Cause, first_cause}
 use Rattle.syn_model.specs.Refusal as why
 use Rattle.syn_model.specs.Limits.{greatest}
@@ -9,8 +8,7 @@ use Rattle.syn_model.specs.Event.{Edit, Event, Edited, IsLawfulEvent}
 use Rattle.syn_model.specs.History.{IsAllowed}
 use Rattle.syn_model.specs.Archive.{Archive, Kept, CanKeep}
 use Rattle.syn_headline.specs.Machine.{Status, Halted, Down, Arms, unarmed, Meets, Up, Journaled}
-use Rattle.syn_headline.specs.Machine.{after_device}
-use Rattle.syn_headline.specs.Machine.{Writes, Compacts, Opens}
+use Rattle.syn_headline.specs.Machine.{after_device, Writes, Compacts, Opens}
 use Rattle.syn_headline.specs.Side.{Request, Reply}
 use Rattle.syn_headline.specs.SideMachine.{SideMachine, side_layout, with_journal, causes_of}
 use Rattle.syn_headline.specs.SideMachine.{SideTakes}
@@ -19,9 +17,8 @@ use Rattle.syn_headline.specs.Acknowledged.{Ack, Happened, Kept_by}
 use Rattle.syn_headline.specs.Planning.{Log}
 use Rattle.syn_headline.specs.Report.{Report}
 use Rattle.syn_headline.specs.Coordinator.{CoordinatorMachine, archive_layout, with_archive, Call}
-use Rattle.syn_headline.specs.Coordinator.{no_call}
-use Rattle.syn_headline.specs.Coordinator.{CoordinatorTakes, CoordinatorStarts, CoordinatorTicks}
-use Rattle.syn_headline.specs.Coordinator.{start_causes}
+use Rattle.syn_headline.specs.Coordinator.{no_call, CoordinatorTakes, CoordinatorStarts}
+use Rattle.syn_headline.specs.Coordinator.{CoordinatorTicks, start_causes}
 
 pub data Machine : Type 0 where
   At : (side : Which) → Machine

@@ -1,7 +1,6 @@
 //! The image of a replica: its pair, and what its history leaves.
-ghost use Rattle.std.specs.Prelude.{◌≡◌, ◌≤◌, ◌++◌, length, IfOk, OnOk};
+ghost use Rattle.std.specs.Prelude.{◌≡◌, ◌≤◌, ◌++◌, length, IfOk, OnOk, option_map};
 ghost use Rattle.syn_model.specs.Image.{image_spelling, last_token_spelling};
-ghost use Rattle.std.specs.Prelude.{option_map};
 ghost use Rattle.syn_history.specs.Events.{token_of};
 ghost use Rattle.syn_history.specs.Past.{standing_with};
 ghost use Rattle.syn_image.specs.Images.{touches_spelling};

@@ -5,8 +5,7 @@ use Rattle.syn_disk.specs.declared.disk.Disk.{Ghosts}
 use Rattle.syn_journal.specs.declared.half.Half.{Half}
 use Rattle.syn_journal.specs.declared.journal.Journal.{Journal}
 use Rattle.syn_journal.specs.declared.layout.TheConstants.{RECORD_OVERHEAD}
-use Rattle.syn_journal.specs.Layout.{Value, HasJournal, half_size, meaning, size_of}
-use Rattle.syn_journal.specs.Layout.{value_or_empty}
+use Rattle.syn_journal.specs.Layout.{Value, HasJournal, half_size, meaning, size_of, value_or_empty}
 
 module _ {D : Type 0} {disk : Ghosts D} (journal : Journal D disk) where
   abbrev pub disk_of : D

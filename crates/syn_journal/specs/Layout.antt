@@ -11,8 +11,7 @@ use Rattle.std.specs.Int.{w32, w64, from_be_bytes, to_be_bytes}
 use Rattle.syn_model.specs.Limits.{greatest_image}
 pub use Rattle.syn_model.specs.Limits.{half_size}
 use Rattle.syn_journal.specs.declared.half.Half.{Half}
-use Rattle.syn_journal.specs.declared.layout.TheConstants.{IMAGE_AT, IMAGE_LENGTH_AT}
-use Rattle.syn_journal.specs.declared.layout.TheConstants.{RECORD_HEADER}
+use Rattle.syn_journal.specs.declared.layout.TheConstants.{IMAGE_AT, IMAGE_LENGTH_AT, RECORD_HEADER}
 use Rattle.syn_journal.specs.declared.half.Half.TheVariants.{First, Second}
 
 abbrev pub open_gate : ℕ

@@ -9,8 +9,7 @@ ghost use Rattle.syn_lock.specs.Views.{published, outside};
 ghost use Rattle.syn_lock.specs.Locks.{id_of, origin_of};
 ghost use Rattle.syn_lock.specs.Passes.{view_of, IsPassOf, WasRefused};
 ghost use Rattle.syn_lock.specs.Guards.{state_of, with_state, name_of_pass, knows, IsGuardOf};
-ghost use Rattle.syn_lock.specs.Guards.{home_row};
-ghost use Rattle.syn_lock.specs.Guards.{HasEntered, HasWaited};
+ghost use Rattle.syn_lock.specs.Guards.{home_row, HasEntered, HasWaited};
 
 use crate::error::LockError;
 use crate::grows::Grows;

@@ -1,9 +1,8 @@
 //! Reads the body of a user's request.
 ghost use Rattle.std.specs.Prelude.{◌≡◌, IfOk, option_map};
 ghost use Rattle.syn_message.specs.Bodies.{IsWholeReading};
-ghost use Rattle.syn_message.specs.Users.{IsLawfulWished, wished_of, wished_spelling};
+ghost use Rattle.syn_message.specs.Users.{IsLawfulWished, wished_of, wished_spelling, wish_of};
 ghost use Rattle.syn_message.specs.inner.Heads.{ReadsWish};
-ghost use Rattle.syn_message.specs.Users.{wish_of};
 
 use crate::head::read_user_head;
 use crate::kind::{EDIT, GET};

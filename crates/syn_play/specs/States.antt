@@ -1,8 +1,7 @@
 -- A world with what was delivered of its messages, and how it goes by steps.
-use Rattle.std.specs.Prelude.{◌≡◌, ◌==◌, ◌||◌, ℕ, nat_lt, Bool, false, if◌then◌else◌}
-use Rattle.std.specs.Prelude.{List, [], ◌∷◌, length}
-use Rattle.syn_headline.specs.World.{World, Step, Steps}
-use Rattle.syn_headline.specs.World.{Deliver}
+use Rattle.std.specs.Prelude.{◌≡◌, ◌==◌, ◌||◌, ℕ, nat_lt, Bool, false, if◌then◌else◌, List, [], ◌∷◌}
+use Rattle.std.specs.Prelude.{length}
+use Rattle.syn_headline.specs.World.{World, Step, Steps, Deliver}
 
 pub record State : Type 0 where
   pub world : World

@@ -1,7 +1,6 @@
 //! Which messages were delivered already.
 ghost use Rattle.std.specs.Prelude.{◌≡◌, ◌==◌, ◌||◌, ◌<◌, ◌≤◌, ℕ, false, true, vec_len, None};
-ghost use Rattle.std.specs.Prelude.{IfSome};
-ghost use Rattle.std.specs.Prelude.{slice_index_or};
+ghost use Rattle.std.specs.Prelude.{IfSome, slice_index_or};
 ghost use Rattle.syn_headline.specs.World.{World as ModelWorld};
 ghost use Rattle.syn_play.specs.Players.{AreFlags};
 ghost use Rattle.syn_play.specs.States.{State, noted};

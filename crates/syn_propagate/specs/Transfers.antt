@@ -1,7 +1,6 @@
 -- What a transfer asks for next, and what it answers.
-use Rattle.std.specs.Prelude.{◌≡◌, ◌⊎◌, ◌++◌, ℕ, false, [], ◌∷◌, Option, None, Some, IsSome}
-use Rattle.std.specs.Prelude.{Result, Ok}
-use Rattle.std.specs.Prelude.{Err}
+use Rattle.std.specs.Prelude.{◌≡◌, ◌⊎◌, ◌++◌, ℕ, false, [], ◌∷◌, Option, None, Some, IsSome, Result}
+use Rattle.std.specs.Prelude.{Ok, Err}
 use Rattle.syn_headline.specs.Network.{Which}
 use Rattle.syn_headline.specs.Coordinator.{is_last}
 use Rattle.syn_headline.specs.Side.{Request, Fetch, Stage, Replace, IsLawfulBody}
@@ -10,8 +9,7 @@ use Rattle.syn_message.specs.Requests.{request_of}
 use Rattle.syn_message.specs.Sides.{which_of}
 use Rattle.syn_message.specs.declared.reply.Reply.{Reply}
 use Rattle.syn_message.specs.declared.reply.Reply.TheVariants as has
-use Rattle.syn_propagate.specs.Carrying.{Exchanges, IsNew, MayAsk, WasCarried}
-use Rattle.syn_propagate.specs.Carrying.{source_of, target_of}
+use Rattle.syn_propagate.specs.Carrying.{Exchanges, IsNew, MayAsk, WasCarried, source_of, target_of}
 use Rattle.syn_propagate.specs.declared.carriage.Carriage.{Carriage}
 use Rattle.syn_propagate.specs.declared.error.TransferError.{TransferError}
 use Rattle.syn_propagate.specs.declared.error.TransferError.TheVariants.{BadMessage}

@@ -1,6 +1,5 @@
 //! A transfer, from what was answered last to what is asked next.
-ghost use Rattle.std.specs.Prelude.{◌≡◌, ◌≢◌, ◌⊎◌, ℕ, [], Some, None, Err, Ok, IfOk};
-ghost use Rattle.std.specs.Prelude.{MatchResult};
+ghost use Rattle.std.specs.Prelude.{◌≡◌, ◌≢◌, ◌⊎◌, ℕ, [], Some, None, Err, Ok, IfOk, MatchResult};
 ghost use Rattle.syn_headline.specs.Network.{Which};
 ghost use Rattle.syn_headline.specs.Session.{fault_of, fits_piece};
 ghost use Rattle.syn_headline.specs.Side.{Request as Asked, Fetch, Piece};
@@ -42,11 +41,10 @@ pub struct Transfer {
 }
 
 impl Transfer {
-    ghost use Rattle.syn_propagate.specs.Transfers.{EndsBy, Follows, FollowsAny, IsMisfit};
-    ghost use Rattle.syn_propagate.specs.Transfers.{IsOver};
+    ghost use Rattle.syn_propagate.specs.Transfers.{EndsBy, Follows, FollowsAny, IsMisfit, IsOver};
     ghost use Rattle.syn_propagate.specs.Transfers.{IsAsking, IsOverUnlessAsking, IsReady};
-    ghost use Rattle.syn_propagate.specs.Transfers.{TakesMemory};
-    ghost use Rattle.syn_propagate.specs.Transfers.{WaitsFor, carriage_of, with_answer};
+    ghost use Rattle.syn_propagate.specs.Transfers.{TakesMemory, WaitsFor, carriage_of};
+    ghost use Rattle.syn_propagate.specs.Transfers.{with_answer};
     ghost use Rattle.syn_propagate.specs.inner.Progresses.{HasReached, HasStagedTo};
 
     /// A transfer that has asked for nothing yet.

@@ -1,13 +1,11 @@
 -- The steps of a side: what they leave, and why they are refused, the first cause first.
-use Rattle.std.specs.Prelude.{◌≡◌, ℕ, Bool, true, false, not, ◌==◌, nat_lt}
-use Rattle.std.specs.Prelude.{if◌then◌else◌}
-use Rattle.std.specs.Prelude.{List, [], ◌∷◌, ◌++◌, length, take, drop, Option}
+use Rattle.std.specs.Prelude.{◌≡◌, ℕ, Bool, true, false, not, ◌==◌, nat_lt, if◌then◌else◌, List, []}
+use Rattle.std.specs.Prelude.{◌∷◌, ◌++◌, length, take, drop, Option}
 use Rattle.std.specs.Option.{option_map_or}
 use Rattle.syn_model.specs.Limits.{greatest_piece}
 use Rattle.syn_model.specs.Path.{Bytes, Path}
 use Rattle.syn_model.specs.Tree.{Tree, subtree, replace}
-use Rattle.syn_model.specs.Refusal.{Refusal, JournalFull, OldSession, WrongPair}
-use Rattle.syn_model.specs.Refusal.{Cause, first_cause}
+use Rattle.syn_model.specs.Refusal.{Refusal, JournalFull, OldSession, WrongPair, Cause, first_cause}
 use Rattle.syn_model.specs.Event.{Token, Event, Began, Replaced, is_same_token}
 use Rattle.syn_model.specs.Standing.{place_causes, full_causes}
 use Rattle.syn_model.specs.History.{History, tree_of, event_causes, position_causes, is_old_token}

@@ -1,8 +1,7 @@
 //! A replica over a journal.
 ghost use Rattle.std.specs.Prelude.{◌≡◌, ◌≢◌, ◌⊎◌, ◌↔◌, ◌≤◌, ◌+◌, ◌^◌, ◌<◌, ◌++◌, ◌∷◌, [], ℕ};
-ghost use Rattle.std.specs.Prelude.{length, OnOk};
-ghost use Rattle.std.specs.Prelude.{IfOk, IfErr, IsErrAnd, MatchResult, Err, Some, None, true};
-ghost use Rattle.std.specs.Prelude.{false, option_map};
+ghost use Rattle.std.specs.Prelude.{length, OnOk, IfOk, IfErr, IsErrAnd, MatchResult, Err, Some};
+ghost use Rattle.std.specs.Prelude.{None, true, false, option_map};
 ghost use Rattle.std.specs.FinMap.{get};
 ghost use Rattle.syn_model.specs.Tree.{is_directory};
 ghost use Rattle.syn_model.specs.Event as model;
@@ -18,8 +17,7 @@ ghost use Rattle.syn_journal.specs.Journal.{Takes};
 ghost use Rattle.syn_disk.specs.Calls.{Makes, MakesAtLeast};
 ghost use Rattle.syn_disk.specs.Stops.{LeavesOnly, Untouched};
 ghost use Rattle.syn_standing.specs.Refusals.{refusal_of};
-ghost use Rattle.syn_replica.specs.Refusals.{IsOneOf, format_refusals};
-ghost use Rattle.syn_replica.specs.Refusals.{reading_refusals};
+ghost use Rattle.syn_replica.specs.Refusals.{IsOneOf, format_refusals, reading_refusals};
 ghost use Rattle.syn_replica.specs.Refusals.{edit_refusals, outside_refusals, hiding_refusals};
 ghost use Rattle.syn_replica.specs.Refusals.{CountsFailures, MakesIfDevice, AfterReads};
 ghost use Rattle.syn_replica.specs.Disks.{DiskGives, DiskStands, IsOfOtherPair, IsOpenRefusal};
@@ -66,11 +64,10 @@ pub struct Replica<D: Disk> {
 
 impl<D: Disk> Replica<D> {
     ghost use Rattle.syn_replica.specs.Replica.{pair_of, standing_shown, tree_shown};
-    ghost use Rattle.syn_replica.specs.Replica.{position_shown};
-    ghost use Rattle.syn_replica.specs.Replica.{disk_of, journal_of, room_shown, generation_shown};
-    ghost use Rattle.syn_replica.specs.Replica.{IsHalted, Remembers, Stands, SameMemory};
-    ghost use Rattle.syn_replica.specs.Replica.{KeepsReadings, HasRecord, KeepsBeforeOrAfter};
-    ghost use Rattle.syn_replica.specs.Replica.{tried_shown, Tries};
+    ghost use Rattle.syn_replica.specs.Replica.{position_shown, disk_of, journal_of, room_shown};
+    ghost use Rattle.syn_replica.specs.Replica.{generation_shown, IsHalted, Remembers, Stands};
+    ghost use Rattle.syn_replica.specs.Replica.{SameMemory, KeepsReadings, HasRecord};
+    ghost use Rattle.syn_replica.specs.Replica.{KeepsBeforeOrAfter, tried_shown, Tries};
     ghost use Rattle.syn_replica.specs.Growth.{IsGrown};
 
     /// Formats the disk as a replica of the pair, with no events.

@@ -1,8 +1,7 @@
 -- What the answers of a side show: marks, which directory was listed at which position, and which
 -- path was answered as no directory.
-use Rattle.std.specs.Prelude.{◌≡◌, ◌⊎◌, Contains, ℕ, Bool, true, false, not, ◌&&◌, List, Some}
-use Rattle.std.specs.Prelude.{None, refl}
-use Rattle.std.specs.Prelude.{unwrap_or}
+use Rattle.std.specs.Prelude.{◌≡◌, ◌⊎◌, Contains, ℕ, Bool, true, false, not, ◌&&◌, List, Some, None}
+use Rattle.std.specs.Prelude.{refl, unwrap_or}
 use Rattle.std.specs.Option.{option_or}
 use Rattle.std.specs.Coded.{Coded, code_by, coded×, coded_ℕ, coded_list}
 use Rattle.std.specs.Ordering.{is_lt}

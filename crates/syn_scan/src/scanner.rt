@@ -1,16 +1,15 @@
 //! Makes the scan of a side: it says which directory is asked for next, and takes the listings one
 //! by one.
 ghost use Rattle.std.specs.Prelude.{◌≡◌, ◌≢◌, ◌<◌, ◌∷◌, ◌++◌, [], true, false, OnOk, OnErr, IfOk};
-ghost use Rattle.std.specs.Prelude.{IfErr, IfSome, IfNone, Ok, None, length, not};
+ghost use Rattle.std.specs.Prelude.{IfErr, IfSome, IfNone, Ok, None, length, not, ◌+◌};
 ghost use Rattle.std.specs.Ordering.{eq_by_cmp};
 ghost use Rattle.syn_model.specs.Limits.{most_nodes};
 ghost use Rattle.syn_model.specs.Path.{path_cmp, IsPath};
 ghost use Rattle.syn_model.specs.Dirty.{IsScanBy};
 ghost use Rattle.syn_mark.specs.Marks.{AreMarks, AreMarkPairs};
-ghost use Rattle.syn_scan.specs.Found.{scan_of, IsWhole, IsFirstOpen, WasListedIn};
-ghost use Rattle.syn_scan.specs.Found.{IsShownIn, WasNoDirectoryIn, position_of};
+ghost use Rattle.syn_scan.specs.Found.{scan_of, IsWhole, IsFirstOpen, WasListedIn, IsShownIn};
+ghost use Rattle.syn_scan.specs.Found.{WasNoDirectoryIn, position_of};
 ghost use Rattle.std.specs.FinMap.{len};
-ghost use Rattle.std.specs.Prelude.{◌+◌};
 ghost use Rattle.syn_scan.specs.Asked.{nothing_found, handed_out, is_out, without, contents_in};
 ghost use Rattle.syn_scan.specs.Asked.{with_listing, with_no_directory, is_too_large, Belongs};
 ghost use Rattle.syn_scan.specs.Asked.{ListsOnly, directory_with, listing_pairs, named, names_rise};

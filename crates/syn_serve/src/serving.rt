@@ -54,8 +54,7 @@ impl<R, W, G> Serving<R, W, G> {
 
 impl<D: Disk, R: Read, W: Write, G: Gate> Work<D> for Serving<R, W, G> {
     ghost use Rattle.syn_serve.specs.Lines.{line_of};
-    ghost use Rattle.syn_serve.specs.Servings.{WasServed};
-    ghost use Rattle.syn_serve.specs.Servings.{connection_in, ended_in};
+    ghost use Rattle.syn_serve.specs.Servings.{WasServed, connection_in, ended_in};
 
     // Until its end, with the pass.
     ghost does = { λ old new. WasServed D D.Disk

@@ -1,8 +1,6 @@
 -- What the checkpoint and the reopening of one thread answer and leave.
 use Rattle.std.specs.Prelude.{◌≡◌, ◌≢◌, ◌⊎◌, ◌↔◌, ◌+◌, ◌^◌, ◌<◌, ◌≤◌, ℕ, [], ◌∷◌, ◌++◌, length}
-use Rattle.std.specs.Prelude.{None}
-use Rattle.std.specs.Prelude.{Result, Err}
-use Rattle.std.specs.Prelude.{IfErr, OnOk, IsErrAnd, MatchResult}
+use Rattle.std.specs.Prelude.{None, Result, Err, IfErr, OnOk, IsErrAnd, MatchResult}
 use Rattle.syn_agent.specs.Machines.{IsOf}
 use Rattle.syn_agent.specs.declared.agent.Agent.{Agent}
 use Rattle.syn_disk.specs.Calls.{Makes, MakesAtLeast}

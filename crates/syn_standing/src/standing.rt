@@ -6,15 +6,14 @@ ghost use Rattle.syn_model.specs.Event.{is_below, is_same_token};
 ghost use Rattle.syn_model.specs.History.{History, standing_of};
 ghost use Rattle.syn_model.specs.Event as model;
 ghost use Rattle.syn_model.specs.Refusal.{Memory, first_cause};
-ghost use Rattle.syn_model.specs.Standing.{new_standing, standing_after, refusal_at};
-ghost use Rattle.syn_model.specs.Standing.{is_old, full_position};
+ghost use Rattle.syn_model.specs.Standing.{new_standing, standing_after, refusal_at, is_old};
+ghost use Rattle.syn_model.specs.Standing.{full_position};
 ghost use Rattle.syn_history.specs.Events.{event_of, token_of};
 ghost use Rattle.syn_history.specs.Past.{past_in, standing_with};
 ghost use Rattle.syn_tree.specs.Change.{IsPreparedFor};
 ghost use Rattle.syn_standing.specs.Refusals.{refusal_in, refusal_of};
 ghost use Rattle.syn_standing.specs.Causes.{since_causes};
-ghost use Rattle.syn_standing.specs.Updates.{early_causes, tree_refusal, tree_after};
-ghost use Rattle.syn_standing.specs.Updates.{IsReady, IsOf};
+ghost use Rattle.syn_standing.specs.Updates.{early_causes, tree_refusal, tree_after, IsReady, IsOf};
 ghost use Rattle.syn_tree.specs.Refusals.{refusal_of as of_tree};
 
 use crate::error::ReplicaError;

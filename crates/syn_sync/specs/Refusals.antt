@@ -5,8 +5,7 @@ use Rattle.syn_disk.specs.declared.disk.Disk.{Ghosts}
 use Rattle.syn_headline.specs.Coordinator.{Call, CoordinatorMachine}
 use Rattle.syn_model.specs.Refusal.{Device, JournalFull, NoAnswer, Refusal, first_cause}
 use Rattle.syn_coordinator.specs.Coordinators.{Checkpoints, all_causes, checkpoint_causes}
-use Rattle.syn_coordinator.specs.Coordinators.{device_of}
-use Rattle.syn_coordinator.specs.Coordinators.{runs}
+use Rattle.syn_coordinator.specs.Coordinators.{device_of, runs}
 use Rattle.syn_coordinator.specs.declared.coordinator.Coordinator.{Coordinator}
 
 -- A start is refused so; or it is refused 8, and then the checkpoint is refused so, or the start

@@ -1,7 +1,6 @@
 -- What a driver does with a coordinator: its acts are a run of the coordinator's machine, what it
 -- takes was heard, and what it sends was written.
-use Rattle.std.specs.Prelude.{◌≡◌, ◌⊎◌, ◌&&◌, not, ℕ, true, List, [], ◌∷◌, flat_map}
-use Rattle.std.specs.Prelude.{if◌then◌else◌}
+use Rattle.std.specs.Prelude.{◌≡◌, ◌⊎◌, ◌&&◌, not, ℕ, true, List, [], ◌∷◌, flat_map, if◌then◌else◌}
 use Rattle.syn_disk.specs.Arms.{is_stopped}
 use Rattle.syn_disk.specs.declared.disk.Disk.{Ghosts}
 use Rattle.syn_headline.specs.Coordinator.{Call, CoordinatorMachine, CoordinatorStarts}

@@ -3,12 +3,10 @@
 ghost use Rattle.std.specs.Prelude.{◌≡◌, true, length, IfSome, IfNone, IsTrue};
 ghost use Rattle.std.specs.FinMap.{entries};
 ghost use Rattle.syn_model.specs.Tree.{IsTree, empty_directory};
-ghost use Rattle.syn_model.specs.Limits.{children, fits_part, fits_paths};
-ghost use Rattle.syn_placed.specs.Pairs.{rooted, tree_with};
+ghost use Rattle.syn_model.specs.Limits.{children, fits_part, fits_paths, fits_content};
+ghost use Rattle.syn_placed.specs.Pairs.{rooted, tree_with, AreRising};
 ghost use Rattle.std.specs.List.{list_all};
-ghost use Rattle.syn_model.specs.Limits.{fits_content};
 ghost use Rattle.syn_tree.specs.Contents.{IsLawful};
-ghost use Rattle.syn_placed.specs.Pairs.{AreRising};
 ghost use Rattle.syn_tree.specs.Entries.{AreEntries, has_few, stands_in, IsLawfulPair, AreLawful};
 
 use crate::content::Found;
@@ -36,11 +34,10 @@ impl Model for Entries {
 
     ghost coded = { coded_tree };
 
-    ghost use Rattle.syn_placed.specs.Pairs.{tree_with};
+    ghost use Rattle.syn_placed.specs.Pairs.{tree_with, AreRising};
     ghost use Rattle.std.specs.List.{list_all};
     ghost use Rattle.syn_model.specs.Limits.{fits_content};
     ghost use Rattle.syn_tree.specs.Contents.{IsLawful};
-    ghost use Rattle.syn_placed.specs.Pairs.{AreRising};
     ghost use Rattle.syn_tree.specs.Entries.{AreEntries, stands_in, IsLawfulPair, AreLawful};
 
     ghost view = { λ e. tree_with e.list.items };

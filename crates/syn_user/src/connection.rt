@@ -1,8 +1,7 @@
 //! A user's connection, and the requests over it.
 ghost use Rattle.std.specs.Prelude.{◌≡◌, [], Err, IfErr, IfOk, false, option_map, true};
 ghost use Rattle.syn_message.specs.UserReplies.{Edited, Got, told_of};
-ghost use Rattle.syn_message.specs.Users.{Edits, Gets, IsLawfulWished, Wish, wish_of};
-ghost use Rattle.syn_message.specs.Users.{wished_of};
+ghost use Rattle.syn_message.specs.Users.{Edits, Gets, IsLawfulWished, Wish, wish_of, wished_of};
 ghost use Rattle.syn_tree.specs.Contents.{content_of};
 ghost use Rattle.syn_tree.specs.Edits.{edit_of};
 ghost use Rattle.syn_user.specs.Exchanges.{Fails, IsHeard, IsTold, IsUnheard, goes_behind};

@@ -15,8 +15,7 @@ use Rattle.syn_headline.specs.SideMachine.{SideMachine}
 use Rattle.syn_headline.specs.World.{World, Edits, Start, Deliver}
 use Rattle.syn_headline.specs.Headline.{IsStart}
 use Rattle.syn_witness.specs.Witness.{IsWitnessFrom, opened_world, new_journal, new_room}
-use Rattle.syn_witness.specs.Witness.{new_archive_room}
-use Rattle.syn_witness.specs.Witness.{a_path, put_one, complete}
+use Rattle.syn_witness.specs.Witness.{new_archive_room, a_path, put_one, complete}
 
 abbrev pub left_before : History
 left_before = Edited 1 put_one ∷ []

@@ -11,9 +11,8 @@ ghost use Rattle.syn_witness.specs.Forbidden.{CheckpointsAreForRecords, FullAfte
 ghost use Rattle.syn_witness.specs.Forbidden.{HaltedAfterFailure, RefusedAfterFailure};
 ghost use Rattle.syn_witness.specs.Forbidden.{EndsAfterFailure, StopsAsArmed};
 ghost use Rattle.syn_witness.specs.Short.{StartIsRecovered, ReplacementIsRecovered};
-ghost use Rattle.syn_witness.specs.Short.{RecordIsRecovered};
-ghost use Rattle.syn_witness.specs.Short.{CheckpointIsMade, ArchiveIsReopened, ResendIsAnswered};
-ghost use Rattle.syn_witness.specs.Short.{LateIsOld};
+ghost use Rattle.syn_witness.specs.Short.{RecordIsRecovered, CheckpointIsMade, ArchiveIsReopened};
+ghost use Rattle.syn_witness.specs.Short.{ResendIsAnswered, LateIsOld};
 ghost use Rattle.syn_witness.specs.Refused.{SecondStartIsBusy, FullIsCompacted, StartFails};
 ghost use Rattle.syn_witness.specs.Refused.{ReopeningFails};
 ghost use Rattle.syn_witness.specs.Conflict.{ConflictIsReported};

@@ -4,8 +4,7 @@ ghost use Rattle.std.specs.Prelude.{OnOk, MatchResult};
 ghost use Rattle.syn_disk.specs.Calls.{MakesAtLeast};
 ghost use Rattle.syn_disk.specs.Stops.{Untouched};
 ghost use Rattle.syn_model.specs.Archive.{Archive as KeptArchive, Kept, after_kept};
-ghost use Rattle.syn_archive.specs.Disks.{DiskStands};
-ghost use Rattle.syn_archive.specs.Disks.{IsOpenRefusal, IsReopenRefusal, IsWanted};
+ghost use Rattle.syn_archive.specs.Disks.{DiskStands, IsOpenRefusal, IsReopenRefusal, IsWanted};
 ghost use Rattle.syn_archive.specs.Refusals.{AfterReads, CountsFailures, refusal_of};
 ghost use Rattle.syn_model.specs.Refusal.{Memory};
 

@@ -1,6 +1,5 @@
 //! What a call leaves of a coordinator, and what comes of it.
-ghost use Rattle.std.specs.Prelude.{◌≡◌, ◌&&◌, [], ℕ, List, IfSome, if◌then◌else◌, not};
-ghost use Rattle.std.specs.Prelude.{option_map};
+ghost use Rattle.std.specs.Prelude.{◌≡◌, ◌&&◌, [], ℕ, List, IfSome, if◌then◌else◌, not, option_map};
 ghost use Rattle.syn_headline.specs.Coordinator.{Call, CoordinatorMachine};
 ghost use Rattle.syn_headline.specs.Machine.{Status};
 ghost use Rattle.syn_host.specs.CoordinatorSteps.{IsToTell, Settles, StopsAs};

@@ -12,8 +12,7 @@ ghost use Rattle.syn_model.specs.Image.{Gives};
 ghost use Rattle.syn_model.specs.Standing as model_standing;
 ghost use Rattle.syn_replica.specs.Disks.{DiskGives, DiskStands, IsReopenRefusal};
 ghost use Rattle.syn_standing.specs.Refusals.{refusal_of};
-ghost use Rattle.syn_replica.specs.Refusals.{CountsFailures, AfterReads};
-ghost use Rattle.syn_replica.specs.Refusals.{IsOneOf, outside_refusals};
+ghost use Rattle.syn_replica.specs.Refusals.{CountsFailures, AfterReads, IsOneOf, outside_refusals};
 ghost use Rattle.syn_standing.specs.Readings.{IsOfMeaning};
 
 use super::Replica;
@@ -24,10 +23,9 @@ use syn_standing::{ReplicaError, Standing, opening_laws, read_replica};
 
 impl<D: Disk> Replica<D> {
     ghost use Rattle.syn_replica.specs.Replica.{pair_of, standing_shown, tried_shown, disk_of};
-    ghost use Rattle.syn_replica.specs.Replica.{position_shown};
+    ghost use Rattle.syn_replica.specs.Replica.{position_shown, IsHalted, Stands, SameMemory};
+    ghost use Rattle.syn_replica.specs.Replica.{KeepsReadings, KeepsBeforeOrAfter, ShowsDisk};
     ghost use Rattle.syn_replica.specs.Growth.{KeepsUp, IsGrown, WithTried};
-    ghost use Rattle.syn_replica.specs.Replica.{IsHalted, Stands, SameMemory, KeepsReadings};
-    ghost use Rattle.syn_replica.specs.Replica.{KeepsBeforeOrAfter, ShowsDisk};
 
     /// Opens the replica's own disk again. A replica that was halted runs again.
     ///

@@ -2,9 +2,8 @@
 ghost use Rattle.std.specs.Prelude.{◌≡◌, ℕ, Some, slice_get};
 ghost use Rattle.syn_headline.specs.Network.{Asks};
 ghost use Rattle.syn_message.specs.Requests.{request_of};
-ghost use Rattle.syn_headline.specs.World.{World as ModelWorld, At, Edits, Checkpoint};
-ghost use Rattle.syn_headline.specs.World.{Deliver, Open};
-ghost use Rattle.syn_headline.specs.World.{Fail, Reopen, Stop};
+ghost use Rattle.syn_headline.specs.World.{World as ModelWorld, At, Edits, Checkpoint, Deliver};
+ghost use Rattle.syn_headline.specs.World.{Open, Fail, Reopen, Stop};
 ghost use Rattle.syn_message.specs.Sides.{which_of};
 ghost use Rattle.syn_tree.specs.Edits.{edit_of};
 
