@@ -1,3 +1,4 @@
 pub mod FileDisk
+pub mod Lock
 pub mod OpenError
 pub mod inner
