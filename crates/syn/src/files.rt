@@ -1,4 +1,6 @@
 //! The disks in files of the system, by their names.
+ghost use Rattle.syn_file.specs.FileDisk.{file_of};
+ghost use Rattle.syn_file.specs.Mirrored.{host_of};
 
 use std::alloc::Global;
 use std::fs::Files;
@@ -14,6 +16,8 @@ where
     F::File: HostFile + Send,
 {
     type Disk = FileDisk<MirroredFile<F::File>>;
+
+    ghost is_held = { λ disk. F.File.is_held (host_of (file_of disk)) };
 
     fn open(&self, alloc: Global, name: &str) -> Result<Self::Disk, OpenError> {
         FileDisk::open(alloc, self.0, name)

@@ -1,4 +1,5 @@
 //! Makes a file an image.
+ghost use Rattle.std.specs.Prelude.{OnOk};
 
 use std::alloc::Global;
 use std::fs::{Files, OpenFile, OpenOptions, TryLockError};
@@ -54,7 +55,9 @@ fn open_or_make<F: Files>(files: &F, name: &str) -> Result<(F::File, bool), Comm
 }
 
 /// Locks the file, so that no other process can open it as an image.
-fn lock<H: HostFile>(file: &H) -> Result<(), CommandError> {
+fn lock<H: HostFile>(file: &H) -> Result<(), CommandError>
+    ensures held { OnOk result (H.is_held file.now Access.Write) }
+{
     match file.try_lock(Access::Write) {
         Ok(()) => Ok(()),
         Err(TryLockError::WouldBlock) => Err(CommandError::Open(OpenError::Busy)),
@@ -68,7 +71,9 @@ fn format_file<H: HostFile>(
     file: H,
     kind: ImageKind,
     pair: u64,
-) -> Result<(), CommandError> {
+) -> Result<(), CommandError>
+    requires held { H.is_held file Access.Write }
+{
     file.set_len(DISK_SIZE as u64)?;
     let disk = FileDisk::of_file(alloc, file, Access::Write)?;
     format_image(alloc, disk, kind, pair)?;

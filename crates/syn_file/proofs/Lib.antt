@@ -1,2 +1,3 @@
 mod Extents
 mod Written
+mod Zeros

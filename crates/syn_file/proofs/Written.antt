@@ -2,8 +2,8 @@
 use Rattle.std.proofs.Common.{◌≡◌, ◌∙◌, ℕ, ◌+◌, ◌≤◌, List, [], ◌∷◌, ◌++◌, length, refl, ap, subst, arith}
 use Rattle.syn_disk.specs.Disk.{overwritten, Torn, Follows}
 use Rattle.syn_disk.specs.Moments.{MayLeave}
-use Rattle.syn_file.specs.inner.Extent.{is_in_some}
-use Rattle.syn_file.specs.inner.Mirror.{FileMayLeave, bytes_of, length-bytes}
+use Rattle.syn_file.specs.Extent.{is_in_some}
+use Rattle.syn_file.specs.Mirror.{FileMayLeave, bytes_of, length-bytes}
 use Rattle.syn_disk.specs.declared.disk.TheConstants.{DISK_SIZE}
 use Rattle.syn_file.specs.declared.file.image.Image.{Image}
 use Rattle.syn_file.proofs.Extents.{is_in_some-push, outside}

@@ -5,6 +5,8 @@ ghost use Rattle.syn_disk.specs.Arms.{no_arms};
 ghost use Rattle.syn_disk.specs.Disk.{overwritten, Torn, Follows, NothingNew, Only, Elapses};
 ghost use Rattle.syn_disk.specs.Disk.{CountsFailure};
 ghost use Rattle.syn_disk.specs.declared.disk.TheConstants.{DISK_SIZE};
+ghost use Rattle.syn_file.specs.Lock.{StillHeld};
+ghost use Rattle.syn_file.specs.declared.file.host.Access.{Access};
 
 use crate::error::OpenError;
 use std::alloc::Global;
@@ -40,6 +42,9 @@ pub trait DiskFile {
     /// No write and no sync has failed.
     ghost is_sound: { Self → Bool };
 
+    /// The system's lock for this access is held on the file.
+    ghost is_held: { Self → Access → Type 0 };
+
     /// Fills `into` with the bytes from `at` on.
     fn read(&mut self, at: usize, into: &mut [u8]) -> Result<(), DeviceFailed>
         requires fits { at + length into.old ≤ DISK_SIZE }
@@ -49,7 +54,8 @@ pub trait DiskFile {
         ensures stop { NothingNew (may_leave self.old) (may_leave self.new) }
         ensures time { Elapses (moment self.old) (moment self.new)
             (left_since self.old) (left_since self.new) (may_leave self.new) }
-        ensures sound { is_sound self.new ≡ true };
+        ensures sound { is_sound self.new ≡ true }
+        ensures lock { StillHeld (is_held self.old) (is_held self.new) };
 
     /// Until the next sync that succeeds a stop may leave any bytes in the range, also where the
     /// write failed. Where it fails the file may be sound no more.
@@ -62,7 +68,8 @@ pub trait DiskFile {
             (may_leave self.new) }
         ensures time { Elapses (moment self.old) (moment self.new)
             (left_since self.old) (left_since self.new) (may_leave self.new) }
-        ensures sound { OnOk result (is_sound self.new ≡ true) };
+        ensures sound { OnOk result (is_sound self.new ≡ true) }
+        ensures lock { StillHeld (is_held self.old) (is_held self.new) };
 
     /// After it a stop leaves what a read gives. Where it fails the file may be sound no more.
     fn sync(&mut self) -> Result<(), DeviceFailed>
@@ -72,7 +79,8 @@ pub trait DiskFile {
         ensures stop { NothingNew (may_leave self.old) (may_leave self.new) }
         ensures time { Elapses (moment self.old) (moment self.new)
             (left_since self.old) (left_since self.new) (may_leave self.new) }
-        ensures sound { OnOk result (is_sound self.new ≡ true) };
+        ensures sound { OnOk result (is_sound self.new ≡ true) }
+        ensures lock { StillHeld (is_held self.old) (is_held self.new) };
 
     /// This moment is one of those since an earlier one.
     ghost counts_now: { (file : Self) (t : ℕ) (c : List ℕ) → t ≤ moment file → may_leave file c
@@ -104,7 +112,7 @@ pub struct FileDisk<F: DiskFile> {
 
 impl<H: HostFile> FileDisk<MirroredFile<H>> {
     ghost use Rattle.syn_file.specs.FileDisk.{file_of, failures_of};
-    ghost use Rattle.syn_file.specs.inner.Mirrored.{seen_of, MayBeLeft};
+    ghost use Rattle.syn_file.specs.Mirrored.{seen_of, MayBeLeft, host_of};
 
     /// The disk in the file at the path, which no other process may open as long as this one has
     /// it.
@@ -118,6 +126,7 @@ impl<H: HostFile> FileDisk<MirroredFile<H>> {
     ) -> Result<FileDisk<MirroredFile<H>>, OpenError>
         ensures settled { IfOk result
             (λ disk. Only (seen_of (file_of disk)) (MayBeLeft (file_of disk))) }
+        ensures held { IfOk result (λ disk. H.is_held (host_of (file_of disk)) Access.Write) }
         ensures failures { IfOk result (λ disk. failures_of disk ≡ 0) }
     {
         let file = OpenOptions::new().read(true).write(true).open(files, path)?;
@@ -136,6 +145,7 @@ impl<H: HostFile> FileDisk<MirroredFile<H>> {
     ) -> Result<FileDisk<MirroredFile<H>>, OpenError>
         ensures settled { IfOk result
             (λ disk. Only (seen_of (file_of disk)) (MayBeLeft (file_of disk))) }
+        ensures held { IfOk result (λ disk. H.is_held (host_of (file_of disk)) Access.Read) }
         ensures failures { IfOk result (λ disk. failures_of disk ≡ 0) }
     {
         let file = OpenOptions::new().read(true).open(files, path)?;
@@ -153,6 +163,7 @@ impl<H: HostFile> FileDisk<MirroredFile<H>> {
     ) -> Result<FileDisk<MirroredFile<H>>, OpenError>
         ensures settled { IfOk result
             (λ disk. Only (seen_of (file_of disk)) (MayBeLeft (file_of disk))) }
+        ensures held { IfOk result (λ disk. H.is_held (host_of (file_of disk)) access) }
         ensures failures { IfOk result (λ disk. failures_of disk ≡ 0) }
     {
         FileDisk::over(MirroredFile::open(alloc, file, access)?)
@@ -168,6 +179,7 @@ impl<F: DiskFile + Drop> FileDisk<F> {
     pub fn over(mut file: F) -> Result<FileDisk<F>, OpenError>
         requires { F.is_sound file ≡ true }
         ensures seen { IfOk result (λ disk. F.seen (file_of disk) ≡ F.seen file) }
+        ensures lock { IfOk result (λ disk. StillHeld (F.is_held file) (F.is_held (file_of disk))) }
         ensures settled { IfOk result (λ disk. Only (F.seen file) (F.may_leave (file_of disk))) }
         ensures failures { IfOk result (λ disk. failures_of disk ≡ 0) }
     {

@@ -1,10 +1,12 @@
 //! Disks that are opened by their names, and the images on them.
+ghost use Rattle.std.specs.Prelude.{IfOk};
+ghost use Rattle.syn_file.specs.declared.file.host.Access.{Access};
 
 use std::alloc::Global;
 use syn_archive::Archive;
 use syn_command::{CommandError, Image, open_image};
 use syn_disk::{Cut, Disk};
-use syn_file::OpenError;
+use syn_file::{Access, OpenError};
 use syn_replica::Replica;
 
 /// Disks that have names.
@@ -12,17 +14,22 @@ pub trait NamedDisks {
     /// A disk that is open.
     type Disk: Disk + Drop + Send;
 
+    /// The lock for this access is held on the disk.
+    ghost is_held: { Self.Disk → Access → Type 0 };
+
     /// The disk of that name, which no other process may open as long as this one has it.
     ///
     /// It is refused 12 where another process has it, 9 where there is none or the device fails,
     /// and 11 for want of memory.
-    fn open(&self, alloc: Global, name: &str) -> Result<Self::Disk, OpenError>;
+    fn open(&self, alloc: Global, name: &str) -> Result<Self::Disk, OpenError>
+        ensures held { IfOk result (λ disk. is_held disk Access.Write) };
 
     /// The disk of that name, to be read. Other processes may read it meanwhile, and none may
     /// write it. It need not be one that can be written, and each write fails.
     ///
     /// It is refused as `open` is, but 12 only where another process has it to write.
-    fn open_to_read(&self, alloc: Global, name: &str) -> Result<Self::Disk, OpenError>;
+    fn open_to_read(&self, alloc: Global, name: &str) -> Result<Self::Disk, OpenError>
+        ensures held { IfOk result (λ disk. is_held disk Access.Read) };
 }
 
 /// The replica of that name, which no other process may open meanwhile.

@@ -1,4 +1,7 @@
 //! What a disk in a file asks of the operating system, beside reads, writes and syncs.
+ghost use Rattle.std.specs.Prelude.{OnOk};
+ghost use Rattle.syn_file.specs.declared.file.host.Access.{Access};
+
 use std::fs::{File, OpenFile, TryLockError};
 use std::io;
 use std::os::fd::AsRawFd;
@@ -13,10 +16,15 @@ pub enum Access {
 
 /// An open file of the operating system.
 pub trait HostFile: FileExt + OpenFile + Drop {
+    /// The system's lock for this access was taken through the file, and is held as long as the
+    /// file is open.
+    ghost is_held: { Self → Access → Type 0 };
+
     /// Takes the system's lock on the file: to write it alone, and to read it beside others that
     /// read. It does not wait. The lock is held until the file and each clone of it are closed;
-    /// taken again through the file, it is kept.
-    fn try_lock(&self, access: Access) -> Result<(), TryLockError>;
+    /// taken again through the file for the same access, it is kept.
+    fn try_lock(&self, access: Access) -> Result<(), TryLockError>
+        ensures held { OnOk result (is_held self.now access) };
 
     /// Where the next bytes that the file keeps begin, from `from` on; none where it keeps no more.
     /// What it does not keep reads as zeros.
@@ -34,6 +42,9 @@ const SEEK_DATA: i32 = 3;
 const ENXIO: i32 = 6;
 
 impl HostFile for File {
+    // No contract says what the system's lock does: that one which was taken is held is trusted.
+    ghost is_held = { λ _ _. Unit {0} };
+
     fn try_lock(&self, access: Access) -> Result<(), TryLockError> {
         match access {
             Access::Read => File::try_lock_shared(self),

@@ -1,6 +1,7 @@
 //! The bytes of a disk in memory, of which only as much is kept as is used.
 ghost use Rattle.std.specs.Prelude.{◌≡◌, ◌≤◌, ◌<◌, ◌+◌, ℕ, List, length, take, drop, vec_capacity};
 ghost use Rattle.std.specs.Prelude.{IfOk};
+ghost use Rattle.std.specs.List.{All};
 ghost use Rattle.syn_disk.specs.Disk.{overwritten};
 ghost use Rattle.syn_disk.specs.declared.disk.TheConstants.{DISK_SIZE, HALF_SIZE};
 
@@ -19,9 +20,11 @@ pub struct Part {
 }
 
 impl Part {
-    ghost use Rattle.syn_file.specs.inner.Mirror.{kept_of};
+    ghost use Rattle.syn_file.specs.Mirror.{kept_of};
 
-    fn new(alloc: Global) -> Result<Part, AllocError> {
+    fn new(alloc: Global) -> Result<Part, AllocError>
+        ensures { IfOk result (λ part. All (λ byte. byte ≡ 0) (kept_of part)) }
+    {
         Ok(Part {
             kept: Vec::with_capacity(alloc, HALF_SIZE)?,
         })
@@ -68,10 +71,12 @@ pub struct Image {
 }
 
 impl Image {
-    ghost use Rattle.syn_file.specs.inner.Mirror.{bytes_of};
+    ghost use Rattle.syn_file.specs.Mirror.{bytes_of};
 
     /// All bytes are zero.
-    pub fn new(alloc: Global) -> Result<Image, AllocError> {
+    pub fn new(alloc: Global) -> Result<Image, AllocError>
+        ensures { IfOk result (λ image. All (λ byte. byte ≡ 0) (bytes_of image)) }
+    {
         let low = Part::new(alloc)?;
         let high = Part::new(alloc)?;
         Ok(Image { low, high })

@@ -2,8 +2,8 @@
 ghost use Rattle.std.specs.Prelude.{◌≡◌, ◌≤◌, ◌<◌, ◌+◌, [], ◌∷◌, true, false, not, refl, ℕ, List};
 ghost use Rattle.std.specs.Prelude.{length, IfOk, IsOk};
 ghost use Rattle.syn_disk.specs.Moments.{MayLeave, LeftSince};
-ghost use Rattle.syn_file.specs.inner.Extent.{is_in_some};
-ghost use Rattle.syn_file.specs.inner.Mirror.{FileMayLeave, bytes_of, length-bytes};
+ghost use Rattle.syn_file.specs.Extent.{is_in_some};
+ghost use Rattle.syn_file.specs.Mirror.{FileMayLeave, bytes_of, length-bytes};
 ghost use Rattle.syn_disk.specs.MomentLaws.{now_counts, only_now};
 
 use crate::error::OpenError;
@@ -35,7 +35,7 @@ pub struct MirroredFile<H> {
 }
 
 impl<H: HostFile> MirroredFile<H> {
-    ghost use Rattle.syn_file.specs.inner.Mirrored.{has_failed_of};
+    ghost use Rattle.syn_file.specs.Mirrored.{has_failed_of, host_of};
 
     /// Takes the system's lock on a file that was opened, and reads what the file keeps.
     ///
@@ -43,6 +43,7 @@ impl<H: HostFile> MirroredFile<H> {
     /// than a disk, or cannot be locked or read, and 11 for want of memory.
     pub fn open(alloc: Global, file: H, access: Access) -> Result<MirroredFile<H>, OpenError>
         ensures sound { IfOk result (λ file. has_failed_of file ≡ false) }
+        ensures held { IfOk result (λ file. H.is_held (host_of file) access) }
     {
         match file.try_lock(access) {
             Ok(()) => {}
@@ -101,6 +102,8 @@ impl<H: HostFile> DiskFile for MirroredFile<H> {
     ghost left_since = { λ f. LeftSince FileMayLeave f.history (f.image, f.unsynced) };
 
     ghost is_sound = { λ f. not f.has_failed };
+
+    ghost is_held = { λ f. H.is_held f.file };
 
     ghost counts_now = { λ f t c le left.
         now_counts FileMayLeave f.history (f.image, f.unsynced) c t le left };

@@ -1,5 +1,5 @@
 use Rattle.std.proofs.Common.{◌≡◌, ◌≤◌, ◌+◌, ◌-◌, min, length, arith}
-use Rattle.syn_file.specs.inner.Mirror.{kept_of, length-kept}
+use Rattle.syn_file.specs.Mirror.{kept_of, length-kept}
 use Rattle.syn_disk.specs.declared.disk.TheConstants.{HALF_SIZE}
 use Rattle.syn_disk.proofs.Joined.{joined_read}
 use Rattle.syn_file.proofs.file.image.Image.read.Goals as goal

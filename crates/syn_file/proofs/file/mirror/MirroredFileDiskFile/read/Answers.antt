@@ -1,4 +1,4 @@
-use Rattle.syn_file.specs.inner.Mirror.{FileMayLeave}
+use Rattle.syn_file.specs.Mirror.{FileMayLeave}
 use Rattle.syn_disk.proofs.Moments.{elapses_noted}
 use Rattle.syn_file.proofs.file.mirror.MirroredFileDiskFile.read.Goals as goal
 

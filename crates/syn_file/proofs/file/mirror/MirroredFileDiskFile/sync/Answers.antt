@@ -1,5 +1,5 @@
 use Rattle.std.proofs.Common.{refl}
-use Rattle.syn_file.specs.inner.Mirror.{FileMayLeave, length-bytes}
+use Rattle.syn_file.specs.Mirror.{FileMayLeave, length-bytes}
 use Rattle.syn_disk.proofs.Moments.{elapses_noted, only_settled}
 use Rattle.syn_file.proofs.file.mirror.MirroredFileDiskFile.sync.Goals as goal
 

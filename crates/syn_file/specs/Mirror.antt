@@ -3,7 +3,7 @@ use Rattle.std.specs.Prelude.{◌≡◌, ℕ, List, ◌++◌, length}
 use Rattle.std.proofs.Common.{arith, length-append}
 use Rattle.syn_disk.specs.Moments.{MayLeave}
 use Rattle.syn_disk.specs.Padded.{padded}
-use Rattle.syn_file.specs.inner.Extent.{is_in_some}
+use Rattle.syn_file.specs.Extent.{is_in_some}
 use Rattle.syn_disk.specs.PaddedLaws.{length-padded}
 use Rattle.syn_disk.specs.declared.disk.TheConstants.{DISK_SIZE, HALF_SIZE}
 use Rattle.syn_file.specs.declared.file.image.Image.{Image}

@@ -1,9 +1,13 @@
 -- What a file of the system shows.
 use Rattle.std.specs.Prelude.{Bool, ℕ, List}
-use Rattle.syn_file.specs.inner.Mirror.{FileMayLeave, bytes_of}
+use Rattle.syn_file.specs.Mirror.{FileMayLeave, bytes_of}
 use Rattle.syn_file.specs.declared.file.mirror.MirroredFile.{MirroredFile}
 
 module _ {H : Type 0} (file : MirroredFile H) where
+  -- the file of the system
+  abbrev pub host_of : H
+  host_of = file.file
+
   -- what a read gives
   abbrev pub seen_of : List ℕ
   seen_of = bytes_of file.image
