@@ -8,6 +8,9 @@ use Rattle.std.specs.Prelude.{◌||◌, ◌==◌, nat_le, nat_lt}
 use Rattle.syn_agent.specs.Causes.{CountsFailures}
 use Rattle.syn_headline.specs.Side.{Side, Served, Reply, Refused, answer, unless_refused}
 use Rattle.syn_journal.specs.declared.error.JournalError.TheVariants as journal
+use Rattle.syn_model.specs.Event.{Edit, Put, MakeDir, Remove, Edited}
+use Rattle.syn_model.specs.History.{History as Past, event_causes}
+use Rattle.syn_replica.specs.Steps.{add_refusal, room_causes}
 use Rattle.syn_model.specs.Refusal.{Refusal, Cause, first_cause, number}
 use Rattle.syn_model.specs.Refusal as why
 use Rattle.syn_replica.specs.Refusals.{IsOneOf, outside_refusals}
@@ -48,11 +51,11 @@ outside e is =
       ]
     ]
 
-tree_is_none : (e : TreeError) → of_tree e ≢ why.Device
+pub tree_is_none : (e : TreeError) → of_tree e ≢ why.Device
 tree_is_none tree.Memory is = let k : why.Memory ≡ why.Device = is in cc
 tree_is_none e is = let k : of_tree e ≡ why.Device = is in cc
 
-history_is_none : (e : HistoryError) → of_history e ≢ why.Device
+pub history_is_none : (e : HistoryError) → of_history e ≢ why.Device
 history_is_none history.Memory is = let k : why.Memory ≡ why.Device = is in cc
 history_is_none e is = let k : of_history e ≡ why.Device = is in cc
 
@@ -71,7 +74,7 @@ abbrev pub Never : Refusal → List Cause → Type 0
 Never refusal [] = Unit {0}
 Never refusal (cause ∷ causes) = (cause.1 ≢ refusal) × Never refusal causes
 
-none_is_no : (refusal : Refusal) → ◌≢◌ {A = Option Refusal} None (Some refusal)
+pub none_is_no : (refusal : Refusal) → ◌≢◌ {A = Option Refusal} None (Some refusal)
 none_is_no refusal is = cc
 
 -- there is no cause
@@ -87,6 +90,22 @@ never_first refusal other ((true, first) ∷ causes) never is =
     λ same. never.0 (let k : Some first ≡ Some other = is in cc)
 never_first refusal other ((false, first) ∷ causes) never is =
     never_first refusal other causes never.1 is
+
+-- no history causes that a device call fails
+pub edit_never : (room : ℕ) (past : Past) (user : ℕ) (edit : Edit) (other : Refusal)
+    → add_refusal room past (Edited user edit) ≡ Some other → other ≢ why.Device
+edit_never room past user edit other is =
+    never_first why.Device other (event_causes past (Edited user edit)
+    ++ room_causes room (Edited user edit)) (never edit) is
+  where
+    never : (edit : Edit) → Never why.Device (event_causes past (Edited user edit)
+        ++ room_causes room (Edited user edit))
+    never (Put path bytes) =
+        ((λ d. cc d), ((λ d. cc d), ((λ d. cc d), ((λ d. cc d), ((λ d. cc d), ((λ d. cc d), tt))))))
+    never (MakeDir path) =
+        ((λ d. cc d), ((λ d. cc d), ((λ d. cc d), ((λ d. cc d), ((λ d. cc d), ((λ d. cc d), tt))))))
+    never (Remove path) =
+        ((λ d. cc d), ((λ d. cc d), ((λ d. cc d), ((λ d. cc d), ((λ d. cc d), ((λ d. cc d), tt))))))
 
 -- what the journal takes, by its longest payload and by what is left of it
 pub rooms : (room left size : ℕ) → room ≡ left - 5 → 1 ≤ size

@@ -1,8 +1,8 @@
-mod CauseLemmas
+pub mod CauseLemmas
 mod ReplicaLemmas
 mod BeginLemmas
 mod ReplaceLemmas
-mod ReadingLemmas
+pub mod ReadingLemmas
 mod StageLemmas
 mod MachineLemmas
 mod ListedLemmas

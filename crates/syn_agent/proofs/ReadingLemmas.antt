@@ -46,7 +46,7 @@ use Rattle.syn_tree.specs.Refusals.{refusal_of as of_tree}
 use Rattle.syn_tree.specs.declared.error.TreeError.{TreeError}
 use Rattle.syn_tree.specs.declared.error.TreeError.TheVariants as tree_error
 
-halted_number : (refusal : Refusal) → 10 ≡ number refusal → refusal ≡ why.Halted
+pub halted_number : (refusal : Refusal) → 10 ≡ number refusal → refusal ≡ why.Halted
 halted_number why.Halted is = refl
 halted_number refusal is = absurd (let k : 10 ≡ number refusal = is in omega (arith, k))
 

@@ -10,7 +10,7 @@ use Rattle.syn_journal.specs.Journal.{SameReadings}
 use Rattle.syn_model.specs.Archive as model
 use Rattle.syn_recovery.specs.Calls.{armed_at}
 use Rattle.syn_keep.specs.Machines.{Fails, IsMachine, Journal, Runs}
-use Rattle.syn_coordinator.proofs.ReopenLemmas.{may_be_still}
+use Rattle.syn_recovery.proofs.DiskLemmas.{may_be_still}
 
 module _ {D : Type 0} {disk : Ghosts D} (old new : Archive D disk) (pair : ℕ) (machine : Journal) (is : IsMachine old pair machine) (goes : is_stopped (disk.arms (disk_of new)) ≡ false)
     (stands : (kept : model.Archive) → Stands old kept → Stands new kept) (memory : SameMemory old new) (readings : SameReadings (journal_of old) (journal_of new)) (stop : SameOutcomes (disk.may_leave (disk_of old)) (disk.may_leave (disk_of new))) where
@@ -31,5 +31,5 @@ module _ {D : Type 0} {disk : Ghosts D} (old new : Archive D disk) (pair : ℕ) 
       })
       | inr fails ↦ inr (record { halted = fails.halted; is_halted = readings.halted ∙ fails.is_halted })
     ];
-    leaves = λ bytes left. may_be_still pair machine machine.status (armed_at (disk.arms (disk_of new))) 0 bytes (is.leaves bytes ((stop bytes).1 left));
+    leaves = λ bytes left. may_be_still (of_archive pair) machine machine.status (armed_at (disk.arms (disk_of new))) 0 bytes (is.leaves bytes ((stop bytes).1 left));
   }

@@ -25,20 +25,20 @@ use Rattle.syn_coordinator.specs.Coordinators.{Stands}
 use Rattle.syn_keep.specs.Tries.{found_in, listed}
 use Rattle.syn_coordinator.specs.declared.coordinator.Coordinator.{Coordinator}
 use Rattle.syn_keep.specs.declared.tried.Tried.{Tried}
-use Rattle.syn_keep.proofs.CheckpointLemmas.{one_value}
 use Rattle.syn_keep.proofs.MachineLemmas.{may_be}
 use Rattle.syn_coordinator.proofs.OpeningLemmas.{found_is}
-use Rattle.syn_coordinator.proofs.ReopenLemmas.{may_be_still, one_generation, some_archive}
+use Rattle.syn_coordinator.proofs.ReopenLemmas.{some_archive}
 use Rattle.syn_coordinator.proofs.TriedLemmas.{tries_still}
+use Rattle.syn_recovery.proofs.DiskLemmas.{may_be_still, one_generation, one_value}
 
 -- where nothing is armed no stop comes, and nothing is armed then
-never_stops : (calls failed : ℕ) (now : Arms) → Meets unarmed calls Down now failed → ⊥
+pub never_stops : (calls failed : ℕ) (now : Arms) → Meets unarmed calls Down now failed → ⊥
 never_stops calls _ _ (one_stops made failed less before stop few same) = omega (arith, stop)
 
 none_left : (n : ℕ) → 0 - n ≡ 0
 none_left n = omega arith
 
-still_unarmed : (calls failed : ℕ) (status : Status) (now : Arms) → Meets unarmed calls status now failed → now ≡ unarmed
+pub still_unarmed : (calls failed : ℕ) (status : Status) (now : Arms) → Meets unarmed calls status now failed → now ≡ unarmed
 still_unarmed calls _ _ _ (all_made fail stop) = ap₂ (λ f s. record { fail = f; stop = s }) (none_left calls) (none_left calls)
 still_unarmed calls _ _ _ (one_fails made less fail stop) = ap₂ (λ f s. record { fail = f; stop = s }) (none_left (suc made)) (none_left (suc made))
 still_unarmed calls _ _ _ (one_stops made failed less before stop few same) = refl
@@ -130,7 +130,7 @@ module _ {D : Type 0} (disk : Ghosts D) (pair : ℕ) (device : D) (tried : Optio
           unarmed_is = met.2;
           armed = met.2;
           goes = met.0;
-          leaves = λ bytes left. may_be_still pair machine Down (armed_at (disk.arms back)) 1 bytes (rests.leaves bytes (untouched.nothing_new bytes left));
+          leaves = λ bytes left. may_be_still (of_archive pair) machine Down (armed_at (disk.arms back)) 1 bytes (rests.leaves bytes (untouched.nothing_new bytes left));
           tries = tries_still pair tried machine Down (armed_at (disk.arms back)) 1 (λ _. down_not_up) rests.tries;
         }))
     open_not e (inr is_memory) calls =

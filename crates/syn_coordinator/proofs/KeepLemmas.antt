@@ -17,7 +17,7 @@ use Rattle.syn_recovery.specs.Calls.{MadeCallsMeet, StopsBehind, BrokenCallsMeet
 use Rattle.syn_keep.specs.Machines.{Journal, Runs, IsMachine}
 use Rattle.syn_keep.specs.Steps.{KeepsSo}
 use Rattle.syn_keep.proofs.MachineLemmas.{kept_ok, kept_failed}
-use Rattle.syn_coordinator.proofs.StartLemmas.{can_begin}
+use Rattle.syn_archive.proofs.StandLemmas.{can_begin}
 
 -- where no device call failed, none is counted
 pub counts_none : (e : ArchiveError) (old new : ℕ) → e ≢ error.Device → CountsFailures e old new → new ≡ old

@@ -30,6 +30,7 @@ use Rattle.syn_session.specs.declared.session.Session.{Session}
 use Rattle.std.proofs.lemmas.Option.{none-some}
 use Rattle.syn_keep.specs.Steps.{CompactsSo, Moves, moves_on, moves_down}
 use Rattle.syn_keep.proofs.OutcomeLemmas.{failed}
+use Rattle.syn_keep.proofs.DueLemmas.{is_greatest, is_less}
 
 -- by what each of the causes is
 causes_with : (machine : CoordinatorMachine) (halted full : Bool) → is_halted machine.journal.status ≡ halted → nat_le greatest machine.journal.generation ≡ full →
@@ -37,12 +38,6 @@ causes_with : (machine : CoordinatorMachine) (halted full : Bool) → is_halted 
 causes_with machine halted full h f =
     ap (λ x. first_cause ((x, why.Halted) ∷ (nat_le greatest machine.journal.generation, why.Full) ∷ (true, why.Memory) ∷ [])) h
     ∙ ap (λ x. first_cause ((halted, why.Halted) ∷ (x, why.Full) ∷ (true, why.Memory) ∷ [])) f
-
-is_greatest : (n : ℕ) → n + 1 ≡ 2 ^ 64 → nat_le greatest n ≡ true
-is_greatest n e = grind (arith, nat_tests)
-
-is_less : (n : ℕ) → n < 2 ^ 64 → n + 1 ≢ 2 ^ 64 → nat_le greatest n ≡ false
-is_less n h other = grind (arith, nat_tests)
 
 pub up_not_down : Up ≢ Down
 up_not_down e = cc

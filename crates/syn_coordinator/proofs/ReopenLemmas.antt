@@ -23,8 +23,8 @@ use Rattle.syn_recovery.specs.Machines.{of_archive, ArchivesOpen}
 use Rattle.syn_recovery.specs.Meaning.{MayBeOf, MayMean, as_kept, with_record, compacted}
 use Rattle.syn_keep.specs.Machines.{Journal, LeavesMachine, Runs, Fails, IsMachine, Reopened, opened_again, cut_off, NotReopened, stayed, went_down}
 use Rattle.syn_keep.specs.Steps.{Moves, moves_on, moves_down}
-use Rattle.syn_keep.proofs.CheckpointLemmas.{one_value}
 use Rattle.syn_keep.proofs.MachineLemmas.{may_be}
+use Rattle.syn_recovery.proofs.DiskLemmas.{may_be_still, one_generation, one_value}
 
 -- a device that fails is no want of memory
 pub no_memory : (e : ArchiveError) → e ≡ error.Device → refusal_of e ≢ why.Memory
@@ -32,29 +32,6 @@ no_memory e is memory = apart (sym (ap refusal_of is) ∙ memory)
   where
     apart : why.Device ≢ why.Memory
     apart same = cc
-
--- one disk has one generation
-pub one_generation : (bytes : Bytes) (a b : Value) (m n : ℕ) → HasJournal bytes a m → HasJournal bytes b n → m ≡ n
-one_generation bytes a b m n first second =
-    sym first.numbered ∙ (ap (λ h. generation_at bytes h) (ap half_in (sym first.is_current ∙ second.is_current)) ∙ second.numbered)
-  where
-    half_in : {E : Type 0} → Result Half E → Half
-    half_in (Ok half) = half
-    half_in (Err e) = first.half
-
--- device calls that write nothing leave what may be the machine's
-pub may_be_still : (pair : ℕ) (machine : Journal) (status : Status) (arms : Arms) (failed : ℕ) (bytes : Bytes) → MayBeOf (of_archive pair) machine bytes → MayBeOf (of_archive pair) (after_device machine status arms failed) bytes
-may_be_still pair machine status arms failed bytes may = record {
-  value = may.value;
-  generation = may.generation;
-  journal = may.journal;
-  means = still may.means;
-}
-  where
-    still : {value : Value} {generation : ℕ} → MayMean (of_archive pair) machine value generation → MayMean (of_archive pair) (after_device machine status arms failed) value generation
-    still (as_kept m) = as_kept (record { stands = m.stands; room = m.room; numbered = m.numbered })
-    still (with_record m) = with_record (record { added = m.added; writing = m.writing; can_add = m.can_add; stands = m.stands; room = m.room; numbered = m.numbered })
-    still (compacted m) = compacted (record { compacting = m.compacting; stands = m.stands; alone = m.alone; numbered = m.numbered })
 
 -- it means some archive
 pub some_archive : (pair : ℕ) (machine : Journal) (value : Value) (generation : ℕ) → MayMean (of_archive pair) machine value generation → (archive : model.Archive) × ArchiveStandsFor pair value.image value.payloads archive
@@ -90,7 +67,7 @@ module _ {D : Type 0} {disk : Ghosts D} (old new : Archive D disk) (pair : ℕ) 
     (untouched : Untouched disk.seen disk.may_leave disk.moment disk.left_since (disk_of old) (disk_of new)) (stays : (d : D) → disk.may_leave d (disk.seen d))
     (on_disk : (kept : model.Archive) → ArchiveStands new kept → (bytes : Bytes) → disk.may_leave (disk_of new) bytes → DiskKeeps (pair_of new) kept (left_shown new) (generation_shown new) bytes) where
   leaves_still : (status : Status) (arms : Arms) (failed : ℕ) → LeavesMachine disk (disk_of new) pair (after_device machine status arms failed)
-  leaves_still status arms failed bytes left = may_be_still pair machine status arms failed bytes (is.leaves bytes (untouched.nothing_new bytes left))
+  leaves_still status arms failed bytes left = may_be_still (of_archive pair) machine status arms failed bytes (is.leaves bytes (untouched.nothing_new bytes left))
 
   here : MayBeOf (of_archive pair) machine (disk.seen (disk_of old))
   here = is.leaves (disk.seen (disk_of old)) (stays (disk_of old))

@@ -23,21 +23,6 @@ use Rattle.syn_coordinator.proofs.TriedLemmas.{failed_at, fits_in, kept_quiet, t
 use Rattle.syn_archive.specs.declared.archive.Archive.{Archive}
 use Rattle.syn_keep.specs.Steps.{KeepsSo, moves_on, moves_down}
 
-same : (n : ℕ) → (n == n) ≡ true
-same n = grind (arith, nat_tests)
-
-below : (n : ℕ) → n < 2 ^ 64 - 1 → nat_le greatest n ≡ false
-below n h = grind (arith, nat_tests)
-
--- the next session can be kept until the greatest
-pub can_begin : (archive : model.Archive) → archive.last_session < 2 ^ 64 - 1 → CanKeep archive (Session (archive.last_session + 1))
-can_begin archive h = record {
-  lawful = tt;
-  not_refused =
-      ap (λ b. if b then Some Full else (if not (archive.last_session + 1 == archive.last_session + 1) then Some BadMessage else None)) (below archive.last_session h)
-      ∙ ap (λ b. if not b then Some BadMessage else None) (same (archive.last_session + 1));
-}
-
 is_up : Status → Bool
 is_up Up = true
 is_up Halted = false

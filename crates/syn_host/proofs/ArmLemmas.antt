@@ -15,7 +15,8 @@ use Rattle.syn_replica.specs.Replica.{IsHalted, SameMemory, Stands, disk_of, gen
 use Rattle.syn_replica.specs.Replica.{left_shown, tried_shown}
 use Rattle.syn_replica.specs.declared.replica.Replica.{Replica}
 use Rattle.syn_host.proofs.EditLemmas.{side_of}
-use Rattle.syn_host.proofs.SideLemmas.{may_be_still, not_down, still_staged}
+use Rattle.syn_host.proofs.SideLemmas.{not_down, still_staged}
+use Rattle.syn_recovery.proofs.DiskLemmas.{may_be_still}
 
 -- what stands or remembers still does
 pub stands_as : {D : Type 0} {disk : Ghosts D} (old new : Replica D disk) (history : History)
@@ -50,8 +51,8 @@ still_runs pair old new agent machine arms failed runs same stands room generati
         runs = goes;
         staging = still_staged machine.journal.status machine.staging
             (not_down pair (side_of old agent) machine runs) ∙ runs.is.staging;
-        left = λ bytes may. may_be_still pair machine.journal machine.journal.status arms failed bytes
-            (runs.is.left bytes (nothing_new bytes may));
+        left = λ bytes may. may_be_still (of_side pair) machine.journal
+            machine.journal.status arms failed bytes (runs.is.left bytes (nothing_new bytes may));
       };
       idle = runs.idle;
       tries = λ told writing. tried ∙ runs.tries told writing;

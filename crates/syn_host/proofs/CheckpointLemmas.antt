@@ -43,10 +43,7 @@ use Rattle.syn_replica.specs.declared.replica.Replica.{Replica}
 use Rattle.syn_host.proofs.EditLemmas.{side_of, stays}
 use Rattle.syn_host.proofs.SideLemmas.{halted_not_up, none_not_some, not_down, remembers}
 use Rattle.syn_host.proofs.SideLemmas.{still_staged}
-
--- an image alone leaves what stands behind it
-behind_image : (n : ℕ) → 4194304 - 1 - (13 + n + 0) ≡ 4194304 - (14 + n)
-behind_image n = omega arith
+use Rattle.syn_recovery.proofs.DiskLemmas.{behind_image}
 
 one_more : (n : ℕ) → suc n ≡ n + 1
 one_more n = omega arith
@@ -150,7 +147,7 @@ module _ {D : Type 0} {disk : Ghosts D} (pair : ℕ) (old new : Replica D disk) 
     room_is : room_behind (image_spelling pair (standing_of value)) ≡ left_shown new
     room_is =
         sym (ap (λ n. 4194304 - 1 - n) alone.gate
-        ∙ (behind_image (length (image_spelling (pair_of old) (standing_shown old)))
+        ∙ (behind_image (image_spelling (pair_of old) (standing_shown old))
         ∙ ap₂ (λ p s. room_behind (image_spelling p s)) runs.is.pair_is standing_is))
 
     compacts : is_stopped (disk.arms (disk_of new)) ≡ false

@@ -16,40 +16,6 @@ use Rattle.syn_keep.specs.declared.tried.Tried.{Tried}
 use Rattle.syn_coordinator.specs.declared.coordinator.Coordinator.{Coordinator as Session}
 use Rattle.syn_host.proofs.SideLemmas.{halted_not_down, up_not_down}
 
--- device calls that write nothing leave what may be the machine's
-pub archive_still : (pair : ℕ) (machine : Journal) (status : Status) (arms : Arms) (failed : ℕ)
-    (bytes : Bytes) → MayBeOf (of_archive pair) machine bytes
-    → MayBeOf (of_archive pair) (after_device machine status arms failed) bytes
-archive_still pair machine status arms failed bytes may = record {
-  value = may.value;
-  generation = may.generation;
-  journal = may.journal;
-  means = still may.means;
-}
-  where
-    still : {value : Value} {generation : ℕ}
-        → MayMean (of_archive pair) machine value generation
-        → MayMean (of_archive pair) (after_device machine status arms failed) value generation
-    still (as_kept m) = as_kept (record {
-      stands = m.stands;
-      room = m.room;
-      numbered = m.numbered;
-    })
-    still (with_record m) = with_record (record {
-      added = m.added;
-      writing = m.writing;
-      can_add = m.can_add;
-      stands = m.stands;
-      room = m.room;
-      numbered = m.numbered;
-    })
-    still (compacted m) = compacted (record {
-      compacting = m.compacting;
-      stands = m.stands;
-      alone = m.alone;
-      numbered = m.numbered;
-    })
-
 down_not_up : Down ≢ Up
 down_not_up e = up_not_down (sym e)
 

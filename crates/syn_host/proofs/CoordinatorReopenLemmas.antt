@@ -30,27 +30,10 @@ use Rattle.syn_image.specs.declared.kept.Kept.{Kept as Record}
 use Rattle.syn_host.proofs.AnswerLemmas.{meets_down}
 use Rattle.syn_host.proofs.CoordinatorLemmas.{is_not_down}
 use Rattle.syn_host.proofs.SideLemmas.{halted_not_down, up_not_down}
-
-is_device : ArchiveError → Bool
-is_device error.Device = true
-is_device _ = false
-
-not_device : (e : ArchiveError) → is_device e ≡ false → e ≢ error.Device
-unfolding is_device
-not_device e other device = false≢true (sym other ∙ ap is_device device)
+use Rattle.syn_keep.proofs.DueLemmas.{device_or_other}
 
 device_or_not : (e : ArchiveError) → (e ≡ error.Device) ⊎ (e ≢ error.Device)
-unfolding is_device
-device_or_not error.Device = inl refl
-device_or_not error.NoParent = inr (not_device error.NoParent refl)
-device_or_not error.Root = inr (not_device error.Root refl)
-device_or_not error.Full = inr (not_device error.Full refl)
-device_or_not error.JournalFull = inr (not_device error.JournalFull refl)
-device_or_not error.Halted = inr (not_device error.Halted refl)
-device_or_not error.Memory = inr (not_device error.Memory refl)
-device_or_not error.NoImage = inr (not_device error.NoImage refl)
-device_or_not error.Damaged = inr (not_device error.Damaged refl)
-device_or_not error.WrongPair = inr (not_device error.WrongPair refl)
+device_or_not e = elim (device_or_other e) [ inl device ↦ inl device | inr other ↦ inr other.0 ]
 
 -- an opening leaves the machine up
 opens_up : (pair : ℕ) (machine journal : Journal) (calls : ℕ) (kept : List Kept)

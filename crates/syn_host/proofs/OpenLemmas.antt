@@ -41,45 +41,9 @@ use Rattle.syn_replica.specs.Replica.{Stands, disk_of, generation_shown, left_sh
 use Rattle.syn_replica.specs.Replica.{position_shown}
 use Rattle.syn_replica.specs.declared.replica.Replica.{Replica}
 use Rattle.syn_host.proofs.EditLemmas.{side_of}
-use Rattle.syn_host.proofs.SideLemmas.{may_be_still, none_not_some, still_staged, up_not_down}
-
--- one disk has one value
-pub one_value : (bytes : Bytes) (a b : Value) (m n : ℕ) → HasJournal bytes a m
-    → HasJournal bytes b n → a ≡ b
-one_value bytes a b m n first second = ap value_in (sym first.means ∙ second.means)
-  where
-    value_in : {E : Type 0} → Result Value E → Value
-    value_in (Ok value) = value
-    value_in (Err e) = a
-
--- and one generation
-pub one_generation : (bytes : Bytes) (a b : Value) (m n : ℕ) → HasJournal bytes a m
-    → HasJournal bytes b n → m ≡ n
-one_generation bytes a b m n first second =
-    sym first.numbered ∙ (ap (λ h. generation_at bytes h)
-    (ap half_in (sym first.is_current ∙ second.is_current)) ∙ second.numbered)
-  where
-    half_in : {E : Type 0} → Result Half E → Half
-    half_in (Ok half) = half
-    half_in (Err e) = first.half
-
--- where nothing is armed no stop comes, and nothing is armed then
-pub never_stops : (calls failed : ℕ) (now : Arms) → Meets unarmed calls Down now failed → ⊥
-never_stops calls _ _ (one_stops made failed less before stop few same) = omega (arith, stop)
-
-pub still_unarmed : (calls failed : ℕ) (status : Status) (now : Arms)
-    → Meets unarmed calls status now failed → now ≡ unarmed
-still_unarmed calls _ _ _ (all_made fail stop) =
-    ap₂ (λ f s. record { fail = f; stop = s }) (nothing calls) (nothing calls)
-  where
-    nothing : (n : ℕ) → 0 - n ≡ 0
-    nothing n = omega arith
-still_unarmed calls _ _ _ (one_fails made less fail stop) =
-    ap₂ (λ f s. record { fail = f; stop = s }) (nothing (suc made)) (nothing (suc made))
-  where
-    nothing : (n : ℕ) → 0 - n ≡ 0
-    nothing n = omega arith
-still_unarmed calls _ _ _ (one_stops made failed less before stop few same) = refl
+use Rattle.syn_host.proofs.SideLemmas.{none_not_some, still_staged, up_not_down}
+use Rattle.syn_coordinator.proofs.DownLemmas.{never_stops, still_unarmed}
+use Rattle.syn_recovery.proofs.DiskLemmas.{may_be_still, one_generation, one_value}
 
 -- what the machine's disk means stands for some history
 pub some_history : (pair : ℕ) (machine : Journal) (value : Value) (generation : ℕ)
@@ -249,7 +213,7 @@ module _ {D : Type 0} (disk : Ghosts D) (pair : ℕ) (side : DownSide D) (machin
             tries = rests.tries;
             armed = met.2;
             goes = met.0;
-            leaves = λ bytes may. may_be_still pair machine.journal Down
+            leaves = λ bytes may. may_be_still (of_side pair) machine.journal Down
                 (armed_at (disk.arms back)) 1 bytes
                 (rests.leaves bytes (untouched.nothing_new bytes may));
           };

@@ -36,9 +36,10 @@ use Rattle.syn_replica.specs.Replica.{left_shown, pair_of, position_shown, tried
 use Rattle.syn_replica.specs.declared.replica.Replica.{Replica}
 use Rattle.syn_host.proofs.ArmLemmas.{stands_as, still_runs}
 use Rattle.syn_host.proofs.EditLemmas.{side_of}
-use Rattle.syn_host.proofs.OpenLemmas.{gained_so, knows, one_generation, one_value, some_history}
-use Rattle.syn_host.proofs.SideLemmas.{halted_not_up, may_be_still, none_not_some, not_down}
+use Rattle.syn_host.proofs.OpenLemmas.{gained_so, knows, some_history}
+use Rattle.syn_host.proofs.SideLemmas.{halted_not_up, none_not_some, not_down}
 use Rattle.syn_host.proofs.SideLemmas.{remembers, state, still_staged, up_not_down}
+use Rattle.syn_recovery.proofs.DiskLemmas.{may_be_still, one_generation, one_value}
 
 -- two replicas that stand over one disk show the same of it
 same_room : {D : Type 0} {disk : Ghosts D} (old new : Replica D disk) (a b : History)
@@ -107,8 +108,8 @@ module _ {D : Type 0} {disk : Ghosts D} (pair : ℕ) (old new : Replica D disk) 
   leaves : (status : Status) (arms : Arms) (failed : ℕ) (bytes : Bytes)
       → disk.may_leave (disk_of new) bytes
       → MayBeOf (of_side pair) (with_device machine status arms failed).journal bytes
-  leaves status arms failed bytes may = may_be_still pair machine.journal status arms failed bytes
-      (runs.is.left bytes (untouched.nothing_new bytes may))
+  leaves status arms failed bytes may = may_be_still (of_side pair) machine.journal status arms
+      failed bytes (runs.is.left bytes (untouched.nothing_new bytes may))
 
   met : (calls : ℕ) (status : Status) (arms : Arms) (failed : ℕ)
       → Meets (armed_at (disk.arms (disk_of old))) calls status arms failed

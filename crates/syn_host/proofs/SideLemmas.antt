@@ -41,54 +41,6 @@ still_staged Up staging other = refl
 still_staged Halted staging other = refl
 still_staged Down staging other = absurd (other refl)
 
--- device calls that write nothing leave what may be the machine's
-pub may_be_still : (pair : ℕ) (machine : Journal) (status : Status) (arms : Arms) (failed : ℕ)
-    (bytes : Bytes) → MayBeOf (of_side pair) machine bytes →
-    MayBeOf (of_side pair) (after_device machine status arms failed) bytes
-may_be_still pair machine status arms failed bytes may = record {
-  value = may.value;
-  generation = may.generation;
-  journal = may.journal;
-  means = still may.means;
-}
-  where
-    still : {value : Value} {generation : ℕ} → MayMean (of_side pair) machine value generation →
-        MayMean (of_side pair) (after_device machine status arms failed) value generation
-    still (as_kept m) = as_kept (record {
-      stands = m.stands;
-      room = m.room;
-      numbered = m.numbered;
-    })
-    still (with_record m) = with_record (record {
-      added = m.added;
-      writing = m.writing;
-      can_add = m.can_add;
-      stands = m.stands;
-      room = m.room;
-      numbered = m.numbered;
-    })
-    still (compacted m) = compacted (record {
-      compacting = m.compacting;
-      stands = m.stands;
-      alone = m.alone;
-      numbered = m.numbered;
-    })
-
--- a replica whose journal and memory stay stands for what it stood for
-pub still_stands : {D : Type 0} {disk : Ghosts D} (old new : Replica D disk) (history : History)
-    → Stands old history → SameMemory old new → journal_of new ≡ journal_of old
-    → Stands new history
-still_stands old new history stands same still = record {
-  remembers = record {
-    lawful = stands.remembers.lawful;
-    standing = same.standing ∙ stands.remembers.standing;
-  };
-  value = stands.value;
-  runs = subst (λ j. journal.Stands j stands.value) (sym still) stands.runs;
-  means = subst (λ p. StandsFor p stands.value.image stands.value.payloads history)
-      (sym same.pair) stands.means;
-}
-
 module _ {D : Type 0} {disk : Ghosts D} (pair : ℕ) (side : UpSide D disk) (machine : SideMachine)
     (runs : RunsAs pair side machine) where
   abbrev value : History

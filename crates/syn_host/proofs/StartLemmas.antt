@@ -35,9 +35,10 @@ use Rattle.syn_coordinator.specs.Coordinators.{Stands as StandsAs}
 use Rattle.syn_keep.specs.Machines.{IsMachine, Journal}
 use Rattle.syn_coordinator.specs.declared.coordinator.Coordinator.{Coordinator}
 use Rattle.syn_host.proofs.EditLemmas.{side_of}
-use Rattle.syn_host.proofs.OpenLemmas.{knows, never_stops, one_generation, one_value}
-use Rattle.syn_host.proofs.OpenLemmas.{still_unarmed}
+use Rattle.syn_host.proofs.OpenLemmas.{knows}
 use Rattle.syn_host.proofs.SideLemmas.{none_not_some}
+use Rattle.syn_coordinator.proofs.DownLemmas.{never_stops, still_unarmed}
+use Rattle.syn_recovery.proofs.DiskLemmas.{one_generation, one_value}
 
 -- a disk that was read is free as it was
 free_behind : (old now : DiskArms) (calls : ℕ) (status : Status) (failed : ℕ) → IsFree old

@@ -1,6 +1,5 @@
 -- A checkpoint of the archive is what its machine does.
-use Rattle.std.proofs.Common.{◌≡◌, ◌⊎◌, ◌≤◌, ℕ, suc, ◌-◌, ◌+◌, true, List, Result, Ok, Err, refl, sym, ap, ap₂, ◌∙◌, subst, inl, inr, arith}
-use Rattle.std.specs.Prelude.{length}
+use Rattle.std.proofs.Common.{◌≡◌, ◌⊎◌, ◌≤◌, ℕ, suc, ◌+◌, true, List, refl, sym, ap, ap₂, ◌∙◌, subst, inl, inr, arith}
 use Rattle.syn_archive.specs.Archive.{Stands, IsHalted, KeepsOrCompacts, KeepsReadings, SameMemory, pair_of, shown, disk_of, left_shown, generation_shown, journal_of}
 use Rattle.syn_archive.specs.Disks.{DiskKeeps, DiskCompacted}
 use Rattle.syn_archive.specs.declared.archive.Archive.{Archive}
@@ -10,7 +9,7 @@ use Rattle.syn_disk.specs.declared.disk.Disk.{Ghosts}
 use Rattle.syn_headline.specs.Coordinator.{archive_layout}
 use Rattle.syn_headline.specs.Machine.{Up, Halted, Down, Meets, unarmed, with_image, after_device, compacted, not_compacted, room_behind}
 use Rattle.syn_journal.specs.Journal as journal
-use Rattle.syn_journal.specs.Layout.{Value, HasJournal, image_alone, bytes_left}
+use Rattle.syn_journal.specs.Layout.{HasJournal, image_alone, bytes_left}
 use Rattle.syn_model.specs.Path.{Bytes}
 use Rattle.syn_model.specs.ArchiveImage.{ArchiveStandsFor}
 use Rattle.syn_model.specs.MarkSpelling.{archive_spelling}
@@ -22,21 +21,7 @@ use Rattle.syn_keep.specs.Tries.{IsShown}
 use Rattle.syn_keep.specs.Steps.{CompactsSo, moves_on, moves_down}
 use Rattle.std.proofs.lemmas.Option.{none-some}
 use Rattle.syn_keep.proofs.MachineLemmas.{may_be}
-
--- one disk has one value
-pub one_value : (bytes : Bytes) (a b : Value) (m n : ℕ) → HasJournal bytes a m → HasJournal bytes b n → a ≡ b
-one_value bytes a b m n first second = ap value_in (sym first.means ∙ second.means)
-  where
-    value_in : {E : Type 0} → Result Value E → Value
-    value_in (Ok value) = value
-    value_in (Err e) = a
-
--- an image alone leaves what stands behind it
-behind_image : (image : Bytes) → bytes_left (image_alone image) ≡ room_behind image
-behind_image image = less (length image)
-  where
-    less : (n : ℕ) → 4194304 - 1 - (13 + n + 0) ≡ 4194304 - (14 + n)
-    less n = omega arith
+use Rattle.syn_recovery.proofs.DiskLemmas.{behind_image, one_value}
 
 -- what a disk has by its image alone may be the machine's
 pub may_be_compacted : (pair : ℕ) (machine : Journal) (bytes : Bytes) (generation : ℕ) → machine.compacting ≡ true → suc machine.generation ≡ generation → DiskCompacted pair machine.value generation bytes → MayBeOf (of_archive pair) machine bytes

@@ -1,3 +1,4 @@
 mod OpeningLemmas
 mod HeadlineLemmas
 pub mod CallLemmas
+pub mod DiskLemmas

@@ -23,12 +23,14 @@ use Rattle.syn_standing.specs.declared.error.ReplicaError.{ReplicaError}
 use Rattle.syn_standing.specs.declared.error.ReplicaError.TheVariants.{Tree, Journal, Memory, Touched, OldSession, Damaged, WrongPair}
 use Rattle.syn_standing.specs.declared.error.ReplicaError.TheVariants as replica_error
 use Rattle.syn_tree.specs.declared.error.TreeError.TheVariants as tree_error
-use Rattle.syn_shared.proofs.StepLemmas.{not_of_tree, not_of_history, outside_is}
+use Rattle.syn_agent.proofs.CauseLemmas.{Never, history_is_none, never_first, none_is_no, rooms}
+use Rattle.syn_agent.proofs.CauseLemmas.{tree_is_none}
+use Rattle.syn_replica.proofs.RoomLemmas.{spelled_long}
 
 -- a device call that failed is the journal's
 pub device_or_other : (e : ReplicaError) → (e ≡ Journal journal_error.Device) ⊎ (refusal_of e ≢ why.Device)
-device_or_other (Tree x) = inr (not_of_tree x)
-device_or_other (replica_error.History x) = inr (not_of_history x)
+device_or_other (Tree x) = inr (tree_is_none x)
+device_or_other (replica_error.History x) = inr (history_is_none x)
 device_or_other (Journal journal_error.Device) = inl refl
 device_or_other (Journal journal_error.Full) = inr (λ d. cc d)
 device_or_other (Journal journal_error.JournalFull) = inr (λ d. cc d)
@@ -42,32 +44,7 @@ device_or_other OldSession = inr (λ d. cc d)
 device_or_other Damaged = inr (λ d. cc d)
 device_or_other WrongPair = inr (λ d. cc d)
 
--- none of the causes is that of the refusal
-abbrev Never : Refusal → List Cause → Type 0
-Never refusal [] = Unit {0}
-Never refusal (cause ∷ causes) = (cause.1 ≢ refusal) × Never refusal causes
-
-none_is_no : (refusal : Refusal) → ◌≢◌ {A = Option Refusal} None (Some refusal)
-none_is_no refusal is = cc
-
-never_first : (refusal other : Refusal) (causes : List Cause) → Never refusal causes → first_cause causes ≡ Some other → other ≢ refusal
-never_first refusal other [] never is = absurd (none_is_no other is)
-never_first refusal other ((true, first) ∷ causes) never is = λ same. never.0 (let k : Some first ≡ Some other = is in cc)
-never_first refusal other ((false, first) ∷ causes) never is = never_first refusal other causes never.1 is
-
--- no history causes that a device call fails
-pub edit_never : (room : ℕ) (history : History) (user : ℕ) (edit : Edit) (other : Refusal) → add_refusal room history (Edited user edit) ≡ Some other → other ≢ why.Device
-edit_never room history user (Put path bytes) other is =
-    never_first why.Device other (event_causes history (Edited user (Put path bytes)) ++ room_causes room (Edited user (Put path bytes)))
-    ((λ d. cc d), ((λ d. cc d), ((λ d. cc d), ((λ d. cc d), ((λ d. cc d), ((λ d. cc d), tt)))))) is
-edit_never room history user (MakeDir path) other is =
-    never_first why.Device other (event_causes history (Edited user (MakeDir path)) ++ room_causes room (Edited user (MakeDir path)))
-    ((λ d. cc d), ((λ d. cc d), ((λ d. cc d), ((λ d. cc d), ((λ d. cc d), ((λ d. cc d), tt)))))) is
-edit_never room history user (Remove path) other is =
-    never_first why.Device other (event_causes history (Edited user (Remove path)) ++ room_causes room (Edited user (Remove path)))
-    ((λ d. cc d), ((λ d. cc d), ((λ d. cc d), ((λ d. cc d), ((λ d. cc d), ((λ d. cc d), tt)))))) is
-
--- and so of a replacement
+-- no history causes that a device call fails as a side replaces
 pub replace_never : (room : ℕ) (history : History) (token : Token) (path : Path) (since : ℕ) (new : Model) (other : Refusal) → replace_refusal room history token path since new ≡ Some other → other ≢ why.Device
 replace_never room history token path since new other is =
     never_first why.Device other
@@ -75,46 +52,17 @@ replace_never room history token path since new other is =
     ++ (position_causes history ++ room_causes room (Replaced token path since new)))))
     ((λ d. cc d), ((λ d. cc d), ((λ d. cc d), ((λ d. cc d), ((λ d. cc d), ((λ d. cc d), ((λ d. cc d), ((λ d. cc d), tt)))))))) is
 
--- each event has a spelling of some bytes
-spelled_some : (event : Event) → 1 ≤ length (event_spelling event)
-spelled_some (Edited user (Put path bytes)) = omega arith
-spelled_some (Edited user (MakeDir path)) = omega arith
-spelled_some (Edited user (Remove path)) = omega arith
-spelled_some (Began session) = omega arith
-spelled_some (Replaced token path since new) = omega arith
-
--- what the journal takes, by its longest payload and by what is left of it
-rooms : (room left size : ℕ) → room ≡ left - 5 → 1 ≤ size → nat_lt room size ≡ not (nat_le (5 + size) left)
-rooms room left size is some = elim (leb_tells (suc room) size) [
-  | inl longer ↦ elim (leb_tells (5 + size) left) [
-    | inl fits ↦ absurd (omega (arith, is, some, longer.1, fits.1))
-    | inr full ↦ longer.0 ∙ sym (ap not full.0)
-  ]
-  | inr short ↦ elim (leb_tells (5 + size) left) [
-    | inl fits ↦ short.0 ∙ sym (ap not fits.0)
-    | inr full ↦ absurd (omega (arith, is, some, short.1, full.1))
-  ]
-]
-
 -- the replica and the world name the same causes of an event
 pub same_causes : (pair room : ℕ) (machine : SideMachine) (event : Event) → room ≡ machine.journal.room - 5 → add_refusal room machine.journal.value event ≡ first_cause (causes_of pair machine event)
 same_causes pair room machine event is =
-    ap (λ b. first_cause (event_causes machine.journal.value event ++ (b, JournalFull) ∷ [])) (rooms room machine.journal.room (length (event_spelling event)) is (spelled_some event))
+    ap (λ b. first_cause (event_causes machine.journal.value event ++ (b, JournalFull) ∷ []))
+    (rooms room machine.journal.room (length (event_spelling event)) is (spelled_long event))
 
 -- want of memory is named where no other cause stands
-pub cause_first : (causes more : List Cause) (other : Refusal) → first_cause causes ≡ Some other → first_cause (causes ++ more) ≡ Some other
-cause_first [] more other is = absurd (none_is_no other is)
-cause_first ((true, first) ∷ causes) more other is = is
-cause_first ((false, first) ∷ causes) more other is = cause_first causes more other is
-
 pub memory_last : (causes : List Cause) → first_cause causes ≡ None → first_cause (causes ++ (true, why.Memory) ∷ []) ≡ Some why.Memory
 memory_last [] is = refl
 memory_last ((true, first) ∷ causes) is = absurd (none_is_no first (sym is))
 memory_last ((false, first) ∷ causes) is = memory_last causes is
-
--- what no history causes
-pub memory_or_device : (e : ReplicaError) → IsOneOf outside_refusals e → (refusal_of e ≡ why.Memory) ⊎ (refusal_of e ≡ why.Device)
-memory_or_device e is = outside_is (refusal_of e) is
 
 -- the refusals of a checkpoint
 pub checkpoint_one : (e : ReplicaError) → IsOneOf checkpoint_refusals e → (e ≡ Journal journal_error.Halted) ⊎ ((refusal_of e ≡ why.Full) ⊎ ((refusal_of e ≡ why.Memory) ⊎ (e ≡ Journal journal_error.Device)))

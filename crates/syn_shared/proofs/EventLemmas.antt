@@ -27,8 +27,8 @@ use Rattle.syn_replica.specs.Replica.{IsHalted, Stands, Remembers, SameMemory, K
 use Rattle.syn_standing.specs.declared.error.ReplicaError.{ReplicaError}
 use Rattle.syn_replica.specs.declared.replica.Replica.{Replica}
 use Rattle.syn_shared.proofs.CauseLemmas.{device_or_other}
-use Rattle.syn_shared.proofs.StepLemmas.{stands_still}
 use Rattle.syn_shared.specs.Machines.{Says, WritesEvent, writes, refuses}
+use Rattle.syn_replica.proofs.GrowthLemmas.{stands_still}
 
 module _ {D : Type 0} {disk : Ghosts D} (pair : ℕ) (found left : Replica D disk) (agent : Agent) (machine : SideMachine) (is : IsOf pair found agent machine) where
   abbrev pub value : History
@@ -54,7 +54,7 @@ module _ {D : Type 0} {disk : Ghosts D} (pair : ℕ) (found left : Replica D dis
   }
     where
       by : (status : Status) → StandsAs status found value → StandsAs status left value
-      by Up stands = stands_still found left value stands memory same
+      by Up stands = stands_still found left memory.pair memory.standing same value stands
       by Halted stands = (
         subst (λ j. journal.IsHalted j) (sym same) stands.0,
         record { lawful = stands.1.lawful; standing = memory.standing ∙ stands.1.standing },

@@ -32,56 +32,9 @@ use Rattle.syn_shared.specs.Steps.{StepsBy, adds, breaks, refuses}
 use Rattle.syn_tree.specs.Refusals.{refusal_of as of_tree}
 use Rattle.syn_tree.specs.declared.error.TreeError.{TreeError}
 use Rattle.syn_tree.specs.declared.error.TreeError.TheVariants as tree_error
-
-pub outside_is : (r : Refusal) → list_any (λ w. number w == number r) outside_refusals ≡ true → (r ≡ why.Memory) ⊎ (r ≡ why.Device)
-outside_is why.BadPath h = cc h
-outside_is why.NoParent h = cc h
-outside_is why.IsDirectory h = cc h
-outside_is why.Exists h = cc h
-outside_is why.Absent h = cc h
-outside_is why.Root h = cc h
-outside_is why.Full h = cc h
-outside_is why.JournalFull h = cc h
-outside_is why.Device h = inr refl
-outside_is why.Halted h = cc h
-outside_is why.Memory h = inl refl
-outside_is why.Busy h = cc h
-outside_is why.Touched h = cc h
-outside_is why.OldSession h = cc h
-outside_is why.BelowFloor h = cc h
-outside_is why.NotStaged h = cc h
-outside_is why.BadStage h = cc h
-outside_is why.NoImage h = cc h
-outside_is why.Damaged h = cc h
-outside_is why.WrongPair h = cc h
-outside_is why.BadFrame h = cc h
-outside_is why.TooLarge h = cc h
-outside_is why.BadMessage h = cc h
-outside_is why.NoSeat h = cc h
-outside_is why.NoAnswer h = cc h
-
-pub not_of_tree : (x : TreeError) → of_tree x ≡ why.Device → ⊥
-not_of_tree tree_error.NoParent h = cc h
-not_of_tree tree_error.IsDirectory h = cc h
-not_of_tree tree_error.Exists h = cc h
-not_of_tree tree_error.Absent h = cc h
-not_of_tree tree_error.Root h = cc h
-not_of_tree tree_error.Full h = cc h
-not_of_tree tree_error.Memory h = cc h
-
-pub not_of_history : (x : HistoryError) → of_history x ≡ why.Device → ⊥
-not_of_history history_error.Full h = cc h
-not_of_history history_error.Memory h = cc h
-not_of_history history_error.BelowFloor h = cc h
-
--- a replica whose journal and memory are as they were stands as it did
-pub stands_still : {D : Type 0} {disk : Ghosts D} (found left : Replica D disk) (history : History) → Stands found history → SameMemory found left → journal_of left ≡ journal_of found → Stands left history
-stands_still found left history s memory e = record {
-  remembers = record { lawful = s.remembers.lawful; standing = memory.standing ∙ s.remembers.standing };
-  value = s.value;
-  runs = subst (λ j. journal.Stands j s.value) (sym e) s.runs;
-  means = subst (λ (n : ℕ). StandsFor n s.value.image s.value.payloads history) (sym memory.pair) s.means;
-}
+use Rattle.syn_agent.proofs.CauseLemmas.{history_is_none, outside as memory_or_device}
+use Rattle.syn_agent.proofs.CauseLemmas.{tree_is_none}
+use Rattle.syn_replica.proofs.GrowthLemmas.{stands_still}
 
 -- where a device call failed the event was tried
 was_tried : {D : Type 0} {disk : Ghosts D} (found left : Replica D disk) (event : Event) (e : ReplicaError) → Tries {X = ℕ} found left event (Err e) → refusal_of e ≡ why.Device → tried_shown left ≡ Some (event_spelling event)
@@ -93,7 +46,11 @@ module _ {D : Type 0} {disk : Ghosts D} (found left : Replica D disk) (history :
       disk.arms (disk_of left) ≡ disk.arms (disk_of found) → disk.failures (disk_of left) ≡ disk.failures (disk_of found) → StepsBy found left history event cause (Err e)
   refused_step e other causes unchanged calls failures =
       let why_is : (refusal_of e ≡ why.Memory) ⊎ (cause ≡ Some (refusal_of e)) = elim causes [
-        | inl outside ↦ elim (outside_is (refusal_of e) outside) as (λ _. (refusal_of e ≡ why.Memory) ⊎ (cause ≡ Some (refusal_of e))) [ inl m ↦ inl m | inr d ↦ absurd (other d) ]
+        | inl outside ↦ elim (memory_or_device e outside)
+            as (λ _. (refusal_of e ≡ why.Memory) ⊎ (cause ≡ Some (refusal_of e))) [
+              | inl m ↦ inl m
+              | inr d ↦ absurd (other d)
+            ]
         | inr c ↦ inr c
       ] in
       elim unchanged as (λ _. StepsBy found left history event cause (Err e)) [
@@ -116,8 +73,10 @@ module _ {D : Type 0} {disk : Ghosts D} (found left : Replica D disk) (history :
   refusal_step : (e : ReplicaError) → IsOneOf outside_refusals e ⊎ (cause ≡ Some (refusal_of e)) → (refusal_of e ≡ why.Device → IsHalted left) → (refusal_of e ≡ why.Device → tried_shown left ≡ Some (event_spelling event)) → (refusal_of e ≡ why.Device) ⊎ Stands left history → KeepsReadings found left →
       KeepsBeforeOrAfter found history event (disk.seen (disk_of left)) → MakesIfDevice e 4 (disk.arms (disk_of found)) (disk.arms (disk_of left)) → CountsFailures e (disk.failures (disk_of found)) (disk.failures (disk_of left)) →
       StepsBy found left history event cause (Err e)
-  refusal_step (Tree x) causes halts tried unchanged readings seen calls failures = refused_step (Tree x) (not_of_tree x) causes unchanged calls failures
-  refusal_step (replica_error.History x) causes halts tried unchanged readings seen calls failures = refused_step (replica_error.History x) (not_of_history x) causes unchanged calls failures
+  refusal_step (Tree x) causes halts tried unchanged readings seen calls failures =
+      refused_step (Tree x) (tree_is_none x) causes unchanged calls failures
+  refusal_step (replica_error.History x) causes halts tried unchanged readings seen calls failures =
+      refused_step (replica_error.History x) (history_is_none x) causes unchanged calls failures
   refusal_step (Journal journal_error.Device) causes halts tried unchanged readings seen calls failures = breaks (Journal journal_error.Device) refl (cut_off (halts refl) (tried refl) readings seen) readings calls failures
   refusal_step (Journal journal_error.Full) causes halts tried unchanged readings seen calls failures = refused_step (Journal journal_error.Full) (λ d. cc d) causes unchanged calls failures
   refusal_step (Journal journal_error.JournalFull) causes halts tried unchanged readings seen calls failures = refused_step (Journal journal_error.JournalFull) (λ d. cc d) causes unchanged calls failures
@@ -163,5 +122,9 @@ module _ {D : Type 0} {disk : Ghosts D} (found left : Replica D disk) (history :
       subst (λ (n : ℕ). StepsBy found left history event (replace_refusal (room_shown found) history token path since new) (Ok n)) (sym long)
       (adds (subst (λ (h : History). Stands left h) longer acknowledged.1) record_is (subst (λ (b : Bool). MakesIfNew b (disk.arms (disk_of found)) (disk.arms (disk_of left))) open_is calls) failures)
   replaced_by (Err e) acknowledged record_is causes halts tries unchanged readings seen calls failures =
-      let still : (refusal_of e ≡ why.Device) ⊎ Stands left history = elim unchanged [ inl d ↦ inl d | inr same ↦ inr (stands_still found left history stands readings.memory same) ] in
+      let still : (refusal_of e ≡ why.Device) ⊎ Stands left history = elim unchanged [
+        | inl d ↦ inl d
+        | inr same ↦ inr (stands_still found left readings.memory.pair readings.memory.standing
+            same history stands)
+      ] in
       refusal_step found left history event (replace_refusal (room_shown found) history token path since new) stands e causes halts (was_tried found left event e tries) still readings seen calls failures

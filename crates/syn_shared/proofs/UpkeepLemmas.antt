@@ -29,46 +29,10 @@ use Rattle.syn_standing.specs.declared.error.ReplicaError.{ReplicaError}
 use Rattle.syn_replica.specs.declared.replica.Replica.{Replica}
 use Rattle.syn_shared.proofs.EventLemmas.{met, value}
 use Rattle.syn_shared.specs.Machines.{Says, IsMade, CompactsSide, compacts, ReopensSide, opens, stops_within, fails, has_no_memory}
-
--- an image alone leaves what stands behind it
-behind_image : (image : Bytes) → bytes_left (image_alone image) ≡ room_behind image
-behind_image image = less (length image)
-  where
-    less : (n : ℕ) → 4194304 - 1 - (13 + n + 0) ≡ 4194304 - (14 + n)
-    less n = omega arith
+use Rattle.syn_recovery.proofs.DiskLemmas.{behind_image, may_be_still, one_generation, one_value}
 
 one_more : (n : ℕ) → suc n ≡ n + 1
 one_more n = omega arith
-
--- one disk has one value, and one generation
-one_value : (bytes : Bytes) (a b : Value) (m n : ℕ) → HasJournal bytes a m → HasJournal bytes b n → a ≡ b
-one_value bytes a b m n first second = ap value_in (sym first.means ∙ second.means)
-  where
-    value_in : {E : Type 0} → Result Value E → Value
-    value_in (Ok value) = value
-    value_in (Err e) = a
-
-one_generation : (bytes : Bytes) (a b : Value) (m n : ℕ) → HasJournal bytes a m → HasJournal bytes b n → m ≡ n
-one_generation bytes a b m n first second =
-    sym first.numbered ∙ (ap (λ h. generation_at bytes h) (ap half_in (sym first.is_current ∙ second.is_current)) ∙ second.numbered)
-  where
-    half_in : {E : Type 0} → Result Half E → Half
-    half_in (Ok half) = half
-    half_in (Err e) = first.half
-
--- device calls that write nothing leave what may be the machine's
-may_be_still : (pair : ℕ) (machine : Journaled History Event) (status : Status) (arms : Arms) (failed : ℕ) (bytes : Bytes) → MayBeOf (of_side pair) machine bytes → MayBeOf (of_side pair) (after_device machine status arms failed) bytes
-may_be_still pair machine status arms failed bytes may = record {
-  value = may.value;
-  generation = may.generation;
-  journal = may.journal;
-  means = still may.means;
-}
-  where
-    still : {value : Value} {generation : ℕ} → MayMean (of_side pair) machine value generation → MayMean (of_side pair) (after_device machine status arms failed) value generation
-    still (as_kept m) = as_kept (record { stands = m.stands; room = m.room; numbered = m.numbered })
-    still (with_record m) = with_record (record { added = m.added; writing = m.writing; can_add = m.can_add; stands = m.stands; room = m.room; numbered = m.numbered })
-    still (is_compacted m) = is_compacted (record { compacting = m.compacting; stands = m.stands; alone = m.alone; numbered = m.numbered })
 
 module _ {D : Type 0} {disk : Ghosts D} (pair : ℕ) (found left : Replica D disk) (agent : Agent) (machine : SideMachine) (is : IsOf pair found agent machine) where
   -- the checkpoint of a machine that is up
@@ -145,7 +109,9 @@ module _ {D : Type 0} {disk : Ghosts D} (pair : ℕ) (found left : Replica D dis
     arms_then = armed_at (disk.arms (disk_of left))
 
     leaves_still : (status : Status) (arms : Arms) (failed : ℕ) (bytes : List ℕ) → disk.may_leave (disk_of left) bytes → MayBeOf (of_side pair) (after_device machine.journal status arms failed) bytes
-    leaves_still status arms failed bytes may = may_be_still pair machine.journal status arms failed bytes (is.left bytes (untouched.nothing_new bytes may))
+    leaves_still status arms failed bytes may =
+        may_be_still (of_side pair) machine.journal status arms failed bytes
+        (is.left bytes (untouched.nothing_new bytes may))
 
     here : MayBeOf (of_side pair) machine.journal (disk.seen (disk_of found))
     here = is.left (disk.seen (disk_of found)) (stays (disk_of found))

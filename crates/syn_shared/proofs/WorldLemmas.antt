@@ -35,10 +35,13 @@ use Rattle.syn_replica.specs.Steps.{add_refusal, replace_refusal, replaced, is_d
 use Rattle.syn_standing.specs.declared.error.ReplicaError.{ReplicaError}
 use Rattle.syn_standing.specs.declared.error.ReplicaError.TheVariants.{Journal}
 use Rattle.syn_replica.specs.declared.replica.Replica.{Replica}
-use Rattle.syn_shared.proofs.CauseLemmas.{device_or_other, memory_or_device, checkpoint_one, after_reads, edit_never, replace_never, same_causes, cause_first, memory_last}
+use Rattle.syn_shared.proofs.CauseLemmas.{after_reads, checkpoint_one, device_or_other}
+use Rattle.syn_shared.proofs.CauseLemmas.{memory_last, replace_never, same_causes}
 use Rattle.syn_shared.proofs.EventLemmas.{event_up, event_halted, still_of}
 use Rattle.syn_shared.proofs.UpkeepLemmas.{compacts_ok, compacts_not, opens_again, opens_not, opens_later}
 use Rattle.syn_shared.specs.Machines.{EditsSide, IsMade, IsRefused, IsRefusedEarly, WritesEvent, CompactsSide, keeps, ReopensSide}
+use Rattle.syn_agent.proofs.CauseLemmas.{outside as memory_or_device, edit_never}
+use Rattle.syn_standing.proofs.CauseLemmas.{first_stays}
 
 -- where no history causes the answer there is no cause
 no_cause : (answer : Result ℕ ReplicaError) (found : Option Refusal) → ((other : Refusal) → found ≡ Some other → other ≢ why.Device) →
@@ -63,12 +66,14 @@ match_map (Err e) P Q f p = λ d. f (p d)
 -- a refusal is the first cause, or memory is wanting
 refused_so : (e : ReplicaError) (causes : List Cause) (found : Option Refusal) → first_cause causes ≡ found → refusal_of e ≢ why.Device → IsOneOf outside_refusals e ⊎ (found ≡ Some (refusal_of e)) →
     ((other : Refusal) → found ≡ Some other → refusal_of e ≡ other) → first_cause (causes ++ (true, why.Memory) ∷ []) ≡ Some (refusal_of e)
-refused_so e causes found is not (inr some) refused = cause_first causes _ (refusal_of e) (is ∙ some)
+refused_so e causes found is not (inr some) refused =
+    first_stays causes _ (refusal_of e) (is ∙ some)
 refused_so e causes None is not (inl outside) refused = elim (memory_or_device e outside) as (λ _. first_cause (causes ++ (true, why.Memory) ∷ []) ≡ Some (refusal_of e)) [
   | inl memory ↦ memory_last causes is ∙ ap (λ r. Some r) (sym memory)
   | inr device ↦ absurd (not device)
 ]
-refused_so e causes (Some other) is not (inl outside) refused = cause_first causes _ (refusal_of e) (is ∙ ap (λ r. Some r) (sym (refused other refl)))
+refused_so e causes (Some other) is not (inl outside) refused =
+    first_stays causes _ (refusal_of e) (is ∙ ap (λ r. Some r) (sym (refused other refl)))
 
 module _ {D : Type 0} {disk : Ghosts D} (pair : ℕ) (found left : Replica D disk) (agent : Agent) (machine : SideMachine) (is : IsOf pair found agent machine)
     (counts_now : (d : D) (t : ℕ) (c : List ℕ) → t ≤ disk.moment d → disk.may_leave d c → disk.left_since d t c) (up_law : UpIsOf found) (law : WrittenIsOf) (made : MadeCallsMeet) (broken : BrokenCallsMeet) where

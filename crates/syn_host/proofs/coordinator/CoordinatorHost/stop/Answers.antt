@@ -7,7 +7,9 @@ use Rattle.syn_host.specs.Coordinators.{IsCoordinator, StopsMachine, stopped, wi
 use Rattle.syn_host.specs.Coordinators as step
 use Rattle.syn_recovery.specs.Calls.{armed_at}
 use Rattle.syn_coordinator.specs.Coordinators.{Stands, device_of}
-use Rattle.syn_host.proofs.CoordinatorLemmas.{archive_still, is_not_down, same_arms, tries_stopped}
+use Rattle.syn_recovery.proofs.DiskLemmas.{may_be_still}
+use Rattle.syn_recovery.specs.Machines.{of_archive}
+use Rattle.syn_host.proofs.CoordinatorLemmas.{is_not_down, same_arms, tries_stopped}
 use Rattle.syn_host.proofs.coordinator.CoordinatorHost.stop.Goals as goal
 
 not_zero : (n : ℕ) → n ≢ 0 → (n == 0) ≡ false
@@ -25,7 +27,7 @@ returns-then-calls-eq0 g c pair machine is =
         down = refl;
         unarmed_is = refl;
         idle = refl;
-        leaves = λ bytes may. archive_still pair machine.journal Down unarmed 0 bytes
+        leaves = λ bytes may. may_be_still (of_archive pair) machine.journal Down unarmed 0 bytes
             (stands.journal.leaves bytes may);
         tries = tries_stopped pair c.in-Up.coordinator.tried machine.journal stands.tries;
       });

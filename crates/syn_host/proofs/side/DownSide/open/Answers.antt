@@ -2,7 +2,8 @@ use Rattle.std.proofs.Common.{◌∙◌, ◌<◌, arith, sym, subst, inl, inr}
 use Rattle.std.specs.Prelude.{◌^◌, option_map}
 use Rattle.syn_host.specs.Sides.{Gains}
 use Rattle.syn_replica.specs.Refusals.{AfterReads}
-use Rattle.syn_host.proofs.CauseLemmas.{device_is, memory_not_device, reads_made}
+use Rattle.syn_agent.proofs.CauseLemmas.{device_is}
+use Rattle.syn_host.proofs.CauseLemmas.{memory_not_device, reads_made}
 use Rattle.syn_host.proofs.OpenLemmas.{open_failed, open_ok, open_refused, some_stands}
 use Rattle.syn_host.proofs.side.DownSide.open.Goals as goal
 

@@ -10,8 +10,9 @@ use Rattle.syn_standing.specs.Refusals.{refusal_of}
 use Rattle.syn_replica.specs.Replica.{Stands, disk_of, left_shown, room_shown}
 use Rattle.syn_replica.specs.Steps.{add_refusal}
 use Rattle.syn_tree.specs.Edits.{edit_of}
-use Rattle.syn_host.proofs.CauseLemmas.{causes_are, causes_none, causes_some, device_is, never_device}
-use Rattle.syn_host.proofs.CauseLemmas.{no_calls, none_of, outside, reason_is}
+use Rattle.syn_agent.proofs.CauseLemmas.{device_is, edit_never, none_of, outside}
+use Rattle.syn_host.proofs.CauseLemmas.{causes_are, causes_none, causes_some}
+use Rattle.syn_host.proofs.CauseLemmas.{no_calls, reason_is}
 use Rattle.syn_host.proofs.EditLemmas.{edit_failed, edit_ok, edit_refused}
 use Rattle.syn_host.proofs.SideLemmas.{position_is, when_up}
 use Rattle.syn_host.proofs.side.UpSide.add.Goals as goal
@@ -51,7 +52,7 @@ returns-in-Err g c pair machine runs =
       | inl device ↦
           let none = causes_none machine (causes_of pair machine event) is_up.0 (sym same
           ∙ none_of (add_refusal (room_shown old) value event)
-          (λ why some. never_device (room_shown old) value c.args.user (edit_of c.args.edit)
+          (λ why some. edit_never (room_shown old) value c.args.user (edit_of c.args.edit)
           why some (sym (c.in-Err.ensures.refused value why is_up.1 some) ∙ device.0))) in
           edit_failed pair old c.edit.new.self c.args.self.agent machine event runs is_up.0
           c.requires.lawful c.settle.result _ position_now g.met.D.Disk.counts_now

@@ -8,10 +8,13 @@ use Rattle.syn_model.specs.Refusal as why
 use Rattle.syn_replica.specs.Refusals.{MakesIfDevice}
 use Rattle.syn_standing.specs.Refusals.{refusal_of}
 use Rattle.syn_replica.specs.Replica.{disk_of, journal_of}
-use Rattle.syn_host.proofs.CauseLemmas.{causes_none, causes_some, device_is, halted_is, no_calls}
+use Rattle.syn_agent.proofs.CauseLemmas.{device_is}
+use Rattle.syn_agent.proofs.ReadingLemmas.{halted_is}
+use Rattle.syn_host.proofs.CauseLemmas.{causes_none, causes_some, no_calls}
 use Rattle.syn_host.proofs.CauseLemmas.{memory_not_device, of_checkpoint}
 use Rattle.syn_host.proofs.CheckpointLemmas.{compact_failed, compact_ok, compact_refused, is_less}
-use Rattle.syn_host.proofs.SideLemmas.{position_is, still_stands, when_up}
+use Rattle.syn_replica.proofs.GrowthLemmas.{stands_still}
+use Rattle.syn_host.proofs.SideLemmas.{position_is, when_up}
 use Rattle.syn_host.proofs.side.UpSide.compact.Goals as goal
 
 pub returns-in-Ok : goal.returns-in-Ok
@@ -54,7 +57,8 @@ returns-in-Err g c pair machine runs =
             | inr same ↦ same
           ] in
           compact_refused pair old c.checkpoint.new.self c.args.self.agent machine runs is_up.0
-          (still_stands old c.checkpoint.new.self value is_up.1 c.in-Err.ensures.memory same)
+          (stands_still old c.checkpoint.new.self c.in-Err.ensures.memory.pair
+          c.in-Err.ensures.memory.standing same value is_up.1)
           c.in-Err.ensures.readings c.in-Err.ensures.tried
           (no_calls e 6 _ _ (λ device. memory_not_device (sym memory ∙ device))
           c.in-Err.ensures.calls) (c.machine_laws-in-Err.ensures.up pair) _ (refusal_of e)

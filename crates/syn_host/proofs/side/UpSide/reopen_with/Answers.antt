@@ -2,7 +2,8 @@ use Rattle.std.proofs.Common.{◌∙◌, ◌∷◌, [], ap, inl, inr, refl, subs
 use Rattle.syn_host.specs.Sides.{ReopensSo}
 use Rattle.syn_replica.specs.Refusals.{AfterReads}
 use Rattle.syn_replica.specs.Replica.{Stands, disk_of}
-use Rattle.syn_host.proofs.CauseLemmas.{device_is, memory_not_device, outside, reads_made}
+use Rattle.syn_agent.proofs.CauseLemmas.{device_is, outside}
+use Rattle.syn_host.proofs.CauseLemmas.{memory_not_device, reads_made}
 use Rattle.syn_host.proofs.ReopenLemmas.{keeps_up, reopen_failed, reopen_ok, reopen_refused}
 use Rattle.syn_host.proofs.SideLemmas.{position_is}
 use Rattle.syn_host.proofs.side.UpSide.reopen_with.Goals as goal

@@ -1,7 +1,9 @@
 use Rattle.std.proofs.Common.{◌∙◌, refl}
 use Rattle.syn_headline.specs.Machine.{Down, unarmed}
 use Rattle.syn_host.specs.SideSteps.{stopped}
-use Rattle.syn_host.proofs.SideLemmas.{may_be_still, position_is}
+use Rattle.syn_recovery.proofs.DiskLemmas.{may_be_still}
+use Rattle.syn_recovery.specs.Machines.{of_side}
+use Rattle.syn_host.proofs.SideLemmas.{position_is}
 use Rattle.syn_host.proofs.side.UpSide.stop.Goals as goal
 
 pub returns : goal.returns
@@ -12,5 +14,5 @@ returns g c pair machine runs = c.stop_at.ensures pair (stopped machine) (record
   position_is = c.position-position.ensures ∙ position_is pair c.args.self machine runs;
   tries = runs.tries;
   leaves = λ bytes may.
-      may_be_still pair machine.journal Down unarmed 0 bytes (runs.is.left bytes may);
+      may_be_still (of_side pair) machine.journal Down unarmed 0 bytes (runs.is.left bytes may);
 })
