@@ -11,6 +11,7 @@ use Rattle.syn_model.specs.Archive as model
 use Rattle.syn_recovery.specs.Calls.{armed_at}
 use Rattle.syn_keep.specs.Machines.{Fails, IsMachine, Journal, Runs}
 use Rattle.syn_recovery.proofs.DiskLemmas.{may_be_still}
+use Rattle.syn_recovery.specs.Machines.{of_archive}
 
 module _ {D : Type 0} {disk : Ghosts D} (old new : Archive D disk) (pair : ℕ) (machine : Journal) (is : IsMachine old pair machine) (goes : is_stopped (disk.arms (disk_of new)) ≡ false)
     (stands : (kept : model.Archive) → Stands old kept → Stands new kept) (memory : SameMemory old new) (readings : SameReadings (journal_of old) (journal_of new)) (stop : SameOutcomes (disk.may_leave (disk_of old)) (disk.may_leave (disk_of new))) where

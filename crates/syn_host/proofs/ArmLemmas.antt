@@ -17,6 +17,7 @@ use Rattle.syn_replica.specs.declared.replica.Replica.{Replica}
 use Rattle.syn_host.proofs.EditLemmas.{side_of}
 use Rattle.syn_host.proofs.SideLemmas.{not_down, still_staged}
 use Rattle.syn_recovery.proofs.DiskLemmas.{may_be_still}
+use Rattle.syn_recovery.specs.Machines.{of_side}
 
 -- what stands or remembers still does
 pub stands_as : {D : Type 0} {disk : Ghosts D} (old new : Replica D disk) (history : History)
