@@ -1,19 +1,19 @@
 -- Why a replacement is refused, as it is found out step by step.
-use Rattle.std.proofs.Common.{◌≡◌, ◌≢◌, ◌==◌, ℕ, true, false, if◌then◌else◌, List, [], ◌∷◌, ◌++◌, length, sym, ap, ◌∙◌, Some, None, append_assoc, arith, ◌+◌, Result, Ok, Err}
-use Rattle.std.specs.Prelude.{IfOk}
+use Rattle.std.proofs.Common.{◌≡◌, ◌≢◌, ◌==◌, ℕ, false, if◌then◌else◌, List, [], ◌∷◌, ◌++◌, length, sym, ap, ◌∙◌, subst, Option, Some, None, append_assoc, arith, ◌+◌, Result, Ok, Err}
+use Rattle.std.specs.Prelude.{IfOk, IfSome}
 use Rattle.std.proofs.lemmas.List.{length-append}
 use Rattle.std.proofs.lemmas.Bool.Decides.{nat_tests}
 use Rattle.syn_model.specs.Path.{Path}
 use Rattle.syn_model.specs.Tree.{Tree, replace}
 use Rattle.syn_model.specs.Event.{Token, Event, Began, Replaced}
-use Rattle.syn_model.specs.Refusal.{Refusal, OldSession, Cause, first_cause}
+use Rattle.syn_model.specs.Refusal.{OldSession, Cause, first_cause}
 use Rattle.syn_model.specs.Standing.{place_causes, full_causes}
 use Rattle.syn_model.specs.History.{History, tree_of, is_old_token, last_session, position_causes}
 use Rattle.syn_replica.specs.Steps.{add_refusal, room_causes, replace_refusal, is_done, replaced, begun}
 use Rattle.syn_standing.specs.Causes.{since_causes}
 use Rattle.syn_standing.specs.declared.error.ReplicaError.{ReplicaError}
-use Rattle.syn_standing.proofs.CauseLemmas.{first_stays, first_skips}
-use Rattle.syn_standing.proofs.SinceLemmas.{first_true, first_false}
+use Rattle.syn_standing.proofs.CauseLemmas.{first_skips}
+use Rattle.syn_standing.proofs.SinceLemmas.{first_false}
 
 -- ---- the causes of a replacement in a row
 
@@ -22,32 +22,12 @@ module _ (room : ℕ) (history : History) (token : Token) (path : Path) (since :
   rest_causes = place_causes (tree_of history) path ++ (full_causes (replace (tree_of history) path new)
       ++ (position_causes history ++ room_causes room (Replaced token path since new)))
 
-  pub replaced_old : is_old_token history token ≡ true → replace_refusal room history token path since new ≡ Some OldSession
-  unfolding rest_causes
-  replaced_old old = first_true (is_old_token history token) OldSession (since_causes history path since ++ rest_causes) old
-
   not_old : is_old_token history token ≡ false → replace_refusal room history token path since new ≡ first_cause (since_causes history path since ++ rest_causes)
   unfolding rest_causes
   not_old current = first_false (is_old_token history token) OldSession (since_causes history path since ++ rest_causes) current
 
-  pub replaced_since : (refusal : Refusal) → is_old_token history token ≡ false → first_cause (since_causes history path since) ≡ Some refusal → replace_refusal room history token path since new ≡ Some refusal
-  replaced_since refusal current e = not_old current ∙ first_stays (since_causes history path since) rest_causes refusal e
-
   untouched : is_old_token history token ≡ false → first_cause (since_causes history path since) ≡ None → replace_refusal room history token path since new ≡ first_cause rest_causes
   untouched current none = not_old current ∙ first_skips (since_causes history path since) rest_causes none
-
-  tree_causes : List Cause
-  tree_causes = place_causes (tree_of history) path ++ full_causes (replace (tree_of history) path new)
-
-  in_row : rest_causes ≡ tree_causes ++ (position_causes history ++ room_causes room (Replaced token path since new))
-  unfolding rest_causes tree_causes
-  in_row = sym (append_assoc (place_causes (tree_of history) path) (full_causes (replace (tree_of history) path new)) (position_causes history ++ room_causes room (Replaced token path since new)))
-
-  pub replaced_part : (refusal : Refusal) → is_old_token history token ≡ false → first_cause (since_causes history path since) ≡ None →
-      first_cause (place_causes (tree_of history) path ++ full_causes (replace (tree_of history) path new)) ≡ Some refusal → replace_refusal room history token path since new ≡ Some refusal
-  unfolding tree_causes
-  replaced_part refusal current none e =
-      untouched current none ∙ (ap first_cause in_row ∙ first_stays tree_causes (position_causes history ++ room_causes room (Replaced token path since new)) refusal e)
 
   -- where the token and the path stand as they should, what is left is why the event is not added
   pub replaced_rest : is_old_token history token ≡ false → first_cause (since_causes history path since) ≡ None → replace_refusal room history token path since new ≡ add_refusal room history (Replaced token path since new)
@@ -62,6 +42,10 @@ module _ (room : ℕ) (history : History) (token : Token) (path : Path) (since :
       ∙ sym (first_false (is_old_token history token) OldSession ((place ++ (full ++ position)) ++ last) current))
 
 -- ---- what is answered
+
+-- what a clause says of a value that is there
+pub in_some : {X : Type 0} (P : X → Type 0) (o : Option X) (x : X) → IfSome o P → o ≡ Some x → P x
+in_some P o x h e = subst (λ o. IfSome o P) e h
 
 pub one_longer : (r : Result ℕ ReplicaError) (history : History) (event : Event) (P : Type 0) → IfOk r (λ position. (position ≡ length history + 1) × P) → IfOk r (λ position. (position ≡ length (history ++ event ∷ [])) × P)
 one_longer (Ok x) history event P h = (h.0 ∙ sym (length-append history (event ∷ [])), h.1)

@@ -5,7 +5,8 @@ ghost use Rattle.syn_disk.specs.Calls.{Makes};
 ghost use Rattle.syn_disk.specs.Stops.{LeavesOnly};
 ghost use Rattle.syn_model.specs.Limits.{greatest_piece};
 ghost use Rattle.syn_model.specs.Event.{Began, Replaced};
-ghost use Rattle.syn_model.specs.History.{History, is_old_token, last_session, tree_of};
+ghost use Rattle.syn_model.specs.History.{History, is_old_token, last_session, standing_of};
+ghost use Rattle.syn_model.specs.History.{tree_of};
 ghost use Rattle.syn_model.specs.Refusal.{Refusal, Device, Memory, first_cause};
 ghost use Rattle.syn_model.specs.Spelling.{spelling};
 ghost use Rattle.syn_model.specs.Tree.{subtree};
@@ -13,12 +14,13 @@ ghost use Rattle.syn_history.specs.Events.{token_of};
 ghost use Rattle.syn_tree.specs.Nodes.{part_of};
 ghost use Rattle.syn_standing.specs.Refusals.{refusal_of};
 ghost use Rattle.syn_replica.specs.Refusals.{IsOneOf, outside_refusals};
+ghost use Rattle.syn_replica.specs.inner.Additions.{checking_refusals, is_done_at, MayReplace};
 ghost use Rattle.syn_replica.specs.Refusals.{begin_refusals, fetch_refusals, replace_refusals};
 ghost use Rattle.syn_replica.specs.Refusals.{CountsFailures, MakesIfDevice};
 ghost use Rattle.syn_replica.specs.Steps.{begun, begin_refusal, is_done, piece};
 ghost use Rattle.syn_standing.specs.Causes.{since_causes};
 ghost use Rattle.syn_replica.specs.Steps.{replaced, replace_refusal, how_stands, MakesIfNew};
-ghost use Rattle.std.specs.Prelude.{◌==◌};
+ghost use Rattle.std.specs.Prelude.{◌==◌, None, IfSome, option_map};
 
 use super::Replica;
 use std::alloc::Global;
@@ -271,18 +273,9 @@ impl<D: Disk> Replica<D> {
             ⊎ (journal_of self.new ≡ journal_of self.old)) }
     {
         opening_laws();
-        if self.journal.is_halted() {
-            return Err(ReplicaError::Journal(JournalError::Halted));
-        }
-        if self.standing.is_done(&token) {
+        let Some(path) = self.path_to_replace(alloc, &token, path, since, new.as_ref())? else {
             return Ok(self.position());
-        }
-        if self.standing.is_old(&token) {
-            return Err(ReplicaError::OldSession);
-        }
-        self.standing.check_untouched(path, since)?;
-        self.standing.tree().check_part(path, new.as_ref())?;
-        let path = path.copy(alloc)?;
+        };
         self.add(
             alloc,
             Event::Replaced {
@@ -292,6 +285,49 @@ impl<D: Disk> Replica<D> {
                 new,
             },
         )
+    }
+
+    /// The path, copied for the event of a replacement that may be made; none where its token is
+    /// done. It is refused as the replacement is, but for what is found only as the event is added.
+    fn path_to_replace(
+        &self,
+        alloc: Global,
+        token: &Token,
+        path: &Path,
+        since: u64,
+        new: Option<&Node>,
+    ) -> Result<Option<Path>, ReplicaError>
+        ensures done { IfOk result (λ found. found ≡ None
+            → is_done_at (standing_shown self.now) (token_of token.now) ≡ true) }
+        ensures again { is_done_at (standing_shown self.now) (token_of token.now) ≡ true
+            → ¬ IsHalted self.now → result ≡ Ok None }
+        ensures found { IfOk result (λ found. IfSome found (λ copy. (copy ≡ path.now)
+            × MayReplace (standing_shown self.now) (token_of token.now)
+            (part_of (option_map (λ there. there.now) new.entry)))) }
+        ensures untouched { (history : History) → standing_shown self.now ≡ standing_of history
+            → IfOk result (λ found. IfSome found
+            (λ _. first_cause (since_causes history path.now since) ≡ None)) }
+        ensures cause { (room : ℕ) (history : History)
+            → standing_shown self.now ≡ standing_of history → ¬ IsHalted self.now
+            → IfErr result (λ e. (refusal_of e ≡ Memory) ⊎ (replace_refusal room history
+            (token_of token.now) path.now since
+            (part_of (option_map (λ there. there.now) new.entry)) ≡ Some (refusal_of e))) }
+        ensures refusals { IfErr result (IsOneOf checking_refusals) }
+        ensures halted { (result ≡ Err (ReplicaError.Journal JournalError.Halted))
+            ↔ IsHalted self.now }
+    {
+        if self.journal.is_halted() {
+            return Err(ReplicaError::Journal(JournalError::Halted));
+        }
+        if self.standing.is_done(token) {
+            return Ok(None);
+        }
+        if self.standing.is_old(token) {
+            return Err(ReplicaError::OldSession);
+        }
+        self.standing.check_untouched(path, since)?;
+        self.standing.tree().check_part(path, new)?;
+        Ok(Some(path.copy(alloc)?))
     }
 }
 
