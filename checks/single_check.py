@@ -1,0 +1,38 @@
+"""The command by which a crate is checked alone, over the libraries that stand in out/: of checks/wrong_bodies and checks/slow_functions."""
+import pathlib
+import re
+import shutil
+
+TOP = pathlib.Path(__file__).resolve().parents[1]
+KIT = pathlib.Path(shutil.which("rt")).resolve().parents[1]
+BELOW = dict(re.findall(r"^([a-z_]+)[^:\n]*:(.*)$", (TOP / "crates.txt").read_text(), re.M))
+
+
+def libraries_below(crate):
+    """Ours that the crate stands on, each once."""
+    found = dict.fromkeys(name for name in BELOW[crate].split() if name in BELOW)
+    for name in list(found):
+        found |= libraries_below(name)
+    return found
+
+
+def rlib(crate):
+    path = TOP / "crates" / crate / "out/rlib" / f"{crate}.rlib"
+    if not path.is_dir():
+        raise ValueError(f"{crate} is not built: run rt ci, or rt check in a crate above it")
+    return path
+
+
+def command(crate, functions, seen):
+    """A check of the crate in the current folder: of these functions, or of all. It takes what earlier checks left in the folder `seen`."""
+    root = "main" if (TOP / "crates" / crate / "src/main.rt").exists() else "lib"
+    words = [KIT / "bin/rattle", "check", "--crate-name", crate, f"src/{root}.rt", "--jobs", "1"]
+    for name in ["std", *BELOW[crate].split()]:
+        words += ["--extern", f"{name}={rlib(name) if name in BELOW else KIT / 'rlibs' / f'{name}.rlib'}"]
+    for folder in [KIT / "rlibs", *(rlib(name).parent for name in libraries_below(crate))]:
+        words += ["-L", f"dependency={folder}"]
+    words += ["--antt-project", KIT / "rattle/logic/antt-project.json", "--logic-built", KIT / "logic_built", "--incremental", seen]
+    words += ["--links", f"{crate}="]
+    for function in functions:
+        words += ["--only", function]
+    return words
