@@ -89,7 +89,8 @@ impl<D: Disk> Coordinator<D> {
     pub fn into_archive(self) -> Archive<D>
         ensures { result ≡ archive_of self }
     {
-        self.archive
+        let (archive, _) = self.into_parts();
+        archive
     }
 
     /// The archive, and what was tried and not kept. A session that runs is given up.
@@ -271,23 +272,53 @@ impl<D: Disk> Coordinator<D> {
         match self.archive.next_session(alloc) {
             Ok(_) => {
                 self.archive.keeps_on_disk();
-                self.running = Some(session);
-                self.report = None;
-                self.written = records;
-                self.broke = false;
+                self.run(session, records);
                 Ok(())
             }
             Err(error) => {
-                if is_device(error) {
-                    self.written = Vec::new(alloc);
-                    self.tried = Some(Tried::new(Kept::Session(session.number), &self.archive));
-                    self.broke = true;
-                    return Err(SessionError::Device);
-                }
-                // What else refuses a session was looked at before.
-                Err(SessionError::Memory)
+                let number = session.number;
+                // By a call, or the prover would look here at each kind of session that is let go.
+                drop(session);
+                Err(self.not_begun(alloc, error, number))
             }
         }
+    }
+
+    /// Lets the session run, whose number was kept by these records.
+    fn run(&mut self, session: Session, records: Vec<Kept>)
+        ensures archive { self.new.archive ≡ self.old.archive }
+        ensures running { self.new.running ≡ Some session }
+        ensures report { self.new.report ≡ None }
+        ensures written { self.new.written ≡ records }
+        ensures whole { self.new.broke ≡ false }
+        ensures tried { self.new.tried ≡ self.old.tried }
+    {
+        self.running = Some(session);
+        self.report = None;
+        self.written = records;
+        self.broke = false;
+    }
+
+    /// What a session is refused whose number was not kept. After a device call that failed, it is
+    /// what was tried last.
+    fn not_begun(&mut self, alloc: Global, error: ArchiveError, number: u64) -> SessionError
+        ensures archive { self.new.archive ≡ self.old.archive }
+        ensures running { self.new.running ≡ self.old.running }
+        ensures report { self.new.report ≡ self.old.report }
+        ensures device { result ≡ SessionError.Device → (error ≡ ArchiveError.Device)
+            × (self.new.written.items ≡ []) × (self.new.broke ≡ true)
+            × HoldsTried (archive_of self.new) (Begun number) (tried_shown self.new) }
+        ensures other { (result ≡ SessionError.Device) ⊎ ((result ≡ SessionError.Memory)
+            × (error ≢ ArchiveError.Device) × (self.new ≡ self.old)) }
+    {
+        if !is_device(error) {
+            // What else refuses a session was looked at before.
+            return SessionError::Memory;
+        }
+        self.written = Vec::new(alloc);
+        self.tried = Some(Tried::new(Kept::Session(number), &self.archive));
+        self.broke = true;
+        SessionError::Device
     }
 
     /// Some time went by without an answer: each request that waits is to be sent again. It answers

@@ -9,10 +9,11 @@ use std::net::{Net, TcpListener, TcpStream};
 use std::sync::Wait;
 use std::thread::Threads;
 use std::time::Clock;
+use syn_archive::Archive;
 use syn_command::{CommandError, Outcome, outcome_of};
 use syn_coordinator::Coordinator;
 use syn_daemon::{OpenGates, run, sync};
-use syn_disk::{Cut, Disk, Limit};
+use syn_disk::{Disk, Limit};
 use syn_refusal::Refusal;
 use syn_session::Report;
 use syn_shared::SharedReplica;
@@ -61,46 +62,82 @@ where
     E: Write,
 {
     if let Telling::Nothing = telling {
-        let coordinator = drive(rt, alloc, disks, between, archive, &mut Unwatched)?;
-        return print_session(alloc, &coordinator, output);
+        return drive(rt, alloc, disks, between, archive, &mut Unwatched, output);
     }
     let counts = telling == Telling::ItemsAndCounts;
     let mut progress = Progress::new(alloc, errors, counts);
-    let coordinator = drive(rt, alloc, disks, between, archive, &mut progress)?;
-    print_told(alloc, &coordinator, &mut progress, output)
+    drive(rt, alloc, disks, between, archive, &mut progress, output)
 }
 
-/// Runs a session, and answers the coordinator that ran it.
-fn drive<H, N, V>(
+/// What watches a session and hears how it ended.
+trait Told: Watch {
+    /// The session ended with this report, which is not printed yet.
+    fn ended(&mut self, report: &Report);
+}
+
+impl Told for Unwatched {
+    fn ended(&mut self, _report: &Report) {}
+}
+
+impl<W: Write> Told for Progress<W> {
+    fn ended(&mut self, report: &Report) {
+        self.finish(report);
+    }
+}
+
+/// Runs a session over the archive of that name, and prints its report.
+fn drive<H, N, V, O>(
     rt: &H,
     alloc: Global,
     disks: &N,
     between: Between<'_>,
     archive: &str,
     watch: &mut V,
-) -> Result<Coordinator<Cut<N::Disk>>, CommandError>
+    output: &mut O,
+) -> Result<Outcome, CommandError>
 where
     H: Net<Listener = TcpListener, Stream = TcpStream> + Threads + Wait + Clock + Copy + Sync,
     N: NamedDisks,
-    V: Watch,
+    V: Told,
+    O: Write,
 {
     match between {
         Between::Servers { left, right } => {
-            let mut coordinator = Coordinator::new(alloc, archive_in(alloc, disks, archive)?);
-            match sync(rt, alloc, &mut coordinator, left, right, watch) {
-                Ok(()) => Ok(coordinator),
-                Err(why) => Err(CommandError::Network(why)),
-            }
+            let archive = archive_in(alloc, disks, archive)?;
+            drive_served(rt, alloc, left, right, archive, watch, output)
         }
         Between::Named { left, right } => {
             let left = shared_in(alloc, disks, left)?;
-            drive_with(rt, alloc, disks, &left, right, archive, watch)
+            drive_with(rt, alloc, disks, &left, right, archive, watch, output)
         }
     }
 }
 
+/// Runs a session between the replicas that are served at these addresses.
+fn drive_served<H, D, V, O>(
+    rt: &H,
+    alloc: Global,
+    left: &str,
+    right: &str,
+    archive: Archive<D>,
+    watch: &mut V,
+    output: &mut O,
+) -> Result<Outcome, CommandError>
+where
+    H: Net<Listener = TcpListener, Stream = TcpStream> + Clock,
+    D: Limit + Drop,
+    V: Told,
+    O: Write,
+{
+    let mut coordinator = Coordinator::new(alloc, archive);
+    let went = sync(rt, alloc, &mut coordinator, left, right, watch);
+    let told = print_session(alloc, went, &coordinator, watch, output);
+    drop(coordinator);
+    told
+}
+
 /// Runs a session between a replica and that of the name.
-fn drive_with<H, N, V>(
+fn drive_with<H, N, V, O>(
     rt: &H,
     alloc: Global,
     disks: &N,
@@ -108,54 +145,41 @@ fn drive_with<H, N, V>(
     right: &str,
     archive: &str,
     watch: &mut V,
-) -> Result<Coordinator<Cut<N::Disk>>, CommandError>
+    output: &mut O,
+) -> Result<Outcome, CommandError>
 where
     H: Net<Listener = TcpListener, Stream = TcpStream> + Threads + Wait + Clock + Copy + Sync,
     N: NamedDisks,
-    V: Watch,
+    V: Told,
+    O: Write,
 {
     let right = shared_in(alloc, disks, right)?;
-    drive_over(rt, alloc, disks, left, &right, archive, watch)
-}
-
-/// Runs a session between two replicas, over the archive of the name.
-fn drive_over<H, N, V>(
-    rt: &H,
-    alloc: Global,
-    disks: &N,
-    left: &SharedReplica<N::Disk>,
-    right: &SharedReplica<N::Disk>,
-    archive: &str,
-    watch: &mut V,
-) -> Result<Coordinator<Cut<N::Disk>>, CommandError>
-where
-    H: Net<Listener = TcpListener, Stream = TcpStream> + Threads + Wait + Clock + Copy + Sync,
-    N: NamedDisks,
-    V: Watch,
-{
-    let coordinator = Coordinator::new(alloc, archive_in(alloc, disks, archive)?);
-    drive_shared(rt, alloc, left, right, coordinator, watch)
+    let archive = archive_in(alloc, disks, archive)?;
+    drive_shared(rt, alloc, left, &right, archive, watch, output)
 }
 
 /// Serves both replicas on loopback ports as long as a session between them runs. The servers log
 /// nothing.
-fn drive_shared<H, D, C, V>(
+fn drive_shared<H, D, C, V, O>(
     rt: &H,
     alloc: Global,
     left: &SharedReplica<D>,
     right: &SharedReplica<D>,
-    coordinator: Coordinator<C>,
+    archive: Archive<C>,
     watch: &mut V,
-) -> Result<Coordinator<C>, CommandError>
+    output: &mut O,
+) -> Result<Outcome, CommandError>
 where
     H: Net<Listener = TcpListener, Stream = TcpStream> + Threads + Wait + Clock + Copy + Sync,
     D: Disk + Send,
     C: Limit + Drop,
-    V: Watch,
+    V: Told,
+    O: Write,
 {
     let quiet = Logged::new(*rt, LevelFilter::Off, Discard);
     let gates = OpenGates;
-    match run(
+    let coordinator = Coordinator::new(alloc, archive);
+    let (coordinator, went) = run(
         &quiet,
         alloc,
         left,
@@ -164,10 +188,10 @@ where
         &gates,
         &gates,
         watch,
-    ) {
-        (coordinator, Ok(())) => Ok(coordinator),
-        (_, Err(why)) => Err(CommandError::Network(why)),
-    }
+    );
+    let told = print_session(alloc, went, &coordinator, watch, output);
+    drop(coordinator);
+    told
 }
 
 /// The replica of that name, under a lock.
@@ -190,26 +214,19 @@ fn reported<D: Disk>(coordinator: &Coordinator<D>) -> Result<&Report, CommandErr
     }
 }
 
-/// Prints the report of the session, and answers what it came to.
-fn print_session<D: Disk, O: Write>(
+/// Prints the report of a session that went so, and answers what it came to.
+fn print_session<D: Disk, V: Told, O: Write>(
     alloc: Global,
+    went: Result<(), Refusal>,
     coordinator: &Coordinator<D>,
+    watch: &mut V,
     output: &mut O,
 ) -> Result<Outcome, CommandError> {
+    if let Err(why) = went {
+        return Err(CommandError::Network(why));
+    }
     let report = reported(coordinator)?;
-    show_report(alloc, report, output)?;
-    Ok(outcome_of(report))
-}
-
-/// Ends what is told of the session, and then does the same.
-fn print_told<D: Disk, O: Write, W: Write>(
-    alloc: Global,
-    coordinator: &Coordinator<D>,
-    progress: &mut Progress<W>,
-    output: &mut O,
-) -> Result<Outcome, CommandError> {
-    let report = reported(coordinator)?;
-    progress.finish(report);
+    watch.ended(report);
     show_report(alloc, report, output)?;
     Ok(outcome_of(report))
 }

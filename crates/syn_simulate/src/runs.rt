@@ -30,7 +30,10 @@ pub fn play(alloc: Global, script: &[u8]) -> Result<Player<Cut<MemDisk>>, Simula
     let world = formatted_world(alloc, stops)?;
     match Player::new(alloc, world).play_all(alloc, lines) {
         Ok(player) => Ok(player),
-        Err(_) => Err(SimulateError::Memory),
+        Err(disks) => {
+            drop(disks);
+            Err(SimulateError::Memory)
+        }
     }
 }
 

@@ -36,7 +36,10 @@ pub fn formatted_world(
     let disks = formatted_disks(alloc, blank_disks(alloc, stops)?)?;
     match World::open(alloc, disks) {
         Ok(world) => Ok(world),
-        Err((why, _)) => Err(SimulateError::Refused(why)),
+        Err((why, disks)) => {
+            drop(disks);
+            Err(SimulateError::Refused(why))
+        }
     }
 }
 

@@ -8,5 +8,5 @@ returns-in-Ok-clause-opened c = record {
   opens = c.in-Ok.ensures.opened 1 formatted c.in_ok-disks.ensures.stand;
 }
 
-pub returns-clause-refused : goal.returns-clause-refused
-returns-clause-refused c = c.in-Err.ensures.refused 1 formatted c.in_ok-disks.ensures.stand
+pub returns-in-Err-clause-refused : goal.returns-in-Err-clause-refused
+returns-in-Err-clause-refused c = c.in-Err.ensures.refused 1 formatted c.in_ok-disks.ensures.stand

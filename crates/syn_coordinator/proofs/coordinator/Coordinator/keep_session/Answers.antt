@@ -1,38 +1,63 @@
-use Rattle.std.proofs.Common.{Err, ap, inl, inr, refl, subst}
+use Rattle.std.proofs.Common.{◌∷◌, ◌∙◌, ◌+◌, ◌<◌, [], Err, Ok, Result, ap, inl, inr, subst, sym}
+use Rattle.syn_archive.specs.Refusals.{MakesIfDevice, CountsFailures as Counts}
+use Rattle.syn_headline.specs.Machine.{Halted, Up}
 use Rattle.syn_keep.specs.Machines.{IsMachine}
+use Rattle.syn_keep.specs.Steps.{KeepsSo}
+use Rattle.syn_coordinator.specs.Coordinators.{Stands}
 use Rattle.syn_keep.proofs.StayLemmas.{same_machine}
-use Rattle.syn_archive.specs.Archive.{disk_of}
-use Rattle.syn_archive.specs.Refusals.{CountsFailures, MakesIfDevice}
+use Rattle.syn_model.specs.Archive.{Session}
+use Rattle.syn_session.specs.Refusals.{CountsFailures}
+use Rattle.syn_session.specs.declared.error.SessionError.TheVariants as error
+use Rattle.syn_archive.specs.Archive.{disk_of, session_shown}
 use Rattle.syn_coordinator.proofs.KeepLemmas.{counts_none, number_kept, number_failed}
 use Rattle.syn_coordinator.proofs.coordinator.Coordinator.keep_session.Goals as goal
 
 pub returns-in-Ok-clause-ok : goal.returns-in-Ok-clause-ok
 returns-in-Ok-clause-ok g c pair machine stands =
-    number_kept _ _ pair machine.journal stands.journal c.requires.up c.device_laws.ensures.made c.device_laws.ensures.behind c.in-Ok.field-0 c.in-Ok.ensures.acknowledged c.in-Ok.ensures.record c.keeps_on_disk.ensures c.in-Ok.ensures.calls
+    let kept = Session (session_shown c.args.self.now.archive + 1) in
+    subst (λ archive. KeepsSo archive pair machine.journal kept (kept ∷ []) Up) (sym c.run.ensures.archive)
+    (number_kept _ _ pair machine.journal stands.journal c.requires.up c.device_laws.ensures.made c.device_laws.ensures.behind c.in-Ok.field-0 c.in-Ok.ensures.acknowledged c.in-Ok.ensures.record c.keeps_on_disk.ensures c.in-Ok.ensures.calls)
 
-pub returns-then-is_device-clause-device : goal.returns-then-is_device-clause-device
-returns-then-is_device-clause-device g c pair machine stands e =
-    let device = c.is_device.ensures.device c.if-is_device.true in
-    number_failed _ _ pair machine.journal stands.journal c.requires.up c.device_laws.ensures.broken c.requires.fits (c.in-Err.ensures.halts (ap (λ e. Err e) device)) c.in-Err.ensures.readings g.met.D.Disk.counts_now c.in-Err.ensures.any_moment
-    (subst (λ e. MakesIfDevice e 4 (g.D.Disk.arms (disk_of c.args.self.now.archive)) (g.D.Disk.arms (disk_of c.next_session.new.self))) device c.in-Err.ensures.calls)
+-- what a result refuses
+abbrev refused : {T E : Type 0} → E → Result T E → E
+refused none (Ok _) = none
+refused none (Err e) = e
 
-pub returns-then-is_device-clause-failures : goal.returns-then-is_device-clause-failures
-returns-then-is_device-clause-failures g c = subst (λ e. CountsFailures e (g.D.Disk.failures (disk_of c.args.self.now.archive)) (g.D.Disk.failures (disk_of c.next_session.new.self))) (c.is_device.ensures.device c.if-is_device.true) c.in-Err.ensures.failures
+pub returns-in-Err-clause-device : goal.returns-in-Err-clause-device
+returns-in-Err-clause-device g c pair machine stands e =
+    let device = (c.not_begun.ensures.device (ap (refused error.Device) e)).0 in
+    let kept = Session (session_shown c.args.self.now.archive + 1) in
+    subst (λ archive. KeepsSo archive pair machine.journal kept [] Halted) (sym c.not_begun.ensures.archive)
+    (number_failed _ _ pair machine.journal stands.journal c.requires.up c.device_laws.ensures.broken c.requires.fits (c.in-Err.ensures.halts (ap (λ e. Err e) device)) c.in-Err.ensures.readings g.met.D.Disk.counts_now c.in-Err.ensures.any_moment
+    (subst (λ e. MakesIfDevice e 4 (g.D.Disk.arms (disk_of c.args.self.now.archive)) (g.D.Disk.arms (disk_of c.next_session.new.self))) device c.in-Err.ensures.calls))
 
-pub returns-else-is_device-clause-failures : goal.returns-else-is_device-clause-failures
-returns-else-is_device-clause-failures g c = counts_none c.in-Err.error _ _ (c.is_device.ensures.other c.if-is_device.false) c.in-Err.ensures.failures
+pub returns-in-Err-clause-failures : goal.returns-in-Err-clause-failures
+returns-in-Err-clause-failures g c =
+    let before = g.D.Disk.failures (disk_of c.args.self.now.archive) in
+    let after = g.D.Disk.failures (disk_of c.not_begun.new.self.archive) in
+    let archive = c.not_begun.ensures.archive in
+    elim c.not_begun.ensures.other [
+      | inl device ↦ subst (λ e. CountsFailures e before after) (sym device)
+          (subst (λ a. before < g.D.Disk.failures (disk_of a)) (sym archive)
+          (subst (λ e. Counts e before (g.D.Disk.failures (disk_of c.next_session.new.self))) (c.not_begun.ensures.device device).0 c.in-Err.ensures.failures))
+      | inr stays ↦ subst (λ e. CountsFailures e before after) (sym stays.0)
+          (ap (λ a. g.D.Disk.failures (disk_of a)) archive ∙ counts_none c.in-Err.error _ _ stays.1 c.in-Err.ensures.failures)
+    ]
 
-pub returns-else-is_device-clause-memory : goal.returns-else-is_device-clause-memory
-returns-else-is_device-clause-memory g c pair machine stands = inr (
-  refl,
-  record {
-    journal = elim c.in-Err.ensures.unchanged as (λ _. IsMachine c.next_session.new.self pair machine.journal) [
-      | inl device ↦ absurd (c.is_device.ensures.other c.if-is_device.false device)
-      | inr same ↦ same_machine c.args.self.now.archive c.next_session.new.self same c.in-Err.ensures.readings pair machine.journal stands.journal
-    ];
-    running = stands.running;
-    quiet = stands.quiet;
-    untried = stands.untried;
-    tries = stands.tries;
-  },
-)
+pub returns-in-Err-clause-memory : goal.returns-in-Err-clause-memory
+returns-in-Err-clause-memory g c pair machine stands = elim c.not_begun.ensures.other [
+  | inl device ↦ inl device
+  | inr stays ↦ inr (
+    stays.0,
+    subst (λ new. Stands new pair machine) (sym stays.2) (record {
+      journal = elim c.in-Err.ensures.unchanged as (λ _. IsMachine c.next_session.new.self pair machine.journal) [
+        | inl device ↦ absurd (stays.1 device)
+        | inr same ↦ same_machine c.args.self.now.archive c.next_session.new.self same c.in-Err.ensures.readings pair machine.journal stands.journal
+      ];
+      running = stands.running;
+      quiet = stands.quiet;
+      untried = stands.untried;
+      tries = stands.tries;
+    }),
+  )
+]
