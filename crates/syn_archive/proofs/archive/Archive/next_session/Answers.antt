@@ -1,10 +1,10 @@
-use Rattle.std.proofs.Common.{◌≡◌, ◌+◌, [], ◌∷◌, ◌++◌, sym, ap, ◌∙◌, subst, arith}
+use Rattle.std.proofs.Common.{◌≡◌, ◌+◌, [], ◌∷◌, ◌++◌, inl, sym, ap, ◌∙◌, subst, arith}
 use Rattle.syn_journal.specs.Layout.{with_payload, IsBeforeOrAfter}
 use Rattle.syn_model.specs.Archive.{Session, after_kept}
 use Rattle.syn_model.specs.ArchiveImage.{ArchiveStandsFor}
 use Rattle.syn_model.specs.MarkSpelling.{kept_spelling}
 use Rattle.syn_archive.specs.Archive.{KeepsBeforeOrAfter, left_shown}
-use Rattle.syn_archive.proofs.StandLemmas.{payload_keeps, stop_keeps, left_behind, leaves_weaker, seen_is_left, can_begin}
+use Rattle.syn_archive.proofs.StandLemmas.{keeps_now, not_written, payload_keeps, stop_keeps, left_behind, leaves_weaker, seen_is_left, can_begin}
 use Rattle.syn_archive.proofs.archive.Archive.next_session.Goals as goal
 
 pub returns-in_err-append-clause-any_moment : goal.returns-in_err-append-clause-any_moment
@@ -50,3 +50,19 @@ returns-in_err-append-clause-seen g c kept stands =
 pub returns-clause-seen : goal.returns-clause-seen
 returns-clause-seen g c kept stands =
     seen_is_left g.D.Disk.seen g.D.Disk.may_leave g.D.Disk.moment g.D.Disk.left_since g.met.D.Disk.seen_may_stay g.met.D.Disk.counts_now _ _ (KeepsBeforeOrAfter c.args.self.now kept (Session (kept.last_session + 1))) (returns-clause-any_moment g c kept stands)
+
+pub returns-then-is_halted-clause-any_moment : goal.returns-then-is_halted-clause-any_moment
+returns-then-is_halted-clause-any_moment g c kept stands =
+    not_written g.met.D.Disk.only_now c.args.self.now kept stands _ (inl (keeps_now c.args.self.now kept stands))
+
+pub returns-then-self-clause-any_moment : goal.returns-then-self-clause-any_moment
+returns-then-self-clause-any_moment g c kept stands =
+    not_written g.met.D.Disk.only_now c.args.self.now kept stands _ (inl (keeps_now c.args.self.now kept stands))
+
+pub returns-then-room-lt-SESSION_LENGTH-clause-any_moment : goal.returns-then-room-lt-SESSION_LENGTH-clause-any_moment
+returns-then-room-lt-SESSION_LENGTH-clause-any_moment g c kept stands =
+    not_written g.met.D.Disk.only_now c.args.self.now kept stands _ (inl (keeps_now c.args.self.now kept stands))
+
+pub returns-in_err-payload-clause-any_moment : goal.returns-in_err-payload-clause-any_moment
+returns-in_err-payload-clause-any_moment g c kept stands =
+    not_written g.met.D.Disk.only_now c.args.self.now kept stands _ (inl (keeps_now c.args.self.now kept stands))

@@ -1,11 +1,11 @@
-use Rattle.std.proofs.Common.{◌≡◌, ℕ, sym, ap, ap₂, ◌∙◌}
+use Rattle.std.proofs.Common.{◌≡◌, ℕ, inl, sym, ap, ap₂, ◌∙◌}
 use Rattle.syn_journal.specs.Layout.{with_payload, IsBeforeOrAfter}
 use Rattle.syn_model.specs.Tree.{Tree, empty_directory, replace}
 use Rattle.syn_model.specs.Archive.{Archive, RecordedDir, CanKeep, after_kept, kept_refusal}
 use Rattle.syn_model.specs.MarkSpelling.{kept_spelling}
 use Rattle.syn_mark.specs.Changes.{replace_refusal}
 use Rattle.syn_archive.specs.Archive.{KeepsBeforeOrAfter, left_shown}
-use Rattle.syn_archive.proofs.StandLemmas.{payload_keeps, stop_keeps, left_behind, leaves_weaker, seen_is_left}
+use Rattle.syn_archive.proofs.StandLemmas.{keeps_now, not_written, payload_keeps, stop_keeps, left_behind, leaves_weaker, seen_is_left}
 use Rattle.syn_archive.proofs.DirLemmas.{dir_allowed, dir_after}
 use Rattle.syn_archive.proofs.archive.Archive.record_new_dir.Goals as goal
 
@@ -53,3 +53,23 @@ returns-in_err-append-clause-seen g c kept stands =
 pub returns-clause-seen : goal.returns-clause-seen
 returns-clause-seen g c kept stands =
     seen_is_left g.D.Disk.seen g.D.Disk.may_leave g.D.Disk.moment g.D.Disk.left_since g.met.D.Disk.seen_may_stay g.met.D.Disk.counts_now _ _ (KeepsBeforeOrAfter c.args.self.now kept (RecordedDir c.args.path.now)) (returns-clause-any_moment g c kept stands)
+
+pub returns-in_err-check_dir-clause-any_moment : goal.returns-in_err-check_dir-clause-any_moment
+returns-in_err-check_dir-clause-any_moment g c kept stands =
+    not_written g.met.D.Disk.only_now c.args.self.now kept stands _ (inl (keeps_now c.args.self.now kept stands))
+
+pub returns-in_err-directory-clause-any_moment : goal.returns-in_err-directory-clause-any_moment
+returns-in_err-directory-clause-any_moment g c kept stands =
+    not_written g.met.D.Disk.only_now c.args.self.now kept stands _ (inl (keeps_now c.args.self.now kept stands))
+
+pub returns-in_err-payload-clause-any_moment : goal.returns-in_err-payload-clause-any_moment
+returns-in_err-payload-clause-any_moment g c kept stands =
+    not_written g.met.D.Disk.only_now c.args.self.now kept stands _ (inl (keeps_now c.args.self.now kept stands))
+
+pub returns-in_err-change-clause-any_moment : goal.returns-in_err-change-clause-any_moment
+returns-in_err-change-clause-any_moment g c kept stands =
+    not_written g.met.D.Disk.only_now c.args.self.now kept stands _ (inl (keeps_now c.args.self.now kept stands))
+
+pub returns-then-dir_length-room-clause-any_moment : goal.returns-then-dir_length-room-clause-any_moment
+returns-then-dir_length-room-clause-any_moment g c kept stands =
+    not_written g.met.D.Disk.only_now c.args.self.now kept stands _ (inl (keeps_now c.args.self.now kept stands))

@@ -50,3 +50,17 @@ returns-clause-grown g c =
     c.commit.ensures.grown (event_of c.args.event)
     (λ history stands. allowed_after (standing_shown c.args.self.now) history (event_of c.args.event) stands.remembers.standing (record { lawful = c.in_ok-payload.ensures.lawful; not_refused = c.in_ok-update.ensures.allowed }))
     c.in_ok-payload.ensures.spelling c.in_ok-update.ensures.gives
+
+pub returns-in_err-payload-clause-any_moment : goal.returns-in_err-payload-clause-any_moment
+returns-in_err-payload-clause-any_moment g c history stands =
+    not_written g.met.D.Disk.only_now c.args.self.now history stands _ (inl (keeps_now c.args.self.now history stands))
+
+pub returns-in_err-payload-clause-seen : goal.returns-in_err-payload-clause-seen
+returns-in_err-payload-clause-seen g c history stands = inl (keeps_now c.args.self.now history stands)
+
+pub returns-in_err-update-clause-any_moment : goal.returns-in_err-update-clause-any_moment
+returns-in_err-update-clause-any_moment g c history stands =
+    not_written g.met.D.Disk.only_now c.args.self.now history stands _ (inl (keeps_now c.args.self.now history stands))
+
+pub returns-in_err-update-clause-seen : goal.returns-in_err-update-clause-seen
+returns-in_err-update-clause-seen g c history stands = inl (keeps_now c.args.self.now history stands)

@@ -1,9 +1,10 @@
-use Rattle.std.proofs.Common.{◌≡◌, ◌≢◌, length, sym, ap, ◌∙◌, subst}
+use Rattle.std.proofs.Common.{◌≡◌, ◌≢◌, length, sym, ap, ◌∙◌, subst, inl}
 use Rattle.std.specs.Prelude.{IfOk}
 use Rattle.syn_model.specs.Event.{Began}
 use Rattle.syn_model.specs.History.{History, last_session}
 use Rattle.syn_replica.specs.Replica.{Stands}
 use Rattle.syn_replica.proofs.SessionLemmas.{not_begun, one_longer}
+use Rattle.syn_replica.proofs.StandLemmas.{keeps_now, not_written}
 use Rattle.syn_replica.specs.Growing.{itself}
 use Rattle.syn_replica.proofs.replica.Replica.begin.Goals as goal
 
@@ -29,3 +30,31 @@ returns-in_err-check-clause-grown g c = itself c.args.self.now
 
 pub returns-in_err-check_room-clause-grown : goal.returns-in_err-check_room-clause-grown
 returns-in_err-check_room-clause-grown g c = itself c.args.self.now
+
+pub returns-then-is_halted-clause-any_moment : goal.returns-then-is_halted-clause-any_moment
+returns-then-is_halted-clause-any_moment g c history stands =
+    not_written g.met.D.Disk.only_now c.args.self.now history stands _ (inl (keeps_now c.args.self.now history stands))
+
+pub returns-then-is_halted-clause-seen : goal.returns-then-is_halted-clause-seen
+returns-then-is_halted-clause-seen g c history stands = inl (keeps_now c.args.self.now history stands)
+
+pub returns-then-pair-self-clause-any_moment : goal.returns-then-pair-self-clause-any_moment
+returns-then-pair-self-clause-any_moment g c history stands =
+    not_written g.met.D.Disk.only_now c.args.self.now history stands _ (inl (keeps_now c.args.self.now history stands))
+
+pub returns-then-pair-self-clause-seen : goal.returns-then-pair-self-clause-seen
+returns-then-pair-self-clause-seen g c history stands = inl (keeps_now c.args.self.now history stands)
+
+pub returns-in_err-check-clause-any_moment : goal.returns-in_err-check-clause-any_moment
+returns-in_err-check-clause-any_moment g c history stands =
+    not_written g.met.D.Disk.only_now c.args.self.now history stands _ (inl (keeps_now c.args.self.now history stands))
+
+pub returns-in_err-check-clause-seen : goal.returns-in_err-check-clause-seen
+returns-in_err-check-clause-seen g c history stands = inl (keeps_now c.args.self.now history stands)
+
+pub returns-in_err-check_room-clause-any_moment : goal.returns-in_err-check_room-clause-any_moment
+returns-in_err-check_room-clause-any_moment g c history stands =
+    not_written g.met.D.Disk.only_now c.args.self.now history stands _ (inl (keeps_now c.args.self.now history stands))
+
+pub returns-in_err-check_room-clause-seen : goal.returns-in_err-check_room-clause-seen
+returns-in_err-check_room-clause-seen g c history stands = inl (keeps_now c.args.self.now history stands)

@@ -1,4 +1,4 @@
-use Rattle.std.proofs.Common.{◌<◌, Some, sym, ap, ◌∙◌, subst, inr}
+use Rattle.std.proofs.Common.{◌<◌, Some, sym, ap, ◌∙◌, subst, inl, inr}
 use Rattle.std.proofs.lemmas.Result.{err_from_is_err_and}
 use Rattle.syn_tree.specs.Edits.{edit_of}
 use Rattle.syn_replica.specs.Edits.{event_by}
@@ -9,6 +9,7 @@ use Rattle.syn_replica.specs.inner.Additions.{add_refusal_at}
 use Rattle.syn_replica.proofs.RefusalLemmas.{edit_among, same_refusal}
 use Rattle.syn_standing.proofs.StandingLemmas.{early_at}
 use Rattle.syn_replica.proofs.RoomLemmas.{refused_at, room_at}
+use Rattle.syn_replica.proofs.StandLemmas.{keeps_now, not_written}
 use Rattle.syn_replica.specs.Growing.{itself}
 use Rattle.syn_replica.proofs.replica.Replica.edit.Goals as goal
 
@@ -58,3 +59,24 @@ returns-in_err-check-clause-grown g c = itself c.args.self.now
 
 pub returns-in_err-check_room-clause-grown : goal.returns-in_err-check_room-clause-grown
 returns-in_err-check_room-clause-grown g c = itself c.args.self.now
+
+pub returns-then-is_halted-clause-any_moment : goal.returns-then-is_halted-clause-any_moment
+returns-then-is_halted-clause-any_moment g c history stands =
+    not_written g.met.D.Disk.only_now c.args.self.now history stands _ (inl (keeps_now c.args.self.now history stands))
+
+pub returns-then-is_halted-clause-seen : goal.returns-then-is_halted-clause-seen
+returns-then-is_halted-clause-seen g c history stands = inl (keeps_now c.args.self.now history stands)
+
+pub returns-in_err-check-clause-any_moment : goal.returns-in_err-check-clause-any_moment
+returns-in_err-check-clause-any_moment g c history stands =
+    not_written g.met.D.Disk.only_now c.args.self.now history stands _ (inl (keeps_now c.args.self.now history stands))
+
+pub returns-in_err-check-clause-seen : goal.returns-in_err-check-clause-seen
+returns-in_err-check-clause-seen g c history stands = inl (keeps_now c.args.self.now history stands)
+
+pub returns-in_err-check_room-clause-any_moment : goal.returns-in_err-check_room-clause-any_moment
+returns-in_err-check_room-clause-any_moment g c history stands =
+    not_written g.met.D.Disk.only_now c.args.self.now history stands _ (inl (keeps_now c.args.self.now history stands))
+
+pub returns-in_err-check_room-clause-seen : goal.returns-in_err-check_room-clause-seen
+returns-in_err-check_room-clause-seen g c history stands = inl (keeps_now c.args.self.now history stands)

@@ -1,4 +1,4 @@
-use Rattle.std.proofs.Common.{◌≡◌, ◌⊎◌, ◌++◌, ◌∷◌, [], Some, None, length, sym, ap, ◌∙◌, subst}
+use Rattle.std.proofs.Common.{◌≡◌, ◌⊎◌, ◌++◌, ◌∷◌, [], Some, None, inl, length, sym, ap, ◌∙◌, subst}
 use Rattle.std.specs.Prelude.{IfOk, IfErr, OnOk}
 use Rattle.syn_disk.specs.Stops.{LeavesOnly}
 use Rattle.syn_model.specs.Event.{Replaced}
@@ -14,6 +14,7 @@ use Rattle.syn_replica.specs.Steps.{add_refusal, replace_refusal}
 use Rattle.syn_replica.specs.inner.Additions.{add_refusal_at, is_done_at}
 use Rattle.syn_replica.proofs.RefusalLemmas.{refused_by}
 use Rattle.syn_replica.proofs.SessionLemmas.{replaced_rest, one_longer, not_done, in_some}
+use Rattle.syn_replica.proofs.StandLemmas.{keeps_now, not_written}
 use Rattle.syn_replica.specs.Growing.{itself}
 use Rattle.syn_replica.proofs.replica.Replica.replace.Goals as goal
 
@@ -78,3 +79,17 @@ returns-in_default-clause-grown g c = itself c.args.self.now
 
 pub returns-in_err-path-clause-grown : goal.returns-in_err-path-clause-grown
 returns-in_err-path-clause-grown g c = itself c.args.self.now
+
+pub returns-in_default-clause-any_moment : goal.returns-in_default-clause-any_moment
+returns-in_default-clause-any_moment g c history stands =
+    not_written g.met.D.Disk.only_now c.args.self.now history stands _ (inl (keeps_now c.args.self.now history stands))
+
+pub returns-in_default-clause-seen : goal.returns-in_default-clause-seen
+returns-in_default-clause-seen g c history stands = inl (keeps_now c.args.self.now history stands)
+
+pub returns-in_err-path-clause-any_moment : goal.returns-in_err-path-clause-any_moment
+returns-in_err-path-clause-any_moment g c history stands =
+    not_written g.met.D.Disk.only_now c.args.self.now history stands _ (inl (keeps_now c.args.self.now history stands))
+
+pub returns-in_err-path-clause-seen : goal.returns-in_err-path-clause-seen
+returns-in_err-path-clause-seen g c history stands = inl (keeps_now c.args.self.now history stands)
