@@ -181,3 +181,14 @@ formatted start half generation image body size closed small spells fits =
     let opened = open_final start half generation image body size small spells fits in
     committed start half generation image body size small spells fits _ torn opened
     (only_open _ half (this_gate start half generation image body size small spells fits _ torn opened) (other_gate start half generation image body size small spells fits _ torn ∙ closed))
+
+-- what is committed to the first half leaves the gate of the second
+pub second_gate : (start body : List ℕ) → length start ≡ DISK_SIZE → length body < half_size
+    → is_open (overwritten (overwritten start 1 body) 0 (open_gate ∷ [])) Second ≡ is_open start Second
+second_gate start body size short =
+    let fits : 1 + length body ≤ length start = omega (arith, size, short) in
+    let with_body = overwritten start 1 body in
+    let long : length with_body ≡ length start = length-overwritten start 1 body fits in
+    let gate : 0 + 1 ≤ length with_body = omega (arith, long, size) in
+    ap (λ byte. byte == open_gate)
+    (overwritten-behind with_body 0 (open_gate ∷ []) gate half_size (omega arith) ∙ overwritten-behind start 1 body fits half_size (omega (arith, short)))

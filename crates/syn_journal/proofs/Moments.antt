@@ -1,7 +1,11 @@
 -- How a run of device calls goes on.
-use Rattle.std.proofs.Common.{◌≡◌, ◌∙◌, inl, inr, ⊎_elim, ℕ, List, refl, arith}
+use Rattle.std.proofs.Common.{◌≡◌, ◌∙◌, inl, inr, ⊎_elim, ℕ, List, refl, subst, sym, arith}
 use Rattle.syn_disk.specs.Disk.{Elapses, NothingNew}
 use Rattle.syn_disk.specs.Stops.{LeavesOnly, Untouched}
+use Rattle.syn_disk.specs.declared.disk.Disk.{Ghosts}
+use Rattle.syn_journal.specs.Journal.{Stands}
+use Rattle.syn_journal.specs.Layout.{Value, HasJournal, IsBeforeOrAfter}
+use Rattle.syn_journal.specs.declared.journal.Journal.{Journal}
 
 module _ {D : Type 0} (moment : D → ℕ) (left_since : D → ℕ → List ℕ → Type 0) where
   -- before the first call
@@ -53,3 +57,10 @@ module _ {D : Type 0} {seen : D → List ℕ} {may_leave : D → List ℕ → Ty
     nothing_new = λ c left. first.nothing_new c (second.nothing_new c left);
     any_moment = in_turn moment left_since old mid new (may_leave old) first.any_moment (weakened moment left_since mid new (may_leave mid) (may_leave old) first.nothing_new second.any_moment);
   }
+
+-- a change that was refused before it wrote
+pub not_written : {D : Type 0} {disk : Ghosts D} (only_now : (d : D) (c : List ℕ) → disk.left_since d (disk.moment d) c → disk.may_leave d c) (journal : Journal D disk) (value : Value) → Stands journal value
+    → (next : Value) (after : ℕ) → LeavesOnly disk.moment disk.left_since journal.disk journal.disk (IsBeforeOrAfter value journal.generation next after)
+not_written {disk = disk} only_now journal value stands next after =
+    started disk.moment disk.left_since journal.disk _
+    (λ c left. inl (subst (λ bytes. HasJournal bytes value journal.generation) (sym (stands.durable c (only_now journal.disk c left))) stands.holds))

@@ -1,5 +1,5 @@
 -- Laws of paths, their spelling and their text.
-use Rattle.std.proofs.Common.{◌≡◌, ◌≢◌, ℕ, ◌+◌, ◌<◌, ◌≤◌, List, [], ◌∷◌, ◌++◌, length, refl, sym, ap, ◌∙◌, subst, arith, rules, codes, length-append, eqb, true, false, cond, Bool, nat_lt, slice_index_or, map, eqb-true, take, ◌-◌, get_or, ap₂, ◌&&◌, if◌then◌else◌, is_some, None}
+use Rattle.std.proofs.Common.{◌≡◌, ◌≢◌, ℕ, ◌+◌, ◌<◌, ◌≤◌, List, [], ◌∷◌, ◌++◌, length, refl, sym, ap, ◌∙◌, subst, arith, rules, codes, length-append, eqb, true, false, cond, Bool, nat_lt, slice_index_or, map, eqb-true, take, drop, ◌-◌, get_or, ap₂, ◌&&◌, if◌then◌else◌, is_some, None}
 use Rattle.std.specs.Prelude.{bytes_eq}
 use Rattle.std.proofs.lemmas.Bool.{and_parts, and_from}
 use Rattle.std.proofs.lemmas.Slice.Eq.{bytes_eq-Decides}
@@ -12,7 +12,7 @@ use Rattle.syn_model.specs.Path.{Name, Path, name_cmp, strip_prefix, IsName, IsP
 use Rattle.syn_model.proofs.PathLemmas.{is_prefix-is, strip_prefix-append}
 use Rattle.std.specs.Ordering.{eq_by_cmp}
 use Rattle.std.specs.Cmp.Lexicographic.{texts_ties}
-use Rattle.syn_path.specs.Paths.{NamesPath, text_of, IsPrefix}
+use Rattle.syn_path.specs.Paths.{NamesPath, text_of, IsPrefix, printed_name, printed_form}
 
 -- one more name is spelled with its length and its bytes
 pub length-spelling-child : (p : List (List ℕ)) (n : List ℕ) → length (path_spelling (p ++ n ∷ [])) ≡ length (path_spelling p) + 1 + length n
@@ -113,3 +113,8 @@ prefix_from_test p q h = let rest = is_prefix-is p q h in (rest.0, sym rest.1)
 
 pub test_from_append : (p rest : Path) → is_prefix p (p ++ rest) ≡ true
 test_from_append p rest = ap is_some (strip_prefix-append p rest)
+
+-- the first name is printed, and then each other behind a slash
+pub printed-split : (p : Path) (x : Name) → 0 < length p → x ≡ slice_index_or p 0 x → printed_name x ++ flat_map (λ other. 47 ∷ printed_name other) (take (length p - 1) (drop 1 p)) ≡ printed_form p
+printed-split [] x some is = absurd (omega arith)
+printed-split (n ∷ p) x some is = ap₂ (λ y others. printed_name y ++ flat_map (λ other. 47 ∷ printed_name other) others) is (take_all (length (n ∷ p) - 1) p (omega arith))

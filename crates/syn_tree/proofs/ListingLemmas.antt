@@ -1,6 +1,7 @@
 -- The names in a directory, one pair after the other.
-use Rattle.std.proofs.Common.{◌≡◌, ◌<◌, ◌+◌, ℕ, true, false, [], ◌∷◌, ◌++◌, length, take, refl, sym, ap, ap₂, ◌∙◌, Option, Some, None, is_some, slice_index_or, true≢false, arith}
+use Rattle.std.proofs.Common.{List, ◌≡◌, ◌<◌, ◌+◌, ℕ, true, false, [], ◌∷◌, ◌++◌, length, take, refl, sym, ap, ap₂, ◌∙◌, Option, Some, None, is_some, slice_index_or, true≢false, arith}
 use Rattle.std.specs.Prelude.{option_map, option_and_then}
+use Rattle.std.specs.Borrow.{Bor}
 use Rattle.std.specs.List.{cons_option}
 use Rattle.std.specs.Ordering.{eq_by_cmp}
 use Rattle.std.specs.FinMap.{entries}
@@ -8,11 +9,11 @@ use Rattle.std.proofs.Math.Seq.{take-length}
 use Rattle.std.proofs.lemmas.List.{take_more}
 use Rattle.std.proofs.lemmas.List.Elements.{filter_map-append}
 use Rattle.syn_model.specs.Path.{Name, Path, path_cmp, strip_prefix}
-use Rattle.syn_model.specs.Tree.{Tree, Pair}
+use Rattle.syn_model.specs.Tree.{Tree, Pair, is_directory_content}
 use Rattle.syn_model.specs.Limits.{children, only_name}
 use Rattle.syn_model.proofs.PathLemmas.{same_path, strip_prefix-append}
 use Rattle.syn_placed.specs.Pairs.{Pairs, rooted, is_child}
-use Rattle.syn_tree.specs.Lists.{child_contents}
+use Rattle.syn_tree.specs.Lists.{child_contents, contents_at, kinds_of}
 
 no_name : (o : Option Name) → is_some o ≡ false → o ≡ None
 no_name None h = refl
@@ -45,3 +46,8 @@ pub contents-more : (above : Path) (list : Pairs) (i : ℕ) (x : Pair) → i < l
 contents-more above list i x l is =
     ap (child_contents above) (take_more list i x l ∙ ap (λ y. take i list ++ y ∷ []) (sym is))
     ∙ filter_map-append (λ pair. option_map (λ name. (name, pair.1)) (option_and_then only_name (strip_prefix above pair.0))) (take i list) (x ∷ [])
+
+-- one child more has one kind more
+pub kinds-more : (xs : List (Name × Bor Pair)) (x : Name × Bor Pair) → kinds_of (contents_at (xs ++ x ∷ [])) ≡ kinds_of (contents_at xs) ++ (x.0, is_directory_content (Some x.1.now.1)) ∷ []
+kinds-more [] x = refl
+kinds-more (y ∷ ys) x = ap (λ zs. (y.0, is_directory_content (Some y.1.now.1)) ∷ zs) (kinds-more ys x)

@@ -1,11 +1,11 @@
 -- The limits after a change, by what is counted before it.
-use Rattle.std.proofs.Common.{◌≡◌, ◌≤◌, ◌+◌, ◌-◌, ℕ, suc, Bool, true, false, not, ◌==◌, ◌&&◌, ◌||◌, nat_le, nat_lt, length, None, sym, ap, ap₂, ◌∙◌, subst, arith}
+use Rattle.std.proofs.Common.{◌≡◌, ◌≤◌, ◌+◌, ◌-◌, ℕ, zero, suc, [], ◌∷◌, slice_index_or, Bool, true, false, not, ◌==◌, ◌&&◌, ◌||◌, nat_le, nat_lt, length, None, sym, ap, ap₂, ◌∙◌, subst, arith}
 use Rattle.std.specs.FinMap.{entries, len, len-entries}
 use Rattle.std.proofs.lemmas.Bool.{and_parts}
 use Rattle.std.proofs.lemmas.Bool.Decides.{nat_tests}
-use Rattle.syn_model.specs.Path.{Path, root, is_root, parent}
+use Rattle.syn_model.specs.Path.{Name, Path, root, is_root, parent}
 use Rattle.syn_model.specs.Tree.{Tree, replace, is_present}
-use Rattle.syn_model.specs.Limits.{fits_replica, fits_part, fits_paths, tree_spelling_length, greatest_spelling}
+use Rattle.syn_model.specs.Limits.{fits_replica, fits_part, fits_paths, tree_spelling_length, greatest_spelling, last_name_spelling_length}
 use Rattle.syn_model.specs.Refusal.{first_cause}
 use Rattle.syn_model.specs.Standing.{place_causes}
 use Rattle.syn_placed.specs.Pairs.{Pairs, rooted, tree_with, within, spelling_length}
@@ -72,3 +72,11 @@ measured ds s cap at u nodes size count long room kept place of counts longs roo
     ap₂ (λ a b. a && b) (ap₂ (λ a b. a && b) (sym (one_less count) ∙ ap (λ n. nat_le n 1024) many) (ap (λ n. nat_le n 524288) much)) roomy
     ∙ sym (fits-replaced t at u kept.fits of.limits of.paths free.0 free.1
     ∙ ap (λ xs. nat_le (length (replaced at xs (entries u))) 1024 && nat_le (spelling_length (replaced at xs (entries u))) greatest_spelling && has_room t at u) es)
+
+-- the last name is spelled with its length and its bytes
+pub last_name-spelled : (path : Path) (name : Name) (k : ℕ) → k + 1 ≡ length path → name ≡ slice_index_or path k name → 1 + length name ≡ last_name_spelling_length path
+last_name-spelled [] name k long is = absurd (omega arith)
+last_name-spelled (n ∷ []) name zero long is = ap (λ x. 1 + length x) is
+last_name-spelled (n ∷ []) name (suc k) long is = absurd (omega arith)
+last_name-spelled (n ∷ m ∷ path) name zero long is = absurd (omega arith)
+last_name-spelled (n ∷ m ∷ path) name (suc k) long is = last_name-spelled (m ∷ path) name k (omega arith) is

@@ -42,7 +42,7 @@ fn placed_file(alloc: Global, at: &Path, bytes: Vec<u8>) -> Result<Vec<Entry>, T
     if bytes.len() > LONGEST_FILE {
         return Err(TreeError::Full);
     }
-    let mut list = Vec::with_capacity(alloc, 1)?;
+    let mut list = Vec::new(alloc);
     list.push(Entry::new(at.copy(alloc)?, Content::File(bytes)))?;
     Ok(list)
 }
@@ -54,7 +54,7 @@ fn placed_directory(alloc: Global, at: &Path, entries: Entries) -> Result<Vec<En
         × FitsNowhere at.now entries) }
 {
     is_path(at);
-    let mut list = Vec::with_capacity(alloc, 1)?;
+    let mut list = Vec::new(alloc);
     list.push(Entry::new(at.copy(alloc)?, Content::Dir))?;
     push_under(alloc, &mut list, at, entries.into_vec())?;
     Ok(list)

@@ -1,6 +1,9 @@
-use Rattle.std.proofs.Common.{◌≡◌, ◌+◌, arith}
-use Rattle.syn_disk.specs.Disk.{Only, overwritten}
+use Rattle.std.proofs.Common.{◌≡◌, ◌∙◌, ◌+◌, [], ◌∷◌, ap, sym, subst, arith}
+use Rattle.std.specs.Prelude.{OnOk}
+use Rattle.std.proofs.lemmas.Result.{on_ok_weaker}
+use Rattle.syn_disk.specs.Disk.{Only, CountsFailure, overwritten}
 use Rattle.syn_journal.specs.inner.Commit.{IsStagedOrOpened}
+use Rattle.syn_journal.specs.Layout.{open_gate}
 use Rattle.syn_journal.proofs.Calls.{fewer, one_breaks, one_made, one_up_to, then_breaks, then_made, then_up_to, up_to_of_exit}
 use Rattle.syn_journal.proofs.Commits.{at_first, staged, opened}
 use Rattle.syn_journal.proofs.Moments.{started, goes_on}
@@ -74,3 +77,44 @@ returns-clause-calls g c =
     let synced = then_made 1 1 a b d written (one_made b d c.in_ok-sync.ensures.allowed c.sync.ensures.arms) in
     let opened = then_made 2 1 a d e synced (one_made d e c.in_ok-write-2.ensures.allowed c.write-2.ensures.arms) in
     then_up_to 3 1 c.sync-2.result a e f opened (one_up_to c.sync-2.result e f c.sync-2.ensures.allowed c.sync-2.ensures.arms)
+
+pub returns-in_err-write-clause-any_moment : goal.returns-in_err-write-clause-any_moment
+returns-in_err-write-clause-any_moment g c only =
+    let start = g.D.Disk.seen c.args.disk.now in
+    let gate = c.args.gate in
+    let body = c.args.body.now in
+    let P = IsStagedOrOpened start gate body in
+    let first = staged start gate body _ _ only c.write.ensures.stop in
+    let run = goes_on g.D.Disk.moment g.D.Disk.left_since c.args.disk.now in
+    let at_start = started g.D.Disk.moment g.D.Disk.left_since c.args.disk.now P (λ d left. at_first start gate body _ only d (g.met.D.Disk.only_now c.args.disk.now d left)) in
+    run c.args.disk.now c.write.new.self P _ at_start c.write.ensures.time first
+
+pub returns-in_err-sync-clause-any_moment : goal.returns-in_err-sync-clause-any_moment
+returns-in_err-sync-clause-any_moment g c only =
+    let start = g.D.Disk.seen c.args.disk.now in
+    let gate = c.args.gate in
+    let body = c.args.body.now in
+    let P = IsStagedOrOpened start gate body in
+    let first = staged start gate body _ _ only c.write.ensures.stop in
+    let run = goes_on g.D.Disk.moment g.D.Disk.left_since c.args.disk.now in
+    let at_start = started g.D.Disk.moment g.D.Disk.left_since c.args.disk.now P (λ d left. at_first start gate body _ only d (g.met.D.Disk.only_now c.args.disk.now d left)) in
+    let behind = run c.args.disk.now c.write.new.self P _ at_start c.write.ensures.time first in
+    run c.write.new.self c.sync.new.self P _ behind c.sync.ensures.time (λ d now. first d (c.sync.ensures.stop d now))
+
+pub returns-clause-written : goal.returns-clause-written
+returns-clause-written g c =
+    let start = g.D.Disk.seen c.args.disk.now in
+    let gate = c.args.gate in
+    let staged = c.sync.ensures.seen ∙ c.in_ok-write.ensures.written in
+    let opened = c.sync-2.ensures.seen ∙ c.in_ok-write-2.ensures.written ∙ ap (λ bytes. overwritten bytes gate (open_gate ∷ [])) staged in
+    on_ok_weaker c.sync-2.result (λ _. opened) c.sync-2.ensures.allowed
+
+pub returns-clause-durable : goal.returns-clause-durable
+returns-clause-durable g c =
+    let left = g.D.Disk.may_leave c.sync-2.new.self in
+    subst (λ bytes. OnOk c.sync-2.result (Only bytes left)) (sym c.sync-2.ensures.seen) c.sync-2.ensures.durable
+
+pub returns-clause-count : goal.returns-clause-count
+returns-clause-count g c =
+    let none = c.in_ok-write-2.ensures.count ∙ c.in_ok-sync.ensures.count ∙ c.in_ok-write.ensures.count in
+    subst (λ n. CountsFailure c.sync-2.result n (g.D.Disk.failures c.sync-2.new.self)) none c.sync-2.ensures.count

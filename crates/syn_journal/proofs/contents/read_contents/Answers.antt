@@ -6,7 +6,8 @@ use Rattle.syn_journal.specs.Opened.{payloads_of}
 use Rattle.syn_journal.specs.Refusals.{IsOpenRefusal}
 use Rattle.syn_journal.specs.inner.Reading.{IsReadRefusal}
 use Rattle.syn_journal.proofs.Openings.{if_err_by, refused_by_halves, refused_by_value, refused_by_records, front_read}
-use Rattle.syn_journal.proofs.Calls.{one_broke, one_read, reads_of_exit, then_after, then_some}
+use Rattle.syn_journal.proofs.Calls.{one_broke, one_read, reads_of_exit, then_after, then_some, match_of_exit, counts_of_exit}
+use Rattle.syn_journal.proofs.Moments.{one_call, and_then}
 use Rattle.syn_journal.proofs.contents.read_contents.Goals as goal
 
 pub returns-in_err-half-clause-refusals : goal.returns-in_err-half-clause-refusals
@@ -124,3 +125,59 @@ returns-clause-calls g c =
     let third = then_some 1 old chosen image second c.in_ok-image.ensures.calls in
     then_some 1 old image (g.D.Disk.arms c.read_records.new.disk) third
     c.in_ok-records.ensures.calls
+
+pub returns-in_err-sync-clause-count : goal.returns-in_err-sync-clause-count
+returns-in_err-sync-clause-count g c =
+    match_of_exit c.from_residual.result _ _ _ c.from_residual.ensures.1 c.in_err-sync.ensures.count
+
+pub returns-in_err-half-clause-count : goal.returns-in_err-half-clause-count
+returns-in_err-half-clause-count g c =
+    counts_of_exit c.from_residual-in_err-half.result _ (g.D.Disk.failures c.args.disk.now) (g.D.Disk.failures c.sync.new.self) (g.D.Disk.failures c.read_current.new.disk) c.from_residual-in_err-half.ensures.1
+    c.in_ok-sync.ensures.count c.in_err-half.ensures.count
+
+pub returns-in_err-image-clause-count : goal.returns-in_err-image-clause-count
+returns-in_err-image-clause-count g c =
+    counts_of_exit c.from_residual-in_err-image.result _ (g.D.Disk.failures c.args.disk.now) (g.D.Disk.failures c.read_current.new.disk) (g.D.Disk.failures c.read_image.new.disk) c.from_residual-in_err-image.ensures.1
+    (c.in_ok-half.ensures.count ∙ c.in_ok-sync.ensures.count) c.in_err-image.ensures.count
+
+pub returns-in_err-records-clause-count : goal.returns-in_err-records-clause-count
+returns-in_err-records-clause-count g c =
+    counts_of_exit c.from_residual-in_err-records.result _ (g.D.Disk.failures c.args.disk.now) (g.D.Disk.failures c.read_image.new.disk) (g.D.Disk.failures c.read_records.new.disk) c.from_residual-in_err-records.ensures.1
+    (c.in_ok-image.ensures.count ∙ c.in_ok-half.ensures.count ∙ c.in_ok-sync.ensures.count) c.in_err-records.ensures.count
+
+pub returns-clause-count : goal.returns-clause-count
+returns-clause-count g c =
+    c.in_ok-records.ensures.count ∙ c.in_ok-image.ensures.count ∙ c.in_ok-half.ensures.count ∙ c.in_ok-sync.ensures.count
+
+pub returns-in_err-sync-clause-untouched : goal.returns-in_err-sync-clause-untouched
+returns-in_err-sync-clause-untouched g c =
+    one_call g.met.D.Disk.only_now c.args.disk.now c.sync.new.self c.sync.ensures.seen c.sync.ensures.stop c.sync.ensures.time
+
+pub returns-in_err-half-clause-untouched : goal.returns-in_err-half-clause-untouched
+returns-in_err-half-clause-untouched g c =
+    let disk = c.args.disk.now in
+    let synced = one_call g.met.D.Disk.only_now disk c.sync.new.self c.sync.ensures.seen c.sync.ensures.stop c.sync.ensures.time in
+    and_then disk c.sync.new.self c.read_current.new.disk synced c.in_err-half.ensures.untouched
+
+pub returns-in_err-image-clause-untouched : goal.returns-in_err-image-clause-untouched
+returns-in_err-image-clause-untouched g c =
+    let disk = c.args.disk.now in
+    let synced = one_call g.met.D.Disk.only_now disk c.sync.new.self c.sync.ensures.seen c.sync.ensures.stop c.sync.ensures.time in
+    let chosen = and_then disk c.sync.new.self c.read_current.new.disk synced c.in_ok-half.ensures.untouched in
+    and_then disk c.read_current.new.disk c.read_image.new.disk chosen c.in_err-image.ensures.untouched
+
+pub returns-in_err-records-clause-untouched : goal.returns-in_err-records-clause-untouched
+returns-in_err-records-clause-untouched g c =
+    let disk = c.args.disk.now in
+    let synced = one_call g.met.D.Disk.only_now disk c.sync.new.self c.sync.ensures.seen c.sync.ensures.stop c.sync.ensures.time in
+    let chosen = and_then disk c.sync.new.self c.read_current.new.disk synced c.in_ok-half.ensures.untouched in
+    let imaged = and_then disk c.read_current.new.disk c.read_image.new.disk chosen c.in_ok-image.ensures.untouched in
+    and_then disk c.read_image.new.disk c.read_records.new.disk imaged c.in_err-records.ensures.untouched
+
+pub returns-clause-untouched : goal.returns-clause-untouched
+returns-clause-untouched g c =
+    let disk = c.args.disk.now in
+    let synced = one_call g.met.D.Disk.only_now disk c.sync.new.self c.sync.ensures.seen c.sync.ensures.stop c.sync.ensures.time in
+    let chosen = and_then disk c.sync.new.self c.read_current.new.disk synced c.in_ok-half.ensures.untouched in
+    let imaged = and_then disk c.read_current.new.disk c.read_image.new.disk chosen c.in_ok-image.ensures.untouched in
+    and_then disk c.read_image.new.disk c.read_records.new.disk imaged c.in_ok-records.ensures.untouched

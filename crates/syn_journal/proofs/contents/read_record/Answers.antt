@@ -1,10 +1,13 @@
-use Rattle.std.proofs.Common.{◌≡◌, ◌∙◌, ◌+◌, ◌≤◌, ap, take, drop, length, arith}
+use Rattle.std.proofs.Common.{◌≡◌, ◌∙◌, ◌+◌, ◌≤◌, ap, subst, take, drop, length, arith}
+use Rattle.std.specs.Prelude.{MatchResult}
 use Rattle.std.specs.Int.{w32, to_be_bytes}
 use Rattle.syn_disk.specs.declared.disk.TheConstants.{DISK_SIZE}
 use Rattle.syn_journal.specs.Layout.{half_size, start_of}
+use Rattle.syn_journal.specs.Refusals.{CountsFailures}
 use Rattle.syn_journal.proofs.Meanings.{within_disk}
 use Rattle.syn_journal.proofs.Openings.{if_ok_both, with_word, with_gate}
-use Rattle.syn_journal.proofs.Calls.{no_reads, then_reads}
+use Rattle.syn_journal.proofs.Calls.{no_reads, then_reads, match_of_exit, reads_of_exit}
+use Rattle.syn_journal.proofs.Moments.{no_call, and_then}
 use Rattle.syn_journal.proofs.contents.read_record.Goals as goal
 
 pub returns-clause-payload : goal.returns-clause-payload
@@ -34,3 +37,32 @@ returns-clause-calls g c =
 
 pub returns-then-size-gate-clause-calls : goal.returns-then-size-gate-clause-calls
 returns-then-size-gate-clause-calls g c = c.in_ok-size.ensures.calls
+
+pub returns-in_err-size-clause-count : goal.returns-in_err-size-clause-count
+returns-in_err-size-clause-count g c =
+    match_of_exit c.from_residual.result _ _ _ c.from_residual.ensures.1 c.in_err-size.ensures.count
+
+pub returns-in_err-size-clause-calls : goal.returns-in_err-size-clause-calls
+returns-in_err-size-clause-calls g c =
+    reads_of_exit 0 c.from_residual.result _ (g.D.Disk.arms c.args.disk.now) (g.D.Disk.arms c.read_u32.new.disk) c.from_residual.ensures.1 c.in_err-size.ensures.calls
+
+pub returns-in_err-size-clause-untouched : goal.returns-in_err-size-clause-untouched
+returns-in_err-size-clause-untouched g c = c.in_err-size.ensures.untouched
+
+pub returns-clause-count : goal.returns-clause-count
+returns-clause-count g c =
+    let new = g.D.Disk.failures c.read_bytes.new.disk in
+    subst (λ n. MatchResult c.read_bytes.result (λ _. new ≡ n) (λ refusal. CountsFailures refusal n new)) c.in_ok-size.ensures.count c.read_bytes.ensures.count
+
+pub returns-clause-untouched : goal.returns-clause-untouched
+returns-clause-untouched g c =
+    and_then c.args.disk.now c.read_u32.new.disk c.read_bytes.new.disk c.in_ok-size.ensures.untouched c.read_bytes.ensures.untouched
+
+pub returns-then-size-gate-clause-count : goal.returns-then-size-gate-clause-count
+returns-then-size-gate-clause-count g c = c.in_ok-size.ensures.count
+
+pub returns-then-size-gate-clause-untouched : goal.returns-then-size-gate-clause-untouched
+returns-then-size-gate-clause-untouched g c = c.in_ok-size.ensures.untouched
+
+pub returns-then-gate-lt-RECORD_OVERHEAD-clause-untouched : goal.returns-then-gate-lt-RECORD_OVERHEAD-clause-untouched
+returns-then-gate-lt-RECORD_OVERHEAD-clause-untouched g c = no_call g.met.D.Disk.only_now c.args.disk.now

@@ -7,7 +7,7 @@ use Rattle.syn_journal.specs.Opened.{payloads_of}
 use Rattle.syn_journal.specs.inner.Reading.{IsReadRefusal}
 use Rattle.syn_journal.proofs.Moments.{no_call, and_then}
 use Rattle.syn_journal.proofs.Openings.{read_more, read_damaged, if_err_by, read_refusal_weaker}
-use Rattle.syn_journal.proofs.Calls.{no_reads, reads_of_exit, then_after, then_broke, then_some}
+use Rattle.syn_journal.proofs.Calls.{no_reads, reads_of_exit, then_after, then_broke, then_some, match_of_exit, counts_of_exit}
 use Rattle.syn_journal.proofs.contents.read_records.Goals as goal
 
 pub loop-records-init : goal.loop-records-init
@@ -94,3 +94,39 @@ returns-in_err-push-clause-calls g c =
 pub returns-clause-calls : goal.returns-clause-calls
 returns-clause-calls g c =
     then_some 0 (g.D.Disk.arms c.args.disk.now) (g.D.Disk.arms c.loop-records.disk) (g.D.Disk.arms c.read_u8.new.disk) c.loop-records.invariant.calls c.in_ok-read_u8.ensures.calls
+
+pub returns-in_err-read_u8-clause-count : goal.returns-in_err-read_u8-clause-count
+returns-in_err-read_u8-clause-count g c =
+    counts_of_exit c.from_residual.result _ (g.D.Disk.failures c.args.disk.now) (g.D.Disk.failures c.loop-records.disk) (g.D.Disk.failures c.read_u8.new.disk) c.from_residual.ensures.1
+    c.loop-records.invariant.count c.in_err-read_u8.ensures.count
+
+pub returns-in_err-payload-clause-count : goal.returns-in_err-payload-clause-count
+returns-in_err-payload-clause-count g c =
+    counts_of_exit c.from_residual-in_err-payload.result _ (g.D.Disk.failures c.args.disk.now) (g.D.Disk.failures c.read_u8.new.disk) (g.D.Disk.failures c.read_record.new.disk) c.from_residual-in_err-payload.ensures.1
+    (c.in_ok-read_u8.ensures.count ∙ c.loop-records.invariant.count) c.in_err-payload.ensures.count
+
+pub returns-in_err-push-clause-count : goal.returns-in_err-push-clause-count
+returns-in_err-push-clause-count g c =
+    match_of_exit c.from_residual-in_err-push.result _ _ _ c.from_residual-in_err-push.ensures.1
+    (c.in_ok-payload.ensures.count ∙ c.in_ok-read_u8.ensures.count ∙ c.loop-records.invariant.count)
+
+pub returns-clause-count : goal.returns-clause-count
+returns-clause-count g c = c.in_ok-read_u8.ensures.count ∙ c.loop-records.invariant.count
+
+pub returns-in_err-read_u8-clause-untouched : goal.returns-in_err-read_u8-clause-untouched
+returns-in_err-read_u8-clause-untouched g c =
+    and_then c.args.disk.now c.loop-records.disk c.read_u8.new.disk c.loop-records.invariant.untouched c.in_err-read_u8.ensures.untouched
+
+pub returns-in_err-payload-clause-untouched : goal.returns-in_err-payload-clause-untouched
+returns-in_err-payload-clause-untouched g c =
+    and_then c.args.disk.now c.read_u8.new.disk c.read_record.new.disk
+    (and_then c.args.disk.now c.loop-records.disk c.read_u8.new.disk c.loop-records.invariant.untouched c.in_ok-read_u8.ensures.untouched) c.in_err-payload.ensures.untouched
+
+pub returns-in_err-push-clause-untouched : goal.returns-in_err-push-clause-untouched
+returns-in_err-push-clause-untouched g c =
+    and_then c.args.disk.now c.read_u8.new.disk c.read_record.new.disk
+    (and_then c.args.disk.now c.loop-records.disk c.read_u8.new.disk c.loop-records.invariant.untouched c.in_ok-read_u8.ensures.untouched) c.in_ok-payload.ensures.untouched
+
+pub returns-clause-untouched : goal.returns-clause-untouched
+returns-clause-untouched g c =
+    and_then c.args.disk.now c.loop-records.disk c.read_u8.new.disk c.loop-records.invariant.untouched c.in_ok-read_u8.ensures.untouched

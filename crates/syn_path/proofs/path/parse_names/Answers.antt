@@ -1,5 +1,6 @@
 use Rattle.std.proofs.Common.{rules, ◌≡◌, ◌++◌, ◌∷◌, ◌<◌, ◌+◌, ℕ, List, [], arith, map, length, get_or, take, subst, sym, ◌∙◌, ap, Bor, refl, Err}
 use Rattle.std.specs.Prelude.{All, IfErr}
+use Rattle.std.proofs.Math.Seq.{take-length}
 use Rattle.std.proofs.lemmas.Result.{err_from_is_err_and}
 use Rattle.std.proofs.lemmas.List.{map_more, get_or-map, length-map}
 use Rattle.std.proofs.lemmas.List.Elements.{All-append, All-cons, All-nil}
@@ -21,3 +22,14 @@ loop-piece-preserved c =
       so_far = rw (pushed, c.loop-piece.invariant.so_far, named.0) (sym (map_more (λ p. p.now) c.args.pieces.now c.loop-piece.piece-index _ c.loop-piece-test.true));
       lawful = rw pushed (All-append IsName c.loop-piece.names.items (c.in_ok-name.name ∷ []) c.loop-piece.invariant.lawful (All-cons IsName c.in_ok-name.name [] (rw named.0 named.1) (All-nil IsName)));
     }
+
+pub loop-piece-init : goal.loop-piece-init
+loop-piece-init c = record {
+  so_far = c.new-names.ensures.items;
+  lawful = rw c.new-names.ensures.items (All-nil IsName);
+}
+
+pub returns-clause-ok : goal.returns-clause-ok
+returns-clause-ok c =
+    let ended : c.loop-piece.piece-index ≡ length c.args.pieces.now = omega (arith, c.loop-piece-test.false, c.loop-piece.auto.piece-index-end) in
+    (c.loop-piece.invariant.so_far ∙ ap (map (λ p. p.now)) (ap (λ n. take n c.args.pieces.now) ended ∙ take-length c.args.pieces.now), c.loop-piece.invariant.lawful)

@@ -15,6 +15,6 @@ pub returns-clause-ok : goal.returns-clause-ok
 returns-clause-ok c =
     let at = c.args.at.now in
     let entry = c.new.ensures ∙ ap (λ (p : Path). (p, Directory)) c.in_ok-copy.ensures.ok in
-    let first = c.in_ok-push.ensures.items ∙ ap₂ (λ xs x. xs ++ x ∷ []) c.in_ok-list.ensures.items entry in
+    let first = c.in_ok-push.ensures.items ∙ ap₂ (λ xs x. xs ++ x ∷ []) c.new-list.ensures.items entry in
     let pairs = c.in_ok-push_under.ensures.ok ∙ ap (λ xs. xs ++ under at c.into_vec.result.items) first in
     placeable_directory at c.args.entries c.into_vec.result.items c.push_under.new.list.items c.is_path.ensures c.into_vec.ensures.tree c.into_vec.ensures.part c.into_vec.ensures.all pairs c.in_ok-push_under.ensures.paths

@@ -16,5 +16,5 @@ returns-clause-ok c =
     let bytes = c.args.bytes.items in
     let at = c.args.at.now in
     let entry = c.new.ensures ∙ ap (λ (p : Path). (p, File (contents_of bytes))) c.in_ok-copy.ensures.ok in
-    let pairs = c.in_ok-push.ensures.items ∙ ap₂ (λ xs x. xs ++ x ∷ []) c.in_ok-list.ensures.items entry in
+    let pairs = c.in_ok-push.ensures.items ∙ ap₂ (λ xs x. xs ++ x ∷ []) c.new-list.ensures.items entry in
     placeable_one at (File (contents_of bytes)) c.push.new.self.items c.is_path.ensures (subst AreBytes c.deref.ensures.value c.are_bytes.ensures) (le-leb (length bytes) 16384 (omega (arith, c.if-len-gt-LONGEST_FILE.false, c.len.ensures, c.args.bytes.ok))) pairs

@@ -4,10 +4,11 @@ use Rattle.syn_journal.specs.inner.Commit.{IsStagedOrOpened, body_of_record}
 use Rattle.syn_journal.specs.Layout.{half_size, open_gate, start_of, other_half, is_open, IsBeforeOrAfter, with_payload, meaning}
 use Rattle.syn_journal.specs.inner.Whole.{IsWhole}
 use Rattle.syn_journal.specs.Layout.{value_or_empty}
-use Rattle.syn_journal.proofs.Moments.{weakened}
+use Rattle.syn_journal.proofs.Moments.{weakened, not_written}
 use Rattle.syn_journal.proofs.Appends.{before_or_after}
 use Rattle.syn_journal.proofs.Whole.{appended, other_kept}
 use Rattle.syn_journal.proofs.Meanings.{in_step, has, sizes}
+use Rattle.syn_journal.proofs.Calls.{match_of_exit}
 use Rattle.syn_journal.proofs.journal.Journal.append.Goals as goal
 
 pub returns-in_err-commit-clause-any_moment : goal.returns-in_err-commit-clause-any_moment
@@ -80,3 +81,27 @@ invariant_of-self-2 g c =
     let other : is_open after (other_half journal.half) ≡ journal.other_is_open =
     ap (λ bytes. is_open bytes (other_half journal.half)) written ∙ other_kept seen journal.half journal.generation journal.gate _ step.whole payload body spells fits ∙ step.other in
     record { within = omega arith; in_step = λ _. in_step after journal.half journal.generation next _ whole _ journal.other_is_open other c.in_ok-commit.ensures.durable }
+
+pub returns-then-self-clause-any_moment : goal.returns-then-self-clause-any_moment
+returns-then-self-clause-any_moment g c value stands =
+    not_written g.met.D.Disk.only_now c.args.self.now value stands _ _
+
+pub returns-in_err-body-clause-any_moment : goal.returns-in_err-body-clause-any_moment
+returns-in_err-body-clause-any_moment g c value stands =
+    not_written g.met.D.Disk.only_now c.args.self.now value stands _ _
+
+pub returns-in_err-body-clause-failures : goal.returns-in_err-body-clause-failures
+returns-in_err-body-clause-failures g c =
+    match_of_exit c.from_residual.result _ _ _ c.from_residual.ensures.1 refl
+
+pub returns-in_err-body-clause-calls : goal.returns-in_err-body-clause-calls
+returns-in_err-body-clause-calls g c =
+    match_of_exit c.from_residual.result _ _ _ c.from_residual.ensures.1 refl
+
+pub returns-in_err-commit-clause-failures : goal.returns-in_err-commit-clause-failures
+returns-in_err-commit-clause-failures g c =
+    match_of_exit c.from_residual-in_err-commit.result _ _ _ c.from_residual-in_err-commit.ensures.1 c.in_err-commit.ensures.count
+
+pub returns-in_err-commit-clause-calls : goal.returns-in_err-commit-clause-calls
+returns-in_err-commit-clause-calls g c =
+    match_of_exit c.from_residual-in_err-commit.result _ _ _ c.from_residual-in_err-commit.ensures.1 c.in_err-commit.ensures.calls

@@ -5,6 +5,8 @@ use Rattle.syn_journal.specs.inner.Whole.{IsWhole}
 use Rattle.syn_journal.specs.Layout.{value_or_empty}
 use Rattle.syn_journal.proofs.Checkpoints.{twice}
 use Rattle.syn_journal.proofs.Meanings.{in_step, has, sizes}
+use Rattle.syn_journal.proofs.Moments.{not_written}
+use Rattle.syn_journal.proofs.Calls.{match_of_exit}
 use Rattle.syn_journal.proofs.journal.Journal.checkpoint.Goals as goal
 
 pub returns-in_err-replace-clause-any_moment : goal.returns-in_err-replace-clause-any_moment
@@ -80,3 +82,27 @@ invariant_of-self-2 g c =
       within = omega arith;
       in_step = λ _. in_step _ half (journal.generation + 1) (13 + length image) (image_alone image) written.0 _ true written.1 c.in_ok-replace.ensures.durable;
     }
+
+pub returns-then-self-clause-any_moment : goal.returns-then-self-clause-any_moment
+returns-then-self-clause-any_moment g c value stands =
+    not_written g.met.D.Disk.only_now c.args.self.now value stands _ _
+
+pub returns-in_err-body-clause-any_moment : goal.returns-in_err-body-clause-any_moment
+returns-in_err-body-clause-any_moment g c value stands =
+    not_written g.met.D.Disk.only_now c.args.self.now value stands _ _
+
+pub returns-in_err-body-clause-failures : goal.returns-in_err-body-clause-failures
+returns-in_err-body-clause-failures g c =
+    match_of_exit c.from_residual.result _ _ _ c.from_residual.ensures.1 refl
+
+pub returns-in_err-body-clause-calls : goal.returns-in_err-body-clause-calls
+returns-in_err-body-clause-calls g c =
+    match_of_exit c.from_residual.result _ _ _ c.from_residual.ensures.1 refl
+
+pub returns-in_err-replace-clause-failures : goal.returns-in_err-replace-clause-failures
+returns-in_err-replace-clause-failures g c =
+    match_of_exit c.from_residual-in_err-replace.result _ _ _ c.from_residual-in_err-replace.ensures.1 c.in_err-replace.ensures.count
+
+pub returns-in_err-replace-clause-calls : goal.returns-in_err-replace-clause-calls
+returns-in_err-replace-clause-calls g c =
+    match_of_exit c.from_residual-in_err-replace.result _ _ _ c.from_residual-in_err-replace.ensures.1 c.in_err-replace.ensures.calls

@@ -1,0 +1,18 @@
+use Rattle.std.proofs.Common.{◌≡◌, ◌++◌, ◌∷◌, [], take, length, sym, ap, ap₂, ◌∙◌, arith}
+use Rattle.std.proofs.Math.Seq.{take-length}
+use Rattle.std.proofs.lemmas.List.{take_more}
+use Rattle.syn_path.proofs.path.copy_names.Goals as goal
+
+pub loop-name-init : goal.loop-name-init
+loop-name-init c = c.in_ok-names.ensures.items
+
+pub loop-name-preserved : goal.loop-name-preserved
+loop-name-preserved c =
+    let read = take_more c.args.source.now c.loop-name.name-index c.name-item.result c.loop-name-test.true in
+    c.in_ok-push.ensures.items ∙ (ap₂ (λ xs x. xs ++ x ∷ []) c.loop-name.invariant (c.in_ok-copy.ensures.ok ∙ c.name-item.is) ∙ sym read)
+
+pub returns-clause-ok : goal.returns-clause-ok
+returns-clause-ok c =
+    let ended : c.loop-name.name-index ≡ length c.args.source.now = omega (arith, c.loop-name-test.false, c.loop-name.auto.name-index-end) in
+    c.loop-name.invariant ∙ (ap (λ n. take n c.args.source.now) ended ∙ take-length c.args.source.now)
+
