@@ -1,16 +1,24 @@
 -- Which refusals a call may answer.
-use Rattle.std.proofs.Common.{◌≡◌, ◌⊎◌, ℕ, Bool, true, false, ◌||◌, ◌==◌, List, [], ◌∷◌, refl, sym, ap₂, ◌∙◌, subst, Option, Some, None, Result, Ok, Err, inl, inr, true≢false, arith}
-use Rattle.std.specs.Prelude.{IsErrAnd, IfErr, OnOk}
+use Rattle.std.proofs.Common.{◌≡◌, ◌⊎◌, ℕ, Bool, true, false, ◌||◌, ◌==◌, List, [], ◌∷◌, refl, sym, ap, ap₂, ◌∙◌, subst, Option, Some, None, Result, Ok, Err, inl, inr, true≢false, arith}
+use Rattle.std.specs.Prelude.{IsErrAnd, IfErr, OnOk, MatchResult}
 use Rattle.std.specs.List.{list_any, AllByRecursion}
 use Rattle.std.proofs.lemmas.Bool.Decides.{nat_tests}
 use Rattle.std.proofs.lemmas.Option.{none-some, same_Some}
 use Rattle.syn_model.specs.Refusal.{Refusal, number, Cause, first_cause}
 use Rattle.syn_model.specs.Refusal as why
-use Rattle.syn_model.specs.Event.{Edit, Put, MakeDir, Remove, Edited}
+use Rattle.syn_model.specs.Event.{Edit, Event, Put, MakeDir, Remove, Edited, Began, Replaced}
 use Rattle.syn_model.specs.Standing.{Standing, causes_at, refusal_at}
-use Rattle.syn_replica.specs.Refusals.{IsOneOf, edit_refusals, outside_refusals}
+use Rattle.syn_disk.specs.Arms.{Arms}
+use Rattle.syn_disk.specs.declared.disk.Disk.{Ghosts}
+use Rattle.syn_journal.specs.declared.error.JournalError.TheVariants as journal
+use Rattle.syn_replica.specs.Refusals.{IsOneOf, CountsFailures, MakesIfDevice, edit_refusals, outside_refusals}
+use Rattle.syn_replica.specs.Replica.{Tries}
+use Rattle.syn_replica.specs.declared.replica.Replica.{Replica}
+use Rattle.syn_standing.proofs.StandingLemmas.{early_at}
+use Rattle.syn_standing.specs.Updates.{early_causes}
 use Rattle.syn_standing.specs.Refusals.{refusal_of}
 use Rattle.syn_standing.specs.declared.error.ReplicaError.{ReplicaError}
+use Rattle.syn_standing.specs.declared.error.ReplicaError.TheVariants as replica
 
 abbrev pub is_among : List Refusal → Refusal → Bool
 is_among refusals refusal = list_any (λ why. number why == number refusal) refusals
@@ -93,3 +101,120 @@ refused_by (Err x) answered cause e none device told = elim told as (λ _. (refu
   ]
   | inr is ↦ inl (same_refusal x cause answered is e)
 ]
+
+-- a refusal for want of memory is one that no history is the cause of
+pub outside_or : (P : Type 0) (e : ReplicaError) → (refusal_of e ≡ why.Memory) ⊎ P → IsOneOf outside_refusals e ⊎ P
+outside_or P e (inl memory) = inl (ap (is_among outside_refusals) memory)
+outside_or P e (inr cause) = inr cause
+
+-- what is answered is the cause that stands, or want of memory
+pub memory_or_cause : (answered : Option Refusal) (e : ReplicaError) (cause : Refusal) → (refusal_of e ≡ why.Memory) ⊎ (answered ≡ Some (refusal_of e)) → answered ≡ Some cause → (refusal_of e ≡ cause) ⊎ (refusal_of e ≡ why.Memory)
+memory_or_cause answered e cause (inl memory) stands = inr memory
+memory_or_cause answered e cause (inr told) stands = inl (same_Some _ _ (sym told ∙ stands))
+
+pub is_err_of_exit : {X : Type 0} (r : Result X ReplicaError) (e : ReplicaError) → IsErrAnd r (λ x. x ≡ e) → (Q : ReplicaError → Type 0) → Q e → IsErrAnd r Q
+is_err_of_exit (Ok x) e is Q holds = absurd is
+is_err_of_exit (Err x) e is Q holds = subst Q (sym is) holds
+
+-- what a clause says of each refusal, where all are for what no history is the cause of
+pub or_outside : {X : Type 0} (Q : ReplicaError → Type 0) (r : Result X ReplicaError) → IfErr r (IsOneOf outside_refusals) → IfErr r (λ e. IsOneOf outside_refusals e ⊎ Q e)
+or_outside Q (Ok x) h = tt
+or_outside Q (Err x) h = inl h
+
+-- what holds, whatever was answered
+pub whatever_ok : {X : Type 0} (P : Type 0) → P → (r : Result X ReplicaError) → OnOk r P
+whatever_ok P holds (Ok x) = holds
+whatever_ok P holds (Err x) = tt
+
+pub whatever_why : {X : Type 0} (w : Refusal) (P : Type 0) → P → (r : Result X ReplicaError) → IfErr r (λ e. refusal_of e ≡ w → P)
+whatever_why w P holds (Ok x) = tt
+whatever_why w P holds (Err x) = λ _. holds
+
+-- ---- a refusal of want of memory, or of what a history is the cause of
+
+abbrev pub inner_refusals : List Refusal
+inner_refusals = why.Memory ∷ why.Root ∷ why.NoParent ∷ why.IsDirectory ∷ why.Exists ∷ why.Absent ∷ why.Full ∷ why.OldSession ∷ []
+
+cause_among : (standing : Standing) (event : Event) (refusal : Refusal) → refusal_at standing event ≡ Some refusal → is_among inner_refusals refusal ≡ true
+cause_among s (Edited user (Put path bytes)) refusal e = first_among inner_refusals (causes_at s (Edited user (Put path bytes))) refusal (refl, (refl, (refl, (refl, (refl, tt))))) e
+cause_among s (Edited user (MakeDir path)) refusal e = first_among inner_refusals (causes_at s (Edited user (MakeDir path))) refusal (refl, (refl, (refl, (refl, (refl, tt))))) e
+cause_among s (Edited user (Remove path)) refusal e = first_among inner_refusals (causes_at s (Edited user (Remove path))) refusal (refl, (refl, (refl, (refl, (refl, tt))))) e
+cause_among s (Began session) refusal e = first_among inner_refusals (causes_at s (Began session)) refusal (refl, (refl, tt)) e
+cause_among s (Replaced token path since new) refusal e = first_among inner_refusals (causes_at s (Replaced token path since new)) refusal (refl, (refl, (refl, (refl, (refl, tt))))) e
+
+pub inner_among : (standing : Standing) (event : Event) (e : ReplicaError) → (refusal_of e ≡ why.Memory) ⊎ (refusal_at standing event ≡ Some (refusal_of e)) → IsOneOf inner_refusals e
+inner_among s event e (inl memory) = subst (λ w. is_among inner_refusals w ≡ true) (sym memory) refl
+inner_among s event e (inr cause) = cause_among s event (refusal_of e) cause
+
+pub early_among : (standing : Standing) (event : Event) (e : ReplicaError) → Some (refusal_of e) ≡ first_cause (early_causes standing event) → IsOneOf inner_refusals e
+early_among s event e early = cause_among s event (refusal_of e) (early_at s event (refusal_of e) (sym early))
+
+-- a refusal that is among these is none that is not
+pub never : (refusals : List Refusal) (w : Refusal) → is_among refusals w ≡ false → (e : ReplicaError) → IsOneOf refusals e → refusal_of e ≡ w → ⊥
+never refusals w none e h same = true≢false (sym (subst (λ r. is_among refusals r ≡ true) same h) ∙ none)
+
+no_failure : (e : ReplicaError) (n : ℕ) → (refusal_of e ≡ why.Device → ⊥) → CountsFailures e n n
+no_failure (replica.Journal journal.Device) n quiet = absurd (quiet refl)
+no_failure (replica.Journal journal.Halted) n quiet = refl
+no_failure (replica.Journal journal.Full) n quiet = refl
+no_failure (replica.Journal journal.JournalFull) n quiet = refl
+no_failure (replica.Journal journal.Memory) n quiet = refl
+no_failure (replica.Journal journal.NoImage) n quiet = refl
+no_failure (replica.Journal journal.Damaged) n quiet = refl
+no_failure (replica.Tree error) n quiet = refl
+no_failure (replica.History error) n quiet = refl
+no_failure replica.Memory n quiet = refl
+no_failure replica.Touched n quiet = refl
+no_failure replica.OldSession n quiet = refl
+no_failure replica.Damaged n quiet = refl
+no_failure replica.WrongPair n quiet = refl
+
+no_calls : (e : ReplicaError) (most : ℕ) (arms : Arms) → (refusal_of e ≡ why.Device → ⊥) → MakesIfDevice e most arms arms
+no_calls (replica.Journal journal.Device) most arms quiet = absurd (quiet refl)
+no_calls (replica.Journal journal.Halted) most arms quiet = refl
+no_calls (replica.Journal journal.Full) most arms quiet = refl
+no_calls (replica.Journal journal.JournalFull) most arms quiet = refl
+no_calls (replica.Journal journal.Memory) most arms quiet = refl
+no_calls (replica.Journal journal.NoImage) most arms quiet = refl
+no_calls (replica.Journal journal.Damaged) most arms quiet = refl
+no_calls (replica.Tree error) most arms quiet = refl
+no_calls (replica.History error) most arms quiet = refl
+no_calls replica.Memory most arms quiet = refl
+no_calls replica.Touched most arms quiet = refl
+no_calls replica.OldSession most arms quiet = refl
+no_calls replica.Damaged most arms quiet = refl
+no_calls replica.WrongPair most arms quiet = refl
+
+-- what holds of the refusal holds of the exit
+module _ {X : Type 0} (r : Result X ReplicaError) (e : ReplicaError) (is : IsErrAnd r (λ x. x ≡ e)) where
+  pub match_of_exit : (P : X → Type 0) (Q : ReplicaError → Type 0) → Q e → MatchResult r P Q
+  match_of_exit P Q holds = at r is
+    where
+      at : (r : Result X ReplicaError) → IsErrAnd r (λ x. x ≡ e) → MatchResult r P Q
+      at (Ok x) same = absurd same
+      at (Err x) same = subst Q (sym same) holds
+
+  pub if_err_of_exit : (Q : ReplicaError → Type 0) → Q e → IfErr r Q
+  if_err_of_exit Q holds = at r is
+    where
+      at : (r : Result X ReplicaError) → IsErrAnd r (λ x. x ≡ e) → IfErr r Q
+      at (Ok x) same = absurd same
+      at (Err x) same = subst Q (sym same) holds
+
+  -- where no device call failed, and nothing changed
+  module _ (quiet : refusal_of e ≡ why.Device → ⊥) where
+    pub quiet_failures : (P : X → Type 0) (n : ℕ) → MatchResult r P (λ e. CountsFailures e n n)
+    quiet_failures P n = match_of_exit P (λ e. CountsFailures e n n) (no_failure e n quiet)
+
+    pub quiet_calls : (P : X → Type 0) (most : ℕ) (arms : Arms) → MatchResult r P (λ e. MakesIfDevice e most arms arms)
+    quiet_calls P most arms = match_of_exit P (λ e. MakesIfDevice e most arms arms) (no_calls e most arms quiet)
+
+    pub quiet_device : (Q : Type 0) → IfErr r (λ e. refusal_of e ≡ why.Device → Q)
+    quiet_device Q = if_err_of_exit (λ e. refusal_of e ≡ why.Device → Q) (λ device. absurd (quiet device))
+
+    pub quiet_tries : {D : Type 0} {disk : Ghosts D} (old : Replica D disk) (event : Event) → Tries old old event r
+    quiet_tries old event = at r is
+      where
+        at : (r : Result X ReplicaError) → IsErrAnd r (λ x. x ≡ e) → Tries old old event r
+        at (Ok x) same = absurd same
+        at (Err x) same = inr ((λ device. quiet (ap refusal_of (sym same) ∙ device)), refl)

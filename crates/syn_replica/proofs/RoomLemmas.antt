@@ -1,15 +1,23 @@
 -- Why an event is not added, with so much room in the journal.
-use Rattle.std.proofs.Common.{◌≡◌, ◌<◌, ◌≤◌, ℕ, true, false, if◌then◌else◌, nat_lt, List, ◌∷◌, ◌++◌, length, ap, ◌∙◌, Some, None, arith}
+use Rattle.std.proofs.Common.{◌≡◌, ◌<◌, ◌≤◌, ℕ, true, false, if◌then◌else◌, nat_lt, List, ◌∷◌, ◌++◌, ◌⊎◌, length, ap, sym, subst, ◌∙◌, Option, Some, None, refl, Result, Ok, Err, inl, inr, arith}
 use Rattle.std.specs.Int.{to_be_bytes, w32, w64}
+use Rattle.std.specs.Prelude.{IfErr, IsErrAnd}
 use Rattle.std.proofs.lemmas.Bool.Decides.{nat_tests}
-use Rattle.syn_model.specs.Event.{Put, MakeDir, Remove, Event, Edited, Began, Replaced}
-use Rattle.syn_model.specs.Path.{path_spelling}
+use Rattle.syn_model.specs.Event.{Edit, Put, MakeDir, Remove, Token, Event, Edited, Began, Replaced}
+use Rattle.syn_model.specs.Path.{Path, path_spelling}
+use Rattle.syn_model.specs.Tree.{Tree}
 use Rattle.syn_model.specs.Refusal.{Refusal, first_cause}
 use Rattle.syn_model.specs.Refusal as why
 use Rattle.syn_model.specs.Spelling.{event_spelling, spelling, token_spelling}
 use Rattle.syn_model.specs.Standing.{Standing, causes_at, refusal_at}
 use Rattle.syn_standing.specs.Updates.{early_causes}
 use Rattle.syn_standing.proofs.CauseLemmas.{first_stays, first_skips}
+use Rattle.syn_standing.specs.Refusals.{refusal_of}
+use Rattle.syn_standing.specs.declared.error.ReplicaError.{ReplicaError}
+use Rattle.syn_standing.specs.declared.error.ReplicaError.TheVariants.{Journal}
+use Rattle.syn_journal.specs.declared.error.JournalError.TheVariants.{JournalFull}
+use Rattle.syn_replica.proofs.RefusalLemmas.{is_among, first_among, outside_among}
+use Rattle.syn_replica.specs.Refusals.{IsOneOf, begin_refusals, edit_refusals, outside_refusals, replace_refusals}
 use Rattle.syn_replica.specs.Steps.{room_causes}
 use Rattle.syn_replica.specs.inner.Additions.{add_refusal_at}
 
@@ -32,6 +40,40 @@ room_passed room standing event none fits =
 
 pub refused_at : (room : ℕ) (standing : Standing) (event : Event) (refusal : Refusal) → refusal_at standing event ≡ Some refusal → add_refusal_at room standing event ≡ Some refusal
 refused_at room standing event refusal e = first_stays (causes_at standing event) (room_causes room event) refusal e
+
+-- what refuses the update is answered, and so is want of room
+module _ {X : Type 0} (room : ℕ) (standing : Standing) (event : Event) where
+  pub update_refused : (r : Result X ReplicaError) (e : ReplicaError) → IsErrAnd r (λ x. x ≡ e) → (refusal_of e ≡ why.Memory) ⊎ (refusal_at standing event ≡ Some (refusal_of e))
+      → IfErr r (λ e. IsOneOf outside_refusals e ⊎ (add_refusal_at room standing event ≡ Some (refusal_of e)))
+  update_refused (Ok x) e is told = absurd is
+  update_refused (Err x) e is (inl memory) = inl (ap (is_among outside_refusals) (ap refusal_of is ∙ memory))
+  update_refused (Err x) e is (inr cause) = inr (refused_at room standing event (refusal_of x) (cause ∙ ap (λ x. Some (refusal_of x)) (sym is)))
+
+  pub room_refused : (r : Result X ReplicaError) (e : ReplicaError) (needed : ℕ) → IsErrAnd r (λ x. x ≡ e) → refusal_at standing event ≡ None → needed ≡ length (event_spelling event) → (e ≡ Journal JournalFull) × (room < needed)
+      → IfErr r (λ e. IsOneOf outside_refusals e ⊎ (add_refusal_at room standing event ≡ Some (refusal_of e)))
+  room_refused (Ok x) e needed is none spelled told = absurd is
+  room_refused (Err x) e needed is none spelled told =
+      inr (room_at room standing event none (subst (λ n. room < n) spelled told.1) ∙ sym (ap (λ x. Some (refusal_of x)) (is ∙ told.0)))
+
+-- which refusals an addition may answer
+module _ (refusals : List Refusal) (memory : is_among refusals why.Memory ≡ true) (device : is_among refusals why.Device ≡ true) where
+  pub added_refusals : {X : Type 0} (answered : Option Refusal) → ((refusal : Refusal) → answered ≡ Some refusal → is_among refusals refusal ≡ true) → (r : Result X ReplicaError)
+      → IfErr r (λ e. IsOneOf outside_refusals e ⊎ (answered ≡ Some (refusal_of e))) → IfErr r (IsOneOf refusals)
+  added_refusals answered among (Ok x) told = tt
+  added_refusals answered among (Err x) (inl outside) = outside_among refusals memory device x outside
+  added_refusals answered among (Err x) (inr cause) = among (refusal_of x) cause
+
+pub replaced_among : (room : ℕ) (s : Standing) (token : Token) (path : Path) (since : ℕ) (new : Tree) (refusal : Refusal) → add_refusal_at room s (Replaced token path since new) ≡ Some refusal → is_among replace_refusals refusal ≡ true
+replaced_among room s token path since new refusal e =
+    first_among replace_refusals (causes_at s (Replaced token path since new) ++ room_causes room (Replaced token path since new)) refusal (refl, (refl, (refl, (refl, (refl, (refl, tt)))))) e
+
+pub begun_among : (room : ℕ) (s : Standing) (session : ℕ) (refusal : Refusal) → add_refusal_at room s (Began session) ≡ Some refusal → is_among begin_refusals refusal ≡ true
+begun_among room s session refusal e = first_among begin_refusals (causes_at s (Began session) ++ room_causes room (Began session)) refusal (refl, (refl, (refl, tt))) e
+
+pub edited_among : (room : ℕ) (s : Standing) (user : ℕ) (edit : Edit) (refusal : Refusal) → add_refusal_at room s (Edited user edit) ≡ Some refusal → is_among edit_refusals refusal ≡ true
+edited_among room s user (Put path bytes) refusal e = first_among edit_refusals (causes_at s (Edited user (Put path bytes)) ++ room_causes room (Edited user (Put path bytes))) refusal (refl, (refl, (refl, (refl, (refl, (refl, tt)))))) e
+edited_among room s user (MakeDir path) refusal e = first_among edit_refusals (causes_at s (Edited user (MakeDir path)) ++ room_causes room (Edited user (MakeDir path))) refusal (refl, (refl, (refl, (refl, (refl, (refl, tt)))))) e
+edited_among room s user (Remove path) refusal e = first_among edit_refusals (causes_at s (Edited user (Remove path)) ++ room_causes room (Edited user (Remove path))) refusal (refl, (refl, (refl, (refl, (refl, (refl, tt)))))) e
 
 abbrev pub IsNoReplacement : Event → Type 0
 IsNoReplacement (Edited user edit) = Unit {0}

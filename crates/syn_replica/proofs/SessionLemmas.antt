@@ -1,18 +1,24 @@
 -- Why a replacement is refused, as it is found out step by step.
-use Rattle.std.proofs.Common.{◌≡◌, ◌≢◌, ◌==◌, ℕ, false, if◌then◌else◌, List, [], ◌∷◌, ◌++◌, length, sym, ap, ◌∙◌, subst, Option, Some, None, append_assoc, arith, ◌+◌, Result, Ok, Err}
-use Rattle.std.specs.Prelude.{IfOk, IfSome}
+use Rattle.std.proofs.Common.{◌≡◌, ◌≢◌, ◌==◌, ◌⊎◌, inr, ℕ, Bool, false, not, nat_lt, nat_le, if◌then◌else◌, List, [], ◌∷◌, ◌++◌, length, refl, sym, ap, ap₂, ◌∙◌, subst, Option, Some, None, append_assoc, arith, ◌+◌, Result, Ok, Err}
+use Rattle.std.specs.Prelude.{IfOk, IfErr, IsErrAnd, IfSome}
 use Rattle.std.proofs.lemmas.List.{length-append}
 use Rattle.std.proofs.lemmas.Bool.Decides.{nat_tests}
+use Rattle.std.proofs.lemmas.Option.{none-some, same_Some}
 use Rattle.syn_model.specs.Path.{Path}
 use Rattle.syn_model.specs.Tree.{Tree, replace}
 use Rattle.syn_model.specs.Event.{Token, Event, Began, Replaced}
-use Rattle.syn_model.specs.Refusal.{OldSession, Cause, first_cause}
-use Rattle.syn_model.specs.Standing.{place_causes, full_causes}
-use Rattle.syn_model.specs.History.{History, tree_of, is_old_token, last_session, position_causes}
-use Rattle.syn_replica.specs.Steps.{add_refusal, room_causes, replace_refusal, is_done, replaced, begun}
+use Rattle.syn_model.specs.Refusal.{Refusal, Memory, OldSession, WrongPair, Cause, first_cause}
+use Rattle.syn_model.specs.Spelling.{event_spelling}
+use Rattle.syn_model.specs.Standing.{Standing, is_old, place_causes, full_causes}
+use Rattle.syn_model.specs.History.{History, standing_of, tree_of, is_old_token, last_session, position_causes}
+use Rattle.syn_replica.specs.Refusals.{IsOneOf, outside_refusals}
+use Rattle.syn_replica.specs.Steps.{add_refusal, room_causes, replace_refusal, begin_refusal, is_done, replaced, begun}
+use Rattle.syn_replica.specs.inner.Additions.{add_refusal_at}
 use Rattle.syn_standing.specs.Causes.{since_causes}
+use Rattle.syn_standing.specs.Refusals.{refusal_of}
+use Rattle.syn_tree.specs.Lists.{replace_refusal as tree_refusal}
 use Rattle.syn_standing.specs.declared.error.ReplicaError.{ReplicaError}
-use Rattle.syn_standing.proofs.CauseLemmas.{first_skips}
+use Rattle.syn_standing.proofs.CauseLemmas.{first_skips, first_stays}
 use Rattle.syn_standing.proofs.SinceLemmas.{first_false}
 
 -- ---- the causes of a replacement in a row
@@ -41,6 +47,72 @@ module _ (room : ℕ) (history : History) (token : Token) (path : Path) (since :
       ∙ (ap first_cause (sym (append_assoc place full (position ++ last)) ∙ (sym (append_assoc (place ++ full) position last) ∙ ap (λ xs. xs ++ last) (append_assoc place full position)))
       ∙ sym (first_false (is_old_token history token) OldSession ((place ++ (full ++ position)) ++ last) current))
 
+  -- where the tree refuses what is put, that is answered
+  refused_place : is_old_token history token ≡ false → first_cause (since_causes history path since) ≡ None → (refusal : Refusal) → tree_refusal (tree_of history) path new ≡ Some refusal → replace_refusal room history token path since new ≡ Some refusal
+  unfolding rest_causes
+  refused_place current none refusal e =
+      let place = place_causes (tree_of history) path in
+      let full = full_causes (replace (tree_of history) path new) in
+      let rest = position_causes history ++ room_causes room (Replaced token path since new) in
+      untouched current none ∙ (ap first_cause (sym (append_assoc place full rest)) ∙ first_stays (place ++ full) rest refusal e)
+
+  pub refused_part : {X : Type 0} (r : Result X ReplicaError) (e : ReplicaError) (standing : Standing) (tree : Tree) (old : Bool) → IsErrAnd r (λ x. x ≡ e) → standing ≡ standing_of history → old ≡ is_old standing.session standing.token token → old ≡ false
+      → None ≡ first_cause (since_causes history path since) → tree ≡ standing.tree → tree_refusal tree path new ≡ Some (refusal_of e)
+      → IfErr r (λ e. (refusal_of e ≡ Memory) ⊎ (replace_refusal room history token path since new ≡ Some (refusal_of e)))
+  refused_part (Err x) e standing tree old same is tests current none there refused =
+      subst (λ e. (refusal_of e ≡ Memory) ⊎ (replace_refusal room history token path since new ≡ Some (refusal_of e))) (sym same)
+      (inr (refused_place (ap (λ s. is_old s.session s.token token) (sym is) ∙ (sym tests ∙ current)) (sym none) (refusal_of e)
+      (ap (λ t. tree_refusal t path new) (ap (λ s. s.tree) (sym is) ∙ sym there) ∙ refused)))
+  refused_part (Ok x) e standing tree old same is tests current none there refused = absurd same
+
+-- ---- the causes at a begin
+
+not_other : (m n : ℕ) → m ≡ n → not (m == n) ≡ false
+not_other m n same = grind (arith, nat_tests)
+
+less_or_same : (m n : ℕ) → m ≢ n → nat_lt m n ≡ nat_le m n
+less_or_same m n other = grind (arith, nat_tests)
+
+differs : (m n : ℕ) → m ≢ n → (m == n) ≡ false
+differs m n other = grind (arith, nat_tests)
+
+pub begun_size : (session : ℕ) → length (event_spelling (Began session)) ≡ 9
+begun_size session = refl
+
+module _ (room own : ℕ) (history : History) (pair session : ℕ) where
+  -- where the pair is the replica's and the session was not begun, what is left is why the event is not added
+  begin_rest : pair ≡ own → session ≢ last_session history → begin_refusal room own history pair session ≡ add_refusal room history (Began session)
+  begin_rest same other =
+      let last = position_causes history ++ room_causes room (Began session) in
+      first_false (not (pair == own)) WrongPair ((nat_lt session (last_session history), OldSession) ∷ (if session == last_session history then [] else last)) (not_other pair own same)
+      ∙ ap₂ (λ b c. first_cause ((b, OldSession) ∷ (if c then [] else last))) (less_or_same session (last_session history) other) (differs session (last_session history) other)
+
+  pub rest_at : (standing : Standing) (begun_last : ℕ) → standing ≡ standing_of history → pair ≡ own → begun_last ≡ standing.session → session ≢ begun_last → begin_refusal room own history pair session ≡ add_refusal_at room standing (Began session)
+  rest_at standing begun_last is same last other = begin_rest same (λ again. other (again ∙ sym (last ∙ ap (λ s. s.session) is))) ∙ ap (λ s. add_refusal_at room s (Began session)) (sym is)
+
+  -- where it may be added, there is no cause
+  pub begin_allowed : (standing : Standing) (begun_last : ℕ) (why : Refusal) → standing ≡ standing_of history → pair ≡ own → begun_last ≡ standing.session → session ≢ begun_last → add_refusal_at room standing (Began session) ≡ None → begin_refusal room own history pair session ≡ Some why → ⊥
+  begin_allowed standing begun_last why is same last other none cause = none-some _ (sym (rest_at standing begun_last is same last other ∙ none) ∙ cause)
+
+  module _ {X : Type 0} (r : Result X ReplicaError) (e : ReplicaError) (standing : Standing) (begun_last : ℕ) (at_exit : IsErrAnd r (λ x. x ≡ e)) (is : standing ≡ standing_of history) (same : pair ≡ own)
+      (last : begun_last ≡ standing.session) (other : session ≢ begun_last) (told : add_refusal_at room standing (Began session) ≡ Some (refusal_of e)) where
+    answered : begin_refusal room own history pair session ≡ Some (refusal_of e)
+    answered = rest_at standing begun_last is same last other ∙ told
+
+    pub begin_cause : IfErr r (λ e. IsOneOf outside_refusals e ⊎ (begin_refusal room own history pair session ≡ Some (refusal_of e)))
+    begin_cause = of_exit r at_exit
+      where
+        of_exit : (r : Result X ReplicaError) → IsErrAnd r (λ x. x ≡ e) → IfErr r (λ e. IsOneOf outside_refusals e ⊎ (begin_refusal room own history pair session ≡ Some (refusal_of e)))
+        of_exit (Ok x) h = absurd h
+        of_exit (Err x) h = inr (answered ∙ sym (ap (λ x. Some (refusal_of x)) h))
+
+    pub begin_refused : (why : Refusal) → begin_refusal room own history pair session ≡ Some why → IsErrAnd r (λ e. refusal_of e ≡ why)
+    begin_refused why cause = of_exit r at_exit
+      where
+        of_exit : (r : Result X ReplicaError) → IsErrAnd r (λ x. x ≡ e) → IsErrAnd r (λ e. refusal_of e ≡ why)
+        of_exit (Ok x) h = absurd h
+        of_exit (Err x) h = ap refusal_of h ∙ same_Some _ _ (sym answered ∙ cause)
+
 -- ---- what is answered
 
 -- what a clause says of a value that is there
@@ -58,6 +130,3 @@ not_done history token path since new e = ap (λ b. if b then history else histo
 -- a session that was not begun last goes on by its event
 pub not_begun : (history : History) (session : ℕ) → session ≢ last_session history → begun history session ≡ history ++ Began session ∷ []
 not_begun history session other = ap (λ b. if b then history else history ++ Began session ∷ []) (differs session (last_session history) other)
-  where
-    differs : (m n : ℕ) → m ≢ n → (m == n) ≡ false
-    differs m n h = grind (arith, nat_tests)

@@ -14,6 +14,10 @@ use Rattle.syn_model.specs.Image.{Gives, StandsFor, image_spelling}
 use Rattle.syn_replica.specs.Disks.{DiskStands, DiskKeeps, DiskCompacted, event_size}
 use Rattle.syn_standing.specs.Readings.{OneIsGiven}
 use Rattle.syn_model.specs.Refusal as why
+use Rattle.std.specs.Prelude.{IfErr, IsErrAnd}
+use Rattle.syn_standing.specs.Refusals.{refusal_of}
+use Rattle.syn_standing.specs.declared.error.ReplicaError.{ReplicaError}
+use Rattle.syn_standing.specs.declared.error.ReplicaError.TheVariants.{Journal}
 use Rattle.syn_journal.specs.Refusals.{refusal_of as of_journal}
 use Rattle.syn_journal.specs.declared.error.JournalError.{JournalError}
 use Rattle.syn_journal.specs.declared.error.JournalError.TheVariants as journal_error
@@ -157,6 +161,25 @@ greatest_alone journal_error.Halted size generation few full same = cc same
 greatest_alone journal_error.Memory size generation few full same = cc same
 greatest_alone journal_error.NoImage size generation few full same = cc same
 greatest_alone journal_error.Damaged size generation few full same = cc same
+
+-- and one that is too long, for that too
+of_full : (e : JournalError) (size spelled generation : ℕ) → size ≡ spelled → (e ≡ journal_error.Full → (longest_image < size) ⊎ (generation + 1 ≡ 2 ^ 64)) → of_journal e ≡ why.Full → (generation + 1 ≡ 2 ^ 64) ⊎ (longest_image < spelled)
+of_full journal_error.Full size spelled generation is full same = elim (full refl) as (λ _. (generation + 1 ≡ 2 ^ 64) ⊎ (longest_image < spelled)) [
+  | inl long ↦ inr (subst (λ n. longest_image < n) is long)
+  | inr greatest ↦ inl greatest
+]
+of_full journal_error.JournalFull size spelled generation is full same = cc same
+of_full journal_error.Device size spelled generation is full same = cc same
+of_full journal_error.Halted size spelled generation is full same = cc same
+of_full journal_error.Memory size spelled generation is full same = cc same
+of_full journal_error.NoImage size spelled generation is full same = cc same
+of_full journal_error.Damaged size spelled generation is full same = cc same
+
+pub full_because : {X : Type 0} (r : Result X ReplicaError) (e : JournalError) (size spelled generation : ℕ) → IsErrAnd r (λ x. x ≡ Journal e) → size ≡ spelled → (e ≡ journal_error.Full → (longest_image < size) ⊎ (generation + 1 ≡ 2 ^ 64))
+    → IfErr r (λ e. refusal_of e ≡ why.Full → (generation + 1 ≡ 2 ^ 64) ⊎ (longest_image < spelled))
+full_because (Ok x) e size spelled generation is same full = absurd is
+full_because (Err x) e size spelled generation is same full =
+    subst (λ e. refusal_of e ≡ why.Full → (generation + 1 ≡ 2 ^ 64) ⊎ (longest_image < spelled)) (sym is) (of_full e size spelled generation same full)
 
 -- a disk that keeps a history stands for it
 pub keeps_stands : {pair : ℕ} {history : History} {left generation : ℕ} {bytes : List ℕ} → DiskKeeps pair history left generation bytes → DiskStands pair bytes history

@@ -52,9 +52,16 @@ impl Course {
                 self.carried = Some(Carried { transfer, kept });
                 Ok(Carrying::Asks(side, request))
             }
-            Ok(Next::Done) => Ok(Carrying::Done(kept)),
+            Ok(Next::Done) => {
+                drop(transfer);
+                Ok(Carrying::Done(kept))
+            }
             Ok(Next::Refused(why)) => Ok(Carrying::Refused(why)),
-            Err(error) => Err(error.refusal()),
+            Err(error) => {
+                drop(transfer);
+                drop(kept);
+                Err(error.refusal())
+            }
         }
     }
 }

@@ -207,8 +207,12 @@ impl Session {
             → report_model result ≡ report_of running (option_map cause_of ended) }
     {
         let course = self.course;
-        let Some(course) = course else {
-            return Report {
+        // Nothing of the scans is reported.
+        drop(self.left);
+        drop(self.right);
+        match course {
+            Some(course) => planned_report(self.number, self.is_unstable, course, ended),
+            None => Report {
                 session: self.number,
                 end: end_for(ended, 0, self.is_unstable),
                 ended,
@@ -216,17 +220,32 @@ impl Session {
                 marked: 0,
                 conflicts: Vec::new(alloc),
                 refused: Vec::new(alloc),
-            };
-        };
-        Report {
-            session: self.number,
-            end: end_for(ended, course.refused.len(), self.is_unstable),
-            ended,
-            done: course.done,
-            marked: course.marked,
-            conflicts: course.conflicts,
-            refused: course.refused,
+            },
         }
+    }
+}
+
+/// What a session reports that came so far through its plan.
+fn planned_report(number: u64, is_unstable: bool, course: Course, ended: Option<Refusal>) -> Report
+    ensures session { result.session ≡ number }
+    ensures end { end_of result.end
+        ≡ end_by (option_map cause_of ended) (length course.refused.items) is_unstable }
+    ensures ended { result.ended ≡ ended }
+    ensures done { result.done ≡ course.done }
+    ensures marked { result.marked ≡ course.marked }
+    ensures conflicts { result.conflicts ≡ course.conflicts }
+    ensures refused { result.refused ≡ course.refused }
+{
+    drop(course.items);
+    drop(course.carried);
+    Report {
+        session: number,
+        end: end_for(ended, course.refused.len(), is_unstable),
+        ended,
+        done: course.done,
+        marked: course.marked,
+        conflicts: course.conflicts,
+        refused: course.refused,
     }
 }
 

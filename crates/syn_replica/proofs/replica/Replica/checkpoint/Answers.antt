@@ -5,7 +5,7 @@ use Rattle.syn_journal.specs.Layout.{IsBeforeOrAfter, image_alone, longest_image
 use Rattle.syn_history.specs.Past.{standing_with}
 use Rattle.syn_model.specs.Image.{image_spelling}
 use Rattle.syn_replica.specs.Replica.{KeepsOrCompacts, left_shown, IsHalted}
-use Rattle.syn_replica.proofs.StandLemmas.{seen_is_left, keeps_now, not_written, greatest_alone, stop_compacts, left_behind, image_stands, leaves_weaker}
+use Rattle.syn_replica.proofs.StandLemmas.{seen_is_left, keeps_now, not_written, greatest_alone, full_because, stop_compacts, left_behind, image_stands, leaves_weaker}
 use Rattle.syn_replica.specs.Growing.{itself}
 use Rattle.syn_replica.proofs.GrowthLemmas.{broken, kept, of_checkpoint}
 use Rattle.syn_replica.proofs.replica.Replica.checkpoint.Goals as goal
@@ -104,3 +104,10 @@ returns-then-generation-clause-seen g c history stands = inl (keeps_now c.args.s
 
 pub returns-then-generation-clause-grown : goal.returns-then-generation-clause-grown
 returns-then-generation-clause-grown g c = itself c.args.self.now
+
+pub returns-in_err-checkpoint-clause-cause : goal.returns-in_err-checkpoint-clause-cause
+returns-in_err-checkpoint-clause-cause g c =
+    let old = c.args.self.now in
+    let spelled = c.deref.ensures.value ∙ (c.in_ok-image.ensures ∙ ap₂ (λ t p. image_spelling old.pair (standing_with t p)) c.tree.ensures c.trail.ensures) in
+    full_because c.from_residual-in_err-checkpoint.result c.in_err-checkpoint.field-0.0 _ _ old.journal.generation c.from_residual-in_err-checkpoint.ensures.1 (ap length spelled)
+    (λ full. (c.checkpoint.ensures.full.0 (c.in_err-checkpoint.was ∙ ap (λ e. Err e) full)).1)

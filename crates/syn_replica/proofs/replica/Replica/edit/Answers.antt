@@ -1,4 +1,4 @@
-use Rattle.std.proofs.Common.{◌<◌, Some, sym, ap, ◌∙◌, subst, inl, inr}
+use Rattle.std.proofs.Common.{◌≡◌, ◌⊎◌, ◌<◌, ◌≤◌, Some, sym, ap, ◌∙◌, refl, subst, inl, inr}
 use Rattle.std.proofs.lemmas.Result.{err_from_is_err_and}
 use Rattle.syn_tree.specs.Edits.{edit_of}
 use Rattle.syn_replica.specs.Edits.{event_by}
@@ -6,9 +6,13 @@ use Rattle.syn_standing.specs.Refusals.{refusal_of, refusal_in}
 use Rattle.syn_replica.specs.Replica.{room_shown, standing_shown}
 use Rattle.syn_replica.specs.Steps.{add_refusal}
 use Rattle.syn_replica.specs.inner.Additions.{add_refusal_at}
-use Rattle.syn_replica.proofs.RefusalLemmas.{edit_among, same_refusal}
+use Rattle.syn_model.specs.Refusal as why
+use Rattle.syn_replica.proofs.RefusalLemmas.{inner_refusals, never, edit_among, same_refusal, early_among, quiet_failures, quiet_calls, quiet_device, quiet_tries}
 use Rattle.syn_standing.proofs.StandingLemmas.{early_at}
-use Rattle.syn_replica.proofs.RoomLemmas.{refused_at, room_at}
+use Rattle.syn_replica.proofs.RoomLemmas.{added_refusals, edited_among, refused_at, room_at, room_refused, room_passed}
+use Rattle.syn_replica.specs.Refusals.{IsOneOf, outside_refusals, edit_refusals}
+use Rattle.std.specs.Prelude.{IfErr}
+use Rattle.std.proofs.lemmas.Option.{none-some}
 use Rattle.syn_replica.proofs.StandLemmas.{keeps_now, not_written}
 use Rattle.syn_replica.specs.Growing.{itself}
 use Rattle.syn_replica.proofs.replica.Replica.edit.Goals as goal
@@ -80,3 +84,35 @@ returns-in_err-check_room-clause-any_moment g c history stands =
 
 pub returns-in_err-check_room-clause-seen : goal.returns-in_err-check_room-clause-seen
 returns-in_err-check_room-clause-seen g c history stands = inl (keeps_now c.args.self.now history stands)
+
+pub returns-in_err-check-clause-tried : goal.returns-in_err-check-clause-tried
+returns-in_err-check-clause-tried g c = quiet_tries c.from_residual.result _ c.from_residual.ensures.1 (never inner_refusals why.Device refl _ (early_among (standing_shown c.args.self.now) (event_by c.args.user c.args.edit) _ c.in_err-check.ensures)) c.args.self.now (event_by c.args.user c.args.edit)
+
+pub returns-in_err-check-clause-failures : goal.returns-in_err-check-clause-failures
+returns-in_err-check-clause-failures g c = quiet_failures c.from_residual.result _ c.from_residual.ensures.1 (never inner_refusals why.Device refl _ (early_among (standing_shown c.args.self.now) (event_by c.args.user c.args.edit) _ c.in_err-check.ensures)) _ _
+
+pub returns-in_err-check-clause-calls : goal.returns-in_err-check-clause-calls
+returns-in_err-check-clause-calls g c = quiet_calls c.from_residual.result _ c.from_residual.ensures.1 (never inner_refusals why.Device refl _ (early_among (standing_shown c.args.self.now) (event_by c.args.user c.args.edit) _ c.in_err-check.ensures)) _ 4 _
+
+pub returns-in_err-check-clause-halts : goal.returns-in_err-check-clause-halts
+returns-in_err-check-clause-halts g c = quiet_device c.from_residual.result _ c.from_residual.ensures.1 (never inner_refusals why.Device refl _ (early_among (standing_shown c.args.self.now) (event_by c.args.user c.args.edit) _ c.in_err-check.ensures)) _
+
+pub returns-in_err-check_room-clause-cause : goal.returns-in_err-check_room-clause-cause
+returns-in_err-check_room-clause-cause g c history stands =
+    subst (λ s. IfErr c.from_residual-in_err-check_room.result (λ e. IsOneOf outside_refusals e ⊎ (add_refusal_at (room_shown c.args.self.now) s (event_by c.args.user c.args.edit) ≡ Some (refusal_of e)))) stands.remembers.standing
+    (room_refused (room_shown c.args.self.now) (standing_shown c.args.self.now) (event_by c.args.user c.args.edit) c.from_residual-in_err-check_room.result _ c.edit_length-length.result
+    c.from_residual-in_err-check_room.ensures.1 (sym c.check.ensures ∙ ap refusal_in c.in_ok-check.was) (c.edit_length-length.ensures c.args.user) c.in_err-check_room.ensures.refused)
+
+pub returns-clause-cause : goal.returns-clause-cause
+returns-clause-cause g c history stands =
+    subst (λ s. IfErr c.add.result (λ e. IsOneOf outside_refusals e ⊎ (add_refusal_at (room_shown c.args.self.now) s (event_by c.args.user c.args.edit) ≡ Some (refusal_of e)))) stands.remembers.standing c.add.ensures.cause
+
+-- where it was added, there was no cause
+pub returns-clause-refused : goal.returns-clause-refused
+returns-clause-refused g c history why stands e =
+    absurd (none-some _ (sym (ap (λ s. add_refusal_at (room_shown c.args.self.now) s (event_by c.args.user c.args.edit)) (sym stands.remembers.standing)
+    ∙ room_passed (room_shown c.args.self.now) (standing_shown c.args.self.now) (event_by c.args.user c.args.edit) (sym c.check.ensures ∙ ap refusal_in c.in_ok-check.was)
+    (subst (λ n. n ≤ room_shown c.args.self.now) (c.edit_length-length.ensures c.args.user) c.in_ok-check_room.ensures.room)) ∙ e))
+
+pub returns-clause-refusals : goal.returns-clause-refusals
+returns-clause-refusals g c = added_refusals edit_refusals refl refl _ (edited_among (room_shown c.args.self.now) (standing_shown c.args.self.now) c.args.user (edit_of c.args.edit)) c.add.result c.add.ensures.cause
