@@ -159,11 +159,11 @@ module _ {D : Type 0} {disk : Ghosts D} (old new : Coordinator D disk) (pair : �
       by false = refl
 
   -- no session runs, or no request waits for it
-  pub none_runs : Stands old pair machine → old.running ≡ None → (running : Running) (request : Request) → IsExpected machine from session number running request → ⊥
+  none_runs : Stands old pair machine → old.running ≡ None → (running : Running) (request : Request) → IsExpected machine from session number running request → ⊥
   none_runs stands none running request expected =
       false≢true (sym (run_alike machine.journal.value old.running machine.running stands.running ∙ ap is_some none) ∙ ap is_some expected.runs)
 
-  pub none_waits : Stands old pair machine → (ran : Session) → old.running ≡ Some ran → (ran.number ≡ session → asked_in (waiting_of (line_of ran from).waiting) number ≡ None) → (running : Running) (request : Request) → IsExpected machine from session number running request → ⊥
+  none_waits : Stands old pair machine → (ran : Session) → old.running ≡ Some ran → (ran.number ≡ session → asked_in (waiting_of (line_of ran from).waiting) number ≡ None) → (running : Running) (request : Request) → IsExpected machine from session number running request → ⊥
   none_waits stands ran was silent running request expected =
       let is = session_of machine.journal.value ran machine.running (subst (λ s. IsRunning machine.journal.value s machine.running) was stands.running) in
       let same = some_is (sym is.1 ∙ expected.runs) in
@@ -172,6 +172,14 @@ module _ {D : Type 0} {disk : Ghosts D} (old new : Coordinator D disk) (pair : �
     where
       some_is : {a b : Running} → Some a ≡ Some b → a ≡ b
       some_is {a} e = ap (λ o. unwrap_or o a) e
+
+  -- neither is the case that an answer is expected
+  pub none_expected : Stands old pair machine → ((ran : Session) → old.running ≡ Some ran → ran.number ≡ session → asked_in (waiting_of (line_of ran from).waiting) number ≡ None) → (running : Running) (request : Request) → IsExpected machine from session number running request → ⊥
+  none_expected stands silent = by old.running refl
+    where
+      by : (o : Option Session) → old.running ≡ o → (running : Running) (request : Request) → IsExpected machine from session number running request → ⊥
+      by None none = none_runs stands none
+      by (Some ran) was = none_waits stands ran was (silent ran was)
 
   -- the session that runs, and what it expected
   pub expects : Stands old pair machine → (ran next : Session) (request : Request) → old.running ≡ Some ran → ran.number ≡ session → IsAnswering ran next from number request → (running : Running) × IsExpected machine from session number running request × IsSession machine.journal.value ran running

@@ -89,7 +89,8 @@ impl<D: Disk> Coordinator<D> {
     pub fn into_archive(self) -> Archive<D>
         ensures { result ≡ archive_of self }
     {
-        let (archive, _) = self.into_parts();
+        let (archive, tried) = self.into_parts();
+        drop(tried);
         archive
     }
 
@@ -98,6 +99,10 @@ impl<D: Disk> Coordinator<D> {
         ensures archive { result.0 ≡ archive_of self }
         ensures tried { result.1 ≡ tried_shown self }
     {
+        // By calls, or the prover would look here at all that each holds.
+        drop(self.running);
+        drop(self.report);
+        drop(self.written);
         (self.archive, self.tried)
     }
 
@@ -293,8 +298,9 @@ impl<D: Disk> Coordinator<D> {
         ensures whole { self.new.broke ≡ false }
         ensures tried { self.new.tried ≡ self.old.tried }
     {
-        self.running = Some(session);
-        self.report = None;
+        // What was there is let go by calls, as in `into_parts`.
+        drop(self.running.replace(session));
+        drop(self.report.take());
         self.written = records;
         self.broke = false;
     }
@@ -363,7 +369,8 @@ impl<D: Disk> Coordinator<D> {
             → report_shown self.new ≡ Some (report_of running (option_map cause_of ended)) }
     {
         if let Some(session) = self.running.take() {
-            self.report = Some(session.into_report(alloc, ended));
+            let report = session.into_report(alloc, ended);
+            drop(self.report.replace(report));
         }
     }
 }
@@ -403,6 +410,11 @@ fn first_requests(
     ensures memory { IfErr result (λ e. e ≡ SessionError.Memory) }
 {
     let session = Session::new(alloc, number, pair)?;
-    let sends = session.waiting(alloc)?;
-    Ok((session, sends))
+    match session.waiting(alloc) {
+        Ok(sends) => Ok((session, sends)),
+        Err(error) => {
+            drop(session);
+            Err(error)
+        }
+    }
 }

@@ -1,6 +1,7 @@
 -- Which touches, and which parts, are lawful.
-use Rattle.std.proofs.Common.{◌≡◌, ◌≤◌, ◌<◌, ℕ, ◌+◌, suc, Bool, true, false, ◌&&◌, nat_le, nat_lt, List, [], ◌∷◌, length, Option, Some, None, IfSome, All, ◌++◌, append-nil, take, drop, refl, sym, ap, ap₂, ◌∙◌, true≢false, arith}
+use Rattle.std.proofs.Common.{◌≡◌, ◌≤◌, ◌<◌, ℕ, ◌+◌, ◌-◌, suc, Bool, true, false, ◌&&◌, nat_le, nat_lt, List, [], ◌∷◌, length, Option, Some, None, IfSome, All, ◌++◌, append-nil, length-append, take, drop, refl, sym, ap, ap₂, ◌∙◌, true≢false, arith}
 use Rattle.std.specs.List.{AllPairs}
+use Rattle.circular_buffer.specs.Buffer.{keep_last}
 use Rattle.std.proofs.lemmas.Bool.{and_parts, leb-true, le-leb}
 use Rattle.std.proofs.lemmas.List.Elements.{All-nil, All-cons}
 use Rattle.std.proofs.lemmas.List.Kept.{AllPairs-cons}
@@ -129,3 +130,13 @@ lawful_before past h k d short =
 pub passes : (past : Past) → past.floor ≤ past.position → length past.touches ≤ most_touches → are_between past.floor past.position past.touches ≡ true → is_of_session past.token past.session ≡ true → is_lawful past ≡ true
 passes past floor count touches session =
     ap₂ (λ a b. a && b) (ap₂ (λ a b. a && b) (ap₂ (λ a b. a && b) (le-leb past.floor past.position floor) (le-leb (length past.touches) most_touches count)) touches) session
+
+-- ---- a list with room for all
+
+drop_none : (xs : List Touch) (n : ℕ) → n ≡ 0 → drop n xs ≡ xs
+drop_none xs n none = ap (λ k. drop k xs) none
+
+-- nothing is dropped for one touch more
+pub has_room : (capacity : ℕ) (read rest all : List Touch) (touch : Touch) → all ≡ read ++ touch ∷ rest → length all ≤ capacity → keep_last capacity (read ++ touch ∷ []) ≡ read ++ touch ∷ []
+has_room capacity read rest all touch whole few =
+    drop_none (read ++ touch ∷ []) (length (read ++ touch ∷ []) - capacity) (omega (arith, length-append read (touch ∷ []), length-append read (touch ∷ rest), ap length whole, few))

@@ -1,9 +1,9 @@
 -- The image of a replica tells its pair and what it keeps.
-use Rattle.std.proofs.Common.{◌≡◌, ◌<◌, ◌≤◌, ◌^◌, ◌+◌, ℕ, zero, suc, true, List, [], ◌∷◌, ◌++◌, length, take, drop, All, Option, Some, None, IfSome, refl, sym, ap, ap₂, ◌∙◌, subst, append_assoc, append-nil, arith}
-use Rattle.std.specs.Prelude.{bytes_eq}
+use Rattle.std.proofs.Common.{◌≡◌, ◌<◌, ◌≤◌, ◌^◌, ◌+◌, ℕ, zero, suc, true, List, [], ◌∷◌, ◌++◌, length, take, drop, slice_index_or, All, Option, Some, None, IfSome, refl, sym, ap, ap₂, ◌∙◌, subst, append_assoc, append-nil, arith}
+use Rattle.std.specs.Prelude.{bytes_eq, Result, Ok, Err, OnOk, IsErrAnd}
 use Rattle.std.specs.Int.{to_be_bytes, w16}
 use Rattle.std.proofs.lemmas.Slice.Eq.{bytes_eq-Decides}
-use Rattle.std.proofs.lemmas.List.{length-append, take-append-drop}
+use Rattle.std.proofs.lemmas.List.{length-append, take-append-drop, take_more}
 use Rattle.std.proofs.lemmas.List.Elements.{All-head, All-tail, All-cons, All-nil, All-append}
 use Rattle.std.proofs.lemmas.Grind.{flat_map-append}
 use Rattle.syn_model.specs.Path.{Bytes, IsPath, path_spelling}
@@ -222,3 +222,18 @@ images_tell trees v w r s hv hw e =
 
 pub one_behind : (old mid new a b : Bytes) → mid ≡ old ++ a → new ≡ mid ++ b → new ≡ old ++ (a ++ b)
 one_behind old mid new a b first second = second ∙ (ap (λ x. x ++ b) first ∙ append_assoc old a b)
+
+-- the exit of a `?` is none of success
+pub not_written : {T E : Type 0} (result : Result T E) (Q : E → Type 0) (P : Type 0) → IsErrAnd result Q → OnOk result P
+not_written (Ok value) Q P is = absurd is
+not_written (Err error) Q P is = tt
+
+-- one touch more
+pub touch_more : (touches : List Touch) (i : ℕ) (x : Touch) (out old new : Bytes) → i < length touches → x ≡ slice_index_or touches i x → old ≡ out ++ each_spelling (take i touches) → new ≡ old ++ touch_spelling x → new ≡ out ++ each_spelling (take (i + 1) touches)
+touch_more touches i x out old new l is so_far added =
+    one_behind out old new (each_spelling (take i touches)) (touch_spelling x) so_far added ∙ ap (λ b. out ++ b) (sym more)
+  where
+    more : each_spelling (take (i + 1) touches) ≡ each_spelling (take i touches) ++ touch_spelling x
+    more =
+        ap each_spelling (take_more touches i x l ∙ ap (λ y. take i touches ++ y ∷ []) (sym is))
+        ∙ (flat_map-append touch_spelling (take i touches) (x ∷ []) ∙ ap (λ b. each_spelling (take i touches) ++ b) (append-nil (touch_spelling x)))

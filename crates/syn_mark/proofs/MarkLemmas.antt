@@ -8,7 +8,9 @@ use Rattle.std.specs.FinMap.{find, entries, get, len, len-entries, from_sorted, 
 use Rattle.std.proofs.lemmas.Bool.{and_parts}
 use Rattle.std.proofs.lemmas.Bool.Decides.{nat_tests}
 use Rattle.std.proofs.lemmas.List.Elements.{All-nil, All-cons, All-append}
+use Rattle.std.proofs.lemmas.List.{map-append}
 use Rattle.std.proofs.lemmas.Option.{none-some, same_Some}
+use Rattle.std.specs.Borrow.{Bor}
 use Rattle.sha2.specs.Sha256.{sha256, digest_bytes}
 use Rattle.syn_model.specs.Path.{Name, Path, path_cmp, root, strip_prefix}
 use Rattle.syn_model.specs.Tree.{Tree, Content, Contents, Pair, Directory, File, IsPart, at_root, is_present, subtree}
@@ -24,7 +26,9 @@ use Rattle.syn_placed.specs.Pairs.{Pairs, AreRising}
 use Rattle.syn_placed.proofs.RisingLemmas.{Rising, After, rising_of, are_rising, counted}
 use Rattle.syn_placed.proofs.TreeLemmas.{entries-rising, get-rising, rising-entries, from_entries-same, entries-one, entries-subtree, within-taken}
 use Rattle.syn_tree.proofs.PartLemmas.{length_under}
-use Rattle.syn_mark.specs.Marks.{marks_with, AreMarks, IsDigestOrDirectory}
+use Rattle.syn_tree.specs.Lists.{contents_at}
+use Rattle.syn_mark.specs.declared.mark.Mark.{Mark}
+use Rattle.syn_mark.specs.Marks.{content_of, contents_in, marks_with, AreMarks, IsDigestOrDirectory}
 use Rattle.syn_mark.specs.inner.Placings.{marked, marks_of}
 
 -- ---- a list of marks
@@ -197,3 +201,12 @@ marks_in path (e ∷ es) = one (option_and_then only_name (strip_prefix path e.0
 pub children-mark : (t : Tree) (path : Path) → marks_of (children t path) ≡ children (mark t) path
 children-mark t path =
     marks_in path (entries t) ∙ ap (λ es. filter_map {Y = Name × Content} (λ pair. option_map (λ name. (name, pair.1)) (option_and_then only_name (strip_prefix path pair.0))) es) (sym (entries-mark t))
+
+-- one child more has one mark more
+pub marks-more : (listed : List (Name × Mark)) (read : List (Name × Bor Pair)) (x : Name × Bor Pair) (m : Mark) → contents_in listed ≡ marks_of (contents_at read) → content_of m ≡ mark_of x.1.now.1 →
+    contents_in (listed ++ (x.0, m) ∷ []) ≡ marks_of (contents_at (read ++ x ∷ []))
+marks-more listed read x m so_far is =
+    map-append (λ (entry : Name × Mark). (entry.0, content_of entry.1)) listed ((x.0, m) ∷ [])
+    ∙ (ap₂ (λ xs c. xs ++ (x.0, c) ∷ []) so_far is
+    ∙ sym (ap marks_of (map-append (λ (child : Name × Bor Pair). (child.0, child.1.now.1)) read (x ∷ []))
+    ∙ map-append (λ (child : Name × Content). (child.0, mark_of child.1)) (contents_at read) ((x.0, x.1.now.1) ∷ [])))

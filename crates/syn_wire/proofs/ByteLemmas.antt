@@ -1,11 +1,13 @@
 -- Bytes in parts.
-use Rattle.std.proofs.Common.{◌≡◌, ◌<◌, ℕ, [], ◌∷◌, ◌++◌, length, take, drop, sym, ap, ap₂, ◌∙◌, subst, append_assoc, slice_index_or, Fits, w8, arith}
+use Rattle.std.proofs.Common.{◌≡◌, ◌<◌, ℕ, [], ◌∷◌, ◌++◌, length, take, drop, sym, ap, ap₂, ◌∙◌, subst, append_assoc, append-nil, slice_index_or, Fits, w8, arith}
+use Rattle.std.specs.Prelude.{Result, Ok, Err, OnOk, IfOk, IsErrAnd}
 use Rattle.std.specs.Int.{to_be_bytes, w32}
 use Rattle.std.proofs.lemmas.List.{get_or_default, take-append-drop}
 use Rattle.std.proofs.lemmas.List.Elements.{All-head, All-tail, All-cons, All-nil}
 use Rattle.syn_model.specs.Path.{Bytes}
 use Rattle.syn_model.specs.Event.{AreBytes}
 use Rattle.syn_wire.specs.Events.{file_spelling}
+use Rattle.syn_wire.specs.Reads.{IsBeginning}
 
 abbrev IsByte : ℕ → Type 0
 IsByte byte = byte < 256
@@ -31,3 +33,31 @@ file_spelled bytes after file rest count spelled front back counted =
     spelled
     ∙ (ap (λ xs. to_be_bytes w32 count ++ xs) (sym (take-append-drop count after) ∙ ap₂ (λ xs ys. xs ++ ys) (sym front) (sym back))
     ∙ (sym (append_assoc (to_be_bytes w32 count) file rest) ∙ ap (λ n. (to_be_bytes w32 n ++ file) ++ rest) (sym counted)))
+
+-- ---- bytes that were added
+
+-- the exit of a `?` is no success, and so nothing need be added
+pub not_added : {T E : Type 0} (result : Result T E) (Q : E → Type 0) (P : Type 0) → IsErrAnd result Q → OnOk result P
+not_added (Ok value) Q P is = absurd is
+not_added (Err error) Q P is = tt
+
+-- nor found
+pub not_found : {T E : Type 0} (result : Result T E) (Q : E → Type 0) (P : T → Type 0) → IsErrAnd result Q → IfOk result P
+not_found (Ok value) Q P is = absurd is
+not_found (Err error) Q P is = tt
+
+-- nothing was added
+pub begins_alike : (old new : Bytes) → new ≡ old → IsBeginning old new
+begins_alike old new same = ([], same ∙ sym (append-nil old))
+
+-- more was added behind
+pub begins_more : (old mid new more : Bytes) → IsBeginning old mid → new ≡ mid ++ more → IsBeginning old new
+begins_more old mid new more h added = (h.0 ++ more, added ∙ (ap (λ b. b ++ more) h.1 ∙ append_assoc old h.0 more))
+
+-- what begins what begins others begins these
+pub begins_further : (old mid new : Bytes) → IsBeginning old mid → IsBeginning mid new → IsBeginning old new
+begins_further old mid new h then = begins_more old mid new then.0 h then.1
+
+-- a file behind its length
+pub file_added : (front file mid new : Bytes) → mid ≡ front ++ to_be_bytes w32 (length file) → new ≡ mid ++ file → new ≡ front ++ file_spelling file
+file_added front file mid new begun added = added ∙ (ap (λ b. b ++ file) begun ∙ append_assoc front (to_be_bytes w32 (length file)) file)

@@ -3,7 +3,7 @@ use Rattle.std.proofs.Common.{◌≡◌, ℕ, zero, suc, ◌+◌, ◌-◌, slice
 use Rattle.std.specs.Prelude.{All}
 use Rattle.std.proofs.Math.Seq.{take-append_seam, drop-append_seam, take-length}
 use Rattle.std.proofs.lemmas.List.Elements.{All-head, All-tail, All-cons, All-nil, All-append}
-use Rattle.std.proofs.lemmas.List.{length-append}
+use Rattle.std.proofs.lemmas.List.{length-append, take_more}
 use Rattle.std.proofs.lemmas.Grind.{flat_map-append}
 use Rattle.syn_model.specs.Path.{Bytes, Name, Path, IsName, IsPath, path_spelling}
 use Rattle.syn_wire.specs.Reads.{BeginsWith, NoneBeginsAnother}
@@ -28,6 +28,34 @@ pub names_tell : NoneBeginsAnother IsName name_spelling
 names_tell v w r s hv hw e =
     let heads : length v ≡ length w = ap (λ xs. first_or xs 0) e in
     split v w r s heads (ap rest_of e)
+
+-- ---- a name behind its length
+
+-- no byte is there for the length
+pub no_length : (bytes : Bytes) → length bytes < 1 → (value : Name) (rest : Bytes) → ¬ BeginsWith IsName name_spelling bytes value rest
+no_length bytes short value rest begins = absurd (omega (arith, ap length begins.spelled, short))
+
+-- fewer bytes follow than the length says
+pub too_few : (first : ℕ) (bytes after : Bytes) → bytes ≡ first ∷ after → length after < first → (value : Name) (rest : Bytes) → ¬ BeginsWith IsName name_spelling bytes value rest
+too_few first bytes after parts short value rest begins =
+    let all = sym parts ∙ begins.spelled in
+    let counted : first ≡ length value = ap (λ xs. first_or xs 0) all in
+    let long = ap length (ap rest_of all) ∙ length-append value rest in
+    absurd (omega (arith, counted, long, short))
+
+-- so many bytes are the name, where one is there
+pub front_lawful : (first : ℕ) (bytes after front : Bytes) → bytes ≡ first ∷ after → front ≡ take first after → (value : Name) (rest : Bytes) → BeginsWith IsName name_spelling bytes value rest → IsName front
+front_lawful first bytes after front parts is value rest begins =
+    let all = sym parts ∙ begins.spelled in
+    let counted : first ≡ length value = ap (λ xs. first_or xs 0) all in
+    subst IsName (sym (is ∙ (ap₂ take counted (ap rest_of all) ∙ take-append_seam value rest))) begins.lawful
+
+-- and such bytes are the name that was read
+pub a_name : (first : ℕ) (bytes after front back : Bytes) (name : Name) → bytes ≡ first ∷ after → after ≡ front ++ back → length front ≡ first → name ≡ front → IsName front → BeginsWith IsName name_spelling bytes name back
+a_name first bytes after front back name parts all counted is lawful = record {
+  lawful = subst IsName (sym is) lawful;
+  spelled = parts ∙ (ap₂ (λ n xs. n ∷ xs) (sym counted) all ∙ ap (λ x. name_spelling x ++ back) (sym is));
+}
 
 names_of : (names : Path) (r : Bytes) (n : Name) → names_spelling (n ∷ names) ++ r ≡ name_spelling n ++ (names_spelling names ++ r)
 names_of names r n = append_assoc (name_spelling n) (names_spelling names) r
@@ -103,3 +131,24 @@ first_and_rest (x ∷ xs) l = ap (λ ys. x ∷ ys) (sym (take-all (length xs) xs
 
     take-all : (n : ℕ) (xs : Bytes) → take (length (x ∷ xs) - 1) xs ≡ xs
     take-all n xs = ap (λ k. take k xs) (all (length xs) (length (x ∷ xs)) refl) ∙ take-length xs
+
+-- ---- what is written of a path
+
+-- one name more behind its length
+pub name_added : (names : Path) (i : ℕ) (name : Name) (text bytes front old pushed new : Bytes) → i < length names → name ≡ slice_index_or names i name → text ≡ name → bytes ≡ text →
+    old ≡ front ++ names_spelling (take i names) → pushed ≡ old ++ length text ∷ [] → new ≡ pushed ++ bytes → new ≡ front ++ names_spelling (take (i + 1) names)
+name_added names i name text bytes front old pushed new l is texted written so_far begun added =
+    added ∙ (ap₂ (λ x y. x ++ y) begun written
+    ∙ (append_assoc old (length text ∷ []) text ∙ (ap₂ (λ x t. x ++ name_spelling t) so_far texted
+    ∙ (append_assoc front (names_spelling (take i names)) (name_spelling name) ∙ ap (λ b. front ++ b) (sym more)))))
+  where
+    more : names_spelling (take (i + 1) names) ≡ names_spelling (take i names) ++ name_spelling name
+    more =
+        ap names_spelling (take_more names i name l ∙ ap (λ y. take i names ++ y ∷ []) (sym is))
+        ∙ (flat_map-append name_spelling (take i names) (name ∷ []) ∙ ap (λ b. names_spelling (take i names) ++ b) (append-nil (name_spelling name)))
+
+-- the count and all names
+pub path_added : (path names : Path) (i : ℕ) (front first new : Bytes) → names ≡ path → i ≡ length names → first ≡ front ++ length names ∷ [] → new ≡ first ++ names_spelling (take i names) → new ≡ front ++ path_spelling path
+path_added path names i front first new same ended begun written =
+    written ∙ (ap₂ (λ b ns. b ++ names_spelling ns) begun (ap (λ n. take n names) ended ∙ take-length names)
+    ∙ (append_assoc front (length names ∷ []) (names_spelling names) ∙ ap (λ p. front ++ path_spelling p) same))

@@ -1,5 +1,5 @@
 -- What is read of the parts of a directory, one name after the other.
-use Rattle.std.proofs.Common.{◌≡◌, ◌≢◌, ◌<◌, ◌^◌, ◌+◌, ℕ, true, List, [], ◌∷◌, ◌++◌, length, length-append, map, flat_map, refl, sym, ap, ap₂, ◌∙◌, subst, Option, Some, None, is_some, IsSome, append_assoc, append-nil, true≢false, arith}
+use Rattle.std.proofs.Common.{◌≡◌, ◌≢◌, ◌<◌, ◌≤◌, ◌^◌, ◌+◌, ℕ, true, List, [], ◌∷◌, ◌++◌, length, length-append, map, flat_map, refl, sym, ap, ap₂, ◌∙◌, subst, Option, Some, None, is_some, IsSome, append_assoc, append-nil, true≢false, arith}
 use Rattle.std.specs.Prelude.{All}
 use Rattle.std.specs.Int.{to_be_bytes, w16}
 use Rattle.std.specs.List.{AllByRecursion}
@@ -47,6 +47,10 @@ child_name above path child = (
   last_lawful above child.name (subst (All IsName) child.below child.lawful.names),
   ap last_name_spelling child.below ∙ child_last above child.name,
 )
+
+-- and a path has at most 16 names
+pub child_deeper : (above path : Path) → IsChildOf above path → (length path ≤ 16) × (length path ≡ length above + 1)
+child_deeper above path child = (child.lawful.not_deep, ap length child.below ∙ length-append above (child.name ∷ []))
 
 pub no_child : (above : Path) (bytes : Bytes) → IsReading IsName name_spelling bytes None → IsReading (IsChildOf above) last_name_spelling bytes None
 no_child above bytes none path rest begins =

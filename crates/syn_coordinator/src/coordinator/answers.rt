@@ -1,10 +1,10 @@
 //! The answers that come to a coordinator.
-ghost use Rattle.std.specs.Prelude.{◌≡◌, [], ℕ, None, Some, is_some, option_map, true};
+ghost use Rattle.std.specs.Prelude.{◌≡◌, [], ℕ, IfSome, None, Some, is_some, option_map, true};
 ghost use Rattle.syn_coordinator.specs.inner.Answered.{Answered};
 ghost use Rattle.syn_coordinator.specs.inner.Taking.{asks_to, TakesOn, TakesSo};
 ghost use Rattle.syn_coordinator.specs.inner.Walking.{ended_by};
 ghost use Rattle.syn_headline.specs.Coordinator.{CoordinatorMachine, CoordinatorTakes, Running};
-ghost use Rattle.syn_headline.specs.Coordinator.{Exchange, hearing, report_of};
+ghost use Rattle.syn_headline.specs.Coordinator.{Exchange, asked_in, hearing, report_of};
 ghost use Rattle.syn_headline.specs.Session.{fault_of};
 ghost use Rattle.syn_keep.specs.Machines.{IsMachine, Journal};
 ghost use Rattle.syn_message.specs.Replies.{IsLawfulReply, reply_of};
@@ -14,7 +14,8 @@ ghost use Rattle.syn_refusal.specs.Refusals.{cause_of};
 ghost use Rattle.syn_session.specs.Answering.{IsAnswering, exchange_of};
 ghost use Rattle.syn_session.specs.Hearing.{HasHeard, IsScanned};
 ghost use Rattle.syn_session.specs.Sendings.{messages_of};
-ghost use Rattle.syn_session.specs.Sessions.{IsSession, Tells};
+ghost use Rattle.syn_session.specs.Sessions.{IsSession, Tells, waiting_of};
+ghost use Rattle.syn_session.specs.Stages.{line_of};
 ghost use Rattle.syn_session.specs.declared.session.Session.{Session as Ran};
 
 use super::Coordinator;
@@ -57,11 +58,8 @@ impl<D: Limit> Coordinator<D> {
     {
         self.written = Vec::new(alloc);
         self.broke = false;
-        let Some(mut running) = self.running.take() else {
-            return Vec::new(alloc);
-        };
-        let Some(request) = running.answered(from, session, number) else {
-            self.running = Some(running);
+        let Some((mut running, request)) = self.expecting(from, session, number) else {
+            drop(reply);
             return Vec::new(alloc);
         };
         match self.take(alloc, &mut running, from, request, reply) {
@@ -69,6 +67,33 @@ impl<D: Limit> Coordinator<D> {
             Err(ended) => {
                 self.finish(alloc, running, ended);
                 Vec::new(alloc)
+            }
+        }
+    }
+
+    /// The session that runs, taken from the coordinator, and its request that waits for the answer
+    /// of that number from the side. Where no session runs or none waits, nothing is taken.
+    fn expecting(&mut self, from: Side, session: u64, number: u32) -> Option<(Session, Request)>
+        ensures some { IfSome result (λ it. (ran : Ran) × (self.old.running ≡ Some ran)
+            × (ran.number ≡ session)
+            × IsAnswering ran it.0 (which_of from) number (request_of it.1)) }
+        ensures none { result ≡ None → (self.new.running ≡ self.old.running) × ((ran : Ran)
+            → self.old.running ≡ Some ran → ran.number ≡ session
+            → asked_in (waiting_of (line_of ran (which_of from)).waiting) number ≡ None) }
+        ensures taken { IfSome result (λ _. self.new.running ≡ None) }
+        ensures archive { self.new.archive ≡ self.old.archive }
+        ensures kept { (self.new.written ≡ self.old.written) × (self.new.broke ≡ self.old.broke)
+            × (self.new.tried ≡ self.old.tried) }
+        ensures report { self.new.report ≡ self.old.report }
+    {
+        let Some(mut running) = self.running.take() else {
+            return None;
+        };
+        match running.answered(from, session, number) {
+            Some(request) => Some((running, request)),
+            None => {
+                drop(self.running.replace(running));
+                None
             }
         }
     }
@@ -114,12 +139,11 @@ impl<D: Limit> Coordinator<D> {
     {
         let left = session.left.scan.found();
         let right = session.right.scan.found();
-        let Ok(made) = Course::new(alloc, left, right, self.archive.tree()) else {
+        let Ok(mut course) = Course::new(alloc, left, right, self.archive.tree()) else {
             return Err(Ended::Early(Refusal::Memory));
         };
-        let mut course = made;
         let asks = self.walk(alloc, &mut course, left, right);
-        session.course = Some(course);
+        drop(session.course.replace(course));
         match asks {
             Ok((side, request)) => Ok(asks_to(side, request)),
             Err(ended) => Err(ended),
@@ -146,15 +170,14 @@ impl<D: Limit> Coordinator<D> {
             (written self.new) result }
     {
         transfer_laws();
-        let Some(taken) = session.course.take() else {
+        drop(request);
+        let Some(course) = &mut session.course else {
+            drop(reply);
             return Err(Ended::Early(Refusal::BadMessage));
         };
-        let mut course = taken;
         let left = session.left.scan.found();
         let right = session.right.scan.found();
-        let asks = self.on_carried(alloc, &mut course, left, right, reply);
-        session.course = Some(course);
-        match asks {
+        match self.on_carried(alloc, course, left, right, reply) {
             Ok((side, request)) => Ok(asks_to(side, request)),
             Err(ended) => Err(ended),
         }
@@ -176,7 +199,7 @@ impl<D: Disk> Coordinator<D> {
         let mut session = session;
         match session.ask(alloc, asks) {
             Ok(sends) => {
-                self.running = Some(session);
+                drop(self.running.replace(session));
                 sends
             }
             Err(_) => {
@@ -195,8 +218,10 @@ impl<D: Disk> Coordinator<D> {
         ensures report { (running : Running) → Tells session running
             → report_shown self.new ≡ Some (report_of running (ended_by ended)) }
     {
-        self.running = None;
-        self.report = Some(session.into_report(alloc, refusal_in(ended)));
+        // What was there is let go by calls, as in `into_parts`.
+        drop(self.running.take());
+        let report = session.into_report(alloc, refusal_in(ended));
+        drop(self.report.replace(report));
     }
 }
 

@@ -94,17 +94,18 @@ impl<D: Limit> Coordinator<D> {
         ensures report { self.new.report ≡ self.old.report }
     {
         if self.written.reserve(1).is_err() {
+            drop(kept);
             return Due::Ends(Refusal::Memory);
         }
         let due = keep_due(alloc, &mut self.archive, &kept);
         match due {
             Due::Recorded => self.written.push_reserved(kept),
-            Due::Refused(_) => {}
+            Due::Refused(_) => drop(kept),
             Due::Ends(Refusal::Device) => {
                 self.tried = Some(Tried::new(kept, &self.archive));
                 self.broke = true;
             }
-            Due::Ends(_) => {}
+            Due::Ends(_) => drop(kept),
         }
         due
     }
@@ -269,10 +270,13 @@ fn ask_first(alloc: Global, course: &mut Course, carried: Carried) -> Result<(Si
     let mut carried = carried;
     match carried.transfer.step(alloc, None) {
         Ok(Next::Ask(side, request)) => {
-            course.carried = Some(carried);
+            drop(course.carried.replace(carried));
             Ok((side, request))
         }
         // A transfer that has asked for nothing yet is not done, and no side refused anything.
-        _ => Err(Ended::Early(Refusal::Memory)),
+        _ => {
+            drop(carried);
+            Err(Ended::Early(Refusal::Memory))
+        }
     }
 }

@@ -3,6 +3,7 @@ use Rattle.std.proofs.Math.Seq.{take-length}
 use Rattle.syn_model.specs.Limits.{children}
 use Rattle.syn_wire.specs.Marks.{digest_spelling}
 use Rattle.syn_wire.specs.Trees.{pair_by}
+use Rattle.syn_wire.proofs.ByteLemmas.{not_added, begins_further}
 use Rattle.syn_wire.proofs.MarkLemmas.{few_names, marks_walk}
 use Rattle.syn_wire.proofs.WritingLemmas.{pairs_more}
 use Rattle.syn_wire.proofs.marks.write_marks.Goals as goal
@@ -27,3 +28,12 @@ returns-clause-added c =
     let ended : c.loop-entry.entry-index ≡ length list = omega (arith, c.loop-entry-test.false, c.loop-entry.auto.entry-index-end) in
     c.loop-entry.invariant ∙ ap (λ b. c.args.out.now.items ++ b) (ap (flat_map (pair_by digest_spelling t)) (ap (λ n. take n list) ended ∙ (take-length list ∙ c.as_slice-list.ensures.all))
     ∙ sym (marks_walk t c.as_slice-list.ensures.marks.part.parents c.as_slice-list.ensures.present))
+
+pub returns-clause-kept : goal.returns-clause-kept
+returns-clause-kept c = (_, c.loop-entry.invariant)
+
+pub returns-in_err-write_mark-clause-added : goal.returns-in_err-write_mark-clause-added
+returns-in_err-write_mark-clause-added c = not_added c.from_residual.result _ _ c.from_residual.ensures.1
+
+pub returns-in_err-write_mark-clause-kept : goal.returns-in_err-write_mark-clause-kept
+returns-in_err-write_mark-clause-kept c = begins_further c.args.out.now.items c.loop-entry.out.items c.write_mark.new.out.items (_, c.loop-entry.invariant) c.write_mark.ensures.kept

@@ -1,15 +1,10 @@
-use Rattle.std.proofs.Common.{◌≡◌, ◌<◌, ◌≤◌, ◌+◌, ℕ, length, Result, Ok, Err, inl, inr, refl, sym, ap, ◌∙◌, arith}
-use Rattle.std.proofs.lemmas.Result.{err_from_is_err_and}
+use Rattle.std.proofs.Common.{◌≡◌, ◌<◌, ◌≤◌, ◌+◌, ℕ, length, Err, true≢false, inl, inr, refl, sym, ap, subst, ◌∙◌, arith}
 use Rattle.syn_journal.specs.Layout.{image_alone, longest_image, IsBeforeOrAfter}
-use Rattle.syn_journal.specs.declared.error.JournalError.{JournalError}
-use Rattle.syn_journal.specs.declared.error.JournalError.TheVariants as journal
 use Rattle.syn_model.specs.Limits.{greatest_image}
 use Rattle.syn_model.specs.MarkSpelling.{archive_spelling}
 use Rattle.syn_archive.specs.Archive.{KeepsOrCompacts, left_shown}
-use Rattle.syn_archive.specs.Refusals.{of_journal}
-use Rattle.syn_archive.specs.declared.error.ArchiveError.{ArchiveError}
-use Rattle.syn_archive.specs.declared.error.ArchiveError.TheVariants.{Full, Memory}
 use Rattle.syn_archive.proofs.StandLemmas.{keeps_now, not_written, image_keeps, stop_compacts, left_behind, leaves_weaker, seen_is_left}
+use Rattle.syn_archive.proofs.ExitLemmas.{match_of_exit, memory_not_device, memory_not_full, memory_not_halted, if_err_of_exit, on_ok_of_exit, failures_of_journal, calls_of_journal, checkpoint_refusals, unchanged_of_journal, halts_of_journal, halted_of_journal, full_of_journal, readings_of}
 use Rattle.syn_archive.proofs.archive.Archive.checkpoint.Goals as goal
 
 pub returns-clause-acknowledged : goal.returns-clause-acknowledged
@@ -51,34 +46,133 @@ pub returns-clause-seen : goal.returns-clause-seen
 returns-clause-seen g c kept stands =
     seen_is_left g.D.Disk.seen g.D.Disk.may_leave g.D.Disk.moment g.D.Disk.left_since g.met.D.Disk.seen_may_stay g.met.D.Disk.counts_now _ _ (KeepsOrCompacts c.args.self.now kept) (returns-clause-any_moment g c kept stands)
 
--- a full journal alone is answered so
-only_full : (e : JournalError) → of_journal e ≡ Full → e ≡ journal.Full
-only_full journal.Full e = refl
-only_full journal.JournalFull e = cc
-only_full journal.Device e = cc
-only_full journal.Halted e = cc
-only_full journal.Memory e = cc
-only_full journal.NoImage e = cc
-only_full journal.Damaged e = cc
-
-refused_for : {X : Type 0} → Result X ArchiveError → ArchiveError
-refused_for (Ok x) = Memory
-refused_for (Err e) = e
-
 not_longer : (image spelled : ℕ) → image ≡ spelled → spelled ≤ greatest_image → longest_image < image → ⊥
 not_longer image spelled e fits long = omega (arith, e, fits, long)
 
 pub returns-in_err-checkpoint-clause-greatest : goal.returns-in_err-checkpoint-clause-greatest
-unfolding refused_for
 returns-in_err-checkpoint-clause-greatest g c kept stands =
     let laws = c.archive_laws.ensures in
     let pair = c.args.self.now.pair in
-    let p = err_from_is_err_and c.from_residual-in_err-checkpoint.result c.from_residual-in_err-checkpoint.ensures.1 in
     let image = c.deref.ensures.value ∙ (c.in_ok-image.ensures ∙ ap (archive_spelling pair) stands.remembers) in
     let fits = laws.image_fits pair kept (laws.sound pair stands.value.image stands.value.payloads kept stands.means) in
     let never : longest_image < length c.deref.result.now → ⊥ = not_longer (length c.deref.result.now) (length (archive_spelling pair kept)) (ap length image) fits in (
       λ full.
-          let error = only_full c.in_err-checkpoint.field-0.0 (sym p.2 ∙ ap refused_for (sym p.1 ∙ full)) in
-          elim (c.in_err-checkpoint.ensures.full.0 (ap (λ e. Err e) error)).1 [ inl long ↦ absurd (never long) | inr last ↦ last ],
+          full_of_journal c.from_residual-in_err-checkpoint.result c.in_err-checkpoint.field-0.0 c.from_residual-in_err-checkpoint.ensures.1 _
+          (λ is. elim (c.in_err-checkpoint.ensures.full.0 (ap (λ e. Err e) is)).1 [ inl long ↦ absurd (never long) | inr last ↦ last ]) full,
       λ last. absurd (omega (arith, c.if-generation.false, c.generation.ensures, last)),
     )
+
+pub returns-then-is_halted-clause-any_moment : goal.returns-then-is_halted-clause-any_moment
+returns-then-is_halted-clause-any_moment g c kept stands =
+    not_written g.met.D.Disk.only_now c.args.self.now kept stands _ (inl (keeps_now c.args.self.now kept stands))
+
+pub returns-then-generation-clause-any_moment : goal.returns-then-generation-clause-any_moment
+returns-then-generation-clause-any_moment g c kept stands =
+    not_written g.met.D.Disk.only_now c.args.self.now kept stands _ (inl (keeps_now c.args.self.now kept stands))
+
+pub returns-then-is_halted-clause-seen : goal.returns-then-is_halted-clause-seen
+returns-then-is_halted-clause-seen g c kept stands = inl (keeps_now c.args.self.now kept stands)
+
+pub returns-then-generation-clause-seen : goal.returns-then-generation-clause-seen
+returns-then-generation-clause-seen g c kept stands = inl (keeps_now c.args.self.now kept stands)
+
+pub returns-in_err-image-clause-seen : goal.returns-in_err-image-clause-seen
+returns-in_err-image-clause-seen g c kept stands = inl (keeps_now c.args.self.now kept stands)
+
+pub returns-then-generation-clause-halted : goal.returns-then-generation-clause-halted
+returns-then-generation-clause-halted g c = (λ halted. cc, λ halted. absurd (true≢false (sym (c.is_halted.ensures.halted.1 halted) ∙ c.if-is_halted.false)))
+
+pub returns-then-generation-clause-full : goal.returns-then-generation-clause-full
+returns-then-generation-clause-full g c full = inl (omega (arith, c.if-generation.true, c.generation.ensures))
+
+pub returns-then-generation-clause-greatest : goal.returns-then-generation-clause-greatest
+returns-then-generation-clause-greatest g c kept stands = (λ full. omega (arith, c.if-generation.true, c.generation.ensures), λ last. refl)
+
+pub returns-in_err-checkpoint-clause-failures : goal.returns-in_err-checkpoint-clause-failures
+returns-in_err-checkpoint-clause-failures g c =
+    failures_of_journal c.from_residual-in_err-checkpoint.result c.in_err-checkpoint.field-0.0 c.from_residual-in_err-checkpoint.ensures.1 _ _ c.in_err-checkpoint.ensures.failures
+
+pub returns-in_err-checkpoint-clause-calls : goal.returns-in_err-checkpoint-clause-calls
+returns-in_err-checkpoint-clause-calls g c =
+    calls_of_journal c.from_residual-in_err-checkpoint.result c.in_err-checkpoint.field-0.0 c.from_residual-in_err-checkpoint.ensures.1 _ 6 _ _ c.in_err-checkpoint.ensures.calls
+
+pub returns-in_err-checkpoint-clause-refusals : goal.returns-in_err-checkpoint-clause-refusals
+returns-in_err-checkpoint-clause-refusals g c =
+    checkpoint_refusals c.from_residual-in_err-checkpoint.result c.in_err-checkpoint.field-0.0 c.from_residual-in_err-checkpoint.ensures.1 c.in_err-checkpoint.ensures.refusals
+
+pub returns-in_err-checkpoint-clause-unchanged : goal.returns-in_err-checkpoint-clause-unchanged
+returns-in_err-checkpoint-clause-unchanged g c =
+    unchanged_of_journal c.from_residual-in_err-checkpoint.result c.in_err-checkpoint.field-0.0 c.from_residual-in_err-checkpoint.ensures.1 _ c.in_err-checkpoint.ensures.unchanged
+
+pub returns-in_err-checkpoint-clause-halts : goal.returns-in_err-checkpoint-clause-halts
+returns-in_err-checkpoint-clause-halts g c =
+    halts_of_journal c.from_residual-in_err-checkpoint.result c.in_err-checkpoint.field-0.0 c.from_residual-in_err-checkpoint.ensures.1 _ (λ is. c.in_err-checkpoint.ensures.halts (ap (λ e. Err e) is))
+
+pub returns-in_err-checkpoint-clause-halted : goal.returns-in_err-checkpoint-clause-halted
+returns-in_err-checkpoint-clause-halted g c =
+    halted_of_journal c.from_residual-in_err-checkpoint.result c.in_err-checkpoint.field-0.0 c.from_residual-in_err-checkpoint.ensures.1 _ (λ halted. true≢false (sym (c.is_halted.ensures.halted.1 halted) ∙ c.if-is_halted.false)) (λ is. c.in_err-checkpoint.ensures.halted.0 (ap (λ e. Err e) is))
+
+pub returns-in_err-checkpoint-clause-full : goal.returns-in_err-checkpoint-clause-full
+returns-in_err-checkpoint-clause-full g c =
+    full_of_journal c.from_residual-in_err-checkpoint.result c.in_err-checkpoint.field-0.0 c.from_residual-in_err-checkpoint.ensures.1 _
+    (λ is. elim (c.in_err-checkpoint.ensures.full.0 (ap (λ e. Err e) is)).1 [
+      inl long ↦ inr (subst (λ image. longest_image < length image) (c.deref.ensures.value ∙ c.in_ok-image.ensures) long)
+    | inr last ↦ inl last
+    ])
+
+pub returns-in_err-checkpoint-clause-readings : goal.returns-in_err-checkpoint-clause-readings
+returns-in_err-checkpoint-clause-readings g c =
+    if_err_of_exit c.from_residual-in_err-checkpoint.result _ _ c.from_residual-in_err-checkpoint.ensures.1
+    (readings_of c.args.self.now _ refl refl c.in_err-checkpoint.ensures.gate c.in_err-checkpoint.ensures.generation)
+
+pub returns-in_err-checkpoint-clause-acknowledged : goal.returns-in_err-checkpoint-clause-acknowledged
+returns-in_err-checkpoint-clause-acknowledged g c kept stands =
+    on_ok_of_exit c.from_residual-in_err-checkpoint.result _ _ c.from_residual-in_err-checkpoint.ensures.1
+
+pub returns-in_err-checkpoint-clause-image : goal.returns-in_err-checkpoint-clause-image
+returns-in_err-checkpoint-clause-image g c =
+    on_ok_of_exit c.from_residual-in_err-checkpoint.result _ _ c.from_residual-in_err-checkpoint.ensures.1
+
+pub returns-in_err-checkpoint-clause-generation : goal.returns-in_err-checkpoint-clause-generation
+returns-in_err-checkpoint-clause-generation g c =
+    on_ok_of_exit c.from_residual-in_err-checkpoint.result _ _ c.from_residual-in_err-checkpoint.ensures.1
+
+pub returns-in_err-image-clause-failures : goal.returns-in_err-image-clause-failures
+returns-in_err-image-clause-failures g c =
+    match_of_exit c.from_residual.result _ _ _ c.from_residual.ensures.1 refl
+
+pub returns-in_err-image-clause-calls : goal.returns-in_err-image-clause-calls
+returns-in_err-image-clause-calls g c =
+    match_of_exit c.from_residual.result _ _ _ c.from_residual.ensures.1 refl
+
+pub returns-in_err-image-clause-refusals : goal.returns-in_err-image-clause-refusals
+returns-in_err-image-clause-refusals g c =
+    if_err_of_exit c.from_residual.result _ _ c.from_residual.ensures.1 tt
+
+pub returns-in_err-image-clause-unchanged : goal.returns-in_err-image-clause-unchanged
+returns-in_err-image-clause-unchanged g c =
+    if_err_of_exit c.from_residual.result _ _ c.from_residual.ensures.1 (inr refl)
+
+pub returns-in_err-image-clause-halts : goal.returns-in_err-image-clause-halts
+returns-in_err-image-clause-halts g c =
+    memory_not_device c.from_residual.result c.from_residual.ensures.1 _
+
+pub returns-in_err-image-clause-full : goal.returns-in_err-image-clause-full
+returns-in_err-image-clause-full g c =
+    memory_not_full c.from_residual.result c.from_residual.ensures.1 _
+
+pub returns-in_err-image-clause-readings : goal.returns-in_err-image-clause-readings
+returns-in_err-image-clause-readings g c =
+    if_err_of_exit c.from_residual.result _ _ c.from_residual.ensures.1 (readings_of c.args.self.now _ refl refl refl refl)
+
+pub returns-in_err-image-clause-halted : goal.returns-in_err-image-clause-halted
+returns-in_err-image-clause-halted g c =
+    memory_not_halted c.from_residual.result c.from_residual.ensures.1 _ (λ halted. true≢false (sym (c.is_halted.ensures.halted.1 halted) ∙ c.if-is_halted.false))
+
+pub returns-in_err-image-clause-greatest : goal.returns-in_err-image-clause-greatest
+returns-in_err-image-clause-greatest g c kept stands =
+    (memory_not_full c.from_residual.result c.from_residual.ensures.1 _, λ last. absurd (omega (arith, c.if-generation.false, c.generation.ensures, last)))
+
+pub returns-then-is_halted-clause-greatest : goal.returns-then-is_halted-clause-greatest
+returns-then-is_halted-clause-greatest g c kept stands =
+    absurd (true≢false (sym (c.is_halted.ensures.halted.0 c.if-is_halted.true) ∙ stands.runs.running))

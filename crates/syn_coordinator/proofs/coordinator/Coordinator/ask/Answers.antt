@@ -1,4 +1,4 @@
-use Rattle.std.proofs.Common.{refl, ap, map, ◌∙◌}
+use Rattle.std.proofs.Common.{ap, map, ◌∙◌}
 use Rattle.syn_headline.specs.Network.{Left, Right, Which}
 use Rattle.syn_session.specs.Sendings.{messages_of}
 use Rattle.syn_session.specs.Answering.{IsAskedOn, asks_of}
@@ -9,7 +9,7 @@ use Rattle.syn_coordinator.proofs.coordinator.Coordinator.ask.Goals as goal
 
 pub returns-in-Ok : goal.returns-in-Ok
 returns-in-Ok g c = record {
-  step = λ pair machine running taken quiet untried on. asked_so pair machine running taken _ c.args.session c.ask.new.self _ c.args.asks on quiet asked c.in-Ok.ensures.number c.in-Ok.ensures.unstable c.in-Ok.ensures.course untried refl _ c.in-Ok.ensures.sends;
+  step = λ pair machine running taken quiet untried on. asked_so pair machine running taken _ c.args.session c.ask.new.self _ c.args.asks on quiet asked c.in-Ok.ensures.number c.in-Ok.ensures.unstable c.in-Ok.ensures.course untried c.replace.ensures.after _ c.in-Ok.ensures.sends;
 }
   where
     asked : (side : Which) → IsAskedOn (line_of c.args.session side) (line_of c.ask.new.self side) (asks_of c.args.asks side)

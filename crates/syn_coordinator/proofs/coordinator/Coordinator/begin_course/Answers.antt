@@ -5,7 +5,7 @@ use Rattle.syn_model.specs.Plan.{plan}
 use Rattle.syn_scan.specs.Found.{scan_of}
 use Rattle.syn_coordinator.specs.Coordinators.{written}
 use Rattle.syn_session.specs.Stages.{plan_in}
-use Rattle.syn_coordinator.specs.inner.Taking.{TakesOn}
+use Rattle.syn_coordinator.specs.inner.Taking.{TakesEnd, TakesOn}
 use Rattle.syn_session.specs.Passing.{first_reached}
 use Rattle.syn_coordinator.proofs.BeginLemmas.{at_first, begins_asking, begins_ending, no_plan}
 use Rattle.syn_coordinator.proofs.coordinator.Coordinator.begin_course.Goals as goal
@@ -22,17 +22,18 @@ returns-in-Ok-asks g c = record {
       let session = c.args.session.now in
       let left = c.found-left.result.now in
       let right = c.found-right.result.now in
-      let made = c.in-Ok.made in
+      let made = c.in-Ok.course in
       let same_left = c.found-left.ensures.found in
       let same_right = c.found-right.ensures.found in
       let marks = c.tree.ensures ∙ ap (λ (a : Archive). a.marks) is.remembers in
       let walked = c.in-Ok-asks.ensures.step pair journal taken (running.taken ++ taken ∷ []) (first_reached (plan_in made left right)) is quiet (at_first self pair journal running taken session is fault heard scanned nothing made left right same_left same_right c.in-Ok.ensures.begun) in (
-        subst (TakesOn c.walk-asks.new.self.archive pair journal running taken (record session { course = Some c.walk-asks.new.course }) (written c.walk-asks.new.self)) (sym c.asks_to.ensures)
+        subst (λ course. TakesOn c.walk-asks.new.self.archive pair journal running taken (record session { course = course }) (written c.walk-asks.new.self) c.asks_to.result) (sym c.replace.ensures.after)
+            (subst (TakesOn c.walk-asks.new.self.archive pair journal running taken (record session { course = Some c.walk-asks.new.course }) (written c.walk-asks.new.self)) (sym c.asks_to.ensures)
             (begins_asking self pair journal running taken session is fault heard scanned nothing made left right same_left same_right c.in-Ok.ensures.begun
             (c.in-Ok.ensures.items ∙ ap (plan (scan_of left) (scan_of right)) marks)
             (c.found-left.ensures.scan Left (running.taken ++ taken ∷ []) (scanned.whole Left) (scanned.found Left))
             (c.found-right.ensures.scan Right (running.taken ++ taken ∷ []) (scanned.whole Right) (scanned.found Right))
-            c.walk-asks.new.self c.walk-asks.new.course c.in-Ok-asks.side c.in-Ok-asks.request walked),
+            c.walk-asks.new.self c.walk-asks.new.course c.in-Ok-asks.side c.in-Ok-asks.request walked)),
         walked.3,
       );
 }
@@ -44,14 +45,15 @@ returns-in-Err g c = record {
       let session = c.args.session.now in
       let left = c.found-left.result.now in
       let right = c.found-right.result.now in
-      let made = c.in-Ok.made in
+      let made = c.in-Ok.course in
       let same_left = c.found-left.ensures.found in
       let same_right = c.found-right.ensures.found in
       let marks = c.tree.ensures ∙ ap (λ (a : Archive). a.marks) is.remembers in
       let walked = c.in-Err.ensures.step pair journal taken (running.taken ++ taken ∷ []) (first_reached (plan_in made left right)) is quiet (at_first self pair journal running taken session is fault heard scanned nothing made left right same_left same_right c.in-Ok.ensures.begun) in
-      begins_ending self pair journal running taken session is fault heard scanned nothing made left right same_left same_right c.in-Ok.ensures.begun
+      subst (λ course. TakesEnd c.walk-asks.new.self.archive c.walk-asks.new.self.tried pair journal running taken (record session { course = course }) (written c.walk-asks.new.self) c.in-Err.ended) (sym c.replace.ensures.after)
+      (begins_ending self pair journal running taken session is fault heard scanned nothing made left right same_left same_right c.in-Ok.ensures.begun
       (c.in-Ok.ensures.items ∙ ap (plan (scan_of left) (scan_of right)) marks)
       (c.found-left.ensures.scan Left (running.taken ++ taken ∷ []) (scanned.whole Left) (scanned.found Left))
       (c.found-right.ensures.scan Right (running.taken ++ taken ∷ []) (scanned.whole Right) (scanned.found Right))
-      c.walk-asks.new.self c.walk-asks.new.course c.in-Err.ended walked;
+      c.walk-asks.new.self c.walk-asks.new.course c.in-Err.ended walked);
 }

@@ -1,9 +1,9 @@
-use Rattle.std.proofs.Common.{refl, subst}
+use Rattle.std.proofs.Common.{refl, subst, sym}
 use Rattle.syn_headline.specs.Side.{Staged}
 use Rattle.syn_message.specs.Requests.{request_of}
 use Rattle.syn_message.specs.Sides.{which_of}
 use Rattle.syn_propagate.specs.Transfers.{Asks, Follows}
-use Rattle.syn_session.specs.Stages.{plan_in}
+use Rattle.syn_session.specs.Stages.{Carries, plan_in}
 use Rattle.syn_coordinator.proofs.FreshLemmas.{asked_past}
 use Rattle.syn_session.proofs.CarryingLemmas.{carries_on}
 use Rattle.syn_coordinator.proofs.SettleLemmas.{fresh_for}
@@ -13,7 +13,8 @@ pub returns-in-Ok-Ask-clause-step : goal.returns-in-Ok-Ask-clause-step
 returns-in-Ok-Ask-clause-step c archive left right all before planned is at carries ready asked =
     let course = c.args.course.now in
     let fresh = fresh_for c.plan_laws.ensures.orderly archive course left right before is planned at c.args.carried carries all asked in
-    carries_on archive course left right before is planned at c.args.carried (record c.args.carried { transfer = c.step.new.self }) c.step.ensures.carriage refl carries all
+    subst (λ carried. Carries archive (record course { carried = carried }) left right all before (λ transfer. Asks transfer all (which_of c.in-Ok-Ask.side) (request_of c.in-Ok-Ask.request))) (sym c.replace.ensures.after)
+    (carries_on archive course left right before is planned at c.args.carried (record c.args.carried { transfer = c.step.new.self }) c.step.ensures.carriage refl carries all
     (asked_past (plan_in course left right) course.cursor all asked)
     (λ transfer. Asks transfer all (which_of c.in-Ok-Ask.side) (request_of c.in-Ok-Ask.request))
-    (subst (λ next. Follows c.step.new.self all Staged next) c.in-Ok-Ask.field-0-is (c.in-Ok-Ask.ensures.starts all refl ready fresh Staged))
+    (subst (λ next. Follows c.step.new.self all Staged next) c.in-Ok-Ask.field-0-is (c.in-Ok-Ask.ensures.starts all refl ready fresh Staged)))
