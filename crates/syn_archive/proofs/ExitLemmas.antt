@@ -1,4 +1,4 @@
--- What holds of a refusal holds of the exit that answers it.
+-- What an exit says that answers a refusal of the journal, of the marks, or for want of memory.
 use Rattle.std.specs.Prelude.{◌↔◌, Result, Ok, Err, IsErrAnd, IfOk, IfErr, OnOk, MatchResult}
 use Rattle.std.proofs.Common.{◌≡◌, ◌⊎◌, ◌∙◌, ◌-◌, ℕ, Bool, true, false, true≢false, inl, inr, refl, sym, ap, subst}
 use Rattle.syn_disk.specs.Arms.{Arms}
@@ -8,6 +8,7 @@ use Rattle.syn_journal.specs.Layout.{half_size}
 use Rattle.syn_journal.specs.Refusals as by_journal
 use Rattle.syn_journal.specs.declared.error.JournalError.{JournalError}
 use Rattle.syn_journal.specs.declared.error.JournalError.TheVariants as journal
+use Rattle.syn_model.proofs.ExitLemmas.{exit_is, match_of_exit, if_err_of_exit}
 use Rattle.syn_tree.specs.declared.error.TreeError.{TreeError}
 use Rattle.syn_tree.specs.declared.error.TreeError.TheVariants as tree
 use Rattle.syn_archive.specs.Archive.{KeepsReadings, pair_of, shown, journal_of}
@@ -16,33 +17,7 @@ use Rattle.syn_archive.specs.declared.archive.Archive.{Archive}
 use Rattle.syn_archive.specs.declared.error.ArchiveError.{ArchiveError}
 use Rattle.syn_archive.specs.declared.error.ArchiveError.TheVariants.{Full, JournalFull, Device, Halted, Memory, NoImage, Damaged, NoParent, Root, WrongPair}
 
--- the exit of a `?` is its refusal
-pub exit_is : {T : Type 0} (result : Result T ArchiveError) (refusal : ArchiveError) → IsErrAnd result (λ e. e ≡ refusal) → result ≡ Err refusal
-exit_is (Ok value) refusal is = absurd is
-exit_is (Err error) refusal is = ap (λ e. Err e) is
-
--- and so is what holds of it
-pub match_of_exit : {T : Type 0} (result : Result T ArchiveError) (refusal : ArchiveError) (P : T → Type 0) (Q : ArchiveError → Type 0)
-    → IsErrAnd result (λ e. e ≡ refusal) → Q refusal → MatchResult result P Q
-match_of_exit (Ok value) refusal P Q is holds = absurd is
-match_of_exit (Err error) refusal P Q is holds = subst Q (sym is) holds
-
-pub if_err_of_exit : {T : Type 0} (result : Result T ArchiveError) (refusal : ArchiveError) (Q : ArchiveError → Type 0)
-    → IsErrAnd result (λ e. e ≡ refusal) → Q refusal → IfErr result Q
-if_err_of_exit (Ok value) refusal Q is holds = absurd is
-if_err_of_exit (Err error) refusal Q is holds = subst Q (sym is) holds
-
--- nothing is said of it where the call succeeds
-pub on_ok_of_exit : {T : Type 0} (result : Result T ArchiveError) (refusal : ArchiveError) (P : Type 0) → IsErrAnd result (λ e. e ≡ refusal) → OnOk result P
-on_ok_of_exit (Ok value) refusal P is = absurd is
-on_ok_of_exit (Err error) refusal P is = tt
-
--- nor is it of what the call gives
-pub if_ok_of_exit : {T : Type 0} (result : Result T ArchiveError) (refusal : ArchiveError) (P : T → Type 0) → IsErrAnd result (λ e. e ≡ refusal) → IfOk result P
-if_ok_of_exit (Ok value) refusal P is = absurd is
-if_ok_of_exit (Err error) refusal P is = tt
-
--- and what that is equal to
+-- an exit is what its refusal is equal to
 pub exit_same : {T : Type 0} (result : Result T ArchiveError) (refusal other : ArchiveError) → IsErrAnd result (λ e. e ≡ refusal) → refusal ≡ other → IsErrAnd result (λ e. e ≡ other)
 exit_same result refusal other is same = subst (λ r. IsErrAnd result (λ e. e ≡ r)) same is
 

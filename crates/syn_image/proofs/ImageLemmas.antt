@@ -223,11 +223,6 @@ images_tell trees v w r s hv hw e =
 pub one_behind : (old mid new a b : Bytes) → mid ≡ old ++ a → new ≡ mid ++ b → new ≡ old ++ (a ++ b)
 one_behind old mid new a b first second = second ∙ (ap (λ x. x ++ b) first ∙ append_assoc old a b)
 
--- the exit of a `?` is none of success
-pub not_written : {T E : Type 0} (result : Result T E) (Q : E → Type 0) (P : Type 0) → IsErrAnd result Q → OnOk result P
-not_written (Ok value) Q P is = absurd is
-not_written (Err error) Q P is = tt
-
 -- one touch more
 pub touch_more : (touches : List Touch) (i : ℕ) (x : Touch) (out old new : Bytes) → i < length touches → x ≡ slice_index_or touches i x → old ≡ out ++ each_spelling (take i touches) → new ≡ old ++ touch_spelling x → new ≡ out ++ each_spelling (take (i + 1) touches)
 touch_more touches i x out old new l is so_far added =

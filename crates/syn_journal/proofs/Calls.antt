@@ -1,6 +1,7 @@
 -- The device calls of one run and then another.
 use Rattle.std.specs.Prelude.{◌⊎◌, Result, Ok, Err, MatchResult, OnOk, IsErrAnd}
 use Rattle.std.proofs.Common.{inl, inr, ◌≡◌, ℕ, zero, suc, ◌+◌, ◌≤◌, false, refl, sym, subst, arith}
+use Rattle.syn_model.proofs.ExitLemmas.{match_of_exit}
 use Rattle.syn_disk.specs.Arms.{Arms, after_call, is_refused}
 use Rattle.syn_disk.specs.Calls.{Makes, MakesAtLeast, Breaks, BreaksSometime, MakesUpTo, MakesReads}
 use Rattle.syn_journal.specs.Refusals.{AfterReads, CountsFailures, ReadsAtLeast}
@@ -107,13 +108,7 @@ pub reads_of_exit : {T : Type 0} (least : ℕ) (result : Result T JournalError) 
 reads_of_exit least (Ok value) refusal old new is after = absurd is
 reads_of_exit least (Err error) refusal old new is after = subst (λ e. AfterReads least e old new) (sym is) after
 
--- what holds of the refusal holds of the exit
-pub match_of_exit : {T : Type 0} (result : Result T JournalError) (refusal : JournalError) (P : T → Type 0) (Q : JournalError → Type 0)
-    → IsErrAnd result (λ e. e ≡ refusal) → Q refusal → MatchResult result P Q
-match_of_exit (Ok value) refusal P Q is holds = absurd is
-match_of_exit (Err error) refusal P Q is holds = subst Q (sym is) holds
-
--- and where no call failed before it
+-- what holds of the refusal holds of the exit, where no call failed before it
 pub counts_of_exit : {T : Type 0} (result : Result T JournalError) (refusal : JournalError) (old mid new : ℕ)
     → IsErrAnd result (λ e. e ≡ refusal) → mid ≡ old → CountsFailures refusal mid new → MatchResult result (λ _. new ≡ old) (λ e. CountsFailures e old new)
 counts_of_exit result refusal old mid new is same counts =

@@ -20,6 +20,7 @@ pub mod DirectoryLemmas
 pub mod CarryLemmas
 pub mod DecisionLemmas
 pub mod ResultLemmas
+pub mod ExitLemmas
 pub mod PlanSteps
 pub mod PlanCover
 pub mod PlanNames

@@ -4,6 +4,7 @@ use Rattle.std.specs.Prelude.{IsErrAnd, IfErr, OnOk, MatchResult}
 use Rattle.std.specs.List.{list_any, AllByRecursion}
 use Rattle.std.proofs.lemmas.Bool.Decides.{nat_tests}
 use Rattle.std.proofs.lemmas.Option.{none-some, same_Some}
+use Rattle.syn_model.proofs.ExitLemmas.{match_of_exit, if_err_of_exit}
 use Rattle.syn_model.specs.Refusal.{Refusal, number, Cause, first_cause}
 use Rattle.syn_model.specs.Refusal as why
 use Rattle.syn_model.specs.Event.{Edit, Event, Put, MakeDir, Remove, Edited, Began, Replaced}
@@ -102,20 +103,6 @@ refused_by (Err x) answered cause e none device told = elim told as (λ _. (refu
   | inr is ↦ inl (same_refusal x cause answered is e)
 ]
 
--- a refusal for want of memory is one that no history is the cause of
-pub outside_or : (P : Type 0) (e : ReplicaError) → (refusal_of e ≡ why.Memory) ⊎ P → IsOneOf outside_refusals e ⊎ P
-outside_or P e (inl memory) = inl (ap (is_among outside_refusals) memory)
-outside_or P e (inr cause) = inr cause
-
--- what is answered is the cause that stands, or want of memory
-pub memory_or_cause : (answered : Option Refusal) (e : ReplicaError) (cause : Refusal) → (refusal_of e ≡ why.Memory) ⊎ (answered ≡ Some (refusal_of e)) → answered ≡ Some cause → (refusal_of e ≡ cause) ⊎ (refusal_of e ≡ why.Memory)
-memory_or_cause answered e cause (inl memory) stands = inr memory
-memory_or_cause answered e cause (inr told) stands = inl (same_Some _ _ (sym told ∙ stands))
-
-pub is_err_of_exit : {X : Type 0} (r : Result X ReplicaError) (e : ReplicaError) → IsErrAnd r (λ x. x ≡ e) → (Q : ReplicaError → Type 0) → Q e → IsErrAnd r Q
-is_err_of_exit (Ok x) e is Q holds = absurd is
-is_err_of_exit (Err x) e is Q holds = subst Q (sym is) holds
-
 -- what a clause says of each refusal, where all are for what no history is the cause of
 pub or_outside : {X : Type 0} (Q : ReplicaError → Type 0) (r : Result X ReplicaError) → IfErr r (IsOneOf outside_refusals) → IfErr r (λ e. IsOneOf outside_refusals e ⊎ Q e)
 or_outside Q (Ok x) h = tt
@@ -185,36 +172,20 @@ no_calls replica.OldSession most arms quiet = refl
 no_calls replica.Damaged most arms quiet = refl
 no_calls replica.WrongPair most arms quiet = refl
 
--- what holds of the refusal holds of the exit
-module _ {X : Type 0} (r : Result X ReplicaError) (e : ReplicaError) (is : IsErrAnd r (λ x. x ≡ e)) where
-  pub match_of_exit : (P : X → Type 0) (Q : ReplicaError → Type 0) → Q e → MatchResult r P Q
-  match_of_exit P Q holds = at r is
+-- what a clause says of an exit, where no device call failed, and nothing changed
+module _ {X : Type 0} (r : Result X ReplicaError) (e : ReplicaError) (is : IsErrAnd r (λ x. x ≡ e)) (quiet : refusal_of e ≡ why.Device → ⊥) where
+  pub quiet_failures : (P : X → Type 0) (n : ℕ) → MatchResult r P (λ e. CountsFailures e n n)
+  quiet_failures P n = match_of_exit r e P (λ e. CountsFailures e n n) is (no_failure e n quiet)
+
+  pub quiet_calls : (P : X → Type 0) (most : ℕ) (arms : Arms) → MatchResult r P (λ e. MakesIfDevice e most arms arms)
+  quiet_calls P most arms = match_of_exit r e P (λ e. MakesIfDevice e most arms arms) is (no_calls e most arms quiet)
+
+  pub quiet_device : (Q : Type 0) → IfErr r (λ e. refusal_of e ≡ why.Device → Q)
+  quiet_device Q = if_err_of_exit r e (λ e. refusal_of e ≡ why.Device → Q) is (λ device. absurd (quiet device))
+
+  pub quiet_tries : {D : Type 0} {disk : Ghosts D} (old : Replica D disk) (event : Event) → Tries old old event r
+  quiet_tries old event = at r is
     where
-      at : (r : Result X ReplicaError) → IsErrAnd r (λ x. x ≡ e) → MatchResult r P Q
+      at : (r : Result X ReplicaError) → IsErrAnd r (λ x. x ≡ e) → Tries old old event r
       at (Ok x) same = absurd same
-      at (Err x) same = subst Q (sym same) holds
-
-  pub if_err_of_exit : (Q : ReplicaError → Type 0) → Q e → IfErr r Q
-  if_err_of_exit Q holds = at r is
-    where
-      at : (r : Result X ReplicaError) → IsErrAnd r (λ x. x ≡ e) → IfErr r Q
-      at (Ok x) same = absurd same
-      at (Err x) same = subst Q (sym same) holds
-
-  -- where no device call failed, and nothing changed
-  module _ (quiet : refusal_of e ≡ why.Device → ⊥) where
-    pub quiet_failures : (P : X → Type 0) (n : ℕ) → MatchResult r P (λ e. CountsFailures e n n)
-    quiet_failures P n = match_of_exit P (λ e. CountsFailures e n n) (no_failure e n quiet)
-
-    pub quiet_calls : (P : X → Type 0) (most : ℕ) (arms : Arms) → MatchResult r P (λ e. MakesIfDevice e most arms arms)
-    quiet_calls P most arms = match_of_exit P (λ e. MakesIfDevice e most arms arms) (no_calls e most arms quiet)
-
-    pub quiet_device : (Q : Type 0) → IfErr r (λ e. refusal_of e ≡ why.Device → Q)
-    quiet_device Q = if_err_of_exit (λ e. refusal_of e ≡ why.Device → Q) (λ device. absurd (quiet device))
-
-    pub quiet_tries : {D : Type 0} {disk : Ghosts D} (old : Replica D disk) (event : Event) → Tries old old event r
-    quiet_tries old event = at r is
-      where
-        at : (r : Result X ReplicaError) → IsErrAnd r (λ x. x ≡ e) → Tries old old event r
-        at (Ok x) same = absurd same
-        at (Err x) same = inr ((λ device. quiet (ap refusal_of (sym same) ∙ device)), refl)
+      at (Err x) same = inr ((λ device. quiet (ap refusal_of (sym same) ∙ device)), refl)

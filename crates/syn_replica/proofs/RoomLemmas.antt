@@ -3,6 +3,7 @@ use Rattle.std.proofs.Common.{◌≡◌, ◌<◌, ◌≤◌, ℕ, true, false, i
 use Rattle.std.specs.Int.{to_be_bytes, w32, w64}
 use Rattle.std.specs.Prelude.{IfErr, IsErrAnd}
 use Rattle.std.proofs.lemmas.Bool.Decides.{nat_tests}
+use Rattle.syn_model.proofs.ExitLemmas.{if_err_of_exit}
 use Rattle.syn_model.specs.Event.{Edit, Put, MakeDir, Remove, Token, Event, Edited, Began, Replaced}
 use Rattle.syn_model.specs.Path.{Path, path_spelling}
 use Rattle.syn_model.specs.Tree.{Tree}
@@ -45,15 +46,16 @@ refused_at room standing event refusal e = first_stays (causes_at standing event
 module _ {X : Type 0} (room : ℕ) (standing : Standing) (event : Event) where
   pub update_refused : (r : Result X ReplicaError) (e : ReplicaError) → IsErrAnd r (λ x. x ≡ e) → (refusal_of e ≡ why.Memory) ⊎ (refusal_at standing event ≡ Some (refusal_of e))
       → IfErr r (λ e. IsOneOf outside_refusals e ⊎ (add_refusal_at room standing event ≡ Some (refusal_of e)))
-  update_refused (Ok x) e is told = absurd is
-  update_refused (Err x) e is (inl memory) = inl (ap (is_among outside_refusals) (ap refusal_of is ∙ memory))
-  update_refused (Err x) e is (inr cause) = inr (refused_at room standing event (refusal_of x) (cause ∙ ap (λ x. Some (refusal_of x)) (sym is)))
+  update_refused r e is told = if_err_of_exit r e (λ e. IsOneOf outside_refusals e ⊎ (add_refusal_at room standing event ≡ Some (refusal_of e))) is
+      (elim told as (λ _. IsOneOf outside_refusals e ⊎ (add_refusal_at room standing event ≡ Some (refusal_of e))) [
+        | inl memory ↦ inl (ap (is_among outside_refusals) memory)
+        | inr cause ↦ inr (refused_at room standing event (refusal_of e) cause)
+      ])
 
   pub room_refused : (r : Result X ReplicaError) (e : ReplicaError) (needed : ℕ) → IsErrAnd r (λ x. x ≡ e) → refusal_at standing event ≡ None → needed ≡ length (event_spelling event) → (e ≡ Journal JournalFull) × (room < needed)
       → IfErr r (λ e. IsOneOf outside_refusals e ⊎ (add_refusal_at room standing event ≡ Some (refusal_of e)))
-  room_refused (Ok x) e needed is none spelled told = absurd is
-  room_refused (Err x) e needed is none spelled told =
-      inr (room_at room standing event none (subst (λ n. room < n) spelled told.1) ∙ sym (ap (λ x. Some (refusal_of x)) (is ∙ told.0)))
+  room_refused r e needed is none spelled told = if_err_of_exit r e (λ e. IsOneOf outside_refusals e ⊎ (add_refusal_at room standing event ≡ Some (refusal_of e))) is
+      (inr (room_at room standing event none (subst (λ n. room < n) spelled told.1) ∙ sym (ap (λ x. Some (refusal_of x)) told.0)))
 
 -- which refusals an addition may answer
 module _ (refusals : List Refusal) (memory : is_among refusals why.Memory ≡ true) (device : is_among refusals why.Device ≡ true) where

@@ -4,6 +4,7 @@ use Rattle.std.specs.Prelude.{IfOk, IfErr, IsErrAnd, IfSome}
 use Rattle.std.proofs.lemmas.List.{length-append}
 use Rattle.std.proofs.lemmas.Bool.Decides.{nat_tests}
 use Rattle.std.proofs.lemmas.Option.{none-some, same_Some}
+use Rattle.syn_model.proofs.ExitLemmas.{if_err_of_exit, is_err_of_exit}
 use Rattle.syn_model.specs.Path.{Path}
 use Rattle.syn_model.specs.Tree.{Tree, replace}
 use Rattle.syn_model.specs.Event.{Token, Event, Began, Replaced}
@@ -59,11 +60,10 @@ module _ (room : ℕ) (history : History) (token : Token) (path : Path) (since :
   pub refused_part : {X : Type 0} (r : Result X ReplicaError) (e : ReplicaError) (standing : Standing) (tree : Tree) (old : Bool) → IsErrAnd r (λ x. x ≡ e) → standing ≡ standing_of history → old ≡ is_old standing.session standing.token token → old ≡ false
       → None ≡ first_cause (since_causes history path since) → tree ≡ standing.tree → tree_refusal tree path new ≡ Some (refusal_of e)
       → IfErr r (λ e. (refusal_of e ≡ Memory) ⊎ (replace_refusal room history token path since new ≡ Some (refusal_of e)))
-  refused_part (Err x) e standing tree old same is tests current none there refused =
-      subst (λ e. (refusal_of e ≡ Memory) ⊎ (replace_refusal room history token path since new ≡ Some (refusal_of e))) (sym same)
+  refused_part r e standing tree old same is tests current none there refused =
+      if_err_of_exit r e (λ e. (refusal_of e ≡ Memory) ⊎ (replace_refusal room history token path since new ≡ Some (refusal_of e))) same
       (inr (refused_place (ap (λ s. is_old s.session s.token token) (sym is) ∙ (sym tests ∙ current)) (sym none) (refusal_of e)
       (ap (λ t. tree_refusal t path new) (ap (λ s. s.tree) (sym is) ∙ sym there) ∙ refused)))
-  refused_part (Ok x) e standing tree old same is tests current none there refused = absurd same
 
 -- ---- the causes at a begin
 
@@ -100,18 +100,10 @@ module _ (room own : ℕ) (history : History) (pair session : ℕ) where
     answered = rest_at standing begun_last is same last other ∙ told
 
     pub begin_cause : IfErr r (λ e. IsOneOf outside_refusals e ⊎ (begin_refusal room own history pair session ≡ Some (refusal_of e)))
-    begin_cause = of_exit r at_exit
-      where
-        of_exit : (r : Result X ReplicaError) → IsErrAnd r (λ x. x ≡ e) → IfErr r (λ e. IsOneOf outside_refusals e ⊎ (begin_refusal room own history pair session ≡ Some (refusal_of e)))
-        of_exit (Ok x) h = absurd h
-        of_exit (Err x) h = inr (answered ∙ sym (ap (λ x. Some (refusal_of x)) h))
+    begin_cause = if_err_of_exit r e (λ e. IsOneOf outside_refusals e ⊎ (begin_refusal room own history pair session ≡ Some (refusal_of e))) at_exit (inr answered)
 
     pub begin_refused : (why : Refusal) → begin_refusal room own history pair session ≡ Some why → IsErrAnd r (λ e. refusal_of e ≡ why)
-    begin_refused why cause = of_exit r at_exit
-      where
-        of_exit : (r : Result X ReplicaError) → IsErrAnd r (λ x. x ≡ e) → IsErrAnd r (λ e. refusal_of e ≡ why)
-        of_exit (Ok x) h = absurd h
-        of_exit (Err x) h = ap refusal_of h ∙ same_Some _ _ (sym answered ∙ cause)
+    begin_refused why cause = is_err_of_exit r e (λ e. refusal_of e ≡ why) at_exit (same_Some _ _ (sym answered ∙ cause))
 
 -- ---- what is answered
 

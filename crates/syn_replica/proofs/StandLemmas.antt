@@ -4,6 +4,7 @@ use Rattle.syn_disk.specs.declared.disk.Disk.{Ghosts}
 use Rattle.syn_journal.specs.Layout.{Value, Fault, half_size, longest_image, HasJournal, LeftBehindPayload, meaning, with_payload, image_alone, record_size, bytes_left, IsBeforeOrAfter}
 use Rattle.syn_journal.specs.Journal as journal
 use Rattle.syn_disk.specs.Stops.{LeavesOnly}
+use Rattle.syn_model.proofs.ExitLemmas.{if_err_of_exit}
 use Rattle.syn_model.specs.Laws.{AllowedGoesOn, PayloadGoesOn, StandingSteps, ImageStands}
 use Rattle.syn_model.specs.Path.{Bytes}
 use Rattle.syn_model.specs.Event.{Event}
@@ -177,9 +178,8 @@ of_full journal_error.Damaged size spelled generation is full same = cc same
 
 pub full_because : {X : Type 0} (r : Result X ReplicaError) (e : JournalError) (size spelled generation : ℕ) → IsErrAnd r (λ x. x ≡ Journal e) → size ≡ spelled → (e ≡ journal_error.Full → (longest_image < size) ⊎ (generation + 1 ≡ 2 ^ 64))
     → IfErr r (λ e. refusal_of e ≡ why.Full → (generation + 1 ≡ 2 ^ 64) ⊎ (longest_image < spelled))
-full_because (Ok x) e size spelled generation is same full = absurd is
-full_because (Err x) e size spelled generation is same full =
-    subst (λ e. refusal_of e ≡ why.Full → (generation + 1 ≡ 2 ^ 64) ⊎ (longest_image < spelled)) (sym is) (of_full e size spelled generation same full)
+full_because r e size spelled generation is same full =
+    if_err_of_exit r (Journal e) (λ e. refusal_of e ≡ why.Full → (generation + 1 ≡ 2 ^ 64) ⊎ (longest_image < spelled)) is (of_full e size spelled generation same full)
 
 -- a disk that keeps a history stands for it
 pub keeps_stands : {pair : ℕ} {history : History} {left generation : ℕ} {bytes : List ℕ} → DiskKeeps pair history left generation bytes → DiskStands pair bytes history

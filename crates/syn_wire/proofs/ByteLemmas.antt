@@ -36,16 +36,6 @@ file_spelled bytes after file rest count spelled front back counted =
 
 -- ---- bytes that were added
 
--- the exit of a `?` is no success, and so nothing need be added
-pub not_added : {T E : Type 0} (result : Result T E) (Q : E → Type 0) (P : Type 0) → IsErrAnd result Q → OnOk result P
-not_added (Ok value) Q P is = absurd is
-not_added (Err error) Q P is = tt
-
--- nor found
-pub not_found : {T E : Type 0} (result : Result T E) (Q : E → Type 0) (P : T → Type 0) → IsErrAnd result Q → IfOk result P
-not_found (Ok value) Q P is = absurd is
-not_found (Err error) Q P is = tt
-
 -- nothing was added
 pub begins_alike : (old new : Bytes) → new ≡ old → IsBeginning old new
 begins_alike old new same = ([], same ∙ sym (append-nil old))

@@ -3,7 +3,8 @@ use Rattle.std.proofs.Math.Seq.{take-length}
 use Rattle.syn_model.specs.Path.{path_spelling}
 use Rattle.syn_wire.specs.Events.{number64_spelling}
 use Rattle.syn_image.specs.inner.Pasts.{each_spelling}
-use Rattle.syn_image.proofs.ImageLemmas.{not_written, one_behind, touch_more}
+use Rattle.syn_model.proofs.ExitLemmas.{on_ok_of_exit}
+use Rattle.syn_image.proofs.ImageLemmas.{one_behind, touch_more}
 use Rattle.syn_image.proofs.image.write_each.Goals as goal
 
 pub loop-touch-init : goal.loop-touch-init
@@ -25,7 +26,7 @@ returns c =
     c.loop-touch.invariant ∙ ap (λ xs. c.args.out.now.items ++ each_spelling xs) (ap (λ n. take n touches) ended ∙ take-length touches)
 
 pub returns-in_err-write_u64 : goal.returns-in_err-write_u64
-returns-in_err-write_u64 c = not_written c.from_residual.result _ _ c.from_residual.ensures.1
+returns-in_err-write_u64 c = on_ok_of_exit c.from_residual.result _ _ c.from_residual.ensures.1
 
 pub returns-in_err-write_path : goal.returns-in_err-write_path
-returns-in_err-write_path c = not_written c.from_residual-in_err-write_path.result _ _ c.from_residual-in_err-write_path.ensures.1
+returns-in_err-write_path c = on_ok_of_exit c.from_residual-in_err-write_path.result _ _ c.from_residual-in_err-write_path.ensures.1

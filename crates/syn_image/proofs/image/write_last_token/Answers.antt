@@ -4,17 +4,18 @@ use Rattle.std.proofs.lemmas.Result.{on_ok_weaker}
 use Rattle.syn_model.specs.Image.{last_token_spelling}
 use Rattle.syn_model.specs.Spelling.{token_spelling}
 use Rattle.syn_history.specs.Events.{token_of}
-use Rattle.syn_image.proofs.ImageLemmas.{not_written, one_behind}
+use Rattle.syn_model.proofs.ExitLemmas.{on_ok_of_exit}
+use Rattle.syn_image.proofs.ImageLemmas.{one_behind}
 use Rattle.syn_image.proofs.image.write_last_token.Goals as goal
 
 pub returns-in_err-push-in-None : goal.returns-in_err-push-in-None
-returns-in_err-push-in-None c = not_written c.from_residual.result _ _ c.from_residual.ensures.1
+returns-in_err-push-in-None c = on_ok_of_exit c.from_residual.result _ _ c.from_residual.ensures.1
 
 pub returns-in_ok-push-in-None : goal.returns-in_ok-push-in-None
 returns-in_ok-push-in-None c = c.in_ok-push-in-None.ensures.items ∙ ap (λ o. c.args.out.now.items ++ last_token_spelling (option_map token_of o)) (sym c.in-None.is)
 
 pub returns-in_err-push-in-Some : goal.returns-in_err-push-in-Some
-returns-in_err-push-in-Some c = not_written c.from_residual-in_err-push-in-Some.result _ _ c.from_residual-in_err-push-in-Some.ensures.1
+returns-in_err-push-in-Some c = on_ok_of_exit c.from_residual-in_err-push-in-Some.result _ _ c.from_residual-in_err-push-in-Some.ensures.1
 
 pub returns-in_ok-push-in-Some : goal.returns-in_ok-push-in-Some
 returns-in_ok-push-in-Some c =

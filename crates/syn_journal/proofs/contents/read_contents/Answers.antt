@@ -6,7 +6,8 @@ use Rattle.syn_journal.specs.Opened.{payloads_of}
 use Rattle.syn_journal.specs.Refusals.{IsOpenRefusal}
 use Rattle.syn_journal.specs.inner.Reading.{IsReadRefusal}
 use Rattle.syn_journal.proofs.Openings.{if_err_by, refused_by_halves, refused_by_value, refused_by_records, front_read}
-use Rattle.syn_journal.proofs.Calls.{one_broke, one_read, reads_of_exit, then_after, then_some, match_of_exit, counts_of_exit}
+use Rattle.syn_model.proofs.ExitLemmas.{match_of_exit}
+use Rattle.syn_journal.proofs.Calls.{one_broke, one_read, reads_of_exit, then_after, then_some, counts_of_exit}
 use Rattle.syn_journal.proofs.Moments.{one_call, and_then}
 use Rattle.syn_journal.proofs.contents.read_contents.Goals as goal
 

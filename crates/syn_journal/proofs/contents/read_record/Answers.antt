@@ -6,7 +6,8 @@ use Rattle.syn_journal.specs.Layout.{half_size, start_of}
 use Rattle.syn_journal.specs.Refusals.{CountsFailures}
 use Rattle.syn_journal.proofs.Meanings.{within_disk}
 use Rattle.syn_journal.proofs.Openings.{if_ok_both, with_word, with_gate}
-use Rattle.syn_journal.proofs.Calls.{no_reads, then_reads, match_of_exit, reads_of_exit}
+use Rattle.syn_model.proofs.ExitLemmas.{match_of_exit}
+use Rattle.syn_journal.proofs.Calls.{no_reads, then_reads, reads_of_exit}
 use Rattle.syn_journal.proofs.Moments.{no_call, and_then}
 use Rattle.syn_journal.proofs.contents.read_record.Goals as goal
 

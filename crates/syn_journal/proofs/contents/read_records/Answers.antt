@@ -7,7 +7,8 @@ use Rattle.syn_journal.specs.Opened.{payloads_of}
 use Rattle.syn_journal.specs.inner.Reading.{IsReadRefusal}
 use Rattle.syn_journal.proofs.Moments.{no_call, and_then}
 use Rattle.syn_journal.proofs.Openings.{read_more, read_damaged, if_err_by, read_refusal_weaker}
-use Rattle.syn_journal.proofs.Calls.{no_reads, reads_of_exit, then_after, then_broke, then_some, match_of_exit, counts_of_exit}
+use Rattle.syn_model.proofs.ExitLemmas.{match_of_exit}
+use Rattle.syn_journal.proofs.Calls.{no_reads, reads_of_exit, then_after, then_broke, then_some, counts_of_exit}
 use Rattle.syn_journal.proofs.contents.read_records.Goals as goal
 
 pub loop-records-init : goal.loop-records-init

@@ -1,6 +1,7 @@
 use Rattle.std.proofs.Common.{◌≡◌, ◌∙◌, take, drop, length, refl, ap, subst, sym, arith}
 use Rattle.std.proofs.lemmas.List.{take_at}
-use Rattle.syn_journal.proofs.Calls.{no_reads, one_broke, one_read, reads_of_exit, match_of_exit}
+use Rattle.syn_model.proofs.ExitLemmas.{match_of_exit}
+use Rattle.syn_journal.proofs.Calls.{no_reads, one_broke, one_read, reads_of_exit}
 use Rattle.syn_journal.proofs.Moments.{no_call, one_call}
 use Rattle.syn_journal.proofs.Openings.{if_err_by}
 use Rattle.syn_journal.specs.inner.Reading.{IsReadRefusal}

@@ -1,5 +1,6 @@
 use Rattle.std.proofs.Common.{◌∙◌}
-use Rattle.syn_wire.proofs.ByteLemmas.{of_slice, file_added, not_added, begins_more}
+use Rattle.syn_model.proofs.ExitLemmas.{on_ok_of_exit}
+use Rattle.syn_wire.proofs.ByteLemmas.{of_slice, file_added, begins_more}
 use Rattle.syn_wire.proofs.bytes.write_file.Goals as goal
 
 pub returns-clause-added : goal.returns-clause-added
@@ -12,7 +13,7 @@ pub returns-clause-lawful : goal.returns-clause-lawful
 returns-clause-lawful c = of_slice c.args.file.now c.type_inv.file
 
 pub returns-in_err-write_u32-clause-added : goal.returns-in_err-write_u32-clause-added
-returns-in_err-write_u32-clause-added c = not_added c.from_residual.result _ _ c.from_residual.ensures.1
+returns-in_err-write_u32-clause-added c = on_ok_of_exit c.from_residual.result _ _ c.from_residual.ensures.1
 
 pub returns-in_err-write_u32-clause-kept : goal.returns-in_err-write_u32-clause-kept
 returns-in_err-write_u32-clause-kept c = c.write_u32.ensures.kept
@@ -21,7 +22,7 @@ pub returns-in_err-write_u32-clause-lawful : goal.returns-in_err-write_u32-claus
 returns-in_err-write_u32-clause-lawful c = of_slice c.args.file.now c.type_inv.file
 
 pub returns-in_err-extend_from_slice-clause-added : goal.returns-in_err-extend_from_slice-clause-added
-returns-in_err-extend_from_slice-clause-added c = not_added c.from_residual-in_err-extend_from_slice.result _ _ c.from_residual-in_err-extend_from_slice.ensures.1
+returns-in_err-extend_from_slice-clause-added c = on_ok_of_exit c.from_residual-in_err-extend_from_slice.result _ _ c.from_residual-in_err-extend_from_slice.ensures.1
 
 pub returns-in_err-extend_from_slice-clause-kept : goal.returns-in_err-extend_from_slice-clause-kept
 returns-in_err-extend_from_slice-clause-kept c = (c.write_u32.ensures.kept.0, c.in_err-extend_from_slice.ensures.items ∙ c.write_u32.ensures.kept.1)

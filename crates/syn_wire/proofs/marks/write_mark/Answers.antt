@@ -1,21 +1,22 @@
 use Rattle.std.proofs.Common.{◌∷◌, [], ◌∙◌}
-use Rattle.syn_wire.proofs.ByteLemmas.{not_added, begins_more, begins_further}
+use Rattle.syn_model.proofs.ExitLemmas.{on_ok_of_exit}
+use Rattle.syn_wire.proofs.ByteLemmas.{begins_more, begins_further}
 use Rattle.syn_wire.proofs.marks.write_mark.Goals as goal
 
 pub returns-in_err-write_last_name-clause-added : goal.returns-in_err-write_last_name-clause-added
-returns-in_err-write_last_name-clause-added c = not_added c.from_residual.result _ _ c.from_residual.ensures.1
+returns-in_err-write_last_name-clause-added c = on_ok_of_exit c.from_residual.result _ _ c.from_residual.ensures.1
 
 pub returns-in_err-write_last_name-clause-kept : goal.returns-in_err-write_last_name-clause-kept
 returns-in_err-write_last_name-clause-kept c = c.write_last_name.ensures.kept
 
 pub returns-in_err-push-in-File-clause-added : goal.returns-in_err-push-in-File-clause-added
-returns-in_err-push-in-File-clause-added c = not_added c.from_residual-in_err-push-in-File.result _ _ c.from_residual-in_err-push-in-File.ensures.1
+returns-in_err-push-in-File-clause-added c = on_ok_of_exit c.from_residual-in_err-push-in-File.result _ _ c.from_residual-in_err-push-in-File.ensures.1
 
 pub returns-in_err-push-in-File-clause-kept : goal.returns-in_err-push-in-File-clause-kept
 returns-in_err-push-in-File-clause-kept c = (c.write_last_name.ensures.kept.0, c.in_err-push-in-File.ensures.items ∙ c.write_last_name.ensures.kept.1)
 
 pub returns-in_err-extend_from_slice-in-File-clause-added : goal.returns-in_err-extend_from_slice-in-File-clause-added
-returns-in_err-extend_from_slice-in-File-clause-added c = not_added c.from_residual-in_err-extend_from_slice-in-File.result _ _ c.from_residual-in_err-extend_from_slice-in-File.ensures.1
+returns-in_err-extend_from_slice-in-File-clause-added c = on_ok_of_exit c.from_residual-in_err-extend_from_slice-in-File.result _ _ c.from_residual-in_err-extend_from_slice-in-File.ensures.1
 
 pub returns-in_err-extend_from_slice-in-File-clause-kept : goal.returns-in_err-extend_from_slice-in-File-clause-kept
 returns-in_err-extend_from_slice-in-File-clause-kept c =

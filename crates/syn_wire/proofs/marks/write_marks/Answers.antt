@@ -3,7 +3,8 @@ use Rattle.std.proofs.Math.Seq.{take-length}
 use Rattle.syn_model.specs.Limits.{children}
 use Rattle.syn_wire.specs.Marks.{digest_spelling}
 use Rattle.syn_wire.specs.Trees.{pair_by}
-use Rattle.syn_wire.proofs.ByteLemmas.{not_added, begins_further}
+use Rattle.syn_model.proofs.ExitLemmas.{on_ok_of_exit}
+use Rattle.syn_wire.proofs.ByteLemmas.{begins_further}
 use Rattle.syn_wire.proofs.MarkLemmas.{few_names, marks_walk}
 use Rattle.syn_wire.proofs.WritingLemmas.{pairs_more}
 use Rattle.syn_wire.proofs.marks.write_marks.Goals as goal
@@ -33,7 +34,7 @@ pub returns-clause-kept : goal.returns-clause-kept
 returns-clause-kept c = (_, c.loop-entry.invariant)
 
 pub returns-in_err-write_mark-clause-added : goal.returns-in_err-write_mark-clause-added
-returns-in_err-write_mark-clause-added c = not_added c.from_residual.result _ _ c.from_residual.ensures.1
+returns-in_err-write_mark-clause-added c = on_ok_of_exit c.from_residual.result _ _ c.from_residual.ensures.1
 
 pub returns-in_err-write_mark-clause-kept : goal.returns-in_err-write_mark-clause-kept
 returns-in_err-write_mark-clause-kept c = begins_further c.args.out.now.items c.loop-entry.out.items c.write_mark.new.out.items (_, c.loop-entry.invariant) c.write_mark.ensures.kept

@@ -4,7 +4,7 @@ use Rattle.std.proofs.lemmas.Result.{IfOk-weaker}
 use Rattle.syn_wire.specs.Reads.{IsReading}
 use Rattle.syn_wire.specs.Trees.{last_name_spelling}
 use Rattle.syn_wire.specs.inner.Parts.{IsChildOf, PartIsRead, ReadsPart}
-use Rattle.syn_wire.proofs.ByteLemmas.{not_found}
+use Rattle.syn_model.proofs.ExitLemmas.{if_ok_of_exit}
 use Rattle.syn_wire.proofs.NameLemmas.{first_and_rest}
 use Rattle.syn_wire.proofs.ListedLemmas.{all_listed, directory_spelled, none_listed, one_listed}
 use Rattle.syn_wire.proofs.PartsLemmas.{all_read, child_deeper, no_name_left, no_part_left, none_read, part_more}
@@ -107,28 +107,28 @@ read_parts-returns-clause-reads g t c =
     all_read g.C.Readable.kind c.args.above.now c.args.count c.loop-read._read c.args.bytes.now c.loop-read.rest.now c.args.list.now.items c.loop-read.list.items (omega (arith, c.loop-read-test.false, c.loop-read.auto._read-end)) c.loop-read.invariant.so_far
 
 pub read_directory_at-returns-in_err-above-clause-reads : goal.read_directory_at-returns-in_err-above-clause-reads
-read_directory_at-returns-in_err-above-clause-reads g t c = not_found c.from_residual.result _ _ c.from_residual.ensures.1
+read_directory_at-returns-in_err-above-clause-reads g t c = if_ok_of_exit c.from_residual.result _ _ c.from_residual.ensures.1
 
 pub read_directory_at-returns-in_err-above-clause-spelled : goal.read_directory_at-returns-in_err-above-clause-spelled
-read_directory_at-returns-in_err-above-clause-spelled g t c = not_found c.from_residual.result _ _ c.from_residual.ensures.1
+read_directory_at-returns-in_err-above-clause-spelled g t c = if_ok_of_exit c.from_residual.result _ _ c.from_residual.ensures.1
 
 pub read_directory_at-returns-in_err-push-clause-reads : goal.read_directory_at-returns-in_err-push-clause-reads
-read_directory_at-returns-in_err-push-clause-reads g t c = not_found c.from_residual-in_err-push.result _ _ c.from_residual-in_err-push.ensures.1
+read_directory_at-returns-in_err-push-clause-reads g t c = if_ok_of_exit c.from_residual-in_err-push.result _ _ c.from_residual-in_err-push.ensures.1
 
 pub read_directory_at-returns-in_err-push-clause-spelled : goal.read_directory_at-returns-in_err-push-clause-spelled
-read_directory_at-returns-in_err-push-clause-spelled g t c = not_found c.from_residual-in_err-push.result _ _ c.from_residual-in_err-push.ensures.1
+read_directory_at-returns-in_err-push-clause-spelled g t c = if_ok_of_exit c.from_residual-in_err-push.result _ _ c.from_residual-in_err-push.ensures.1
 
 pub read_parts-returns-in_err-path-clause-reads : goal.read_parts-returns-in_err-path-clause-reads
-read_parts-returns-in_err-path-clause-reads g t c = not_found c.from_residual.result _ _ c.from_residual.ensures.1
+read_parts-returns-in_err-path-clause-reads g t c = if_ok_of_exit c.from_residual.result _ _ c.from_residual.ensures.1
 
 pub read_parts-returns-in_err-path-clause-spelled : goal.read_parts-returns-in_err-path-clause-spelled
-read_parts-returns-in_err-path-clause-spelled g t c = not_found c.from_residual.result _ _ c.from_residual.ensures.1
+read_parts-returns-in_err-path-clause-spelled g t c = if_ok_of_exit c.from_residual.result _ _ c.from_residual.ensures.1
 
 pub read_parts-returns-in_err-after-clause-reads : goal.read_parts-returns-in_err-after-clause-reads
-read_parts-returns-in_err-after-clause-reads g t c = not_found c.from_residual-in_err-after.result _ _ c.from_residual-in_err-after.ensures.1
+read_parts-returns-in_err-after-clause-reads g t c = if_ok_of_exit c.from_residual-in_err-after.result _ _ c.from_residual-in_err-after.ensures.1
 
 pub read_parts-returns-in_err-after-clause-spelled : goal.read_parts-returns-in_err-after-clause-spelled
-read_parts-returns-in_err-after-clause-spelled g t c = not_found c.from_residual-in_err-after.result _ _ c.from_residual-in_err-after.ensures.1
+read_parts-returns-in_err-after-clause-spelled g t c = if_ok_of_exit c.from_residual-in_err-after.result _ _ c.from_residual-in_err-after.ensures.1
 
 pub read_parts-read_part-requires : goal.read_parts-read_part-requires
 read_parts-read_part-requires g t c = λ _ lives.

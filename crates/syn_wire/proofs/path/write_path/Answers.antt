@@ -1,6 +1,7 @@
 use Rattle.std.proofs.Common.{◌≡◌, ◌∷◌, [], ◌∙◌, length, take, sym, append-nil, arith}
 use Rattle.syn_wire.specs.inner.Names.{names_spelling}
-use Rattle.syn_wire.proofs.ByteLemmas.{not_added, begins_alike, begins_more}
+use Rattle.syn_model.proofs.ExitLemmas.{on_ok_of_exit}
+use Rattle.syn_wire.proofs.ByteLemmas.{begins_alike, begins_more}
 use Rattle.syn_wire.proofs.NameLemmas.{name_added, path_added}
 use Rattle.syn_wire.proofs.path.write_path.Goals as goal
 
@@ -26,7 +27,7 @@ pub returns-clause-lawful : goal.returns-clause-lawful
 returns-clause-lawful c = c.names-names.ensures.lawful
 
 pub returns-in_err-push-clause-added : goal.returns-in_err-push-clause-added
-returns-in_err-push-clause-added c = not_added c.from_residual.result _ _ c.from_residual.ensures.1
+returns-in_err-push-clause-added c = on_ok_of_exit c.from_residual.result _ _ c.from_residual.ensures.1
 
 pub returns-in_err-push-clause-kept : goal.returns-in_err-push-clause-kept
 returns-in_err-push-clause-kept c = begins_alike c.args.out.now.items c.push.new.self.items c.in_err-push.ensures.items
@@ -35,7 +36,7 @@ pub returns-in_err-push-clause-lawful : goal.returns-in_err-push-clause-lawful
 returns-in_err-push-clause-lawful c = c.names-names.ensures.lawful
 
 pub returns-in_err-push-2-clause-added : goal.returns-in_err-push-2-clause-added
-returns-in_err-push-2-clause-added c = not_added c.from_residual-in_err-push-2.result _ _ c.from_residual-in_err-push-2.ensures.1
+returns-in_err-push-2-clause-added c = on_ok_of_exit c.from_residual-in_err-push-2.result _ _ c.from_residual-in_err-push-2.ensures.1
 
 pub returns-in_err-push-2-clause-kept : goal.returns-in_err-push-2-clause-kept
 returns-in_err-push-2-clause-kept c =
@@ -45,7 +46,7 @@ pub returns-in_err-push-2-clause-lawful : goal.returns-in_err-push-2-clause-lawf
 returns-in_err-push-2-clause-lawful c = c.names-names.ensures.lawful
 
 pub returns-in_err-extend_from_slice-clause-added : goal.returns-in_err-extend_from_slice-clause-added
-returns-in_err-extend_from_slice-clause-added c = not_added c.from_residual-in_err-extend_from_slice.result _ _ c.from_residual-in_err-extend_from_slice.ensures.1
+returns-in_err-extend_from_slice-clause-added c = on_ok_of_exit c.from_residual-in_err-extend_from_slice.result _ _ c.from_residual-in_err-extend_from_slice.ensures.1
 
 pub returns-in_err-extend_from_slice-clause-kept : goal.returns-in_err-extend_from_slice-clause-kept
 returns-in_err-extend_from_slice-clause-kept c =

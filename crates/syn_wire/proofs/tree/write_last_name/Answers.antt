@@ -1,5 +1,6 @@
 use Rattle.std.proofs.Common.{◌++◌, ◌∷◌, [], length, slice_get, ◌-◌, refl, sym, ap, ap₂, ◌∙◌, append_assoc}
-use Rattle.syn_wire.proofs.ByteLemmas.{not_added, begins_alike, begins_more}
+use Rattle.syn_model.proofs.ExitLemmas.{on_ok_of_exit}
+use Rattle.syn_wire.proofs.ByteLemmas.{begins_alike, begins_more}
 use Rattle.syn_wire.proofs.WritingLemmas.{last_name}
 use Rattle.syn_wire.proofs.tree.write_last_name.Goals as goal
 
@@ -17,13 +18,13 @@ returns-in_ok-extend_from_slice-clause-kept c =
     begins_more c.args.out.now.items c.push.new.self.items c.extend_from_slice.new.self.items c.as_bytes.result.now (_, c.in_ok-push.ensures.items) c.in_ok-extend_from_slice.ensures.items
 
 pub returns-in_err-push-clause-added : goal.returns-in_err-push-clause-added
-returns-in_err-push-clause-added c = not_added c.from_residual.result _ _ c.from_residual.ensures.1
+returns-in_err-push-clause-added c = on_ok_of_exit c.from_residual.result _ _ c.from_residual.ensures.1
 
 pub returns-in_err-push-clause-kept : goal.returns-in_err-push-clause-kept
 returns-in_err-push-clause-kept c = begins_alike c.args.out.now.items c.push.new.self.items c.in_err-push.ensures.items
 
 pub returns-in_err-extend_from_slice-clause-added : goal.returns-in_err-extend_from_slice-clause-added
-returns-in_err-extend_from_slice-clause-added c = not_added c.from_residual-in_err-extend_from_slice.result _ _ c.from_residual-in_err-extend_from_slice.ensures.1
+returns-in_err-extend_from_slice-clause-added c = on_ok_of_exit c.from_residual-in_err-extend_from_slice.result _ _ c.from_residual-in_err-extend_from_slice.ensures.1
 
 pub returns-in_err-extend_from_slice-clause-kept : goal.returns-in_err-extend_from_slice-clause-kept
 returns-in_err-extend_from_slice-clause-kept c = (_, c.in_err-extend_from_slice.ensures.items ∙ c.in_ok-push.ensures.items)

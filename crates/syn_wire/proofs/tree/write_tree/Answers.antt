@@ -2,7 +2,8 @@ use Rattle.std.proofs.Common.{◌≡◌, ◌<◌, ◌^◌, length, take, flat_ma
 use Rattle.syn_model.specs.Limits.{children}
 use Rattle.syn_wire.specs.Events.{file_spelling}
 use Rattle.syn_wire.specs.Trees.{pair_spelling}
-use Rattle.syn_wire.proofs.ByteLemmas.{not_added, begins_more, begins_further}
+use Rattle.syn_model.proofs.ExitLemmas.{on_ok_of_exit}
+use Rattle.syn_wire.proofs.ByteLemmas.{begins_more, begins_further}
 use Rattle.syn_wire.proofs.WritingLemmas.{pairs_more, whole_written, root_few, entry_fits, whole_fits_part}
 use Rattle.syn_wire.proofs.tree.write_tree.Goals as goal
 
@@ -45,13 +46,13 @@ returns-clause-kept c =
     begins_more c.args.out.now.items c.write_count.new.out.items c.loop-entry.out.items (flat_map (pair_spelling c.args.tree.now) (take c.loop-entry.entry-index c.entries-list.result.now)) c.write_count.ensures.kept c.loop-entry.invariant
 
 pub returns-in_err-write_count-clause-added : goal.returns-in_err-write_count-clause-added
-returns-in_err-write_count-clause-added c = not_added c.from_residual.result _ _ c.from_residual.ensures.1
+returns-in_err-write_count-clause-added c = on_ok_of_exit c.from_residual.result _ _ c.from_residual.ensures.1
 
 pub returns-in_err-write_count-clause-kept : goal.returns-in_err-write_count-clause-kept
 returns-in_err-write_count-clause-kept c = c.write_count.ensures.kept
 
 pub returns-in_err-write_entry-clause-added : goal.returns-in_err-write_entry-clause-added
-returns-in_err-write_entry-clause-added c = not_added c.from_residual-in_err-write_entry.result _ _ c.from_residual-in_err-write_entry.ensures.1
+returns-in_err-write_entry-clause-added c = on_ok_of_exit c.from_residual-in_err-write_entry.result _ _ c.from_residual-in_err-write_entry.ensures.1
 
 pub returns-in_err-write_entry-clause-kept : goal.returns-in_err-write_entry-clause-kept
 returns-in_err-write_entry-clause-kept c =

@@ -4,7 +4,8 @@ use Rattle.syn_model.specs.Limits.{greatest_image}
 use Rattle.syn_model.specs.MarkSpelling.{archive_spelling}
 use Rattle.syn_archive.specs.Archive.{KeepsOrCompacts, left_shown}
 use Rattle.syn_archive.proofs.StandLemmas.{keeps_now, not_written, image_keeps, stop_compacts, left_behind, leaves_weaker, seen_is_left}
-use Rattle.syn_archive.proofs.ExitLemmas.{match_of_exit, memory_not_device, memory_not_full, memory_not_halted, if_err_of_exit, on_ok_of_exit, failures_of_journal, calls_of_journal, checkpoint_refusals, unchanged_of_journal, halts_of_journal, halted_of_journal, full_of_journal, readings_of}
+use Rattle.syn_model.proofs.ExitLemmas.{match_of_exit, if_err_of_exit, on_ok_of_exit}
+use Rattle.syn_archive.proofs.ExitLemmas.{memory_not_device, memory_not_full, memory_not_halted, failures_of_journal, calls_of_journal, checkpoint_refusals, unchanged_of_journal, halts_of_journal, halted_of_journal, full_of_journal, readings_of}
 use Rattle.syn_archive.proofs.archive.Archive.checkpoint.Goals as goal
 
 pub returns-clause-acknowledged : goal.returns-clause-acknowledged

@@ -6,7 +6,8 @@ use Rattle.syn_model.specs.ArchiveImage.{ArchiveStandsFor}
 use Rattle.syn_model.specs.MarkSpelling.{kept_spelling}
 use Rattle.syn_archive.specs.Archive.{KeepsBeforeOrAfter, left_shown}
 use Rattle.syn_archive.proofs.StandLemmas.{keeps_now, not_written, payload_keeps, stop_keeps, left_behind, leaves_weaker, seen_is_left, can_begin, cannot_begin}
-use Rattle.syn_archive.proofs.ExitLemmas.{match_of_exit, if_err_of_exit, on_ok_of_exit, if_ok_of_exit, failures_of_journal, calls_of_journal, unchanged_of_journal, halts_of_journal, halted_of_journal, session_refusals, cause_of_journal, memory_not_halted, memory_not_device, memory_not_journal_full, readings_of}
+use Rattle.syn_model.proofs.ExitLemmas.{match_of_exit, if_err_of_exit, on_ok_of_exit, if_ok_of_exit}
+use Rattle.syn_archive.proofs.ExitLemmas.{failures_of_journal, calls_of_journal, unchanged_of_journal, halts_of_journal, halted_of_journal, session_refusals, cause_of_journal, memory_not_halted, memory_not_device, memory_not_journal_full, readings_of}
 use Rattle.syn_archive.proofs.archive.Archive.next_session.Goals as goal
 
 pub returns-in_err-append-clause-any_moment : goal.returns-in_err-append-clause-any_moment

@@ -11,7 +11,8 @@ use Rattle.syn_mark.specs.Marks.{or_absent}
 use Rattle.syn_mark.specs.declared.tree.MarkTree.{MarkTree}
 use Rattle.syn_archive.specs.Archive.{KeepsBeforeOrAfter, left_shown}
 use Rattle.syn_archive.proofs.StandLemmas.{keeps_now, not_written, payload_keeps, stop_keeps, left_behind, leaves_weaker, seen_is_left}
-use Rattle.syn_archive.proofs.ExitLemmas.{match_of_exit, if_err_of_exit, on_ok_of_exit, failures_of_journal, calls_of_journal, unchanged_of_journal, halts_of_journal, halted_of_journal, record_refusals, cause_of_journal, memory_not_halted, memory_not_device, memory_not_journal_full, failures_of_marks, calls_of_marks, marks_not_halted, marks_not_device, marks_not_journal_full, readings_of}
+use Rattle.syn_model.proofs.ExitLemmas.{match_of_exit, if_err_of_exit, on_ok_of_exit}
+use Rattle.syn_archive.proofs.ExitLemmas.{failures_of_journal, calls_of_journal, unchanged_of_journal, halts_of_journal, halted_of_journal, record_refusals, cause_of_journal, memory_not_halted, memory_not_device, memory_not_journal_full, failures_of_marks, calls_of_marks, marks_not_halted, marks_not_device, marks_not_journal_full, readings_of}
 use Rattle.syn_archive.proofs.archive.Archive.record.Goals as goal
 
 copied : (o : Option (Bor MarkTree)) → option_map (λ m. m.now) o ≡ option_copied o

@@ -10,7 +10,8 @@ use Rattle.syn_archive.specs.Refusals.{of_tree}
 use Rattle.syn_archive.specs.declared.error.ArchiveError.TheVariants.{Memory}
 use Rattle.syn_archive.proofs.StandLemmas.{keeps_now, not_written, payload_keeps, stop_keeps, left_behind, leaves_weaker, seen_is_left}
 use Rattle.syn_archive.proofs.DirLemmas.{dir_allowed, dir_after}
-use Rattle.syn_archive.proofs.ExitLemmas.{match_of_exit, if_err_of_exit, on_ok_of_exit, exit_same, failures_of_journal, calls_of_journal, unchanged_of_journal, halts_of_journal, record_refusals, cause_of_journal, memory_not_device, memory_not_journal_full, failures_of_marks, calls_of_marks, marks_not_device, marks_not_journal_full, readings_of}
+use Rattle.syn_model.proofs.ExitLemmas.{match_of_exit, if_err_of_exit, on_ok_of_exit}
+use Rattle.syn_archive.proofs.ExitLemmas.{exit_same, failures_of_journal, calls_of_journal, unchanged_of_journal, halts_of_journal, record_refusals, cause_of_journal, memory_not_device, memory_not_journal_full, failures_of_marks, calls_of_marks, marks_not_device, marks_not_journal_full, readings_of}
 use Rattle.syn_archive.proofs.archive.Archive.record_new_dir.Goals as goal
 
 abbrev with_marks : ℕ → Tree → Archive

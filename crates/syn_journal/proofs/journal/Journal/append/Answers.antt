@@ -8,7 +8,7 @@ use Rattle.syn_journal.proofs.Moments.{weakened, not_written}
 use Rattle.syn_journal.proofs.Appends.{before_or_after}
 use Rattle.syn_journal.proofs.Whole.{appended, other_kept}
 use Rattle.syn_journal.proofs.Meanings.{in_step, has, sizes}
-use Rattle.syn_journal.proofs.Calls.{match_of_exit}
+use Rattle.syn_model.proofs.ExitLemmas.{match_of_exit}
 use Rattle.syn_journal.proofs.journal.Journal.append.Goals as goal
 
 pub returns-in_err-commit-clause-any_moment : goal.returns-in_err-commit-clause-any_moment

@@ -6,7 +6,7 @@ use Rattle.syn_journal.specs.Layout.{value_or_empty}
 use Rattle.syn_journal.proofs.Checkpoints.{twice}
 use Rattle.syn_journal.proofs.Meanings.{in_step, has, sizes}
 use Rattle.syn_journal.proofs.Moments.{not_written}
-use Rattle.syn_journal.proofs.Calls.{match_of_exit}
+use Rattle.syn_model.proofs.ExitLemmas.{match_of_exit}
 use Rattle.syn_journal.proofs.journal.Journal.checkpoint.Goals as goal
 
 pub returns-in_err-replace-clause-any_moment : goal.returns-in_err-replace-clause-any_moment

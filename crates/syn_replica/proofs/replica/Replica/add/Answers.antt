@@ -2,7 +2,8 @@ use Rattle.std.proofs.Common.{◌≤◌, length, ap, ◌∙◌, refl, subst, inl
 use Rattle.syn_history.specs.Events.{event_of}
 use Rattle.syn_replica.specs.Replica.{room_shown, standing_shown}
 use Rattle.syn_model.specs.Refusal as why
-use Rattle.syn_replica.proofs.RefusalLemmas.{inner_refusals, never, inner_among, or_outside, whatever_ok, whatever_why, quiet_failures, quiet_calls, quiet_device, if_err_of_exit, quiet_tries}
+use Rattle.syn_model.proofs.ExitLemmas.{if_err_of_exit}
+use Rattle.syn_replica.proofs.RefusalLemmas.{inner_refusals, never, inner_among, or_outside, whatever_ok, whatever_why, quiet_failures, quiet_calls, quiet_device, quiet_tries}
 use Rattle.syn_replica.proofs.StandLemmas.{keeps_now, not_written, allowed_after}
 use Rattle.syn_replica.proofs.RoomLemmas.{update_refused, room_refused, room_passed}
 use Rattle.syn_replica.specs.Growing.{itself}
@@ -70,7 +71,7 @@ pub returns-in_err-update-clause-device : goal.returns-in_err-update-clause-devi
 returns-in_err-update-clause-device g c = quiet_device c.from_residual-in_err-update.result _ c.from_residual-in_err-update.ensures.1 (never inner_refusals why.Device refl _ (inner_among (standing_shown c.args.self.now) (event_of c.args.event) _ c.in_err-update.ensures.refused)) _
 
 pub returns-in_err-update-clause-running : goal.returns-in_err-update-clause-running
-returns-in_err-update-clause-running g c = if_err_of_exit c.from_residual-in_err-update.result _ c.from_residual-in_err-update.ensures.1 _ (never inner_refusals why.Halted refl _ (inner_among (standing_shown c.args.self.now) (event_of c.args.event) _ c.in_err-update.ensures.refused))
+returns-in_err-update-clause-running g c = if_err_of_exit c.from_residual-in_err-update.result _ _ c.from_residual-in_err-update.ensures.1 (never inner_refusals why.Halted refl _ (inner_among (standing_shown c.args.self.now) (event_of c.args.event) _ c.in_err-update.ensures.refused))
 
 pub returns-clause-acknowledged : goal.returns-clause-acknowledged
 returns-clause-acknowledged g c history stands =
