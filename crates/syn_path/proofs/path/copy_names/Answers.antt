@@ -15,4 +15,3 @@ pub returns-clause-ok : goal.returns-clause-ok
 returns-clause-ok c =
     let ended : c.loop-name.name-index ≡ length c.args.source.now = omega (arith, c.loop-name-test.false, c.loop-name.auto.name-index-end) in
     c.loop-name.invariant ∙ (ap (λ n. take n c.args.source.now) ended ∙ take-length c.args.source.now)
-

@@ -117,8 +117,8 @@ pub returns-in_err-checkpoint-clause-full : goal.returns-in_err-checkpoint-claus
 returns-in_err-checkpoint-clause-full g c =
     full_of_journal c.from_residual-in_err-checkpoint.result c.in_err-checkpoint.field-0.0 c.from_residual-in_err-checkpoint.ensures.1 _
     (λ is. elim (c.in_err-checkpoint.ensures.full.0 (ap (λ e. Err e) is)).1 [
-      inl long ↦ inr (subst (λ image. longest_image < length image) (c.deref.ensures.value ∙ c.in_ok-image.ensures) long)
-    | inr last ↦ inl last
+      | inl long ↦ inr (subst (λ image. longest_image < length image) (c.deref.ensures.value ∙ c.in_ok-image.ensures) long)
+      | inr last ↦ inl last
     ])
 
 pub returns-in_err-checkpoint-clause-readings : goal.returns-in_err-checkpoint-clause-readings
