@@ -52,6 +52,7 @@ impl Course {
                 self.carried = Some(Carried { transfer, kept });
                 Ok(Carrying::Asks(side, request))
             }
+            // By calls, or the prover would look here at all that each holds.
             Ok(Next::Done) => {
                 drop(transfer);
                 Ok(Carrying::Done(kept))
