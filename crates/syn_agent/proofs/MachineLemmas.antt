@@ -199,7 +199,8 @@ module _ {D : Type 0} {disk : Ghosts D} (pair : ℕ) (old new : Replica D disk) 
         → Serves (pair_of old) (room_for old) (side_of value agent) session request served
         → Serves pair (has_room_for pair machine) (side_now machine) session request served
     serves_up served serves = serves_it (pair_of old) pair (left_shown old) machine.journal.room
-        value (staging_of agent) machine.staging session request served is.pair_is (sym (is.room up))
+        value (staging_of agent) machine.staging session request served is.pair_is
+        (sym (is.room up))
         (sym is.staging) serves
 
     same_said : (status : Status) → status ≡ Up → (reply : Reply)

@@ -1,11 +1,14 @@
 -- Records that are spelled alike are one, and an image with payloads stands for one archive.
-use Rattle.std.proofs.Common.{◌≡◌, ◌<◌, ◌+◌, ◌==◌, ℕ, Bool, true, false, not, nat_le, if◌then◌else◌, List, [], ◌∷◌, ◌++◌, map, refl, sym, ap, ap₂, ◌∙◌, subst, Option, Some, None, true≢false, arith}
+use Rattle.std.proofs.Common.{◌≡◌, ◌<◌, ◌+◌, ◌==◌, ℕ, Bool, true, false, not, nat_le, if◌then◌else◌}
+use Rattle.std.proofs.Common.{List, [], ◌∷◌, ◌++◌, map, refl, sym, ap, ap₂, ◌∙◌, subst, Option}
+use Rattle.std.proofs.Common.{Some, None, true≢false, arith}
 use Rattle.std.proofs.lemmas.Bool.{eqb-true, leb-false}
 use Rattle.std.proofs.lemmas.List.{map-append}
 use Rattle.std.proofs.lemmas.List.Sums.{fold-append}
 use Rattle.std.proofs.lemmas.Option.{none-some}
 use Rattle.syn_model.specs.Path.{Bytes}
-use Rattle.syn_model.specs.Archive.{Archive, Kept, Session, Recorded, RecordedDir, CanKeep, after_kept, archive_of}
+use Rattle.syn_model.specs.Archive.{Archive, Kept, Session, Recorded, RecordedDir, CanKeep}
+use Rattle.syn_model.specs.Archive.{after_kept, archive_of}
 use Rattle.syn_model.specs.ArchiveImage.{IsArchive, AllKept, KeepingStaysSound}
 use Rattle.syn_model.specs.Limits.{greatest}
 use Rattle.syn_model.specs.Refusal.{Refusal, Full, BadMessage}
@@ -13,7 +16,8 @@ use Rattle.syn_model.specs.MarkSpelling.{kept_spelling}
 use Rattle.syn_mark.specs.Changes.{PutPartFits}
 use Rattle.syn_mark.proofs.ChangeLemmas.{allowed_parts}
 use Rattle.syn_image.specs.Archives.{NoKeptBeginsAnother, NoArchiveBeginsAnother}
-use Rattle.syn_archive.specs.inner.Openings.{AddsKept, Replays, OneStands, KeptIsSpelled, KeptIsTold}
+use Rattle.syn_archive.specs.inner.Openings.{AddsKept, Replays, OneStands, KeptIsSpelled}
+use Rattle.syn_archive.specs.inner.Openings.{KeptIsTold}
 
 first_payload : List Bytes → Bytes
 first_payload [] = []
@@ -33,71 +37,108 @@ kept_told tell kept other h g e = (tell kept other [] [] h g (ap (λ xs. xs ++ [
 -- ---- what can be kept
 
 -- a session that can begin is one above a last that is below the greatest
-pub can_session : (archive : Archive) (session : ℕ) → CanKeep archive (Session session) → (archive.last_session < greatest) × (session ≡ archive.last_session + 1)
-can_session archive session can = by (nat_le greatest archive.last_session) (session == archive.last_session + 1) refl refl can.not_refused
+pub can_session : (archive : Archive) (session : ℕ) → CanKeep archive (Session session) →
+    (archive.last_session < greatest) × (session ≡ archive.last_session + 1)
+can_session archive session can =
+    by (nat_le greatest archive.last_session)
+    (session == archive.last_session + 1) refl refl can.not_refused
   where
     asked : Bool → Bool → Option Refusal
     asked a b = if a then Some Full else (if not b then Some BadMessage else None)
 
-    by : (a b : Bool) → nat_le greatest archive.last_session ≡ a → (session == archive.last_session + 1) ≡ b → asked (nat_le greatest archive.last_session) (session == archive.last_session + 1) ≡ None →
+    by : (a b : Bool) → nat_le greatest archive.last_session ≡ a →
+        (session == archive.last_session + 1) ≡ b →
+        asked (nat_le greatest archive.last_session) (session == archive.last_session + 1) ≡ None →
         (archive.last_session < greatest) × (session ≡ archive.last_session + 1)
-    by true b e f k = absurd (none-some _ (sym k ∙ ap (λ x. asked x (session == archive.last_session + 1)) e))
+    by true b e f k =
+        absurd (none-some _ (sym k ∙ ap (λ x. asked x (session == archive.last_session + 1)) e))
     by false false e f k = absurd (none-some _ (sym k ∙ ap₂ asked e f))
-    by false true e f k = (leb-false greatest archive.last_session e, eqb-true session (archive.last_session + 1) f)
+    by false true e f k =
+        (leb-false greatest archive.last_session e, eqb-true session (archive.last_session + 1) f)
 
 pub kept_spelled : PutPartFits → KeptIsSpelled
 kept_spelled put archive (Session session) sound can =
     let next = can_session archive session can in
     omega (arith, next.0, next.1)
-kept_spelled put archive (Recorded path marks) sound can =
-    (can.lawful.0, record { marks = can.lawful.1; fits = put archive.marks path marks (allowed_parts archive.marks path marks can.not_refused).1.1 })
+kept_spelled put archive (Recorded path marks) sound can = (
+  can.lawful.0,
+  record {
+    marks = can.lawful.1;
+    fits =
+        put archive.marks path marks (allowed_parts archive.marks path marks can.not_refused).1.1;
+  },
+)
 kept_spelled put archive (RecordedDir path) sound can = can.lawful
 
 module _ (told : KeptIsTold) (spelled : KeptIsSpelled) (keeping : KeepingStaysSound) where
-  same_kept : (archive : Archive) (kept other : Kept) → IsArchive archive → CanKeep archive kept → CanKeep archive other → kept_spelling kept ≡ kept_spelling other → kept ≡ other
-  same_kept archive kept other sound h g e = told kept other (spelled archive kept sound h) (spelled archive other sound g) e
+  same_kept : (archive : Archive) (kept other : Kept) → IsArchive archive → CanKeep archive kept →
+      CanKeep archive other → kept_spelling kept ≡ kept_spelling other → kept ≡ other
+  same_kept archive kept other sound h g e =
+      told kept other (spelled archive kept sound h) (spelled archive other sound g) e
 
   -- rows of what can be kept in turn, and is spelled alike, are one
-  all_alike : (archive : Archive) (kept others : List Kept) → IsArchive archive → AllKept archive kept → AllKept archive others → map kept_spelling kept ≡ map kept_spelling others → kept ≡ others
+  all_alike : (archive : Archive) (kept others : List Kept) → IsArchive archive →
+      AllKept archive kept → AllKept archive others →
+      map kept_spelling kept ≡ map kept_spelling others → kept ≡ others
   unfolding is_row first_payload other_payloads
   all_alike archive [] [] sound h g e = refl
   all_alike archive [] (other ∷ others) sound h g e = absurd (true≢false (ap is_row e))
   all_alike archive (one ∷ kept) [] sound h g e = absurd (true≢false (sym (ap is_row e)))
   all_alike archive (one ∷ kept) (other ∷ others) sound h g e =
       let same = same_kept archive one other sound h.0 g.0 (ap first_payload e) in
-      ap₂ (λ x xs. x ∷ xs) same (all_alike (after_kept archive one) kept others (keeping archive one sound h.0) h.1 (subst (λ x. AllKept (after_kept archive x) others) (sym same) g.1) (ap other_payloads e))
+      ap₂ (λ x xs. x ∷ xs) same
+      (all_alike (after_kept archive one) kept others (keeping archive one sound h.0) h.1
+      (subst (λ x. AllKept (after_kept archive x) others) (sym same) g.1) (ap other_payloads e))
 
   -- what comes next of what can be kept in turn, after what some payloads are
-  pub next_kept : (archive : Archive) (kept read : List Kept) (payload : Bytes) (rest : List Bytes) → IsArchive archive → AllKept archive kept → AllKept archive read → map kept_spelling kept ≡ map kept_spelling read ++ payload ∷ rest →
-      (next : Kept) × (payload ≡ kept_spelling next) × CanKeep (archive_of archive read) next × IsArchive (archive_of archive read)
+  pub next_kept : (archive : Archive) (kept read : List Kept) (payload : Bytes)
+      (rest : List Bytes) → IsArchive archive → AllKept archive kept → AllKept archive read →
+      map kept_spelling kept ≡ map kept_spelling read ++ payload ∷ rest →
+      (next : Kept) × (payload ≡ kept_spelling next) × CanKeep (archive_of archive read) next
+      × IsArchive (archive_of archive read)
   unfolding is_row first_payload other_payloads
   next_kept archive [] [] payload rest sound all done e = absurd (true≢false (ap is_row e))
   next_kept archive [] (r ∷ read) payload rest sound all done e = absurd (true≢false (ap is_row e))
-  next_kept archive (one ∷ kept) [] payload rest sound all done e = (one, sym (ap first_payload e), all.0, sound)
+  next_kept archive (one ∷ kept) [] payload rest sound all done e =
+      (one, sym (ap first_payload e), all.0, sound)
   next_kept archive (one ∷ kept) (r ∷ read) payload rest sound all done e =
       let same = same_kept archive one r sound all.0 done.0 (ap first_payload e) in
-      next_kept (after_kept archive r) kept read payload rest (keeping archive r sound done.0) (subst (λ x. AllKept (after_kept archive x) kept) same all.1) done.1 (ap other_payloads e)
+      next_kept (after_kept archive r) kept read payload rest (keeping archive r sound done.0)
+      (subst (λ x. AllKept (after_kept archive x) kept) same all.1) done.1 (ap other_payloads e)
 
   pub one_stands : NoArchiveBeginsAnother → OneStands
   one_stands images image payloads p q a b hp hq s t =
-      let first = (images (p, s.first) (q, t.first) [] [] (hp, s.sound) (hq, t.sound) (ap (λ xs. xs ++ []) (sym s.image_is ∙ t.image_is))).0 in
+      let first = (images (p, s.first) (q, t.first) []
+      [] (hp, s.sound) (hq, t.sound) (ap (λ xs. xs ++ []) (sym s.image_is ∙ t.image_is))).0 in
       let start : s.first ≡ t.first = ap (λ x. x.1) first in
-      let kept = all_alike t.first s.kept t.kept t.sound (subst (λ x. AllKept x s.kept) start s.allowed) t.allowed (sym s.payloads_are ∙ t.payloads_are) in
+      let kept = all_alike t.first s.kept t.kept t.sound
+      (subst (λ x. AllKept x s.kept) start s.allowed) t.allowed
+      (sym s.payloads_are ∙ t.payloads_are) in
       (ap (λ x. x.0) first, s.last ∙ (ap₂ (λ x ks. archive_of x ks) start kept ∙ sym t.last))
 
 -- ---- one more record
 
-more_kept : (archive : Archive) (kept : List Kept) (one : Kept) → AllKept archive kept → CanKeep (archive_of archive kept) one → AllKept archive (kept ++ one ∷ [])
+more_kept : (archive : Archive) (kept : List Kept) (one : Kept) → AllKept archive kept →
+    CanKeep (archive_of archive kept) one → AllKept archive (kept ++ one ∷ [])
 more_kept archive [] one all can = (can, tt)
-more_kept archive (first ∷ kept) one all can = (all.0, more_kept (after_kept archive first) kept one all.1 can)
+more_kept archive (first ∷ kept) one all can =
+    (all.0, more_kept (after_kept archive first) kept one all.1 can)
 
 pub replays_nothing : (archive : Archive) → Replays archive [] archive
 replays_nothing archive = record { kept = []; spelled = refl; allowed = tt; gives = refl }
 
-pub replays_more : (first mid last : Archive) (payloads : List Bytes) (payload : Bytes) → Replays first payloads mid → AddsKept mid payload last → Replays first (payloads ++ payload ∷ []) last
+pub replays_more : (first mid last : Archive) (payloads : List Bytes) (payload : Bytes) →
+    Replays first payloads mid → AddsKept mid payload last →
+    Replays first (payloads ++ payload ∷ []) last
 replays_more first mid last payloads payload r adds = record {
   kept = r.kept ++ adds.kept ∷ [];
-  spelled = ap₂ (λ xs x. xs ++ x ∷ []) r.spelled adds.spelled ∙ sym (map-append kept_spelling r.kept (adds.kept ∷ []));
-  allowed = more_kept first r.kept adds.kept r.allowed (subst (λ s. CanKeep s adds.kept) r.gives adds.keeps.can);
-  gives = adds.keeps.gives ∙ (ap (λ s. after_kept s adds.kept) r.gives ∙ sym (fold-append after_kept first r.kept (adds.kept ∷ [])));
+  spelled =
+      ap₂ (λ xs x. xs ++ x ∷ []) r.spelled adds.spelled
+      ∙ sym (map-append kept_spelling r.kept (adds.kept ∷ []));
+  allowed =
+      more_kept first r.kept adds.kept r.allowed
+      (subst (λ s. CanKeep s adds.kept) r.gives adds.keeps.can);
+  gives =
+      adds.keeps.gives ∙ (ap (λ s. after_kept s adds.kept) r.gives
+      ∙ sym (fold-append after_kept first r.kept (adds.kept ∷ [])));
 }

@@ -16,12 +16,17 @@ use Rattle.syn_wire.proofs.MarkLemmas.{marks_walk}
 use Rattle.syn_archive.specs.Refusals.{IsOfFormat, of_journal}
 
 empty_length : length (mark_spelling empty_directory) ≡ 3
-empty_length = ap length (marks_walk empty_directory (one_marks Directory tt).part.parents (one_present Directory) ∙ ap (flat_map (pair_by digest_spelling empty_directory)) (entries-one Directory))
+empty_length =
+    ap length
+    (marks_walk empty_directory (one_marks Directory tt).part.parents (one_present Directory)
+    ∙ ap (flat_map (pair_by digest_spelling empty_directory)) (entries-one Directory))
 
-pub image_fits : (pair : ℕ) (image : Bytes) → image ≡ archive_spelling pair new_archive → longest_image < length image → ⊥
+pub image_fits : (pair : ℕ) (image : Bytes) → image ≡ archive_spelling pair new_archive →
+    longest_image < length image → ⊥
 image_fits pair image e long = absurd (omega (arith, ap length e, empty_length, long))
 
-pub format_refusal : (error : JournalError) → IsFormatRefusal error → (error ≡ journal.Full → ⊥) → IsOfFormat (of_journal error)
+pub format_refusal : (error : JournalError) → IsFormatRefusal error → (error ≡ journal.Full → ⊥) →
+    IsOfFormat (of_journal error)
 format_refusal journal.Full h full = absurd (full refl)
 format_refusal journal.JournalFull h full = absurd h
 format_refusal journal.Device h full = tt

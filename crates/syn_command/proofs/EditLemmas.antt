@@ -1,5 +1,8 @@
--- An edit that is asked for. Of the input of a put at most one byte more is read than a file may have.
-use Rattle.std.proofs.Common.{◌≡◌, ◌⊎◌, inl, inr, ◌<◌, ◌≤◌, ◌-◌, ◌++◌, ◌∷◌, ◌∙◌, ℕ, Bool, true, false, not, nat_le, [], List, length, take, Option, Some, sym, ap, subst, refl, arith}
+-- An edit that is asked for. Of the input of a put at most one byte more is read than a file may
+-- have.
+use Rattle.std.proofs.Common.{◌≡◌, ◌⊎◌, inl, inr, ◌<◌, ◌≤◌, ◌-◌, ◌++◌, ◌∷◌, ◌∙◌, ℕ, Bool, true}
+use Rattle.std.proofs.Common.{false, not, nat_le, [], List, length, take, Option, Some, sym, ap}
+use Rattle.std.proofs.Common.{subst, refl, arith}
 use Rattle.std.specs.Option.{IfSome}
 use Rattle.std.proofs.lemmas.Bool.{leb-true, leb-false}
 use Rattle.std.proofs.lemmas.List.{take_all, length-take-le}
@@ -14,7 +17,8 @@ use Rattle.syn_disk.specs.declared.disk.Disk.{Ghosts}
 use Rattle.syn_disk.specs.Stops.{LeavesOnly}
 use Rattle.syn_journal.specs.Layout.{half_size}
 use Rattle.syn_replica.specs.Disks.{DiskKeeps, event_size}
-use Rattle.syn_replica.specs.Replica.{KeepsBeforeOrAfter, Stands, pair_of, disk_of, left_shown, generation_shown}
+use Rattle.syn_replica.specs.Replica.{KeepsBeforeOrAfter, Stands, pair_of, disk_of, left_shown}
+use Rattle.syn_replica.specs.Replica.{generation_shown}
 use Rattle.syn_replica.specs.declared.replica.Replica.{Replica}
 use Rattle.syn_command.specs.Asked.{edit_asked}
 use Rattle.syn_words.specs.declared.line.Change.{Change}
@@ -25,19 +29,23 @@ abbrev most : ℕ
 most = 16385
 
 -- a fact of what is left, where that is known
-pub known : (o : Option Bytes) (left : Bytes) (P : Bytes → Type 0) → o ≡ Some left → IfSome o P → P left
+pub known : (o : Option Bytes) (left : Bytes) (P : Bytes → Type 0) → o ≡ Some left → IfSome o P →
+    P left
 known o left P e h = subst (λ x. IfSome x P) e h
 
 over : (n : ℕ) → n ≤ 16384 → 16384 < n → ⊥
 over n a b = omega (arith, a, b)
 
 cut_length : (left : Bytes) → most < length left → 16384 < length (take most left)
-cut_length left long = subst (λ n. 16384 < n) (sym (length-take-le most left (omega (arith, long)))) (omega arith)
+cut_length left long =
+    subst (λ n. 16384 < n) (sym (length-take-le most left (omega (arith, long)))) (omega arith)
 
 -- What was read is all that is left, or both are longer than a file may be.
-longer : (bytes left : Bytes) → bytes ≡ take most left → (bytes ≡ left) ⊎ ((16384 < length bytes) × (16384 < length left))
+longer : (bytes left : Bytes) → bytes ≡ take most left →
+    (bytes ≡ left) ⊎ ((16384 < length bytes) × (16384 < length left))
 longer bytes left e =
-    elim (nat_le (length left) most) as (λ b. nat_le (length left) most ≡ b → (bytes ≡ left) ⊎ ((16384 < length bytes) × (16384 < length left))) [
+    elim (nat_le (length left) most) as (λ b. nat_le (length left) most ≡ b →
+    (bytes ≡ left) ⊎ ((16384 < length bytes) × (16384 < length left))) [
       | true ↦ λ brief. inl (e ∙ take_all most left (leb-true (length left) most brief))
       | false ↦ λ no.
           let long : most < length left = leb-false (length left) most no in
@@ -46,33 +54,46 @@ longer bytes left e =
 
 -- what is no longer than a file may be was read whole
 whole : (bytes left : Bytes) → bytes ≡ take most left → length bytes ≤ 16384 → bytes ≡ left
-whole bytes left e small = elim (longer bytes left e) as (λ _. bytes ≡ left) [ inl same ↦ same | inr both ↦ absurd (over (length bytes) small both.0) ]
+whole bytes left e small =
+    elim (longer bytes left e) as (λ _. bytes ≡ left)
+    [ inl same ↦ same | inr both ↦ absurd (over (length bytes) small both.0) ]
 
 module _ (fits : HistoryFits) (put : PutFits) (steps : StandingSteps) where
   -- a put that came into a history has no more bytes than a file may have
-  small : (history : History) (user : ℕ) (path : Path) (bytes : Bytes) → IsHistory (history ++ Edited user (Put path bytes) ∷ []) → length bytes ≤ 16384
+  small : (history : History) (user : ℕ) (path : Path) (bytes : Bytes) →
+      IsHistory (history ++ Edited user (Put path bytes) ∷ []) → length bytes ≤ 16384
   small history user path bytes h =
-      put (tree_of history) path bytes (ap (λ s. fits_replica s.tree) (sym (steps history (Edited user (Put path bytes)))) ∙ fits (history ++ Edited user (Put path bytes) ∷ []) h)
+      put (tree_of history) path bytes
+      (ap (λ s. fits_replica s.tree) (sym (steps history (Edited user (Put path bytes))))
+      ∙ fits (history ++ Edited user (Put path bytes) ∷ []) h)
 
   -- so it is what is left of the input
-  read_whole : (history : History) (user : ℕ) (path : Path) (bytes left : Bytes) → bytes ≡ take most left → IsHistory (history ++ Edited user (Put path bytes) ∷ []) → bytes ≡ left
+  read_whole : (history : History) (user : ℕ) (path : Path) (bytes left : Bytes) →
+      bytes ≡ take most left → IsHistory (history ++ Edited user (Put path bytes) ∷ []) →
+      bytes ≡ left
   read_whole history user path bytes left e h = whole bytes left e (small history user path bytes h)
 
-  too_long : (history : History) (path : Path) (bytes : Bytes) → 16384 < length bytes → fits_replica (after_edit (tree_of history) (Put path bytes)) ≡ false
+  too_long : (history : History) (path : Path) (bytes : Bytes) → 16384 < length bytes →
+      fits_replica (after_edit (tree_of history) (Put path bytes)) ≡ false
   too_long history path bytes long =
-      elim (fits_replica (after_edit (tree_of history) (Put path bytes))) as (λ b. fits_replica (after_edit (tree_of history) (Put path bytes)) ≡ b → b ≡ false) [
+      elim (fits_replica (after_edit (tree_of history) (Put path bytes)))
+      as (λ b. fits_replica (after_edit (tree_of history) (Put path bytes)) ≡ b → b ≡ false) [
         | true ↦ λ yes. absurd (over (length bytes) (put (tree_of history) path bytes yes) long)
         | false ↦ λ _. refl
       ] refl
 
   -- and a longer input is refused as what was read of it is
-  put_refusal : (history : History) (user : ℕ) (path : Path) (bytes left : Bytes) → bytes ≡ take most left
-      → event_refusal history (Edited user (Put path bytes)) ≡ event_refusal history (Edited user (Put path left))
+  put_refusal : (history : History) (user : ℕ) (path : Path) (bytes left : Bytes) →
+      bytes ≡ take most left → event_refusal history (Edited user (Put path bytes))
+      ≡ event_refusal history (Edited user (Put path left))
   put_refusal history user path bytes left e =
-      let causes = λ (b : Bool). first_cause (edit_causes (tree_of history) (Put path bytes) ++ ((not b, Full) ∷ full_position (length history))) in
-      elim (longer bytes left e) as (λ _. event_refusal history (Edited user (Put path bytes)) ≡ event_refusal history (Edited user (Put path left))) [
+      let causes = λ (b : Bool). first_cause (edit_causes (tree_of history) (Put path bytes)
+      ++ ((not b, Full) ∷ full_position (length history))) in
+      elim (longer bytes left e) as (λ _. event_refusal history (Edited user (Put path bytes))
+      ≡ event_refusal history (Edited user (Put path left))) [
         | inl same ↦ ap (λ b. event_refusal history (Edited user (Put path b))) same
-        | inr both ↦ ap causes (too_long history path bytes both.0 ∙ sym (too_long history path left both.1))
+        | inr both ↦ ap causes
+            (too_long history path bytes both.0 ∙ sym (too_long history path left both.1))
       ]
 
   -- an edit that came into a history is the one that was asked for
@@ -84,11 +105,11 @@ module _ (fits : HistoryFits) (put : PutFits) (steps : StandingSteps) where
   same_edit history user change.MakeDir path left h = refl
   same_edit history user change.Remove path left h = refl
 
-  pub before_or_after : {D : Type 0} {disk : Ghosts D} (replica : Replica D disk) (history : History)
-      (user : ℕ) (change : Change) (path : Path) (left : Bytes) (edit : Edit)
-      → edit ≡ edit_asked change path (take most left)
-      → (c : List ℕ) → KeepsBeforeOrAfter replica history (Edited user edit) c
-      → KeepsBeforeOrAfter replica history (Edited user (edit_asked change path left)) c
+  pub before_or_after : {D : Type 0} {disk : Ghosts D} (replica : Replica D disk)
+      (history : History) (user : ℕ) (change : Change) (path : Path) (left : Bytes) (edit : Edit) →
+      edit ≡ edit_asked change path (take most left) → (c : List ℕ) →
+      KeepsBeforeOrAfter replica history (Edited user edit) c →
+      KeepsBeforeOrAfter replica history (Edited user (edit_asked change path left)) c
   before_or_after replica history user change path left edit is c (inl before) = inl before
   before_or_after replica history user change path left edit is c (inr after) =
       let Keeps : Edit → Type 0 = λ e. DiskKeeps (pair_of replica) (history ++ Edited user e ∷ [])

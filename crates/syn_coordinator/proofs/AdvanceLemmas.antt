@@ -1,9 +1,11 @@
 -- What becomes of a record that is due is a step of the session through its plan.
-use Rattle.std.proofs.Common.{◌≡◌, ◌≢◌, ℕ, Bool, true, false, List, [], ◌∷◌, ◌++◌, Option, Some, None, refl, sym, ap, ◌∙◌, subst, inr}
+use Rattle.std.proofs.Common.{◌≡◌, ◌≢◌, ℕ, Bool, true, false, List, [], ◌∷◌, ◌++◌, Option, Some}
+use Rattle.std.proofs.Common.{None, refl, sym, ap, ◌∙◌, subst, inr}
 use Rattle.std.specs.List.{slice_get}
 use Rattle.syn_archive.specs.declared.archive.Archive.{Archive}
 use Rattle.syn_disk.specs.declared.disk.Disk.{Ghosts}
-use Rattle.syn_headline.specs.Coordinator.{Advances, Exchange, HasNoRoom, IsDue, IsToKeep, Keeps, Walk, past, making_room, record_for, archive_layout}
+use Rattle.syn_headline.specs.Coordinator.{Advances, Exchange, HasNoRoom, IsDue, IsToKeep, Keeps}
+use Rattle.syn_headline.specs.Coordinator.{Walk, past, making_room, record_for, archive_layout}
 use Rattle.syn_headline.specs.Coordinator as model
 use Rattle.syn_headline.specs.Machine.{Compacts, Up, Halted, Down, Status, has_room}
 use Rattle.syn_headline.specs.Network.{Which, Left, Right, other}
@@ -15,7 +17,8 @@ use Rattle.syn_keep.specs.Machines.{Journal}
 use Rattle.syn_keep.specs.Tries.{HoldsTried, IsShown, Tries}
 use Rattle.syn_keep.specs.declared.due.Due.{Due}
 use Rattle.syn_keep.specs.declared.tried.Tried.{Tried}
-use Rattle.syn_coordinator.proofs.TriedLemmas.{compact_writes, failed_at, fits_in, kept_quiet, tries_held, tries_none}
+use Rattle.syn_coordinator.proofs.TriedLemmas.{compact_writes, failed_at, fits_in, kept_quiet}
+use Rattle.syn_coordinator.proofs.TriedLemmas.{tries_held, tries_none}
 use Rattle.std.proofs.lemmas.Option.{none-some}
 use Rattle.syn_coordinator.specs.inner.Advancing.{Advanced, kept_it, refused_it, ended, stopped}
 use Rattle.syn_keep.specs.Due as due
@@ -26,10 +29,13 @@ use Rattle.syn_keep.proofs.DueLemmas.{ready_still}
 -- ---- which record is due
 
 -- what is due for an item is what is to be recorded for it
-pub record_due : (item : ℕ) (planned : Planned) (taken : Exchange) (kept : Kept) → IsDue item planned taken kept → record_for planned planned.item ≡ Some kept
-record_due item planned taken kept (model.done path since size is_done asked writes) = by planned.item taken.side writes
+pub record_due : (item : ℕ) (planned : Planned) (taken : Exchange) (kept : Kept) →
+    IsDue item planned taken kept → record_for planned planned.item ≡ Some kept
+record_due item planned taken kept (model.done path since size is_done asked writes) =
+    by planned.item taken.side writes
   where
-    by : (item : Item) (side : Which) → WritesTo item side path → record_for planned item ≡ Some (Recorded path (seen_on planned (other side)).marks)
+    by : (item : Item) (side : Which) → WritesTo item side path →
+        record_for planned item ≡ Some (Recorded path (seen_on planned (other side)).marks)
     by (ToLeft at) Left same = ap (λ p. Some (Recorded p planned.right.marks)) same
     by (ToRight at) Right same = ap (λ p. Some (Recorded p planned.left.marks)) same
     by (ToLeft at) Right never = absurd never
@@ -44,22 +50,42 @@ record_due item planned taken kept (model.directory path is) = ap (record_for pl
 
 module _ (pair : ℕ) (plan : List Planned) (taken : Exchange) where
   -- where the status stays a walk goes on from where it came to
-  pub goes_further : (first middle last : Walk) (before behind : List Kept) → Advances pair plan taken first before middle → middle.journal.status ≡ first.journal.status → Advances pair plan taken middle behind last → Advances pair plan taken first (before ++ behind) last
+  pub goes_further : (first middle last : Walk) (before behind : List Kept) →
+      Advances pair plan taken first before middle → middle.journal.status ≡ first.journal.status →
+      Advances pair plan taken middle behind last →
+      Advances pair plan taken first (before ++ behind) last
   goes_further first middle last before behind (model.stands walk) same rest = rest
-  goes_further first middle last before behind (model.conflicts walk later kept planned path fresh at is more) same rest =
-      model.conflicts walk last (kept ++ behind) planned path fresh at is (goes_further _ _ last kept behind more same rest)
-  goes_further first middle last before behind (model.side_refuses walk later kept planned why fresh at refused for more) same rest =
-      model.side_refuses walk last (kept ++ behind) planned why fresh at refused for (goes_further _ _ last kept behind more same rest)
-  goes_further first middle last before behind (model.archive_refuses walk later kept planned what why fresh at is up refused more) same rest =
-      model.archive_refuses walk last (kept ++ behind) planned what why fresh at is up refused (goes_further _ _ last kept behind more same rest)
-  goes_further first middle last before behind (model.no_checkpoint walk later kept what fresh full greatest more) same rest =
-      model.no_checkpoint walk last (kept ++ behind) what fresh full greatest (goes_further _ _ last kept behind more same rest)
-  goes_further first middle last before behind (model.checkpoints walk later kept what journal fresh full less compacts up more) same rest =
-      model.checkpoints walk last (kept ++ behind) what journal fresh full less compacts up (goes_further _ _ last kept behind more (same ∙ (full.to_keep.up ∙ sym up)) rest)
-  goes_further first middle last before behind (model.checkpoint_breaks walk what journal fresh full less compacts broken) same rest = absurd (broken (same ∙ full.to_keep.up))
-  goes_further first middle last before behind (model.keeps walk later what kept journal keep room kept_so up more) same rest =
-      model.keeps walk last what (kept ++ behind) journal keep room kept_so up (goes_further _ _ last kept behind more (same ∙ (keep.up ∙ sym up)) rest)
-  goes_further first middle last before behind (model.record_breaks walk what kept journal keep room kept_so broken) same rest = absurd (broken (same ∙ keep.up))
+  goes_further first middle last before behind
+      (model.conflicts walk later kept planned path fresh at is more) same rest =
+      model.conflicts walk last (kept ++ behind) planned path fresh at is
+      (goes_further _ _ last kept behind more same rest)
+  goes_further first middle last before behind
+      (model.side_refuses walk later kept planned why fresh at refused for more) same rest =
+      model.side_refuses walk last (kept ++ behind) planned why fresh at refused for
+      (goes_further _ _ last kept behind more same rest)
+  goes_further first middle last before behind
+      (model.archive_refuses walk later kept planned what why fresh at is up refused more) same
+      rest =
+      model.archive_refuses walk last (kept ++ behind) planned what why fresh at is up refused
+      (goes_further _ _ last kept behind more same rest)
+  goes_further first middle last before behind
+      (model.no_checkpoint walk later kept what fresh full greatest more) same rest =
+      model.no_checkpoint walk last (kept ++ behind) what fresh full greatest
+      (goes_further _ _ last kept behind more same rest)
+  goes_further first middle last before behind
+      (model.checkpoints walk later kept what journal fresh full less compacts up more) same rest =
+      model.checkpoints walk last (kept ++ behind) what journal fresh full less compacts up
+      (goes_further _ _ last kept behind more (same ∙ (full.to_keep.up ∙ sym up)) rest)
+  goes_further first middle last before behind
+      (model.checkpoint_breaks walk what journal fresh full less compacts broken) same rest =
+      absurd (broken (same ∙ full.to_keep.up))
+  goes_further first middle last before behind
+      (model.keeps walk later what kept journal keep room kept_so up more) same rest =
+      model.keeps walk last what (kept ++ behind) journal keep room kept_so up
+      (goes_further _ _ last kept behind more (same ∙ (keep.up ∙ sym up)) rest)
+  goes_further first middle last before behind
+      (model.record_breaks walk what kept journal keep room kept_so broken) same rest =
+      absurd (broken (same ∙ keep.up))
 
 not_up : {s : Status} → s ≡ Down → s ≢ Up
 not_up down up = cc
@@ -69,81 +95,151 @@ halted_not_up halted up = cc
 
 -- ---- a step
 
-module _ {D : Type 0} {disk : Ghosts D} (new : Archive D disk) (tried : Option Tried) (pair : ℕ) (plan : List Planned) (taken : Exchange) (walk : Walk) (planned : Planned) (what : Kept)
-    (fresh : walk.made_room ≡ false) (at : slice_get plan walk.cursor ≡ Some planned) (is_due : IsDue walk.cursor planned taken what) where
+module _ {D : Type 0} {disk : Ghosts D} (new : Archive D disk) (tried : Option Tried) (pair : ℕ)
+    (plan : List Planned) (taken : Exchange) (walk : Walk) (planned : Planned) (what : Kept)
+    (fresh : walk.made_room ≡ false) (at : slice_get plan walk.cursor ≡ Some planned)
+    (is_due : IsDue walk.cursor planned taken what) where
   to_keep : IsReady walk.journal what → IsToKeep plan taken walk what
-  to_keep ready = record { planned = planned; at = at; due = is_due; can = ready.can; up = ready.up }
+  to_keep ready =
+      record { planned = planned; at = at; due = is_due; can = ready.can; up = ready.up }
 
-  no_room : IsReady walk.journal what → has_room (archive_layout pair) walk.journal what ≡ false → HasNoRoom pair plan taken walk what
+  no_room : IsReady walk.journal what → has_room (archive_layout pair) walk.journal what ≡ false →
+      HasNoRoom pair plan taken walk what
   no_room ready none = record { to_keep = to_keep ready; no_room = none }
 
-  room_made : IsReady walk.journal what → (between : Journal) → MakesRoom pair walk.journal what true between → IsToKeep plan taken (making_room walk between) what
+  room_made : IsReady walk.journal what → (between : Journal) →
+      MakesRoom pair walk.journal what true between →
+      IsToKeep plan taken (making_room walk between) what
   room_made ready between (makes_some now none less compacts up) =
       let still = ready_still new pair walk.journal what ready now compacts up in
       record { planned = planned; at = at; due = is_due; can = still.can; up = still.up }
 
-  behind_room : IsReady walk.journal what → (between : Journal) → MakesRoom pair walk.journal what true between → (kept : List Kept) (later : Walk) → Advances pair plan taken (making_room walk between) kept later → Advances pair plan taken walk kept later
-  behind_room ready between (makes_some now none less compacts up) kept later more = model.checkpoints walk later kept what now fresh (no_room ready none) less compacts up more
+  behind_room : IsReady walk.journal what → (between : Journal) →
+      MakesRoom pair walk.journal what true between → (kept : List Kept) (later : Walk) →
+      Advances pair plan taken (making_room walk between) kept later →
+      Advances pair plan taken walk kept later
+  behind_room ready between (makes_some now none less compacts up) kept later more =
+      model.checkpoints walk later kept what now fresh (no_room ready none) less compacts up more
 
   -- a checkpoint that makes room writes no record
-  quiet_between : (made : Bool) (between : Journal) → MakesRoom pair walk.journal what made between → walk.journal.writing ≡ None → between.writing ≡ None
+  quiet_between : (made : Bool) (between : Journal) →
+      MakesRoom pair walk.journal what made between → walk.journal.writing ≡ None →
+      between.writing ≡ None
   quiet_between made between (has_some enough) quiet = quiet
-  quiet_between made between (makes_some now none less compacts up) quiet = compact_writes pair walk.journal now compacts ∙ quiet
+  quiet_between made between (makes_some now none less compacts up) quiet =
+      compact_writes pair walk.journal now compacts ∙ quiet
 
   -- the record that is kept is not remembered
-  tries_kept : (between journal : Journal) → Keeps pair between what journal (what ∷ []) → between.writing ≡ None → tried ≡ None → Tries pair tried journal
-  tries_kept between journal keeps quiet none = tries_none pair tried journal none (kept_quiet pair between journal what what keeps quiet)
+  tries_kept : (between journal : Journal) → Keeps pair between what journal (what ∷ []) →
+      between.writing ≡ None → tried ≡ None → Tries pair tried journal
+  tries_kept between journal keeps quiet none =
+      tries_none pair tried journal none (kept_quiet pair between journal what what keeps quiet)
 
   -- the record whose device failed is
-  tries_failed : (between journal : Journal) → Keeps pair between what journal [] → IsShown new pair journal → has_room (archive_layout pair) between what ≡ true → between.writing ≡ None → journal.status ≢ Up → HoldsTried new what tried → Tries pair tried journal
-  tries_failed between journal keeps shown has quiet stops held = tries_held pair new what tried journal held stops shown (failed_at pair between journal what keeps quiet) (fits_in pair between journal what keeps quiet has)
+  tries_failed : (between journal : Journal) → Keeps pair between what journal [] →
+      IsShown new pair journal → has_room (archive_layout pair) between what ≡ true →
+      between.writing ≡ None → journal.status ≢ Up → HoldsTried new what tried →
+      Tries pair tried journal
+  tries_failed between journal keeps shown has quiet stops held =
+      tries_held pair new what tried journal held stops shown
+      (failed_at pair between journal what keeps quiet)
+      (fits_in pair between journal what keeps quiet has)
 
   -- the checkpoint for it failed
-  tries_unmade : (journal : Journal) → Compacts (archive_layout pair) walk.journal journal → IsShown new pair journal → walk.journal.writing ≡ None → journal.status ≢ Up → HoldsTried new what tried → Tries pair tried journal
+  tries_unmade : (journal : Journal) → Compacts (archive_layout pair) walk.journal journal →
+      IsShown new pair journal → walk.journal.writing ≡ None → journal.status ≢ Up →
+      HoldsTried new what tried → Tries pair tried journal
   tries_unmade journal compacts shown quiet stops held =
-      let none : (kept : Kept) → journal.writing ≡ Some kept → ⊥ = λ kept is. none-some _ (sym (compact_writes pair walk.journal journal compacts ∙ quiet) ∙ is) in
-      tries_held pair new what tried journal held stops shown (λ kept is. absurd (none kept is)) (λ kept is. absurd (none kept is))
+      let none : (kept : Kept) → journal.writing ≡ Some kept → ⊥ = λ kept is. none-some _
+      (sym (compact_writes pair walk.journal journal compacts ∙ quiet) ∙ is) in
+      tries_held pair new what tried journal held stops shown (λ kept is. absurd (none kept is))
+      (λ kept is. absurd (none kept is))
 
-  pub advanced : (became : Due) → Settles new pair walk.journal what became → walk.journal.writing ≡ None → TriesBy new what None tried became → Advanced new tried pair plan taken walk planned what became
+  pub advanced : (became : Due) → Settles new pair walk.journal what became →
+      walk.journal.writing ≡ None → TriesBy new what None tried became →
+      Advanced new tried pair plan taken walk planned what became
   unfolding no_room to_keep
-  advanced became (due.recorded false between ready (has_some enough) has (moves_on journal (keeps, shown) up is)) quiet tries =
-      kept_it journal (model.keeps walk (past walk journal) what [] journal (to_keep ready) has keeps up (model.stands (past walk journal))) up is
-  advanced became (due.recorded true between ready room has (moves_on journal (keeps, shown) up is)) quiet tries =
+  advanced became (due.recorded false between ready (has_some enough) has
+      (moves_on journal (keeps, shown) up is)) quiet tries =
+      kept_it journal (model.keeps walk (past walk journal) what
+      [] journal (to_keep ready) has keeps up (model.stands (past walk journal))) up is
+  advanced became (due.recorded true between ready room has (moves_on journal (keeps, shown) up is))
+      quiet tries =
       kept_it journal (behind_room ready between room (what ∷ []) (past walk journal)
-      (model.keeps (making_room walk between) (past walk journal) what [] journal (room_made ready between room) has keeps up (model.stands (past walk journal)))) up is
-  advanced became (due.recorded false between ready (has_some enough) has (moves_down journal (keeps, shown) cut down leaves)) quiet tries =
-      stopped _ (record walk { journal = journal }) (model.record_breaks walk what (what ∷ []) journal (to_keep ready) has keeps (not_up down)) down cut leaves (tries_kept walk.journal journal keeps quiet tries)
-  advanced became (due.recorded true between ready room has (moves_down journal (keeps, shown) cut down leaves)) quiet tries =
-      stopped _ (record (making_room walk between) { journal = journal }) (behind_room ready between room (what ∷ []) (record (making_room walk between) { journal = journal })
-      (model.record_breaks (making_room walk between) what (what ∷ []) journal (room_made ready between room) has keeps (not_up down))) down cut leaves (tries_kept between journal keeps (quiet_between true between room quiet) tries)
+      (model.keeps (making_room walk between) (past walk journal) what [] journal
+      (room_made ready between room) has keeps up (model.stands (past walk journal)))) up is
+  advanced became (due.recorded false between ready (has_some enough) has
+      (moves_down journal (keeps, shown) cut down leaves)) quiet tries =
+      stopped _ (record walk { journal = journal })
+      (model.record_breaks walk what (what ∷ []) journal (to_keep ready) has keeps (not_up down))
+      down cut leaves (tries_kept walk.journal journal keeps quiet tries)
+  advanced became (due.recorded true between ready room has
+      (moves_down journal (keeps, shown) cut down leaves)) quiet tries =
+      stopped _ (record (making_room walk between) { journal = journal }) (behind_room ready between
+      room (what ∷ []) (record (making_room walk between) { journal = journal })
+      (model.record_breaks (making_room walk between) what (what ∷ []) journal
+      (room_made ready between room) has keeps (not_up down))) down cut leaves
+      (tries_kept between journal keeps (quiet_between true between room quiet) tries)
   advanced became (due.archive_refuses why up refused is) quiet tries =
-      refused_it why (model.archive_refuses walk _ [] planned what _ fresh at (record_due walk.cursor planned taken what is_due) (inr up) refused (model.stands _)) is
+      refused_it why (model.archive_refuses walk _ [] planned what _ fresh at
+      (record_due walk.cursor planned taken what is_due) (inr up) refused (model.stands _)) is
   advanced became (due.no_checkpoint ready none last is) quiet tries =
-      refused_it refusal.Full (model.no_checkpoint walk _ [] what fresh (no_room ready none) last (model.stands _)) is
+      refused_it refusal.Full
+      (model.no_checkpoint walk _ [] what fresh (no_room ready none) last (model.stands _)) is
   advanced became (due.failed_before halted is) quiet tries =
       ended refusal.Halted walk (model.stands walk) refl refl
-      (λ running same. model.failed_before planned what (subst (λ p. slice_get p walk.cursor ≡ Some planned) (sym same) at) is_due halted halted) is (tries_none pair tried _ tries quiet)
-  advanced became (due.checkpoint_breaks ready none less (moves_on journal (compacts, shown) halted is)) quiet tries =
-      ended refusal.Device (record walk { journal = journal }) (model.checkpoint_breaks walk what journal fresh (no_room ready none) less compacts (halted_not_up halted)) refl refl
-      (λ running same. model.fails ready.up halted) is (tries_unmade journal compacts shown quiet (halted_not_up halted) tries)
-  advanced became (due.checkpoint_breaks ready none less (moves_down journal (compacts, shown) cut down leaves)) quiet tries =
-      stopped _ (record walk { journal = journal }) (model.checkpoint_breaks walk what journal fresh (no_room ready none) less compacts (not_up down)) down cut leaves (tries_unmade journal compacts shown quiet (not_up down) tries)
-  advanced became (due.record_breaks false between ready (has_some enough) has (moves_on journal (keeps, shown) halted is)) quiet tries =
-      ended refusal.Device (record walk { journal = journal }) (model.record_breaks walk what [] journal (to_keep ready) has keeps (halted_not_up halted)) refl refl
-      (λ running same. model.fails ready.up halted) is (tries_failed walk.journal journal keeps shown enough quiet (halted_not_up halted) tries)
-  advanced became (due.record_breaks true between ready room has (moves_on journal (keeps, shown) halted is)) quiet tries =
-      ended refusal.Device (record (making_room walk between) { journal = journal }) (behind_room ready between room [] (record (making_room walk between) { journal = journal })
-      (model.record_breaks (making_room walk between) what [] journal (room_made ready between room) has keeps (halted_not_up halted))) refl refl
-      (λ running same. model.fails ready.up halted) is (tries_failed between journal keeps shown has (quiet_between true between room quiet) (halted_not_up halted) tries)
-  advanced became (due.record_breaks false between ready (has_some enough) has (moves_down journal (keeps, shown) cut down leaves)) quiet tries =
-      stopped _ (record walk { journal = journal }) (model.record_breaks walk what [] journal (to_keep ready) has keeps (not_up down)) down cut leaves (tries_failed walk.journal journal keeps shown enough quiet (not_up down) tries)
-  advanced became (due.record_breaks true between ready room has (moves_down journal (keeps, shown) cut down leaves)) quiet tries =
-      stopped _ (record (making_room walk between) { journal = journal }) (behind_room ready between room [] (record (making_room walk between) { journal = journal })
-      (model.record_breaks (making_room walk between) what [] journal (room_made ready between room) has keeps (not_up down))) down cut leaves (tries_failed between journal keeps shown has (quiet_between true between room quiet) (not_up down) tries)
+      (λ running same. model.failed_before planned what
+      (subst (λ p. slice_get p walk.cursor ≡ Some planned) (sym same) at) is_due halted halted) is
+      (tries_none pair tried _ tries quiet)
+  advanced became (due.checkpoint_breaks ready none less
+      (moves_on journal (compacts, shown) halted is)) quiet tries =
+      ended refusal.Device (record walk { journal = journal }) (model.checkpoint_breaks walk what
+      journal fresh (no_room ready none) less compacts (halted_not_up halted)) refl refl
+      (λ running same. model.fails ready.up halted) is
+      (tries_unmade journal compacts shown quiet (halted_not_up halted) tries)
+  advanced became (due.checkpoint_breaks ready none less
+      (moves_down journal (compacts, shown) cut down leaves)) quiet tries =
+      stopped _ (record walk { journal = journal }) (model.checkpoint_breaks walk what journal fresh
+      (no_room ready none) less compacts (not_up down)) down cut leaves
+      (tries_unmade journal compacts shown quiet (not_up down) tries)
+  advanced became (due.record_breaks false between ready (has_some enough) has
+      (moves_on journal (keeps, shown) halted is)) quiet tries =
+      ended refusal.Device (record walk { journal = journal }) (model.record_breaks walk what
+      [] journal (to_keep ready) has keeps (halted_not_up halted)) refl refl
+      (λ running same. model.fails ready.up halted) is
+      (tries_failed walk.journal journal keeps shown enough quiet (halted_not_up halted) tries)
+  advanced became (due.record_breaks true between ready room has
+      (moves_on journal (keeps, shown) halted is)) quiet tries =
+      ended refusal.Device (record (making_room walk between) { journal = journal })
+      (behind_room ready between room [] (record (making_room walk between) { journal = journal })
+      (model.record_breaks (making_room walk between) what
+      [] journal (room_made ready between room) has keeps (halted_not_up halted))) refl refl
+      (λ running same. model.fails ready.up halted) is (tries_failed between journal keeps shown has
+      (quiet_between true between room quiet) (halted_not_up halted) tries)
+  advanced became (due.record_breaks false between ready (has_some enough) has
+      (moves_down journal (keeps, shown) cut down leaves)) quiet tries =
+      stopped _ (record walk { journal = journal })
+      (model.record_breaks walk what [] journal (to_keep ready) has keeps (not_up down)) down cut
+      leaves (tries_failed walk.journal journal keeps shown enough quiet (not_up down) tries)
+  advanced became (due.record_breaks true between ready room has
+      (moves_down journal (keeps, shown) cut down leaves)) quiet tries =
+      stopped _ (record (making_room walk between) { journal = journal })
+      (behind_room ready between room [] (record (making_room walk between) { journal = journal })
+      (model.record_breaks (making_room walk between) what [] journal (room_made ready between room)
+      has keeps (not_up down))) down cut leaves (tries_failed between journal keeps shown has
+      (quiet_between true between room quiet) (not_up down) tries)
   advanced became (due.no_room_left between ready room none is) quiet tries =
-      ended refusal.JournalFull (making_room walk between) (behind_room ready between room [] (making_room walk between) (model.stands (making_room walk between))) refl refl
-      (λ running same. model.no_room_left what (subst (λ p. HasNoRoom pair p taken (making_room walk between) what) (sym same) (record { to_keep = room_made ready between room; no_room = none })) refl) is (tries_none pair tried _ tries (quiet_between true between room quiet))
-  advanced became (due.no_memory is) quiet tries = ended refusal.Memory walk (model.stands walk) refl refl (λ running same. model.no_memory refl) is (tries_none pair tried _ tries quiet)
+      ended refusal.JournalFull (making_room walk between) (behind_room ready between room
+      [] (making_room walk between) (model.stands (making_room walk between))) refl refl
+      (λ running same. model.no_room_left what
+      (subst (λ p. HasNoRoom pair p taken (making_room walk between) what) (sym same)
+      (record { to_keep = room_made ready between room; no_room = none })) refl) is
+      (tries_none pair tried _ tries (quiet_between true between room quiet))
+  advanced became (due.no_memory is) quiet tries =
+      ended refusal.Memory walk (model.stands walk) refl refl
+      (λ running same. model.no_memory refl) is (tries_none pair tried _ tries quiet)
   advanced became (due.no_memory_behind between ready room is) quiet tries =
-      ended refusal.Memory (making_room walk between) (behind_room ready between room [] (making_room walk between) (model.stands (making_room walk between))) refl refl
-      (λ running same. model.no_memory ((room_made ready between room).up ∙ sym ready.up)) is (tries_none pair tried _ tries (quiet_between true between room quiet))
+      ended refusal.Memory (making_room walk between) (behind_room ready between room
+      [] (making_room walk between) (model.stands (making_room walk between))) refl refl
+      (λ running same. model.no_memory ((room_made ready between room).up ∙ sym ready.up)) is
+      (tries_none pair tried _ tries (quiet_between true between room quiet))

@@ -1,10 +1,12 @@
 -- A session that has made its plan, or goes on in it, behind an answer.
-use Rattle.std.proofs.Common.{◌≡◌, ℕ, false, ◌||◌, List, [], ◌∷◌, ◌++◌, Option, Some, None, refl, sym, ap, ◌∙◌, subst}
+use Rattle.std.proofs.Common.{◌≡◌, ℕ, false, ◌||◌, List, [], ◌∷◌, ◌++◌, Option, Some, None, refl}
+use Rattle.std.proofs.Common.{sym, ap, ◌∙◌, subst}
 use Rattle.std.specs.Prelude.{option_map, unwrap_or}
 use Rattle.std.proofs.lemmas.List.Elements.{Contains-push}
 use Rattle.std.proofs.lemmas.Option.{none-some}
 use Rattle.syn_disk.specs.declared.disk.Disk.{Ghosts}
-use Rattle.syn_headline.specs.Coordinator.{Exchange, HasPlan, Running, fault_of, hearing, is_not_dir, is_unstable, makes, stays}
+use Rattle.syn_headline.specs.Coordinator.{Exchange, HasPlan, Running, fault_of, hearing}
+use Rattle.syn_headline.specs.Coordinator.{is_not_dir, is_unstable, makes, stays}
 use Rattle.syn_headline.specs.Network.{Left, Right, Which, other}
 use Rattle.syn_headline.specs.Side.{Begin, Fetch, Listed, ListAt, NotDir, Replace, Request, Stage}
 use Rattle.syn_headline.specs.Side as said
@@ -35,13 +37,15 @@ use Rattle.syn_session.specs.Hearing.{HasHeard, IsScanned, behind}
 use Rattle.syn_session.specs.Plans.{Plan}
 use Rattle.syn_session.specs.Sessions.{IsLine, IsSession, IsStage, Tells}
 use Rattle.syn_coordinator.specs.inner.Settling.{AsksSo, EndsSo, IsQuiet}
-use Rattle.syn_session.specs.Stages.{Carries, IsAskedBefore, IsCarrying, IsCourse, IsOfScan, Reached, asks_now, found_on, line_of, plan_in, reached_by}
+use Rattle.syn_session.specs.Stages.{Carries, IsAskedBefore, IsCarrying, IsCourse, IsOfScan}
+use Rattle.syn_session.specs.Stages.{Reached, asks_now, found_on, line_of, plan_in, reached_by}
 use Rattle.syn_coordinator.specs.inner.Taking as taking
 use Rattle.syn_coordinator.specs.inner.Walking.{ComesToAsk, Ends, IsAtItem}
 use Rattle.syn_session.specs.Passing.{first_reached}
 use Rattle.syn_session.proofs.AnswerLemmas.{heard_so, unstable_then}
 use Rattle.syn_coordinator.proofs.CarryLemmas.{asks_course, ends_course}
-use Rattle.syn_session.proofs.HearingLemmas.{asked_first, by_sides, or_false, scans_further, tells_heard}
+use Rattle.syn_session.proofs.TellingLemmas.{asked_first, by_sides, or_false, scans_further}
+use Rattle.syn_session.proofs.TellingLemmas.{tells_heard}
 use Rattle.syn_coordinator.proofs.MakingLemmas.{made_of, makes_plan}
 use Rattle.syn_session.proofs.SessionLemmas.{asks_first}
 use Rattle.syn_coordinator.proofs.TakeLemmas.{hears_end}
@@ -50,100 +54,159 @@ use Rattle.syn_message.specs.Requests.{request_of}
 
 -- ---- whatever its plan, a session is heard alike
 
-heard_with : (session : Session) (course : Option Course) (heard : Running) → IsHeard session heard → IsHeard (record session { course = course }) heard
-heard_with session course heard h = record { number = h.number; lawful = h.lawful; line = line; once = h.once }
+heard_with : (session : Session) (course : Option Course) (heard : Running) →
+    IsHeard session heard → IsHeard (record session { course = course }) heard
+heard_with session course heard h =
+    record { number = h.number; lawful = h.lawful; line = line; once = h.once }
   where
     line : (side : Which) → IsLine (line_of (record session { course = course }) side) heard side
     line Left = h.line Left
     line Right = h.line Right
 
-silent_with : (session : Session) (course : Option Course) → ((side : Which) → (line_of session side).waiting ≡ None) → (side : Which) → (line_of (record session { course = course }) side).waiting ≡ None
+silent_with : (session : Session) (course : Option Course) →
+    ((side : Which) → (line_of session side).waiting ≡ None) → (side : Which) →
+    (line_of (record session { course = course }) side).waiting ≡ None
 silent_with session course silent Left = silent Left
 silent_with session course silent Right = silent Right
 
 -- ---- its plan is made
 
 -- a begin or a listing is for no item
-scanned_before : (plan : Plan) (cursor : ℕ) (request : Request) → IsOfScan request → IsAskedBefore plan cursor request
+scanned_before : (plan : Plan) (cursor : ℕ) (request : Request) → IsOfScan request →
+    IsAskedBefore plan cursor request
 scanned_before plan cursor (Begin pair) this = tt
 scanned_before plan cursor (ListAt path) this = tt
 scanned_before plan cursor (Fetch path since offset) this = absurd this
 scanned_before plan cursor (Stage item offset bytes) this = absurd this
 scanned_before plan cursor (Replace item path since size) this = absurd this
 
-module _ {D : Type 0} {disk : Ghosts D} (old : Coordinator D disk) (pair : ℕ) (journal : Journal) (running : Running) (taken : Exchange) (session : Session) (is_machine : IsMachine old.archive pair journal)
-    (fault : fault_of running.taken taken.side taken.request taken.reply ≡ None) (heard : HasHeard session (hearing running taken)) (scanned : IsScanned session (hearing running taken)) (nothing : written old ≡ []) where
+module _ {D : Type 0} {disk : Ghosts D} (old : Coordinator D disk) (pair : ℕ) (journal : Journal)
+    (running : Running) (taken : Exchange) (session : Session)
+    (is_machine : IsMachine old.archive pair journal)
+    (fault : fault_of running.taken taken.side taken.request taken.reply ≡ None)
+    (heard : HasHeard session (hearing running taken))
+    (scanned : IsScanned session (hearing running taken)) (nothing : written old ≡ []) where
   -- there is no memory for it
-  pub no_plan : IsQuiet old journal → TakesEnd old.archive old.tried pair journal running taken session (written old) (Early refusal.Memory)
-  no_plan quiet = hears_end old.archive pair journal running taken session is_machine old.tried (tries_none pair old.tried journal quiet.0 quiet.1) (written old) nothing refusal.Memory (behind fault refl (tells_heard session (hearing running taken) heard))
+  pub no_plan : IsQuiet old journal → TakesEnd old.archive old.tried pair journal running taken
+      session (written old) (Early refusal.Memory)
+  no_plan quiet =
+      hears_end old.archive pair journal running taken session is_machine old.tried
+      (tries_none pair old.tried journal quiet.0 quiet.1) (written old) nothing refusal.Memory
+      (behind fault refl (tells_heard session (hearing running taken) heard))
 
-  module _ (made : Course) (left right : Found) (same_left : left ≡ found_on session Left) (same_right : right ≡ found_on session Right) (course_is : IsCourse made left right (first_reached (plan_in made left right))) where
+  module _ (made : Course) (left right : Found) (same_left : left ≡ found_on session Left)
+      (same_right : right ≡ found_on session Right)
+      (course_is : IsCourse made left right (first_reached (plan_in made left right))) where
     abbrev first : Reached
     first = first_reached (plan_in made left right)
 
     pub at_first : IsAtItem made left right (running.taken ++ taken ∷ []) first
     at_first = record {
       course_is = course_is;
-      asked = λ exchange has. scanned_before (plan_in made left right) made.cursor exchange.request (heard.of_scan exchange has);
+      asked =
+          λ exchange has. scanned_before (plan_in made left right) made.cursor exchange.request
+          (heard.of_scan exchange has);
     }
 
-    module _ (items : items_of made.items.items ≡ planning.plan (scan_of left) (scan_of right) journal.value.marks)
-        (on_left : IsScanBy (WasListedAt (running.taken ++ taken ∷ []) Left) (WasNoDirectoryAt (running.taken ++ taken ∷ []) Left) (scan_of left) (position_of left))
-        (on_right : IsScanBy (WasListedAt (running.taken ++ taken ∷ []) Right) (WasNoDirectoryAt (running.taken ++ taken ∷ []) Right) (scan_of right) (position_of right)) where
-      made_it : HasPlan journal.value (hearing running taken) first.plan (made_of running.session journal.value.marks left right (items_of made.items.items) ∷ [])
-      made_it = makes (made_of running.session journal.value.marks left right (items_of made.items.items)) (ap (λ (r : Reached). r.plan) heard.reached) (makes_plan (hearing running taken) journal.value left right (items_of made.items.items) items scanned.begun on_left on_right)
+    module _ (items : items_of made.items.items
+        ≡ planning.plan (scan_of left) (scan_of right) journal.value.marks)
+        (on_left : IsScanBy (WasListedAt (running.taken ++ taken ∷ []) Left)
+        (WasNoDirectoryAt (running.taken ++ taken ∷ []) Left) (scan_of left) (position_of left))
+        (on_right : IsScanBy (WasListedAt (running.taken ++ taken ∷ []) Right) (WasNoDirectoryAt
+        (running.taken ++ taken ∷ []) Right) (scan_of right) (position_of right)) where
+      made_it : HasPlan journal.value (hearing running taken) first.plan
+          (made_of running.session journal.value.marks left right (items_of made.items.items) ∷ [])
+      made_it =
+          makes (made_of running.session journal.value.marks left right (items_of made.items.items))
+          (ap (λ (r : Reached). r.plan) heard.reached)
+          (makes_plan (hearing running taken) journal.value left right
+          (items_of made.items.items) items scanned.begun on_left on_right)
 
       module _ (new : Coordinator D disk) (course : Course) where
         abbrev later : Session
         later = record session { course = Some course }
 
-        pub begins_asking : (side : Side) (request : Asked) → AsksSo old new pair taken journal first course left right (running.taken ++ taken ∷ []) (side, request) → TakesOn new.archive pair journal running taken later (written new) (asks_to side request)
+        pub begins_asking : (side : Side) (request : Asked) →
+            AsksSo old new pair taken journal first course left right (running.taken ++ taken ∷ [])
+            (side, request) → TakesOn new.archive pair journal running taken later (written new)
+            (asks_to side request)
         begins_asking side request so =
-            subst (λ k. TakesOn new.archive pair journal running taken later k (asks_to side request)) (sym (so.1 ∙ ap (λ l. l ++ so.0) nothing))
-            (asks_course new.archive pair journal running taken later course refl (heard_with session (Some course) (hearing running taken) heard.heard_is) heard.unstable (silent_with session (Some course) scanned.silent) fault first
-            (sym (ap (λ (r : Reached). r.cursor) heard.reached)) (sym (ap (λ (r : Reached). r.refused) heard.reached)) (sym (ap (λ (r : Reached). r.kept) heard.reached)) _ made_it so.0 (side, request)
-            (subst (λ r. ComesToAsk new.archive pair taken journal first so.0 course (found_on session Left) r (running.taken ++ taken ∷ []) (side, request)) same_right
-            (subst (λ l. ComesToAsk new.archive pair taken journal first so.0 course l right (running.taken ++ taken ∷ []) (side, request)) same_left so.2))
-            (λ last. absurd (scans_further running.taken taken.side taken.request (heard.of_scan taken (Contains-push running.taken taken)) taken.reply fault last)))
+            subst (λ k. TakesOn new.archive pair journal running taken later k
+            (asks_to side request)) (sym (so.1 ∙ ap (λ l. l ++ so.0) nothing))
+            (asks_course new.archive pair journal running taken later course refl
+            (heard_with session (Some course) (hearing running taken) heard.heard_is)
+            heard.unstable (silent_with session (Some course) scanned.silent) fault first
+            (sym (ap (λ (r : Reached). r.cursor) heard.reached))
+            (sym (ap (λ (r : Reached). r.refused) heard.reached))
+            (sym (ap (λ (r : Reached). r.kept) heard.reached)) _ made_it so.0 (side, request)
+            (subst (λ r. ComesToAsk new.archive pair taken journal first so.0 course
+            (found_on session Left) r (running.taken ++ taken ∷ []) (side, request)) same_right
+            (subst (λ l. ComesToAsk new.archive pair taken journal first so.0 course l right
+            (running.taken ++ taken ∷ []) (side, request)) same_left so.2))
+            (λ last. absurd (scans_further running.taken taken.side taken.request
+            (heard.of_scan taken (Contains-push running.taken taken)) taken.reply fault last)))
 
-        pub begins_ending : (ended : Ended) → EndsSo old new pair taken journal first course left right ended → TakesEnd new.archive new.tried pair journal running taken later (written new) ended
+        pub begins_ending : (ended : Ended) →
+            EndsSo old new pair taken journal first course left right ended →
+            TakesEnd new.archive new.tried pair journal running taken later (written new) ended
         begins_ending ended so =
-            subst (λ k. TakesEnd new.archive new.tried pair journal running taken later k ended) (sym (so.1 ∙ ap (λ l. l ++ so.0) nothing))
-            (ends_course new.archive pair journal running taken later course refl (heard_with session (Some course) (hearing running taken) heard.heard_is) heard.unstable (silent_with session (Some course) scanned.silent) fault first
-            (sym (ap (λ (r : Reached). r.cursor) heard.reached)) (sym (ap (λ (r : Reached). r.refused) heard.reached)) (sym (ap (λ (r : Reached). r.kept) heard.reached)) _ made_it new.tried so.0 ended
-            (subst (λ r. Ends new.archive new.tried pair taken journal first so.0 course (found_on session Left) r ended) same_right
-            (subst (λ l. Ends new.archive new.tried pair taken journal first so.0 course l right ended) same_left so.2)))
+            subst (λ k. TakesEnd new.archive new.tried pair journal running taken later k ended)
+            (sym (so.1 ∙ ap (λ l. l ++ so.0) nothing))
+            (ends_course new.archive pair journal running taken later course refl
+            (heard_with session (Some course) (hearing running taken) heard.heard_is)
+            heard.unstable (silent_with session (Some course) scanned.silent) fault first
+            (sym (ap (λ (r : Reached). r.cursor) heard.reached))
+            (sym (ap (λ (r : Reached). r.refused) heard.reached))
+            (sym (ap (λ (r : Reached). r.kept) heard.reached)) _ made_it new.tried so.0 ended
+            (subst (λ r. Ends new.archive new.tried pair taken journal first so.0 course
+            (found_on session Left) r ended) same_right
+            (subst (λ l. Ends new.archive new.tried pair taken journal first so.0 course l right
+            ended) same_left so.2)))
 
 -- ---- it goes on in its plan
 
 -- an answer for an item that does not end the session tells of no directory that is none
-is_stable : (taken : List Exchange) (side : Which) (c : Carriage) (request : Request) → IsForItem c side request → (reply : said.Reply) → fault_of taken side request reply ≡ None → is_not_dir reply ≡ false
+is_stable : (taken : List Exchange) (side : Which) (c : Carriage) (request : Request) →
+    IsForItem c side request → (reply : said.Reply) → fault_of taken side request reply ≡ None →
+    is_not_dir reply ≡ false
 is_stable taken side c request it (said.Begun position) fault = refl
 is_stable taken side c request it (said.Listed position entries) fault = refl
 is_stable taken side c (Begin pair) it (said.NotDir position) fault = absurd it
 is_stable taken side c (ListAt path) it (said.NotDir position) fault = absurd it
-is_stable taken side c (Fetch path since offset) it (said.NotDir position) fault = absurd (none-some _ (sym fault))
-is_stable taken side c (Stage item offset bytes) it (said.NotDir position) fault = absurd (none-some _ (sym fault))
-is_stable taken side c (Replace item path since size) it (said.NotDir position) fault = absurd (none-some _ (sym fault))
+is_stable taken side c (Fetch path since offset) it (said.NotDir position) fault =
+    absurd (none-some _ (sym fault))
+is_stable taken side c (Stage item offset bytes) it (said.NotDir position) fault =
+    absurd (none-some _ (sym fault))
+is_stable taken side c (Replace item path since size) it (said.NotDir position) fault =
+    absurd (none-some _ (sym fault))
 is_stable taken side c request it (said.Piece total bytes) fault = refl
 is_stable taken side c request it said.Staged fault = refl
 is_stable taken side c request it said.Done fault = refl
 is_stable taken side c request it (said.Refused why) fault = refl
 
 -- nothing waits where nothing is asked
-none_waits : (waiting : Option Waiting) → option_map (λ one. request_of one.request) waiting ≡ None → waiting ≡ None
+none_waits : (waiting : Option Waiting) →
+    option_map (λ one. request_of one.request) waiting ≡ None → waiting ≡ None
 none_waits None e = refl
 none_waits (Some one) e = absurd (none-some _ (sym e))
 
-module _ (pair : ℕ) (journal : Journal) (before session : Session) (running : Running) (side : Which) (number : ℕ) (request : Request) (reply : said.Reply) (is : IsSession journal.value before running) (answers : IsAnswering before session side number request) (course : Course) (was : session.course ≡ Some course) where
+module _ (pair : ℕ) (journal : Journal) (before session : Session) (running : Running)
+    (side : Which) (number : ℕ) (request : Request) (reply : said.Reply)
+    (is : IsSession journal.value before running)
+    (answers : IsAnswering before session side number request) (course : Course)
+    (was : session.course ≡ Some course) where
   abbrev taken : Exchange
   taken = exchange_of side number request reply
 
   carrying_then : IsCarrying journal.value before course running.taken (reached_by running)
-  carrying_then = subst (λ c. IsStage journal.value before c running.taken (reached_by running)) (sym answers.course ∙ was) is.stage
+  carrying_then =
+      subst (λ c. IsStage journal.value before c running.taken (reached_by running))
+      (sym answers.course ∙ was) is.stage
 
   asked_now : asks_now (line_of before side) ≡ Some request
-  asked_now = asks_first (line_of before side).waiting ∙ asked_first (line_of before side).waiting number request answers.asked
+  asked_now =
+      asks_first (line_of before side).waiting
+      ∙ asked_first (line_of before side).waiting number request answers.asked
 
   -- the side that answers is the one that was asked
   own_side : (to : Which) → asks_now (line_of before (other to)) ≡ None → to ≡ side
@@ -162,35 +225,57 @@ module _ (pair : ℕ) (journal : Journal) (before session : Session) (running : 
   asked_side = own_side carrying_then.to carrying_then.alone
 
   asked_it : carrying_then.request ≡ request
-  asked_it = ap (λ o. unwrap_or o request) (sym (subst (λ w. asks_now (line_of before w) ≡ Some carrying_then.request) asked_side carrying_then.waits) ∙ asked_now)
+  asked_it =
+      ap (λ o. unwrap_or o request) (sym (subst (λ w. asks_now (line_of before w)
+      ≡ Some carrying_then.request) asked_side carrying_then.waits) ∙ asked_now)
 
   same_scan : (on : Which) → (line_of session on).scan ≡ (line_of before on).scan
-  same_scan = by_sides (λ on. (line_of session on).scan ≡ (line_of before on).scan) side answers.scan (ap (λ (l : Line). l.scan) answers.across)
+  same_scan =
+      by_sides (λ on. (line_of session on).scan ≡ (line_of before on).scan) side answers.scan
+      (ap (λ (l : Line). l.scan) answers.across)
 
   pub silent_now : (on : Which) → (line_of session on).waiting ≡ None
   silent_now = by_sides (λ on. (line_of session on).waiting ≡ None) side answers.silent
-      (ap (λ (l : Line). l.waiting) answers.across ∙ none_waits (line_of before (other side)).waiting (subst (λ w. asks_now (line_of before (other w)) ≡ None) asked_side carrying_then.alone))
+      (ap (λ (l : Line). l.waiting) answers.across
+      ∙ none_waits (line_of before (other side)).waiting
+      (subst (λ w. asks_now (line_of before (other w)) ≡ None) asked_side carrying_then.alone))
 
-  module _ (left right : Found) (same_left : left ≡ found_on session Left) (same_right : right ≡ found_on session Right) where
-    pub carries_now : Carries journal.value course left right running.taken (reached_by running) (λ transfer. WaitsFor transfer running.taken side request)
+  module _ (left right : Found) (same_left : left ≡ found_on session Left)
+      (same_right : right ≡ found_on session Right) where
+    pub carries_now : Carries journal.value course left right running.taken (reached_by running)
+        (λ transfer. WaitsFor transfer running.taken side request)
     carries_now =
-        subst (λ l. Carries journal.value course l right running.taken (reached_by running) (λ transfer. WaitsFor transfer running.taken side request)) (sym (same_left ∙ ap found_of (same_scan Left)))
-        (subst (λ r. Carries journal.value course (found_on before Left) r running.taken (reached_by running) (λ transfer. WaitsFor transfer running.taken side request)) (sym (same_right ∙ ap found_of (same_scan Right)))
-        (subst (λ w. Carries journal.value course (found_on before Left) (found_on before Right) running.taken (reached_by running) (λ transfer. WaitsFor transfer running.taken w request)) asked_side
-        (subst (λ q. Carries journal.value course (found_on before Left) (found_on before Right) running.taken (reached_by running) (λ transfer. WaitsFor transfer running.taken carrying_then.to q)) asked_it carrying_then.carries)))
+        subst (λ l. Carries journal.value course l right running.taken (reached_by running)
+        (λ transfer. WaitsFor transfer running.taken side request))
+        (sym (same_left ∙ ap found_of (same_scan Left)))
+        (subst (λ r. Carries journal.value course (found_on before Left) r running.taken
+        (reached_by running) (λ transfer. WaitsFor transfer running.taken side request))
+        (sym (same_right ∙ ap found_of (same_scan Right)))
+        (subst (λ w. Carries journal.value course (found_on before Left)
+        (found_on before Right) running.taken (reached_by running)
+        (λ transfer. WaitsFor transfer running.taken w request)) asked_side
+        (subst (λ q. Carries journal.value course (found_on before Left)
+        (found_on before Right) running.taken (reached_by running) (λ transfer.
+        WaitsFor transfer running.taken carrying_then.to q)) asked_it carrying_then.carries)))
 
-    module _ (law : WaitsForItem) {D : Type 0} {disk : Ghosts D} (old new : Coordinator D disk) (nothing : written old ≡ []) (later : Course) where
+    module _ (law : WaitsForItem) {D : Type 0} {disk : Ghosts D} (old new : Coordinator D disk)
+        (nothing : written old ≡ []) (later : Course) where
       abbrev next : Session
       next = record session { course = Some later }
 
       heard : IsHeard next (hearing running taken)
-      heard = heard_with session (Some later) (hearing running taken) (heard_so journal.value before session running number request reply is side answers)
+      heard =
+          heard_with session (Some later) (hearing running taken)
+          (heard_so journal.value before session running number request reply is side answers)
 
-      unstable : fault_of running.taken side request reply ≡ None → is_unstable (hearing running taken) ≡ next.is_unstable
+      unstable : fault_of running.taken side request reply ≡ None →
+          is_unstable (hearing running taken) ≡ next.is_unstable
       unstable fault =
           let it = law carries_now.carried.transfer running.taken side request carries_now.is in
           unstable_then journal.value before session running number request reply is side
-          ∙ (ap (λ b. before.is_unstable || b) (is_stable running.taken side (carriage_of carries_now.carried.transfer) request it reply fault) ∙ (or_false before.is_unstable ∙ sym answers.unstable))
+          ∙ (ap (λ b. before.is_unstable || b) (is_stable running.taken side
+          (carriage_of carries_now.carried.transfer) request it reply fault)
+          ∙ (or_false before.is_unstable ∙ sym answers.unstable))
 
       tells_before : IsCourse later left right (reached_by running) → Tells next running
       tells_before course_is = record {
@@ -199,18 +284,34 @@ module _ (pair : ℕ) (journal : Journal) (before session : Session) (running : 
         told = (left, right, course_is);
       }
 
-      pub carries_asking : (asker : Side) (asks : Asked) → CarriesOn old new pair taken journal (reached_by running) later left right running.taken (asker, asks) → TakesOn new.archive pair journal running taken next (written new) (asks_to asker asks)
+      pub carries_asking : (asker : Side) (asks : Asked) → CarriesOn old new pair taken journal
+          (reached_by running) later left right running.taken (asker, asks) →
+          TakesOn new.archive pair journal running taken next (written new) (asks_to asker asks)
       carries_asking asker asks so =
-          subst (λ k. TakesOn new.archive pair journal running taken next k (asks_to asker asks)) (sym (so.asks_so.1 ∙ ap (λ l. l ++ so.asks_so.0) nothing))
-          (asks_course new.archive pair journal running taken next later refl heard (unstable so.fault) (silent_with session (Some later) silent_now) so.fault (reached_by running) refl refl refl [] stays so.asks_so.0 (asker, asks)
-          (subst (λ r. ComesToAsk new.archive pair taken journal (reached_by running) so.asks_so.0 later (found_on session Left) r (running.taken ++ taken ∷ []) (asker, asks)) same_right
-          (subst (λ l. ComesToAsk new.archive pair taken journal (reached_by running) so.asks_so.0 later l right (running.taken ++ taken ∷ []) (asker, asks)) same_left so.asks_so.2))
+          subst (λ k. TakesOn new.archive pair journal running taken next k (asks_to asker asks))
+          (sym (so.asks_so.1 ∙ ap (λ l. l ++ so.asks_so.0) nothing))
+          (asks_course new.archive pair journal running taken next later refl heard
+          (unstable so.fault) (silent_with session (Some later) silent_now) so.fault
+          (reached_by running) refl refl refl [] stays so.asks_so.0 (asker, asks)
+          (subst (λ r. ComesToAsk new.archive pair taken journal (reached_by running) so.asks_so.0
+          later (found_on session Left) r (running.taken ++ taken ∷ []) (asker, asks)) same_right
+          (subst (λ l. ComesToAsk new.archive pair taken journal (reached_by running) so.asks_so.0
+          later l right (running.taken ++ taken ∷ []) (asker, asks)) same_left so.asks_so.2))
           so.last)
 
-      pub carries_ending : (ended : Ended) → EndsCarrying old new pair taken journal (reached_by running) later left right running.taken ended → TakesEnd new.archive new.tried pair journal running taken next (written new) ended
-      carries_ending ended (carrying.at_once why fault same is_machine quiet course_is) = taking.at_once why fault (tells_before course_is) is_machine (same ∙ nothing) (tries_none pair new.tried journal quiet.0 quiet.1)
+      pub carries_ending : (ended : Ended) → EndsCarrying old new pair taken journal
+          (reached_by running) later left right running.taken ended →
+          TakesEnd new.archive new.tried pair journal running taken next (written new) ended
+      carries_ending ended (carrying.at_once why fault same is_machine quiet course_is) =
+          taking.at_once why fault (tells_before course_is) is_machine (same ∙ nothing)
+          (tries_none pair new.tried journal quiet.0 quiet.1)
       carries_ending ended (carrying.behind how fault so) =
-          subst (λ k. TakesEnd new.archive new.tried pair journal running taken next k ended) (sym (so.1 ∙ ap (λ l. l ++ so.0) nothing))
-          (ends_course new.archive pair journal running taken next later refl heard (unstable fault) (silent_with session (Some later) silent_now) fault (reached_by running) refl refl refl [] stays new.tried so.0 ended
-          (subst (λ r. Ends new.archive new.tried pair taken journal (reached_by running) so.0 later (found_on session Left) r ended) same_right
-          (subst (λ l. Ends new.archive new.tried pair taken journal (reached_by running) so.0 later l right ended) same_left so.2)))
+          subst (λ k. TakesEnd new.archive new.tried pair journal running taken next k ended)
+          (sym (so.1 ∙ ap (λ l. l ++ so.0) nothing))
+          (ends_course new.archive pair journal running taken next later refl heard (unstable fault)
+          (silent_with session (Some later) silent_now) fault (reached_by running) refl refl refl
+          [] stays new.tried so.0 ended
+          (subst (λ r. Ends new.archive new.tried pair taken journal (reached_by running) so.0 later
+          (found_on session Left) r ended) same_right
+          (subst (λ l. Ends new.archive new.tried pair taken journal
+          (reached_by running) so.0 later l right ended) same_left so.2)))

@@ -1,16 +1,20 @@
 -- A session that carries out its plan goes on, or comes to its end.
-use Rattle.std.proofs.Common.{◌≡◌, ◌≢◌, ◌⊎◌, ℕ, true, List, [], ◌∷◌, ◌++◌, Option, Some, None, refl, sym, ap, ap₂, ◌∙◌, subst, inl, inr, arith}
+use Rattle.std.proofs.Common.{◌≡◌, ◌≢◌, ◌⊎◌, ℕ, true, List, [], ◌∷◌, ◌++◌, Option, Some, None, refl}
+use Rattle.std.proofs.Common.{sym, ap, ap₂, ◌∙◌, subst, inl, inr, arith}
 use Rattle.std.specs.Option.{option_map_or}
 use Rattle.std.specs.Prelude.{Contains, is_some, option_map, slice_get}
 use Rattle.std.proofs.lemmas.List.{append-nil}
 use Rattle.std.proofs.lemmas.List.Elements.{Contains-push_cases}
 use Rattle.syn_archive.specs.declared.archive.Archive.{Archive}
 use Rattle.syn_disk.specs.declared.disk.Disk.{Ghosts}
-use Rattle.syn_headline.specs.Coordinator.{Advances, AsksOnce, Exchange, HasPlan, MayAsk, Outstanding, Running, Walk, fault_of, hearing, is_last, is_unstable, numbered, stands}
+use Rattle.syn_headline.specs.Coordinator.{Advances, AsksOnce, Exchange, HasPlan, MayAsk}
+use Rattle.syn_headline.specs.Coordinator.{Outstanding, Running, Walk, fault_of, hearing, is_last}
+use Rattle.syn_headline.specs.Coordinator.{is_unstable, numbered, stands}
 use Rattle.syn_headline.specs.Network.{Left, Right, Which, other}
 use Rattle.syn_headline.specs.Planning.{Log, Planned, WritesTo, seen_on}
 use Rattle.syn_headline.specs.Session.{IsStagedTo, WasTaken, first_total, is_wanted, record_for}
-use Rattle.syn_headline.specs.Side.{Begin, Fetch, IsLawfulBody, ListAt, Piece, Replace, Request, Stage, Staged}
+use Rattle.syn_headline.specs.Side.{Begin, Fetch, IsLawfulBody, ListAt, Piece, Replace, Request}
+use Rattle.syn_headline.specs.Side.{Stage, Staged}
 use Rattle.syn_message.specs.Requests.{request_of}
 use Rattle.syn_message.specs.Sides.{which_of}
 use Rattle.syn_message.specs.declared.request.Request.{Request as Asked}
@@ -21,7 +25,8 @@ use Rattle.syn_model.specs.Archive.{Kept, Recorded, kept_refusal}
 use Rattle.syn_model.specs.Decision.{path_of}
 use Rattle.syn_propagate.specs.Carrying.{source_of, target_of}
 use Rattle.syn_propagate.specs.Carrying as carrying
-use Rattle.syn_propagate.specs.Transfers.{Asks as TransferAsks, WaitsFor as TransferWaitsFor, carriage_of}
+use Rattle.syn_propagate.specs.Transfers.{Asks as TransferAsks, WaitsFor as TransferWaitsFor}
+use Rattle.syn_propagate.specs.Transfers.{carriage_of}
 use Rattle.syn_propagate.specs.declared.carriage.Carriage.{Carriage}
 use Rattle.syn_keep.specs.Machines.{Journal}
 use Rattle.syn_session.specs.Scanning.{found_of}
@@ -36,9 +41,11 @@ use Rattle.syn_session.specs.Sessions.{IsLine, IsStage, Tells, TellsOf, waiting_
 use Rattle.syn_session.specs.declared.requests.Waiting.{Waiting}
 use Rattle.syn_image.specs.Archives.{kept_of}
 use Rattle.std.proofs.lemmas.Option.{none-some}
-use Rattle.syn_session.specs.Stages.{Carries, IsCarriageOf, IsCourse, Reached, asks_now, found_on, line_of, plan_in, reached_by}
+use Rattle.syn_session.specs.Stages.{Carries, IsCarriageOf, IsCourse, Reached, asks_now, found_on}
+use Rattle.syn_session.specs.Stages.{line_of, plan_in, reached_by}
 use Rattle.syn_coordinator.specs.inner.Taking as taking
-use Rattle.syn_coordinator.specs.inner.Walking.{ComesToAsk, Ends, HasKept, ends, goes_down, plan_at, walk_at}
+use Rattle.syn_coordinator.specs.inner.Walking.{ComesToAsk, Ends, HasKept, ends, goes_down, plan_at}
+use Rattle.syn_coordinator.specs.inner.Walking.{walk_at}
 use Rattle.syn_session.proofs.SessionLemmas.{asks_first, first_request}
 use Rattle.syn_session.proofs.CarryingLemmas.{source_other, marks_of}
 
@@ -47,24 +54,44 @@ no_such x has = omega (arith, has.1)
 
 -- ---- what a transfer asks, a session may ask
 
-module _ (archive : model.Archive) (running : Running) (plan : List Planned) (planned : Planned) (c : Carriage) (kept : Kept) (has_plan : running.plan ≡ Some plan) (item : ℕ) (come : running.cursor ≡ item) (at : slice_get plan item ≡ Some planned) (is : IsCarriageOf c planned item) (recorded : record_for planned planned.item ≡ Some kept) (can : kept_refusal archive kept ≡ None) where
+module _ (archive : model.Archive) (running : Running) (plan : List Planned) (planned : Planned)
+    (c : Carriage) (kept : Kept) (has_plan : running.plan ≡ Some plan) (item : ℕ)
+    (come : running.cursor ≡ item) (at : slice_get plan item ≡ Some planned)
+    (is : IsCarriageOf c planned item) (recorded : record_for planned planned.item ≡ Some kept)
+    (can : kept_refusal archive kept ≡ None) where
   here : slice_get (option_map_or (λ p. p) running.plan []) running.cursor ≡ Some planned
   here = ap₂ (λ p n. slice_get (option_map_or (λ p. p) p []) n) has_plan come ∙ at
 
-  staged_on : (to : Which) → to ≡ target_of c → (count : ℕ) → carrying.IsStagedTo c running.taken count → IsStagedTo running to count
+  staged_on : (to : Which) → to ≡ target_of c → (count : ℕ) →
+      carrying.IsStagedTo c running.taken count → IsStagedTo running to count
   staged_on to of count (inl none) = inl none
-  staged_on to of count (inr (before, bytes, was, sum)) = inr (before, bytes, subst (λ w. WasTaken running.taken w (Stage running.cursor before bytes) Staged) (sym of) (subst (λ n. WasTaken running.taken (target_of c) (Stage n before bytes) Staged) (is.item_is ∙ sym come) was), sum)
+  staged_on to of count (inr (before, bytes, was, sum)) =
+      inr (
+        before,
+        bytes,
+        subst (λ w. WasTaken running.taken w (Stage running.cursor before bytes) Staged) (sym of)
+            (subst (λ n. WasTaken running.taken (target_of c) (Stage n before bytes) Staged)
+            (is.item_is ∙ sym come) was),
+        sum,
+      )
 
-  fetched_from : (from : Which) → from ≡ source_of c → (total offset : ℕ) (bytes : _) → carrying.WasFetched c running.taken total offset bytes → WasTaken running.taken from (Fetch (path_of planned.item) (seen_on planned from).since offset) (Piece total bytes)
+  fetched_from : (from : Which) → from ≡ source_of c → (total offset : ℕ) (bytes : _) →
+      carrying.WasFetched c running.taken total offset bytes → WasTaken running.taken from
+      (Fetch (path_of planned.item) (seen_on planned from).since offset) (Piece total bytes)
   fetched_from from of total offset bytes was =
-      subst (λ w. WasTaken running.taken w (Fetch (path_of planned.item) (seen_on planned w).since offset) (Piece total bytes)) (sym of)
-      (subst (λ s. WasTaken running.taken (source_of c) (Fetch (path_of planned.item) s offset) (Piece total bytes)) is.source_since
-      (subst (λ p. WasTaken running.taken (source_of c) (Fetch p c.source_since offset) (Piece total bytes)) is.path_is was))
+      subst (λ w. WasTaken running.taken w
+      (Fetch (path_of planned.item) (seen_on planned w).since offset) (Piece total bytes))
+      (sym of)
+      (subst (λ s. WasTaken running.taken (source_of c) (Fetch (path_of planned.item) s offset)
+      (Piece total bytes)) is.source_since
+      (subst (λ p. WasTaken running.taken (source_of c) (Fetch p c.source_since offset)
+      (Piece total bytes)) is.path_is was))
 
   writes_to : (to : Which) → to ≡ target_of c → WritesTo planned.item to c.path
   writes_to to of = subst (λ w. WritesTo planned.item w c.path) (sym of) is.writes
 
-  pub may_ask : (to : Which) (request : Request) → carrying.MayAsk c running.taken to request → MayAsk archive running to request
+  pub may_ask : (to : Which) (request : Request) → carrying.MayAsk c running.taken to request →
+      MayAsk archive running to request
   may_ask to (Begin pair) may = absurd may
   may_ask to (ListAt path) may = absurd may
   may_ask to (Fetch path since offset) (of, same, from, staged, wanted) =
@@ -74,7 +101,8 @@ module _ (archive : model.Archive) (running : Running) (plan : List Planned) (pl
         (
           subst (λ p. WritesTo planned.item (other to) p) (sym same) (writes_to (other to) across),
           from ∙ (is.source_since ∙ ap (λ w. (seen_on planned w).since) (sym of)),
-          ap (kept_refusal archive) (ap₂ (λ p w. Recorded p (seen_on planned w).marks) same of ∙ sym (marks_of planned c item kept is recorded)) ∙ can,
+          ap (kept_refusal archive) (ap₂ (λ p w. Recorded p (seen_on planned w).marks) same of
+              ∙ sym (marks_of planned c item kept is recorded)) ∙ can,
           staged_on (other to) across offset staged,
           ap (λ p. is_wanted offset (first_total running.taken p)) same ∙ wanted,
         ),
@@ -101,7 +129,8 @@ module _ (archive : model.Archive) (running : Running) (plan : List Planned) (pl
         from ∙ (is.target_since ∙ ap (λ w. (seen_on planned w).since) (sym of)),
         whole.offset,
         whole.last,
-        fetched_from (other to) (ap other of ∙ source_other c) size whole.offset whole.last whole.said,
+        fetched_from (other to)
+            (ap other of ∙ source_other c) size whole.offset whole.last whole.said,
         staged_on to of size staged,
       ),
     ),
@@ -109,62 +138,104 @@ module _ (archive : model.Archive) (running : Running) (plan : List Planned) (pl
 
 -- ---- how far a session came is told apart from what waits
 
-heard_reaching : (session : Session) (running : Running) (taken : Exchange) (after : Reached) → IsHeard session (hearing running taken) → IsHeard session (reaching running taken after)
-heard_reaching session running taken after h = record { number = h.number; lawful = h.lawful; line = line; once = once }
+heard_reaching : (session : Session) (running : Running) (taken : Exchange) (after : Reached) →
+    IsHeard session (hearing running taken) → IsHeard session (reaching running taken after)
+heard_reaching session running taken after h =
+    record { number = h.number; lawful = h.lawful; line = line; once = once }
   where
     line : (side : Which) → IsLine (line_of session side) (reaching running taken after) side
-    line Left = record { waits = (h.line Left).waits; count = (h.line Left).count; few = (h.line Left).few }
-    line Right = record { waits = (h.line Right).waits; count = (h.line Right).count; few = (h.line Right).few }
+    line Left =
+        record { waits = (h.line Left).waits; count = (h.line Left).count; few = (h.line Left).few }
+    line Right =
+        record {
+          waits = (h.line Right).waits;
+          count = (h.line Right).count;
+          few = (h.line Right).few;
+        }
 
     once : AsksOnce (reaching running taken after)
     once Left m n a b was_m was_n = h.once Left m n a b was_m was_n
     once Right m n a b was_m was_n = h.once Right m n a b was_m was_n
 
-module _ {D : Type 0} {disk : Ghosts D} (new : Archive D disk) (pair : ℕ) (journal : Journal) (running : Running) (taken : Exchange) (session : Session) (course : Course) (is_course : session.course ≡ Some course)
-    (heard : IsHeard session (hearing running taken)) (unstable : is_unstable (hearing running taken) ≡ session.is_unstable) (silent : (side : Which) → (line_of session side).waiting ≡ None)
-    (fault : fault_of running.taken taken.side taken.request taken.reply ≡ None) (before : Reached) (same_cursor : before.cursor ≡ running.cursor) (same_refused : before.refused ≡ running.refused) (same_kept : before.kept ≡ running.kept)
+module _ {D : Type 0} {disk : Ghosts D} (new : Archive D disk) (pair : ℕ) (journal : Journal)
+    (running : Running) (taken : Exchange) (session : Session) (course : Course)
+    (is_course : session.course ≡ Some course)
+    (heard : IsHeard session (hearing running taken))
+    (unstable : is_unstable (hearing running taken) ≡ session.is_unstable)
+    (silent : (side : Which) → (line_of session side).waiting ≡ None)
+    (fault : fault_of running.taken taken.side taken.request taken.reply ≡ None) (before : Reached)
+    (same_cursor : before.cursor ≡ running.cursor)
+    (same_refused : before.refused ≡ running.refused) (same_kept : before.kept ≡ running.kept)
     (logged : Log) (has : HasPlan journal.value (hearing running taken) before.plan logged) where
-  tells_course : (after : Reached) → IsCourse course (found_on session Left) (found_on session Right) after → Tells session (reaching running taken after)
-  tells_course after is = record { number = heard.number; unstable = unstable; told = subst (λ c. TellsOf c after) (sym is_course) (_, _, is) }
+  tells_course : (after : Reached) →
+      IsCourse course (found_on session Left) (found_on session Right) after →
+      Tells session (reaching running taken after)
+  tells_course after is =
+      record {
+        number = heard.number;
+        unstable = unstable;
+        told = subst (λ c. TellsOf c after) (sym is_course) (_, _, is);
+      }
 
   start_is : walk_at journal before ≡ walk_at journal (reached_by running)
-  start_is = ap₂ (λ c r. walk_at journal (record { plan = None; cursor = c; kept = []; refused = r })) same_cursor same_refused
+  start_is =
+      ap₂ (λ c r. walk_at journal (record { plan = None; cursor = c; kept = []; refused = r }))
+      same_cursor same_refused
 
-  walks_so : (after : Reached) (kept : List Kept) (walk : Walk) → HasKept before after kept → Advances pair (plan_at before) taken (walk_at journal before) kept walk → Walks pair journal running taken after kept walk
+  walks_so : (after : Reached) (kept : List Kept) (walk : Walk) → HasKept before after kept →
+      Advances pair (plan_at before) taken (walk_at journal before) kept walk →
+      Walks pair journal running taken after kept walk
   walks_so after kept walk has_kept goes = record {
     fault = fault;
     logged = logged;
-    has = subst (λ p. HasPlan journal.value (hearing running taken) p logged) (sym has_kept.plan) has;
-    goes = subst (λ w. Advances pair (plan_at after) taken w kept walk) start_is (subst (λ p. Advances pair (option_map_or (λ plan. plan) p []) taken (walk_at journal before) kept walk) (sym has_kept.plan) goes);
+    has =
+        subst (λ p. HasPlan journal.value (hearing running taken) p logged) (sym has_kept.plan) has;
+    goes =
+        subst (λ w. Advances pair (plan_at after) taken w kept walk) start_is
+        (subst (λ p. Advances pair (option_map_or (λ plan. plan) p []) taken
+        (walk_at journal before) kept walk) (sym has_kept.plan) goes);
     kept_is = has_kept.kept_is ∙ ap (λ k. k ++ kept) same_kept;
   }
 
   -- it comes to its end
-  pub ends_course : (tried : Option Tried) (kept : List Kept) (ended : Ended) → Ends new tried pair taken journal before kept course (found_on session Left) (found_on session Right) ended → TakesEnd new tried pair journal running taken session kept ended
+  pub ends_course : (tried : Option Tried) (kept : List Kept) (ended : Ended) → Ends new tried pair
+      taken journal before kept course (found_on session Left) (found_on session Right) ended →
+      TakesEnd new tried pair journal running taken session kept ended
   ends_course tried kept ended (ends walk after goes cursor refused has_kept why is is_at tries) =
-      taking.ends ended walk after (walks_so after kept walk has_kept goes) cursor refused (why (reaching running taken after) has_kept.plan) is (tells_course after is_at) tries
+      taking.ends ended walk after (walks_so after kept walk has_kept goes) cursor refused
+      (why (reaching running taken after) has_kept.plan) is (tells_course after is_at) tries
   ends_course tried kept ended (goes_down walk goes stopped down leaves tries) =
-      taking.goes_down ended walk (record before { kept = before.kept ++ kept }) (walks_so (record before { kept = before.kept ++ kept }) kept walk (record { plan = refl; kept_is = refl }) goes) stopped down leaves tries
+      taking.goes_down ended walk (record before { kept = before.kept ++ kept })
+      (walks_so (record before { kept = before.kept ++ kept }) kept walk
+      (record { plan = refl; kept_is = refl }) goes) stopped down leaves tries
 
   -- it asks a side for what comes next
-  module _ (kept : List Kept) (asks : Side × Asked) (comes : ComesToAsk new pair taken journal before kept course (found_on session Left) (found_on session Right) (running.taken ++ taken ∷ []) asks) where
+  module _ (kept : List Kept) (asks : Side × Asked)
+      (comes : ComesToAsk new pair taken journal before kept course (found_on session Left)
+      (found_on session Right) (running.taken ++ taken ∷ []) asks) where
     abbrev now_at : Running
     now_at = reaching running taken comes.after
 
     abbrev c : Carriage
     c = carriage_of comes.carries.carried.transfer
 
-    asked : TransferAsks comes.carries.carried.transfer (running.taken ++ taken ∷ []) (which_of asks.0) (request_of asks.1)
+    asked : TransferAsks comes.carries.carried.transfer (running.taken ++ taken ∷ [])
+        (which_of asks.0) (request_of asks.1)
     asked = comes.carries.is
 
     -- only that is asked
-    only_that : (side : Which) (request : Request) → Contains (asks_of (asks_to asks.0 asks.1) side) request → (side ≡ which_of asks.0) × (request ≡ request_of asks.1)
+    only_that : (side : Which) (request : Request) →
+        Contains (asks_of (asks_to asks.0 asks.1) side) request →
+        (side ≡ which_of asks.0) × (request ≡ request_of asks.1)
     only_that side request contains = by asks.0 side contains
       where
         one : Contains (request_of asks.1 ∷ []) request → request ≡ request_of asks.1
-        one contains_it = elim (Contains-push_cases [] _ _ contains_it) as (λ _. request ≡ request_of asks.1) [ inl never ↦ absurd (no_such _ never) | inr same ↦ sym same ]
+        one contains_it =
+            elim (Contains-push_cases [] _ _ contains_it) as (λ _. request ≡ request_of asks.1)
+            [ inl never ↦ absurd (no_such _ never) | inr same ↦ sym same ]
 
-        by : (to : Side) (on : Which) → Contains (asks_of (asks_to to asks.1) on) request → (on ≡ which_of to) × (request ≡ request_of asks.1)
+        by : (to : Side) (on : Which) → Contains (asks_of (asks_to to asks.1) on) request →
+            (on ≡ which_of to) × (request ≡ request_of asks.1)
         by side_is.Left Left contains_it = (refl, one contains_it)
         by side_is.Left Right contains_it = absurd (no_such _ contains_it)
         by side_is.Right Left contains_it = absurd (no_such _ contains_it)
@@ -172,8 +243,14 @@ module _ {D : Type 0} {disk : Ghosts D} (new : Archive D disk) (pair : ℕ) (jou
 
     fresh_so : (side : Which) → IsFresh now_at side (request_of asks.1)
     fresh_so side n was (inl (reply, contains_it)) repeat = asked.new _ contains_it repeat
-    fresh_so Left n was (inr (k, contains_it)) repeat = no_such _ (subst (λ l. let waits : Outstanding = record { number = n; request = was; resent = k } in Contains l waits) ((heard.line Left).waits ∙ ap waiting_of (silent Left)) contains_it)
-    fresh_so Right n was (inr (k, contains_it)) repeat = no_such _ (subst (λ l. let waits : Outstanding = record { number = n; request = was; resent = k } in Contains l waits) ((heard.line Right).waits ∙ ap waiting_of (silent Right)) contains_it)
+    fresh_so Left n was (inr (k, contains_it)) repeat =
+        no_such _
+        (subst (λ l. let waits : Outstanding = record { number = n; request = was; resent = k } in
+        Contains l waits) ((heard.line Left).waits ∙ ap waiting_of (silent Left)) contains_it)
+    fresh_so Right n was (inr (k, contains_it)) repeat =
+        no_such _
+        (subst (λ l. let waits : Outstanding = record { number = n; request = was; resent = k } in
+        Contains l waits) ((heard.line Right).waits ∙ ap waiting_of (silent Right)) contains_it)
 
     asks_own : (to : Side) → asks_of (asks_to to asks.1) (which_of to) ≡ request_of asks.1 ∷ []
     asks_own side_is.Left = refl
@@ -183,31 +260,58 @@ module _ {D : Type 0} {disk : Ghosts D} (new : Archive D disk) (pair : ℕ) (jou
     asks_across side_is.Left = refl
     asks_across side_is.Right = refl
 
-    now_asks : (side : Which) (later : Session) → IsAsking session later (asks_to asks.0 asks.1) → asks_now (line_of later side) ≡ first_request (numbered (line_of session side).asked (asks_of (asks_to asks.0 asks.1) side))
-    now_asks side later asking = asks_first (line_of later side).waiting ∙ ap first_request ((asking.line side).waits (inr (silent side)) ∙ ap (λ w. waiting_of w ++ numbered (line_of session side).asked (asks_of (asks_to asks.0 asks.1) side)) (silent side))
+    now_asks : (side : Which) (later : Session) → IsAsking session later (asks_to asks.0 asks.1) →
+        asks_now (line_of later side) ≡ first_request
+        (numbered (line_of session side).asked (asks_of (asks_to asks.0 asks.1) side))
+    now_asks side later asking =
+        asks_first (line_of later side).waiting ∙ ap first_request
+        ((asking.line side).waits (inr (silent side)) ∙ ap (λ w. waiting_of w ++ numbered
+        (line_of session side).asked (asks_of (asks_to asks.0 asks.1) side)) (silent side))
 
-    asks_that : (later : Session) → IsAsking session later (asks_to asks.0 asks.1) → asks_now (line_of later (which_of asks.0)) ≡ Some (request_of asks.1)
-    asks_that later asking = now_asks (which_of asks.0) later asking ∙ ap (λ l. first_request (numbered (line_of session (which_of asks.0)).asked l)) (asks_own asks.0)
+    asks_that : (later : Session) → IsAsking session later (asks_to asks.0 asks.1) →
+        asks_now (line_of later (which_of asks.0)) ≡ Some (request_of asks.1)
+    asks_that later asking =
+        now_asks (which_of asks.0) later asking
+        ∙ ap (λ l. first_request (numbered (line_of session (which_of asks.0)).asked l))
+        (asks_own asks.0)
 
-    asks_else : (later : Session) → IsAsking session later (asks_to asks.0 asks.1) → asks_now (line_of later (other (which_of asks.0))) ≡ None
-    asks_else later asking = now_asks (other (which_of asks.0)) later asking ∙ ap (λ l. first_request (numbered (line_of session (other (which_of asks.0))).asked l)) (asks_across asks.0)
+    asks_else : (later : Session) → IsAsking session later (asks_to asks.0 asks.1) →
+        asks_now (line_of later (other (which_of asks.0))) ≡ None
+    asks_else later asking =
+        now_asks (other (which_of asks.0)) later asking
+        ∙ ap (λ l. first_request (numbered (line_of session (other (which_of asks.0))).asked l))
+        (asks_across asks.0)
 
-    is_there : (waiting : Option Waiting) → option_map (λ one. request_of one.request) waiting ≡ Some (request_of asks.1) → is_some waiting ≡ true
+    is_there : (waiting : Option Waiting) →
+        option_map (λ one. request_of one.request) waiting ≡ Some (request_of asks.1) →
+        is_some waiting ≡ true
     is_there None e = absurd (none-some _ e)
     is_there (Some one) e = refl
 
-    some_so : (later : Session) → IsAsking session later (asks_to asks.0 asks.1) → (is_some later.left.waiting ≡ true) ⊎ (is_some later.right.waiting ≡ true)
-    some_so later asking = by (which_of asks.0) (is_there (line_of later (which_of asks.0)).waiting (asks_that later asking))
+    some_so : (later : Session) → IsAsking session later (asks_to asks.0 asks.1) →
+        (is_some later.left.waiting ≡ true) ⊎ (is_some later.right.waiting ≡ true)
+    some_so later asking =
+        by (which_of asks.0)
+        (is_there (line_of later (which_of asks.0)).waiting (asks_that later asking))
       where
-        by : (side : Which) → is_some (line_of later side).waiting ≡ true → (is_some later.left.waiting ≡ true) ⊎ (is_some later.right.waiting ≡ true)
+        by : (side : Which) → is_some (line_of later side).waiting ≡ true →
+            (is_some later.left.waiting ≡ true) ⊎ (is_some later.right.waiting ≡ true)
         by Left is = inl is
         by Right is = inr is
 
     carries_later : (later : Session) → IsAsking session later (asks_to asks.0 asks.1) →
-        Carries comes.journal.value course (found_on later Left) (found_on later Right) (running.taken ++ taken ∷ []) comes.after (λ transfer. TransferWaitsFor transfer (running.taken ++ taken ∷ []) (which_of asks.0) (request_of asks.1))
+        Carries comes.journal.value course (found_on later Left) (found_on later Right)
+        (running.taken ++ taken ∷ []) comes.after (λ transfer. TransferWaitsFor transfer
+        (running.taken ++ taken ∷ []) (which_of asks.0) (request_of asks.1))
     carries_later later asking =
-        subst (λ r. Carries comes.journal.value course (found_on later Left) (found_of r) (running.taken ++ taken ∷ []) comes.after (λ transfer. TransferWaitsFor transfer (running.taken ++ taken ∷ []) (which_of asks.0) (request_of asks.1))) (sym (asking.line Right).scan)
-        (subst (λ l. Carries comes.journal.value course (found_of l) (found_on session Right) (running.taken ++ taken ∷ []) comes.after (λ transfer. TransferWaitsFor transfer (running.taken ++ taken ∷ []) (which_of asks.0) (request_of asks.1))) (sym (asking.line Left).scan) (record {
+        subst (λ r. Carries comes.journal.value course (found_on later Left) (found_of r)
+        (running.taken ++ taken ∷ []) comes.after (λ transfer. TransferWaitsFor transfer
+        (running.taken ++ taken ∷ []) (which_of asks.0) (request_of asks.1)))
+        (sym (asking.line Right).scan)
+        (subst (λ l. Carries comes.journal.value course (found_of l) (found_on session Right)
+        (running.taken ++ taken ∷ []) comes.after (λ transfer. TransferWaitsFor transfer
+        (running.taken ++ taken ∷ []) (which_of asks.0) (request_of asks.1)))
+        (sym (asking.line Left).scan) (record {
           course_is = comes.carries.course_is;
           carried = comes.carries.carried;
           is_carried = comes.carries.is_carried;
@@ -218,12 +322,17 @@ module _ {D : Type 0} {disk : Ghosts D} (new : Archive D disk) (pair : ℕ) (jou
           is = asked.waits;
         }))
 
-    pub asks_course : (is_last taken.reply ≡ true → comes.after.cursor ≢ running.cursor) → TakesOn new pair journal running taken session kept (asks_to asks.0 asks.1)
+    pub asks_course : (is_last taken.reply ≡ true → comes.after.cursor ≢ running.cursor) →
+        TakesOn new pair journal running taken session kept (asks_to asks.0 asks.1)
     asks_course last = record {
       now = comes.journal;
       after = comes.after;
-      walks = subst (λ k. Walks pair journal running taken comes.after k (walk_at comes.journal comes.after)) (append-nil kept)
-          (walks_so comes.after (kept ++ []) (walk_at comes.journal comes.after) (subst (HasKept before comes.after) (sym (append-nil kept)) comes.passes.has) (comes.passes.leads _ [] (stands _)));
+      walks =
+          subst (λ k. Walks pair journal running taken comes.after k
+          (walk_at comes.journal comes.after)) (append-nil kept)
+          (walks_so comes.after (kept ++ []) (walk_at comes.journal comes.after)
+          (subst (HasKept before comes.after) (sym (append-nil kept)) comes.passes.has)
+          (comes.passes.leads _ [] (stands _)));
       last = last;
       status = comes.passes.status;
       quiet = comes.passes.quiet;
@@ -232,19 +341,30 @@ module _ {D : Type 0} {disk : Ghosts D} (new : Archive D disk) (pair : ℕ) (jou
       tells = tells_course comes.after comes.carries.course_is;
       may = record {
         free = λ side. inr (silent side);
-        fresh = λ side request contains. subst (IsFresh now_at side) (sym (only_that side request contains).1) (fresh_so side);
+        fresh =
+            λ side request contains. subst (IsFresh now_at side)
+            (sym (only_that side request contains).1) (fresh_so side);
         may = λ side request contains.
             let that = only_that side request contains in
             let course_is = comes.carries.course_is in
-            subst (λ r. MayAsk comes.journal.value now_at side r × IsLawfulBody r) (sym that.1)
-            (subst (λ w. MayAsk comes.journal.value now_at w (request_of asks.1)) (sym that.0) (may_ask comes.journal.value now_at (plan_in course (found_on session Left) (found_on session Right)) comes.carries.planned c (kept_of comes.carries.carried.kept) course_is.plan course.cursor course_is.cursor comes.carries.at comes.carries.carries.carriage comes.carries.carries.record_is comes.carries.carries.can (which_of asks.0) (request_of asks.1) asked.may), asked.lawful);
+            subst (λ r. MayAsk comes.journal.value now_at side r × IsLawfulBody r) (sym that.1) (
+              subst (λ w. MayAsk comes.journal.value now_at w (request_of asks.1)) (sym that.0)
+                  (may_ask comes.journal.value now_at (plan_in course (found_on session Left)
+                  (found_on session Right)) comes.carries.planned c
+                  (kept_of comes.carries.carried.kept) course_is.plan course.cursor course_is.cursor
+                  comes.carries.at comes.carries.carries.carriage comes.carries.carries.record_is
+                  comes.carries.carries.can (which_of asks.0) (request_of asks.1) asked.may),
+              asked.lawful,
+            );
         some = some_so;
-        stage = λ later asking. subst (λ o. IsStage comes.journal.value later o (running.taken ++ taken ∷ []) comes.after) (sym (asking.course ∙ is_course)) (record {
-          to = which_of asks.0;
-          request = request_of asks.1;
-          waits = asks_that later asking;
-          alone = asks_else later asking;
-          carries = carries_later later asking;
-        });
+        stage =
+            λ later asking. subst (λ o. IsStage comes.journal.value later o
+            (running.taken ++ taken ∷ []) comes.after) (sym (asking.course ∙ is_course)) (record {
+              to = which_of asks.0;
+              request = request_of asks.1;
+              waits = asks_that later asking;
+              alone = asks_else later asking;
+              carries = carries_later later asking;
+            });
       };
     }

@@ -1,6 +1,8 @@
 -- What an opening of a coordinator's disk gives, whose machine was down.
-use Rattle.std.proofs.Common.{◌≡◌, ◌≢◌, ◌⊎◌, ◌<◌, ◌^◌, ◌-◌, ℕ, suc, false, List, Option, None, refl, sym, ap, ap₂, ◌∙◌, subst, inl, inr, arith}
-use Rattle.syn_archive.specs.Archive.{Stands as ArchiveStands, disk_of, generation_shown, left_shown, pair_of}
+use Rattle.std.proofs.Common.{◌≡◌, ◌≢◌, ◌⊎◌, ◌<◌, ◌^◌, ◌-◌, ℕ, suc, false, List, Option, None, refl}
+use Rattle.std.proofs.Common.{sym, ap, ap₂, ◌∙◌, subst, inl, inr, arith}
+use Rattle.syn_archive.specs.Archive.{Stands as ArchiveStands, disk_of, generation_shown}
+use Rattle.syn_archive.specs.Archive.{left_shown, pair_of}
 use Rattle.syn_archive.specs.Disks.{DiskKeeps, DiskStands}
 use Rattle.syn_archive.specs.Refusals.{AfterReads}
 use Rattle.syn_archive.specs.declared.archive.Archive.{Archive}
@@ -11,12 +13,14 @@ use Rattle.syn_disk.specs.Calls.{BreaksSometime, MakesAtLeast}
 use Rattle.syn_disk.specs.Stops.{Untouched}
 use Rattle.syn_disk.specs.declared.disk.Disk.{Ghosts}
 use Rattle.syn_headline.specs.Coordinator.{archive_layout}
-use Rattle.syn_headline.specs.Machine.{Arms, Down, Halted, Meets, Opens, Status, Up, all_made, one_fails, one_stops, unarmed}
+use Rattle.syn_headline.specs.Machine.{Arms, Down, Halted, Meets, Opens, Status, Up, all_made}
+use Rattle.syn_headline.specs.Machine.{one_fails, one_stops, unarmed}
 use Rattle.syn_journal.specs.Layout.{bytes_left}
 use Rattle.syn_model.specs.Archive as model
 use Rattle.syn_model.specs.Archive.{CanKeep, Kept}
 use Rattle.syn_model.specs.Path.{Bytes}
-use Rattle.syn_recovery.specs.Calls.{BrokenCallsMeet, CallsMeet, MadeReadsMeet, armed_at, goes_down, goes_on}
+use Rattle.syn_recovery.specs.Calls.{BrokenCallsMeet, CallsMeet, MadeReadsMeet, armed_at, goes_down}
+use Rattle.syn_recovery.specs.Calls.{goes_on}
 use Rattle.syn_recovery.specs.Machines.{ArchivesOpen, of_archive}
 use Rattle.syn_recovery.specs.Meaning.{MayBeOf}
 use Rattle.syn_keep.specs.Machines.{IsMachine, Journal, Runs}
@@ -38,56 +42,95 @@ never_stops calls _ _ (one_stops made failed less before stop few same) = omega 
 none_left : (n : ℕ) → 0 - n ≡ 0
 none_left n = omega arith
 
-pub still_unarmed : (calls failed : ℕ) (status : Status) (now : Arms) → Meets unarmed calls status now failed → now ≡ unarmed
-still_unarmed calls _ _ _ (all_made fail stop) = ap₂ (λ f s. record { fail = f; stop = s }) (none_left calls) (none_left calls)
-still_unarmed calls _ _ _ (one_fails made less fail stop) = ap₂ (λ f s. record { fail = f; stop = s }) (none_left (suc made)) (none_left (suc made))
+pub still_unarmed : (calls failed : ℕ) (status : Status) (now : Arms) →
+    Meets unarmed calls status now failed → now ≡ unarmed
+still_unarmed calls _ _ _ (all_made fail stop) =
+    ap₂ (λ f s. record { fail = f; stop = s }) (none_left calls) (none_left calls)
+still_unarmed calls _ _ _ (one_fails made less fail stop) =
+    ap₂ (λ f s. record { fail = f; stop = s }) (none_left (suc made)) (none_left (suc made))
 still_unarmed calls _ _ _ (one_stops made failed less before stop few same) = refl
 
 down_not_up : Down ≢ Up
 down_not_up e = cc
 
 -- what its disk means stands for some archive of the pair
-pub some_stands : (pair : ℕ) (machine : Journal) (bytes : Bytes) → MayBeOf (of_archive pair) machine bytes → (archive : model.Archive) × DiskStands pair bytes archive
+pub some_stands : (pair : ℕ) (machine : Journal) (bytes : Bytes) →
+    MayBeOf (of_archive pair) machine bytes →
+    (archive : model.Archive) × DiskStands pair bytes archive
 some_stands pair machine bytes may =
     let found = some_archive pair machine may.value may.generation may.means in
     (found.0, record { value = may.value; means = may.journal.means; stands = found.1 })
 
-module _ {D : Type 0} (disk : Ghosts D) (pair : ℕ) (device : D) (tried : Option Tried) (machine : Journal) (rests : RestsWith disk.arms disk.may_leave pair device tried machine) (stays : (d : D) → disk.may_leave d (disk.seen d)) (reads : MadeReadsMeet) where
+module _ {D : Type 0} (disk : Ghosts D) (pair : ℕ) (device : D) (tried : Option Tried)
+    (machine : Journal) (rests : RestsWith disk.arms disk.may_leave pair device tried machine)
+    (stays : (d : D) → disk.may_leave d (disk.seen d)) (reads : MadeReadsMeet) where
   here : MayBeOf (of_archive pair) machine (disk.seen device)
   here = rests.leaves (disk.seen device) (stays device)
 
   -- no stop comes
-  goes_so : (calls : ℕ) (status : Status) (failed : ℕ) (now : DiskArms) → CallsMeet (disk.arms device) now calls status failed →
-      (is_stopped now ≡ false) × Meets machine.arms calls status (armed_at now) failed × (armed_at now ≡ unarmed)
+  goes_so : (calls : ℕ) (status : Status) (failed : ℕ) (now : DiskArms) →
+      CallsMeet (disk.arms device) now calls status failed → (is_stopped now ≡ false)
+      × Meets machine.arms calls status (armed_at now) failed × (armed_at now ≡ unarmed)
   goes_so calls status failed now (goes_on goes meets) = (
     goes,
-    subst (λ a. Meets a calls status (armed_at now) failed) (rests.armed ∙ sym rests.unarmed_is) meets,
-    still_unarmed calls failed status (armed_at now) (subst (λ a. Meets a calls status (armed_at now) failed) rests.armed meets),
+    subst (λ a. Meets a calls status (armed_at now) failed)
+        (rests.armed ∙ sym rests.unarmed_is) meets,
+    still_unarmed calls failed status (armed_at now)
+        (subst (λ a. Meets a calls status (armed_at now) failed) rests.armed meets),
   )
-  goes_so calls status failed now (goes_down stopped meets) = absurd (never_stops calls failed unarmed (subst (λ a. Meets a calls Down unarmed failed) rests.armed meets))
+  goes_so calls status failed now (goes_down stopped meets) =
+      absurd (never_stops calls failed unarmed
+      (subst (λ a. Meets a calls Down unarmed failed) rests.armed meets))
 
   -- it is opened
-  module _ (archive : Archive D disk) (fits : pair < 2 ^ 64) (untouched : Untouched disk.seen disk.may_leave disk.moment disk.left_since device (disk_of archive))
-      (each : (number : ℕ) (kept : model.Archive) → number < 2 ^ 64 → DiskStands number (disk.seen device) kept → (number ≡ pair_of archive) × ArchiveStands archive kept)
-      (on_disk : (kept : model.Archive) → ArchiveStands archive kept → (bytes : Bytes) → disk.may_leave (disk_of archive) bytes → DiskKeeps (pair_of archive) kept (left_shown archive) (generation_shown archive) bytes)
+  module _ (archive : Archive D disk) (fits : pair < 2 ^ 64) (untouched :
+      Untouched disk.seen disk.may_leave disk.moment disk.left_since device (disk_of archive))
+      (each : (number : ℕ) (kept : model.Archive) → number < 2 ^ 64 → DiskStands number
+      (disk.seen device) kept → (number ≡ pair_of archive) × ArchiveStands archive kept)
+      (on_disk : (kept : model.Archive) → ArchiveStands archive kept → (bytes : Bytes) →
+      disk.may_leave (disk_of archive) bytes →
+      DiskKeeps (pair_of archive) kept (left_shown archive) (generation_shown archive) bytes)
       (opens : ArchivesOpen) where
     -- a journal that the opening gives, and the archive is its machine
     abbrev IsOpenedTo : ℕ → Journal → List Kept → Type 0
-    IsOpenedTo calls journal kept = Opens (archive_layout pair) CanKeep machine calls journal kept × IsMachine archive pair journal × Runs archive journal
+    IsOpenedTo calls journal kept =
+        Opens (archive_layout pair) CanKeep machine calls journal kept
+        × IsMachine archive pair journal × Runs archive journal
 
-    opened_so : (calls : ℕ) → is_stopped (disk.arms (disk_of archive)) ≡ false → Meets machine.arms calls Up (armed_at (disk.arms (disk_of archive))) 0 → (journal : Journal) × (kept : List Kept) × IsOpenedTo calls journal kept
+    opened_so : (calls : ℕ) → is_stopped (disk.arms (disk_of archive)) ≡ false →
+        Meets machine.arms calls Up (armed_at (disk.arms (disk_of archive))) 0 →
+        (journal : Journal) × (kept : List Kept) × IsOpenedTo calls journal kept
     opened_so calls goes meets =
         let arms_then = armed_at (disk.arms (disk_of archive)) in
-        let found = opens pair machine calls arms_then here.value here.generation meets here.means in
-        let stood = each pair found.new.value fits (record { value = here.value; means = here.journal.means; stands = found.means.stands }) in
+        let found =
+        opens pair machine calls arms_then here.value here.generation meets here.means in
+        let stood = each pair found.new.value fits (record
+        { value = here.value; means = here.journal.means; stands = found.means.stands }) in
         let stands = stood.1 in
-        let of_pair : (bytes : Bytes) → disk.may_leave (disk_of archive) bytes → DiskKeeps pair found.new.value (left_shown archive) (generation_shown archive) bytes =
-        λ bytes left. subst (λ p. DiskKeeps p found.new.value (left_shown archive) (generation_shown archive) bytes) (sym stood.0) (on_disk found.new.value stands bytes left) in
-        let read = subst (DiskKeeps pair found.new.value (left_shown archive) (generation_shown archive)) untouched.same (of_pair (disk.seen (disk_of archive)) (stays (disk_of archive))) in
-        let value = one_value (disk.seen device) read.value here.value _ _ read.journal here.journal in
-        let room : left_shown archive ≡ found.new.room = sym read.left_is ∙ (ap bytes_left value ∙ sym found.means.room) in
-        let generation : generation_shown archive ≡ found.new.generation = one_generation (disk.seen device) read.value here.value _ _ read.journal here.journal ∙ sym found.means.numbered in
-        let runs : Runs archive found.new = record { up = found.opened.up; stands = stands; room = room; generation = generation; idle = found.opened.idle; settled = found.opened.settled } in (
+        let of_pair : (bytes : Bytes) → disk.may_leave (disk_of archive) bytes →
+        DiskKeeps pair found.new.value (left_shown archive) (generation_shown archive) bytes =
+        λ bytes left. subst
+        (λ p. DiskKeeps p found.new.value (left_shown archive) (generation_shown archive) bytes)
+        (sym stood.0) (on_disk found.new.value stands bytes left) in
+        let read =
+        subst (DiskKeeps pair found.new.value (left_shown archive) (generation_shown archive))
+        untouched.same (of_pair (disk.seen (disk_of archive)) (stays (disk_of archive))) in
+        let value = one_value
+        (disk.seen device) read.value here.value _ _ read.journal here.journal in
+        let room : left_shown archive ≡ found.new.room = sym read.left_is
+        ∙ (ap bytes_left value ∙ sym found.means.room) in
+        let generation : generation_shown archive ≡ found.new.generation =
+        one_generation (disk.seen device) read.value here.value _ _ read.journal here.journal
+        ∙ sym found.means.numbered in
+        let runs : Runs archive found.new =
+        record {
+          up = found.opened.up;
+          stands = stands;
+          room = room;
+          generation = generation;
+          idle = found.opened.idle;
+          settled = found.opened.settled;
+        } in (
           found.new,
           found.added,
           (
@@ -98,15 +141,20 @@ module _ {D : Type 0} (disk : Ghosts D) (pair : ℕ) (device : D) (tried : Optio
               armed = sym found.armed;
               goes = goes;
               state = inl runs;
-              leaves = λ bytes left. may_be pair found.new (left_shown archive) (generation_shown archive) bytes (of_pair bytes left) room generation;
+              leaves =
+                  λ bytes left. may_be pair found.new (left_shown archive)
+                  (generation_shown archive) bytes (of_pair bytes left) room generation;
             },
             runs,
           ),
         )
 
-    pub open_ok : (coordinator : Coordinator D disk) (found : Option Kept) → found ≡ found_in tried archive →
-        ((number : ℕ) (journal : Journal) → IsMachine archive number journal → journal.writing ≡ None → Stands coordinator number (record { journal = journal; running = None })) →
-        MakesAtLeast 1 (disk.arms device) (disk.arms (disk_of archive)) → OpensAs coordinator pair machine (listed found)
+    pub open_ok : (coordinator : Coordinator D disk) (found : Option Kept) →
+        found ≡ found_in tried archive →
+        ((number : ℕ) (journal : Journal) → IsMachine archive number journal → journal.writing
+        ≡ None → Stands coordinator number (record { journal = journal; running = None })) →
+        MakesAtLeast 1 (disk.arms device) (disk.arms (disk_of archive)) →
+        OpensAs coordinator pair machine (listed found)
     open_ok coordinator found is_found is_new makes =
         let met = reads 1 (disk.arms device) (disk.arms (disk_of archive)) rests.goes makes in
         let went = goes_so met.0 Up 0 (disk.arms (disk_of archive)) met.2 in
@@ -115,29 +163,43 @@ module _ {D : Type 0} (disk : Ghosts D) (pair : ℕ) (device : D) (tried : Optio
           calls = met.0;
           journal = so.0;
           opens = subst (λ kept. Opens (archive_layout pair) CanKeep machine met.0 so.0 kept)
-              (found_is archive pair machine tried met.0 so.0 so.1 rests.tries so.2.0 so.2.2.room so.2.2.generation ∙ ap listed (sym is_found)) so.2.0;
+              (found_is archive pair machine tried met.0 so.0 so.1 rests.tries so.2.0 so.2.2.room
+              so.2.2.generation ∙ ap listed (sym is_found)) so.2.0;
           stands = is_new pair so.0 so.2.1 so.2.2.idle;
         }
 
   -- it is not, and the disk comes back
-  module _ (back : D) (untouched : Untouched disk.seen disk.may_leave disk.moment disk.left_since device back) (broken : BrokenCallsMeet) where
-    pub open_not : (e : ArchiveError) → (e ≡ error.Device) ⊎ (e ≡ error.Memory) → AfterReads 1 e (disk.arms device) (disk.arms back) → RestsStill disk.arms disk.may_leave pair back tried machine e
+  module _ (back : D)
+      (untouched : Untouched disk.seen disk.may_leave disk.moment disk.left_since device back)
+      (broken : BrokenCallsMeet) where
+    pub open_not : (e : ArchiveError) → (e ≡ error.Device) ⊎ (e ≡ error.Memory) →
+        AfterReads 1 e (disk.arms device) (disk.arms back) →
+        RestsStill disk.arms disk.may_leave pair back tried machine e
     open_not e (inl is_device) calls =
-        let breaks : BreaksSometime (disk.arms device) (disk.arms back) = subst (λ x. AfterReads 1 x (disk.arms device) (disk.arms back)) is_device calls in
-        let met = goes_so breaks.0 Halted 1 (disk.arms back) (broken breaks.0 (disk.arms device) (disk.arms back) rests.goes breaks.1) in
-        subst (RestsStill disk.arms disk.may_leave pair back tried machine) (sym is_device) (fails breaks.0 (armed_at (disk.arms back)) 1 met.1 (record {
+        let breaks : BreaksSometime (disk.arms device) (disk.arms back) =
+        subst (λ x. AfterReads 1 x (disk.arms device) (disk.arms back)) is_device calls in
+        let met = goes_so breaks.0 Halted 1 (disk.arms back)
+        (broken breaks.0 (disk.arms device) (disk.arms back) rests.goes breaks.1) in
+        subst (RestsStill disk.arms disk.may_leave pair back tried machine) (sym is_device)
+        (fails breaks.0 (armed_at (disk.arms back)) 1 met.1 (record {
           down = refl;
           unarmed_is = met.2;
           armed = met.2;
           goes = met.0;
-          leaves = λ bytes left. may_be_still (of_archive pair) machine Down (armed_at (disk.arms back)) 1 bytes (rests.leaves bytes (untouched.nothing_new bytes left));
-          tries = tries_still pair tried machine Down (armed_at (disk.arms back)) 1 (λ _. down_not_up) rests.tries;
+          leaves =
+              λ bytes left. may_be_still (of_archive pair) machine Down (armed_at (disk.arms back))
+              1 bytes (rests.leaves bytes (untouched.nothing_new bytes left));
+          tries =
+              tries_still pair tried machine Down (armed_at (disk.arms back)) 1
+              (λ _. down_not_up) rests.tries;
         }))
     open_not e (inr is_memory) calls =
-        let makes : MakesAtLeast 1 (disk.arms device) (disk.arms back) = subst (λ x. AfterReads 1 x (disk.arms device) (disk.arms back)) is_memory calls in
+        let makes : MakesAtLeast 1 (disk.arms device) (disk.arms back) =
+        subst (λ x. AfterReads 1 x (disk.arms device) (disk.arms back)) is_memory calls in
         let found = reads 1 (disk.arms device) (disk.arms back) rests.goes makes in
         let met = goes_so found.0 Up 0 (disk.arms back) found.2 in
-        subst (RestsStill disk.arms disk.may_leave pair back tried machine) (sym is_memory) (wants_memory (record {
+        subst (RestsStill disk.arms disk.may_leave pair back tried machine) (sym is_memory)
+        (wants_memory (record {
           down = rests.down;
           unarmed_is = rests.unarmed_is;
           armed = met.2;

@@ -3,7 +3,8 @@ use Rattle.std.proofs.Common.{◌≡◌, Result, Ok, Err, IfErr, MatchResult, sy
 use Rattle.std.specs.Prelude.{IsErrAnd}
 
 module _ {T E : Type 0} (G : E → Type 0) where
-  pub passed : (F : T → Type 0) (r : Result T E) (e : E) → IsErrAnd r (λ y. y ≡ e) → G e → MatchResult r F G
+  pub passed : (F : T → Type 0) (r : Result T E) (e : E) → IsErrAnd r (λ y. y ≡ e) → G e →
+      MatchResult r F G
   passed F (Ok x) e h g = absurd h
   passed F (Err y) e h g = subst G (sym h) g
 

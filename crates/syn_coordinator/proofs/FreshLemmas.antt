@@ -1,11 +1,13 @@
 -- Nothing was asked yet for the item that a session has come to.
-use Rattle.std.proofs.Common.{◌≡◌, ℕ, suc, Bool, true, false, if◌then◌else◌, List, [], ◌∷◌, Option, Some, None, refl, sym, ap, ◌∙◌, arith}
+use Rattle.std.proofs.Common.{◌≡◌, ℕ, suc, Bool, true, false, if◌then◌else◌, List, [], ◌∷◌, Option}
+use Rattle.std.proofs.Common.{Some, None, refl, sym, ap, ◌∙◌, arith}
 use Rattle.std.specs.List.{slice_get, filter_map, cons_option}
 use Rattle.std.specs.Ordering.{eq_by_cmp}
 use Rattle.std.specs.Prelude.{Contains}
 use Rattle.syn_headline.specs.Planning.{Planned}
 use Rattle.syn_headline.specs.Session.{Exchange, piece_total}
-use Rattle.syn_headline.specs.Side.{Request, Begin, ListAt, Fetch, Stage, Replace, Reply, Begun, Listed, NotDir, Piece, Staged, Done, Refused}
+use Rattle.syn_headline.specs.Side.{Request, Begin, ListAt, Fetch, Stage, Replace, Reply, Begun}
+use Rattle.syn_headline.specs.Side.{Listed, NotDir, Piece, Staged, Done, Refused}
 use Rattle.syn_model.specs.Decision.{path_of}
 use Rattle.syn_model.specs.Path.{Path, path_cmp}
 use Rattle.syn_model.proofs.PathLemmas.{same_path}
@@ -18,25 +20,37 @@ use Rattle.syn_session.proofs.TallyLemmas.{NamedOnce, paths_apart}
 -- ---- what was asked before an item
 
 -- is so before the next
-request_past : (plan : Plan) (cursor : ℕ) (request : Request) → IsAskedBefore plan cursor request → IsAskedBefore plan (suc cursor) request
+request_past : (plan : Plan) (cursor : ℕ) (request : Request) → IsAskedBefore plan cursor request →
+    IsAskedBefore plan (suc cursor) request
 request_past plan cursor (Begin pair) was = tt
 request_past plan cursor (ListAt path) was = tt
-request_past plan cursor (Fetch path since offset) was = (was.0, was.1, omega (arith, was.2), was.3, was.4)
+request_past plan cursor (Fetch path since offset) was =
+    (was.0, was.1, omega (arith, was.2), was.3, was.4)
 request_past plan cursor (Stage item offset bytes) was = omega (arith, was)
 request_past plan cursor (Replace item path since size) was = omega (arith, was)
 
-pub asked_past : (plan : Plan) (cursor : ℕ) (taken : List Exchange) → AreAskedBefore plan cursor taken → AreAskedBefore plan (suc cursor) taken
-asked_past plan cursor taken before exchange has = request_past plan cursor exchange.request (before exchange has)
+pub asked_past : (plan : Plan) (cursor : ℕ) (taken : List Exchange) →
+    AreAskedBefore plan cursor taken → AreAskedBefore plan (suc cursor) taken
+asked_past plan cursor taken before exchange has =
+    request_past plan cursor exchange.request (before exchange has)
 
 -- ---- an item that nothing was asked for
 
-none_found : {X Y : Type 0} (h : X → Option Y) (xs : List X) → ((x : X) → Contains xs x → h x ≡ None) → filter_map h xs ≡ []
+none_found : {X Y : Type 0} (h : X → Option Y) (xs : List X) →
+    ((x : X) → Contains xs x → h x ≡ None) → filter_map h xs ≡ []
 none_found h [] never = refl
-none_found h (x ∷ xs) never = ap (λ o. cons_option o (filter_map h xs)) (never x (0, omega arith, refl)) ∙ none_found h xs (λ y has. never y (suc has.0, omega (arith, has.1), has.2))
+none_found h (x ∷ xs) never =
+    ap (λ o. cons_option o (filter_map h xs)) (never x (0, omega arith, refl))
+    ∙ none_found h xs (λ y has. never y (suc has.0, omega (arith, has.1), has.2))
 
-module _ (plan : Plan) (once : NamedOnce plan) (cursor : ℕ) (planned : Planned) (at : slice_get plan cursor ≡ Some planned) (carriage : Carriage) (item : carriage.item ≡ cursor) (path : carriage.path ≡ path_of planned.item) where
-  other_path : (asked : Path) (since offset : ℕ) → IsAskedBefore plan cursor (Fetch asked since offset) → asked ≡ carriage.path → ⊥
-  other_path asked since offset was same = paths_apart plan once was.0 cursor was.1 planned was.3 at was.2 (sym was.4 ∙ (same ∙ path))
+module _ (plan : Plan) (once : NamedOnce plan) (cursor : ℕ) (planned : Planned)
+    (at : slice_get plan cursor ≡ Some planned) (carriage : Carriage)
+    (item : carriage.item ≡ cursor)
+    (path : carriage.path ≡ path_of planned.item) where
+  other_path : (asked : Path) (since offset : ℕ) →
+      IsAskedBefore plan cursor (Fetch asked since offset) → asked ≡ carriage.path → ⊥
+  other_path asked since offset was same =
+      paths_apart plan once was.0 cursor was.1 planned was.3 at was.2 (sym was.4 ∙ (same ∙ path))
 
   earlier : (request : Request) → IsAskedBefore plan cursor request → IsEarlier carriage 0 0 request
   earlier (Begin pair) was = tt
@@ -45,10 +59,13 @@ module _ (plan : Plan) (once : NamedOnce plan) (cursor : ℕ) (planned : Planned
   earlier (Stage number offset bytes) was = λ same. absurd (omega (arith, was, same, item))
   earlier (Replace number asked since size) was = λ same. absurd (omega (arith, was, same, item))
 
-  told_nothing : (request : Request) (reply : Reply) → IsAskedBefore plan cursor request → piece_total carriage.path request reply ≡ None
-  told_nothing (Fetch asked since offset) (Piece total bytes) was = by (eq_by_cmp path_cmp asked carriage.path) refl
+  told_nothing : (request : Request) (reply : Reply) → IsAskedBefore plan cursor request →
+      piece_total carriage.path request reply ≡ None
+  told_nothing (Fetch asked since offset) (Piece total bytes) was =
+      by (eq_by_cmp path_cmp asked carriage.path) refl
     where
-      by : (b : Bool) → eq_by_cmp path_cmp asked carriage.path ≡ b → piece_total carriage.path (Fetch asked since offset) (Piece total bytes) ≡ None
+      by : (b : Bool) → eq_by_cmp path_cmp asked carriage.path ≡ b →
+          piece_total carriage.path (Fetch asked since offset) (Piece total bytes) ≡ None
       by true same = absurd (other_path asked since offset was (same_path asked carriage.path same))
       by false other = ap (λ b. if b then Some total else None) other
   told_nothing (Fetch asked since offset) (Begun position) was = refl
@@ -65,5 +82,8 @@ module _ (plan : Plan) (once : NamedOnce plan) (cursor : ℕ) (planned : Planned
   pub is_fresh : (taken : List Exchange) → AreAskedBefore plan cursor taken → IsFresh carriage taken
   is_fresh taken before = record {
     asked = λ exchange has. earlier exchange.request (before exchange has);
-    total = ap (λ l. slice_get l 0) (none_found (λ exchange. piece_total carriage.path exchange.request exchange.reply) taken (λ exchange has. told_nothing exchange.request exchange.reply (before exchange has)));
+    total =
+        ap (λ l. slice_get l 0)
+        (none_found (λ exchange. piece_total carriage.path exchange.request exchange.reply) taken
+        (λ exchange has. told_nothing exchange.request exchange.reply (before exchange has)));
   }

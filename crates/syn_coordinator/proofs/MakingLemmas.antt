@@ -25,16 +25,20 @@ since_by left right Left path = position_of left path
 since_by left right Right path = position_of right path
 
 -- its items are those that it was made of
-pub items_of_all : (left right : Found) (items : List Item) → map (λ planned. planned.item) (planned_all left right items) ≡ items
+pub items_of_all : (left right : Found) (items : List Item) →
+    map (λ planned. planned.item) (planned_all left right items) ≡ items
 items_of_all left right [] = refl
 items_of_all left right (item ∷ items) = ap (λ l. item ∷ l) (items_of_all left right items)
 
 -- each sees what both scans have at its path
-pub sees_both : (left right : Found) (items : List Item) → All (SeesBoth (scans_by left right) (since_by left right)) (planned_all left right items)
+pub sees_both : (left right : Found) (items : List Item) →
+    All (SeesBoth (scans_by left right) (since_by left right)) (planned_all left right items)
 sees_both left right items =
-    All-map (SeesBoth (scans_by left right) (since_by left right)) (planned_by left right) items (λ k d less. sees (get_or items k d))
+    All-map (SeesBoth (scans_by left right) (since_by left right)) (planned_by left right) items
+    (λ k d less. sees (get_or items k d))
   where
-    sees : (item : Item) → SeesBoth (scans_by left right) (since_by left right) (planned_by left right item)
+    sees : (item : Item) →
+        SeesBoth (scans_by left right) (since_by left right) (planned_by left right item)
     sees item Left = (refl, refl)
     sees item Right = (refl, refl)
 
@@ -50,9 +54,11 @@ made_of session archive left right items = record {
 }
 
 -- once both sides had begun, and each scan is that of what its side answered
-pub makes_plan : (running : Running) (archive : Archive) (left right : Found) (items : List Item) → items ≡ model.plan (scan_of left) (scan_of right) archive.marks → BothBegun running.taken →
-    IsScanBy (WasListedAt running.taken Left) (WasNoDirectoryAt running.taken Left) (scan_of left) (position_of left) →
-    IsScanBy (WasListedAt running.taken Right) (WasNoDirectoryAt running.taken Right) (scan_of right) (position_of right) →
+pub makes_plan : (running : Running) (archive : Archive) (left right : Found) (items : List Item) →
+    items ≡ model.plan (scan_of left) (scan_of right) archive.marks → BothBegun running.taken →
+    IsScanBy (WasListedAt running.taken Left) (WasNoDirectoryAt running.taken Left) (scan_of left)
+    (position_of left) → IsScanBy (WasListedAt running.taken Right)
+    (WasNoDirectoryAt running.taken Right) (scan_of right) (position_of right) →
     MakesPlan running archive (made_of running.session archive.marks left right items)
 makes_plan running archive left right items is_plan begun on_left on_right = record {
   of_session = refl;
@@ -64,6 +70,7 @@ makes_plan running archive left right items is_plan begun on_left on_right = rec
   seen = sees_both left right items;
 }
   where
-    scanned : (side : Which) → IsScanBy (WasListedAt running.taken side) (WasNoDirectoryAt running.taken side) (scans_by left right side) (since_by left right side)
+    scanned : (side : Which) → IsScanBy (WasListedAt running.taken side)
+        (WasNoDirectoryAt running.taken side) (scans_by left right side) (since_by left right side)
     scanned Left = on_left
     scanned Right = on_right

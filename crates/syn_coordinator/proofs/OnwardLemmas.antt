@@ -25,17 +25,31 @@ use Rattle.syn_coordinator.specs.inner.Settling.{AsksSo, EndsSo, HasCome, IsPast
 use Rattle.syn_session.specs.Stages.{AreAskedBefore, Reached, plan_in}
 use Rattle.syn_coordinator.specs.declared.ended.Ended.{Ended}
 use Rattle.syn_coordinator.specs.inner.Walking.{IsAtItem, Passes}
-use Rattle.syn_coordinator.proofs.PassLemmas.{asks_here, at_turn, some_in, turn_asks, turn_ends, turn_further}
+use Rattle.syn_coordinator.proofs.PassLemmas.{asks_here, at_turn, some_in, turn_asks, turn_ends}
+use Rattle.syn_coordinator.proofs.PassLemmas.{turn_further}
 use Rattle.syn_coordinator.proofs.WalkLemmas.{passes_refused}
 
-module _ {D : Type 0} {disk : Ghosts D} (pair : ℕ) (taken : Exchange) (journal : Journal) (before : Reached) (left right : Found) (all : List Exchange) (old middle : Coordinator D disk) (was course : Course) (planned : Planned)
-    (out : IsCarriedOut was left right all before planned) (past : IsPast old middle pair taken journal before course left right) where
+module _ {D : Type 0} {disk : Ghosts D} (pair : ℕ) (taken : Exchange) (journal : Journal)
+    (before : Reached) (left right : Found) (all : List Exchange) (old middle : Coordinator D disk)
+    (was course : Course) (planned : Planned)
+    (out : IsCarriedOut was left right all before planned)
+    (past : IsPast old middle pair taken journal before course left right) where
   -- it is past the item, and nothing was asked for the next
   come : HasCome old middle pair taken journal before course left right all
-  come = (past.0, past.1, past.3, omega (arith, past.2), subst (λ p. AreAskedBefore p course.cursor all) plans (subst (λ n. AreAskedBefore (plan_in was left right) n all) next out.asked), past.4)
+  come = (
+    past.0,
+    past.1,
+    past.3,
+    omega (arith, past.2),
+    subst (λ p. AreAskedBefore p course.cursor all) plans
+        (subst (λ n. AreAskedBefore (plan_in was left right) n all) next out.asked),
+    past.4,
+  )
     where
       plans : plan_in was left right ≡ plan_in course left right
-      plans = some_in _ _ (sym out.course_is.plan ∙ (sym past.3.passes.has.plan ∙ past.3.course_is.plan))
+      plans =
+          some_in _ _ (sym out.course_is.plan
+          ∙ (sym past.3.passes.has.plan ∙ past.3.course_is.plan))
 
       next : suc was.cursor ≡ course.cursor
       next = ap suc (sym out.course_is.cursor) ∙ past.2
@@ -49,42 +63,76 @@ module _ {D : Type 0} {disk : Ghosts D} (pair : ℕ) (taken : Exchange) (journal
   at_next = at_turn pair taken journal before left right all old middle course come
 
   module _ (new : Coordinator D disk) (later : Course) where
-    pub asks_later : (asks : Side × Asked) → AsksSo middle new pair taken past.3.journal past.3.after later left right all asks → AsksLater old new pair taken journal before later left right all asks
+    pub asks_later : (asks : Side × Asked) →
+        AsksSo middle new pair taken past.3.journal past.3.after later left right all asks →
+        AsksLater old new pair taken journal before later left right all asks
     unfolding come
     asks_later asks so = record {
-      asks_so = turn_asks pair taken journal before left right all old middle course come new later asks so;
-      later = omega (arith, past.2, past.3.course_is.cursor, so.2.onward, turn_further pair taken journal before left right all old middle course come new later asks so);
+      asks_so =
+          turn_asks pair taken journal before left right all old middle course come new later asks
+          so;
+      later =
+          omega (
+            arith,
+            past.2,
+            past.3.course_is.cursor,
+            so.2.onward,
+            turn_further pair taken
+                journal before left right all old middle course come new later asks so,
+          );
     }
 
-    pub ends_later : (how : Ended) → EndsSo middle new pair taken past.3.journal past.3.after later left right how → EndsSo old new pair taken journal before later left right how
+    pub ends_later : (how : Ended) →
+        EndsSo middle new pair taken past.3.journal past.3.after later left right how →
+        EndsSo old new pair taken journal before later left right how
     unfolding come
-    ends_later how so = turn_ends pair taken journal before left right all old middle course come new later how so
+    ends_later how so =
+        turn_ends pair taken journal before left right all old middle course come new later how so
 
-    pub later_so : (result : Result (Side × Asked) Ended) → MatchResult result (AsksSo middle new pair taken past.3.journal past.3.after later left right all) (EndsSo middle new pair taken past.3.journal past.3.after later left right) →
-        MatchResult result (AsksLater old new pair taken journal before later left right all) (EndsSo old new pair taken journal before later left right)
+    pub later_so : (result : Result (Side × Asked) Ended) → MatchResult result
+        (AsksSo middle new pair taken past.3.journal past.3.after later left right all)
+        (EndsSo middle new pair taken past.3.journal past.3.after later left right) →
+        MatchResult result (AsksLater old new pair taken journal before later left right all)
+        (EndsSo old new pair taken journal before later left right)
     later_so (Ok asks) so = asks_later asks so
     later_so (Err how) so = ends_later how so
 
 -- a side refused what was asked for the item
-pub refused_so : (pair : ℕ) (taken : Exchange) (journal : Journal) (before : Reached) (left right : Found) (all : List Exchange) (course : Course) (planned : Planned) (out : IsCarriedOut course left right all before planned) (why : Why) → taken.reply ≡ model.Refused why → IsFor course.cursor planned taken.request → Passes pair taken journal before journal (refused_at before why planned) []
+pub refused_so : (pair : ℕ) (taken : Exchange) (journal : Journal) (before : Reached)
+    (left right : Found) (all : List Exchange) (course : Course) (planned : Planned)
+    (out : IsCarriedOut course left right all before planned) (why : Why) →
+    taken.reply ≡ model.Refused why → IsFor course.cursor planned taken.request →
+    Passes pair taken journal before journal (refused_at before why planned) []
 refused_so pair taken journal before left right all course planned out why refused asked =
     passes_refused pair taken journal before planned
-    (ap (λ p. slice_get (option_map_or (λ plan. plan) p []) before.cursor) out.course_is.plan ∙ (ap (slice_get (plan_in course left right)) out.course_is.cursor ∙ out.at))
+    (ap (λ p. slice_get (option_map_or (λ plan. plan) p []) before.cursor) out.course_is.plan
+    ∙ (ap (slice_get (plan_in course left right)) out.course_is.cursor ∙ out.at))
     why refused (subst (λ n. IsFor n planned taken.request) (sym out.course_is.cursor) asked)
 
-module _ {D : Type 0} {disk : Ghosts D} (pair : ℕ) (taken : Exchange) (journal : Journal) (before : Reached) (left right : Found) (all : List Exchange) where
+module _ {D : Type 0} {disk : Ghosts D} (pair : ℕ) (taken : Exchange) (journal : Journal)
+    (before : Reached) (left right : Found) (all : List Exchange) where
   -- it asks for the same item again
-  pub carries_further : (coordinator : Coordinator D disk) (course : Course) → IsMachine coordinator.archive pair journal → IsQuiet coordinator journal → (side : Side) (request : Asked) → TakesAnswer journal.value left right all before taken course (Ok (carrying.Asks side request)) → CarriesOn coordinator coordinator pair taken journal before course left right all (side, request)
+  pub carries_further : (coordinator : Coordinator D disk) (course : Course) →
+      IsMachine coordinator.archive pair journal → IsQuiet coordinator journal → (side : Side)
+      (request : Asked) → TakesAnswer journal.value left right all before taken course
+      (Ok (carrying.Asks side request)) → CarriesOn coordinator coordinator pair taken journal
+      before course left right all (side, request)
   carries_further coordinator course is quiet side request took = record {
     fault = took.0;
-    asks_so = asks_here pair taken journal before left right coordinator is quiet course (all ++ taken ∷ []) (side, request) took.1.1;
+    asks_so =
+        asks_here pair taken journal before left right coordinator is quiet course
+        (all ++ taken ∷ []) (side, request) took.1.1;
     last = λ last. absurd (false≢true (sym took.1.0 ∙ last));
   }
 
   -- it is past the item
-  pub goes_later : (old new : Coordinator D disk) (course : Course) → fault_of all taken.side taken.request taken.reply ≡ None → (result : Result (Side × Asked) Ended) →
-      MatchResult result (AsksLater old new pair taken journal before course left right (all ++ taken ∷ [])) (EndsSo old new pair taken journal before course left right) →
-      MatchResult result (CarriesOn old new pair taken journal before course left right all) (EndsCarrying old new pair taken journal before course left right all)
+  pub goes_later : (old new : Coordinator D disk) (course : Course) →
+      fault_of all taken.side taken.request taken.reply ≡ None →
+      (result : Result (Side × Asked) Ended) → MatchResult result
+      (AsksLater old new pair taken journal before course left right (all ++ taken ∷ []))
+      (EndsSo old new pair taken journal before course left right) →
+      MatchResult result (CarriesOn old new pair taken journal before course left right all)
+      (EndsCarrying old new pair taken journal before course left right all)
   goes_later old new course fault (Ok asks) so = record {
     fault = fault;
     asks_so = so.asks_so;
@@ -93,8 +141,10 @@ module _ {D : Type 0} {disk : Ghosts D} (pair : ℕ) (taken : Exchange) (journal
   goes_later old new course fault (Err how) so = behind how fault so
 
 -- the number of a session is due for no item
-pub no_session_due : (item : ℕ) (planned : Planned) (taken : Exchange) (what : Kept) (session : ℕ) → IsDue item planned taken what → what ≡ Session session → ⊥
-no_session_due item planned taken what session is equal = of_item (subst IsOfItem equal (by what is))
+pub no_session_due : (item : ℕ) (planned : Planned) (taken : Exchange) (what : Kept) (session : ℕ) →
+    IsDue item planned taken what → what ≡ Session session → ⊥
+no_session_due item planned taken what session is equal =
+    of_item (subst IsOfItem equal (by what is))
   where
     of_item : IsOfItem (Session session) → ⊥
     of_item never = never

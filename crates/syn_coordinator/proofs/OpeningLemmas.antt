@@ -1,5 +1,7 @@
 -- What another opening of an archive found of the record that was tried.
-use Rattle.std.proofs.Common.{◌≡◌, ◌⊎◌, ◌≤◌, ◌-◌, ◌==◌, ◌+◌, ℕ, suc, Bool, true, false, nat_lt, List, [], ◌∷◌, ◌++◌, length, Option, Some, None, if◌then◌else◌, refl, sym, ap, ap₂, ◌∙◌, inl, inr, arith}
+use Rattle.std.proofs.Common.{◌≡◌, ◌⊎◌, ◌≤◌, ◌-◌, ◌==◌, ◌+◌, ℕ, suc, Bool, true, false, nat_lt}
+use Rattle.std.proofs.Common.{List, [], ◌∷◌, ◌++◌, length, Option, Some, None, if◌then◌else◌, refl}
+use Rattle.std.proofs.Common.{sym, ap, ap₂, ◌∙◌, inl, inr, arith}
 use Rattle.std.specs.Prelude.{◌&&◌}
 use Rattle.std.proofs.lemmas.Bool.Decides.{nat_tests}
 use Rattle.std.proofs.lemmas.Option.{none-some}
@@ -49,40 +51,65 @@ takes_six (Recorded path marks) = six (length (path_spelling path ++ mark_spelli
 takes_six (RecordedDir path) = six (length (path_spelling path))
 
 -- where nothing was added there is not less room in the same generation
-no_less : (room generation image left before now after : ℕ) → ((left ≡ room) × (before ≡ generation)) ⊎ ((left ≡ image) × (before ≡ suc generation)) → ((now ≡ room) × (after ≡ generation)) ⊎ ((now ≡ image) × (after ≡ suc generation)) → ((after == before) && nat_lt (now - 5) (left - 5)) ≡ false
-no_less room generation image left before now after (inl was) (inl is) = ap (λ b. (after == before) && b) (not_less _ _ (ap (λ n. n - 5) (is.0 ∙ sym was.0))) ∙ or_not (after == before)
-no_less room generation image left before now after (inl was) (inr is) = ap (λ b. b && nat_lt (now - 5) (left - 5)) (is_later after before (is.1 ∙ ap suc (sym was.1)))
-no_less room generation image left before now after (inr was) (inl is) = ap (λ b. b && nat_lt (now - 5) (left - 5)) (is_before after before (ap suc is.1 ∙ sym was.1))
-no_less room generation image left before now after (inr was) (inr is) = ap (λ b. (after == before) && b) (not_less _ _ (ap (λ n. n - 5) (is.0 ∙ sym was.0))) ∙ or_not (after == before)
+no_less : (room generation image left before now after : ℕ) →
+    ((left ≡ room) × (before ≡ generation)) ⊎ ((left ≡ image) × (before ≡ suc generation)) →
+    ((now ≡ room) × (after ≡ generation)) ⊎ ((now ≡ image) × (after ≡ suc generation)) →
+    ((after == before) && nat_lt (now - 5) (left - 5)) ≡ false
+no_less room generation image left before now after (inl was) (inl is) =
+    ap (λ b. (after == before) && b) (not_less _ _ (ap (λ n. n - 5) (is.0 ∙ sym was.0)))
+    ∙ or_not (after == before)
+no_less room generation image left before now after (inl was) (inr is) =
+    ap (λ b. b && nat_lt (now - 5) (left - 5)) (is_later after before (is.1 ∙ ap suc (sym was.1)))
+no_less room generation image left before now after (inr was) (inl is) =
+    ap (λ b. b && nat_lt (now - 5) (left - 5)) (is_before after before (ap suc is.1 ∙ sym was.1))
+no_less room generation image left before now after (inr was) (inr is) =
+    ap (λ b. (after == before) && b) (not_less _ _ (ap (λ n. n - 5) (is.0 ∙ sym was.0)))
+    ∙ or_not (after == before)
 
 -- how a journal was left, but for the checkpoint that was under way
-either : (pair : ℕ) (machine : Journal) (room generation : ℕ) → IsAsLeft (archive_layout pair) machine room generation →
-    ((room ≡ machine.room) × (generation ≡ machine.generation)) ⊎ ((room ≡ room_behind ((archive_layout pair).image machine.value)) × (generation ≡ suc machine.generation))
+either : (pair : ℕ) (machine : Journal) (room generation : ℕ) →
+    IsAsLeft (archive_layout pair) machine room generation →
+    ((room ≡ machine.room) × (generation ≡ machine.generation))
+    ⊎ ((room ≡ room_behind ((archive_layout pair).image machine.value))
+    × (generation ≡ suc machine.generation))
 either pair machine room generation (inl same) = inl same
 either pair machine room generation (inr made) = inr (made.1, made.2)
 
-module _ {D : Type 0} {disk : Ghosts D} (archive : Archive D disk) (pair : ℕ) (machine : Journal) where
+module _ {D : Type 0} {disk : Ghosts D} (archive : Archive D disk) (pair : ℕ)
+    (machine : Journal) where
   -- what its readings tell is what the opening gave
-  pub found_is : (tried : Option Tried) (calls : ℕ) (new : Journal) (kept : List Kept) → Tries pair tried machine → Opens (archive_layout pair) CanKeep machine calls new kept → left_shown archive ≡ new.room → generation_shown archive ≡ new.generation → kept ≡ listed (found_in tried archive)
+  pub found_is : (tried : Option Tried) (calls : ℕ) (new : Journal) (kept : List Kept) →
+      Tries pair tried machine → Opens (archive_layout pair) CanKeep machine calls new kept →
+      left_shown archive ≡ new.room → generation_shown archive ≡ new.generation →
+      kept ≡ listed (found_in tried archive)
   found_is None calls new kept tries (opened room generation arms meets left) shown numbered = refl
-  found_is None calls new kept tries (recovered arms one meets writing can) shown numbered = absurd (none-some _ (sym tries ∙ writing))
-  found_is (Some tried) calls new kept tries (opened room generation arms meets left) shown numbered =
+  found_is None calls new kept tries (recovered arms one meets writing can) shown numbered =
+      absurd (none-some _ (sym tries ∙ writing))
+  found_is (Some tried) calls new kept tries
+      (opened room generation arms meets left) shown numbered =
       sym (ap (λ b. listed (if b then Some (record_of tried) else None)) none_in)
     where
       none_in : is_in tried archive ≡ false
       none_in =
-          ap₂ (λ g n. (g == tried.generation) && nat_lt n tried.room) numbered (room_left archive ∙ ap (λ n. n - 5) shown)
+          ap₂ (λ g n. (g == tried.generation) && nat_lt n tried.room) numbered
+          (room_left archive ∙ ap (λ n. n - 5) shown)
           ∙ (ap (λ n. (generation == tried.generation) && nat_lt (room - 5) n) tries.room_is
-          ∙ no_less machine.room machine.generation (room_behind ((archive_layout pair).image machine.value)) tries.left tried.generation room generation
-          (either pair machine tries.left tried.generation tries.as_left) (either pair machine room generation left))
+          ∙ no_less machine.room machine.generation (room_behind
+          ((archive_layout pair).image machine.value)) tries.left tried.generation room generation
+          (either pair machine tries.left tried.generation tries.as_left)
+          (either pair machine room generation left))
   found_is (Some tried) calls new kept tries (recovered arms one meets writing can) shown numbered =
-      ap (λ k. k ∷ []) was.kept_is ∙ sym (ap (λ b. listed (if b then Some (record_of tried) else None)) some_in)
+      ap (λ k. k ∷ []) was.kept_is
+      ∙ sym (ap (λ b. listed (if b then Some (record_of tried) else None)) some_in)
     where
       was : IsWriting tried tries.left machine one
       was = tries.writing one writing
 
       some_in : is_in tried archive ≡ true
       some_in =
-          ap₂ (λ g n. (g == tried.generation) && nat_lt n tried.room) numbered (room_left archive ∙ ap (λ n. n - 5) shown)
-          ∙ (ap₂ (λ b n. b && nat_lt (machine.room - kept_size one - 5) n) (is_same machine.generation tried.generation (sym was.generation_is)) (tries.room_is ∙ ap (λ n. n - 5) was.left_is)
+          ap₂ (λ g n. (g == tried.generation) && nat_lt n tried.room) numbered
+          (room_left archive ∙ ap (λ n. n - 5) shown)
+          ∙ (ap₂ (λ b n. b && nat_lt (machine.room - kept_size one - 5) n)
+          (is_same machine.generation tried.generation (sym was.generation_is))
+          (tries.room_is ∙ ap (λ n. n - 5) was.left_is)
           ∙ less machine.room (kept_size one) was.fits (takes_six one))

@@ -1,5 +1,6 @@
 -- Where a session is behind one item of its plan.
-use Rattle.std.proofs.Common.{◌≡◌, ◌≤◌, ℕ, suc, IsSome, List, [], ◌++◌, Option, Some, None, refl, sym, ap, ◌∙◌, subst, inl, arith}
+use Rattle.std.proofs.Common.{◌≡◌, ◌≤◌, ℕ, suc, IsSome, List, [], ◌++◌, Option, Some, None, refl}
+use Rattle.std.proofs.Common.{sym, ap, ◌∙◌, subst, inl, arith}
 use Rattle.std.specs.List.{slice_get}
 use Rattle.std.specs.Prelude.{MatchOption, MatchResult, Result, Ok, Err}
 use Rattle.std.specs.Option.{option_map_or}
@@ -29,14 +30,17 @@ use Rattle.syn_coordinator.specs.declared.ended.Ended.{Ended}
 use Rattle.syn_coordinator.specs.declared.ended.Ended.TheVariants.{Early, Settled}
 use Rattle.syn_session.specs.Passing.{refused_at}
 use Rattle.syn_session.specs.Plans.{Plan}
-use Rattle.syn_coordinator.specs.inner.Settling.{AsksSo, EndsSo, HasCome, IsPast, IsQuiet, PassesOn, nothing_asked}
+use Rattle.syn_coordinator.specs.inner.Settling.{AsksSo, EndsSo, HasCome, IsPast, IsQuiet, PassesOn}
+use Rattle.syn_coordinator.specs.inner.Settling.{nothing_asked}
 use Rattle.syn_keep.specs.declared.tried.Tried.{Tried}
 use Rattle.syn_coordinator.proofs.TriedLemmas.{tries_none}
-use Rattle.syn_session.specs.Stages.{AreAskedBefore, Carries, IsCarriageOf, IsCourse, Reached, plan_in}
+use Rattle.syn_session.specs.Stages.{AreAskedBefore, Carries, IsCarriageOf, IsCourse, Reached}
+use Rattle.syn_session.specs.Stages.{plan_in}
 use Rattle.syn_coordinator.specs.inner.Walking.{Ends, IsAtItem, Passes, ends, walk_at}
 use Rattle.syn_coordinator.proofs.FreshLemmas.{asked_past}
 use Rattle.syn_coordinator.proofs.SettleLemmas.{at_walk, ends_for_memory}
-use Rattle.syn_coordinator.proofs.WalkLemmas.{comes_behind, ends_behind, keeps_none, passes_more, passes_none, passes_unfit}
+use Rattle.syn_coordinator.proofs.WalkLemmas.{comes_behind, ends_behind, keeps_none, passes_more}
+use Rattle.syn_coordinator.proofs.WalkLemmas.{passes_none, passes_unfit}
 use Rattle.syn_image.specs.Archives.{kept_of}
 use Rattle.syn_session.proofs.CarryingLemmas.{is_carried}
 
@@ -44,12 +48,18 @@ use Rattle.syn_session.proofs.CarryingLemmas.{is_carried}
 
 module _ {P G : Type 0} (A : Side × Asked → Type 0) (E : Ended → Type 0) (more : P → G) where
   -- nothing is asked
-  pub past_so : {W : Type 0} (went : Result W Ended) (result : Result (Option (Side × Asked)) Ended) → result ≡ nothing_asked went → MatchResult went (λ _. P) E → MatchResult result (λ next. MatchOption next G A) E
-  past_so (Ok w) result e so = subst (λ r. MatchResult r (λ next. MatchOption next G A) E) (sym e) (more so)
-  past_so (Err ended) result e so = subst (λ r. MatchResult r (λ next. MatchOption next G A) E) (sym e) so
+  pub past_so : {W : Type 0} (went : Result W Ended)
+      (result : Result (Option (Side × Asked)) Ended) → result ≡ nothing_asked went →
+      MatchResult went (λ _. P) E → MatchResult result (λ next. MatchOption next G A) E
+  past_so (Ok w) result e so =
+      subst (λ r. MatchResult r (λ next. MatchOption next G A) E) (sym e) (more so)
+  past_so (Err ended) result e so =
+      subst (λ r. MatchResult r (λ next. MatchOption next G A) E) (sym e) so
 
   -- or something may be
-  pub further_so : (result : Result (Option (Side × Asked)) Ended) → MatchResult result (λ next. MatchOption next P A) E → MatchResult result (λ next. MatchOption next G A) E
+  pub further_so : (result : Result (Option (Side × Asked)) Ended) →
+      MatchResult result (λ next. MatchOption next P A) E →
+      MatchResult result (λ next. MatchOption next G A) E
   further_so (Ok None) so = more so
   further_so (Ok (Some asks)) so = so
   further_so (Err ended) so = so
@@ -59,45 +69,79 @@ module _ {P G : Type 0} (A : Side × Asked → Type 0) (E : Ended → Type 0) (m
 pub some_in : (a b : Plan) → Some a ≡ Some b → a ≡ b
 some_in a b e = ap (λ o. option_map_or (λ plan. plan) o []) e
 
-module _ {D : Type 0} {disk : Ghosts D} (pair : ℕ) (taken : Exchange) (journal : Journal) (before : Reached) (left right : Found) where
+module _ {D : Type 0} {disk : Ghosts D} (pair : ℕ) (taken : Exchange) (journal : Journal)
+    (before : Reached) (left right : Found) where
   -- the archive refuses the record of what is carried
-  pub carried_unfit : (archive : Archive D disk) → IsMachine archive pair journal → (course : Course) → IsCourse course left right before → (planned : Planned) → slice_get (plan_in course left right) course.cursor ≡ Some planned → (carried : Carried) → IsCarriageOf (carriage_of carried.transfer) planned course.cursor → record_for planned planned.item ≡ Some (kept_of carried.kept) →
-      (why : Refusal) → Some (cause_of why) ≡ kept_refusal (shown archive) (kept_of carried.kept) → Passes pair taken journal before journal (refused_at before (cause_of why) planned) []
+  pub carried_unfit : (archive : Archive D disk) → IsMachine archive pair journal →
+      (course : Course) → IsCourse course left right before → (planned : Planned) →
+      slice_get (plan_in course left right) course.cursor ≡ Some planned → (carried : Carried) →
+      IsCarriageOf (carriage_of carried.transfer) planned course.cursor →
+      record_for planned planned.item ≡ Some (kept_of carried.kept) → (why : Refusal) →
+      Some (cause_of why) ≡ kept_refusal (shown archive) (kept_of carried.kept) →
+      Passes pair taken journal before journal (refused_at before (cause_of why) planned) []
   carried_unfit archive is course course_is planned at carried carriage record_is why refused =
-      passes_unfit pair taken journal before planned (at_walk before course left right course_is planned at) (kept_of carried.kept) (cause_of why) record_is
-      (inl (is_carried planned (carriage_of carried.transfer) course.cursor carriage)) (ap (λ a. kept_refusal a (kept_of carried.kept)) (sym is.remembers) ∙ sym refused)
+      passes_unfit pair taken journal before planned
+      (at_walk before course left right course_is planned at) (kept_of carried.kept)
+      (cause_of why) record_is
+      (inl (is_carried planned (carriage_of carried.transfer) course.cursor carriage))
+      (ap (λ a. kept_refusal a (kept_of carried.kept)) (sym is.remembers) ∙ sym refused)
 
   -- no item is left
-  pub ends_settled : (archive : Archive D disk) (tried : Option Tried) → IsMachine archive pair journal → tried ≡ None → journal.writing ≡ None → (course : Course) → IsCourse course left right before → slice_get (plan_in course left right) course.cursor ≡ None → Ends archive tried pair taken journal before [] course left right Settled
+  pub ends_settled : (archive : Archive D disk) (tried : Option Tried) →
+      IsMachine archive pair journal → tried ≡ None → journal.writing ≡ None → (course : Course) →
+      IsCourse course left right before →
+      slice_get (plan_in course left right) course.cursor ≡ None →
+      Ends archive tried pair taken journal before [] course left right Settled
   ends_settled archive tried is untried quiet course course_is none =
-      ends (walk_at journal before) before (stands (walk_at journal before)) refl refl (keeps_none before)
+      ends (walk_at journal before) before
+      (stands (walk_at journal before)) refl refl (keeps_none before)
       (λ running same. settled (subst IsSome (sym (same ∙ course_is.plan)) refl)
-      (ap (λ p. slice_get (option_map_or (λ plan. plan) p []) before.cursor) (same ∙ course_is.plan) ∙ (ap (slice_get (plan_in course left right)) course_is.cursor ∙ none)) refl)
+      (ap (λ p. slice_get (option_map_or (λ plan. plan) p []) before.cursor) (same ∙ course_is.plan)
+      ∙ (ap (slice_get (plan_in course left right)) course_is.cursor ∙ none)) refl)
       is course_is (tries_none pair tried journal untried quiet)
 
-  module _ (old new : Coordinator D disk) (was later : Course) (all : List Exchange) (at : IsAtItem was left right all before) where
+  module _ (old new : Coordinator D disk) (was later : Course) (all : List Exchange)
+      (at : IsAtItem was left right all before) where
     -- nothing was asked for the item behind
-    pub on_past : IsPast old new pair taken journal before later left right → PassesOn old new pair taken journal before later left right all
-    on_past past = (past, subst (λ p. AreAskedBefore p later.cursor all) plans (subst (λ n. AreAskedBefore (plan_in was left right) n all) next (asked_past (plan_in was left right) was.cursor all at.asked)))
+    pub on_past : IsPast old new pair taken journal before later left right →
+        PassesOn old new pair taken journal before later left right all
+    on_past past = (
+      past,
+      subst (λ p. AreAskedBefore p later.cursor all) plans
+          (subst (λ n. AreAskedBefore (plan_in was left right) n all) next
+          (asked_past (plan_in was left right) was.cursor all at.asked)),
+    )
       where
         plans : plan_in was left right ≡ plan_in later left right
-        plans = some_in _ _ (sym at.course_is.plan ∙ (sym past.3.passes.has.plan ∙ past.3.course_is.plan))
+        plans =
+            some_in _ _ (sym at.course_is.plan
+            ∙ (sym past.3.passes.has.plan ∙ past.3.course_is.plan))
 
         next : suc was.cursor ≡ later.cursor
         next = ap suc (sym at.course_is.cursor) ∙ past.2
 
   -- memory is refused, and the course stays
-  pub ends_here : (coordinator : Coordinator D disk) → IsMachine coordinator.archive pair journal → IsQuiet coordinator journal → (was later : Course) → IsCourse was left right before → later ≡ was → (how : Ended) → how ≡ Early refusal.Memory → EndsSo coordinator coordinator pair taken journal before later left right how
+  pub ends_here : (coordinator : Coordinator D disk) → IsMachine coordinator.archive pair journal →
+      IsQuiet coordinator journal → (was later : Course) → IsCourse was left right before →
+      later ≡ was → (how : Ended) → how ≡ Early refusal.Memory →
+      EndsSo coordinator coordinator pair taken journal before later left right how
   ends_here coordinator is quiet was later course_is same how memory = (
     [],
     sym (append-nil _),
-    subst (λ e. Ends coordinator.archive coordinator.tried pair taken journal before [] later left right e) (sym memory)
-        (subst (λ c. Ends coordinator.archive coordinator.tried pair taken journal before [] c left right (Early refusal.Memory)) (sym same)
-        (ends_for_memory coordinator.archive coordinator.tried pair taken journal before was left right is quiet.0 quiet.1 course_is)),
+    subst (λ e. Ends coordinator.archive coordinator.tried pair taken journal before
+        [] later left right e) (sym memory)
+        (subst (λ c. Ends coordinator.archive coordinator.tried pair taken journal before
+        [] c left right (Early refusal.Memory)) (sym same)
+        (ends_for_memory coordinator.archive coordinator.tried pair taken journal before was left
+        right is quiet.0 quiet.1 course_is)),
   )
 
   -- it asks for the item that it has come to
-  pub asks_here : (coordinator : Coordinator D disk) → IsMachine coordinator.archive pair journal → IsQuiet coordinator journal → (course : Course) (all : List Exchange) (asks : Side × Asked) → Carries journal.value course left right all before (λ transfer. Asks transfer all (which_of asks.0) (request_of asks.1)) → AsksSo coordinator coordinator pair taken journal before course left right all asks
+  pub asks_here : (coordinator : Coordinator D disk) → IsMachine coordinator.archive pair journal →
+      IsQuiet coordinator journal → (course : Course) (all : List Exchange) (asks : Side × Asked) →
+      Carries journal.value course left right all before
+      (λ transfer. Asks transfer all (which_of asks.0) (request_of asks.1)) →
+      AsksSo coordinator coordinator pair taken journal before course left right all asks
   asks_here coordinator is quiet course all asks carries = (
     [],
     sym (append-nil _),
@@ -117,9 +161,12 @@ module _ {D : Type 0} {disk : Ghosts D} (pair : ℕ) (taken : Exchange) (journal
 
 -- ---- from turn to turn
 
-module _ {D : Type 0} {disk : Ghosts D} (pair : ℕ) (taken : Exchange) (journal : Journal) (before : Reached) (left right : Found) (all : List Exchange) where
+module _ {D : Type 0} {disk : Ghosts D} (pair : ℕ) (taken : Exchange) (journal : Journal)
+    (before : Reached) (left right : Found) (all : List Exchange) where
   -- before the first
-  pub no_turn : (coordinator : Coordinator D disk) → IsMachine coordinator.archive pair journal → IsQuiet coordinator journal → (course : Course) → IsAtItem course left right all before → HasCome coordinator coordinator pair taken journal before course left right all
+  pub no_turn : (coordinator : Coordinator D disk) → IsMachine coordinator.archive pair journal →
+      IsQuiet coordinator journal → (course : Course) → IsAtItem course left right all before →
+      HasCome coordinator coordinator pair taken journal before course left right all
   no_turn coordinator is quiet course at = (
     [],
     sym (append-nil _),
@@ -135,7 +182,8 @@ module _ {D : Type 0} {disk : Ghosts D} (pair : ℕ) (taken : Exchange) (journal
     quiet.0,
   )
 
-  module _ (first middle : Coordinator D disk) (course : Course) (come : HasCome first middle pair taken journal before course left right all) where
+  module _ (first middle : Coordinator D disk) (course : Course)
+      (come : HasCome first middle pair taken journal before course left right all) where
     -- where a turn begins
     pub at_turn : IsAtItem course left right all come.2.after
     at_turn = record { course_is = come.2.course_is; asked = come.4 }
@@ -145,39 +193,54 @@ module _ {D : Type 0} {disk : Ghosts D} (pair : ℕ) (taken : Exchange) (journal
     still_quiet quiet = (come.5, come.2.passes.quiet quiet)
 
     -- it runs out of turns
-    pub no_turn_left : journal.writing ≡ None → (how : Ended) → how ≡ Early refusal.Memory → EndsSo first middle pair taken journal before course left right how
+    pub no_turn_left : journal.writing ≡ None → (how : Ended) → how ≡ Early refusal.Memory →
+        EndsSo first middle pair taken journal before course left right how
     no_turn_left quiet how memory = (
       come.0,
       come.1,
-      subst (λ l. Ends middle.archive middle.tried pair taken journal before l course left right how) (append-nil come.0)
-          (ends_behind pair taken journal come.2.journal before come.2.after come.0 come.2.passes middle.archive [] course left right middle.tried how
-          (subst (λ e. Ends middle.archive middle.tried pair taken come.2.journal come.2.after [] course left right e) (sym memory) (ends_for_memory middle.archive middle.tried pair taken come.2.journal come.2.after course left right come.2.is come.5 (come.2.passes.quiet quiet) come.2.course_is))),
+      subst (λ l. Ends middle.archive middle.tried pair taken journal before l course left right
+          how) (append-nil come.0)
+          (ends_behind pair taken journal come.2.journal before come.2.after come.0 come.2.passes
+          middle.archive [] course left right middle.tried how
+          (subst (λ e. Ends middle.archive middle.tried pair taken come.2.journal come.2.after
+          [] course left right e) (sym memory)
+          (ends_for_memory middle.archive middle.tried pair taken come.2.journal come.2.after
+          course left right come.2.is come.5 (come.2.passes.quiet quiet) come.2.course_is))),
     )
 
     module _ (last : Coordinator D disk) (later : Course) where
-      both : (kept : List Kept) → written last ≡ written middle ++ kept → written last ≡ written first ++ (come.0 ++ kept)
-      both kept more = more ∙ (ap (λ l. l ++ kept) come.1 ∙ append_assoc (written first) come.0 kept)
+      both : (kept : List Kept) → written last ≡ written middle ++ kept →
+          written last ≡ written first ++ (come.0 ++ kept)
+      both kept more =
+          more ∙ (ap (λ l. l ++ kept) come.1 ∙ append_assoc (written first) come.0 kept)
 
       -- it passes one item more
-      pub turn_past : PassesOn middle last pair taken come.2.journal come.2.after later left right all → HasCome first last pair taken journal before later left right all
+      pub turn_past :
+          PassesOn middle last pair taken come.2.journal come.2.after later left right all →
+          HasCome first last pair taken journal before later left right all
       turn_past past = (
         come.0 ++ past.0.0,
         both past.0.0 past.0.1,
-        comes_behind pair taken journal come.2.journal before come.2.after come.0 come.2.passes last.archive past.0.0 later left right past.0.3,
+        comes_behind pair taken journal come.2.journal before come.2.after come.0 come.2.passes
+            last.archive past.0.0 later left right past.0.3,
         omega (arith, come.3, come.2.course_is.cursor, past.0.2),
         past.1,
         past.0.4,
       )
 
       -- it asks
-      pub turn_asks : (asks : Side × Asked) → AsksSo middle last pair taken come.2.journal come.2.after later left right all asks → AsksSo first last pair taken journal before later left right all asks
+      pub turn_asks : (asks : Side × Asked) →
+          AsksSo middle last pair taken come.2.journal come.2.after later left right all asks →
+          AsksSo first last pair taken journal before later left right all asks
       turn_asks asks so = (
         come.0 ++ so.0,
         both so.0 so.1,
         record {
           journal = so.2.journal;
           after = so.2.after;
-          passes = passes_more pair taken journal come.2.journal before come.2.after come.0 come.2.passes so.2.journal so.2.after so.0 so.2.passes;
+          passes =
+              passes_more pair taken journal come.2.journal before come.2.after come.0 come.2.passes
+              so.2.journal so.2.after so.0 so.2.passes;
           onward = omega (arith, come.3, come.2.course_is.cursor, so.2.onward);
           is = so.2.is;
           carries = so.2.carries;
@@ -186,10 +249,19 @@ module _ {D : Type 0} {disk : Ghosts D} (pair : ℕ) (taken : Exchange) (journal
       )
 
       -- and stands where it then stands
-      pub turn_further : (asks : Side × Asked) (so : AsksSo middle last pair taken come.2.journal come.2.after later left right all asks) → (turn_asks asks so).2.after.cursor ≡ so.2.after.cursor
+      pub turn_further : (asks : Side × Asked) (so :
+          AsksSo middle last pair taken come.2.journal come.2.after later left right all asks) →
+          (turn_asks asks so).2.after.cursor ≡ so.2.after.cursor
       unfolding turn_asks
       turn_further asks so = refl
 
       -- it ends
-      pub turn_ends : (how : Ended) → EndsSo middle last pair taken come.2.journal come.2.after later left right how → EndsSo first last pair taken journal before later left right how
-      turn_ends how so = (come.0 ++ so.0, both so.0 so.1, ends_behind pair taken journal come.2.journal before come.2.after come.0 come.2.passes last.archive so.0 later left right last.tried how so.2)
+      pub turn_ends : (how : Ended) →
+          EndsSo middle last pair taken come.2.journal come.2.after later left right how →
+          EndsSo first last pair taken journal before later left right how
+      turn_ends how so = (
+        come.0 ++ so.0,
+        both so.0 so.1,
+        ends_behind pair taken journal come.2.journal before come.2.after come.0 come.2.passes
+            last.archive so.0 later left right last.tried how so.2,
+      )

@@ -1,5 +1,6 @@
 -- What a record that is due for an item of a plan becomes, and where its session is then.
-use Rattle.std.proofs.Common.{◌≡◌, ℕ, true, false, List, [], ◌∷◌, Option, Some, None, refl, sym, ap, ◌∙◌, subst}
+use Rattle.std.proofs.Common.{◌≡◌, ℕ, true, false, List, [], ◌∷◌, Option, Some, None, refl, sym, ap}
+use Rattle.std.proofs.Common.{◌∙◌, subst}
 use Rattle.std.specs.List.{slice_get}
 use Rattle.std.specs.Option.{option_map_or}
 use Rattle.std.proofs.lemmas.Bool.{false≢true}
@@ -31,7 +32,8 @@ use Rattle.syn_coordinator.specs.declared.ended.Ended.{Ended}
 use Rattle.syn_coordinator.specs.declared.ended.Ended.TheVariants.{Early}
 use Rattle.syn_keep.specs.declared.tried.Tried.{Tried}
 use Rattle.syn_coordinator.proofs.TriedLemmas.{tries_none}
-use Rattle.syn_coordinator.specs.inner.Advancing.{Advanced, ended, kept_by, kept_it, refused_it, stopped}
+use Rattle.syn_coordinator.specs.inner.Advancing.{Advanced, ended, kept_by, kept_it, refused_it}
+use Rattle.syn_coordinator.specs.inner.Advancing.{stopped}
 use Rattle.syn_session.specs.Passing.{kept_at, refused_at}
 use Rattle.syn_keep.specs.Due.{Settles, TriesBy, recorded}
 use Rattle.syn_session.specs.Stages.{AreAskedBefore, IsCarriedFor, IsCourse, Reached, plan_in}
@@ -42,79 +44,134 @@ use Rattle.syn_session.proofs.PlanLemmas.{named_once}
 use Rattle.syn_coordinator.proofs.WalkLemmas.{ends_at, keeps_none, passes_by}
 
 -- where nothing was remembered before
-pub tries_by : {D : Type 0} {disk : Ghosts D} (new : Archive D disk) (what : Kept) (old tried : Option Tried) (due : Due) → old ≡ None → TriesBy new what old tried due → TriesBy new what None tried due
+pub tries_by : {D : Type 0} {disk : Ghosts D} (new : Archive D disk) (what : Kept)
+    (old tried : Option Tried) (due : Due) → old ≡ None → TriesBy new what old tried due →
+    TriesBy new what None tried due
 tries_by new what old tried due none tries = subst (λ o. TriesBy new what o tried due) none tries
 
 -- the item of the plan that the walk has come to
-pub at_walk : (before : Reached) (course : Course) (left right : Found) → IsCourse course left right before → (planned : Planned) → slice_get (plan_in course left right) course.cursor ≡ Some planned → slice_get (plan_at before) before.cursor ≡ Some planned
-at_walk before course left right is planned at = ap (λ p. slice_get (option_map_or (λ plan. plan) p []) before.cursor) is.plan ∙ (ap (slice_get (plan_in course left right)) is.cursor ∙ at)
+pub at_walk : (before : Reached) (course : Course) (left right : Found) →
+    IsCourse course left right before → (planned : Planned) →
+    slice_get (plan_in course left right) course.cursor ≡ Some planned →
+    slice_get (plan_at before) before.cursor ≡ Some planned
+at_walk before course left right is planned at =
+    ap (λ p. slice_get (option_map_or (λ plan. plan) p []) before.cursor) is.plan
+    ∙ (ap (slice_get (plan_in course left right)) is.cursor ∙ at)
 
-module _ {D : Type 0} {disk : Ghosts D} (new : Archive D disk) (tried : Option Tried) (pair : ℕ) (taken : Exchange) (journal : Journal) (before : Reached) where
+module _ {D : Type 0} {disk : Ghosts D} (new : Archive D disk) (tried : Option Tried) (pair : ℕ)
+    (taken : Exchange) (journal : Journal) (before : Reached) where
   -- want of memory ends it where it is
-  pub ends_for_memory : (course : Course) (left right : Found) → IsMachine new pair journal → tried ≡ None → journal.writing ≡ None → IsCourse course left right before → Ends new tried pair taken journal before [] course left right (Early refusal.Memory)
+  pub ends_for_memory : (course : Course) (left right : Found) → IsMachine new pair journal →
+      tried ≡ None → journal.writing ≡ None → IsCourse course left right before →
+      Ends new tried pair taken journal before [] course left right (Early refusal.Memory)
   ends_for_memory course left right is untried quiet course_is =
-      ends (walk_at journal before) before (stands (walk_at journal before)) refl refl (keeps_none before) (λ running same. no_memory refl) is course_is (tries_none pair tried journal untried quiet)
+      ends (walk_at journal before) before
+      (stands (walk_at journal before)) refl refl (keeps_none before)
+      (λ running same. no_memory refl) is course_is (tries_none pair tried journal untried quiet)
 
-  module _ (course : Course) (left right : Found) (is : IsCourse course left right before) (planned : Planned) (at : slice_get (plan_in course left right) course.cursor ≡ Some planned) where
-    module _ (what : Kept) (is_due : IsDue course.cursor planned taken what) (quiet : journal.writing ≡ None) where
-      pub became : (due : Due) → Settles new pair journal what due → TriesBy new what None tried due → Advanced new tried pair (plan_at before) taken (walk_at journal before) planned what due
-      became due settles tries = advanced new tried pair (plan_at before) taken (walk_at journal before) planned what refl (at_walk before course left right is planned at) (subst (λ n. IsDue n planned taken what) (sym is.cursor) is_due) due settles quiet tries
+  module _ (course : Course) (left right : Found)
+      (is : IsCourse course left right before) (planned : Planned)
+      (at : slice_get (plan_in course left right) course.cursor ≡ Some planned) where
+    module _ (what : Kept) (is_due : IsDue course.cursor planned taken what)
+        (quiet : journal.writing ≡ None) where
+      pub became : (due : Due) → Settles new pair journal what due →
+          TriesBy new what None tried due →
+          Advanced new tried pair (plan_at before) taken (walk_at journal before) planned what due
+      became due settles tries =
+          advanced new tried pair (plan_at before) taken (walk_at journal before) planned what refl
+          (at_walk before course left right is planned at)
+          (subst (λ n. IsDue n planned taken what) (sym is.cursor) is_due) due settles quiet tries
 
       -- the machine is down
-      pub is_cut_off : (due : Due) → Settles new pair journal what due → TriesBy new what None tried due → is_stopped (disk.arms (disk_of new)) ≡ true → (course : Course) (how : Ended) → Ends new tried pair taken journal before (kept_by what due) course left right how
+      pub is_cut_off : (due : Due) → Settles new pair journal what due →
+          TriesBy new what None tried due →
+          is_stopped (disk.arms (disk_of new)) ≡ true → (course : Course) (how : Ended) →
+          Ends new tried pair taken journal before (kept_by what due) course left right how
       is_cut_off due settles tries cut course how = by due (became due settles tries)
         where
-          by : (due : Due) → Advanced new tried pair (plan_at before) taken (walk_at journal before) planned what due → Ends new tried pair taken journal before (kept_by what due) course left right how
+          by : (due : Due) → Advanced new tried pair (plan_at before) taken
+              (walk_at journal before) planned what due →
+              Ends new tried pair taken journal before (kept_by what due) course left right how
           by due (kept_it journal advances up is) = absurd (false≢true (sym is.goes ∙ cut))
           by due (refused_it why advances is) = absurd (false≢true (sym is.goes ∙ cut))
-          by due (ended why later advances cursor refused for is tries) = absurd (false≢true (sym is.goes ∙ cut))
-          by due (stopped became later advances down cut leaves tries) = goes_down later advances cut down leaves tries
+          by due (ended why later advances cursor refused for is tries) =
+              absurd (false≢true (sym is.goes ∙ cut))
+          by due (stopped became later advances down cut leaves tries) =
+              goes_down later advances cut down leaves tries
 
       was_up : Settles new pair journal what due.Recorded → journal.status ≡ Up
       was_up (recorded made between ready room has keeps) = ready.up
 
       -- it is kept, or refused, and the machine goes on
       module _ (goes : is_stopped (disk.arms (disk_of new)) ≡ false) where
-        pub is_kept : Settles new pair journal what due.Recorded → tried ≡ None → (later : Course) → IsCourse later left right (kept_at before what) → Comes new pair taken journal before (what ∷ []) later left right
+        pub is_kept : Settles new pair journal what due.Recorded → tried ≡ None → (later : Course) →
+            IsCourse later left right (kept_at before what) →
+            Comes new pair taken journal before (what ∷ []) later left right
         is_kept settles tries later course_is = by (became due.Recorded settles tries)
           where
-            by : Advanced new tried pair (plan_at before) taken (walk_at journal before) planned what due.Recorded → Comes new pair taken journal before (what ∷ []) later left right
+            by : Advanced new tried pair (plan_at before) taken (walk_at journal before) planned
+                what due.Recorded → Comes new pair taken journal before (what ∷ []) later left right
             by (kept_it now advances up is) = record {
               journal = now;
               after = kept_at before what;
-              passes = passes_by pair taken journal before now (kept_at before what) (what ∷ []) (up ∙ sym (was_up settles)) (λ _. (when_up new pair now is up).idle) (record { plan = refl; kept_is = refl }) advances;
+              passes =
+                  passes_by pair taken journal before now (kept_at before what) (what ∷ [])
+                  (up ∙ sym (was_up settles)) (λ _. (when_up new pair now is up).idle)
+                  (record { plan = refl; kept_is = refl }) advances;
               is = is;
               course_is = course_is;
             }
-            by (stopped became later advances down cut leaves tries) = absurd (false≢true (sym goes ∙ cut))
+            by (stopped became later advances down cut leaves tries) =
+                absurd (false≢true (sym goes ∙ cut))
 
-        module _ (why : Refusal) (settles : Settles new pair journal what (due.Refused why)) (tries : tried ≡ None) where
+        module _ (why : Refusal) (settles : Settles new pair journal what (due.Refused why))
+            (tries : tried ≡ None) where
           pub still_is : IsMachine new pair journal
           still_is = by (became (due.Refused why) settles tries)
             where
-              by : Advanced new tried pair (plan_at before) taken (walk_at journal before) planned what (due.Refused why) → IsMachine new pair journal
+              by : Advanced new tried pair (plan_at before) taken (walk_at journal before) planned
+                  what (due.Refused why) → IsMachine new pair journal
               by (refused_it why advances is) = is
-              by (stopped became later advances down cut leaves tries) = absurd (false≢true (sym goes ∙ cut))
+              by (stopped became later advances down cut leaves tries) =
+                  absurd (false≢true (sym goes ∙ cut))
 
-          pub is_refused : (later : Course) → IsCourse later left right (refused_at before (cause_of why) planned) → Comes new pair taken journal before [] later left right
+          pub is_refused : (later : Course) →
+              IsCourse later left right (refused_at before (cause_of why) planned) →
+              Comes new pair taken journal before [] later left right
           is_refused later course_is = by (became (due.Refused why) settles tries)
             where
-              by : Advanced new tried pair (plan_at before) taken (walk_at journal before) planned what (due.Refused why) → Comes new pair taken journal before [] later left right
+              by : Advanced new tried pair (plan_at before) taken (walk_at journal before) planned
+                  what (due.Refused why) → Comes new pair taken journal before [] later left right
               by (refused_it why' advances is) = record {
                 journal = journal;
                 after = refused_at before (cause_of why) planned;
-                passes = passes_by pair taken journal before journal (refused_at before (cause_of why) planned) [] refl (λ was. was) (record { plan = refl; kept_is = sym (append-nil before.kept) }) advances;
+                passes =
+                    passes_by pair taken journal before journal
+                    (refused_at before (cause_of why) planned) [] refl (λ was. was)
+                    (record { plan = refl; kept_is = sym (append-nil before.kept) }) advances;
                 is = is;
                 course_is = course_is;
               }
-              by (stopped became later advances down cut leaves tries) = absurd (false≢true (sym goes ∙ cut))
+              by (stopped became later advances down cut leaves tries) =
+                  absurd (false≢true (sym goes ∙ cut))
 
-      pub is_ended : (why : Refusal) → Settles new pair journal what (due.Ends why) → TriesBy new what None tried (due.Ends why) → Ends new tried pair taken journal before [] course left right (Early why)
-      is_ended why settles tries = ends_at pair taken journal before new tried planned what course left right why is (became (due.Ends why) settles tries)
+      pub is_ended : (why : Refusal) → Settles new pair journal what (due.Ends why) →
+          TriesBy new what None tried (due.Ends why) →
+          Ends new tried pair taken journal before [] course left right (Early why)
+      is_ended why settles tries =
+          ends_at pair taken journal before new tried planned what course left right why is
+          (became (due.Ends why) settles tries)
 
 -- ---- what is carried
 
 -- nothing was asked yet for what is carried
-pub fresh_for : PlanIsOrderly → (archive : model.Archive) (course : Course) (left right : Found) (reached : Reached) (is : IsCourse course left right reached) (planned : Planned) (at : slice_get (plan_in course left right) course.cursor ≡ Some planned) (carried : Carried) → IsCarriedFor archive carried planned course.cursor → (all : List Exchange) → AreAskedBefore (plan_in course left right) course.cursor all → IsFresh (carriage_of carried.transfer) all
+pub fresh_for : PlanIsOrderly → (archive : model.Archive) (course : Course) (left right : Found)
+    (reached : Reached) (is : IsCourse course left right reached) (planned : Planned)
+    (at : slice_get (plan_in course left right) course.cursor ≡ Some planned) (carried : Carried) →
+    IsCarriedFor archive carried planned course.cursor → (all : List Exchange) →
+    AreAskedBefore (plan_in course left right) course.cursor all →
+    IsFresh (carriage_of carried.transfer) all
 fresh_for orderly archive course left right reached is planned at carried carries all asked =
-    is_fresh (plan_in course left right) (named_once left right is.made.0 (items_of course.items.items) is.made.1 orderly) course.cursor planned at (carriage_of carried.transfer) carries.carriage.item_is carries.carriage.path_is all asked
+    is_fresh (plan_in course left right) (named_once left right is.made.0
+    (items_of course.items.items) is.made.1 orderly) course.cursor planned at
+    (carriage_of carried.transfer) carries.carriage.item_is carries.carriage.path_is all asked

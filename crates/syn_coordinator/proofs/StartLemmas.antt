@@ -1,11 +1,15 @@
 -- A start is the step of a coordinator that starts.
-use Rattle.std.proofs.Common.{◌≡◌, ◌≢◌, ◌<◌, ◌^◌, ℕ, ◌-◌, ◌+◌, ◌==◌, Bool, true, false, not, nat_le, if◌then◌else◌, [], ◌∷◌, Option, Some, None, refl, sym, ap, ◌∙◌, arith, ◌++◌, List, subst, inl, inr}
+use Rattle.std.proofs.Common.{◌≡◌, ◌≢◌, ◌<◌, ◌^◌, ℕ, ◌-◌, ◌+◌, ◌==◌, Bool, true, false, not, nat_le}
+use Rattle.std.proofs.Common.{if◌then◌else◌, [], ◌∷◌, Option, Some, None, refl, sym, ap, ◌∙◌, arith}
+use Rattle.std.proofs.Common.{◌++◌, List, subst, inl, inr}
 use Rattle.std.proofs.lemmas.Bool.{false≢true}
 use Rattle.std.proofs.lemmas.Option.{none-some}
 use Rattle.std.proofs.lemmas.Bool.Decides.{nat_tests}
 use Rattle.std.specs.Prelude.{is_some, ◌&&◌}
 use Rattle.syn_disk.specs.declared.disk.Disk.{Ghosts}
-use Rattle.syn_headline.specs.Coordinator.{CoordinatorMachine, CoordinatorStarts, Keeps, starts, start_breaks, archive_layout, new_session, begins, sent_now}
+use Rattle.syn_headline.specs.Coordinator.{CoordinatorMachine, CoordinatorStarts, Keeps, starts}
+use Rattle.syn_headline.specs.Coordinator.{start_breaks, archive_layout, new_session, begins}
+use Rattle.syn_headline.specs.Coordinator.{sent_now}
 use Rattle.syn_headline.specs.Machine.{Up, Halted, Down, Status, has_room}
 use Rattle.syn_headline.specs.World.{is_halted}
 use Rattle.syn_model.specs.Archive as model
@@ -13,13 +17,15 @@ use Rattle.syn_model.specs.Archive.{CanKeep, Session}
 use Rattle.syn_model.specs.Limits.{greatest}
 use Rattle.syn_model.specs.Refusal.{Refusal, Full, BadMessage, first_cause, Cause}
 use Rattle.syn_model.specs.Refusal as why
-use Rattle.syn_coordinator.specs.Coordinators.{Does, Stands, ended_in, in_report, report_shown, runs, all_causes, goes_on, goes_down, refusals_of}
+use Rattle.syn_coordinator.specs.Coordinators.{Does, Stands, ended_in, in_report, report_shown}
+use Rattle.syn_coordinator.specs.Coordinators.{runs, all_causes, goes_on, goes_down, refusals_of}
 use Rattle.syn_coordinator.specs.declared.coordinator.Coordinator.{Coordinator}
 use Rattle.syn_session.specs.Sessions.{IsRunning, IsSession, begun}
 use Rattle.syn_session.specs.declared.session.Session.{Session as Ran}
 use Rattle.syn_keep.specs.Machines.{IsMachine, Journal}
 use Rattle.syn_keep.specs.Tries.{HoldsTried, IsShown, Tries}
-use Rattle.syn_coordinator.proofs.TriedLemmas.{failed_at, fits_in, kept_quiet, tries_held, tries_none}
+use Rattle.syn_coordinator.proofs.TriedLemmas.{failed_at, fits_in, kept_quiet, tries_held}
+use Rattle.syn_coordinator.proofs.TriedLemmas.{tries_none}
 use Rattle.syn_archive.specs.declared.archive.Archive.{Archive}
 use Rattle.syn_keep.specs.Steps.{KeepsSo, moves_on, moves_down}
 
@@ -37,18 +43,21 @@ unfolding is_up
 halted_not_up halted up = false≢true (sym (ap is_up halted) ∙ ap is_up up)
 
 -- a first cause stays the first before others, and want of memory is the first where there is none
-pub still_first : (xs ys : List Cause) (w : Refusal) → first_cause xs ≡ Some w → first_cause (xs ++ ys) ≡ Some w
+pub still_first : (xs ys : List Cause) (w : Refusal) → first_cause xs ≡ Some w →
+    first_cause (xs ++ ys) ≡ Some w
 still_first [] ys w e = absurd (none-some _ e)
 still_first ((true, v) ∷ xs) ys w e = e
 still_first ((false, v) ∷ xs) ys w e = still_first xs ys w e
 
-pub then_memory : (xs : List Cause) → first_cause xs ≡ None → first_cause (xs ++ (true, why.Memory) ∷ []) ≡ Some why.Memory
+pub then_memory : (xs : List Cause) → first_cause xs ≡ None →
+    first_cause (xs ++ (true, why.Memory) ∷ []) ≡ Some why.Memory
 then_memory [] e = refl
 then_memory ((true, v) ∷ xs) e = absurd (none-some _ (sym e))
 then_memory ((false, v) ∷ xs) e = then_memory xs e
 
 -- where no cause of four stands, the last does not
-last_of_four : (a b c d : Bool) (v w x y : Refusal) → first_cause ((a, v) ∷ (b, w) ∷ (c, x) ∷ (not d, y) ∷ []) ≡ None → d ≡ true
+last_of_four : (a b c d : Bool) (v w x y : Refusal) →
+    first_cause ((a, v) ∷ (b, w) ∷ (c, x) ∷ (not d, y) ∷ []) ≡ None → d ≡ true
 last_of_four a b c true v w x y none = refl
 last_of_four true b c false v w x y none = absurd (none-some _ (sym none))
 last_of_four false true c false v w x y none = absurd (none-some _ (sym none))
@@ -56,30 +65,51 @@ last_of_four false false true false v w x y none = absurd (none-some _ (sym none
 last_of_four false false false false v w x y none = absurd (none-some _ (sym none))
 
 -- so a session that starts has room for its record
-pub room_for : (pair : ℕ) (machine : CoordinatorMachine) → first_cause (refusals_of pair machine) ≡ None → has_room (archive_layout pair) machine.journal (Session (machine.journal.value.last_session + 1)) ≡ true
-room_for pair machine none = last_of_four (is_halted machine.journal.status) (is_some machine.running) (nat_le greatest machine.journal.value.last_session) (has_room (archive_layout pair) machine.journal (Session (machine.journal.value.last_session + 1))) why.Halted why.Busy why.Full why.JournalFull none
+pub room_for : (pair : ℕ) (machine : CoordinatorMachine) →
+    first_cause (refusals_of pair machine) ≡ None → has_room (archive_layout pair) machine.journal
+    (Session (machine.journal.value.last_session + 1)) ≡ true
+room_for pair machine none =
+    last_of_four (is_halted machine.journal.status) (is_some machine.running)
+    (nat_le greatest machine.journal.value.last_session) (has_room
+    (archive_layout pair) machine.journal (Session (machine.journal.value.last_session + 1)))
+    why.Halted why.Busy why.Full why.JournalFull none
 
 -- by what each of the causes is
 abbrev pub first_of : Bool → Bool → Bool → Bool → Option Refusal
-first_of halted busy full no_room = first_cause ((halted, why.Halted) ∷ (busy, why.Busy) ∷ (full, why.Full) ∷ (no_room, why.JournalFull) ∷ (true, why.Memory) ∷ [])
+first_of halted busy full no_room =
+    first_cause ((halted, why.Halted) ∷ (busy, why.Busy) ∷ (full, why.Full)
+    ∷ (no_room, why.JournalFull) ∷ (true, why.Memory) ∷ [])
 
-pub causes_are : (pair : ℕ) (machine : CoordinatorMachine) (halted busy full no_room : Bool) → is_halted machine.journal.status ≡ halted → is_some machine.running ≡ busy → nat_le greatest machine.journal.value.last_session ≡ full →
-    not (has_room (archive_layout pair) machine.journal (Session (machine.journal.value.last_session + 1))) ≡ no_room → first_cause (all_causes pair machine) ≡ first_of halted busy full no_room
+pub causes_are : (pair : ℕ) (machine : CoordinatorMachine) (halted busy full no_room : Bool) →
+    is_halted machine.journal.status ≡ halted → is_some machine.running ≡ busy →
+    nat_le greatest machine.journal.value.last_session ≡ full → not (has_room (archive_layout pair)
+    machine.journal (Session (machine.journal.value.last_session + 1))) ≡ no_room →
+    first_cause (all_causes pair machine) ≡ first_of halted busy full no_room
 causes_are pair machine halted busy full no_room h b f r =
-    ap (λ x. first_of x (is_some machine.running) (nat_le greatest machine.journal.value.last_session) (not (has_room (archive_layout pair) machine.journal (Session (machine.journal.value.last_session + 1))))) h
-    ∙ (ap (λ x. first_of halted x (nat_le greatest machine.journal.value.last_session) (not (has_room (archive_layout pair) machine.journal (Session (machine.journal.value.last_session + 1))))) b
-    ∙ (ap (λ x. first_of halted busy x (not (has_room (archive_layout pair) machine.journal (Session (machine.journal.value.last_session + 1))))) f
+    ap (λ x. first_of x (is_some machine.running)
+    (nat_le greatest machine.journal.value.last_session) (not (has_room
+    (archive_layout pair) machine.journal (Session (machine.journal.value.last_session + 1))))) h
+    ∙ (ap
+    (λ x. first_of halted x (nat_le greatest machine.journal.value.last_session) (not (has_room
+    (archive_layout pair) machine.journal (Session (machine.journal.value.last_session + 1))))) b
+    ∙ (ap (λ x. first_of halted busy x (not (has_room (archive_layout pair) machine.journal
+    (Session (machine.journal.value.last_session + 1))))) f
     ∙ ap (λ x. first_of halted busy full x) r))
 
 -- a machine that is up makes no change
-pub idle_when_up : {D : Type 0} {disk : Ghosts D} (archive : Archive D disk) (pair : ℕ) (journal : Journal) → IsMachine archive pair journal → journal.status ≡ Up → journal.writing ≡ None
+pub idle_when_up : {D : Type 0} {disk : Ghosts D} (archive : Archive D disk) (pair : ℕ)
+    (journal : Journal) → IsMachine archive pair journal → journal.status ≡ Up →
+    journal.writing ≡ None
 idle_when_up archive pair journal is up = elim is.state as (λ _. journal.writing ≡ None) [
   | inl runs ↦ runs.idle
   | inr fails ↦ absurd (halted_not_up fails.halted up)
 ]
 
 -- no session runs
-pub no_session : {D : Type 0} {disk : Ghosts D} (coordinator : Coordinator D disk) (pair : ℕ) (journal : Journal) → IsMachine coordinator.archive pair journal → coordinator.running ≡ None → Tries pair coordinator.tried journal → Stands coordinator pair (record { journal = journal; running = None })
+pub no_session : {D : Type 0} {disk : Ghosts D} (coordinator : Coordinator D disk) (pair : ℕ)
+    (journal : Journal) → IsMachine coordinator.archive pair journal → coordinator.running ≡ None →
+    Tries pair coordinator.tried journal →
+    Stands coordinator pair (record { journal = journal; running = None })
 no_session coordinator pair journal is running tries = record {
   journal = is;
   running = subst (λ s. IsRunning journal.value s None) (sym running) tt;
@@ -88,7 +118,8 @@ no_session coordinator pair journal is running tries = record {
   tries = tries;
 }
 
-module _ {D : Type 0} {disk : Ghosts D} (old new : Coordinator D disk) (pair : ℕ) (machine : CoordinatorMachine) (idle : runs old ≡ false) where
+module _ {D : Type 0} {disk : Ghosts D} (old new : Coordinator D disk) (pair : ℕ)
+    (machine : CoordinatorMachine) (idle : runs old ≡ false) where
   -- no report stands for it
   no_report : [] ≡ ended_in old new
   no_report = sym (ap (λ b. if b && not (runs new) then in_report (report_shown new) else []) idle)
@@ -98,26 +129,51 @@ module _ {D : Type 0} {disk : Ghosts D} (old new : Coordinator D disk) (pair : �
 
   module _ (session_fits : number < 2 ^ 64) (pair_fits : pair < 2 ^ 64) where
     -- both sides are to begin the session
-    pub started : machine.journal.writing ≡ None → new.tried ≡ None → (session : Ran) → new.running ≡ Some session → ((archive : model.Archive) → IsSession archive session (begun number pair)) → KeepsSo new.archive pair machine.journal (Session number) (Session number ∷ []) Up →
-        Does old new pair (CoordinatorStarts pair machine) (Session number ∷ []) (sent_now (new_session number) (begins pair) (begins pair))
+    pub started : machine.journal.writing ≡ None → new.tried ≡ None → (session : Ran) →
+        new.running ≡ Some session →
+        ((archive : model.Archive) → IsSession archive session (begun number pair)) →
+        KeepsSo new.archive pair machine.journal (Session number) (Session number ∷ []) Up →
+        Does old new pair (CoordinatorStarts pair machine) (Session number ∷ [])
+        (sent_now (new_session number) (begins pair) (begins pair))
     started quiet untried session running begins (moves_on journal (keeps, shown) up is) =
         goes_on _ _ (starts number journal refl (session_fits, pair_fits) keeps up) (record {
           journal = is;
-          running = subst (λ s. IsRunning journal.value s (Some (begun number pair))) (sym running) (begins journal.value);
+          running =
+              subst (λ s. IsRunning journal.value s (Some (begun number pair))) (sym running)
+              (begins journal.value);
           quiet = λ _. idle_when_up new.archive pair journal is up;
           untried = λ _. untried;
-          tries = tries_none pair new.tried journal untried (idle_when_up new.archive pair journal is up);
+          tries =
+              tries_none pair new.tried journal untried
+              (idle_when_up new.archive pair journal is up);
         }) refl refl no_report
-    started quiet untried session running begins (moves_down journal (keeps, shown) stopped down leaves) =
-        goes_down _ _ (start_breaks number journal (Session number ∷ []) refl keeps (not_up down)) stopped down leaves refl (tries_none pair new.tried journal untried (kept_quiet pair machine.journal journal (Session number) (Session number) keeps quiet))
+    started quiet untried session running begins
+        (moves_down journal (keeps, shown) stopped down leaves) =
+        goes_down _ _ (start_breaks number journal (Session number ∷ []) refl keeps (not_up down))
+        stopped down leaves refl (tries_none pair new.tried journal untried
+        (kept_quiet pair machine.journal journal (Session number) (Session number) keeps quiet))
 
   -- and what was being written is remembered
-  remembers : (quiet : machine.journal.writing ≡ None) (held : HoldsTried new.archive (Session number) new.tried) → has_room (archive_layout pair) machine.journal (Session number) ≡ true → (journal : Journal) → Keeps pair machine.journal (Session number) journal [] → IsShown new.archive pair journal → journal.status ≢ Up → Tries pair new.tried journal
-  remembers quiet held has journal keeps shown stops = tries_held pair new.archive (Session number) new.tried journal held stops shown (failed_at pair machine.journal journal (Session number) keeps quiet) (fits_in pair machine.journal journal (Session number) keeps quiet has)
+  remembers : (quiet : machine.journal.writing ≡ None)
+      (held : HoldsTried new.archive (Session number) new.tried) →
+      has_room (archive_layout pair) machine.journal (Session number) ≡ true → (journal : Journal) →
+      Keeps pair machine.journal (Session number) journal [] → IsShown new.archive pair journal →
+      journal.status ≢ Up → Tries pair new.tried journal
+  remembers quiet held has journal keeps shown stops =
+      tries_held pair new.archive (Session number) new.tried journal held stops shown
+      (failed_at pair machine.journal journal (Session number) keeps quiet)
+      (fits_in pair machine.journal journal (Session number) keeps quiet has)
 
   -- the device failed as the number was kept
-  pub start_failed : machine.journal.writing ≡ None → HoldsTried new.archive (Session number) new.tried → has_room (archive_layout pair) machine.journal (Session number) ≡ true → new.running ≡ None → KeepsSo new.archive pair machine.journal (Session number) [] Halted → Does old new pair (CoordinatorStarts pair machine) [] []
+  pub start_failed : machine.journal.writing ≡ None →
+      HoldsTried new.archive (Session number) new.tried →
+      has_room (archive_layout pair) machine.journal (Session number) ≡ true → new.running ≡ None →
+      KeepsSo new.archive pair machine.journal (Session number) [] Halted →
+      Does old new pair (CoordinatorStarts pair machine) [] []
   start_failed quiet held has running (moves_on journal (keeps, shown) halted is) =
-      goes_on _ _ (start_breaks number journal [] refl keeps (halted_not_up halted)) (no_session new pair journal is running (remembers quiet held has journal keeps shown (halted_not_up halted))) refl refl no_report
+      goes_on _ _ (start_breaks number journal [] refl keeps (halted_not_up halted))
+      (no_session new pair journal is running
+      (remembers quiet held has journal keeps shown (halted_not_up halted))) refl refl no_report
   start_failed quiet held has running (moves_down journal (keeps, shown) stopped down leaves) =
-      goes_down _ _ (start_breaks number journal [] refl keeps (not_up down)) stopped down leaves refl (remembers quiet held has journal keeps shown (not_up down))
+      goes_down _ _ (start_breaks number journal [] refl keeps (not_up down)) stopped down leaves
+      refl (remembers quiet held has journal keeps shown (not_up down))

@@ -1,11 +1,13 @@
 -- How a call goes on through the plan: past an item, or to its end.
-use Rattle.std.proofs.Common.{◌≡◌, ◌⊎◌, ℕ, true, List, [], ◌∷◌, ◌++◌, Option, Some, None, refl, sym, ap, ◌∙◌, subst, inl, inr}
+use Rattle.std.proofs.Common.{◌≡◌, ◌⊎◌, ℕ, true, List, [], ◌∷◌, ◌++◌, Option, Some, None, refl, sym}
+use Rattle.std.proofs.Common.{ap, ◌∙◌, subst, inl, inr}
 use Rattle.std.specs.List.{slice_get}
 use Rattle.std.specs.Option.{option_map_or}
 use Rattle.std.proofs.lemmas.List.{append-nil, append_assoc}
 use Rattle.syn_archive.specs.declared.archive.Archive.{Archive}
 use Rattle.syn_disk.specs.declared.disk.Disk.{Ghosts}
-use Rattle.syn_headline.specs.Coordinator.{Advances, Exchange, EndsFor, IsFor, Running, past, record_for, refusing}
+use Rattle.syn_headline.specs.Coordinator.{Advances, Exchange, EndsFor, IsFor, Running, past}
+use Rattle.syn_headline.specs.Coordinator.{record_for, refusing}
 use Rattle.syn_headline.specs.Coordinator as model
 use Rattle.syn_headline.specs.Machine.{Up}
 use Rattle.syn_headline.specs.Planning.{Planned}
@@ -27,97 +29,179 @@ use Rattle.syn_keep.specs.declared.tried.Tried.{Tried}
 use Rattle.syn_coordinator.specs.inner.Advancing.{Advanced, ended, kept_it, refused_it, stopped}
 use Rattle.syn_session.specs.Passing.{kept_at, past_at, refused_at}
 use Rattle.syn_session.specs.Stages.{IsCourse, Reached}
-use Rattle.syn_coordinator.specs.inner.Walking.{Comes, Ends, HasKept, Passes, ends, goes_down, plan_at, walk_at, ended_by}
+use Rattle.syn_coordinator.specs.inner.Walking.{Comes, Ends, HasKept, Passes, ends, goes_down}
+use Rattle.syn_coordinator.specs.inner.Walking.{plan_at, walk_at, ended_by}
 use Rattle.syn_coordinator.proofs.AdvanceLemmas.{goes_further}
 use Rattle.syn_keep.proofs.DueLemmas.{when_up}
 
 pub keeps_none : (reached : Reached) → HasKept reached reached []
 keeps_none reached = record { plan = refl; kept_is = sym (append-nil reached.kept) }
 
-pub keeps_more : (first middle last : Reached) (before behind : List Kept) → HasKept first middle before → HasKept middle last behind → HasKept first last (before ++ behind)
+pub keeps_more : (first middle last : Reached) (before behind : List Kept) →
+    HasKept first middle before → HasKept middle last behind → HasKept first last (before ++ behind)
 keeps_more first middle last before behind one two = record {
   plan = two.plan ∙ one.plan;
-  kept_is = two.kept_is ∙ (ap (λ l. l ++ behind) one.kept_is ∙ append_assoc first.kept before behind);
+  kept_is =
+      two.kept_is ∙ (ap (λ l. l ++ behind) one.kept_is ∙ append_assoc first.kept before behind);
 }
 
 module _ (pair : ℕ) (taken : Exchange) where
-  same_plan : (before after : Reached) (kept : List Kept) → HasKept before after kept → plan_at after ≡ plan_at before
+  same_plan : (before after : Reached) (kept : List Kept) → HasKept before after kept →
+      plan_at after ≡ plan_at before
   same_plan before after kept has = ap (λ plan. option_map_or (λ plan. plan) plan []) has.plan
 
   -- ---- from item to item
 
-  pub passes_none : (journal : Journal) (reached : Reached) → Passes pair taken journal reached journal reached []
-  passes_none journal reached = record { status = refl; quiet = λ was. was; has = keeps_none reached; leads = λ later rest more. more }
+  pub passes_none : (journal : Journal) (reached : Reached) →
+      Passes pair taken journal reached journal reached []
+  passes_none journal reached =
+      record {
+        status = refl;
+        quiet = λ was. was;
+        has = keeps_none reached;
+        leads = λ later rest more. more;
+      }
 
-  module _ (old middle : Journal) (before between : Reached) (kept : List Kept) (first : Passes pair taken old before middle between kept) where
+  module _ (old middle : Journal) (before between : Reached) (kept : List Kept)
+      (first : Passes pair taken old before middle between kept) where
     -- what it does from there on it does from here on
-    pub led : (later : model.Walk) (rest : List Kept) → Advances pair (plan_at between) taken (walk_at middle between) rest later → Advances pair (plan_at before) taken (walk_at old before) (kept ++ rest) later
-    led later rest more = first.leads later rest (subst (λ p. Advances pair p taken (walk_at middle between) rest later) (same_plan before between kept first.has) more)
+    pub led : (later : model.Walk) (rest : List Kept) →
+        Advances pair (plan_at between) taken (walk_at middle between) rest later →
+        Advances pair (plan_at before) taken (walk_at old before) (kept ++ rest) later
+    led later rest more =
+        first.leads later rest (subst (λ p. Advances pair p taken
+        (walk_at middle between) rest later) (same_plan before between kept first.has) more)
 
-    pub passes_more : (new : Journal) (after : Reached) (more : List Kept) → Passes pair taken middle between new after more → Passes pair taken old before new after (kept ++ more)
+    pub passes_more : (new : Journal) (after : Reached) (more : List Kept) →
+        Passes pair taken middle between new after more →
+        Passes pair taken old before new after (kept ++ more)
     passes_more new after more second = record {
       status = second.status ∙ first.status;
       quiet = λ was. second.quiet (first.quiet was);
       has = keeps_more before between after kept more first.has second.has;
-      leads = λ later rest further. subst (λ l. Advances pair (plan_at before) taken (walk_at old before) l later) (sym (append_assoc kept more rest))
-          (led later (more ++ rest) (second.leads later rest (subst (λ p. Advances pair p taken (walk_at new after) rest later) (sym (same_plan before between kept first.has)) further)));
+      leads =
+          λ later rest further. subst
+          (λ l. Advances pair (plan_at before) taken (walk_at old before) l later)
+          (sym (append_assoc kept more rest))
+          (led later (more ++ rest) (second.leads later rest
+          (subst (λ p. Advances pair p taken (walk_at new after) rest later)
+          (sym (same_plan before between kept first.has)) further)));
     }
 
-    module _ {D : Type 0} {disk : Ghosts D} (new : Archive D disk) (more : List Kept) (course : Course) (left right : Found) where
-      pub comes_behind : Comes new pair taken middle between more course left right → Comes new pair taken old before (kept ++ more) course left right
-      comes_behind comes = record { journal = comes.journal; after = comes.after; passes = passes_more comes.journal comes.after more comes.passes; is = comes.is; course_is = comes.course_is }
+    module _ {D : Type 0} {disk : Ghosts D} (new : Archive D disk) (more : List Kept)
+        (course : Course) (left right : Found) where
+      pub comes_behind : Comes new pair taken middle between more course left right →
+          Comes new pair taken old before (kept ++ more) course left right
+      comes_behind comes =
+          record {
+            journal = comes.journal;
+            after = comes.after;
+            passes = passes_more comes.journal
+                comes.after more comes.passes;
+            is = comes.is;
+            course_is = comes.course_is;
+          }
 
-      pub ends_behind : (tried : Option Tried) (how : Ended) → Ends new tried pair taken middle between more course left right how → Ends new tried pair taken old before (kept ++ more) course left right how
+      pub ends_behind : (tried : Option Tried) (how : Ended) →
+          Ends new tried pair taken middle between more course left right how →
+          Ends new tried pair taken old before (kept ++ more) course left right how
       ends_behind tried how (ends walk after advances cursor refused has why is course_is tries) =
-          ends walk after (led walk more advances) cursor refused (keeps_more before between after kept more first.has has)
-          (λ running same. subst (λ s. EndsFor pair running taken s walk (ended_by how)) first.status (why running (same ∙ sym first.has.plan))) is course_is tries
-      ends_behind tried how (goes_down walk advances cut down leaves tries) = goes_down walk (led walk more advances) cut down leaves tries
+          ends walk after (led walk more advances) cursor refused
+          (keeps_more before between after kept more first.has has)
+          (λ running same. subst (λ s. EndsFor pair running taken s walk (ended_by how))
+          first.status (why running (same ∙ sym first.has.plan))) is course_is tries
+      ends_behind tried how (goes_down walk advances cut down leaves tries) =
+          goes_down walk (led walk more advances) cut down leaves tries
 
   -- ---- one item
 
   module _ (old : Journal) (before : Reached) where
-    pub passes_by : (new : Journal) (after : Reached) (kept : List Kept) → new.status ≡ old.status → (old.writing ≡ None → new.writing ≡ None) → HasKept before after kept → Advances pair (plan_at before) taken (walk_at old before) kept (walk_at new after) → Passes pair taken old before new after kept
+    pub passes_by : (new : Journal) (after : Reached) (kept : List Kept) → new.status ≡ old.status →
+        (old.writing ≡ None → new.writing ≡ None) → HasKept before after kept →
+        Advances pair (plan_at before) taken (walk_at old before) kept (walk_at new after) →
+        Passes pair taken old before new after kept
     passes_by new after kept same quiet has advances = record {
       status = same;
       quiet = quiet;
       has = has;
-      leads = λ later rest more. goes_further pair (plan_at before) taken (walk_at old before) (walk_at new after) later kept rest advances same more;
+      leads =
+          λ later rest more. goes_further pair (plan_at before) taken (walk_at old before)
+          (walk_at new after) later kept rest advances same more;
     }
 
-    module _ (planned : Planned) (at : slice_get (plan_at before) before.cursor ≡ Some planned) where
-      pub passes_conflict : (path : Path) → planned.item ≡ Conflict path → Passes pair taken old before old (past_at before) []
+    module _ (planned : Planned)
+        (at : slice_get (plan_at before) before.cursor ≡ Some planned) where
+      pub passes_conflict : (path : Path) → planned.item ≡ Conflict path →
+          Passes pair taken old before old (past_at before) []
       passes_conflict path is =
-          passes_by old (past_at before) [] refl (λ was. was) (record { plan = refl; kept_is = sym (append-nil before.kept) })
-          (model.conflicts (walk_at old before) (walk_at old (past_at before)) [] planned path refl at is (model.stands (walk_at old (past_at before))))
+          passes_by old (past_at before)
+          [] refl (λ was. was) (record { plan = refl; kept_is = sym (append-nil before.kept) })
+          (model.conflicts (walk_at old before) (walk_at old (past_at before))
+          [] planned path refl at is (model.stands (walk_at old (past_at before))))
 
       -- a side refused what was asked for the item
-      pub passes_refused : (why : Refusal) → taken.reply ≡ Refused why → IsFor before.cursor planned taken.request → Passes pair taken old before old (refused_at before why planned) []
+      pub passes_refused : (why : Refusal) → taken.reply ≡ Refused why →
+          IsFor before.cursor planned taken.request →
+          Passes pair taken old before old (refused_at before why planned) []
       passes_refused why refused asked =
-          passes_by old (refused_at before why planned) [] refl (λ was. was) (record { plan = refl; kept_is = sym (append-nil before.kept) })
-          (model.side_refuses (walk_at old before) (walk_at old (refused_at before why planned)) [] planned why refl at refused asked (model.stands (walk_at old (refused_at before why planned))))
+          passes_by old (refused_at before why planned)
+          [] refl (λ was. was) (record { plan = refl; kept_is = sym (append-nil before.kept) })
+          (model.side_refuses (walk_at old before) (walk_at old (refused_at before why planned))
+          [] planned why refl at refused asked
+          (model.stands (walk_at old (refused_at before why planned))))
 
       -- the archive refuses its record
-      pub passes_unfit : (what : Kept) (why : Refusal) → record_for planned planned.item ≡ Some what → (is_carrying planned.item ≡ true) ⊎ (old.status ≡ Up) → kept_refusal old.value what ≡ Some why → Passes pair taken old before old (refused_at before why planned) []
+      pub passes_unfit : (what : Kept) (why : Refusal) →
+          record_for planned planned.item ≡ Some what →
+          (is_carrying planned.item ≡ true) ⊎ (old.status ≡ Up) →
+          kept_refusal old.value what ≡ Some why →
+          Passes pair taken old before old (refused_at before why planned) []
       passes_unfit what why is up refused =
-          passes_by old (refused_at before why planned) [] refl (λ was. was) (record { plan = refl; kept_is = sym (append-nil before.kept) })
-          (model.archive_refuses (walk_at old before) (walk_at old (refused_at before why planned)) [] planned what why refl at is up refused (model.stands (walk_at old (refused_at before why planned))))
+          passes_by old (refused_at before why planned)
+          [] refl (λ was. was) (record { plan = refl; kept_is = sym (append-nil before.kept) })
+          (model.archive_refuses (walk_at old before) (walk_at old (refused_at before why planned))
+          [] planned what why refl at is up refused
+          (model.stands (walk_at old (refused_at before why planned))))
 
     -- ---- what became of its record
 
-    module _ {D : Type 0} {disk : Ghosts D} (new : Archive D disk) (tried : Option Tried) (planned : Planned) (what : Kept) (course : Course) (left right : Found) where
+    module _ {D : Type 0} {disk : Ghosts D} (new : Archive D disk) (tried : Option Tried)
+        (planned : Planned) (what : Kept) (course : Course) (left right : Found) where
       -- it is kept, or the machine is down
-      pub passes_kept : old.status ≡ Up → Advanced new tried pair (plan_at before) taken (walk_at old before) planned what due.Recorded →
-          ((journal : Journal) × Passes pair taken old before journal (kept_at before what) (what ∷ []) × IsMachine new pair journal) ⊎ ((how : Ended) → Ends new tried pair taken old before (what ∷ []) course left right how)
-      passes_kept was (kept_it journal advances up is) = inl (journal, passes_by journal (kept_at before what) (what ∷ []) (up ∙ sym was) (λ _. (when_up new pair journal is up).idle) (record { plan = refl; kept_is = refl }) advances, is)
-      passes_kept was (stopped became walk advances down cut leaves tries) = inr (λ how. goes_down walk advances cut down leaves tries)
+      pub passes_kept : old.status ≡ Up → Advanced new tried pair (plan_at before) taken
+          (walk_at old before) planned what due.Recorded → ((journal : Journal) × Passes pair taken
+          old before journal (kept_at before what) (what ∷ []) × IsMachine new pair journal)
+          ⊎ ((how : Ended) → Ends new tried pair taken old before (what ∷ []) course left right how)
+      passes_kept was (kept_it journal advances up is) =
+          inl (
+            journal,
+            passes_by journal (kept_at before what) (what ∷ []) (up ∙ sym was)
+                (λ _. (when_up new pair journal is up).idle)
+                (record { plan = refl; kept_is = refl }) advances,
+            is,
+          )
+      passes_kept was (stopped became walk advances down cut leaves tries) =
+          inr (λ how. goes_down walk advances cut down leaves tries)
 
       -- it is refused, or the session ends there, or the machine is down
-      pub passes_due_refused : (why : Why) → Advanced new tried pair (plan_at before) taken (walk_at old before) planned what (due.Refused why) →
-          (Passes pair taken old before old (refused_at before (cause_of why) planned) [] × IsMachine new pair old) ⊎ ((how : Ended) → Ends new tried pair taken old before [] course left right how)
-      passes_due_refused why (refused_it why' advances is) = inl (passes_by old (refused_at before (cause_of why) planned) [] refl (λ was. was) (record { plan = refl; kept_is = sym (append-nil before.kept) }) advances, is)
-      passes_due_refused why (stopped became walk advances down cut leaves tries) = inr (λ how. goes_down walk advances cut down leaves tries)
+      pub passes_due_refused : (why : Why) → Advanced new tried pair (plan_at before) taken
+          (walk_at old before) planned what (due.Refused why) → (Passes pair taken old before old
+          (refused_at before (cause_of why) planned) [] × IsMachine new pair old)
+          ⊎ ((how : Ended) → Ends new tried pair taken old before [] course left right how)
+      passes_due_refused why (refused_it why' advances is) =
+          inl (
+            passes_by old (refused_at before (cause_of why) planned) [] refl (λ was. was)
+                (record { plan = refl; kept_is = sym (append-nil before.kept) }) advances,
+            is,
+          )
+      passes_due_refused why (stopped became walk advances down cut leaves tries) =
+          inr (λ how. goes_down walk advances cut down leaves tries)
 
-      pub ends_at : (why : Why) → IsCourse course left right before → Advanced new tried pair (plan_at before) taken (walk_at old before) planned what (due.Ends why) → Ends new tried pair taken old before [] course left right (Early why)
+      pub ends_at : (why : Why) → IsCourse course left right before → Advanced new tried pair
+          (plan_at before) taken (walk_at old before) planned what (due.Ends why) →
+          Ends new tried pair taken old before [] course left right (Early why)
       ends_at why course_is (ended why' walk advances cursor refused for is tries) =
-          ends walk before advances cursor refused (keeps_none before) (λ running same. for running (ap (λ plan. option_map_or (λ plan. plan) plan []) same)) is course_is tries
-      ends_at why course_is (stopped became walk advances down cut leaves tries) = goes_down walk advances cut down leaves tries
+          ends walk before advances cursor refused (keeps_none before) (λ running same. for running
+          (ap (λ plan. option_map_or (λ plan. plan) plan []) same)) is course_is tries
+      ends_at why course_is (stopped became walk advances down cut leaves tries) =
+          goes_down walk advances cut down leaves tries

@@ -4,28 +4,54 @@ use Rattle.std.specs.Prelude.{IfSome}
 use Rattle.syn_model.specs.Event.{Edited}
 use Rattle.syn_headline.specs.Side.{Staging}
 use Rattle.syn_headline.specs.Network.{Which}
-use Rattle.syn_headline.proofs.Coarse.{World, side_of, Follows, same, edits, opens, changes, serves, starts_session, ticks_once, takes_answer, archive_changes, archive_opens, archive_recovers}
+use Rattle.syn_headline.proofs.Coarse.{World, side_of, Follows, same, edits, opens, changes, serves}
+use Rattle.syn_headline.proofs.Coarse.{starts_session, ticks_once, takes_answer, archive_changes}
+use Rattle.syn_headline.proofs.Coarse.{archive_opens, archive_recovers}
 use Rattle.syn_headline.proofs.Invariant.{Plans, histories_of, IsSoundStaging, IsKept}
-use Rattle.syn_headline.proofs.RunLemmas.{Advances, next_same, stays, side_settles, was_written, writes_advances, opens_advances, request_advances, start_advances, tick_with, take_with, archive_changes_so, archive_opens_so, archive_recovers_so}
+use Rattle.syn_headline.proofs.SideRuns.{Advances, next_same, stays, side_settles, was_written}
+use Rattle.syn_headline.proofs.SideRuns.{writes_advances, opens_advances, request_advances}
+use Rattle.syn_headline.proofs.CoordinatorRuns.{start_advances, tick_with, take_with}
+use Rattle.syn_headline.proofs.CoordinatorRuns.{archive_changes_so}
+use Rattle.syn_headline.proofs.CoordinatorRuns.{archive_opens_so, archive_recovers_so}
 
 -- what is staged stays so, or nothing is
-staged_still : (plans : Plans) (old : World) → IsKept plans old → (which : Which) (staging : Option Staging) → (staging ≡ (side_of old which).side.staging) ⊎ (staging ≡ None) → IfSome staging (IsSoundStaging plans (histories_of old) which)
-staged_still plans old k which staging (inl still) = subst (λ o. IfSome o (IsSoundStaging plans (histories_of old) which)) (sym still) (k.sides which).staged
-staged_still plans old k which staging (inr none) = subst (λ o. IfSome o (IsSoundStaging plans (histories_of old) which)) (sym none) tt
+staged_still : (plans : Plans) (old : World) → IsKept plans old → (which : Which)
+    (staging : Option Staging) → (staging ≡ (side_of old which).side.staging) ⊎ (staging ≡ None) →
+    IfSome staging (IsSoundStaging plans (histories_of old) which)
+staged_still plans old k which staging (inl still) =
+    subst (λ o. IfSome o (IsSoundStaging plans (histories_of old) which)) (sym still)
+    (k.sides which).staged
+staged_still plans old k which staging (inr none) =
+    subst (λ o. IfSome o (IsSoundStaging plans (histories_of old) which)) (sym none) tt
 
 -- each step keeps the invariant, and its replacements are legal
-pub step_advances : (plans : Plans) (old : World) (k : IsKept plans old) (new : World) → Follows old new → Advances plans old new
+pub step_advances : (plans : Plans) (old : World) (k : IsKept plans old) (new : World) →
+    Follows old new → Advances plans old new
 step_advances plans old k new (same e) = stays plans old new k e
-step_advances plans old k new (edits which user edit machine events allowed up g e) = writes_advances plans old k which (Edited user edit) allowed tt machine events new up g e
-step_advances plans old k new (opens which machine events g e) = opens_advances plans old k which machine events new g e
+step_advances plans old k new (edits which user edit machine events allowed up g e) =
+    writes_advances plans old k which (Edited user edit) allowed tt machine events new up g e
+step_advances plans old k new (opens which machine events g e) =
+    opens_advances plans old k which machine events new g e
 step_advances plans old k new (changes which status staging up stays e) =
-    side_settles plans old k which (record (side_of old which) { status = status; side = record { history = (side_of old which).side.history; staging = staging } }) new refl (staged_still plans old k which staging stays)
-    (was_written plans old k which status up (record { history = (side_of old which).side.history; staging = staging }) refl) (e ∙ next_same old which _)
-step_advances plans old k new (serves which session number request asked g) = request_advances plans old k which session number request asked new g
+    side_settles plans old k which (record (side_of old which) {
+      status = status;
+      side = record { history = (side_of old which).side.history; staging = staging };
+    }) new refl
+    (staged_still plans old k which staging stays)
+    (was_written plans old k which status up
+    (record { history = (side_of old which).side.history; staging = staging }) refl)
+    (e ∙ next_same old which _)
+step_advances plans old k new (serves which session number request asked g) =
+    request_advances plans old k which session number request asked new g
 step_advances plans old k new (starts_session g reports) = start_advances plans old k new g
-step_advances plans old k new (ticks_once g reports) = tick_with plans old k new old.coordinator.running refl g
-step_advances plans old k new (takes_answer from session number reply plan logged heard expected made g reports) =
-    take_with plans old k new from session number reply plan logged heard old.coordinator.running refl expected made g
-step_advances plans old k new (archive_changes status running up stays e) = archive_changes_so plans old k new status running up stays e
+step_advances plans old k new (ticks_once g reports) =
+    tick_with plans old k new old.coordinator.running refl g
+step_advances plans old k new
+    (takes_answer from session number reply plan logged heard expected made g reports) =
+    take_with plans old k new from session number reply plan logged heard old.coordinator.running
+    refl expected made g
+step_advances plans old k new (archive_changes status running up stays e) =
+    archive_changes_so plans old k new status running up stays e
 step_advances plans old k new (archive_opens e) = archive_opens_so plans old k new e
-step_advances plans old k new (archive_recovers kept is can e) = archive_recovers_so plans old k new kept is can e
+step_advances plans old k new (archive_recovers kept is can e) =
+    archive_recovers_so plans old k new kept is can e

@@ -1,20 +1,29 @@
--- A coarser picture of the world, by which the proofs go: no rooms, generations, arms and transcripts.
+-- A coarser picture of the world, by which the proofs go: no rooms, generations, arms and
+-- transcripts.
 use Rattle.std.specs.Option.{option_map_or}
 use Rattle.std.specs.List.{count_by}
-use Rattle.std.specs.Prelude.{ℕ, true, ◌≤◌, ◌+◌, fold, filter_map, ◌≡◌, ◌≢◌, ◌⊎◌, ◌&&◌, Bool, List, [], ◌∷◌, ◌++◌, slice_get, map, Option, Some, None, Contains, IfSome, IsSome, IsSomeAnd, All, Any, length}
+use Rattle.std.specs.Prelude.{ℕ, true, ◌≤◌, ◌+◌, fold, filter_map, ◌≡◌, ◌≢◌, ◌⊎◌, ◌&&◌, Bool, List}
+use Rattle.std.specs.Prelude.{[], ◌∷◌, ◌++◌, slice_get, map, Option, Some, None, Contains, IfSome}
+use Rattle.std.specs.Prelude.{IsSome, IsSomeAnd, All, Any, length}
 use Rattle.syn_model.specs.Path.{Path}
 use Rattle.syn_model.specs.Refusal.{Device}
 use Rattle.syn_model.specs.Event.{Edit, Event, Edited}
 use Rattle.syn_model.specs.History.{IsAllowed}
-use Rattle.syn_model.specs.Archive.{Archive, Kept, Session, Recorded, RecordedDir, CanKeep, after_kept, archive_of}
-use Rattle.syn_headline.specs.Side.{Request, Begin, ListAt, Fetch, Stage, Replace, Reply, Piece, Done, Refused, IsLawfulRequest, Side, Staging, Served, Serves, add_event}
+use Rattle.syn_model.specs.Archive.{Archive, Kept, Session, Recorded, RecordedDir, CanKeep}
+use Rattle.syn_model.specs.Archive.{after_kept, archive_of}
+use Rattle.syn_headline.specs.Side.{Request, Begin, ListAt, Fetch, Stage, Replace, Reply, Piece}
+use Rattle.syn_headline.specs.Side.{Done, Refused, IsLawfulRequest, Side, Staging, Served, Serves}
+use Rattle.syn_headline.specs.Side.{add_event}
 use Rattle.syn_headline.specs.SideMachine.{ServesAs}
-use Rattle.syn_headline.specs.Network.{Which, Left, Right, other, WasAnswered, Message, Asks, Answers, Sent, NumbersTell, AsksNothingTwice}
+use Rattle.syn_headline.specs.Network.{Which, Left, Right, other, WasAnswered, Message, Asks}
+use Rattle.syn_headline.specs.Network.{Answers, Sent, NumbersTell, AsksNothingTwice}
 use Rattle.syn_headline.specs.Machine.{Status, Up, Halted, Down}
 use Rattle.syn_headline.specs.Acknowledged.{Ack, Happened, Kept_by, kept_in}
-use Rattle.syn_headline.specs.Planning.{Planned, seen_on, HasBegun, SessionPlan, Log, IsPlanOf, WritesTo}
+use Rattle.syn_headline.specs.Planning.{Planned, seen_on, HasBegun, SessionPlan, Log, IsPlanOf}
+use Rattle.syn_headline.specs.Planning.{WritesTo}
 use Rattle.syn_model.specs.Decision.{Item, Conflict, MarkSame, MarkDir, path_of}
-use Rattle.syn_headline.specs.Report.{Report, Complete, Incomplete, is_kept, is_carrying, is_marking, conflict_at}
+use Rattle.syn_headline.specs.Report.{Report, Complete, Incomplete, is_kept, is_carrying}
+use Rattle.syn_headline.specs.Report.{is_marking, conflict_at}
 use Rattle.syn_headline.specs.Coordinator.{Outstanding, asked_in, most_outstanding}
 
 -- a side: what it stands for, and which event was being written when it stopped or a device failed
@@ -63,88 +72,128 @@ asked_of running side number = asked_in (outstanding running side) number
 
 -- a machine that stops forgets all but its disk
 abbrev pub stopped : SideMachine → Option Event → SideMachine
-stopped machine writing = record { status = Down; side = record { history = machine.side.history; staging = None }; writing = writing }
+stopped machine writing =
+    record {
+      status = Down;
+      side = record { history = machine.side.history; staging = None };
+      writing = writing;
+    }
 
 -- an event is written and acknowledged, or the device fails, or it is cut off
 pub data Writes (machine : SideMachine) (event : Event) : SideMachine → List Event → Type 0 where
-  written : Writes machine event (record machine { side = add_event machine.side event }) (event ∷ [])
+  written : Writes machine event (record machine { side = add_event machine.side event })
+      (event ∷ [])
   failed : Writes machine event (record machine { status = Halted; writing = Some event }) []
   cut : Writes machine event (stopped machine (Some event)) []
 
 -- an opening gives the history; or the event too that was being written
 pub data Opens (machine : SideMachine) : SideMachine → List Event → Type 0 where
   opened : Opens machine (record machine { status = Up; writing = None }) []
-  recovered : (event : Event) → machine.writing ≡ Some event → IsAllowed machine.side.history event →
-      Opens machine (record { status = Up; side = add_event machine.side event; writing = None }) (event ∷ [])
+  recovered : (event : Event) → machine.writing ≡ Some event →
+      IsAllowed machine.side.history event → Opens machine
+      (record { status = Up; side = add_event machine.side event; writing = None }) (event ∷ [])
 
-pub record AnswersRequest (old : World) (which : Which) (session number : ℕ) (request : Request) (new : World) : Type 0 where
+pub record AnswersRequest (old : World) (which : Which) (session number : ℕ) (request : Request)
+    (new : World) : Type 0 where
   pub served : Served
   pub has_room : Event → Bool
   pub events : List Event
-  pub serves : ServesAs (side_of old which).status old.pair has_room (side_of old which).side session request served
+  pub serves : ServesAs (side_of old which).status old.pair has_room
+      (side_of old which).side session request served
   pub added : served.side.history ≡ (side_of old which).side.history ++ events
-  pub result : new ≡ record (set_side old which (record (side_of old which) { side = served.side })) { sent = old.sent ++ Answers which session number served.reply ∷ []; acknowledged = old.acknowledged ++ map (λ event. Happened which event) events }
+  pub result :
+      new ≡ record (set_side old which (record (side_of old which) { side = served.side })) {
+        sent = old.sent ++ Answers which session number served.reply ∷ [];
+        acknowledged = old.acknowledged ++ map (λ event. Happened which event) events;
+      }
 
--- the event that a request adds to a side that is up, where no device fails and the side does not stop
-pub record WouldAdd (pair : ℕ) (machine : SideMachine) (session : ℕ) (request : Request) (event : Event) : Type 0 where
+-- the event that a request adds to a side that is up, where no device fails and the side does not
+-- stop
+pub record WouldAdd (pair : ℕ) (machine : SideMachine) (session : ℕ) (request : Request)
+    (event : Event) : Type 0 where
   pub served : Served
   pub has_room : Event → Bool
   pub up : machine.status ≡ Up
   pub serves : Serves pair has_room machine.side session request served
   pub adds : served.side.history ≡ machine.side.history ++ event ∷ []
 
-pub data TakesRequest (old : World) (which : Which) (session number : ℕ) (request : Request) (new : World) : Type 0 where
-  answered : AnswersRequest old which session number request new → TakesRequest old which session number request new
+pub data TakesRequest (old : World) (which : Which) (session number : ℕ) (request : Request)
+    (new : World) : Type 0 where
+  answered : AnswersRequest old which session number request new →
+      TakesRequest old which session number request new
   request_failed : (event : Event) → WouldAdd old.pair (side_of old which) session request event →
-      new ≡ record (set_side old which (record (side_of old which) { status = Halted; writing = Some event })) { sent = old.sent ++ Answers which session number (Refused Device) ∷ [] } → TakesRequest old which session number request new
-  request_cut : (event : Event) → WouldAdd old.pair (side_of old which) session request event → new ≡ set_side old which (stopped (side_of old which) (Some event)) →
+      new ≡ record (set_side old which
+      (record (side_of old which) { status = Halted; writing = Some event }))
+      { sent = old.sent ++ Answers which session number (Refused Device) ∷ [] } →
+      TakesRequest old which session number request new
+  request_cut : (event : Event) → WouldAdd old.pair (side_of old which) session request event →
+      new ≡ set_side old which (stopped (side_of old which) (Some event)) →
       TakesRequest old which session number request new
 
 -- The coordinator
 
 -- a piece of the item's source was answered so, for what is to be written to a side
 abbrev pub IsPiece : Sent → Which → ℕ → Planned → ℕ → ℕ → List ℕ → Type 0
-IsPiece sent to session planned offset total bytes = WasAnswered sent (other to) session (Fetch (path_of planned.item) (seen_on planned (other to)).since offset) (Piece total bytes)
+IsPiece sent to session planned offset total bytes =
+    WasAnswered sent (other to) session
+    (Fetch (path_of planned.item) (seen_on planned (other to)).since offset) (Piece total bytes)
 
 -- what is staged for an item was a piece of the source, at the same place
 abbrev pub IsFetched : Sent → Which → ℕ → Planned → ℕ → List ℕ → Type 0
-IsFetched sent to session planned offset bytes = (total : ℕ) × IsPiece sent to session planned offset total bytes
+IsFetched sent to session planned offset bytes =
+    (total : ℕ) × IsPiece sent to session planned offset total bytes
 
 -- the source's pieces said that this is the length of the whole
 abbrev pub IsTotal : Sent → Which → ℕ → Planned → ℕ → Type 0
-IsTotal sent to session planned total = (offset : ℕ) × (bytes : List ℕ) × IsPiece sent to session planned offset total bytes
+IsTotal sent to session planned total =
+    (offset : ℕ) × (bytes : List ℕ) × IsPiece sent to session planned offset total bytes
 
--- a session begins with the pair's number, a side is listed once it has begun it, and what else is asked of it is by an item of the plan:
--- a piece of what it is to give, a piece that was fetched, or its replacement, once the length of the whole is known
+-- a session begins with the pair's number, a side is listed once it has begun it, and what else is
+-- asked of it is by an item of the plan:
+-- a piece of what it is to give, a piece that was fetched, or its replacement, once the length of
+-- the whole is known
 abbrev pub IsOfPlan : ℕ → Sent → ℕ → List Planned → Which → Request → Type 0
 IsOfPlan pair sent session plan to (Begin asked) = Unit {0}
 IsOfPlan pair sent session plan to (ListAt path) = HasBegun sent to session
-IsOfPlan pair sent session plan to (Fetch path since offset) = (item : ℕ) × (planned : Planned) × (slice_get plan item ≡ Some planned) × WritesTo planned.item (other to) path × (since ≡ (seen_on planned to).since)
-IsOfPlan pair sent session plan to (Stage item offset bytes) = (planned : Planned) × (slice_get plan item ≡ Some planned) × IsFetched sent to session planned offset bytes
+IsOfPlan pair sent session plan to (Fetch path since offset) =
+    (item : ℕ) × (planned : Planned) × (slice_get plan item ≡ Some planned)
+    × WritesTo planned.item (other to) path × (since ≡ (seen_on planned to).since)
+IsOfPlan pair sent session plan to (Stage item offset bytes) =
+    (planned : Planned) × (slice_get plan item ≡ Some planned)
+    × IsFetched sent to session planned offset bytes
 IsOfPlan pair sent session plan to (Replace item path since size) =
-    (planned : Planned) × (slice_get plan item ≡ Some planned) × WritesTo planned.item to path × (since ≡ (seen_on planned to).since) × IsTotal sent to session planned size
+    (planned : Planned) × (slice_get plan item ≡ Some planned) × WritesTo planned.item to path
+    × (since ≡ (seen_on planned to).since) × IsTotal sent to session planned size
 
 -- a request of the running session
 abbrev pub IsOfSession : ℕ → Sent → Running → Message → Type 0
-IsOfSession pair sent running (Asks to session number request) = (session ≡ running.session) × IsLawfulRequest session request × IsOfPlan pair sent running.session running.plan to request
+IsOfSession pair sent running (Asks to session number request) =
+    (session ≡ running.session) × IsLawfulRequest session request
+    × IsOfPlan pair sent running.session running.plan to request
 IsOfSession pair sent running (Answers from session number reply) = ⊥
 
--- what may be recorded when an answer is taken: the item whose replacement is done, with the mark of its source, or where both scans agree
-pub data IsDue (running : Running) (plan : List Planned) (from : Which) (number : ℕ) (reply : Reply) : Kept → Type 0 where
+-- what may be recorded when an answer is taken: the item whose replacement is done, with the mark
+-- of its source, or where both scans agree
+pub data IsDue (running : Running) (plan : List Planned) (from : Which) (number : ℕ)
+    (reply : Reply) : Kept → Type 0 where
   done : (item : ℕ) (path : Path) (since size : ℕ) (planned : Planned) → reply ≡ Done →
-      asked_of running from number ≡ Some (Replace item path since size) → slice_get plan item ≡ Some planned →
-      WritesTo planned.item from path → IsDue running plan from number reply (Recorded path (seen_on planned (other from)).marks)
-  same : (item : ℕ) (path : Path) (planned : Planned) → slice_get plan item ≡ Some planned → planned.item ≡ MarkSame path →
-      planned.left.marks ≡ planned.right.marks → IsDue running plan from number reply (Recorded path planned.left.marks)
-  directory : (item : ℕ) (path : Path) (planned : Planned) → slice_get plan item ≡ Some planned → planned.item ≡ MarkDir path →
-      IsDue running plan from number reply (RecordedDir path)
+      asked_of running from number ≡ Some (Replace item path since size) →
+      slice_get plan item ≡ Some planned → WritesTo planned.item from path →
+      IsDue running plan from number reply (Recorded path (seen_on planned (other from)).marks)
+  same : (item : ℕ) (path : Path) (planned : Planned) → slice_get plan item ≡ Some planned →
+      planned.item ≡ MarkSame path → planned.left.marks ≡ planned.right.marks →
+      IsDue running plan from number reply (Recorded path planned.left.marks)
+  directory : (item : ℕ) (path : Path) (planned : Planned) → slice_get plan item ≡ Some planned →
+      planned.item ≡ MarkDir path → IsDue running plan from number reply (RecordedDir path)
 
 abbrev pub AllOfSession : ℕ → Sent → Option Running → List Message → Type 0
 AllOfSession pair sent None messages = messages ≡ []
 AllOfSession pair sent (Some running) messages = All (IsOfSession pair sent running) messages
 
--- a plan is made once in a session, of the scans and the archive as they are; no session prefers a side yet
-pub record MakesPlan (sent : Sent) (archive : Archive) (log : Log) (session : ℕ) (made : SessionPlan) : Type 0 where
+-- a plan is made once in a session, of the scans and the archive as they are; no session prefers a
+-- side yet
+pub record MakesPlan (sent : Sent) (archive : Archive) (log : Log) (session : ℕ)
+    (made : SessionPlan) : Type 0 where
   pub of_session : made.session ≡ session
   pub once : All (λ earlier. earlier.session ≢ session) log
   pub prefers_none : made.preference ≡ None
@@ -153,13 +202,16 @@ pub record MakesPlan (sent : Sent) (archive : Archive) (log : Log) (session : �
 
 -- the plan stays, or it is made, and logged
 abbrev pub HasPlan : Sent → Archive → Log → Option Running → List Planned → Log → Type 0
-HasPlan sent archive log running plan logged = IfSome running (λ running. ((plan ≡ running.plan) × (logged ≡ []))
-    ⊎ ((made : SessionPlan) × MakesPlan sent archive log running.session made × (plan ≡ made.plan) × (logged ≡ made ∷ [])))
+HasPlan sent archive log running plan logged =
+    IfSome running (λ running. ((plan ≡ running.plan) × (logged ≡ []))
+    ⊎ ((made : SessionPlan) × MakesPlan sent archive log running.session made × (plan ≡ made.plan)
+    × (logged ≡ made ∷ [])))
 
 -- a session ends, or goes on with its plan
 pub data GoesOnAs (old : Running) (plan : List Planned) : Option Running → Type 0 where
   ended : GoesOnAs old plan None
-  goes_on : (new : Running) → new.session ≡ old.session → new.plan ≡ plan → GoesOnAs old plan (Some new)
+  goes_on : (new : Running) → new.session ≡ old.session → new.plan ≡ plan →
+      GoesOnAs old plan (Some new)
 
 abbrev pub GoesOnFrom : Option Running → List Planned → Option Running → Type 0
 GoesOnFrom None plan new = new ≡ None
@@ -170,34 +222,47 @@ plan_of running = option_map_or (λ running. running.plan) running []
 
 -- a session starts with the next number
 abbrev pub StartsFrom : Archive → Option Running → Type 0
-StartsFrom archive running = IfSome running (λ new. (new.session ≡ archive.last_session + 1) × (new.plan ≡ []))
+StartsFrom archive running =
+    IfSome running (λ new. (new.session ≡ archive.last_session + 1) × (new.plan ≡ []))
 
 -- a request that waits was sent
 abbrev pub WasSent : Sent → Running → Type 0
-WasSent sent running = (side : Which) → All (λ waiting. Contains sent (Asks side running.session waiting.number waiting.request)) (outstanding running side)
+WasSent sent running =
+    (side : Which) →
+    All (λ waiting. Contains sent (Asks side running.session waiting.number waiting.request))
+    (outstanding running side)
 
 -- it waits for an answer, and on each side for no more than it may at a time
 abbrev pub Waits : Running → Type 0
-Waits running = (1 ≤ length running.left + length running.right) × (length running.left ≤ most_outstanding) × (length running.right ≤ most_outstanding)
+Waits running =
+    (1 ≤ length running.left + length running.right) × (length running.left ≤ most_outstanding)
+    × (length running.right ≤ most_outstanding)
 
--- a running session has the number that the archive kept last, waits for an answer, and what waits was sent
+-- a running session has the number that the archive kept last, waits for an answer, and what waits
+-- was sent
 abbrev pub RunsOver : Sent → Archive → Option Running → Type 0
-RunsOver sent archive running = IfSome running (λ running. (running.session ≡ archive.last_session) × WasSent sent running × Waits running)
+RunsOver sent archive running =
+    IfSome running
+    (λ running. (running.session ≡ archive.last_session) × WasSent sent running × Waits running)
 
 -- each in turn may be kept
 abbrev pub AllCanKeep : Archive → List Kept → Type 0
 AllCanKeep archive [] = Unit {0}
 AllCanKeep archive (kept ∷ more) = CanKeep archive kept × AllCanKeep (after_kept archive kept) more
 
--- what a call of the coordinator keeps, and how it ends: with one more record that the device failed on, or that a stop cut off
-pub record Keeps (old : CoordinatorMachine) (IsDue_now : Kept → Type 0) (new : CoordinatorMachine) (kept : List Kept) : Type 0 where
+-- what a call of the coordinator keeps, and how it ends: with one more record that the device
+-- failed on, or that a stop cut off
+pub record Keeps (old : CoordinatorMachine) (IsDue_now : Kept → Type 0) (new : CoordinatorMachine)
+    (kept : List Kept) : Type 0 where
   pub due : All IsDue_now kept
   pub can : AllCanKeep old.archive kept
   pub archive : new.archive ≡ archive_of old.archive kept
   pub writing : IfSome new.writing (λ more. IsDue_now more × CanKeep new.archive more)
 
--- a call of the coordinator: what it sends is of its session, what it keeps is due, and this is logged
-pub record CoordinatorGoes (old : World) (logged : Log) (IsDue_now : Kept → Type 0) (RunsOn : Option Running → Type 0) (new : World) : Type 0 where
+-- a call of the coordinator: what it sends is of its session, what it keeps is due, and this is
+-- logged
+pub record CoordinatorGoes (old : World) (logged : Log) (IsDue_now : Kept → Type 0)
+    (RunsOn : Option Running → Type 0) (new : World) : Type 0 where
   pub machine : CoordinatorMachine
   pub kept : List Kept
   pub messages : List Message
@@ -210,14 +275,24 @@ pub record CoordinatorGoes (old : World) (logged : Log) (IsDue_now : Kept → Ty
   pub repeats : AsksNothingTwice (old.sent ++ messages)
   pub of_session : AllOfSession old.pair old.sent machine.running messages
   pub silent_when_writing : IsSome machine.writing → (messages ≡ []) × (machine.running ≡ None)
-  pub result : new ≡ record old { coordinator = machine; sent = old.sent ++ messages; acknowledged = old.acknowledged ++ map Kept_by kept; reports = old.reports ++ reports; log = old.log ++ logged }
+  pub result : new ≡ record old {
+    coordinator = machine;
+    sent = old.sent ++ messages;
+    acknowledged = old.acknowledged
+        ++ map Kept_by kept;
+    reports = old.reports ++ reports;
+    log = old.log ++ logged;
+  }
 
 -- the answer has the session and number of a request that is outstanding
 abbrev pub IsExpected : Option Running → Which → ℕ → ℕ → Type 0
-IsExpected running from session number = IsSomeAnd running (λ running. (session ≡ running.session) × IsSome (asked_of running from number))
+IsExpected running from session number =
+    IsSomeAnd running
+    (λ running. (session ≡ running.session) × IsSome (asked_of running from number))
 
 abbrev pub IsDueAfter : Option Running → List Planned → Which → ℕ → Reply → Kept → Type 0
-IsDueAfter running plan from number reply kept = IsSomeAnd running (λ running. IsDue running plan from number reply kept)
+IsDueAfter running plan from number reply kept =
+    IsSomeAnd running (λ running. IsDue running plan from number reply kept)
 
 -- a start takes the next number
 abbrev pub IsNext : Archive → Kept → Type 0
@@ -238,59 +313,100 @@ kept_in_session acks = fold since_start [] (filter_map kept_in acks)
 -- the item is recorded, a conflict or refused
 abbrev pub IsSettled : List Kept → Report → Item → Type 0
 IsSettled kept report (Conflict path) = Contains report.conflicts path
-IsSettled kept report item = (is_kept kept item ≡ true) ⊎ Any (λ refused. refused.1 ≡ path_of item) report.refused
+IsSettled kept report item =
+    (is_kept kept item ≡ true) ⊎ Any (λ refused. refused.1 ≡ path_of item) report.refused
 
 -- of the items that carry, and of those that only mark, how many are recorded
 pub record Counts (plan : List Planned) (kept : List Kept) (report : Report) : Type 0 where
-  pub done : report.done ≡ count_by (λ planned. is_carrying planned.item && is_kept kept planned.item) plan
-  pub marked : report.marked ≡ count_by (λ planned. is_marking planned.item && is_kept kept planned.item) plan
+  pub done : report.done
+      ≡ count_by (λ planned. is_carrying planned.item && is_kept kept planned.item) plan
+  pub marked : report.marked
+      ≡ count_by (λ planned. is_marking planned.item && is_kept kept planned.item) plan
 
 -- a session that ended completely had made its plan and settled each item of it
-pub record EndsAs (session : ℕ) (log : Log) (plan : List Planned) (kept : List Kept) (report : Report) : Type 0 where
+pub record EndsAs (session : ℕ) (log : Log) (plan : List Planned) (kept : List Kept)
+    (report : Report) : Type 0 where
   pub session_is : report.session ≡ session
   pub complete : report.end ≡ Complete → (report.ended ≡ None) × (report.refused ≡ [])
   pub made : report.ended ≡ None → Any (λ made. made.session ≡ session) log
   pub settled : report.ended ≡ None → All (λ planned. IsSettled kept report planned.item) plan
-  pub conflicts : report.ended ≡ None → report.conflicts ≡ filter_map (λ planned. conflict_at planned.item) plan
+  pub conflicts : report.ended ≡ None →
+      report.conflicts ≡ filter_map (λ planned. conflict_at planned.item) plan
 
 abbrev pub Ends : World → List Planned → Running → Report → Type 0
-Ends new plan running report = EndsAs running.session new.log plan (kept_in_session new.acknowledged) report
+Ends new plan running report =
+    EndsAs running.session new.log plan (kept_in_session new.acknowledged) report
 
 abbrev pub EndsUnanswered : Running → Report → Type 0
 EndsUnanswered running report = report.end ≡ Incomplete
 
--- the session goes on without a report, or is forgotten as the machine stops; or it is over, and reports how it ended
+-- the session goes on without a report, or is forgotten as the machine stops; or it is over, and
+-- reports how it ended
 abbrev pub Reports : World → World → List Planned → (Running → Report → Type 0) → Type 0
 Reports old new plan Ends_so =
     (new.reports ≡ old.reports)
     ⊎ ((running : Running) × (report : Report) × (old.coordinator.running ≡ Some running)
-    × (new.reports ≡ old.reports ++ (report, length new.acknowledged) ∷ []) × Ends_so running report × Counts plan (kept_in_session new.acknowledged) report)
+    × (new.reports ≡ old.reports ++ (report, length new.acknowledged) ∷ []) × Ends_so running report
+    × Counts plan (kept_in_session new.acknowledged) report)
 
 -- One step: what the machines do in it
 pub data Follows (old new : World) : Type 0 where
   same : new ≡ old → Follows old new
-  edits : (which : Which) (user : ℕ) (edit : Edit) (machine : SideMachine) (events : List Event) → IsAllowed (side_of old which).side.history (Edited user edit) →
-      (side_of old which).status ≡ Up → Writes (side_of old which) (Edited user edit) machine events →
-      new ≡ record (set_side old which machine) { sent = old.sent ++ []; acknowledged = old.acknowledged ++ map (λ event. Happened which event) events } → Follows old new
-  opens : (which : Which) (machine : SideMachine) (events : List Event) → Opens (side_of old which) machine events →
-      new ≡ record (set_side old which machine) { sent = old.sent ++ []; acknowledged = old.acknowledged ++ map (λ event. Happened which event) events } → Follows old new
-  changes : (which : Which) (status : Status) (staging : Option Staging) → ((side_of old which).status ≢ Up → status ≢ Up) → (staging ≡ (side_of old which).side.staging) ⊎ (staging ≡ None) →
-      new ≡ set_side old which (record (side_of old which) { status = status; side = record { history = (side_of old which).side.history; staging = staging } }) → Follows old new
-  serves : (which : Which) (session number : ℕ) (request : Request) → Contains old.sent (Asks which session number request) → TakesRequest old which session number request new → Follows old new
-  starts_session : CoordinatorGoes old [] (IsNext old.coordinator.archive) (StartsFrom old.coordinator.archive) new → new.reports ≡ old.reports → Follows old new
-  ticks_once : CoordinatorGoes old [] IsNothing (GoesOnFrom old.coordinator.running (plan_of old.coordinator.running)) new →
+  edits : (which : Which) (user : ℕ) (edit : Edit) (machine : SideMachine) (events : List Event) →
+      IsAllowed (side_of old which).side.history (Edited user edit) →
+      (side_of old which).status ≡ Up →
+      Writes (side_of old which) (Edited user edit) machine events →
+      new ≡ record (set_side old which machine) {
+        sent = old.sent ++ [];
+        acknowledged =
+            old.acknowledged ++ map (λ event. Happened which event) events;
+      } → Follows old new
+  opens : (which : Which) (machine : SideMachine) (events : List Event) →
+      Opens (side_of old which) machine events →
+      new ≡ record (set_side old which machine) {
+        sent = old.sent ++ [];
+        acknowledged =
+            old.acknowledged ++ map (λ event. Happened which event) events;
+      } → Follows old new
+  changes : (which : Which) (status : Status) (staging : Option Staging) →
+      ((side_of old which).status ≢ Up → status ≢ Up) →
+      (staging ≡ (side_of old which).side.staging) ⊎ (staging ≡ None) →
+      new ≡ set_side old which (record (side_of old which) {
+        status = status;
+        side =
+            record { history = (side_of old which).side.history; staging = staging };
+      }) → Follows old new
+  serves : (which : Which) (session number : ℕ) (request : Request) →
+      Contains old.sent (Asks which session number request) →
+      TakesRequest old which session number request new → Follows old new
+  starts_session : CoordinatorGoes old [] (IsNext old.coordinator.archive)
+      (StartsFrom old.coordinator.archive) new → new.reports ≡ old.reports → Follows old new
+  ticks_once : CoordinatorGoes old
+      [] IsNothing (GoesOnFrom old.coordinator.running (plan_of old.coordinator.running)) new →
       Reports old new (plan_of old.coordinator.running) EndsUnanswered → Follows old new
-  takes_answer : (from : Which) (session number : ℕ) (reply : Reply) (plan : List Planned) (logged : Log) → Contains old.sent (Answers from session number reply) → IsExpected old.coordinator.running from session number →
+  takes_answer : (from : Which) (session number : ℕ) (reply : Reply) (plan : List Planned)
+      (logged : Log) → Contains old.sent (Answers from session number reply) →
+      IsExpected old.coordinator.running from session number →
       HasPlan old.sent old.coordinator.archive old.log old.coordinator.running plan logged →
-      CoordinatorGoes old logged (IsDueAfter old.coordinator.running plan from number reply) (GoesOnFrom old.coordinator.running plan) new →
-      Reports old new plan (Ends new plan) → Follows old new
-  archive_changes : (status : Status) (running : Option Running) → (old.coordinator.status ≢ Up → status ≢ Up) → (running ≡ old.coordinator.running) ⊎ (running ≡ None) →
-      new ≡ record old { coordinator = record old.coordinator { status = status; running = running } } → Follows old new
-  archive_opens : new ≡ record old { coordinator = record old.coordinator { status = Up; writing = None } } → Follows old new
-  archive_recovers : (kept : Kept) → old.coordinator.writing ≡ Some kept → CanKeep old.coordinator.archive kept →
-      new ≡ record old { coordinator = record old.coordinator { status = Up; archive = after_kept old.coordinator.archive kept; writing = None }; acknowledged = old.acknowledged ++ map Kept_by (kept ∷ []) } → Follows old new
+      CoordinatorGoes old logged (IsDueAfter old.coordinator.running plan from number reply)
+      (GoesOnFrom old.coordinator.running plan) new → Reports old new plan (Ends new plan) →
+      Follows old new
+  archive_changes : (status : Status) (running : Option Running) →
+      (old.coordinator.status ≢ Up → status ≢ Up) →
+      (running ≡ old.coordinator.running) ⊎ (running ≡ None) → new
+      ≡ record old { coordinator = record old.coordinator { status = status; running = running } } →
+      Follows old new
+  archive_opens : new ≡ record old
+      { coordinator = record old.coordinator { status = Up; writing = None } } → Follows old new
+  archive_recovers : (kept : Kept) → old.coordinator.writing ≡ Some kept →
+      CanKeep old.coordinator.archive kept → new ≡ record old {
+        coordinator = record old.coordinator
+            { status = Up; archive = after_kept old.coordinator.archive kept; writing = None };
+        acknowledged = old.acknowledged ++ map Kept_by (kept ∷ []);
+      } → Follows old new
 
 -- steps, one after another
 pub data FollowsAll : World → World → Type 0 where
   nothing_more : (world : World) → FollowsAll world world
-  one_more : (old between new : World) → Follows old between → FollowsAll between new → FollowsAll old new
+  one_more : (old between new : World) → Follows old between → FollowsAll between new →
+      FollowsAll old new

@@ -1,5 +1,6 @@
 -- What a step does to the coordinator's session, its archive and its reports.
-use Rattle.std.proofs.Common.{◌≡◌, ◌≢◌, ℕ, List, [], ◌∷◌, ◌++◌, map, filter_map, refl, sym, ap, ◌∙◌, subst, Option, Some, None, append-nil, inl, inr, ◌⊎◌}
+use Rattle.std.proofs.Common.{◌≡◌, ◌≢◌, ℕ, List, [], ◌∷◌, ◌++◌, map, filter_map, refl, sym, ap, ◌∙◌}
+use Rattle.std.proofs.Common.{subst, Option, Some, None, append-nil, inl, inr, ◌⊎◌}
 use Rattle.std.specs.Prelude.{Contains, IfSome}
 use Rattle.syn_model.specs.Event.{Event}
 use Rattle.syn_model.specs.Archive.{Archive, Kept, CanKeep}
@@ -7,28 +8,46 @@ use Rattle.syn_headline.specs.Side.{Request, Reply}
 use Rattle.syn_headline.specs.Network.{Which, Left, Right, Sent, Answers}
 use Rattle.syn_headline.specs.Planning.{Planned, Log}
 use Rattle.syn_headline.specs.Acknowledged.{Ack, Happened, Kept_by, kept_in}
-use Rattle.syn_headline.proofs.Coarse.{World, Running, SideMachine, CoordinatorMachine, set_side, TakesRequest, answered, request_failed, request_cut, IsDueAfter, IsExpected, HasPlan, GoesOnFrom, plan_of, StartsFrom, IsNext, IsNothing, AllCanKeep, CoordinatorGoes, Reports, Ends, EndsUnanswered, Follows, same, edits, opens, changes, serves, starts_session, ticks_once, takes_answer, archive_changes, archive_opens, archive_recovers}
+use Rattle.syn_headline.proofs.Coarse.{World, Running, SideMachine, CoordinatorMachine, set_side}
+use Rattle.syn_headline.proofs.Coarse.{TakesRequest, answered, request_failed, request_cut}
+use Rattle.syn_headline.proofs.Coarse.{IsDueAfter, IsExpected, HasPlan, GoesOnFrom, plan_of}
+use Rattle.syn_headline.proofs.Coarse.{StartsFrom, IsNext, IsNothing, AllCanKeep, CoordinatorGoes}
+use Rattle.syn_headline.proofs.Coarse.{Reports, Ends, EndsUnanswered, Follows, same, edits, opens}
+use Rattle.syn_headline.proofs.Coarse.{changes, serves, starts_session, ticks_once, takes_answer}
+use Rattle.syn_headline.proofs.Coarse.{archive_changes, archive_opens, archive_recovers}
 use Rattle.syn_headline.specs.Machine.{Up}
 use Rattle.syn_headline.proofs.Invariant.{Plans, histories_of, IsHarmless, IsKept}
 use Rattle.syn_headline.proofs.WorldLemmas.{kept_events, kept_kept}
-use Rattle.syn_headline.proofs.RunLemmas.{no_acks}
+use Rattle.syn_headline.proofs.CoordinatorRuns.{no_acks}
 
--- the session stays or is forgotten as something is kept or not; or it starts, waits or takes an answer
+-- the session stays or is forgotten as something is kept or not; or it starts, waits or takes an
+-- answer
 pub data Course (old new : World) : Type 0 where
-  beside : (acks : List Ack) → new.acknowledged ≡ old.acknowledged ++ acks → AllCanKeep old.coordinator.archive (filter_map kept_in acks) →
-      (new.coordinator.running ≡ None) ⊎ ((new.coordinator.running ≡ old.coordinator.running) × (filter_map kept_in acks ≡ [])) → new.reports ≡ old.reports → new.log ≡ old.log → Course old new
-  starts : CoordinatorGoes old [] (IsNext old.coordinator.archive) (StartsFrom old.coordinator.archive) new → new.reports ≡ old.reports → Course old new
-  ticks : CoordinatorGoes old [] IsNothing (GoesOnFrom old.coordinator.running (plan_of old.coordinator.running)) new → Reports old new (plan_of old.coordinator.running) EndsUnanswered → Course old new
-  takes : (from : Which) (session number : ℕ) (reply : Reply) (plan : List Planned) (logged : Log) → Contains old.sent (Answers from session number reply) → IsExpected old.coordinator.running from session number →
+  beside : (acks : List Ack) → new.acknowledged ≡ old.acknowledged ++ acks →
+      AllCanKeep old.coordinator.archive (filter_map kept_in acks) →
+      (new.coordinator.running ≡ None)
+      ⊎ ((new.coordinator.running ≡ old.coordinator.running) × (filter_map kept_in acks ≡ [])) →
+      new.reports ≡ old.reports → new.log ≡ old.log → Course old new
+  starts : CoordinatorGoes old [] (IsNext old.coordinator.archive)
+      (StartsFrom old.coordinator.archive) new → new.reports ≡ old.reports → Course old new
+  ticks : CoordinatorGoes old
+      [] IsNothing (GoesOnFrom old.coordinator.running (plan_of old.coordinator.running)) new →
+      Reports old new (plan_of old.coordinator.running) EndsUnanswered → Course old new
+  takes : (from : Which) (session number : ℕ) (reply : Reply) (plan : List Planned) (logged : Log) →
+      Contains old.sent (Answers from session number reply) →
+      IsExpected old.coordinator.running from session number →
       HasPlan old.sent old.coordinator.archive old.log old.coordinator.running plan logged →
-      CoordinatorGoes old logged (IsDueAfter old.coordinator.running plan from number reply) (GoesOnFrom old.coordinator.running plan) new → Reports old new plan (Ends new plan) → Course old new
+      CoordinatorGoes old logged (IsDueAfter old.coordinator.running plan from number reply)
+      (GoesOnFrom old.coordinator.running plan) new → Reports old new plan (Ends new plan) →
+      Course old new
 
 -- the first of these, which is no matter of what was refused
 pub record IsAside (old new : World) : Type 0 where
   pub acks : List Ack
   pub added : new.acknowledged ≡ old.acknowledged ++ acks
   pub can : AllCanKeep old.coordinator.archive (filter_map kept_in acks)
-  pub runs : (new.coordinator.running ≡ None) ⊎ ((new.coordinator.running ≡ old.coordinator.running) × (filter_map kept_in acks ≡ []))
+  pub runs : (new.coordinator.running ≡ None)
+      ⊎ ((new.coordinator.running ≡ old.coordinator.running) × (filter_map kept_in acks ≡ []))
   pub reports : new.reports ≡ old.reports
   pub log : new.log ≡ old.log
 
@@ -40,7 +59,9 @@ nothing_kept : (a : Archive) (kept : List Kept) → kept ≡ [] → AllCanKeep a
 nothing_kept a kept e = subst (AllCanKeep a) (sym e) tt
 
 stays : (old new : World) → new ≡ old → Course old new
-stays old new e = beside [] (ap (λ w. w.acknowledged) e ∙ sym (append-nil old.acknowledged)) tt (inr (ap (λ w. w.coordinator.running) e, refl)) (ap (λ w. w.reports) e) (ap (λ w. w.log) e)
+stays old new e =
+    beside [] (ap (λ w. w.acknowledged) e ∙ sym (append-nil old.acknowledged)) tt
+    (inr (ap (λ w. w.coordinator.running) e, refl)) (ap (λ w. w.reports) e) (ap (λ w. w.log) e)
 
 -- a side's machine is set, and nothing else
 pub record IsBeside (old new : World) : Type 0 where
@@ -49,11 +70,17 @@ pub record IsBeside (old new : World) : Type 0 where
   pub reports : new.reports ≡ old.reports
   pub log : new.log ≡ old.log
 
-set_beside : (old : World) (which : Which) (machine : SideMachine) → IsBeside old (set_side old which machine)
-set_beside old Left machine = record { coordinator = refl; acknowledged = refl; reports = refl; log = refl }
-set_beside old Right machine = record { coordinator = refl; acknowledged = refl; reports = refl; log = refl }
+set_beside : (old : World) (which : Which) (machine : SideMachine) →
+    IsBeside old (set_side old which machine)
+set_beside old Left machine =
+    record { coordinator = refl; acknowledged = refl; reports = refl; log = refl }
+set_beside old Right machine =
+    record { coordinator = refl; acknowledged = refl; reports = refl; log = refl }
 
-side_goes : (old new : World) (which : Which) (machine : SideMachine) (sent : Sent) (events : List Event) → new ≡ record (set_side old which machine) { sent = sent; acknowledged = old.acknowledged ++ map (λ event. Happened which event) events } → IsAside old new
+side_goes : (old new : World) (which : Which) (machine : SideMachine) (sent : Sent)
+    (events : List Event) → new ≡ record (set_side old which machine)
+    { sent = sent; acknowledged = old.acknowledged ++ map (λ event. Happened which event) events } →
+    IsAside old new
 side_goes old new which machine sent events e =
     let b = set_beside old which machine in
     let none = kept_events which events in
@@ -66,10 +93,13 @@ side_goes old new which machine sent events e =
       log = ap (λ w. w.log) e ∙ b.log;
     }
 
-side_says : (old new : World) (which : Which) (machine : SideMachine) (sent : Sent) → new ≡ record (set_side old which machine) { sent = sent } → Course old new
+side_says : (old new : World) (which : Which) (machine : SideMachine) (sent : Sent) →
+    new ≡ record (set_side old which machine) { sent = sent } → Course old new
 side_says old new which machine sent e =
     let b = set_beside old which machine in
-    beside [] (ap (λ w. w.acknowledged) e ∙ (b.acknowledged ∙ sym (append-nil old.acknowledged))) tt (inr (ap (λ w. w.coordinator.running) e ∙ ap (λ c. c.running) b.coordinator, refl)) (ap (λ w. w.reports) e ∙ b.reports) (ap (λ w. w.log) e ∙ b.log)
+    beside [] (ap (λ w. w.acknowledged) e ∙ (b.acknowledged ∙ sym (append-nil old.acknowledged))) tt
+    (inr (ap (λ w. w.coordinator.running) e ∙ ap (λ c. c.running) b.coordinator, refl))
+    (ap (λ w. w.reports) e ∙ b.reports) (ap (λ w. w.log) e ∙ b.log)
 
 besides : (old world new : World) → new ≡ world → IsBeside old world → IsAside old new
 besides old world new e b = record {
@@ -81,48 +111,72 @@ besides old world new e b = record {
   log = ap (λ w. w.log) e ∙ b.log;
 }
 
-side_set : (old new : World) (which : Which) (machine : SideMachine) → new ≡ set_side old which machine → IsAside old new
-side_set old new which machine e = besides old (set_side old which machine) new e (set_beside old which machine)
+side_set : (old new : World) (which : Which) (machine : SideMachine) →
+    new ≡ set_side old which machine → IsAside old new
+side_set old new which machine e =
+    besides old (set_side old which machine) new e (set_beside old which machine)
 
-takes_request : (old new : World) (which : Which) (session number : ℕ) (request : Request) → TakesRequest old which session number request new → Course old new
-takes_request old new which session number request (answered a) = aside old new (side_goes old new which _ _ a.events a.result)
-takes_request old new which session number request (request_failed event would e) = side_says old new which _ _ e
-takes_request old new which session number request (request_cut event would e) = aside old new (side_set old new which _ e)
+takes_request : (old new : World) (which : Which) (session number : ℕ) (request : Request) →
+    TakesRequest old which session number request new → Course old new
+takes_request old new which session number request (answered a) =
+    aside old new (side_goes old new which _ _ a.events a.result)
+takes_request old new which session number request (request_failed event would e) =
+    side_says old new which _ _ e
+takes_request old new which session number request (request_cut event would e) =
+    aside old new (side_set old new which _ e)
 
 -- the coordinator's machine alone changes, and keeps this
-alone : (old new : World) (machine : CoordinatorMachine) (kept : List Kept) → AllCanKeep old.coordinator.archive kept → (machine.running ≡ None) ⊎ ((machine.running ≡ old.coordinator.running) × (kept ≡ [])) →
-    new ≡ record old { coordinator = machine; acknowledged = old.acknowledged ++ map Kept_by kept } → IsAside old new
+alone : (old new : World) (machine : CoordinatorMachine) (kept : List Kept) →
+    AllCanKeep old.coordinator.archive kept →
+    (machine.running ≡ None) ⊎ ((machine.running ≡ old.coordinator.running) × (kept ≡ [])) → new
+    ≡ record old { coordinator = machine; acknowledged = old.acknowledged ++ map Kept_by kept } →
+    IsAside old new
 alone old new machine kept can runs e =
     let is = kept_kept kept in
     record {
       acks = map Kept_by kept;
       added = ap (λ w. w.acknowledged) e;
       can = subst (AllCanKeep old.coordinator.archive) (sym is) can;
-      runs = elim runs as (λ _. (new.coordinator.running ≡ None) ⊎ ((new.coordinator.running ≡ old.coordinator.running) × (filter_map kept_in (map Kept_by kept) ≡ []))) [
-        | inl none ↦ inl (ap (λ w. w.coordinator.running) e ∙ none)
-        | inr on ↦ inr (ap (λ w. w.coordinator.running) e ∙ on.0, is ∙ on.1)
-      ];
+      runs =
+          elim runs as (λ _. (new.coordinator.running ≡ None) ⊎ ((new.coordinator.running
+          ≡ old.coordinator.running) × (filter_map kept_in (map Kept_by kept) ≡ []))) [
+            | inl none ↦ inl (ap (λ w. w.coordinator.running) e ∙ none)
+            | inr on ↦ inr (ap (λ w. w.coordinator.running) e ∙ on.0, is ∙ on.1)
+          ];
       reports = ap (λ w. w.reports) e;
       log = ap (λ w. w.log) e;
     }
 
 module _ (plans : Plans) (old : World) (k : IsKept plans old) (new : World) where
   none_runs : (kept : Kept) → old.coordinator.writing ≡ Some kept → old.coordinator.running ≡ None
-  none_runs kept w = (subst (λ o. IfSome o (λ kept. (old.coordinator.status ≢ Up) × (old.coordinator.running ≡ None) × CanKeep old.coordinator.archive kept × IsHarmless plans (histories_of old) kept)) w k.coordinator.writing).1
+  none_runs kept w =
+      (subst (λ o. IfSome o (λ kept. (old.coordinator.status ≢ Up) × (old.coordinator.running
+      ≡ None) × CanKeep old.coordinator.archive kept × IsHarmless plans (histories_of old) kept))
+      w k.coordinator.writing).1
 
-  still : (running : Option Running) (kept : List Kept) → kept ≡ [] → (running ≡ old.coordinator.running) ⊎ (running ≡ None) → (running ≡ None) ⊎ ((running ≡ old.coordinator.running) × (kept ≡ []))
+  still : (running : Option Running) (kept : List Kept) → kept ≡ [] →
+      (running ≡ old.coordinator.running) ⊎ (running ≡ None) →
+      (running ≡ None) ⊎ ((running ≡ old.coordinator.running) × (kept ≡ []))
   still running kept nothing (inl is) = inr (is, nothing)
   still running kept nothing (inr none) = inl none
 
   pub course : Follows old new → Course old new
   course (same e) = stays old new e
-  course (edits which user edit machine events allowed up g e) = aside old new (side_goes old new which machine _ events e)
-  course (opens which machine events g e) = aside old new (side_goes old new which machine _ events e)
+  course (edits which user edit machine events allowed up g e) =
+      aside old new (side_goes old new which machine _ events e)
+  course (opens which machine events g e) =
+      aside old new (side_goes old new which machine _ events e)
   course (changes which status staging up stays e) = aside old new (side_set old new which _ e)
-  course (serves which session number request asked g) = takes_request old new which session number request g
+  course (serves which session number request asked g) =
+      takes_request old new which session number request g
   course (starts_session g reports) = starts g reports
   course (ticks_once g reports) = ticks g reports
-  course (takes_answer from session number reply plan logged heard expected made g reports) = takes from session number reply plan logged heard expected made g reports
-  course (archive_changes status running up stays e) = aside old new (alone old new _ [] tt (still running [] refl stays) (no_acks plans old k new _ e))
-  course (archive_opens e) = aside old new (alone old new _ [] tt (inr (refl, refl)) (no_acks plans old k new _ e))
-  course (archive_recovers kept w can e) = aside old new (alone old new _ (kept ∷ []) (can, tt) (inl (none_runs kept w)) e)
+  course (takes_answer from session number reply plan logged heard expected made g reports) =
+      takes from session number reply plan logged heard expected made g reports
+  course (archive_changes status running up stays e) =
+      aside old new
+      (alone old new _ [] tt (still running [] refl stays) (no_acks plans old k new _ e))
+  course (archive_opens e) =
+      aside old new (alone old new _ [] tt (inr (refl, refl)) (no_acks plans old k new _ e))
+  course (archive_recovers kept w can e) =
+      aside old new (alone old new _ (kept ∷ []) (can, tt) (inl (none_runs kept w)) e)

@@ -4,16 +4,21 @@ use Rattle.std.specs.Prelude.{IfSome}
 use Rattle.syn_headline.specs.Network.{Left, Right}
 use Rattle.syn_headline.specs.Coordinator.{Running, Waits}
 use Rattle.syn_headline.specs.World.{World, Step, Runs}
-use Rattle.syn_headline.specs.Headline.{IsStart, OfEachRun, EachReplacementIsLegal, EachTokenOnce, EachEntryWasHeld, LeavesPair, LogsPlans, Owes, CompleteSessionsSynchronize, CompleteSessionsReconcile, ReportsItsConflicts, CountsItsItems, CarriedIsMarked}
+use Rattle.syn_headline.specs.Headline.{IsStart, OfEachRun, EachReplacementIsLegal, EachTokenOnce}
+use Rattle.syn_headline.specs.Headline.{EachEntryWasHeld, LeavesPair, LogsPlans, Owes}
+use Rattle.syn_headline.specs.Headline.{CompleteSessionsSynchronize, CompleteSessionsReconcile}
+use Rattle.syn_headline.specs.Headline.{ReportsItsConflicts, CountsItsItems, CarriedIsMarked}
 use Rattle.syn_headline.proofs.Coarse as coarse
 use Rattle.syn_headline.proofs.CoarseRuns as picture
 use Rattle.syn_headline.proofs.View.{view, view_running}
 use Rattle.syn_headline.proofs.Sessions.{IsHeard}
 use Rattle.syn_headline.proofs.Simulation.{runs_follow}
-use Rattle.syn_headline.proofs.WholeRuns.{no_plans, start_kept, runs_replace_legally, runs_use_tokens_once, runs_owe}
+use Rattle.syn_headline.proofs.WholeRuns.{no_plans, start_kept, runs_replace_legally}
+use Rattle.syn_headline.proofs.WholeRuns.{runs_use_tokens_once, runs_owe}
 use Rattle.syn_headline.proofs.LoggedRuns.{runs_log}
 use Rattle.syn_headline.proofs.ArchiveLemmas.{runs_hold_archive, runs_leave_pair}
-use Rattle.syn_headline.proofs.SessionRuns.{runs_synchronize, runs_reconcile, runs_report_conflicts, runs_count_items}
+use Rattle.syn_headline.proofs.SessionRuns.{runs_synchronize, runs_reconcile, runs_report_conflicts}
+use Rattle.syn_headline.proofs.SessionRuns.{runs_count_items}
 use Rattle.syn_headline.proofs.FetchedLemmas.{runs_mark_carried}
 use Rattle.syn_headline.proofs.CarriedLemmas.{runs_mark_held}
 use Rattle.syn_headline.specs.Headline.{HeldIsMarked}
@@ -28,46 +33,65 @@ start_view old s = record {
 }
 
 module _ (old new : World) (steps : List Step) (s : IsStart old) (g : Runs old steps new) where
-  pub follows : coarse.FollowsAll (view old) (view new) × IfSome new.coordinator.running (IsHeard new)
-  follows = runs_follow steps no_plans old new (start_kept (view old) (start_view old s)) (subst (λ o. IfSome o (IsHeard old)) (sym s.coordinator.1) tt) g
+  pub follows : coarse.FollowsAll (view old) (view new)
+      × IfSome new.coordinator.running (IsHeard new)
+  follows =
+      runs_follow steps no_plans old new (start_kept (view old) (start_view old s))
+      (subst (λ o. IfSome o (IsHeard old)) (sym s.coordinator.1) tt) g
 
 pub replace_legally : OfEachRun EachReplacementIsLegal
-replace_legally old new steps s g = runs_replace_legally (view old) (view new) (start_view old s) (follows old new steps s g).0
+replace_legally old new steps s g =
+    runs_replace_legally (view old) (view new) (start_view old s) (follows old new steps s g).0
 
 pub use_tokens_once : OfEachRun EachTokenOnce
-use_tokens_once old new steps s g Left = runs_use_tokens_once (view old) (view new) (start_view old s) (follows old new steps s g).0 Left
-use_tokens_once old new steps s g Right = runs_use_tokens_once (view old) (view new) (start_view old s) (follows old new steps s g).0 Right
+use_tokens_once old new steps s g Left =
+    runs_use_tokens_once (view old) (view new) (start_view old s) (follows old new steps s g).0 Left
+use_tokens_once old new steps s g Right =
+    runs_use_tokens_once (view old) (view new) (start_view old s)
+    (follows old new steps s g).0 Right
 
 pub hold_archive : OfEachRun EachEntryWasHeld
-hold_archive old new steps s g = runs_hold_archive (view old) (view new) (start_view old s) (follows old new steps s g).0
+hold_archive old new steps s g =
+    runs_hold_archive (view old) (view new) (start_view old s) (follows old new steps s g).0
 
 pub leave_pair : OfEachRun LeavesPair
-leave_pair old new steps s g = runs_leave_pair (view old) (view new) (start_view old s) (follows old new steps s g).0
+leave_pair old new steps s g =
+    runs_leave_pair (view old) (view new) (start_view old s) (follows old new steps s g).0
 
 pub log_plans : OfEachRun LogsPlans
-log_plans old new steps s g = runs_log (view old) (view new) (start_view old s) (follows old new steps s g).0
+log_plans old new steps s g =
+    runs_log (view old) (view new) (start_view old s) (follows old new steps s g).0
 
-waits_too : (running : Option Running) → IfSome (option_map view_running running) coarse.Waits → IfSome running Waits
+waits_too : (running : Option Running) → IfSome (option_map view_running running) coarse.Waits →
+    IfSome running Waits
 waits_too None h = tt
 waits_too (Some r) h = h
 
 pub owe : OfEachRun Owes
-owe old new steps s g = let both = runs_owe (view old) (view new) (start_view old s) (follows old new steps s g).0 in (waits_too new.coordinator.running both.0, both.1, both.2)
+owe old new steps s g =
+    let both = runs_owe (view old) (view new) (start_view old s) (follows old new steps s g).0 in
+    (waits_too new.coordinator.running both.0, both.1, both.2)
 
 pub synchronize : OfEachRun CompleteSessionsSynchronize
-synchronize old new steps s g = runs_synchronize (view old) (view new) (start_view old s) (follows old new steps s g).0
+synchronize old new steps s g =
+    runs_synchronize (view old) (view new) (start_view old s) (follows old new steps s g).0
 
 pub reconcile : OfEachRun CompleteSessionsReconcile
-reconcile old new steps s g = runs_reconcile (view old) (view new) (start_view old s) (follows old new steps s g).0
+reconcile old new steps s g =
+    runs_reconcile (view old) (view new) (start_view old s) (follows old new steps s g).0
 
 pub report_conflicts : OfEachRun ReportsItsConflicts
-report_conflicts old new steps s g = runs_report_conflicts (view old) (view new) (start_view old s) (follows old new steps s g).0
+report_conflicts old new steps s g =
+    runs_report_conflicts (view old) (view new) (start_view old s) (follows old new steps s g).0
 
 pub count_items : OfEachRun CountsItsItems
-count_items old new steps s g = runs_count_items (view old) (view new) (start_view old s) (follows old new steps s g).0
+count_items old new steps s g =
+    runs_count_items (view old) (view new) (start_view old s) (follows old new steps s g).0
 
 pub mark_carried : OfEachRun CarriedIsMarked
-mark_carried old new steps s g = runs_mark_carried (view old) (view new) (start_view old s) (follows old new steps s g).0
+mark_carried old new steps s g =
+    runs_mark_carried (view old) (view new) (start_view old s) (follows old new steps s g).0
 
 pub mark_held : OfEachRun HeldIsMarked
-mark_held old new steps s g = runs_mark_held (view old) (view new) (start_view old s) (follows old new steps s g).0
+mark_held old new steps s g =
+    runs_mark_held (view old) (view new) (start_view old s) (follows old new steps s g).0

@@ -8,7 +8,8 @@ use Rattle.syn_model.proofs.MarkLemmas.{marked_directory}
 use Rattle.syn_headline.specs.Headline.{formatted, IsPair}
 
 formatted_held : BothHeld [] [] empty_directory
-formatted_held path content e = ((0, omega arith, marked_directory path ∙ e), (0, omega arith, marked_directory path ∙ e))
+formatted_held path content e =
+    ((0, omega arith, marked_directory path ∙ e), (0, omega arith, marked_directory path ∙ e))
 
 -- three formatted disks are a pair
 pub formatted_is_pair : IsPair formatted

@@ -1,215 +1,53 @@
 -- The invariant is kept as a side answers a request.
-use Rattle.std.proofs.Common.{◌≡◌, ◌≤◌, ◌+◌, ℕ, true, false, not, ◌||◌, ◌==◌, List, [], ◌∷◌, ◌++◌, length, take, drop, refl, sym, ap, ap₂, ◌∙◌, subst, Option, Some, None, is_some, true≢false, append_assoc, append-nil, arith, inl, inr, ◌⊎◌, slice_get, fold}
-use Rattle.std.specs.Prelude.{Contains, IfSome}
-use Rattle.std.specs.Option.{option_map_or}
-use Rattle.std.proofs.lemmas.List.{length-append, take-append-drop}
-use Rattle.std.proofs.Math.Seq.{take-append_seam, take-length}
+use Rattle.std.proofs.Common.{◌≡◌, ◌≤◌, ◌+◌, ℕ, true, false, not, ◌||◌, ◌==◌, ◌∷◌, ◌++◌, length}
+use Rattle.std.proofs.Common.{take, drop, refl, sym, ap, ap₂, ◌∙◌, subst, Option, Some, None}
+use Rattle.std.proofs.Common.{true≢false, arith, inl, inr, ◌⊎◌, slice_get, List, []}
+use Rattle.std.proofs.lemmas.List.{length-append}
+use Rattle.std.proofs.Math.Seq.{take-length}
 use Rattle.std.proofs.lemmas.Option.{same_Some}
-use Rattle.std.proofs.lemmas.Bool.{and_parts, eqb-true, not-false, or_parts}
-use Rattle.syn_model.specs.Path.{Bytes, Path, parent, comparable, is_prefix}
-use Rattle.syn_model.specs.Tree.{Tree, is_directory, IsTree, subtree, replace}
-use Rattle.syn_model.specs.Limits.{children, fits_replica}
+use Rattle.std.proofs.lemmas.Bool.{eqb-true, not-false, or_parts}
+use Rattle.syn_model.specs.Path.{Bytes, Path, parent}
+use Rattle.syn_model.specs.Tree.{Tree, subtree, is_directory, replace}
+use Rattle.syn_model.specs.Limits.{children}
 use Rattle.syn_model.specs.Mark.{mark}
 use Rattle.syn_model.specs.Spelling.{spelling}
-use Rattle.syn_model.specs.Event.{Token, is_below, is_same_token, Event, Edited, Began, Replaced, touches}
-use Rattle.syn_model.specs.History.{History, IsHistory, AllAllowed, IsAllowed, tree_of, tree_at, is_quiet, last_session, last_token, is_old_token, position_causes}
-use Rattle.syn_model.specs.Standing.{token_after, place_causes, full_causes}
+use Rattle.syn_model.specs.Event.{Token, is_same_token, Event, Began, Replaced, is_below}
+use Rattle.syn_model.specs.History.{History, IsAllowed, tree_of, tree_at, is_quiet, last_session}
+use Rattle.syn_model.specs.History.{last_token, is_old_token, position_causes}
+use Rattle.syn_model.specs.Standing.{place_causes, full_causes}
 use Rattle.syn_model.specs.Archive.{Archive}
-use Rattle.syn_headline.specs.Laws.{AddsAllowed}
-use Rattle.syn_headline.specs.Side.{Side, Served, Staging, Request, Begin, ListAt, Fetch, Stage, Replace, Begun, Piece, Refused, Reads, token_of, is_staged, staged_bytes, Listed}
-use Rattle.syn_headline.specs.Network.{Which, Left, Right, other, Sent, Asks}
+use Rattle.syn_headline.specs.Side.{Staging, token_of, Side, Served, Request, Begin, ListAt, Fetch}
+use Rattle.syn_headline.specs.Side.{Stage, Replace, Begun, Piece, Refused, Reads, is_staged}
+use Rattle.syn_headline.specs.Side.{staged_bytes, Listed}
+use Rattle.syn_headline.specs.Network.{Which, other, Sent, Asks}
 use Rattle.syn_model.specs.Decision.{path_of}
 use Rattle.syn_headline.specs.Planning.{Planned, seen_on, WritesTo}
-use Rattle.syn_headline.proofs.Invariant.{Plans, plan_in, Histories, IsSound, IsTrue, IsBorne, HadMarks, IsSpent, IsTruePiece, IsTrueListing, IsSoundStaging, IsSoundReplacement, IsSoundEvent, source_of, part_at}
-use Rattle.syn_model.proofs.PathLemmas.{strip_prefix-append}
-use Rattle.syn_headline.proofs.SpellingLemmas.{spellings_tell}
-use Rattle.syn_model.proofs.FitsLemmas.{history_fits}
-use Rattle.syn_model.proofs.HistoryLemmas.{history-is_tree, first_cause-none, tree_of-append}
-use Rattle.syn_model.proofs.QuietLemmas.{quiet_before, quiet_same}
-use Rattle.syn_headline.proofs.PlanLemmas.{writes_path, since_reached, seen_is, writes_of, parent-child}
+use Rattle.syn_headline.proofs.Invariant.{Plans, plan_in, Histories, IsSound, IsSoundStaging}
+use Rattle.syn_headline.proofs.Invariant.{IsSoundReplacement, IsSoundEvent, IsTrue, IsBorne}
+use Rattle.syn_headline.proofs.Invariant.{HadMarks, IsTruePiece, IsTrueListing, source_of, part_at}
+use Rattle.syn_model.proofs.HistoryLemmas.{first_cause-none}
+use Rattle.syn_model.proofs.QuietLemmas.{quiet_same}
+use Rattle.syn_headline.proofs.PlanLemmas.{writes_path, since_reached, seen_is, writes_of}
+use Rattle.syn_headline.proofs.PlanLemmas.{parent-child}
 use Rattle.syn_model.proofs.MarkLemmas.{mark-subtree}
-use Rattle.syn_model.proofs.TreeLemmas.{subtree-replace}
+use Rattle.syn_headline.proofs.GrownLemmas.{fold_one, made}
+use Rattle.syn_headline.proofs.OutcomeLemmas.{begins, Outcome, refuses, begins_again, lists}
+use Rattle.syn_headline.proofs.OutcomeLemmas.{lists_none, fetches, stages_first, stages_more}
+use Rattle.syn_headline.proofs.OutcomeLemmas.{stages_again, done_again, replaces}
+use Rattle.std.specs.Prelude.{Contains, IfSome}
+use Rattle.std.specs.Option.{option_map_or}
+use Rattle.syn_headline.proofs.SpellingLemmas.{spellings_tell}
 use Rattle.syn_model.specs.Refusal.{Refusal, OldSession}
 use Rattle.syn_headline.specs.Acknowledged.{Stores, history_of, WasListed, IsLegal}
 use Rattle.syn_headline.proofs.LogLemmas.{entry_of}
-use Rattle.syn_headline.proofs.SoundLemmas.{fold_one, had-grow, made, extends, length_grows, part_at_stays, still_touched, sound-grow}
-use Rattle.syn_headline.proofs.OutcomeLemmas.{Outcome, refuses, begins_again, begins, lists, lists_none, fetches, stages_first, stages_more, stages_again, done_again, replaces}
-
-pub on_both : (P : Which → Type 0) (side : Which) → P side → P (other side) → (s : Which) → P s
-on_both P Left here there Left = here
-on_both P Left here there Right = there
-on_both P Right here there Right = here
-on_both P Right here there Left = there
-
-pub same_token : (a b : Token) → is_same_token a b ≡ true → a ≡ b
-same_token a b e =
-    let both = and_parts (a.session == b.session) (a.item == b.item) e in
-    let s : (a.session == b.session) ≡ true = both.0 in
-    let i : (a.item == b.item) ≡ true = both.1 in
-    let same_session : a.session ≡ b.session = eqb-true a.session b.session s in
-    let same_item : a.item ≡ b.item = eqb-true a.item b.item i in
-    ap₂ (λ s i. token_of s i) same_session same_item
-
-pub token_one : (last : Option Token) (history : History) (event : Event) → fold token_after last (history ++ event ∷ []) ≡ token_after (fold token_after last history) event
-token_one last [] event = refl
-token_one last (e ∷ history) event = token_one (token_after last e) history event
-
-path_meets_itself : (p : Path) → comparable p p ≡ true
-path_meets_itself p = ap (λ b. b || is_prefix p p) (ap (λ w. is_prefix p w) (sym (append-nil p)) ∙ ap is_some (strip_prefix-append p []))
-
--- a path that is touched now is not quiet
-touched_now : (history : History) (event : Event) (since : ℕ) (p : Path) → since ≤ length history → touches event p ≡ true → is_quiet (history ++ event ∷ []) since (length (history ++ event ∷ [])) p ≡ false
-touched_now history event since p h t =
-    elim (is_quiet (history ++ event ∷ []) since (length (history ++ event ∷ [])) p) as (λ b. is_quiet (history ++ event ∷ []) since (length (history ++ event ∷ [])) p ≡ b → b ≡ false) [
-      | false ↦ λ _. refl
-      | true ↦ λ q. absurd (true≢false (sym (and_parts (not (touches event p)) true (quiet_before history (event ∷ []) since p h q).1).0 ∙ ap not t))
-    ] refl
-
--- what is put at a path is there then
-put_there : (history : History) (token : Token) (path : Path) (since : ℕ) (u : Tree) → mark u ≡ subtree (mark (tree_at (history ++ Replaced token path since u ∷ []) (length history + 1))) path
-put_there history token path since u =
-    let event = Replaced token path since u in
-    let whole : take (length history + 1) (history ++ event ∷ []) ≡ history ++ event ∷ [] = ap (λ n. take n (history ++ event ∷ [])) (sym (length-append history (event ∷ []))) ∙ take-length (history ++ event ∷ []) in
-    ap mark (sym (subtree-replace (tree_of history) path u) ∙ ap (λ t. subtree t path) (sym (tree_of-append history (event ∷ [])) ∙ ap tree_of (sym whole)))
-    ∙ mark-subtree (tree_at (history ++ event ∷ []) (length history + 1)) path
-
-pub other_twice : (side : Which) → other (other side) ≡ side
-other_twice Left = refl
-other_twice Right = refl
-
--- a side's history stays, or has one more event that its session's plan asks for; the other's stays
-pub record Moves (plans : Plans) (archive : Archive) (old new : Histories) (side : Which) : Type 0 where
-  pub here : (new side ≡ old side) ⊎ ((event : Event) × IsAllowed (old side) event × IsSoundEvent plans old archive side event × (new side ≡ old side ++ event ∷ []))
-  pub there : new (other side) ≡ old (other side)
-
-adds : (plans : Plans) (archive : Archive) (old new : Histories) (side : Which) → Moves plans archive old new side → AddsAllowed (old side) (new side)
-adds plans archive old new side m = elim m.here as (λ _. AddsAllowed (old side) (new side)) [ inl e ↦ inl e | inr a ↦ inr (a.0, a.1, a.3) ]
-
-pub moves_grow : (plans : Plans) (archive : Archive) (old new : Histories) (side : Which) → Moves plans archive old new side → (s : Which) → AddsAllowed (old s) (new s)
-moves_grow plans archive old new side m = on_both (λ s. AddsAllowed (old s) (new s)) side (adds plans archive old new side m) (inl m.there)
-
-module _ (plans : Plans) (archive : Archive) (sent : Sent) (old new : Histories) (sound : IsSound plans old archive sent) (side : Which) (m : Moves plans archive old new side) where
-  event_below : (event : Event) → IsSoundEvent plans old archive side event → last_session (old side ++ event ∷ []) ≤ archive.last_session
-  event_below (Edited user edit) e = subst (λ n. n ≤ archive.last_session) (sym (fold_one 0 (old side) (Edited user edit))) (sound.begun side)
-  event_below (Began session) e = subst (λ n. n ≤ archive.last_session) (sym (fold_one 0 (old side) (Began session))) e
-  event_below (Replaced token path since u) e = subst (λ n. n ≤ archive.last_session) (sym (fold_one 0 (old side) (Replaced token path since u))) (sound.begun side)
-
-  -- where the last token is that of an event before, its path is still touched
-  used_before : (event : Event) → IsAllowed (old side) event → (token : Token) (planned : Planned) (path : Path) → last_token (old side) ≡ Some token → slice_get (plan_in plans token.session) token.item ≡ Some planned → WritesTo planned.item side path →
-      IsSpent (old side ++ event ∷ []) path (seen_on planned side).since (seen_on planned (other side)).marks
-  used_before event a token planned path last e w =
-      let is = made plans old archive sent sound token.session token.item planned e in
-      let was = sound.used side token planned path last e w in
-      record {
-        touched = still_touched (old side) (old side ++ event ∷ []) (event ∷ [], refl) (seen_on planned side).since path
-            (since_reached plans old archive sent sound token.session is.0 is.1 (plan_in plans token.session) is.2 token.item planned side path e w side) was.touched;
-        put = had-grow (old side) (old side ++ event ∷ []) (event ∷ [], refl) path (seen_on planned (other side)).marks was.put;
-      }
-
-  used_after : (event : Event) → IsAllowed (old side) event → IsSoundEvent plans old archive side event → (token : Token) (planned : Planned) (path : Path) → token_after (last_token (old side)) event ≡ Some token →
-      slice_get (plan_in plans token.session) token.item ≡ Some planned → WritesTo planned.item side path → IsSpent (old side ++ event ∷ []) path (seen_on planned side).since (seen_on planned (other side)).marks
-  used_after (Edited user edit) a s token planned path last e w = used_before (Edited user edit) a token planned path last e w
-  used_after (Began session) a s token planned path last e w = used_before (Began session) a token planned path last e w
-  used_after (Replaced token' path' since u) a s token planned path last e w =
-      let token_is : token' ≡ token = same_Some _ _ last in
-      let planned_is : s.planned ≡ planned = same_Some _ _ (sym s.item ∙ (ap (λ t. slice_get (plan_in plans t.session) t.item) token_is ∙ e)) in
-      let path_is : path' ≡ path = sym (writes_path s.planned.item side path' s.writes) ∙ (ap (λ d. path_of d.item) planned_is ∙ writes_path planned.item side path w) in
-      let since_is : since ≡ (seen_on planned side).since = s.listed ∙ ap (λ d. (seen_on d side).since) planned_is in
-      record {
-        touched = touched_now (old side) (Replaced token' path' since u) (seen_on planned side).since path (subst (λ k. k ≤ length (old side)) since_is s.within) (ap (λ q. comparable q path) path_is ∙ path_meets_itself path);
-        put = record {
-          position = length (old side) + 1;
-          reached = omega (arith, length-append (old side) (Replaced token' path' since u ∷ []));
-          had = ap (λ d. (seen_on d (other side)).marks) (sym planned_is) ∙ (s.carries ∙ (put_there (old side) token' path' since u
-              ∙ ap (λ q. subtree (mark (tree_at (old side ++ Replaced token' path' since u ∷ []) (length (old side) + 1))) q) path_is));
-        };
-      }
-
-  begun_below : last_session (new side) ≤ archive.last_session
-  begun_below = elim m.here as (λ _. last_session (new side) ≤ archive.last_session) [
-    | inl e ↦ subst (λ h. last_session h ≤ archive.last_session) (sym e) (sound.begun side)
-    | inr a ↦ subst (λ h. last_session h ≤ archive.last_session) (sym a.3) (event_below a.0 a.2)
-  ]
-
-  used_here : (token : Token) (planned : Planned) (path : Path) → last_token (new side) ≡ Some token → slice_get (plan_in plans token.session) token.item ≡ Some planned → WritesTo planned.item side path →
-      IsSpent (new side) path (seen_on planned side).since (seen_on planned (other side)).marks
-  used_here token planned path last e w = elim m.here as (λ _. IsSpent (new side) path (seen_on planned side).since (seen_on planned (other side)).marks) [
-    | inl same ↦ subst (λ h. IsSpent h path (seen_on planned side).since (seen_on planned (other side)).marks) (sym same) (sound.used side token planned path (ap last_token (sym same) ∙ last) e w)
-    | inr a ↦ subst (λ h. IsSpent h path (seen_on planned side).since (seen_on planned (other side)).marks) (sym a.3) (used_after a.0 a.1 a.2 token planned path (sym (token_one None (old side) a.0) ∙ (ap last_token (sym a.3) ∙ last)) e w)
-  ]
-
-  pub sound_moves : IsSound plans new archive sent
-  sound_moves = sound-grow plans old new archive sent sound (moves_grow plans archive old new side m)
-      (on_both (λ s. last_session (new s) ≤ archive.last_session) side begun_below (subst (λ h. last_session h ≤ archive.last_session) (sym m.there) (sound.begun (other side))))
-      (on_both (λ s. (token : Token) (planned : Planned) (path : Path) → last_token (new s) ≡ Some token → slice_get (plan_in plans token.session) token.item ≡ Some planned → WritesTo planned.item s path →
-      IsSpent (new s) path (seen_on planned s).since (seen_on planned (other s)).marks) side used_here
-      (λ token planned path last e w. subst (λ h. IsSpent h path (seen_on planned (other side)).since (seen_on planned (other (other side))).marks) (sym m.there)
-      (sound.used (other side) token planned path (ap last_token (sym m.there) ∙ last) e w)))
-
--- What is staged
-
-prefix_from : (whole part rest : Bytes) → whole ≡ part ++ rest → part ≡ take (length part) whole
-prefix_from whole part rest e = sym (take-append_seam part rest) ∙ ap (take (length part)) (sym e)
-
-first_piece : (whole bytes : Bytes) (offset : ℕ) → offset ≡ 0 → bytes ≡ take 32768 (drop offset whole) → bytes ≡ take (length bytes) whole
-first_piece whole bytes offset z e =
-    let e' : bytes ≡ take 32768 whole = e ∙ ap (λ k. take 32768 (drop k whole)) z in
-    prefix_from whole bytes (drop 32768 whole) (sym (take-append-drop 32768 whole) ∙ ap (λ w. w ++ drop 32768 whole) (sym e'))
-
-next_piece : (whole had bytes : Bytes) (offset : ℕ) → offset ≡ length had → had ≡ take (length had) whole → bytes ≡ take 32768 (drop offset whole) → had ++ bytes ≡ take (length (had ++ bytes)) whole
-next_piece whole had bytes offset at h e =
-    let rest = drop (length had) whole in
-    let e' : bytes ≡ take 32768 rest = e ∙ ap (λ k. take 32768 (drop k whole)) at in
-    prefix_from whole (had ++ bytes) (drop 32768 rest)
-    (sym (take-append-drop (length had) whole) ∙ (ap (λ w. w ++ rest) (sym h) ∙ (ap (λ w. had ++ w) (sym (take-append-drop 32768 rest) ∙ ap (λ w. w ++ drop 32768 rest) (sym e')) ∙ sym (append_assoc had bytes (drop 32768 rest)))))
-
--- what is staged stays so as histories go on
-pub staging-grow : (plans : Plans) (old new : Histories) (side : Which) (staging : Staging) → ((s : Which) → AddsAllowed (old s) (new s)) → IsSoundStaging plans old side staging → IsSoundStaging plans new side staging
-staging-grow plans old new side staging grows h =
-    let x = extends (old (other side)) (new (other side)) (grows (other side)) in
-    let longer : length (old (other side)) ≤ length (new (other side)) = length_grows (old (other side)) (new (other side)) x in
-    let r : (seen_on h.planned (other side)).since ≤ length (old (other side)) = h.reached in
-    record {
-      planned = h.planned;
-      item = h.item;
-      reached = omega (arith, r, longer);
-      begins = h.begins ∙ ap (λ t. take (length staging.bytes) (spelling t)) (sym (part_at_stays (old (other side)) (new (other side)) x (seen_on h.planned (other side)).since (path_of h.planned.item) r));
-    }
-
--- and so a replacement that is being written, whose own side stays
-pub replacement-grow : (plans : Plans) (old new : Histories) (side : Which) (token : Token) (path : Path) (since : ℕ) (u : Tree) → new side ≡ old side → AddsAllowed (old (other side)) (new (other side)) →
-    IsSoundReplacement plans old side token path since u → IsSoundReplacement plans new side token path since u
-replacement-grow plans old new side token path since u stays grows h =
-    let x = extends (old (other side)) (new (other side)) grows in
-    let longer : length (old (other side)) ≤ length (new (other side)) = length_grows (old (other side)) (new (other side)) x in
-    let r : (seen_on h.planned (other side)).since ≤ length (old (other side)) = h.reached in
-    record {
-      planned = h.planned;
-      item = h.item;
-      writes = h.writes;
-      listed = h.listed;
-      within = subst (λ w. since ≤ length w) (sym stays) h.within;
-      quiet = ap (λ w. is_quiet w since (length w) path) stays ∙ h.quiet;
-      reached = omega (arith, r, longer);
-      whole = h.whole ∙ sym (part_at_stays (old (other side)) (new (other side)) x (seen_on h.planned (other side)).since (path_of h.planned.item) r);
-      carries = h.carries;
-    }
-
-pub all_front : (start xs ys : History) → AllAllowed start (xs ++ ys) → AllAllowed start xs
-all_front start [] ys h = tt
-all_front start (x ∷ xs) ys h = (h.0, all_front (start ++ x ∷ []) xs ys h.1)
-
--- a history has a whole tree at each position
-pub tree_at_is_tree : (history : History) (k : ℕ) → IsHistory history → IsTree (tree_at history k)
-tree_at_is_tree history k h = history-is_tree (take k history) (all_front [] (take k history) (drop k history) (subst IsHistory (sym (take-append-drop k history)) h))
-
--- a history has at each position a tree that fits
-pub tree_at_fits : (history : History) (k : ℕ) → IsHistory history → fits_replica (tree_at history k) ≡ true
-tree_at_fits history k h = history_fits (take k history) (all_front [] (take k history) (drop k history) (subst IsHistory (sym (take-append-drop k history)) h))
+use Rattle.syn_headline.proofs.StagedLemmas.{same_token, path_meets_itself, touched_now, put_there}
+use Rattle.syn_headline.proofs.StagedLemmas.{other_twice, adds, first_piece, next_piece}
+use Rattle.syn_headline.proofs.StagedLemmas.{tree_at_is_tree, tree_at_fits}
 
 -- A request
 
-pub refused_borne : (plan : List Planned) (history : History) (from : Which) (request : Request) (reason : Refusal) → IsBorne plan history from request (Refused reason)
+pub refused_borne : (plan : List Planned) (history : History) (from : Which) (request : Request)
+    (reason : Refusal) → IsBorne plan history from request (Refused reason)
 refused_borne plan history from (Begin pair) reason = tt
 refused_borne plan history from (ListAt path) reason = tt
 refused_borne plan history from (Fetch path since offset) reason = tt
@@ -217,47 +55,75 @@ refused_borne plan history from (Stage item offset bytes) reason = tt
 refused_borne plan history from (Replace item path since size) reason = tt
 
 -- a refusal tells nothing
-pub refused_true : (history : History) (n : ℕ) (request : Request) (reason : Refusal) → IsTrue history n request (Refused reason)
+pub refused_true : (history : History) (n : ℕ) (request : Request) (reason : Refusal) →
+    IsTrue history n request (Refused reason)
 refused_true history n (Begin pair) reason = tt
 refused_true history n (ListAt path) reason = tt
 refused_true history n (Fetch path since offset) reason = tt
 refused_true history n (Stage item offset bytes) reason = tt
 refused_true history n (Replace item path since size) reason = tt
 
-module _ (plans : Plans) (archive : Archive) (sent : Sent) (histories : Histories) (sound : IsSound plans histories archive sent) (which : Which) (side : Side) (same : side.history ≡ histories which)
+module _ (plans : Plans) (archive : Archive) (sent : Sent) (histories : Histories)
+    (sound : IsSound plans histories archive sent) (which : Which) (side : Side)
+    (same : side.history ≡ histories which)
     (staged : IfSome side.staging (IsSoundStaging plans histories which)) (session number : ℕ) where
-  staged_is : (o : Option Staging) (token : Token) → IfSome o (IsSoundStaging plans histories which) → is_staged o token ≡ true → (staging : Staging) × IsSoundStaging plans histories which staging × (staging.token ≡ token) × (staged_bytes o ≡ staging.bytes)
+  staged_is : (o : Option Staging) (token : Token) →
+      IfSome o (IsSoundStaging plans histories which) →
+      is_staged o token ≡ true → (staging : Staging) × IsSoundStaging plans histories which staging
+      × (staging.token ≡ token) × (staged_bytes o ≡ staging.bytes)
   staged_is None token h e = absurd (true≢false (sym e))
   staged_is (Some staging) token h e = (staging, h, same_token staging.token token e, refl)
 
   -- what is staged whole is what the source had
-  pub replacement_is : (item : ℕ) (path : Path) (since size : ℕ) (new : Tree) → Contains sent (Asks which session number (Replace item path since size)) → Reads (staged_bytes side.staging) (Some new) → is_staged side.staging (token_of session item) ≡ true →
-      length (staged_bytes side.staging) ≡ size → since ≤ length side.history → is_quiet side.history since (length side.history) path ≡ true → IsSoundReplacement plans histories which (token_of session item) path since new
+  pub replacement_is : (item : ℕ) (path : Path) (since size : ℕ) (new : Tree) →
+      Contains sent (Asks which session number (Replace item path since size)) →
+      Reads (staged_bytes side.staging) (Some new) →
+      is_staged side.staging (token_of session item) ≡ true →
+      length (staged_bytes side.staging) ≡ size → since ≤ length side.history →
+      is_quiet side.history since (length side.history) path ≡ true →
+      IsSoundReplacement plans histories which (token_of session item) path since new
   replacement_is item path since size new asked reads at_token long within quiet =
       let st = staged_is side.staging (token_of session item) staged at_token in
-      let by_plan = (sound.asked which session number (Replace item path since size) asked).by_plan in
+      let by_plan =
+      (sound.asked which session number (Replace item path since size) asked).by_plan in
       let planned = by_plan.0 in
-      let item_is : slice_get (plan_in plans session) item ≡ Some st.1.planned = ap (λ t. slice_get (plan_in plans t.session) t.item) (sym st.2) ∙ st.1.item in
+      let item_is : slice_get (plan_in plans session) item ≡ Some st.1.planned =
+      ap (λ t. slice_get (plan_in plans t.session) t.item) (sym st.2) ∙ st.1.item in
       let same_planned : st.1.planned ≡ planned = same_Some _ _ (sym item_is ∙ by_plan.1) in
       let piece = by_plan.4.2 in
-      let true_piece : IsTruePiece (histories (other which)) (path_of planned.item) (seen_on planned (other which)).since by_plan.4.0 size by_plan.4.1 =
-      sound.answered (other which) session piece.number (Piece size by_plan.4.1) (Fetch (path_of planned.item) (seen_on planned (other which)).since by_plan.4.0) piece.answered piece.asked in
+      let true_piece : IsTruePiece (histories (other which)) (path_of planned.item)
+      (seen_on planned (other which)).since by_plan.4.0 size by_plan.4.1 =
+      sound.answered (other which) session piece.number (Piece size by_plan.4.1)
+      (Fetch (path_of planned.item) (seen_on planned (other which)).since by_plan.4.0)
+      piece.answered piece.asked in
       let whole = spelling (source_of histories which planned) in
-      let begins : st.0.bytes ≡ take (length st.0.bytes) whole = st.1.begins ∙ ap (λ d. take (length st.0.bytes) (spelling (source_of histories which d))) same_planned in
-      let full : length st.0.bytes ≡ length whole = ap length (sym st.3) ∙ (long ∙ true_piece.whole) in
-      let bytes_are : st.0.bytes ≡ whole = begins ∙ (ap (λ k. take k whole) full ∙ take-length whole) in
-      let new_is : new ≡ source_of histories which planned = spellings_tell new (source_of histories which planned) reads.0 reads.1
+      let begins : st.0.bytes ≡ take (length st.0.bytes) whole = st.1.begins ∙ ap
+      (λ d. take (length st.0.bytes) (spelling (source_of histories which d))) same_planned in
+      let full : length st.0.bytes ≡ length whole = ap length (sym st.3)
+      ∙ (long ∙ true_piece.whole) in
+      let bytes_are : st.0.bytes ≡ whole = begins
+      ∙ (ap (λ k. take k whole) full ∙ take-length whole) in
+      let new_is : new ≡ source_of histories which planned =
+      spellings_tell new (source_of histories which planned) reads.0 reads.1
       (record {
         whole = tree_at (histories (other which)) (seen_on planned (other which)).since;
         path = path_of planned.item;
-        tree = tree_at_is_tree (histories (other which)) (seen_on planned (other which)).since (sound.lawful (other which));
-        fits = tree_at_fits (histories (other which)) (seen_on planned (other which)).since (sound.lawful (other which));
+        tree =
+            tree_at_is_tree (histories (other which)) (seen_on planned (other which)).since
+            (sound.lawful (other which));
+        fits =
+            tree_at_fits (histories (other which)) (seen_on planned (other which)).since
+            (sound.lawful (other which));
         part_is = refl;
       })
       (reads.3 ∙ (st.3 ∙ bytes_are)) in
       let to_path : WritesTo planned.item (other (other which)) (path_of planned.item) =
-      subst (λ s. WritesTo planned.item s (path_of planned.item)) (sym (other_twice which)) (subst (WritesTo planned.item which) (sym (writes_path planned.item which path by_plan.2)) by_plan.2) in
-      let borne = sound.borne (other which) session piece.number (Piece size by_plan.4.1) (Fetch (path_of planned.item) (seen_on planned (other which)).since by_plan.4.0) piece.answered piece.asked in
+      subst (λ s. WritesTo planned.item s (path_of planned.item)) (sym (other_twice which))
+      (subst (WritesTo planned.item which)
+      (sym (writes_path planned.item which path by_plan.2)) by_plan.2) in
+      let borne = sound.borne (other which) session piece.number (Piece size by_plan.4.1)
+      (Fetch (path_of planned.item) (seen_on planned (other which)).since by_plan.4.0)
+      piece.answered piece.asked in
       record {
         planned = planned;
         item = by_plan.1;
@@ -271,11 +137,20 @@ module _ (plans : Plans) (archive : Archive) (sent : Sent) (histories : Historie
       }
 
   -- the events that it adds are asked for
-  pub outcome_moves : (request : Request) (served : Served) → Contains sent (Asks which session number request) → Outcome side session request served →
-      (served.side.history ≡ side.history) ⊎ ((event : Event) × IsAllowed side.history event × IsSoundEvent plans histories archive which event × (served.side.history ≡ side.history ++ event ∷ []))
+  pub outcome_moves : (request : Request) (served : Served) →
+      Contains sent (Asks which session number request) → Outcome side session request served →
+      (served.side.history ≡ side.history)
+      ⊎ ((event : Event) × IsAllowed side.history event × IsSoundEvent plans histories archive which
+      event × (served.side.history ≡ side.history ++ event ∷ []))
   outcome_moves request served asked (refuses r reason) = inl refl
   outcome_moves _ served asked (begins_again pair e) = inl refl
-  outcome_moves _ served asked (begins pair a) = inr (Began session, a, (sound.asked which session number (Begin pair) asked).session_kept, refl)
+  outcome_moves _ served asked (begins pair a) =
+      inr (
+        Began session,
+        a,
+        (sound.asked which session number (Begin pair) asked).session_kept,
+        refl,
+      )
   outcome_moves _ served asked (lists path there) = inl refl
   outcome_moves _ served asked (lists_none path none) = inl refl
   outcome_moves _ served asked (fetches path since offset w q) = inl refl
@@ -283,47 +158,93 @@ module _ (plans : Plans) (archive : Archive) (sent : Sent) (histories : Historie
   outcome_moves _ served asked (stages_more item offset bytes staging s t at) = inl refl
   outcome_moves _ served asked (stages_again item offset bytes) = inl refl
   outcome_moves _ served asked (done_again item path since size e) = inl refl
-  outcome_moves _ served asked (replaces item path since size new reads at_token long within quiet a) =
-      inr (Replaced (token_of session item) path since new, a, replacement_is item path since size new asked reads at_token long within quiet, refl)
+  outcome_moves _ served asked
+      (replaces item path since size new reads at_token long within quiet a) =
+      inr (
+        Replaced (token_of session item) path since new,
+        a,
+        replacement_is item path since size new asked reads at_token long within quiet,
+        refl,
+      )
 
-  last_is : (o : Option Token) (token : Token) → option_map_or (λ last. is_same_token last token) o false ≡ true → o ≡ Some token
+  last_is : (o : Option Token) (token : Token) →
+      option_map_or (λ last. is_same_token last token) o false ≡ true → o ≡ Some token
   last_is None token e = absurd (true≢false (sym e))
   last_is (Some last) token e = ap (λ t. Some t) (same_token last token e)
 
   -- a side that is listed has begun the session
-  has_begun : (path : Path) → Contains sent (Asks which session number (ListAt path)) → session ≤ last_session side.history
+  has_begun : (path : Path) → Contains sent (Asks which session number (ListAt path)) →
+      session ≤ last_session side.history
   has_begun path asked =
       let b = (sound.asked which session number (ListAt path) asked).by_plan in
-      subst (λ h. session ≤ last_session h) (sym same) (sound.answered which session b.begun.number (Begun b.position) (Begin b.pair) b.begun.answered b.begun.asked)
+      subst (λ h. session ≤ last_session h) (sym same) (sound.answered which session b.begun.number
+      (Begun b.position) (Begin b.pair) b.begun.answered b.begun.asked)
 
   -- what it answers is true
-  pub outcome_true : (request : Request) (served : Served) → Contains sent (Asks which session number request) → Outcome side session request served → IsTrue served.side.history session request served.reply
-  outcome_true request served asked (refuses r reason) = refused_true side.history session request reason
+  pub outcome_true : (request : Request) (served : Served) →
+      Contains sent (Asks which session number request) → Outcome side session request served →
+      IsTrue served.side.history session request served.reply
+  outcome_true request served asked (refuses r reason) =
+      refused_true side.history session request reason
   outcome_true _ served asked (begins_again pair e) = subst (λ n. session ≤ n) e (omega arith)
-  outcome_true _ served asked (begins pair a) = subst (λ n. session ≤ n) (sym (fold_one 0 side.history (Began session))) (omega arith)
-  outcome_true _ served asked (lists path there) = record { reached = omega arith; begun = subst (λ w. session ≤ last_session w) (sym (take-length side.history)) (has_begun path asked); entries_there = ap (λ h. children (mark (tree_of h)) path) (sym (take-length side.history)); directory = ap (λ h. is_directory (tree_of h) path) (take-length side.history) ∙ there }
-  outcome_true _ served asked (lists_none path none) = record { reached = omega arith; no_directory = ap (λ h. is_directory (tree_of h) path) (take-length side.history) ∙ none }
+  outcome_true _ served asked (begins pair a) =
+      subst (λ n. session ≤ n) (sym (fold_one 0 side.history (Began session))) (omega arith)
+  outcome_true _ served asked (lists path there) =
+      record {
+        reached = omega arith;
+        begun = subst (λ w. session ≤ last_session w)
+            (sym (take-length side.history)) (has_begun path asked);
+        entries_there = ap (λ h. children (mark (tree_of h)) path) (sym (take-length side.history));
+        directory = ap (λ h. is_directory (tree_of h) path) (take-length side.history) ∙ there;
+      }
+  outcome_true _ served asked (lists_none path none) =
+      record {
+        reached = omega arith;
+        no_directory = ap (λ h. is_directory (tree_of h) path) (take-length side.history) ∙ none;
+      }
   outcome_true _ served asked (fetches path since offset w q) =
       let at = quiet_same side.history since path q in
-      record { reached = w; whole = ap (λ t. length (spelling t)) at; bytes_there = ap (λ t. take 32768 (drop offset (spelling t))) at }
+      record {
+        reached = w;
+        whole = ap (λ t. length (spelling t)) at;
+        bytes_there = ap (λ t. take 32768 (drop offset (spelling t))) at;
+      }
   outcome_true _ served asked (stages_first item offset bytes z) = tt
   outcome_true _ served asked (stages_more item offset bytes staging s t at) = tt
   outcome_true _ served asked (stages_again item offset bytes) = tt
   outcome_true _ served asked (done_again item path since size e) =
-      let by_plan = (sound.asked which session number (Replace item path since size) asked).by_plan in
+      let by_plan =
+      (sound.asked which session number (Replace item path since size) asked).by_plan in
       let is = made plans histories archive sent sound session item by_plan.0 by_plan.1 in
-      let spent = sound.used which (token_of session item) by_plan.0 path (ap last_token (sym same) ∙ last_is (last_token side.history) (token_of session item) e) by_plan.1 by_plan.2 in
+      let spent = sound.used which (token_of session item) by_plan.0 path (ap last_token (sym same)
+      ∙ last_is (last_token side.history) (token_of session item) e) by_plan.1 by_plan.2 in
       let touched = spent.touched in
-      let within = since_reached plans histories archive sent sound session is.0 is.1 (plan_in plans session) is.2 item by_plan.0 which path by_plan.1 by_plan.2 which in (
-        subst (λ h. since ≤ length h) (sym same) (subst (λ k. k ≤ length (histories which)) (sym by_plan.3) within),
-        subst (λ h. is_quiet h since (length h) path ≡ false) (sym same) (subst (λ k. is_quiet (histories which) k (length (histories which)) path ≡ false) (sym by_plan.3) touched),
+      let within = since_reached plans histories archive sent sound session is.0 is.1
+      (plan_in plans session) is.2 item by_plan.0 which path by_plan.1 by_plan.2 which in (
+        subst (λ h. since ≤ length h) (sym same)
+            (subst (λ k. k ≤ length (histories which)) (sym by_plan.3) within),
+        subst (λ h. is_quiet h since (length h) path ≡ false) (sym same)
+            (subst (λ k. is_quiet (histories which) k (length (histories which)) path ≡ false)
+            (sym by_plan.3) touched),
       )
-  outcome_true _ served asked (replaces item path since size new reads at_token long within quiet a) =
-      (omega (arith, within, length-append side.history (Replaced (token_of session item) path since new ∷ [])), touched_now side.history (Replaced (token_of session item) path since new) since path within (path_meets_itself path))
+  outcome_true _ served asked
+      (replaces item path since size new reads at_token long within quiet a) = (
+        omega (
+          arith,
+          within,
+          length-append side.history
+              (Replaced (token_of session item) path since new ∷ []),
+        ),
+        touched_now side.history (Replaced
+            (token_of session item) path since new) since path within (path_meets_itself path),
+      )
 
   -- and so is what it says of its item
-  pub outcome_borne : (request : Request) (served : Served) → Contains sent (Asks which session number request) → Outcome side session request served → IsBorne (plan_in plans session) served.side.history which request served.reply
-  outcome_borne request served asked (refuses r reason) = refused_borne (plan_in plans session) side.history which request reason
+  pub outcome_borne : (request : Request) (served : Served) →
+      Contains sent (Asks which session number request) → Outcome side session request served →
+      IsBorne (plan_in plans session) served.side.history which request served.reply
+  outcome_borne request served asked (refuses r reason) =
+      refused_borne (plan_in plans session) side.history which request reason
   outcome_borne _ served asked (begins_again pair e) = tt
   outcome_borne _ served asked (begins pair a) = tt
   outcome_borne _ served asked (lists path there) = tt
@@ -331,35 +252,58 @@ module _ (plans : Plans) (archive : Archive) (sent : Sent) (histories : Historie
   outcome_borne _ served asked (fetches path since offset w q) = λ item planned e writes since_is.
       let is = made plans histories archive sent sound session item planned e in
       let quiet = ap₂ (λ k h. is_quiet h k (length h) path) (sym since_is) (sym same) ∙ q in
-      let seen = seen_is plans histories archive sent sound session is.0 is.1 (plan_in plans session) is.2 item planned (other which) path e writes which quiet in
-      seen ∙ (ap (λ h. subtree (mark (tree_of h)) path) (sym same) ∙ (sym (mark-subtree (tree_of side.history) path) ∙ ap mark (quiet_same side.history since path q)))
+      let seen = seen_is plans histories archive sent sound session is.0 is.1
+      (plan_in plans session) is.2 item planned (other which) path e writes which quiet in
+      seen ∙ (ap (λ h. subtree (mark (tree_of h)) path) (sym same) ∙ (sym (mark-subtree
+      (tree_of side.history) path) ∙ ap mark (quiet_same side.history since path q)))
   outcome_borne _ served asked (stages_first item offset bytes z) = tt
   outcome_borne _ served asked (stages_more item offset bytes staging s t at) = tt
   outcome_borne _ served asked (stages_again item offset bytes) = tt
   outcome_borne _ served asked (done_again item path since size e) = λ planned at.
-      let by_plan = (sound.asked which session number (Replace item path since size) asked).by_plan in
-      let spent = sound.used which (token_of session item) by_plan.0 path (ap last_token (sym same) ∙ last_is (last_token side.history) (token_of session item) e) by_plan.1 by_plan.2 in
-      subst (λ h. HadMarks h path (seen_on planned (other which)).marks) (sym same) (subst (λ d. HadMarks (histories which) path (seen_on d (other which)).marks) (same_Some _ _ (sym by_plan.1 ∙ at)) spent.put)
-  outcome_borne _ served asked (replaces item path since size new reads at_token long within quiet a) = λ planned at.
+      let by_plan =
+      (sound.asked which session number (Replace item path since size) asked).by_plan in
+      let spent = sound.used which (token_of session item) by_plan.0 path (ap last_token (sym same)
+      ∙ last_is (last_token side.history) (token_of session item) e) by_plan.1 by_plan.2 in
+      subst (λ h. HadMarks h path (seen_on planned (other which)).marks) (sym same)
+      (subst (λ d. HadMarks (histories which) path (seen_on d (other which)).marks)
+      (same_Some _ _ (sym by_plan.1 ∙ at)) spent.put)
+  outcome_borne _ served asked
+      (replaces item path since size new reads at_token long within quiet a) =
+      λ planned at.
       let r = replacement_is item path since size new asked reads at_token long within quiet in
       record {
         position = length side.history + 1;
-        reached = omega (arith, length-append side.history (Replaced (token_of session item) path since new ∷ []));
-        had = ap (λ d. (seen_on d (other which)).marks) (same_Some _ _ (sym at ∙ r.item)) ∙ (r.carries ∙ put_there side.history (token_of session item) path since new);
+        reached =
+            omega (
+              arith,
+              length-append side.history
+                  (Replaced (token_of session item) path since new ∷ []),
+            );
+        had =
+            ap (λ d. (seen_on d (other which)).marks) (same_Some _ _ (sym at ∙ r.item))
+            ∙ (r.carries ∙ put_there side.history (token_of session item) path since new);
       }
 
-  piece_of : (item offset : ℕ) (bytes : Bytes) → Contains sent (Asks which session number (Stage item offset bytes)) → (planned : Planned) × (slice_get (plan_in plans session) item ≡ Some planned)
-      × ((seen_on planned (other which)).since ≤ length (histories (other which))) × (bytes ≡ take 32768 (drop offset (spelling (source_of histories which planned))))
+  piece_of : (item offset : ℕ) (bytes : Bytes) →
+      Contains sent (Asks which session number (Stage item offset bytes)) →
+      (planned : Planned) × (slice_get (plan_in plans session) item ≡ Some planned)
+      × ((seen_on planned (other which)).since ≤ length (histories (other which)))
+      × (bytes ≡ take 32768 (drop offset (spelling (source_of histories which planned))))
   piece_of item offset bytes asked =
       let by_plan = (sound.asked which session number (Stage item offset bytes) asked).by_plan in
       let planned = by_plan.0 in
       let piece = by_plan.2.1 in
-      let true_piece : IsTruePiece (histories (other which)) (path_of planned.item) (seen_on planned (other which)).since offset by_plan.2.0 bytes =
-      sound.answered (other which) session piece.number (Piece by_plan.2.0 bytes) (Fetch (path_of planned.item) (seen_on planned (other which)).since offset) piece.answered piece.asked in
+      let true_piece : IsTruePiece (histories (other which)) (path_of planned.item)
+      (seen_on planned (other which)).since offset by_plan.2.0 bytes =
+      sound.answered (other which) session piece.number (Piece by_plan.2.0 bytes)
+      (Fetch (path_of planned.item) (seen_on planned (other which)).since offset) piece.answered
+      piece.asked in
       (planned, by_plan.1, true_piece.reached, true_piece.bytes_there)
 
   -- what it stages was fetched
-  pub outcome_staging : (request : Request) (served : Served) → Contains sent (Asks which session number request) → Outcome side session request served → IfSome served.side.staging (IsSoundStaging plans histories which)
+  pub outcome_staging : (request : Request) (served : Served) →
+      Contains sent (Asks which session number request) → Outcome side session request served →
+      IfSome served.side.staging (IsSoundStaging plans histories which)
   outcome_staging request served asked (refuses r reason) = staged
   outcome_staging _ served asked (begins_again pair e) = staged
   outcome_staging _ served asked (begins pair a) = staged
@@ -368,49 +312,81 @@ module _ (plans : Plans) (archive : Archive) (sent : Sent) (histories : Historie
   outcome_staging _ served asked (fetches path since offset w q) = staged
   outcome_staging _ served asked (stages_first item offset bytes z) =
       let piece = piece_of item offset bytes asked in
-      record { planned = piece.0; item = piece.1; reached = piece.2; begins = first_piece (spelling (source_of histories which piece.0)) bytes offset z piece.3 }
+      record {
+        planned = piece.0;
+        item = piece.1;
+        reached = piece.2;
+        begins = first_piece (spelling (source_of histories which piece.0)) bytes offset z piece.3;
+      }
   outcome_staging _ served asked (stages_more item offset bytes staging s t at) =
       let piece = piece_of item offset bytes asked in
-      let had : IsSoundStaging plans histories which staging = subst (λ o. IfSome o (IsSoundStaging plans histories which)) s staged in
-      let item_is : slice_get (plan_in plans session) item ≡ Some had.planned = ap (λ t. slice_get (plan_in plans t.session) t.item) (same_token (token_of session item) staging.token t) ∙ had.item in
+      let had : IsSoundStaging plans histories which staging =
+      subst (λ o. IfSome o (IsSoundStaging plans histories which)) s staged in
+      let item_is : slice_get (plan_in plans session) item ≡ Some had.planned =
+      ap (λ t. slice_get (plan_in plans t.session) t.item)
+      (same_token (token_of session item) staging.token t) ∙ had.item in
       let same_planned : had.planned ≡ piece.0 = same_Some _ _ (sym item_is ∙ piece.1) in
       record {
         planned = piece.0;
         item = piece.1;
         reached = piece.2;
-        begins = next_piece (spelling (source_of histories which piece.0)) staging.bytes bytes offset at (had.begins ∙ ap (λ d. take (length staging.bytes) (spelling (source_of histories which d))) same_planned) piece.3;
+        begins =
+            next_piece (spelling (source_of histories which piece.0)) staging.bytes bytes offset at
+            (had.begins ∙ ap (λ d. take (length staging.bytes)
+            (spelling (source_of histories which d))) same_planned) piece.3;
       }
   outcome_staging _ served asked (stages_again item offset bytes) = staged
   outcome_staging _ served asked (done_again item path since size e) = staged
-  outcome_staging _ served asked (replaces item path since size new reads at_token long within quiet a) = staged
+  outcome_staging _ served asked
+      (replaces item path since size new reads at_token long within quiet a) =
+      staged
 
 -- Legal replacements
 
-pub current : (history : History) (token : Token) (path : Path) (since : ℕ) (new : Tree) → IsAllowed history (Replaced token path since new) → token.session ≡ last_session history
+pub current : (history : History) (token : Token) (path : Path) (since : ℕ) (new : Tree) →
+    IsAllowed history (Replaced token path since new) → token.session ≡ last_session history
 current history token path since new a =
-    let rest = place_causes (tree_of history) path ++ (full_causes (replace (tree_of history) path new) ++ position_causes history) in
+    let rest = place_causes (tree_of history) path
+    ++ (full_causes (replace (tree_of history) path new) ++ position_causes history) in
     let one = (first_cause-none (is_old_token history token, OldSession) rest a.not_refused).0 in
-    let two = (or_parts (token.session == 0 || not (token.session == last_session history)) (option_map_or (λ last. not (is_below last token)) (last_token history) false) one).0 in
-    let three = (or_parts (token.session == 0) (not (token.session == last_session history)) two).1 in
+    let two = (or_parts (token.session == 0 || not (token.session == last_session history))
+    (option_map_or (λ last. not (is_below last token)) (last_token history) false) one).0 in
+    let three =
+    (or_parts (token.session == 0) (not (token.session == last_session history)) two).1 in
     eqb-true token.session (last_session history) (not-false _ three)
 
 -- a replacement by its session's plan is legal
-pub legal : (plans : Plans) (histories : Histories) (archive : Archive) (sent : Sent) → IsSound plans histories archive sent → (side : Which) (token : Token) (path : Path) (since : ℕ) (new : Tree) →
-    IsAllowed (histories side) (Replaced token path since new) → IsSoundReplacement plans histories side token path since new →
-    (stores : Stores) → ((s : Which) → history_of stores s ≡ histories s) → stores.archive ≡ archive → IsLegal sent plans side stores token path since new
+pub legal : (plans : Plans) (histories : Histories) (archive : Archive) (sent : Sent) →
+    IsSound plans histories archive sent → (side : Which) (token : Token) (path : Path) (since : ℕ)
+    (new : Tree) → IsAllowed (histories side) (Replaced token path since new) →
+    IsSoundReplacement plans histories side token path since new → (stores : Stores) →
+    ((s : Which) → history_of stores s ≡ histories s) → stores.archive ≡ archive →
+    IsLegal sent plans side stores token path since new
 legal plans histories archive sent sound side token path since new allowed h stores at archive_is =
     let is = made plans histories archive sent sound token.session token.item h.planned h.item in
-    let w = writes_of plans histories archive sent sound token.session is.0 is.1 (plan_in plans token.session) is.2 token.item h.planned side path h.item h.writes in
+    let w = writes_of plans histories archive sent sound token.session is.0 is.1
+    (plan_in plans token.session) is.2 token.item h.planned side path h.item h.writes in
     let entry = entry_of plans token.session token.item h.planned h.item in
     let above_is : parent path ≡ w.above = ap parent w.at ∙ parent-child w.above w.name in
-    let listed = λ (s : Which). subst (λ k. WasListed sent s token.session (parent path) k) (sym (w.since_is s)) (subst (λ q. WasListed sent s token.session q (is.1.since s w.above)) (sym above_is)
-    (children (is.1.scan s).marks w.above, (is.2.scanned s).listed w.above (w.above_is s).0 (w.above_is s).1)) in
+    let listed = λ (s : Which). subst
+    (λ k. WasListed sent s token.session (parent path) k) (sym (w.since_is s))
+    (subst (λ q. WasListed sent s token.session q (is.1.since s w.above)) (sym above_is) (
+      children (is.1.scan s).marks w.above,
+      (is.2.scanned s).listed w.above (w.above_is s).0 (w.above_is s).1,
+    )) in
     let at_source = (listed (other side)).1 in
-    let true_listing : IsTrueListing (histories (other side)) token.session (parent path) (seen_on h.planned (other side)).since (listed (other side)).0 =
-    sound.answered (other side) token.session at_source.number (Listed (seen_on h.planned (other side)).since (listed (other side)).0) (ListAt (parent path)) at_source.answered at_source.asked in
-    let source_directory = ap (λ w. is_directory (tree_at w (seen_on h.planned (other side)).since) (parent path)) (at (other side)) ∙ true_listing.directory in
+    let true_listing : IsTrueListing (histories (other side)) token.session (parent path)
+    (seen_on h.planned (other side)).since (listed (other side)).0 =
+    sound.answered (other side) token.session at_source.number
+    (Listed (seen_on h.planned (other side)).since (listed (other side)).0)
+    (ListAt (parent path)) at_source.answered at_source.asked in
+    let source_directory =
+    ap (λ w. is_directory (tree_at w (seen_on h.planned (other side)).since) (parent path))
+    (at (other side)) ∙ true_listing.directory in
     record {
-      listed = subst (λ k. WasListed sent side token.session (parent path) k) (sym h.listed) (listed side);
+      listed =
+          subst (λ k. WasListed sent side token.session (parent path) k) (sym h.listed)
+          (listed side);
       reached = subst (λ w. since ≤ length w) (sym (at side)) h.within;
       untouched = ap (λ w. is_quiet w since (length w) path) (at side) ∙ h.quiet;
       made = entry.0;
@@ -418,13 +394,24 @@ legal plans histories archive sent sound side token path since new allowed h sto
       planned = h.planned;
       item = (ap (λ plan. slice_get plan token.item) entry.3 ∙ h.item, h.writes);
       seen = h.listed;
-      recorded = sym (mark-subtree (tree_of (history_of stores side)) path) ∙ (mark-subtree (tree_of (history_of stores side)) path ∙ (ap (λ w. subtree (mark (tree_of w)) path) (at side)
-          ∙ (sound.recorded token.session token.item h.planned side path h.item h.writes (current (histories side) token path since new allowed) (ap (λ k. is_quiet (histories side) k (length (histories side)) path) (sym h.listed) ∙ h.quiet)
+      recorded =
+          sym (mark-subtree (tree_of (history_of stores side)) path)
+          ∙ (mark-subtree (tree_of (history_of stores side)) path
+          ∙ (ap (λ w. subtree (mark (tree_of w)) path) (at side)
+          ∙ (sound.recorded token.session token.item h.planned side path h.item h.writes
+          (current (histories side) token path since new allowed) (ap (λ k. is_quiet
+          (histories side) k (length (histories side)) path) (sym h.listed) ∙ h.quiet)
           ∙ ap (λ a. subtree a.marks path) (sym archive_is))));
       source = record {
         listed = listed (other side);
         directory = source_directory;
-        reached = subst (λ w. (seen_on h.planned (other side)).since ≤ length w) (sym (at (other side))) h.reached;
-        held = h.whole ∙ (ap (λ p. part_at (histories (other side)) (seen_on h.planned (other side)).since p) (writes_path h.planned.item side path h.writes) ∙ ap (λ w. part_at w (seen_on h.planned (other side)).since path) (sym (at (other side))));
+        reached =
+            subst (λ w. (seen_on h.planned (other side)).since ≤ length w)
+            (sym (at (other side))) h.reached;
+        held =
+            h.whole
+            ∙ (ap (λ p. part_at (histories (other side)) (seen_on h.planned (other side)).since p)
+            (writes_path h.planned.item side path h.writes) ∙ ap
+            (λ w. part_at w (seen_on h.planned (other side)).since path) (sym (at (other side))));
       };
     }

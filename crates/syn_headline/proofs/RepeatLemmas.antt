@@ -1,5 +1,7 @@
 -- What becomes of a repeated replacement.
-use Rattle.std.proofs.Common.{◌≡◌, ℕ, Bool, true, false, not, ◌==◌, ◌&&◌, ◌||◌, nat_lt, if◌then◌else◌, [], ◌∷◌, ◌++◌, length, refl, sym, ap, ◌∙◌, subst, Some, None, append_assoc, append-nil, arith, inl, inr}
+use Rattle.std.proofs.Common.{◌≡◌, ℕ, Bool, true, false, not, ◌==◌, ◌&&◌, ◌||◌, nat_lt}
+use Rattle.std.proofs.Common.{if◌then◌else◌, [], ◌∷◌, ◌++◌, length, refl, sym, ap, ◌∙◌, subst, Some}
+use Rattle.std.proofs.Common.{None, append_assoc, append-nil, arith, inl, inr}
 use Rattle.std.proofs.lemmas.Bool.Decides.{nat_tests}
 use Rattle.std.proofs.lemmas.Option.{same_Some}
 use Rattle.std.specs.Option.{option_map_or}
@@ -7,53 +9,81 @@ use Rattle.std.proofs.lemmas.Bool.{eq-eqb}
 use Rattle.syn_model.specs.Refusal.{OldSession, NotStaged, BadStage, first_cause}
 use Rattle.syn_model.specs.Event.{Token, is_below, is_same_token, Edited, Began, Replaced}
 use Rattle.syn_model.specs.History.{History, IsHistory, AllAllowed, last_session, last_token}
-use Rattle.syn_headline.specs.Side.{Done, answer, token_of, is_dead_token, is_staged, staged_bytes, unless_refused, replace_with}
+use Rattle.syn_headline.specs.Side.{Done, answer, token_of, is_dead_token, is_staged, staged_bytes}
+use Rattle.syn_headline.specs.Side.{unless_refused, replace_with}
 use Rattle.syn_headline.specs.Laws.{RepeatsAreDone, LaterAreOld, DeadAreOld}
-use Rattle.syn_headline.proofs.MoveLemmas.{token_one}
+use Rattle.syn_headline.proofs.StagedLemmas.{token_one}
 use Rattle.syn_headline.proofs.TokenLemmas.{above_last, after_front}
 
 itself : (token : Token) → is_same_token token token ≡ true
 itself token = rw (eq-eqb token.session token.session refl, eq-eqb token.item token.item refl) refl
 
 pub repeats_are_done : RepeatsAreDone
-repeats_are_done pair has_room side session item path since size served last (inr interrupted) = inr interrupted
+repeats_are_done pair has_room side session item path since size served last (inr interrupted) =
+    inr interrupted
 repeats_are_done pair has_room side session item path since size served last (inl s) =
-    let is_last : option_map_or (λ last. is_same_token last (token_of session item)) (last_token side.history) false ≡ true = ap (λ o. option_map_or (λ last. is_same_token last (token_of session item)) o false) last ∙ itself (token_of session item) in
+    let is_last : option_map_or (λ last. is_same_token last (token_of session item))
+    (last_token side.history) false ≡ true =
+    ap (λ o. option_map_or (λ last. is_same_token last (token_of session item)) o false) last
+    ∙ itself (token_of session item) in
     inl (s.2 ∙ ap (λ b. if b then answer side Done else unless_refused side
-    (first_cause ((is_dead_token side (token_of session item), OldSession) ∷ (not (is_staged side.staging (token_of session item)), NotStaged) ∷ (not (length (staged_bytes side.staging) == size), BadStage) ∷ []))
+    (first_cause ((is_dead_token side (token_of session item), OldSession)
+    ∷ (not (is_staged side.staging (token_of session item)), NotStaged)
+    ∷ (not (length (staged_bytes side.staging) == size), BadStage) ∷ []))
     (replace_with has_room side (token_of session item) path since s.0)) is_last)
 
 pub dead_are_old : DeadAreOld
-dead_are_old pair has_room side session item path since size served differs dead (inr interrupted) = inr interrupted
+dead_are_old pair has_room side session item path since size served differs dead (inr interrupted) =
+    inr interrupted
 dead_are_old pair has_room side session item path since size served differs dead (inl s) =
     inl (s.2 ∙ (ap (λ b. if b then answer side Done else unless_refused side
-    (first_cause ((is_dead_token side (token_of session item), OldSession) ∷ (not (is_staged side.staging (token_of session item)), NotStaged) ∷ (not (length (staged_bytes side.staging) == size), BadStage) ∷ []))
+    (first_cause ((is_dead_token side (token_of session item), OldSession)
+    ∷ (not (is_staged side.staging (token_of session item)), NotStaged)
+    ∷ (not (length (staged_bytes side.staging) == size), BadStage) ∷ []))
     (replace_with has_room side (token_of session item) path since s.0)) differs
     ∙ ap (λ b. unless_refused side
-    (first_cause ((b, OldSession) ∷ (not (is_staged side.staging (token_of session item)), NotStaged) ∷ (not (length (staged_bytes side.staging) == size), BadStage) ∷ []))
+    (first_cause ((b, OldSession) ∷ (
+      not (is_staged side.staging (token_of session item)),
+      NotStaged,
+    ) ∷ (not (length (staged_bytes side.staging) == size), BadStage) ∷ []))
     (replace_with has_room side (token_of session item) path since s.0)) dead))
 
 -- Tokens rise
 
-not_above : (us ui ls li ts ti : ℕ) → ((us == ls && ui == li) || (nat_lt us ls || (us == ls && nat_lt ui li))) ≡ true → (nat_lt ls ts || (ls == ts && nat_lt li ti)) ≡ true → ((us == ts && ui == ti) || (nat_lt us ts || (us == ts && nat_lt ui ti))) ≡ true
+not_above : (us ui ls li ts ti : ℕ) →
+    ((us == ls && ui == li) || (nat_lt us ls || (us == ls && nat_lt ui li))) ≡ true →
+    (nat_lt ls ts || (ls == ts && nat_lt li ti)) ≡ true →
+    ((us == ts && ui == ti) || (nat_lt us ts || (us == ts && nat_lt ui ti))) ≡ true
 not_above us ui ls li ts ti h k = grind (arith, nat_tests)
 
-below_unless_same : (us ui ls li : ℕ) → ((us == ls && ui == li) || (nat_lt us ls || (us == ls && nat_lt ui li))) ≡ true → (ls == us && li == ui) ≡ false → (nat_lt us ls || (us == ls && nat_lt ui li)) ≡ true
+below_unless_same : (us ui ls li : ℕ) →
+    ((us == ls && ui == li) || (nat_lt us ls || (us == ls && nat_lt ui li))) ≡ true →
+    (ls == us && li == ui) ≡ false → (nat_lt us ls || (us == ls && nat_lt ui li)) ≡ true
 below_unless_same us ui ls li h k = grind (arith, nat_tests)
 
 -- a token is not above another
 abbrev IsUpTo : Token → Token → Type 0
 IsUpTo a b = (is_same_token a b || is_below a b) ≡ true
 
-tokens_rise : (done events : History) (token last final : Token) → last_token done ≡ Some last → IsUpTo token last → AllAllowed done events → last_token (done ++ events) ≡ Some final → IsUpTo token final
-tokens_rise done [] token last final e up all f = subst (IsUpTo token) (same_Some _ _ (sym e ∙ (ap last_token (sym (append-nil done)) ∙ f))) up
+tokens_rise : (done events : History) (token last final : Token) → last_token done ≡ Some last →
+    IsUpTo token last → AllAllowed done events → last_token (done ++ events) ≡ Some final →
+    IsUpTo token final
+tokens_rise done [] token last final e up all f =
+    subst (IsUpTo token) (same_Some _ _ (sym e ∙ (ap last_token (sym (append-nil done)) ∙ f))) up
 tokens_rise done (Edited user edit ∷ events) token last final e up all f =
-    tokens_rise (done ++ Edited user edit ∷ []) events token last final (token_one None done (Edited user edit) ∙ e) up all.1 (ap last_token (append_assoc done (Edited user edit ∷ []) events) ∙ f)
+    tokens_rise (done ++ Edited user edit ∷ []) events token last final
+    (token_one None done (Edited user edit) ∙ e) up all.1
+    (ap last_token (append_assoc done (Edited user edit ∷ []) events) ∙ f)
 tokens_rise done (Began session ∷ events) token last final e up all f =
-    tokens_rise (done ++ Began session ∷ []) events token last final (token_one None done (Began session) ∙ e) up all.1 (ap last_token (append_assoc done (Began session ∷ []) events) ∙ f)
+    tokens_rise (done ++ Began session ∷ []) events token last final
+    (token_one None done (Began session) ∙ e) up all.1
+    (ap last_token (append_assoc done (Began session ∷ []) events) ∙ f)
 tokens_rise done (Replaced used path since new ∷ events) token last final e up all f =
-    tokens_rise (done ++ Replaced used path since new ∷ []) events token used final (token_one None done (Replaced used path since new))
-    (not_above token.session token.item last.session last.item used.session used.item up (above_last done last used path since new e all.0)) all.1 (ap last_token (append_assoc done (Replaced used path since new ∷ []) events) ∙ f)
+    tokens_rise (done ++ Replaced used path since new ∷ []) events token used final
+    (token_one None done (Replaced used path since new))
+    (not_above token.session token.item last.session last.item used.session used.item up
+    (above_last done last used path since new e all.0)) all.1
+    (ap last_token (append_assoc done (Replaced used path since new ∷ []) events) ∙ f)
 
 in_the_middle : (a b d : Bool) → (a || b || true || d) ≡ true
 in_the_middle true b d = refl
@@ -61,14 +91,24 @@ in_the_middle false true d = refl
 in_the_middle false false d = refl
 
 pub later_are_old : LaterAreOld
-later_are_old pair has_room side session item path since size served earlier later at from new last lawful is last_is differs serves =
+later_are_old pair has_room side session item path since size served earlier later at from new last
+    lawful is last_is differs serves =
     let token = token_of session item in
     let event = Replaced token at from new in
     let rest = after_front [] earlier (event ∷ later) (subst IsHistory is lawful) in
-    let up = tokens_rise (earlier ++ event ∷ []) later token token last (token_one None earlier event) (ap (λ b. b || is_below token token) (itself token)) rest.1 (ap last_token (append_assoc earlier (event ∷ []) later) ∙ (ap last_token (sym is) ∙ last_is)) in
-    let below : is_below token last ≡ true = below_unless_same token.session token.item last.session last.item up differs in
+    let up = tokens_rise (earlier ++ event ∷ []) later token token last
+    (token_one None earlier event) (ap (λ b. b || is_below token token) (itself token)) rest.1
+    (ap last_token (append_assoc earlier (event ∷ []) later) ∙ (ap last_token (sym is) ∙ last_is))
+    in
+    let below : is_below token last ≡ true =
+    below_unless_same token.session token.item last.session last.item up differs in
     let dead : is_dead_token side token ≡ true =
-    ap (λ o. session == 0 || not (session == last_session side.history) || option_map_or (λ last. is_below token last) o false || option_map_or (λ staging. is_below token staging.token) side.staging false) last_is
-    ∙ (ap (λ b. session == 0 || not (session == last_session side.history) || b || option_map_or (λ staging. is_below token staging.token) side.staging false) below
-    ∙ in_the_middle (session == 0) (not (session == last_session side.history)) (option_map_or (λ staging. is_below token staging.token) side.staging false)) in
-    dead_are_old pair has_room side session item path since size served (ap (λ o. option_map_or (λ last. is_same_token last token) o false) last_is ∙ differs) dead serves
+    ap (λ o. session == 0 || not (session == last_session side.history)
+    || option_map_or (λ last. is_below token last) o false
+    || option_map_or (λ staging. is_below token staging.token) side.staging false) last_is
+    ∙ (ap (λ b. session == 0 || not (session == last_session side.history) || b
+    || option_map_or (λ staging. is_below token staging.token) side.staging false) below
+    ∙ in_the_middle (session == 0) (not (session == last_session side.history))
+    (option_map_or (λ staging. is_below token staging.token) side.staging false)) in
+    dead_are_old pair has_room side session item path since size served (ap
+    (λ o. option_map_or (λ last. is_same_token last token) o false) last_is ∙ differs) dead serves

@@ -1,7 +1,9 @@
 -- What a session that runs remembers of the world, and what steps beside it keep of that.
-use Rattle.std.proofs.Common.{◌≡◌, ◌≢◌, ℕ, zero, suc, List, [], ◌∷◌, ◌++◌, filter_map, take, fold, sym, ap, ◌∙◌, subst, None, append-nil, arith, inl, inr}
+use Rattle.std.proofs.Common.{◌≡◌, ◌≢◌, ℕ, zero, suc, List, [], ◌∷◌, ◌++◌, filter_map, take, fold}
+use Rattle.std.proofs.Common.{sym, ap, ◌∙◌, subst, None, append-nil, arith, inl, inr}
 use Rattle.std.specs.Prelude.{Contains, IsSome, All, Any}
-use Rattle.std.proofs.lemmas.List.Elements.{Contains-append_left, Contains-append_cases, filter_map-append}
+use Rattle.std.proofs.lemmas.List.Elements.{Contains-append_left, Contains-append_cases}
+use Rattle.std.proofs.lemmas.List.Elements.{filter_map-append}
 use Rattle.syn_headline.specs.Side.{Request, Reply}
 use Rattle.syn_headline.specs.Network.{Which, Message, Asks, Answers}
 use Rattle.syn_headline.specs.Acknowledged.{Ack, kept_in}
@@ -15,14 +17,19 @@ use Rattle.syn_headline.proofs.InOrder.{ListsInOrder, SaysAfter, beside_in_order
 pub record IsHeard (world : World) (running : Running) : Type 0 where
   pub remembers : Remembers world.sent running
   pub in_order : ListsInOrder world.sent running
-  pub unplanned : running.plan ≡ None → All (λ made. made.session ≢ running.session) world.log × (running.cursor ≡ 0)
+  pub unplanned : running.plan ≡ None →
+      All (λ made. made.session ≢ running.session) world.log × (running.cursor ≡ 0)
   pub planned : IsSome running.plan → Any (λ made. made.session ≡ running.session) world.log
   pub kept : kept_in_session world.acknowledged ≡ running.kept
-  pub settled : All (IsSettledBy running.kept running.refused) (take running.cursor (plan_of running))
+  pub settled :
+      All (IsSettledBy running.kept running.refused) (take running.cursor (plan_of running))
 
 -- no request is among answers
-pub no_asks : (side at : Which) (session n : ℕ) (reply : Reply) (s m : ℕ) (request : Request) → Contains (Answers at session n reply ∷ []) (Asks side s m request) → ⊥
-no_asks side at session n reply s m request (zero, h, e) = let x : Answers at session n reply ≡ Asks side s m request = e in cc
+pub no_asks : (side at : Which) (session n : ℕ) (reply : Reply) (s m : ℕ) (request : Request) →
+    Contains (Answers at session n reply ∷ []) (Asks side s m request) → ⊥
+no_asks side at session n reply s m request (zero, h, e) =
+    let x : Answers at session n reply ≡ Asks side s m request = e in
+    cc
 no_asks side at session n reply s m request (suc k, h, e) = omega (arith, h)
 
 -- a side goes on, and says something or nothing
@@ -30,26 +37,44 @@ pub record GoesBeside (old new : World) : Type 0 where
   pub more : List Message
   pub acks : List Ack
   pub sent : new.sent ≡ old.sent ++ more
-  pub no_request : (side : Which) (session n : ℕ) (request : Request) → Contains more (Asks side session n request) → ⊥
+  pub no_request : (side : Which) (session n : ℕ) (request : Request) →
+      Contains more (Asks side session n request) → ⊥
   pub says : SaysAfter old.sent more
   pub log : new.log ≡ old.log
   pub acknowledged : new.acknowledged ≡ old.acknowledged ++ acks
   pub nothing_kept : filter_map kept_in acks ≡ []
 
-pub heard_beside : (old new : World) (running : Running) → GoesBeside old new → IsHeard old running → IsHeard new running
+pub heard_beside : (old new : World) (running : Running) → GoesBeside old new →
+    IsHeard old running → IsHeard new running
 heard_beside old new running g h = record {
   remembers = subst (λ sent. Remembers sent running) (sym g.sent) (record {
-    taken = λ e c. let was = h.remembers.taken e c in (Contains-append_left old.sent g.more _ was.0, Contains-append_left old.sent g.more _ was.1);
+    taken =
+        λ e c. let was = h.remembers.taken e c in (
+          Contains-append_left old.sent g.more _ was.0,
+          Contains-append_left old.sent g.more _ was.1,
+        );
     waiting = λ side one c. Contains-append_left old.sent g.more _ (h.remembers.waiting side one c);
-    asked = λ side number request c. elim (Contains-append_cases old.sent g.more (Asks side running.session number request) c) as (λ _. WasAsked running side number request) [
-      | inl was ↦ h.remembers.asked side number request was
-      | inr now ↦ absurd (g.no_request side running.session number request now)
-    ];
+    asked =
+        λ side number request c.
+        elim (Contains-append_cases old.sent g.more (Asks side running.session number request) c)
+        as (λ _. WasAsked running side number request) [
+          | inl was ↦ h.remembers.asked side number request was
+          | inr now ↦ absurd (g.no_request side running.session number request now)
+        ];
     below = h.remembers.below;
   });
-  in_order = subst (λ sent. ListsInOrder sent running) (sym g.sent) (beside_in_order old.sent g.more running h.remembers g.says h.in_order);
-  unplanned = λ none. let was = h.unplanned none in (subst (All (λ made. made.session ≢ running.session)) (sym g.log) was.0, was.1);
-  planned = λ some. subst (Any (λ made. made.session ≡ running.session)) (sym g.log) (h.planned some);
-  kept = ap kept_in_session g.acknowledged ∙ (ap (fold since_start []) (filter_map-append kept_in old.acknowledged g.acks ∙ (ap (λ ks. filter_map kept_in old.acknowledged ++ ks) g.nothing_kept ∙ append-nil (filter_map kept_in old.acknowledged))) ∙ h.kept);
+  in_order =
+      subst (λ sent. ListsInOrder sent running) (sym g.sent)
+      (beside_in_order old.sent g.more running h.remembers g.says h.in_order);
+  unplanned =
+      λ none. let was = h.unplanned none in
+      (subst (All (λ made. made.session ≢ running.session)) (sym g.log) was.0, was.1);
+  planned =
+      λ some. subst (Any (λ made. made.session ≡ running.session)) (sym g.log) (h.planned some);
+  kept =
+      ap kept_in_session g.acknowledged
+      ∙ (ap (fold since_start []) (filter_map-append kept_in old.acknowledged g.acks
+      ∙ (ap (λ ks. filter_map kept_in old.acknowledged ++ ks) g.nothing_kept
+      ∙ append-nil (filter_map kept_in old.acknowledged))) ∙ h.kept);
   settled = h.settled;
 }

@@ -1,309 +1,343 @@
--- Each step of the world is one of the coarser picture, and a session that runs remembers what it should.
-use Rattle.std.proofs.Common.{◌≡◌, ◌≢◌, ◌⊎◌, ℕ, zero, suc, Bool, true, false, if◌then◌else◌, List, [], ◌∷◌, ◌++◌, map, refl, sym, ap, ap₂, ◌∙◌, subst, Option, Some, None, option_map, is_some, nat_le, not, ◌+◌, append-nil, arith, inl, inr, slice_get}
+-- Each step of the world is one of the coarser picture, and a session that runs remembers what it
+-- should.
+use Rattle.std.proofs.Common.{◌≡◌, ℕ, zero, suc, Bool, true, false, if◌then◌else◌, List, map, refl}
+use Rattle.std.proofs.Common.{sym, ap, ◌∙◌, subst, Option, Some, None, append-nil, inl, inr, ◌≢◌}
+use Rattle.std.proofs.Common.{◌⊎◌, ◌∷◌, ◌++◌, ap₂, option_map, is_some, nat_le, not, ◌+◌, slice_get}
+use Rattle.std.proofs.Common.{[]}
 use Rattle.std.specs.Prelude.{Contains, IfSome}
-use Rattle.std.proofs.lemmas.List.Elements.{Contains-get_or}
 use Rattle.std.proofs.lemmas.Option.{none-some, slice_get_within, get_or_from_slice_get}
+use Rattle.syn_model.specs.Event.{Edit, Edited}
+use Rattle.syn_headline.specs.Machine.{Status, Up, Halted, Down, Arms, has_room, Journaled}
+use Rattle.syn_headline.specs.Machine.{after_device, with_image, with_record, reopened, Compacts}
+use Rattle.syn_headline.specs.Machine.{compacted, not_compacted, Opens, opened, recovered}
 use Rattle.syn_model.specs.Limits.{greatest}
+use Rattle.syn_headline.specs.Side.{Reply}
+use Rattle.syn_headline.specs.SideMachine.{causes_of}
+use Rattle.syn_headline.specs.Network.{Which, Message, Asks, Answers, Sent}
+use Rattle.syn_headline.specs.Acknowledged.{Ack, Kept_by}
+use Rattle.syn_headline.specs.Coordinator.{Running, running_after, CoordinatorMachine}
+use Rattle.syn_headline.specs.Coordinator.{archive_layout, with_archive, Call, start_causes, takes}
+use Rattle.syn_headline.specs.Coordinator.{ignores, CoordinatorTakes}
+use Rattle.syn_headline.specs.World.{World, Machine, At, Coordinator, side_of, says, set_device}
+use Rattle.syn_headline.specs.World.{Step, Edits, Start, Deliver, Tick, Checkpoint, Fail, Stop}
+use Rattle.syn_headline.specs.World.{Open, Reopen, status_of, coordinator_goes, archive_writes}
+use Rattle.syn_headline.specs.World.{refuses_with, is_halted, answered_by, UnlessDown, Calls}
+use Rattle.syn_headline.specs.World.{EditsSide, edits, Starts, CompactsMachine, compacts_side}
+use Rattle.syn_headline.specs.World.{compacts_archive, Delivers, no_message, to_no_side, to_side}
+use Rattle.syn_headline.specs.World.{to_coordinator, Ticks, ticks, OpensMachine, opens_side}
+use Rattle.syn_headline.specs.World.{opens_archive, FailsDevice, fails_device, OpensDown, opens}
+use Rattle.syn_headline.specs.World.{open_fails, no_memory_to_open, Reopens, reopens, reopen_fails}
+use Rattle.syn_headline.specs.World.{reopen_is_cut, no_memory_to_reopen, full_generation}
+use Rattle.syn_headline.specs.World.{generation_of, Steps, Runs}
+use Rattle.syn_headline.proofs.Coarse.{Follows, FollowsAll, nothing_more, one_more}
+use Rattle.syn_headline.proofs.Invariant.{Plans, histories_of, IsKept, IsHarmless}
+use Rattle.syn_headline.proofs.View.{view, view_running, view_coordinator, not_up, halted_not_up}
+use Rattle.syn_headline.proofs.View.{down_not_up, neither, edits_follow, opens_follow}
+use Rattle.syn_headline.proofs.View.{compacts_follow, request_follows, device_follows}
+use Rattle.syn_headline.proofs.Sessions.{IsHeard, GoesBeside}
+use Rattle.std.proofs.lemmas.List.Elements.{Contains-get_or}
 use Rattle.syn_model.specs.Refusal.{Refusal, Device, Memory, Cause, first_cause}
 use Rattle.syn_model.specs.Refusal as why
-use Rattle.syn_model.specs.Event.{Edit, Event, Edited}
 use Rattle.syn_model.specs.Archive.{Archive, Kept, Session, CanKeep}
 use Rattle.syn_model.proofs.HistoryLemmas.{first_cause-none}
-use Rattle.syn_headline.specs.Machine.{Status, Up, Halted, Down, Arms, Journaled, has_room, after_device, with_image, with_record, reopened, Compacts, compacted, not_compacted, Opens, opened, recovered}
-use Rattle.std.specs.Prelude.{length, ◌≤◌}
-use Rattle.std.proofs.lemmas.Option.{same_Some}
-use Rattle.syn_model.specs.Path.{Path}
-use Rattle.syn_model.specs.Tree.{is_directory}
-use Rattle.syn_model.specs.Limits.{children}
-use Rattle.syn_model.specs.Mark.{mark}
-use Rattle.syn_model.specs.History.{tree_of}
-use Rattle.syn_headline.specs.Side.{Request, ListAt, Reply, Listed, NotDir, Side, Served, Serves}
-use Rattle.syn_headline.specs.SideMachine.{SideMachine, causes_of, side_now, has_room_for, ServesAs, SideTakes, answers, adds, said}
-use Rattle.syn_headline.specs.Network.{Which, Left, Right, Message, Asks, Answers, Sent}
-use Rattle.syn_headline.specs.Acknowledged.{Ack, Happened, Kept_by}
 use Rattle.syn_headline.specs.Planning.{Log}
 use Rattle.syn_headline.specs.Report.{Report}
-use Rattle.syn_headline.specs.Coordinator.{Running, CoordinatorMachine, archive_layout, with_archive, running_after, Call, start_causes, takes, ignores, CoordinatorTakes}
-use Rattle.syn_headline.specs.World.{World, Machine, At, Coordinator, Step, Edits, Start, Deliver, Tick, Checkpoint, Fail, Stop, Open, Reopen, side_of, status_of, side_goes, coordinator_goes, side_writes, archive_writes, says, refuses_with, is_halted, answered_by, UnlessDown, Calls, EditsSide, edits, Starts, CompactsMachine, compacts_side, compacts_archive, Delivers, no_message, to_no_side, to_side, to_coordinator, Ticks, ticks, OpensMachine, opens_side, opens_archive, set_device, FailsDevice, fails_device, OpensDown, opens, open_fails, no_memory_to_open, Reopens, reopens, reopen_fails, reopen_is_cut, no_memory_to_reopen, full_generation, generation_of, Steps, Runs}
 use Rattle.syn_headline.specs.World as world
-use Rattle.syn_headline.proofs.Coarse.{Follows, FollowsAll, nothing_more, one_more}
 use Rattle.syn_headline.proofs.Coarse as coarse
-use Rattle.syn_headline.proofs.Invariant.{Plans, histories_of, IsTrueListing, IsHarmless, IsKept}
-use Rattle.syn_headline.proofs.StepLemmas.{if_some}
 use Rattle.syn_headline.proofs.AdvanceLemmas.{step_advances}
-use Rattle.syn_headline.proofs.WorldLemmas.{kept_events}
-use Rattle.syn_headline.proofs.View.{view, view_running, view_coordinator, not_up, halted_not_up, down_not_up, neither, edits_follow, opens_follow, compacts_follow, request_follows, device_follows}
-use Rattle.syn_headline.proofs.InOrder.{SaysAfter, position_of}
-use Rattle.syn_headline.proofs.Sessions.{IsHeard, GoesBeside, heard_beside, no_asks}
 use Rattle.syn_headline.proofs.CallLemmas.{takes_follow}
-use Rattle.syn_headline.proofs.StartLemmas.{nothing_given, heard_still, starts_follow, ticks_follow}
-
--- what a step leaves
-abbrev pub IsFollowed : World → World → Type 0
-IsFollowed old new = Follows (view old) (view new) × IfSome new.coordinator.running (IsHeard new)
-
--- The session is heard still where the coordinator does nothing
-
-beside_heard : (old new : World) → GoesBeside old new → (running : Option Running) → IfSome running (IsHeard old) → IfSome running (IsHeard new)
-beside_heard old new g running h = if_some running (IsHeard old) (IsHeard new) h (λ r _ h. heard_beside old new r g h)
-
-same_beside : (old new : World) → new.sent ≡ old.sent → new.log ≡ old.log → new.acknowledged ≡ old.acknowledged → GoesBeside old new
-same_beside old new sent log acks = record {
-  more = [];
-  acks = [];
-  sent = sent ∙ sym (append-nil old.sent);
-  no_request = λ side session n q c. absurd (omega (arith, c.1));
-  says = λ side session n reply path later above position entries c. absurd (omega (arith, c.1));
-  log = log;
-  acknowledged = acks ∙ sym (append-nil old.acknowledged);
-  nothing_kept = refl;
-}
-
-goes_beside : (old : World) (side : Which) (machine : SideMachine) (messages : List Message) (events : List Event) → ((at : Which) (session n : ℕ) (q : Request) → Contains messages (Asks at session n q) → ⊥) → SaysAfter old.sent messages → GoesBeside old (side_goes old side machine messages events)
-goes_beside old Left machine messages events none says = record { more = messages; acks = map (λ event. Happened Left event) events; sent = refl; no_request = none; says = says; log = refl; acknowledged = refl; nothing_kept = kept_events Left events }
-goes_beside old Right machine messages events none says = record { more = messages; acks = map (λ event. Happened Right event) events; sent = refl; no_request = none; says = says; log = refl; acknowledged = refl; nothing_kept = kept_events Right events }
-
-coordinator_stays : (old : World) (side : Which) (machine : SideMachine) (messages : List Message) (events : List Event) → (side_goes old side machine messages events).coordinator ≡ old.coordinator
-coordinator_stays old Left machine messages events = refl
-coordinator_stays old Right machine messages events = refl
-
--- a side goes on
-side_heard : (old : World) (side : Which) (machine : SideMachine) (messages : List Message) (events : List Event) → ((at : Which) (session n : ℕ) (q : Request) → Contains messages (Asks at session n q) → ⊥) → SaysAfter old.sent messages → IfSome old.coordinator.running (IsHeard old) →
-    IfSome (side_goes old side machine messages events).coordinator.running (IsHeard (side_goes old side machine messages events))
-side_heard old side machine messages events none says h =
-    subst (λ c. IfSome c.running (IsHeard (side_goes old side machine messages events))) (sym (coordinator_stays old side machine messages events))
-    (beside_heard old (side_goes old side machine messages events) (goes_beside old side machine messages events none says) old.coordinator.running h)
-
-nothing_asked : (at : Which) (session n : ℕ) (q : Request) → Contains [] (Asks at session n q) → ⊥
-nothing_asked at session n q c = omega (arith, c.1)
-
-nothing_said : (sent : Sent) → SaysAfter sent []
-nothing_said sent side session n reply path later above position entries c = absurd (omega (arith, c.1))
-
--- what a side answers to a listing is at its position
-abbrev IsListing : ℕ → Option Reply → Type 0
-IsListing here said = (reply : Reply) (later : ℕ) → said ≡ Some reply → position_of reply ≡ Some later → later ≡ here
-
-served_listing : (pair : ℕ) (has_room : Event → Bool) (side : Side) (session : ℕ) (path : Path) (served : Served) → Serves pair has_room side session (ListAt path) served → (later : ℕ) → position_of served.reply ≡ Some later → later ≡ length side.history
-served_listing pair has_room side session path served (inl (read, reads, is)) later at = by (is_directory (tree_of side.history) path) (sym (ap (λ s. position_of s.reply) is) ∙ at)
-  where
-    by : (b : Bool) → position_of (if b then Listed (length side.history) (children (mark (tree_of side.history)) path) else NotDir (length side.history)) ≡ Some later → later ≡ length side.history
-    by true e = sym (same_Some _ _ e)
-    by false e = sym (same_Some _ _ e)
-served_listing pair has_room side session path served (inr none) later at = absurd (none-some _ (sym (ap (λ s. position_of s.reply) none) ∙ at))
-
-says_listing : (pair : ℕ) (machine : SideMachine) (session : ℕ) (path : Path) (new : SideMachine) (said : Option Reply) (events : List Event) → SideTakes pair machine session (ListAt path) new said events → IsListing (length machine.journal.value) said
-says_listing pair machine session path _ _ _ (answers served serves same) reply later is at = by machine.journal.status serves
-  where
-    now : position_of served.reply ≡ Some later
-    now = ap position_of (same_Some _ _ is) ∙ at
-
-    by : (status : Status) → ServesAs status pair (has_room_for pair machine) (side_now machine) session (ListAt path) served → later ≡ length machine.journal.value
-    by Up s = served_listing pair (has_room_for pair machine) (side_now machine) session path served s later now
-    by Halted (inl s) = absurd (none-some _ (sym (ap (λ x. position_of x.reply) s) ∙ now))
-    by Halted (inr s) = absurd s
-    by Down s = absurd s
-says_listing pair machine session path _ _ _ (adds served event journal events up serves same writes) reply later is at = by journal.status is
-  where
-    by : (status : Status) → said status served.reply ≡ Some reply → later ≡ length machine.journal.value
-    by Up e = served_listing pair (has_room_for pair machine) (side_now machine) session path served serves later (ap position_of (same_Some _ _ e) ∙ at)
-    by Halted e = absurd (none-some _ (ap position_of (same_Some _ _ e) ∙ at))
-    by Down e = absurd (none-some _ e)
-
-value_of : (world : World) (side : Which) → histories_of (view world) side ≡ (side_of world side).journal.value
-value_of world Left = refl
-value_of world Right = refl
-
--- so it comes after each listing that the side answered before
-says_after : (plans : Plans) (old : World) → IsKept plans (view old) → (side : Which) (session number : ℕ) (request : Request) (machine : SideMachine) (reply : Option Reply) (events : List Event) → Contains old.sent (Asks side session number request) →
-    SideTakes old.pair (side_of old side) session request machine reply events → SaysAfter old.sent (says side session number reply)
-says_after plans old k side session number request machine None events asked t at s n said path later above position entries c = absurd (omega (arith, c.1))
-says_after plans old k side session number request machine (Some reply) events asked t at s n said path later above position entries (suc i, h, e) = absurd (omega (arith, h))
-says_after plans old k side session number request machine (Some reply) events asked t at s n said path later above position entries (zero, h, e) = λ asked_at is was.
-    let same : Answers side session number reply ≡ Answers at s n said = e in
-    let is_side : side ≡ at = cc in
-    let is_session : session ≡ s = cc in
-    let is_number : number ≡ n = cc in
-    let is_reply : reply ≡ said = cc in
-    let request_is : request ≡ ListAt path = k.sound.numbers side session number request (ListAt path) asked
-    (subst (λ a. Contains old.sent (Asks a session number (ListAt path))) (sym is_side) (subst (λ x. Contains old.sent (Asks at x number (ListAt path))) (sym is_session) (subst (λ x. Contains old.sent (Asks at s x (ListAt path))) (sym is_number) asked_at))) in
-    let here : later ≡ length (side_of old side).journal.value = says_listing old.pair (side_of old side) session path machine (Some reply) events (subst (λ q. SideTakes old.pair (side_of old side) session q machine (Some reply) events) request_is t) reply later refl (ap position_of is_reply ∙ is) in
-    let listing : IsTrueListing (histories_of (view old) at) s above position entries = k.sound.answered at s was.number (Listed position entries) (ListAt above) was.answered was.asked in
-    let reached : position ≤ length (side_of old side).journal.value = subst (λ h. position ≤ length h) (value_of old side) (subst (λ a. position ≤ length (histories_of (view old) a)) (sym is_side) listing.reached) in
-    subst (λ x. position ≤ x) (sym here) reached
-
-says_no_request : (side : Which) (session n : ℕ) (reply : Option Reply) (at : Which) (s m : ℕ) (q : Request) → Contains (says side session n reply) (Asks at s m q) → ⊥
-says_no_request side session n None at s m q c = omega (arith, c.1)
-says_no_request side session n (Some reply) at s m q c = no_asks at side session n reply s m q c
-
-after_running : (old new : World) (status : Status) (running : Option Running) → GoesBeside old new → IfSome running (IsHeard old) → IfSome (running_after status running) (IsHeard new)
-after_running old new Up running g h = beside_heard old new g running h
-after_running old new Halted running g h = beside_heard old new g running h
-after_running old new Down running g h = tt
-
-device_heard : (old : World) (machine : Machine) (status : Status) (arms : Arms) (failed : ℕ) → IfSome old.coordinator.running (IsHeard old) → IfSome (set_device old machine status arms failed).coordinator.running (IsHeard (set_device old machine status arms failed))
-device_heard old (At Left) status arms failed h = beside_heard old (set_device old (At Left) status arms failed) (same_beside old (set_device old (At Left) status arms failed) refl refl refl) old.coordinator.running h
-device_heard old (At Right) status arms failed h = beside_heard old (set_device old (At Right) status arms failed) (same_beside old (set_device old (At Right) status arms failed) refl refl refl) old.coordinator.running h
-device_heard old Coordinator status arms failed h = after_running old (set_device old Coordinator status arms failed) status old.coordinator.running (same_beside old (set_device old Coordinator status arms failed) refl refl refl) h
+use Rattle.syn_headline.proofs.StartLemmas.{nothing_given, heard_still, starts_follow}
+use Rattle.syn_headline.proofs.TickLemmas.{ticks_follow}
+use Rattle.syn_headline.proofs.StillHeard.{IsFollowed, beside_heard, same_beside, side_heard}
+use Rattle.syn_headline.proofs.StillHeard.{nothing_asked, nothing_said, says_after, says_no_request}
+use Rattle.syn_headline.proofs.StillHeard.{after_running, device_heard}
 
 -- The archive's journal
 
 view_archive : (old : World) (journal : Journaled Archive Kept) (kept : List Kept) →
-    view (archive_writes old journal kept) ≡ record (view old) { coordinator = view_coordinator (with_archive old.coordinator journal); acknowledged = old.acknowledged ++ map Kept_by kept }
+    view (archive_writes old journal kept) ≡ record (view old) {
+      coordinator = view_coordinator
+          (with_archive old.coordinator journal);
+      acknowledged = old.acknowledged ++ map Kept_by kept;
+    }
 view_archive old journal kept =
-    let with_kept : coarse.World = record (view old) { coordinator = view_coordinator (with_archive old.coordinator journal); acknowledged = old.acknowledged ++ map Kept_by kept } in
-    let one : Sent → List (Report × ℕ) → coarse.World = λ sent reports. record with_kept { sent = sent; reports = reports; log = old.log ++ [] } in
+    let with_kept : coarse.World =
+    record (view old) {
+      coordinator = view_coordinator (with_archive old.coordinator journal);
+      acknowledged = old.acknowledged ++ map Kept_by kept;
+    } in
+    let one : Sent → List (Report × ℕ) → coarse.World =
+    λ sent reports. record with_kept { sent = sent; reports = reports; log = old.log ++ [] } in
     let two : Log → coarse.World = λ log. record with_kept { log = log } in
     ap₂ one (append-nil old.sent) (append-nil old.reports) ∙ ap two (append-nil old.log)
 
-view_archive_alone : (old : World) (journal : Journaled Archive Kept) → view (archive_writes old journal []) ≡ record (view old) { coordinator = view_coordinator (with_archive old.coordinator journal) }
+view_archive_alone : (old : World) (journal : Journaled Archive Kept) →
+    view (archive_writes old journal [])
+    ≡ record (view old) { coordinator = view_coordinator (with_archive old.coordinator journal) }
 view_archive_alone old journal =
-    let with_acks : List Ack → coarse.World = λ acks. record (view old) { coordinator = view_coordinator (with_archive old.coordinator journal); acknowledged = acks } in
+    let with_acks : List Ack → coarse.World = λ acks. record (view old) {
+      coordinator =
+          view_coordinator (with_archive old.coordinator journal);
+      acknowledged = acks;
+    } in
     view_archive old journal [] ∙ ap with_acks (append-nil old.acknowledged)
 
-archive_beside : (old : World) (journal : Journaled Archive Kept) → GoesBeside old (archive_writes old journal [])
-archive_beside old journal = same_beside old (archive_writes old journal []) (append-nil old.sent) (append-nil old.log) (append-nil old.acknowledged)
+archive_beside : (old : World) (journal : Journaled Archive Kept) →
+    GoesBeside old (archive_writes old journal [])
+archive_beside old journal =
+    same_beside old (archive_writes old journal []) (append-nil old.sent) (append-nil old.log)
+    (append-nil old.acknowledged)
 
-still_running : (status : Status) (running : Option Running) → (option_map view_running (running_after status running) ≡ option_map view_running running) ⊎ (option_map view_running (running_after status running) ≡ None)
+still_running : (status : Status) (running : Option Running) →
+    (option_map view_running (running_after status running) ≡ option_map view_running running)
+    ⊎ (option_map view_running (running_after status running) ≡ None)
 still_running Up running = inl refl
 still_running Halted running = inl refl
 still_running Down running = inr refl
 
-compacts_archive_follow : (old : World) (journal : Journaled Archive Kept) → Compacts (archive_layout old.pair) old.coordinator.journal journal → Follows (view old) (view (archive_writes old journal []))
+compacts_archive_follow : (old : World) (journal : Journaled Archive Kept) →
+    Compacts (archive_layout old.pair) old.coordinator.journal journal →
+    Follows (view old) (view (archive_writes old journal []))
 compacts_archive_follow old _ (compacted arms meets) =
-    coarse.archive_changes old.coordinator.journal.status (option_map view_running (running_after old.coordinator.journal.status old.coordinator.running)) (λ h. h) (still_running old.coordinator.journal.status old.coordinator.running)
+    coarse.archive_changes old.coordinator.journal.status (option_map view_running
+    (running_after old.coordinator.journal.status old.coordinator.running)) (λ h. h)
+    (still_running old.coordinator.journal.status old.coordinator.running)
     (view_archive_alone old (with_image (archive_layout old.pair) old.coordinator.journal arms))
 compacts_archive_follow old _ (not_compacted status arms failed down meets) =
-    coarse.archive_changes status (option_map view_running (running_after status old.coordinator.running)) (λ _. not_up status down) (still_running status old.coordinator.running)
-    (view_archive_alone old (after_device (record old.coordinator.journal { compacting = true }) status arms failed))
+    coarse.archive_changes status
+    (option_map view_running (running_after status old.coordinator.running))
+    (λ _. not_up status down) (still_running status old.coordinator.running)
+    (view_archive_alone old
+    (after_device (record old.coordinator.journal { compacting = true }) status arms failed))
 
-none_runs : (plans : Plans) (old : World) → IsKept plans (view old) → (kept : Kept) → old.coordinator.journal.writing ≡ Some kept → (running : Option Running) → old.coordinator.running ≡ running → running ≡ None
+none_runs : (plans : Plans) (old : World) → IsKept plans (view old) → (kept : Kept) →
+    old.coordinator.journal.writing ≡ Some kept → (running : Option Running) →
+    old.coordinator.running ≡ running → running ≡ None
 none_runs plans old k kept is None at = refl
 none_runs plans old k kept is (Some r) at =
-    let pending = subst (λ o. IfSome o (λ kept. (old.coordinator.journal.status ≢ Up) × ((view old).coordinator.running ≡ None) × CanKeep old.coordinator.journal.value kept × IsHarmless plans (histories_of (view old)) kept)) is k.coordinator.writing in
+    let pending = subst (λ o. IfSome o (λ kept. (old.coordinator.journal.status ≢ Up)
+    × ((view old).coordinator.running ≡ None) × CanKeep old.coordinator.journal.value kept
+    × IsHarmless plans (histories_of (view old)) kept)) is k.coordinator.writing in
     absurd (none-some _ (sym (sym (ap (option_map view_running) at) ∙ pending.1)))
 
 none_heard : (running : Option Running) (w : World) → running ≡ None → IfSome running (IsHeard w)
 none_heard None w at = tt
 none_heard (Some r) w at = absurd (none-some _ (sym at))
 
-opens_archive_follow : (plans : Plans) (old : World) → IsKept plans (view old) → IfSome old.coordinator.running (IsHeard old) → (calls : ℕ) (journal : Journaled Archive Kept) (kept : List Kept) →
-    Opens (archive_layout old.pair) CanKeep old.coordinator.journal calls journal kept → IsFollowed old (archive_writes old journal kept)
+opens_archive_follow : (plans : Plans) (old : World) → IsKept plans (view old) →
+    IfSome old.coordinator.running (IsHeard old) → (calls : ℕ)
+    (journal : Journaled Archive Kept) (kept : List Kept) →
+    Opens (archive_layout old.pair) CanKeep old.coordinator.journal calls journal kept →
+    IsFollowed old (archive_writes old journal kept)
 opens_archive_follow plans old k h calls _ _ (opened room generation arms meets left) =
-    let journal = reopened old.coordinator.journal room generation arms in
-    (coarse.archive_opens (view_archive_alone old journal), beside_heard old (archive_writes old journal []) (archive_beside old journal) old.coordinator.running h)
+    let journal = reopened old.coordinator.journal room generation arms in (
+      coarse.archive_opens (view_archive_alone old journal),
+      beside_heard old
+          (archive_writes old journal []) (archive_beside old journal) old.coordinator.running h,
+    )
 opens_archive_follow plans old k h calls _ _ (recovered arms kept meets is can) =
-    let journal = with_record (archive_layout old.pair) (reopened old.coordinator.journal old.coordinator.journal.room old.coordinator.journal.generation arms) kept arms in
-    (coarse.archive_recovers kept is can (view_archive old journal (kept ∷ [])), none_heard old.coordinator.running (archive_writes old journal (kept ∷ [])) (none_runs plans old k kept is old.coordinator.running refl))
+    let journal = with_record (archive_layout old.pair) (reopened old.coordinator.journal
+    old.coordinator.journal.room old.coordinator.journal.generation arms) kept arms in (
+      coarse.archive_recovers kept is can (view_archive old journal (kept ∷ [])),
+      none_heard old.coordinator.running (archive_writes old journal (kept ∷ []))
+          (none_runs plans old k kept is old.coordinator.running refl),
+    )
 
 -- The steps
 
-module _ (plans : Plans) (old : World) (k : IsKept plans (view old)) (h : IfSome old.coordinator.running (IsHeard old)) where
+module _ (plans : Plans) (old : World) (k : IsKept plans (view old))
+    (h : IfSome old.coordinator.running (IsHeard old)) where
   stays_so : (new : World) → new ≡ old → IsFollowed old new
   stays_so new e = subst (IsFollowed old) (sym e) (coarse.same refl, h)
 
   -- what a call was refused with is seen nowhere
-  told_so : (made : World) (reason : Refusal) → IsFollowed old made → IsFollowed old (refuses_with made reason)
-  told_so made reason f = (f.0, beside_heard made (refuses_with made reason) (same_beside made (refuses_with made reason) refl refl refl) made.coordinator.running f.1)
+  told_so : (made : World) (reason : Refusal) → IsFollowed old made →
+      IsFollowed old (refuses_with made reason)
+  told_so made reason f = (
+    f.0,
+    beside_heard made (refuses_with made reason)
+        (same_beside made (refuses_with made reason) refl refl refl) made.coordinator.running f.1,
+  )
 
-  refused_so : (causes : List Cause) (new : World) → world.IsRefused old causes new → IsFollowed old new
+  refused_so : (causes : List Cause) (new : World) → world.IsRefused old causes new →
+      IsFollowed old new
   refused_so causes new r = subst (IsFollowed old) (sym r.2) (told_so old r.0 (stays_so old refl))
 
-  answered_so : (machine : Machine) (made new : World) → IsFollowed old made → new ≡ answered_by machine made → IsFollowed old new
-  answered_so machine made new f e = subst (IsFollowed old) (sym e) (by (is_halted (status_of made machine)))
+  answered_so : (machine : Machine) (made new : World) → IsFollowed old made →
+      new ≡ answered_by machine made → IsFollowed old new
+  answered_so machine made new f e =
+      subst (IsFollowed old) (sym e) (by (is_halted (status_of made machine)))
     where
       by : (b : Bool) → IsFollowed old (if b then refuses_with made Device else made)
       by true = told_so made Device f
       by false = f
 
-  unless_down_so : (machine : Machine) (IsDone : Type 0) (new : World) → (status_of old machine ≢ Down → IsDone → IsFollowed old new) → UnlessDown old machine IsDone new → IsFollowed old new
+  unless_down_so : (machine : Machine) (IsDone : Type 0) (new : World) →
+      (status_of old machine ≢ Down → IsDone → IsFollowed old new) →
+      UnlessDown old machine IsDone new → IsFollowed old new
   unless_down_so machine IsDone new done (inl (down, e)) = stays_so new e
   unless_down_so machine IsDone new done (inr (up, is)) = done up is
 
-  calls_so : (machine : Machine) (causes : List Cause) (Made : World → Type 0) (new : World) → ((made : World) → first_cause ((is_halted (status_of old machine), why.Halted) ∷ causes) ≡ None → status_of old machine ≢ Down → Made made → IsFollowed old made) →
+  calls_so : (machine : Machine) (causes : List Cause) (Made : World → Type 0) (new : World) →
+      ((made : World) → first_cause ((is_halted (status_of old machine), why.Halted) ∷ causes)
+      ≡ None → status_of old machine ≢ Down → Made made → IsFollowed old made) →
       Calls old machine causes Made new → IsFollowed old new
   calls_so machine causes Made new made (inl (down, e)) = stays_so new e
-  calls_so machine causes Made new made (inr (up, inl r)) = refused_so ((is_halted (status_of old machine), why.Halted) ∷ causes) new r
-  calls_so machine causes Made new made (inr (up, inr (none, between, g, e))) = answered_so machine between new (made between none up g) e
+  calls_so machine causes Made new made (inr (up, inl r)) =
+      refused_so ((is_halted (status_of old machine), why.Halted) ∷ causes) new r
+  calls_so machine causes Made new made (inr (up, inr (none, between, g, e))) =
+      answered_so machine between new (made between none up g) e
 
-  edits_so : (side : Which) (user : ℕ) (edit : Edit) (made : World) → first_cause ((is_halted (status_of old (At side)), why.Halted) ∷ causes_of old.pair (side_of old side) (Edited user edit)) ≡ None → status_of old (At side) ≢ Down →
+  edits_so : (side : Which) (user : ℕ) (edit : Edit) (made : World) →
+      first_cause ((is_halted (status_of old (At side)), why.Halted) ∷ causes_of old.pair
+      (side_of old side) (Edited user edit)) ≡ None → status_of old (At side) ≢ Down →
       EditsSide old side (Edited user edit) made → IsFollowed old made
-  edits_so side user edit made none up g = (edits_follow old side user edit made none up g, heard_of made g)
+  edits_so side user edit made none up g =
+      (edits_follow old side user edit made none up g, heard_of made g)
     where
-      heard_of : (made : World) → EditsSide old side (Edited user edit) made → IfSome made.coordinator.running (IsHeard made)
-      heard_of _ (edits journal events lawful writes) = side_heard old side _ [] events nothing_asked (nothing_said old.sent) h
+      heard_of : (made : World) → EditsSide old side (Edited user edit) made →
+          IfSome made.coordinator.running (IsHeard made)
+      heard_of _ (edits journal events lawful writes) =
+          side_heard old side _ [] events nothing_asked (nothing_said old.sent) h
 
-  compacts_so : (machine : Machine) (made : World) → CompactsMachine old machine made → IsFollowed old made
-  compacts_so _ _ (compacts_side side journal c) = (compacts_follow old side journal c, side_heard old side _ [] [] nothing_asked (nothing_said old.sent) h)
-  compacts_so _ _ (compacts_archive journal c) = (compacts_archive_follow old journal c, after_running old (archive_writes old journal []) journal.status old.coordinator.running (archive_beside old journal) h)
+  compacts_so : (machine : Machine) (made : World) → CompactsMachine old machine made →
+      IsFollowed old made
+  compacts_so _ _ (compacts_side side journal c) = (
+    compacts_follow old side journal c,
+    side_heard old side _ [] [] nothing_asked (nothing_said old.sent) h,
+  )
+  compacts_so _ _ (compacts_archive journal c) = (
+    compacts_archive_follow old journal c,
+    after_running old (archive_writes old journal [])
+        journal.status old.coordinator.running (archive_beside old journal) h,
+  )
 
-  opens_so : (calls : ℕ) (machine : Machine) (made : World) → OpensMachine old calls machine made → IsFollowed old made
-  opens_so calls _ _ (opens_side side journal events o) = (opens_follow old side calls journal events o, side_heard old side _ [] events nothing_asked (nothing_said old.sent) h)
-  opens_so calls _ _ (opens_archive journal kept o) = opens_archive_follow plans old k h calls journal kept o
+  opens_so : (calls : ℕ) (machine : Machine) (made : World) → OpensMachine old calls machine made →
+      IsFollowed old made
+  opens_so calls _ _ (opens_side side journal events o) = (
+    opens_follow old side calls journal events o,
+    side_heard old side _ [] events nothing_asked (nothing_said old.sent) h,
+  )
+  opens_so calls _ _ (opens_archive journal kept o) =
+      opens_archive_follow plans old k h calls journal kept o
 
-  device_so : (machine : Machine) (status : Status) (arms : Arms) (failed : ℕ) → (status_of old machine ≢ Up → status ≢ Up) → IsFollowed old (set_device old machine status arms failed)
-  device_so machine status arms failed up = (device_follows old machine status arms failed up, device_heard old machine status arms failed h)
+  device_so : (machine : Machine) (status : Status) (arms : Arms) (failed : ℕ) →
+      (status_of old machine ≢ Up → status ≢ Up) →
+      IsFollowed old (set_device old machine status arms failed)
+  device_so machine status arms failed up = (
+    device_follows old machine status arms failed up,
+    device_heard old machine status arms failed h,
+  )
 
-  fails_so : (machine : Machine) (calls : ℕ) (status left : Status) (made : World) → (status_of old machine ≢ Up → left ≢ Up) → FailsDevice old machine calls status left made → IsFollowed old made
-  fails_so machine calls status left _ up (fails_device arms failed meets) = device_so machine left arms failed up
+  fails_so : (machine : Machine) (calls : ℕ) (status left : Status) (made : World) →
+      (status_of old machine ≢ Up → left ≢ Up) → FailsDevice old machine calls status left made →
+      IsFollowed old made
+  fails_so machine calls status left _ up (fails_device arms failed meets) =
+      device_so machine left arms failed up
 
-  starts_so : (made : World) → first_cause ((is_halted (status_of old Coordinator), why.Halted) ∷ start_causes old.pair old.coordinator) ≡ None → status_of old Coordinator ≢ Down → Starts old made → IsFollowed old made
+  starts_so : (made : World) → first_cause
+      ((is_halted (status_of old Coordinator), why.Halted) ∷ start_causes old.pair old.coordinator)
+      ≡ None → status_of old Coordinator ≢ Down → Starts old made → IsFollowed old made
   starts_so _ none up (world.starts machine call g) =
-      let first = first_cause-none (is_halted old.coordinator.journal.status, why.Halted) (start_causes old.pair old.coordinator) none in
+      let first = first_cause-none (is_halted old.coordinator.journal.status, why.Halted)
+      (start_causes old.pair old.coordinator) none in
       let last = old.coordinator.journal.value.last_session in
-      let room : List Cause = (not (has_room (archive_layout old.pair) old.coordinator.journal (Session (last + 1))), why.JournalFull) ∷ [] in
-      let busy = first_cause-none (is_some old.coordinator.running, why.Busy) ((nat_le greatest last, why.Full) ∷ room) first.1 in
+      let room : List Cause = (
+        not (has_room (archive_layout old.pair) old.coordinator.journal (Session (last + 1))),
+        why.JournalFull,
+      ) ∷ [] in
+      let busy = first_cause-none (is_some old.coordinator.running, why.Busy)
+      ((nat_le greatest last, why.Full) ∷ room) first.1 in
       let full = first_cause-none (nat_le greatest last, why.Full) room busy.1 in
-      starts_follow plans old k (neither old.coordinator.journal.status first.0 up) full.0 machine call g
+      starts_follow plans old k
+      (neither old.coordinator.journal.status first.0 up) full.0 machine call g
 
-  answer_so : (from : Which) (session number : ℕ) (reply : Reply) → Contains old.sent (Answers from session number reply) → (machine : CoordinatorMachine) (call : Call) →
-      CoordinatorTakes old.pair old.coordinator from session number reply machine call → IsFollowed old (coordinator_goes old machine call)
-  answer_so from session number reply c _ _ (ignores none) = (coarse.same (nothing_given old), heard_still old h)
+  answer_so : (from : Which) (session number : ℕ) (reply : Reply) →
+      Contains old.sent (Answers from session number reply) →
+      (machine : CoordinatorMachine) (call : Call) →
+      CoordinatorTakes old.pair old.coordinator from session number reply machine call →
+      IsFollowed old (coordinator_goes old machine call)
+  answer_so from session number reply c _ _ (ignores none) =
+      (coarse.same (nothing_given old), heard_still old h)
   answer_so from session number reply c _ _ (takes r request new call expected t) =
-      takes_follow plans old k r expected.runs (subst (λ o. IfSome o (IsHeard old)) expected.runs h) from number reply (subst (λ s. Contains old.sent (Answers from s number reply)) expected.of_session c) request expected.asked new call t
+      takes_follow plans old k r expected.runs
+      (subst (λ o. IfSome o (IsHeard old)) expected.runs h) from number reply
+      (subst (λ s. Contains old.sent (Answers from s number reply)) expected.of_session c) request
+      expected.asked new call t
 
-  delivers_so : (o : Option Message) → ((m : Message) → o ≡ Some m → Contains old.sent m) → (new : World) → Delivers old o new → IsFollowed old new
+  delivers_so : (o : Option Message) → ((m : Message) → o ≡ Some m → Contains old.sent m) →
+      (new : World) → Delivers old o new → IsFollowed old new
   delivers_so _ c _ no_message = stays_so old refl
   delivers_so _ c _ (to_no_side side session number request down) = stays_so old refl
   delivers_so _ c _ (to_side side session number request machine reply events t) =
-      let asked = c (Asks side session number request) refl in
-      (request_follows old side session number request machine reply events asked (k.sound.asked side session number request asked).lawful t, side_heard old side machine (says side session number reply) events (says_no_request side session number reply) (says_after plans old k side session number request machine reply events asked t) h)
-  delivers_so _ c _ (to_coordinator side session number reply machine call t) = answer_so side session number reply (c (Answers side session number reply) refl) machine call t
+      let asked = c (Asks side session number request) refl in (
+        request_follows old side session number request machine reply events asked
+            (k.sound.asked side session number request asked).lawful t,
+        side_heard old side machine
+            (says side session number reply) events (says_no_request side session number reply)
+            (says_after plans old k side session number request machine reply events asked t) h,
+      )
+  delivers_so _ c _ (to_coordinator side session number reply machine call t) =
+      answer_so side session number reply
+      (c (Answers side session number reply) refl) machine call t
 
   was_sent : (n : ℕ) (m : Message) → slice_get old.sent n ≡ Some m → Contains old.sent m
-  was_sent n m e = subst (Contains old.sent) (get_or_from_slice_get old.sent n m m e) (Contains-get_or old.sent n m (slice_get_within old.sent n m e))
+  was_sent n m e =
+      subst (Contains old.sent) (get_or_from_slice_get old.sent n m m e)
+      (Contains-get_or old.sent n m (slice_get_within old.sent n m e))
 
   ticks_so : (new : World) → Ticks old new → IsFollowed old new
   ticks_so _ (ticks machine call g) = ticks_follow plans old k h machine call g
 
   opens_down_so : (machine : Machine) (new : World) → OpensDown old machine new → IsFollowed old new
   opens_down_so machine _ (opens calls new o) = opens_so calls machine new o
-  opens_down_so machine _ (open_fails calls made f) = told_so made Device (fails_so machine calls Halted Down made (λ _. down_not_up) f)
+  opens_down_so machine _ (open_fails calls made f) =
+      told_so made Device (fails_so machine calls Halted Down made (λ _. down_not_up) f)
   opens_down_so machine _ no_memory_to_open = told_so old Memory (stays_so old refl)
 
   reopens_so : (machine : Machine) (new : World) → Reopens old machine new → IsFollowed old new
   reopens_so machine _ (reopens calls new some o) = opens_so calls machine new o
-  reopens_so machine _ (reopen_fails calls made f) = told_so made Device (fails_so machine calls Halted Halted made (λ _. halted_not_up) f)
-  reopens_so machine _ (reopen_is_cut calls made f) = fails_so machine calls Down Down made (λ _. down_not_up) f
-  reopens_so machine _ (no_memory_to_reopen calls made f) = told_so made Memory (fails_so machine calls Up (status_of old machine) made (λ same. same) f)
+  reopens_so machine _ (reopen_fails calls made f) =
+      told_so made Device (fails_so machine calls Halted Halted made (λ _. halted_not_up) f)
+  reopens_so machine _ (reopen_is_cut calls made f) =
+      fails_so machine calls Down Down made (λ _. down_not_up) f
+  reopens_so machine _ (no_memory_to_reopen calls made f) =
+      told_so made Memory (fails_so machine calls Up (status_of old machine) made (λ same. same) f)
 
   -- each step
   pub step_follows : (step : Step) (new : World) → Steps old step new → IsFollowed old new
-  step_follows (Edits side user edit) new g = calls_so (At side) (causes_of old.pair (side_of old side) (Edited user edit)) (EditsSide old side (Edited user edit)) new (edits_so side user edit) g
-  step_follows Start new g = calls_so Coordinator (start_causes old.pair old.coordinator) (Starts old) new starts_so g
-  step_follows (Deliver message) new g = delivers_so (slice_get old.sent message) (was_sent message) new g
+  step_follows (Edits side user edit) new g =
+      calls_so (At side) (causes_of old.pair (side_of old side) (Edited user edit))
+      (EditsSide old side (Edited user edit)) new (edits_so side user edit) g
+  step_follows Start new g =
+      calls_so Coordinator (start_causes old.pair old.coordinator) (Starts old) new starts_so g
+  step_follows (Deliver message) new g =
+      delivers_so (slice_get old.sent message) (was_sent message) new g
   step_follows Tick new g = ticks_so new g
-  step_follows (Checkpoint machine) new g = calls_so machine (full_generation (generation_of old machine)) (CompactsMachine old machine) new (λ made none up c. compacts_so machine made c) g
-  step_follows (Fail machine call) new g = unless_down_so machine _ new (λ up e. subst (IsFollowed old) (sym e) (device_so machine (status_of old machine) _ 0 (λ same. same))) g
-  step_follows (Stop machine zero) new g = unless_down_so machine _ new (λ up e. subst (IsFollowed old) (sym e) (device_so machine Down _ 0 (λ _. down_not_up))) g
-  step_follows (Stop machine (suc calls)) new g = unless_down_so machine _ new (λ up e. subst (IsFollowed old) (sym e) (device_so machine (status_of old machine) _ 0 (λ same. same))) g
+  step_follows (Checkpoint machine) new g =
+      calls_so machine (full_generation (generation_of old machine))
+      (CompactsMachine old machine) new (λ made none up c. compacts_so machine made c) g
+  step_follows (Fail machine call) new g =
+      unless_down_so machine _ new (λ up e. subst (IsFollowed old) (sym e)
+      (device_so machine (status_of old machine) _ 0 (λ same. same))) g
+  step_follows (Stop machine zero) new g =
+      unless_down_so machine _ new
+      (λ up e. subst (IsFollowed old) (sym e) (device_so machine Down _ 0 (λ _. down_not_up))) g
+  step_follows (Stop machine (suc calls)) new g =
+      unless_down_so machine _ new (λ up e. subst (IsFollowed old) (sym e)
+      (device_so machine (status_of old machine) _ 0 (λ same. same))) g
   step_follows (Open machine) new (inl (up, e)) = stays_so new e
   step_follows (Open machine) new (inr (down, o)) = opens_down_so machine new o
-  step_follows (Reopen machine) new g = unless_down_so machine _ new (λ up r. reopens_so machine new r) g
+  step_follows (Reopen machine) new g =
+      unless_down_so machine _ new (λ up r. reopens_so machine new r) g
 
 -- a whole run
-pub runs_follow : (steps : List Step) (plans : Plans) (old new : World) → IsKept plans (view old) → IfSome old.coordinator.running (IsHeard old) → Runs old steps new → FollowsAll (view old) (view new) × IfSome new.coordinator.running (IsHeard new)
-runs_follow [] plans old new k h e = subst (λ w. FollowsAll (view old) (view w) × IfSome w.coordinator.running (IsHeard w)) (sym e) (nothing_more (view old), h)
+pub runs_follow : (steps : List Step) (plans : Plans) (old new : World) → IsKept plans (view old) →
+    IfSome old.coordinator.running (IsHeard old) → Runs old steps new →
+    FollowsAll (view old) (view new) × IfSome new.coordinator.running (IsHeard new)
+runs_follow [] plans old new k h e =
+    subst (λ w. FollowsAll (view old) (view w) × IfSome w.coordinator.running (IsHeard w)) (sym e)
+    (nothing_more (view old), h)
 runs_follow (step ∷ steps) plans old new k h g =
     let f = step_follows plans old k h step g.0 g.1 in
     let a = step_advances plans (view old) k (view g.0) f.0 in

@@ -9,9 +9,13 @@ use Rattle.syn_headline.proofs.Invariant.{IsOfReplica}
 use Rattle.syn_model.proofs.SubtreeLemmas.{subtree-fits, subtree-is_part}
 use Rattle.syn_model.proofs.SpellingLemmas.{spelling_tells}
 
-pub spellings_tell : (t u : Tree) → IsPart t → fits_part t ≡ true → IsOfReplica u → spelling t ≡ spelling u → t ≡ u
+pub spellings_tell : (t u : Tree) → IsPart t → fits_part t ≡ true → IsOfReplica u →
+    spelling t ≡ spelling u → t ≡ u
 spellings_tell t u ht ft of e =
-    let limits = and_parts (nat_le (len of.whole) 1024 && nat_le (tree_spelling_length of.whole) greatest_spelling && fits_part of.whole) (fits_paths of.whole) of.fits in
-    let fits = (and_parts (nat_le (len of.whole) 1024 && nat_le (tree_spelling_length of.whole) greatest_spelling) (fits_part of.whole) limits.0).1 in
+    let limits = and_parts (nat_le (len of.whole) 1024 && nat_le (tree_spelling_length of.whole)
+    greatest_spelling && fits_part of.whole) (fits_paths of.whole) of.fits in
+    let fits = (and_parts (nat_le (len of.whole) 1024 && nat_le
+    (tree_spelling_length of.whole) greatest_spelling) (fits_part of.whole) limits.0).1 in
     let part = subst IsPart (sym of.part_is) (subtree-is_part of.whole of.path of.tree.part) in
-    (spelling_tells t u [] [] ht part ft (ap fits_part of.part_is ∙ subtree-fits of.whole of.path fits) (ap (λ b. b ++ []) e)).0
+    (spelling_tells t u [] [] ht part ft
+    (ap fits_part of.part_is ∙ subtree-fits of.whole of.path fits) (ap (λ b. b ++ []) e)).0

@@ -1,180 +1,313 @@
--- The machines stand for what was acknowledged, after each step of the world, from whatever stands so.
-use Rattle.std.proofs.Common.{◌≡◌, ℕ, zero, suc, Bool, true, false, if◌then◌else◌, List, [], ◌∷◌, ◌++◌, refl, sym, ap, ◌∙◌, subst, Option, append-nil, inl, inr, slice_get}
+-- The machines stand for what was acknowledged, after each step of the world, from whatever stands
+-- so.
+use Rattle.std.proofs.Common.{◌≡◌, ℕ, zero, suc, Bool, true, false, if◌then◌else◌, List, [], ◌∷◌}
+use Rattle.std.proofs.Common.{◌++◌, refl, sym, ap, ◌∙◌, subst, Option, append-nil, inl, inr}
+use Rattle.std.proofs.Common.{slice_get}
 use Rattle.syn_model.specs.Refusal.{Refusal, Device, Memory, Full, Cause}
 use Rattle.syn_model.specs.Event.{Event, Edited}
 use Rattle.syn_model.specs.History.{History, IsAllowed}
 use Rattle.syn_model.specs.Archive.{Archive, Kept, Session, CanKeep, archive_of}
-use Rattle.syn_headline.specs.Machine.{Status, Arms, Journaled, Layout, Writes, idle, written, unwritten, Compacts, compacted, not_compacted, Opens, opened, recovered}
+use Rattle.syn_headline.specs.Machine.{Status, Arms, Journaled, Layout, Writes, idle, written}
+use Rattle.syn_headline.specs.Machine.{unwritten, Compacts, compacted, not_compacted, Opens, opened}
+use Rattle.syn_headline.specs.Machine.{recovered}
 use Rattle.syn_headline.specs.Side.{Request, Reply}
-use Rattle.syn_headline.specs.SideMachine.{SideMachine, side_layout, SideTakes, answers, adds, causes_of}
+use Rattle.syn_headline.specs.SideMachine.{SideMachine, side_layout, SideTakes, answers, adds}
+use Rattle.syn_headline.specs.SideMachine.{causes_of}
 use Rattle.syn_headline.specs.Network.{Which, Left, Right, Message}
 use Rattle.syn_headline.specs.Acknowledged.{Stores}
-use Rattle.syn_headline.specs.Coordinator.{CoordinatorMachine, Call, Walk, Exchange, Running, archive_layout, past, refusing, making_room, Keeps, writes, cut_behind, Takes, CoordinatorTakes, CoordinatorStarts, CoordinatorTicks, Advances, start_of, start_causes}
+use Rattle.syn_headline.specs.Coordinator.{CoordinatorMachine, Call, Walk, Exchange, Running}
+use Rattle.syn_headline.specs.Coordinator.{archive_layout, past, refusing, making_room, Keeps}
+use Rattle.syn_headline.specs.Coordinator.{writes, cut_behind, Takes, CoordinatorTakes}
+use Rattle.syn_headline.specs.Coordinator.{CoordinatorStarts, CoordinatorTicks, Advances, start_of}
+use Rattle.syn_headline.specs.Coordinator.{start_causes}
 use Rattle.syn_headline.specs.Coordinator as fine
 use Rattle.syn_headline.specs.Planning.{Planned}
-use Rattle.syn_headline.specs.World.{World, Machine, At, Coordinator, Step, Edits, Start, Deliver, Tick, Checkpoint, Fail, Stop, Open, Reopen, side_of, side_goes, coordinator_goes, status_of, refuses_with, is_halted, answered_by, UnlessDown, Calls, EditsSide, edits, Starts, CompactsMachine, compacts_side, compacts_archive, Delivers, no_message, to_no_side, to_side, to_coordinator, Ticks, ticks, OpensMachine, opens_side, opens_archive, set_device, FailsDevice, fails_device, OpensDown, opens, open_fails, no_memory_to_open, Reopens, reopens, reopen_fails, reopen_is_cut, no_memory_to_reopen, full_generation, generation_of, Steps, Runs}
+use Rattle.syn_headline.specs.World.{World, Machine, At, Coordinator, Step, Edits, Start, Deliver}
+use Rattle.syn_headline.specs.World.{Tick, Checkpoint, Fail, Stop, Open, Reopen, side_of, side_goes}
+use Rattle.syn_headline.specs.World.{coordinator_goes, status_of, refuses_with, is_halted}
+use Rattle.syn_headline.specs.World.{answered_by, UnlessDown, Calls, EditsSide, edits, Starts}
+use Rattle.syn_headline.specs.World.{CompactsMachine, compacts_side, compacts_archive, Delivers}
+use Rattle.syn_headline.specs.World.{no_message, to_no_side, to_side, to_coordinator, Ticks, ticks}
+use Rattle.syn_headline.specs.World.{OpensMachine, opens_side, opens_archive, set_device}
+use Rattle.syn_headline.specs.World.{FailsDevice, fails_device, OpensDown, opens, open_fails}
+use Rattle.syn_headline.specs.World.{no_memory_to_open, Reopens, reopens, reopen_fails}
+use Rattle.syn_headline.specs.World.{reopen_is_cut, no_memory_to_reopen, full_generation}
+use Rattle.syn_headline.specs.World.{generation_of, Steps, Runs}
 use Rattle.syn_headline.specs.World as world
 use Rattle.syn_headline.specs.Headline.{StandsFor, RunsStand}
 use Rattle.syn_headline.proofs.CoarseRuns as picture
 use Rattle.syn_headline.proofs.View.{view, view_goes}
-use Rattle.syn_headline.proofs.WorldLemmas.{side_goes as view_side_goes, coordinator_goes as view_coordinator_goes}
+use Rattle.syn_headline.proofs.WorldLemmas.{side_goes as view_side_goes}
+use Rattle.syn_headline.proofs.WorldLemmas.{coordinator_goes as view_coordinator_goes}
 
 -- What a call leaves of the value
 
-pub writes_value : (pair : ℕ) (old new : Journaled History Event) (event : Event) (events : List Event) → Writes (side_layout pair) old event new events → new.value ≡ old.value ++ events
+pub writes_value : (pair : ℕ) (old new : Journaled History Event) (event : Event)
+    (events : List Event) → Writes (side_layout pair) old event new events →
+    new.value ≡ old.value ++ events
 writes_value pair old _ event _ (idle is) = refl
 writes_value pair old _ event _ (written arms is meets) = refl
-writes_value pair old _ event _ (unwritten status arms failed is down meets) = sym (append-nil old.value)
+writes_value pair old _ event _ (unwritten status arms failed is down meets) =
+    sym (append-nil old.value)
 
-keeps_value : (pair : ℕ) (old new : Journaled Archive Kept) (what : Kept) (kept : List Kept) → Keeps pair old what new kept → new.value ≡ archive_of old.value kept
+keeps_value : (pair : ℕ) (old new : Journaled Archive Kept) (what : Kept) (kept : List Kept) →
+    Keeps pair old what new kept → new.value ≡ archive_of old.value kept
 keeps_value pair old _ what _ (writes _ _ (idle is)) = refl
 keeps_value pair old _ what _ (writes _ _ (written arms is meets)) = refl
 keeps_value pair old _ what _ (writes _ _ (unwritten status arms failed is down meets)) = refl
 keeps_value pair old _ what _ (cut_behind is fail stop) = refl
 
-compacts_value : {V W : Type 0} (layout : Layout V W) (old new : Journaled V W) → Compacts layout old new → new.value ≡ old.value
+compacts_value : {V W : Type 0} (layout : Layout V W) (old new : Journaled V W) →
+    Compacts layout old new → new.value ≡ old.value
 compacts_value layout old _ (compacted arms meets) = refl
 compacts_value layout old _ (not_compacted status arms failed down meets) = refl
 
 module _ (pair : ℕ) (plan : List Planned) (taken : Exchange) where
-  advances_value : (walk later : Walk) (kept : List Kept) → Advances pair plan taken walk kept later → later.journal.value ≡ archive_of walk.journal.value kept
+  advances_value : (walk later : Walk) (kept : List Kept) →
+      Advances pair plan taken walk kept later →
+      later.journal.value ≡ archive_of walk.journal.value kept
   advances_value walk _ _ (fine.stands _) = refl
-  advances_value walk later kept (fine.conflicts _ _ _ planned path first at is more) = advances_value (past walk walk.journal) later kept more
-  advances_value walk later kept (fine.side_refuses _ _ _ planned why first at is for more) = advances_value (refusing walk why planned) later kept more
-  advances_value walk later kept (fine.archive_refuses _ _ _ planned what why first at is may refused more) = advances_value (refusing walk why planned) later kept more
-  advances_value walk later kept (fine.no_checkpoint _ _ _ what first full greatest more) = advances_value (refusing walk Full full.to_keep.planned) later kept more
-  advances_value walk later kept (fine.checkpoints _ _ _ what journal first full smaller compacts up more) =
-      advances_value (making_room walk journal) later kept more ∙ ap (λ a. archive_of a kept) (compacts_value (archive_layout pair) walk.journal journal compacts)
-  advances_value walk _ _ (fine.checkpoint_breaks _ what journal first full smaller compacts down) = compacts_value (archive_layout pair) walk.journal journal compacts
+  advances_value walk later kept (fine.conflicts _ _ _ planned path first at is more) =
+      advances_value (past walk walk.journal) later kept more
+  advances_value walk later kept (fine.side_refuses _ _ _ planned why first at is for more) =
+      advances_value (refusing walk why planned) later kept more
+  advances_value walk later kept
+      (fine.archive_refuses _ _ _ planned what why first at is may refused more) =
+      advances_value (refusing walk why planned) later kept more
+  advances_value walk later kept (fine.no_checkpoint _ _ _ what first full greatest more) =
+      advances_value (refusing walk Full full.to_keep.planned) later kept more
+  advances_value walk later kept
+      (fine.checkpoints _ _ _ what journal first full smaller compacts up more) =
+      advances_value (making_room walk journal) later kept more ∙ ap (λ a. archive_of a kept)
+      (compacts_value (archive_layout pair) walk.journal journal compacts)
+  advances_value walk _ _ (fine.checkpoint_breaks _ what journal first full smaller compacts down) =
+      compacts_value (archive_layout pair) walk.journal journal compacts
   advances_value walk later _ (fine.keeps _ _ what kept journal to_keep room kept_so up more) =
-      advances_value (past walk journal) later kept more ∙ ap (λ a. archive_of a kept) (keeps_value pair walk.journal journal what (what ∷ []) kept_so)
-  advances_value walk _ kept (fine.record_breaks _ what _ journal to_keep room kept_so down) = keeps_value pair walk.journal journal what kept kept_so
+      advances_value (past walk journal) later kept more ∙ ap (λ a. archive_of a kept)
+      (keeps_value pair walk.journal journal what (what ∷ []) kept_so)
+  advances_value walk _ kept (fine.record_breaks _ what _ journal to_keep room kept_so down) =
+      keeps_value pair walk.journal journal what kept kept_so
 
-takes_value : (pair : ℕ) (old : CoordinatorMachine) (r : Running) (taken : Exchange) (new : CoordinatorMachine) (call : Call) → Takes pair old r taken new call → new.journal.value ≡ archive_of old.journal.value call.kept
+takes_value : (pair : ℕ) (old : CoordinatorMachine) (r : Running) (taken : Exchange)
+    (new : CoordinatorMachine) (call : Call) → Takes pair old r taken new call →
+    new.journal.value ≡ archive_of old.journal.value call.kept
 takes_value pair old r taken _ _ (fine.ends_at_once why fault) = refl
-takes_value pair old r taken _ _ (fine.stops plan logged walk kept fault has advances down) = advances_value pair _ taken (start_of old r) walk kept advances
-takes_value pair old r taken _ _ (fine.ends plan logged walk kept why fault has advances ends) = advances_value pair _ taken (start_of old r) walk kept advances
-takes_value pair old r taken _ _ (fine.goes_on plan logged walk kept left right fault has advances rests stays moves asks) = advances_value pair _ taken (start_of old r) walk kept advances
+takes_value pair old r taken _ _ (fine.stops plan logged walk kept fault has advances down) =
+    advances_value pair _ taken (start_of old r) walk kept advances
+takes_value pair old r taken _ _ (fine.ends plan logged walk kept why fault has advances ends) =
+    advances_value pair _ taken (start_of old r) walk kept advances
+takes_value pair old r taken _ _
+    (fine.goes_on plan logged walk kept left right fault has advances rests stays moves asks) =
+    advances_value pair _ taken (start_of old r) walk kept advances
 
-answer_value : (pair : ℕ) (old : CoordinatorMachine) (from : Which) (session number : ℕ) (reply : Reply) (new : CoordinatorMachine) (call : Call) → CoordinatorTakes pair old from session number reply new call → new.journal.value ≡ archive_of old.journal.value call.kept
-answer_value pair old from session number reply _ _ (fine.takes r request new call expected t) = takes_value pair old r _ new call t
+answer_value : (pair : ℕ) (old : CoordinatorMachine) (from : Which) (session number : ℕ)
+    (reply : Reply) (new : CoordinatorMachine) (call : Call) →
+    CoordinatorTakes pair old from session number reply new call →
+    new.journal.value ≡ archive_of old.journal.value call.kept
+answer_value pair old from session number reply _ _ (fine.takes r request new call expected t) =
+    takes_value pair old r _ new call t
 answer_value pair old from session number reply _ _ (fine.ignores none) = refl
 
-starts_value : (pair : ℕ) (old new : CoordinatorMachine) (call : Call) → CoordinatorStarts pair old new call → new.journal.value ≡ archive_of old.journal.value call.kept
-starts_value pair old _ _ (fine.starts session journal next lawful keeps up) = keeps_value pair old.journal journal (Session session) (Session session ∷ []) keeps
-starts_value pair old _ _ (fine.start_breaks session journal kept next keeps down) = keeps_value pair old.journal journal (Session session) kept keeps
+starts_value : (pair : ℕ) (old new : CoordinatorMachine) (call : Call) →
+    CoordinatorStarts pair old new call → new.journal.value ≡ archive_of old.journal.value call.kept
+starts_value pair old _ _ (fine.starts session journal next lawful keeps up) =
+    keeps_value pair old.journal journal (Session session) (Session session ∷ []) keeps
+starts_value pair old _ _ (fine.start_breaks session journal kept next keeps down) =
+    keeps_value pair old.journal journal (Session session) kept keeps
 
-ticks_value : (old new : CoordinatorMachine) (call : Call) → CoordinatorTicks old new call → new.journal.value ≡ archive_of old.journal.value call.kept
+ticks_value : (old new : CoordinatorMachine) (call : Call) → CoordinatorTicks old new call →
+    new.journal.value ≡ archive_of old.journal.value call.kept
 ticks_value old _ _ (fine.no_session none) = refl
 ticks_value old _ _ (fine.resends r e few) = refl
 ticks_value old _ _ (fine.gives_up r why e because) = refl
 
-takes_history : (pair : ℕ) (old : SideMachine) (session : ℕ) (request : Request) (new : SideMachine) (reply : Option Reply) (events : List Event) → SideTakes pair old session request new reply events → new.journal.value ≡ old.journal.value ++ events
-takes_history pair old session request _ _ _ (answers served serves same) = sym (append-nil old.journal.value)
-takes_history pair old session request _ _ _ (adds served event journal events up serves more w) = writes_value pair old.journal journal event events w
+takes_history : (pair : ℕ) (old : SideMachine) (session : ℕ) (request : Request) (new : SideMachine)
+    (reply : Option Reply) (events : List Event) →
+    SideTakes pair old session request new reply events →
+    new.journal.value ≡ old.journal.value ++ events
+takes_history pair old session request _ _ _ (answers served serves same) =
+    sym (append-nil old.journal.value)
+takes_history pair old session request _ _ _ (adds served event journal events up serves more w) =
+    writes_value pair old.journal journal event events w
 
-opens_history : (pair : ℕ) (old : Journaled History Event) (calls : ℕ) (new : Journaled History Event) (events : List Event) → Opens (side_layout pair) IsAllowed old calls new events → new.value ≡ old.value ++ events
-opens_history pair old calls _ _ (opened room generation arms meets left) = sym (append-nil old.value)
+opens_history : (pair : ℕ) (old : Journaled History Event) (calls : ℕ)
+    (new : Journaled History Event) (events : List Event) →
+    Opens (side_layout pair) IsAllowed old calls new events → new.value ≡ old.value ++ events
+opens_history pair old calls _ _ (opened room generation arms meets left) =
+    sym (append-nil old.value)
 opens_history pair old calls _ _ (recovered arms event meets is allowed) = refl
 
-opens_value : (pair : ℕ) (old : Journaled Archive Kept) (calls : ℕ) (new : Journaled Archive Kept) (kept : List Kept) → Opens (archive_layout pair) CanKeep old calls new kept → new.value ≡ archive_of old.value kept
+opens_value : (pair : ℕ) (old : Journaled Archive Kept) (calls : ℕ) (new : Journaled Archive Kept)
+    (kept : List Kept) → Opens (archive_layout pair) CanKeep old calls new kept →
+    new.value ≡ archive_of old.value kept
 opens_value pair old calls _ _ (opened room generation arms meets left) = refl
 opens_value pair old calls _ _ (recovered arms kept meets is can) = refl
 
 -- The world
 
-to_view : (before : Stores) (world : World) → StandsFor before world → picture.StandsFor before (view world)
+to_view : (before : Stores) (world : World) → StandsFor before world →
+    picture.StandsFor before (view world)
 to_view before world s = record { left = s.left; right = s.right; archive = s.archive }
 
-from_view : (before : Stores) (world : World) → picture.StandsFor before (view world) → StandsFor before world
+from_view : (before : Stores) (world : World) → picture.StandsFor before (view world) →
+    StandsFor before world
 from_view before world s = record { left = s.left; right = s.right; archive = s.archive }
 
 -- a side goes on by what it acknowledges
-side_stands : (before : Stores) (old : World) (side : Which) (machine : SideMachine) (messages : List Message) (events : List Event) → StandsFor before old → machine.journal.value ≡ (side_of old side).journal.value ++ events → StandsFor before (side_goes old side machine messages events)
-side_stands before old Left machine messages events s e = from_view before (side_goes old Left machine messages events) (view_side_goes before (view old) Left _ events messages (view (side_goes old Left machine messages events)) (to_view before old s) e (view_goes old Left machine messages events))
-side_stands before old Right machine messages events s e = from_view before (side_goes old Right machine messages events) (view_side_goes before (view old) Right _ events messages (view (side_goes old Right machine messages events)) (to_view before old s) e (view_goes old Right machine messages events))
+side_stands : (before : Stores) (old : World) (side : Which) (machine : SideMachine)
+    (messages : List Message) (events : List Event) → StandsFor before old →
+    machine.journal.value ≡ (side_of old side).journal.value ++ events →
+    StandsFor before (side_goes old side machine messages events)
+side_stands before old Left machine messages events s e =
+    from_view before (side_goes old Left machine messages events) (view_side_goes before
+    (view old) Left _ events messages (view (side_goes old Left machine messages events))
+    (to_view before old s) e (view_goes old Left machine messages events))
+side_stands before old Right machine messages events s e =
+    from_view before (side_goes old Right machine messages events) (view_side_goes before
+    (view old) Right _ events messages (view (side_goes old Right machine messages events))
+    (to_view before old s) e (view_goes old Right machine messages events))
 
 -- and so does the coordinator
-coordinator_stands : (before : Stores) (old : World) (machine : CoordinatorMachine) (call : Call) → StandsFor before old → machine.journal.value ≡ archive_of old.coordinator.journal.value call.kept → StandsFor before (coordinator_goes old machine call)
-coordinator_stands before old machine call s e = from_view before (coordinator_goes old machine call)
-    (view_coordinator_goes before (view old) _ call.kept (old.sent ++ call.messages) (coordinator_goes old machine call).reports (old.log ++ call.logged) (view (coordinator_goes old machine call)) (to_view before old s) e refl)
+coordinator_stands : (before : Stores) (old : World) (machine : CoordinatorMachine)
+    (call : Call) → StandsFor before old →
+    machine.journal.value ≡ archive_of old.coordinator.journal.value call.kept →
+    StandsFor before (coordinator_goes old machine call)
+coordinator_stands before old machine call s e =
+    from_view before (coordinator_goes old machine call)
+    (view_coordinator_goes before (view old) _ call.kept (old.sent ++ call.messages)
+    (coordinator_goes old machine call).reports (old.log ++ call.logged)
+    (view (coordinator_goes old machine call)) (to_view before old s) e refl)
 
-device_stands : (before : Stores) (old : World) (machine : Machine) (status : Status) (arms : Arms) (failed : ℕ) → StandsFor before old → StandsFor before (set_device old machine status arms failed)
-device_stands before old (At Left) status arms failed s = record { left = s.left; right = s.right; archive = s.archive }
-device_stands before old (At Right) status arms failed s = record { left = s.left; right = s.right; archive = s.archive }
-device_stands before old Coordinator status arms failed s = record { left = s.left; right = s.right; archive = s.archive }
+device_stands : (before : Stores) (old : World) (machine : Machine) (status : Status) (arms : Arms)
+    (failed : ℕ) → StandsFor before old →
+    StandsFor before (set_device old machine status arms failed)
+device_stands before old (At Left) status arms failed s =
+    record { left = s.left; right = s.right; archive = s.archive }
+device_stands before old (At Right) status arms failed s =
+    record { left = s.left; right = s.right; archive = s.archive }
+device_stands before old Coordinator status arms failed s =
+    record { left = s.left; right = s.right; archive = s.archive }
 
 module _ (before : Stores) (old : World) (s : StandsFor before old) where
-  refused_stands : (made : World) (reason : Refusal) → StandsFor before made → StandsFor before (refuses_with made reason)
+  refused_stands : (made : World) (reason : Refusal) → StandsFor before made →
+      StandsFor before (refuses_with made reason)
   refused_stands made reason s = record { left = s.left; right = s.right; archive = s.archive }
 
-  answered_stands : (machine : Machine) (made : World) → StandsFor before made → StandsFor before (answered_by machine made)
+  answered_stands : (machine : Machine) (made : World) → StandsFor before made →
+      StandsFor before (answered_by machine made)
   answered_stands machine made s = by (is_halted (status_of made machine))
     where
       by : (b : Bool) → StandsFor before (if b then refuses_with made Device else made)
       by true = refused_stands made Device s
       by false = s
 
-  unless_down_stands : (machine : Machine) (IsDone : Type 0) (new : World) → (IsDone → StandsFor before new) → UnlessDown old machine IsDone new → StandsFor before new
+  unless_down_stands : (machine : Machine) (IsDone : Type 0) (new : World) →
+      (IsDone → StandsFor before new) → UnlessDown old machine IsDone new → StandsFor before new
   unless_down_stands machine IsDone new done (inl (down, e)) = subst (StandsFor before) (sym e) s
   unless_down_stands machine IsDone new done (inr (up, is)) = done is
 
-  calls_stand : (machine : Machine) (causes : List Cause) (Made : World → Type 0) (new : World) → ((made : World) → Made made → StandsFor before made) → Calls old machine causes Made new → StandsFor before new
+  calls_stand : (machine : Machine) (causes : List Cause) (Made : World → Type 0) (new : World) →
+      ((made : World) → Made made → StandsFor before made) → Calls old machine causes Made new →
+      StandsFor before new
   calls_stand machine causes Made new made (inl (down, e)) = subst (StandsFor before) (sym e) s
-  calls_stand machine causes Made new made (inr (up, inl r)) = subst (StandsFor before) (sym r.2) (refused_stands old r.0 s)
-  calls_stand machine causes Made new made (inr (up, inr (none, between, g, e))) = subst (StandsFor before) (sym e) (answered_stands machine between (made between g))
+  calls_stand machine causes Made new made (inr (up, inl r)) =
+      subst (StandsFor before) (sym r.2) (refused_stands old r.0 s)
+  calls_stand machine causes Made new made (inr (up, inr (none, between, g, e))) =
+      subst (StandsFor before) (sym e) (answered_stands machine between (made between g))
 
-  edits_stand : (side : Which) (event : Event) (made : World) → EditsSide old side event made → StandsFor before made
-  edits_stand side event _ (edits journal events lawful w) = side_stands before old side _ [] events s (writes_value old.pair (side_of old side).journal journal event events w)
+  edits_stand : (side : Which) (event : Event) (made : World) → EditsSide old side event made →
+      StandsFor before made
+  edits_stand side event _ (edits journal events lawful w) =
+      side_stands before old side _
+      [] events s (writes_value old.pair (side_of old side).journal journal event events w)
 
-  compacts_stand : (machine : Machine) (made : World) → CompactsMachine old machine made → StandsFor before made
-  compacts_stand _ _ (compacts_side side journal c) = side_stands before old side _ [] [] s (compacts_value (side_layout old.pair) (side_of old side).journal journal c ∙ sym (append-nil (side_of old side).journal.value))
-  compacts_stand _ _ (compacts_archive journal c) = coordinator_stands before old (fine.with_archive old.coordinator journal) (record fine.no_call { kept = [] }) s (compacts_value (archive_layout old.pair) old.coordinator.journal journal c)
+  compacts_stand : (machine : Machine) (made : World) → CompactsMachine old machine made →
+      StandsFor before made
+  compacts_stand _ _ (compacts_side side journal c) =
+      side_stands before old side _ [] [] s (compacts_value (side_layout old.pair)
+      (side_of old side).journal journal c ∙ sym (append-nil (side_of old side).journal.value))
+  compacts_stand _ _ (compacts_archive journal c) =
+      coordinator_stands before old (fine.with_archive old.coordinator journal)
+      (record fine.no_call { kept = [] }) s
+      (compacts_value (archive_layout old.pair) old.coordinator.journal journal c)
 
-  opens_stand : (calls : ℕ) (machine : Machine) (made : World) → OpensMachine old calls machine made → StandsFor before made
-  opens_stand calls _ _ (opens_side side journal events o) = side_stands before old side _ [] events s (opens_history old.pair (side_of old side).journal calls journal events o)
-  opens_stand calls _ _ (opens_archive journal kept o) = coordinator_stands before old (fine.with_archive old.coordinator journal) (record fine.no_call { kept = kept }) s (opens_value old.pair old.coordinator.journal calls journal kept o)
+  opens_stand : (calls : ℕ) (machine : Machine) (made : World) →
+      OpensMachine old calls machine made → StandsFor before made
+  opens_stand calls _ _ (opens_side side journal events o) =
+      side_stands before old side _
+      [] events s (opens_history old.pair (side_of old side).journal calls journal events o)
+  opens_stand calls _ _ (opens_archive journal kept o) =
+      coordinator_stands before old (fine.with_archive old.coordinator journal)
+      (record fine.no_call { kept = kept }) s
+      (opens_value old.pair old.coordinator.journal calls journal kept o)
 
-  fails_stand : (machine : Machine) (calls : ℕ) (status left : Status) (made : World) → FailsDevice old machine calls status left made → StandsFor before made
-  fails_stand machine calls status left _ (fails_device arms failed meets) = device_stands before old machine left arms failed s
+  fails_stand : (machine : Machine) (calls : ℕ) (status left : Status) (made : World) →
+      FailsDevice old machine calls status left made → StandsFor before made
+  fails_stand machine calls status left _ (fails_device arms failed meets) =
+      device_stands before old machine left arms failed s
 
   starts_stand : (made : World) → Starts old made → StandsFor before made
-  starts_stand _ (world.starts machine call g) = coordinator_stands before old machine call s (starts_value old.pair old.coordinator machine call g)
+  starts_stand _ (world.starts machine call g) =
+      coordinator_stands before old machine call s
+      (starts_value old.pair old.coordinator machine call g)
 
   delivers_stand : (o : Option Message) (new : World) → Delivers old o new → StandsFor before new
   delivers_stand _ _ no_message = s
   delivers_stand _ _ (to_no_side side session number request down) = s
-  delivers_stand _ _ (to_side side session number request machine reply events t) = side_stands before old side machine _ events s (takes_history old.pair (side_of old side) session request machine reply events t)
-  delivers_stand _ _ (to_coordinator side session number reply machine call t) = coordinator_stands before old machine call s (answer_value old.pair old.coordinator side session number reply machine call t)
+  delivers_stand _ _ (to_side side session number request machine reply events t) =
+      side_stands before old side machine _ events s
+      (takes_history old.pair (side_of old side) session request machine reply events t)
+  delivers_stand _ _ (to_coordinator side session number reply machine call t) =
+      coordinator_stands before old machine call s
+      (answer_value old.pair old.coordinator side session number reply machine call t)
 
   ticks_stand : (new : World) → Ticks old new → StandsFor before new
-  ticks_stand _ (ticks machine call g) = coordinator_stands before old machine call s (ticks_value old.coordinator machine call g)
+  ticks_stand _ (ticks machine call g) =
+      coordinator_stands before old machine call s (ticks_value old.coordinator machine call g)
 
-  opens_down_stands : (machine : Machine) (new : World) → OpensDown old machine new → StandsFor before new
+  opens_down_stands : (machine : Machine) (new : World) → OpensDown old machine new →
+      StandsFor before new
   opens_down_stands machine _ (opens calls new o) = opens_stand calls machine new o
-  opens_down_stands machine _ (open_fails calls made f) = refused_stands made Device (fails_stand machine calls _ _ made f)
+  opens_down_stands machine _ (open_fails calls made f) =
+      refused_stands made Device (fails_stand machine calls _ _ made f)
   opens_down_stands machine _ no_memory_to_open = refused_stands old Memory s
 
   reopens_stand : (machine : Machine) (new : World) → Reopens old machine new → StandsFor before new
   reopens_stand machine _ (reopens calls new some o) = opens_stand calls machine new o
-  reopens_stand machine _ (reopen_fails calls made f) = refused_stands made Device (fails_stand machine calls _ _ made f)
+  reopens_stand machine _ (reopen_fails calls made f) =
+      refused_stands made Device (fails_stand machine calls _ _ made f)
   reopens_stand machine _ (reopen_is_cut calls made f) = fails_stand machine calls _ _ made f
-  reopens_stand machine _ (no_memory_to_reopen calls made f) = refused_stands made Memory (fails_stand machine calls _ _ made f)
+  reopens_stand machine _ (no_memory_to_reopen calls made f) =
+      refused_stands made Memory (fails_stand machine calls _ _ made f)
 
   step_stands : (step : Step) (new : World) → Steps old step new → StandsFor before new
-  step_stands (Edits side user edit) new g = calls_stand (At side) (causes_of old.pair (side_of old side) (Edited user edit)) (EditsSide old side (Edited user edit)) new (edits_stand side (Edited user edit)) g
-  step_stands Start new g = calls_stand Coordinator (start_causes old.pair old.coordinator) (Starts old) new starts_stand g
+  step_stands (Edits side user edit) new g =
+      calls_stand (At side) (causes_of old.pair (side_of old side) (Edited user edit))
+      (EditsSide old side (Edited user edit)) new (edits_stand side (Edited user edit)) g
+  step_stands Start new g =
+      calls_stand Coordinator (start_causes old.pair old.coordinator)
+      (Starts old) new starts_stand g
   step_stands (Deliver message) new g = delivers_stand (slice_get old.sent message) new g
   step_stands Tick new g = ticks_stand new g
-  step_stands (Checkpoint machine) new g = calls_stand machine (full_generation (generation_of old machine)) (CompactsMachine old machine) new (compacts_stand machine) g
-  step_stands (Fail machine call) new g = unless_down_stands machine _ new (λ e. subst (StandsFor before) (sym e) (device_stands before old machine _ _ 0 s)) g
-  step_stands (Stop machine zero) new g = unless_down_stands machine _ new (λ e. subst (StandsFor before) (sym e) (device_stands before old machine _ _ 0 s)) g
-  step_stands (Stop machine (suc calls)) new g = unless_down_stands machine _ new (λ e. subst (StandsFor before) (sym e) (device_stands before old machine _ _ 0 s)) g
+  step_stands (Checkpoint machine) new g =
+      calls_stand machine (full_generation (generation_of old machine))
+      (CompactsMachine old machine) new (compacts_stand machine) g
+  step_stands (Fail machine call) new g =
+      unless_down_stands machine _ new
+      (λ e. subst (StandsFor before) (sym e) (device_stands before old machine _ _ 0 s)) g
+  step_stands (Stop machine zero) new g =
+      unless_down_stands machine _ new
+      (λ e. subst (StandsFor before) (sym e) (device_stands before old machine _ _ 0 s)) g
+  step_stands (Stop machine (suc calls)) new g =
+      unless_down_stands machine _ new
+      (λ e. subst (StandsFor before) (sym e) (device_stands before old machine _ _ 0 s)) g
   step_stands (Open machine) new (inl (up, e)) = subst (StandsFor before) (sym e) s
   step_stands (Open machine) new (inr (down, o)) = opens_down_stands machine new o
-  step_stands (Reopen machine) new g = unless_down_stands machine _ new (reopens_stand machine new) g
+  step_stands (Reopen machine) new g =
+      unless_down_stands machine _ new (reopens_stand machine new) g
 
 -- a whole run
 pub runs_stand : RunsStand
 runs_stand before old new [] e s = subst (StandsFor before) (sym e) s
-runs_stand before old new (step ∷ steps) g s = runs_stand before g.0 new steps g.2 (step_stands before old s step g.0 g.1)
+runs_stand before old new (step ∷ steps) g s =
+    runs_stand before g.0 new steps g.2 (step_stands before old s step g.0 g.1)

@@ -1,58 +1,87 @@
--- A start, a tick and an opening of the coordinator in the coarser picture, and what its session then remembers.
-use Rattle.std.proofs.Common.{◌≡◌, ◌≢◌, ◌<◌, ◌+◌, ℕ, zero, suc, Bool, true, false, not, ◌&&◌, ◌==◌, nat_le, true≢false, List, [], ◌∷◌, ◌++◌, map, filter_map, length, fold, refl, sym, ap, ap₂, ◌∙◌, subst, Option, Some, None, option_map, is_some, append-nil, arith, inl, inr}
-use Rattle.std.specs.Prelude.{Contains, IfSome, IsSome, All, Any}
-use Rattle.std.specs.List.{count_by}
+-- A start and an opening of the coordinator in the coarser picture, and what its session then
+-- remembers.
+use Rattle.std.proofs.Common.{◌≡◌, ◌≢◌, ◌<◌, ◌+◌, ℕ, zero, suc, Bool, true, false, not, ◌==◌}
+use Rattle.std.proofs.Common.{nat_le, true≢false, List, ◌∷◌, ◌++◌, filter_map, fold, refl, sym, ap}
+use Rattle.std.proofs.Common.{ap₂, ◌∙◌, subst, Option, Some, None, option_map, is_some, append-nil}
+use Rattle.std.proofs.Common.{arith, inl, inr, []}
+use Rattle.std.specs.Prelude.{Contains, IfSome, IsSome, All}
 use Rattle.std.proofs.lemmas.Bool.Decides.{nat_tests}
 use Rattle.std.proofs.lemmas.List.Sums.{fold-append}
-use Rattle.std.proofs.lemmas.List.Elements.{All-nil, All-cons, All-append, All-contains_itself, Contains-append_left, Contains-append_right, Contains-append_cases, filter_map-append}
-use Rattle.std.proofs.lemmas.Option.{none-some}
+use Rattle.std.proofs.lemmas.List.Elements.{All-nil, All-cons, All-contains_itself}
+use Rattle.std.proofs.lemmas.List.Elements.{filter_map-append}
 use Rattle.syn_model.specs.Limits.{greatest}
-use Rattle.syn_model.specs.Refusal.{Refusal, Full, BadMessage, first_cause}
+use Rattle.syn_model.specs.Refusal.{Full, BadMessage, first_cause}
 use Rattle.syn_model.specs.Archive.{Archive, Kept, Session, CanKeep}
-use Rattle.syn_model.specs.Decision.{Item}
 use Rattle.syn_headline.specs.Machine.{Up, Journaled}
-use Rattle.syn_headline.specs.Side.{Request, Begin, ListAt, Fetch, Stage, Replace, IsLawfulRequest}
+use Rattle.syn_headline.specs.Side.{Request, Begin, ListAt, IsLawfulRequest}
 use Rattle.syn_model.specs.Path.{Path}
-use Rattle.syn_headline.specs.Network.{Answers, Which, Left, Right, is_side, Message, Asks, Sent, NumbersTell, AsksNothingTwice}
+use Rattle.syn_headline.specs.Network.{Which, Left, Right, Message, Asks, Sent, NumbersTell}
+use Rattle.syn_headline.specs.Network.{AsksNothingTwice}
 use Rattle.syn_headline.specs.Acknowledged.{Ack, Kept_by, kept_in}
 use Rattle.syn_headline.specs.Planning.{Log}
-use Rattle.syn_headline.specs.Report.{Report, is_kept, is_carrying, is_marking}
-use Rattle.syn_headline.specs.Coordinator.{IsShown, Outstanding, Running, CoordinatorMachine, Call, WasAsked, AsksOnce, IsExpected, Keeps, new_session, begins, asking, sent_now, numbered, messages_to, once_more, plan_of, report_of, asked_count, CoordinatorStarts, CoordinatorTicks, CoordinatorTakes}
+use Rattle.syn_headline.specs.Report.{Report}
+use Rattle.syn_headline.specs.Coordinator.{IsShown, Outstanding, Running, CoordinatorMachine, Call}
+use Rattle.syn_headline.specs.Coordinator.{WasAsked, AsksOnce, Keeps, new_session, begins, asking}
+use Rattle.syn_headline.specs.Coordinator.{sent_now, asked_count, CoordinatorStarts}
 use Rattle.syn_headline.specs.Coordinator as fine
 use Rattle.syn_headline.specs.World as fine_world
 use Rattle.syn_headline.specs.World.{coordinator_goes}
-use Rattle.syn_headline.proofs.Coarse.{World, Follows, kept_in_session, since_start, CoordinatorGoes, RunsOver, GoesOnFrom, IsNext, IsNothing, StartsFrom, IsOfSession, IsOfPlan}
+use Rattle.syn_headline.proofs.Coarse.{World, Follows, since_start, RunsOver, IsNext, StartsFrom}
+use Rattle.syn_headline.proofs.Coarse.{IsOfSession}
 use Rattle.syn_headline.proofs.Coarse as coarse
-use Rattle.syn_headline.proofs.Invariant.{Plans, plan_in, histories_of, IsFresh, IsHarmless, IsKept}
-use Rattle.syn_headline.proofs.StepLemmas.{if_some, next_fresh}
+use Rattle.syn_headline.proofs.Invariant.{Plans, histories_of, IsHarmless, IsKept}
+use Rattle.syn_headline.proofs.SideSteps.{if_some}
+use Rattle.syn_headline.proofs.StepLemmas.{next_fresh}
 use Rattle.syn_headline.proofs.View.{view, view_running, view_coordinator}
 use Rattle.syn_headline.proofs.Walks.{IsLeft, writes_left, keeps_due, IsSettledBy}
-use Rattle.syn_headline.proofs.Heard.{sent_to}
 use Rattle.syn_headline.proofs.Remembers.{Remembers, asking_remembers, asking_tells, asking_once}
-use Rattle.syn_headline.proofs.InOrder.{IsSaid, asking_in_order, nothing_in_order, for_side, no_answer, after_less}
+use Rattle.syn_headline.proofs.InOrder.{asking_in_order, nothing_in_order, for_side}
 use Rattle.syn_headline.proofs.Sessions.{IsHeard, GoesBeside, heard_beside}
 
 -- a call that gives nothing
-pub nothing_given : (old : fine_world.World) → view (coordinator_goes old old.coordinator fine.no_call) ≡ view old
+pub nothing_given : (old : fine_world.World) →
+    view (coordinator_goes old old.coordinator fine.no_call) ≡ view old
 nothing_given old =
-    let one : Sent → List Ack → World = λ sent acks. record (view old) { sent = sent; acknowledged = acks; reports = old.reports ++ []; log = old.log ++ [] } in
-    let two : List (Report × ℕ) → Log → World = λ reports log. record (view old) { reports = reports; log = log } in
-    ap₂ one (append-nil old.sent) (append-nil old.acknowledged) ∙ ap₂ two (append-nil old.reports) (append-nil old.log)
+    let one : Sent → List Ack → World = λ sent acks. record (view old)
+    { sent = sent; acknowledged = acks; reports = old.reports ++ []; log = old.log ++ [] } in
+    let two : List (Report × ℕ) → Log →
+    World = λ reports log. record (view old) { reports = reports; log = log } in
+    ap₂ one (append-nil old.sent) (append-nil old.acknowledged)
+    ∙ ap₂ two (append-nil old.reports) (append-nil old.log)
 
-given_beside : (old : fine_world.World) → GoesBeside old (coordinator_goes old old.coordinator fine.no_call)
-given_beside old = record { more = []; acks = []; sent = refl; no_request = λ side session n q c. absurd (omega (arith, c.1)); says = λ side session n reply path later above position entries c. absurd (omega (arith, c.1)); log = append-nil old.log; acknowledged = refl; nothing_kept = refl }
+given_beside : (old : fine_world.World) →
+    GoesBeside old (coordinator_goes old old.coordinator fine.no_call)
+given_beside old =
+    record {
+      more = [];
+      acks = [];
+      sent = refl;
+      no_request = λ side session n q c. absurd (omega (arith, c.1));
+      says =
+          λ side session n reply path later above position entries c. absurd (omega (arith, c.1));
+      log = append-nil old.log;
+      acknowledged = refl;
+      nothing_kept = refl;
+    }
 
-pub heard_still : (old : fine_world.World) → IfSome old.coordinator.running (IsHeard old) → IfSome old.coordinator.running (IsHeard (coordinator_goes old old.coordinator fine.no_call))
-heard_still old h = if_some old.coordinator.running (IsHeard old) (IsHeard (coordinator_goes old old.coordinator fine.no_call)) h (λ r _ h. heard_beside old (coordinator_goes old old.coordinator fine.no_call) r (given_beside old) h)
+pub heard_still : (old : fine_world.World) → IfSome old.coordinator.running (IsHeard old) →
+    IfSome old.coordinator.running (IsHeard (coordinator_goes old old.coordinator fine.no_call))
+heard_still old h =
+    if_some old.coordinator.running (IsHeard old)
+    (IsHeard (coordinator_goes old old.coordinator fine.no_call)) h (λ r _ h. heard_beside old
+    (coordinator_goes old old.coordinator fine.no_call) r (given_beside old) h)
 
 -- nothing is being written where a machine is up
-up_unwritten : (plans : Plans) (old : fine_world.World) → IsKept plans (view old) → old.coordinator.journal.status ≡ Up → old.coordinator.journal.writing ≡ None
+up_unwritten : (plans : Plans) (old : fine_world.World) → IsKept plans (view old) →
+    old.coordinator.journal.status ≡ Up → old.coordinator.journal.writing ≡ None
 up_unwritten plans old k up = by old.coordinator.journal.writing refl
   where
     by : (o : Option Kept) → old.coordinator.journal.writing ≡ o → o ≡ None
     by None at = refl
     by (Some what) at =
-        let h = subst (λ o. IfSome o (λ kept. (old.coordinator.journal.status ≢ Up) × ((view old).coordinator.running ≡ None) × CanKeep old.coordinator.journal.value kept × IsHarmless plans (histories_of (view old)) kept)) at k.coordinator.writing in
+        let h = subst (λ o. IfSome o (λ kept. (old.coordinator.journal.status ≢ Up)
+        × ((view old).coordinator.running ≡ None) × CanKeep old.coordinator.journal.value kept
+        × IsHarmless plans (histories_of (view old)) kept)) at k.coordinator.writing in
         absurd (h.0 up)
 
 -- A start
@@ -61,44 +90,63 @@ not_begin : {pair : ℕ} (path : Path) → Contains (Begin pair ∷ []) (ListAt 
 not_begin {pair} path (zero, h, e) = let x : Begin pair ≡ ListAt path = e in cc
 not_begin path (suc i, h, e) = omega (arith, h)
 
-next_can : (archive : Archive) (session : ℕ) → nat_le greatest archive.last_session ≡ false → session ≡ archive.last_session + 1 → CanKeep archive (Session session)
-next_can archive session smaller next = record { lawful = tt; not_refused = by (nat_le greatest archive.last_session) (session == archive.last_session + 1) smaller (same session (archive.last_session + 1) next) }
+next_can : (archive : Archive) (session : ℕ) → nat_le greatest archive.last_session ≡ false →
+    session ≡ archive.last_session + 1 → CanKeep archive (Session session)
+next_can archive session smaller next =
+    record {
+      lawful = tt;
+      not_refused = by (nat_le greatest archive.last_session)
+          (session == archive.last_session + 1) smaller
+          (same session (archive.last_session + 1) next);
+    }
   where
     same : (m n : ℕ) → m ≡ n → (m == n) ≡ true
     same m n e = grind (arith, nat_tests)
 
-    by : (a b : Bool) → a ≡ false → b ≡ true → first_cause ((a, Full) ∷ (not b, BadMessage) ∷ []) ≡ None
+    by : (a b : Bool) → a ≡ false → b ≡ true →
+        first_cause ((a, Full) ∷ (not b, BadMessage) ∷ []) ≡ None
     by false true e f = refl
     by true b e f = absurd (true≢false e)
     by false false e f = absurd (true≢false (sym f))
 
-module _ (plans : Plans) (old : fine_world.World) (k : IsKept plans (view old)) (up : old.coordinator.journal.status ≡ Up) (smaller : nat_le greatest old.coordinator.journal.value.last_session ≡ false) where
-  new_remembers : (session : ℕ) → session ≡ old.coordinator.journal.value.last_session + 1 → Remembers old.sent (new_session session)
+module _ (plans : Plans) (old : fine_world.World) (k : IsKept plans (view old))
+    (up : old.coordinator.journal.status ≡ Up)
+    (smaller : nat_le greatest old.coordinator.journal.value.last_session ≡ false) where
+  new_remembers : (session : ℕ) → session ≡ old.coordinator.journal.value.last_session + 1 →
+      Remembers old.sent (new_session session)
   new_remembers session next = record {
     taken = λ e c. absurd (omega (arith, c.1));
     waiting = λ side one c. none_waits side one c;
-    asked = λ side n q c. let kept = (k.sound.asked side session n q c).session_kept in absurd (omega (arith, kept, next));
+    asked =
+        λ side n q c. let kept = (k.sound.asked side session n q c).session_kept in
+        absurd (omega (arith, kept, next));
     below = λ side n q w. none_asked side n q w;
   }
     where
-      none_waits : (side : Which) (one : Outstanding) → Contains (fine.outstanding (new_session session) side) one → Contains old.sent (Asks side session one.number one.request)
+      none_waits : (side : Which) (one : Outstanding) →
+          Contains (fine.outstanding (new_session session) side) one →
+          Contains old.sent (Asks side session one.number one.request)
       none_waits Left one c = absurd (omega (arith, c.1))
       none_waits Right one c = absurd (omega (arith, c.1))
 
-      none_asked : (side : Which) (n : ℕ) (q : Request) → WasAsked (new_session session) side n q → n < asked_count (new_session session) side
+      none_asked : (side : Which) (n : ℕ) (q : Request) → WasAsked (new_session session) side n q →
+          n < asked_count (new_session session) side
       none_asked side n q (inl taken) = absurd (let c = taken.1 in omega (arith, c.1))
       none_asked Left n q (inr waits) = absurd (let c = waits.1 in omega (arith, c.1))
       none_asked Right n q (inr waits) = absurd (let c = waits.1 in omega (arith, c.1))
 
-  first_number : (session n : ℕ) (q : Request) (side : Which) → WasAsked (asking (new_session session) (begins old.pair) (begins old.pair)) side n q → n ≡ 0
+  first_number : (session n : ℕ) (q : Request) (side : Which) →
+      WasAsked (asking (new_session session) (begins old.pair) (begins old.pair)) side n q → n ≡ 0
   first_number session n q side (inl taken) = absurd (let c = taken.1 in omega (arith, c.1))
   first_number session n q Left (inr (resent, (zero, h, e))) = sym (ap (λ o. o.number) e)
   first_number session n q Left (inr (resent, (suc i, h, e))) = absurd (omega (arith, h))
   first_number session n q Right (inr (resent, (zero, h, e))) = sym (ap (λ o. o.number) e)
   first_number session n q Right (inr (resent, (suc i, h, e))) = absurd (omega (arith, h))
 
-  begins_once : (session : ℕ) → AsksOnce (asking (new_session session) (begins old.pair) (begins old.pair))
-  begins_once session side m n a b c d again = first_number session m a side c ∙ sym (first_number session n b side d)
+  begins_once : (session : ℕ) →
+      AsksOnce (asking (new_session session) (begins old.pair) (begins old.pair))
+  begins_once session side m n a b c d again =
+      first_number session m a side c ∙ sym (first_number session n b side d)
 
   module _ (session : ℕ) (next : session ≡ old.coordinator.journal.value.last_session + 1) where
     can : CanKeep old.coordinator.journal.value (Session session)
@@ -107,13 +155,25 @@ module _ (plans : Plans) (old : fine_world.World) (k : IsKept plans (view old)) 
     is_next : IsNext old.coordinator.journal.value (Session session)
     is_next = ap Session next
 
-    left_so : (journal : Journaled Archive Kept) (kept : List Kept) → Keeps old.pair old.coordinator.journal (Session session) journal kept → IsLeft old.coordinator.journal journal kept (IsNext old.coordinator.journal.value)
-    left_so journal kept keeps = writes_left old.pair old.coordinator.journal journal (Session session) kept (IsNext old.coordinator.journal.value) up (up_unwritten plans old k up) can is_next keeps
+    left_so : (journal : Journaled Archive Kept) (kept : List Kept) →
+        Keeps old.pair old.coordinator.journal (Session session) journal kept →
+        IsLeft old.coordinator.journal journal kept (IsNext old.coordinator.journal.value)
+    left_so journal kept keeps =
+        writes_left old.pair old.coordinator.journal journal (Session session) kept
+        (IsNext old.coordinator.journal.value) up (up_unwritten plans old k up) can is_next keeps
 
-    begins_goes : (journal : Journaled Archive Kept) (kept : List Kept) (running : Option Running) (messages : List Message) → Keeps old.pair old.coordinator.journal (Session session) journal kept →
-        StartsFrom old.coordinator.journal.value (option_map view_running running) → RunsOver (old.sent ++ messages) journal.value (option_map view_running running) → NumbersTell (old.sent ++ messages) → AsksNothingTwice (old.sent ++ messages) →
-        coarse.AllOfSession old.pair old.sent (option_map view_running running) messages → (IsSome journal.writing → (messages ≡ []) × (option_map view_running running ≡ None)) →
-        Follows (view old) (view (coordinator_goes old (record { journal = journal; running = running }) (record fine.no_call { kept = kept; messages = messages })))
+    begins_goes : (journal : Journaled Archive Kept) (kept : List Kept) (running : Option Running)
+        (messages : List Message) →
+        Keeps old.pair old.coordinator.journal (Session session) journal kept →
+        StartsFrom old.coordinator.journal.value (option_map view_running running) →
+        RunsOver (old.sent ++ messages) journal.value (option_map view_running running) →
+        NumbersTell (old.sent ++ messages) → AsksNothingTwice (old.sent ++ messages) →
+        coarse.AllOfSession old.pair old.sent (option_map view_running running) messages →
+        (IsSome journal.writing → (messages ≡ []) × (option_map view_running running ≡ None)) →
+        Follows (view old) (view (coordinator_goes old (record {
+          journal = journal;
+          running = running;
+        }) (record fine.no_call { kept = kept; messages = messages })))
     begins_goes journal kept running messages keeps on over numbers repeats of_session silent =
         let left = left_so journal kept keeps in
         coarse.starts_session (record {
@@ -121,7 +181,14 @@ module _ (plans : Plans) (old : fine_world.World) (k : IsKept plans (view old)) 
           kept = kept;
           messages = messages;
           reports = [];
-          keeps = record { due = keeps_due old.pair old.coordinator.journal journal (Session session) kept (IsNext old.coordinator.journal.value) is_next keeps; can = left.can; archive = left.value; writing = left.writing };
+          keeps =
+              record {
+                due = keeps_due old.pair old.coordinator.journal journal
+                    (Session session) kept (IsNext old.coordinator.journal.value) is_next keeps;
+                can = left.can;
+                archive = left.value;
+                writing = left.writing;
+              };
           unless_up = left.up;
           runs_on = on;
           runs_over = over;
@@ -132,243 +199,102 @@ module _ (plans : Plans) (old : fine_world.World) (k : IsKept plans (view old)) 
           result = refl;
         }) (append-nil old.reports)
 
-    breaks_so : (journal : Journaled Archive Kept) (kept : List Kept) → Keeps old.pair old.coordinator.journal (Session session) journal kept →
-        Follows (view old) (view (coordinator_goes old (record { journal = journal; running = None }) (record fine.no_call { kept = kept })))
-    breaks_so journal kept keeps = begins_goes journal kept None [] keeps tt tt (subst NumbersTell (sym (append-nil old.sent)) k.sound.numbers) (subst AsksNothingTwice (sym (append-nil old.sent)) k.sound.repeats) refl (λ _. (refl, refl))
+    breaks_so : (journal : Journaled Archive Kept) (kept : List Kept) →
+        Keeps old.pair old.coordinator.journal (Session session) journal kept →
+        Follows (view old) (view (coordinator_goes old
+        (record { journal = journal; running = None }) (record fine.no_call { kept = kept })))
+    breaks_so journal kept keeps =
+        begins_goes journal kept None
+        [] keeps tt tt (subst NumbersTell (sym (append-nil old.sent)) k.sound.numbers)
+        (subst AsksNothingTwice (sym (append-nil old.sent)) k.sound.repeats) refl
+        (λ _. (refl, refl))
 
-    module _ (lawful : IsLawfulRequest session (Begin old.pair)) (journal : Journaled Archive Kept) (keeps : Keeps old.pair old.coordinator.journal (Session session) journal (Session session ∷ [])) (then_up : journal.status ≡ Up) where
+    module _ (lawful : IsLawfulRequest session (Begin old.pair)) (journal : Journaled Archive Kept)
+        (keeps : Keeps old.pair old.coordinator.journal (Session session) journal
+        (Session session ∷ [])) (then_up : journal.status ≡ Up) where
       abbrev on : Running
       on = asking (new_session session) (begins old.pair) (begins old.pair)
 
-      remembers_on : Remembers (old.sent ++ sent_now (new_session session) (begins old.pair) (begins old.pair)) on
-      remembers_on = asking_remembers old.sent (new_session session) k.sound.numbers (new_remembers session next) (begins old.pair) (begins old.pair)
+      remembers_on : Remembers
+          (old.sent ++ sent_now (new_session session) (begins old.pair) (begins old.pair)) on
+      remembers_on =
+          asking_remembers old.sent (new_session session) k.sound.numbers
+          (new_remembers session next) (begins old.pair) (begins old.pair)
 
-      begins_so : Follows (view old) (view (coordinator_goes old (record { journal = journal; running = Some on }) (record fine.no_call { kept = Session session ∷ []; messages = sent_now (new_session session) (begins old.pair) (begins old.pair) })))
+      begins_so : Follows (view old) (view (coordinator_goes old (record
+          { journal = journal; running = Some on }) (record fine.no_call {
+            kept = Session session
+                ∷ [];
+            messages = sent_now (new_session session) (begins old.pair) (begins old.pair);
+          })))
       begins_so =
           let left = left_so journal (Session session ∷ []) keeps in
-          begins_goes journal (Session session ∷ []) (Some on) (sent_now (new_session session) (begins old.pair) (begins old.pair)) keeps
-          (next, refl) (sym (ap (λ a. a.last_session) left.value), all_sent, (omega arith, omega arith, omega arith))
-          (asking_tells old.sent (new_session session) k.sound.numbers (new_remembers session next) (begins old.pair) (begins old.pair))
-          (asking_once old.sent (new_session session) k.sound.numbers (new_remembers session next) (begins old.pair) (begins old.pair) k.sound.repeats (begins_once session))
-          (All-cons (IsOfSession old.pair old.sent (view_running on)) (Asks Left session 0 (Begin old.pair)) (Asks Right session 0 (Begin old.pair) ∷ []) (refl, lawful, tt)
-          (All-cons (IsOfSession old.pair old.sent (view_running on)) (Asks Right session 0 (Begin old.pair)) [] (refl, lawful, tt) (All-nil (IsOfSession old.pair old.sent (view_running on)))))
+          begins_goes journal (Session session ∷ []) (Some on)
+          (sent_now (new_session session) (begins old.pair) (begins old.pair)) keeps
+          (next, refl) (
+            sym (ap (λ a. a.last_session) left.value),
+            all_sent,
+            (omega arith, omega arith, omega arith),
+          )
+          (asking_tells old.sent (new_session session) k.sound.numbers (new_remembers session next)
+          (begins old.pair) (begins old.pair))
+          (asking_once old.sent (new_session session) k.sound.numbers (new_remembers session next)
+          (begins old.pair) (begins old.pair) k.sound.repeats (begins_once session))
+          (All-cons (IsOfSession old.pair old.sent (view_running on)) (Asks Left session 0
+          (Begin old.pair)) (Asks Right session 0 (Begin old.pair) ∷ []) (refl, lawful, tt)
+          (All-cons (IsOfSession old.pair old.sent (view_running on))
+          (Asks Right session 0 (Begin old.pair))
+          [] (refl, lawful, tt) (All-nil (IsOfSession old.pair old.sent (view_running on)))))
           (λ some. absurd (true≢false (sym some ∙ ap is_some (left.up then_up))))
         where
-          all_sent : coarse.WasSent (old.sent ++ sent_now (new_session session) (begins old.pair) (begins old.pair)) (view_running on)
-          all_sent Left i d within = remembers_on.waiting Left _ (All-contains_itself on.left i d within)
-          all_sent Right i d within = remembers_on.waiting Right _ (All-contains_itself on.right i d within)
+          all_sent : coarse.WasSent (old.sent ++ sent_now (new_session session) (begins old.pair)
+              (begins old.pair)) (view_running on)
+          all_sent Left i d within =
+              remembers_on.waiting Left _ (All-contains_itself on.left i d within)
+          all_sent Right i d within =
+              remembers_on.waiting Right _ (All-contains_itself on.right i d within)
 
-      only_begins : (side : Which) (path : Path) → Contains (for_side (begins old.pair) (begins old.pair) side) (ListAt path) → IsShown [] side path
+      only_begins : (side : Which) (path : Path) →
+          Contains (for_side (begins old.pair) (begins old.pair) side) (ListAt path) →
+          IsShown [] side path
       only_begins Left path c = absurd (not_begin path c)
       only_begins Right path c = absurd (not_begin path c)
 
-      heard_on : IsHeard (coordinator_goes old (record { journal = journal; running = Some on }) (record fine.no_call { kept = Session session ∷ []; messages = sent_now (new_session session) (begins old.pair) (begins old.pair) })) on
+      heard_on : IsHeard (coordinator_goes old (record { journal = journal; running = Some on })
+          (record fine.no_call {
+            kept = Session session ∷ [];
+            messages = sent_now (new_session session) (begins old.pair) (begins old.pair);
+          })) on
       heard_on = record {
         remembers = remembers_on;
-        in_order = asking_in_order old.sent (new_session session) (nothing_in_order old.sent (new_session session) refl refl refl) (new_remembers session next) k.sound.known (begins old.pair) (begins old.pair) only_begins;
-        unplanned = λ _. (subst (All (λ made. made.session ≢ session)) (sym (append-nil old.log ∙ k.logged)) (next_fresh plans (histories_of (view old)) old.coordinator.journal.value old.sent k.sound session next).0, refl);
+        in_order =
+            asking_in_order old.sent (new_session session)
+            (nothing_in_order old.sent (new_session session) refl refl refl)
+            (new_remembers session next) k.sound.known (begins old.pair)
+            (begins old.pair) only_begins;
+        unplanned =
+            λ _. (
+              subst (All (λ made. made.session ≢ session)) (sym (append-nil old.log ∙ k.logged))
+                  (next_fresh plans (histories_of (view old)) old.coordinator.journal.value old.sent
+                  k.sound session next).0,
+              refl,
+            );
         planned = λ some. absurd (true≢false (sym some));
-        kept = ap (fold since_start []) (filter_map-append kept_in old.acknowledged (Kept_by (Session session) ∷ [])) ∙ fold-append since_start [] (filter_map kept_in old.acknowledged) (Session session ∷ []);
+        kept =
+            ap (fold since_start [])
+            (filter_map-append kept_in old.acknowledged (Kept_by (Session session) ∷ []))
+            ∙ fold-append since_start
+            [] (filter_map kept_in old.acknowledged) (Session session ∷ []);
         settled = All-nil (IsSettledBy [] []);
       }
 
-  pub starts_follow : (new : CoordinatorMachine) (call : Call) → CoordinatorStarts old.pair old.coordinator new call → Follows (view old) (view (coordinator_goes old new call)) × IfSome new.running (IsHeard (coordinator_goes old new call))
-  starts_follow _ _ (fine.starts session journal next lawful keeps then_up) = (begins_so session next lawful journal keeps then_up, heard_on session next lawful journal keeps then_up)
-  starts_follow _ _ (fine.start_breaks session journal kept next keeps down) = (breaks_so session next journal kept keeps, tt)
-
--- A tick
-
--- what was sent again was sent before
-tells_again : (sent more : Sent) → NumbersTell sent → ((m : Message) → Contains more m → Contains sent m) → NumbersTell (sent ++ more)
-tells_again sent more tell was side session n a b c d = tell side session n a b (before (Asks side session n a) c) (before (Asks side session n b) d)
-  where
-    before : (m : Message) → Contains (sent ++ more) m → Contains sent m
-    before m c = elim (Contains-append_cases sent more m c) as (λ _. Contains sent m) [ inl had ↦ had | inr now ↦ was m now ]
-
-once_again : (sent more : Sent) → AsksNothingTwice sent → ((m : Message) → Contains more m → Contains sent m) → AsksNothingTwice (sent ++ more)
-once_again sent more twice was side session n l a b c d again = twice side session n l a b (before (Asks side session n a) c) (before (Asks side session l b) d) again
-  where
-    before : (m : Message) → Contains (sent ++ more) m → Contains sent m
-    before m c = elim (Contains-append_cases sent more m c) as (λ _. Contains sent m) [ inl had ↦ had | inr now ↦ was m now ]
-
-same_length : (waiting : List Outstanding) → length (once_more waiting) ≡ length waiting
-same_length [] = refl
-same_length (one ∷ waiting) = ap suc (same_length waiting)
-
-more_was : (waiting : List Outstanding) (one : Outstanding) → Contains (once_more waiting) one → (was : Outstanding) × Contains waiting was × (was.number ≡ one.number) × (was.request ≡ one.request)
-more_was [] one c = absurd (omega (arith, c.1))
-more_was (first ∷ waiting) one (zero, h, e) = (first, (0, omega arith, refl), ap (λ o. o.number) e, ap (λ o. o.request) e)
-more_was (first ∷ waiting) one (suc i, h, e) = let rest = more_was waiting one (i, omega (arith, h), e) in (rest.0, Contains-append_right (first ∷ []) waiting rest.0 rest.1, rest.2, rest.3)
-
-was_more : (waiting : List Outstanding) (n : ℕ) (q : Request) (resent : ℕ) → Contains waiting (record { number = n; request = q; resent = resent }) → Contains (once_more waiting) (record { number = n; request = q; resent = suc resent })
-was_more [] n q resent c = absurd (omega (arith, c.1))
-was_more (first ∷ waiting) n q resent (zero, h, e) = let again : Outstanding → Outstanding = λ o. record o { resent = suc o.resent } in (0, omega arith, ap again e)
-was_more (first ∷ waiting) n q resent (suc i, h, e) = Contains-append_right (record first { resent = suc first.resent } ∷ []) (once_more waiting) _ (was_more waiting n q resent (i, omega (arith, h), e))
-
-module _ (plans : Plans) (old : fine_world.World) (k : IsKept plans (view old)) (r : Running) (e : old.coordinator.running ≡ Some r) (h : IsHeard old r) where
-  runs : (view old).coordinator.running ≡ Some (view_running r)
-  runs = ap (option_map view_running) e
-
-  over : RunsOver old.sent old.coordinator.journal.value (Some (view_running r))
-  over = subst (RunsOver old.sent old.coordinator.journal.value) runs k.coordinator.runs_over
-
-  abbrev again : Running
-  again = record r { left = once_more r.left; right = once_more r.right }
-
-  abbrev more : Sent
-  more = messages_to r.session Left r.left ++ messages_to r.session Right r.right
-
-  sound_request : (side : Which) (waiting : List Outstanding) → ((one : Outstanding) → Contains waiting one → Contains old.sent (Asks side r.session one.number one.request)) →
-      (m : Message) → Contains (messages_to r.session side waiting) m → Contains old.sent m
-  sound_request side waiting was m c = let to = sent_to r.session side waiting m c in subst (Contains old.sent) to.2 (was to.0 to.1)
-
-  was_sent : (m : Message) → Contains more m → Contains old.sent m
-  was_sent m c = elim (Contains-append_cases (messages_to r.session Left r.left) (messages_to r.session Right r.right) m c) as (λ _. Contains old.sent m) [
-    | inl to ↦ sound_request Left r.left (h.remembers.waiting Left) m to
-    | inr to ↦ sound_request Right r.right (h.remembers.waiting Right) m to
-  ]
-
-  has : plan_in plans r.session ≡ plan_of r
-  has = (subst (λ o. IfSome o (λ running. (plan_in plans running.session ≡ running.plan) × (running.plan ≡ [] → IsFresh (histories_of (view old)) running.session))) runs k.coordinator.running).0
-
-  all_of : (side : Which) (waiting : List Outstanding) → ((one : Outstanding) → Contains waiting one → Contains old.sent (Asks side r.session one.number one.request)) → All (IsOfSession old.pair old.sent (view_running again)) (messages_to r.session side waiting)
-  all_of side [] was = All-nil (IsOfSession old.pair old.sent (view_running again))
-  all_of side (one ∷ waiting) was =
-      let asked = k.sound.asked side r.session one.number one.request (was one (0, omega arith, refl)) in
-      All-cons (IsOfSession old.pair old.sent (view_running again)) (Asks side r.session one.number one.request) (messages_to r.session side waiting)
-      (refl, asked.lawful, of_any_pair asked.pair old.pair side one.request (subst (λ plan. IsOfPlan asked.pair old.sent r.session plan side one.request) has asked.by_plan))
-      (all_of side waiting (λ later c. was later (Contains-append_right (one ∷ []) waiting later c)))
-    where
-      of_any_pair : (pair pair' : ℕ) (side : Which) (q : Request) → IsOfPlan pair old.sent r.session (plan_of r) side q → IsOfPlan pair' old.sent r.session (plan_of r) side q
-      of_any_pair pair pair' side (Begin asked) p = tt
-      of_any_pair pair pair' side (ListAt path) p = p
-      of_any_pair pair pair' side (Fetch path since offset) p = p
-      of_any_pair pair pair' side (Stage item offset bytes) p = p
-      of_any_pair pair pair' side (Replace item path since size) p = p
-
-  waits_again : (side : Which) → fine.outstanding again side ≡ once_more (fine.outstanding r side)
-  waits_again Left = refl
-  waits_again Right = refl
-
-  sent_again : (side : Which) (one : Outstanding) → Contains (fine.outstanding again side) one → Contains old.sent (Asks side r.session one.number one.request)
-  sent_again side one c =
-      let was = more_was (fine.outstanding r side) one (subst (λ w. Contains w one) (waits_again side) c) in
-      subst (λ n. Contains old.sent (Asks side r.session n one.request)) was.2 (subst (λ q. Contains old.sent (Asks side r.session was.0.number q)) was.3 (h.remembers.waiting side was.0 was.1))
-
-  asked_again : (side : Which) (n : ℕ) (q : Request) → WasAsked r side n q → WasAsked again side n q
-  asked_again side n q (inl taken) = inl taken
-  asked_again side n q (inr waits) = inr (suc waits.0, subst (λ w. Contains w (record { number = n; request = q; resent = suc waits.0 })) (sym (waits_again side)) (was_more (fine.outstanding r side) n q waits.0 waits.1))
-
-  asked_before : (side : Which) (n : ℕ) (q : Request) → WasAsked again side n q → WasAsked r side n q
-  asked_before side n q (inl taken) = inl taken
-  asked_before side n q (inr waits) =
-      let was = more_was (fine.outstanding r side) (record { number = n; request = q; resent = waits.0 }) (subst (λ w. Contains w (record { number = n; request = q; resent = waits.0 })) (waits_again side) waits.1) in
-      subst (λ n. WasAsked r side n q) was.2 (subst (λ q. WasAsked r side was.0.number q) was.3 (inr (was.0.resent, was.1)))
-
-  count_again : (side : Which) → asked_count again side ≡ asked_count r side
-  count_again side = ap (λ n. count_by (λ e. is_side side e.side) r.taken + n) (ap length (waits_again side) ∙ same_length (fine.outstanding r side))
-
-  -- nothing is answered by it
-  said_again : (side : Which) (number position : ℕ) → IsSaid (old.sent ++ more) side r.session number position → IsSaid old.sent side r.session number position
-  said_again side number position (reply, c, at) = elim (Contains-append_cases old.sent more (Answers side r.session number reply) c) as (λ _. IsSaid old.sent side r.session number position) [
-    | inl was ↦ (reply, was, at)
-    | inr now ↦ absurd (elim (Contains-append_cases (messages_to r.session Left r.left) (messages_to r.session Right r.right) (Answers side r.session number reply) now) as (λ _. ⊥) [
-      | inl to ↦ no_answer r.session Left r.left side r.session number reply to
-      | inr to ↦ no_answer r.session Right r.right side r.session number reply to
-    ])
-  ]
-
-  abbrev after : fine_world.World
-  after = coordinator_goes old (record old.coordinator { running = Some again }) (record fine.no_call { messages = more })
-
-  heard_again : IsHeard after again
-  heard_again = record {
-    remembers = record {
-      taken = λ x c. let was = h.remembers.taken x c in (Contains-append_left old.sent more _ was.0, Contains-append_left old.sent more _ was.1);
-      waiting = λ side one c. Contains-append_left old.sent more _ (sent_again side one c);
-      asked = λ side n q c. elim (Contains-append_cases old.sent more (Asks side r.session n q) c) as (λ _. WasAsked again side n q) [
-        | inl was ↦ asked_again side n q (h.remembers.asked side n q was)
-        | inr now ↦ asked_again side n q (h.remembers.asked side n q (was_sent (Asks side r.session n q) now))
-      ];
-      below = λ side n q w. subst (λ count. n < count) (sym (count_again side)) (h.remembers.below side n q (asked_before side n q w));
-    };
-    in_order = record {
-      apart = λ side one x c d at.
-          let was = more_was (fine.outstanding r side) one (subst (λ w. Contains w one) (waits_again side) c) in
-          subst (λ n. x.number ≢ n) was.2 (h.in_order.apart side was.0 x was.1 d at);
-      once = h.in_order.once;
-      took = h.in_order.took;
-      waits = λ side one path c is.
-          let was = more_was (fine.outstanding r side) one (subst (λ w. Contains w one) (waits_again side) c) in
-          let before = h.in_order.waits side was.0 path was.1 (was.3 ∙ is) in
-          after_less r.taken side path (IsSaid old.sent side r.session was.0.number) (IsSaid (old.sent ++ more) side r.session one.number)
-          (λ n said. subst (λ number. IsSaid old.sent side r.session number n) (sym was.2) (said_again side one.number n said)) before;
-    };
-    unplanned = λ none. let was = h.unplanned none in (subst (All (λ made. made.session ≢ r.session)) (sym (append-nil old.log)) was.0, was.1);
-    planned = λ some. subst (Any (λ made. made.session ≡ r.session)) (sym (append-nil old.log)) (h.planned some);
-    kept = ap kept_in_session (append-nil old.acknowledged) ∙ h.kept;
-    settled = h.settled;
-  }
-
-  unwritten : old.coordinator.journal.writing ≡ None
-  unwritten = by old.coordinator.journal.writing refl
-    where
-      by : (o : Option Kept) → old.coordinator.journal.writing ≡ o → o ≡ None
-      by None at = refl
-      by (Some what) at =
-          let h = subst (λ o. IfSome o (λ kept. (old.coordinator.journal.status ≢ Up) × ((view old).coordinator.running ≡ None) × CanKeep old.coordinator.journal.value kept × IsHarmless plans (histories_of (view old)) kept)) at k.coordinator.writing in
-          absurd (none-some _ (sym (sym runs ∙ h.1)))
-
-  tick_goes : (running : Option Running) (messages : List Message) (reports : List Report) → GoesOnFrom (Some (view_running r)) (plan_of r) (option_map view_running running) → RunsOver (old.sent ++ messages) old.coordinator.journal.value (option_map view_running running) →
-      NumbersTell (old.sent ++ messages) → AsksNothingTwice (old.sent ++ messages) → coarse.AllOfSession old.pair old.sent (option_map view_running running) messages →
-      coarse.Reports (view old) (view (coordinator_goes old (record old.coordinator { running = running }) (record fine.no_call { messages = messages; reports = reports }))) (plan_of r) coarse.EndsUnanswered →
-      Follows (view old) (view (coordinator_goes old (record old.coordinator { running = running }) (record fine.no_call { messages = messages; reports = reports })))
-  tick_goes running messages reports on runs_over numbers repeats of_session reported = coarse.ticks_once (record {
-    machine = view_coordinator (record old.coordinator { running = running });
-    kept = [];
-    messages = messages;
-    reports = map (λ report. (report, length (old.acknowledged ++ []))) reports;
-    keeps = record { due = All-nil IsNothing; can = tt; archive = refl; writing = subst (λ o. IfSome o (λ more. IsNothing more × CanKeep old.coordinator.journal.value more)) (sym unwritten) tt };
-    unless_up = λ _. unwritten;
-    runs_on = subst (λ o. GoesOnFrom o (coarse.plan_of o) (option_map view_running running)) (sym runs) on;
-    runs_over = runs_over;
-    numbers = numbers;
-    repeats = repeats;
-    of_session = of_session;
-    silent_when_writing = λ some. absurd (true≢false (sym some ∙ ap is_some unwritten));
-    result = refl;
-  }) (subst (λ o. coarse.Reports (view old) (view (coordinator_goes old (record old.coordinator { running = running }) (record fine.no_call { messages = messages; reports = reports }))) (coarse.plan_of o) coarse.EndsUnanswered) (sym runs) reported)
-
-  resends_so : Follows (view old) (view after)
-  resends_so = tick_goes (Some again) more [] (coarse.goes_on (view_running again) refl refl) (over.0, all_sent, waits_still)
-      (tells_again old.sent more k.sound.numbers was_sent) (once_again old.sent more k.sound.repeats was_sent)
-      (All-append (IsOfSession old.pair old.sent (view_running again)) (messages_to r.session Left r.left) (messages_to r.session Right r.right) (all_of Left r.left (h.remembers.waiting Left)) (all_of Right r.right (h.remembers.waiting Right)))
-      (inl (append-nil old.reports))
-    where
-      all_sent : coarse.WasSent (old.sent ++ more) (view_running again)
-      all_sent Left i d within = Contains-append_left old.sent more _ (sent_again Left _ (All-contains_itself again.left i d within))
-      all_sent Right i d within = Contains-append_left old.sent more _ (sent_again Right _ (All-contains_itself again.right i d within))
-
-      waits_still : coarse.Waits (view_running again)
-      waits_still =
-          let l = same_length r.left in
-          let q = same_length r.right in
-          let waits = over.2 in
-          let one = waits.0 in
-          let two = waits.1 in
-          let three = waits.2 in
-          (omega (arith, l, q, one), omega (arith, l, two), omega (arith, q, three))
-
-  gives_up_so : (why : Refusal) → Follows (view old) (view (coordinator_goes old (record old.coordinator { running = None }) (record fine.no_call { reports = report_of r (Some why) ∷ [] })))
-  gives_up_so why =
-      let kept_is = ap kept_in_session (append-nil old.acknowledged) ∙ h.kept in
-      let count : (Item → Bool) → List Kept → ℕ = λ of_kind kept. count_by (λ planned. of_kind planned.item && is_kept kept planned.item) (plan_of r) in
-      tick_goes None [] (report_of r (Some why) ∷ []) coarse.ended tt (subst NumbersTell (sym (append-nil old.sent)) k.sound.numbers) (subst AsksNothingTwice (sym (append-nil old.sent)) k.sound.repeats) refl
-      (inr (view_running r, report_of r (Some why), runs, refl, refl, record { done = ap (count is_carrying) (sym kept_is); marked = ap (count is_marking) (sym kept_is) }))
-
--- a tick
-pub ticks_follow : (plans : Plans) (old : fine_world.World) (k : IsKept plans (view old)) → IfSome old.coordinator.running (IsHeard old) → (new : CoordinatorMachine) (call : Call) → CoordinatorTicks old.coordinator new call →
-    Follows (view old) (view (coordinator_goes old new call)) × IfSome new.running (IsHeard (coordinator_goes old new call))
-ticks_follow plans old k h _ _ (fine.no_session none) = (coarse.same (nothing_given old), heard_still old h)
-ticks_follow plans old k h _ _ (fine.resends r e few) = let heard = subst (λ o. IfSome o (IsHeard old)) e h in (resends_so plans old k r e heard, heard_again plans old k r e heard)
-ticks_follow plans old k h _ _ (fine.gives_up r why e because) = (gives_up_so plans old k r e (subst (λ o. IfSome o (IsHeard old)) e h) why, tt)
+  pub starts_follow : (new : CoordinatorMachine) (call : Call) →
+      CoordinatorStarts old.pair old.coordinator new call →
+      Follows (view old) (view (coordinator_goes old new call))
+      × IfSome new.running (IsHeard (coordinator_goes old new call))
+  starts_follow _ _ (fine.starts session journal next lawful keeps then_up) = (
+    begins_so session next lawful journal keeps then_up,
+    heard_on session next lawful journal keeps then_up,
+  )
+  starts_follow _ _ (fine.start_breaks session journal kept next keeps down) =
+      (breaks_so session next journal kept keeps, tt)

@@ -1,5 +1,7 @@
 -- The coarser picture of a world, and what each step of the sides and of the devices is in it.
-use Rattle.std.proofs.Common.{◌≡◌, ◌≢◌, ◌⊎◌, ℕ, Bool, true, false, true≢false, if◌then◌else◌, List, [], ◌∷◌, ◌++◌, map, refl, sym, ap, ap₂, ◌∙◌, subst, Option, Some, None, option_map, append-nil, inl, inr}
+use Rattle.std.proofs.Common.{◌≡◌, ◌≢◌, ◌⊎◌, ℕ, Bool, true, false, true≢false, if◌then◌else◌, List}
+use Rattle.std.proofs.Common.{[], ◌∷◌, ◌++◌, map, refl, sym, ap, ap₂, ◌∙◌, subst, Option, Some}
+use Rattle.std.proofs.Common.{None, option_map, append-nil, inl, inr}
 use Rattle.std.specs.Prelude.{Contains}
 use Rattle.std.proofs.lemmas.List.{append_cancel_left}
 use Rattle.syn_model.specs.Refusal.{Refusal, Device, first_cause}
@@ -7,24 +9,43 @@ use Rattle.syn_model.specs.Refusal as why
 use Rattle.syn_model.specs.Event.{Edit, Event, Edited}
 use Rattle.syn_model.specs.History.{History, IsAllowed, event_causes}
 use Rattle.syn_model.proofs.HistoryLemmas.{first_cause-none, none-append}
-use Rattle.syn_headline.specs.Machine.{Status, Up, Halted, Down, Arms, Journaled, after_device, with_image, with_record, Writes, idle, written, unwritten, Compacts, compacted, not_compacted, Opens, opened, recovered}
-use Rattle.syn_headline.specs.Side.{Side, Served, Staging, Request, Reply, Refused, IsLawfulRequest, room_causes, Serves}
-use Rattle.syn_headline.specs.SideMachine.{ServesAs, SideMachine, side_layout, side_now, staging_after, with_journal, has_room_for, causes_of, said, SideTakes, answers, adds}
+use Rattle.syn_headline.specs.Machine.{Status, Up, Halted, Down, Arms, Journaled, after_device}
+use Rattle.syn_headline.specs.Machine.{with_image, with_record, Writes, idle, written, unwritten}
+use Rattle.syn_headline.specs.Machine.{Compacts, compacted, not_compacted, Opens, opened, recovered}
+use Rattle.syn_headline.specs.Side.{Side, Served, Staging, Request, Reply, Refused, IsLawfulRequest}
+use Rattle.syn_headline.specs.Side.{room_causes, Serves}
+use Rattle.syn_headline.specs.SideMachine.{ServesAs, SideMachine, side_layout, side_now}
+use Rattle.syn_headline.specs.SideMachine.{staging_after, with_journal, has_room_for, causes_of}
+use Rattle.syn_headline.specs.SideMachine.{said, SideTakes, answers, adds}
 use Rattle.syn_headline.specs.Network.{Which, Left, Right, Sent, Message, Asks, Answers}
 use Rattle.syn_headline.specs.Acknowledged.{Ack, Happened}
 use Rattle.syn_headline.specs.Coordinator.{CoordinatorMachine, plan_of, running_after}
 use Rattle.syn_headline.specs.Coordinator as fine
 use Rattle.syn_headline.specs.World as fine_world
-use Rattle.syn_headline.specs.World.{At, Coordinator, Machine, side_writes, set_device, status_of, refuses_with, answered_by, is_halted, EditsSide, says}
+use Rattle.syn_headline.specs.World.{At, Coordinator, Machine, side_writes, set_device, status_of}
+use Rattle.syn_headline.specs.World.{refuses_with, answered_by, is_halted, EditsSide, says}
 use Rattle.syn_headline.proofs.Coarse.{Running, World, side_of, set_side, Follows}
 use Rattle.syn_headline.proofs.Coarse as coarse
-use Rattle.syn_headline.proofs.OutcomeLemmas.{Outcome, refuses, begins_again, begins, lists, lists_none, fetches, stages_first, stages_more, stages_again, done_again, replaces, outcome}
+use Rattle.syn_headline.proofs.OutcomeLemmas.{Outcome, refuses, begins_again, begins, lists}
+use Rattle.syn_headline.proofs.OutcomeLemmas.{lists_none, fetches, stages_first, stages_more}
+use Rattle.syn_headline.proofs.OutcomeLemmas.{stages_again, done_again, replaces, outcome}
 
 abbrev pub view_side : SideMachine → coarse.SideMachine
-view_side machine = record { status = machine.journal.status; side = side_now machine; writing = machine.journal.writing }
+view_side machine =
+    record {
+      status = machine.journal.status;
+      side = side_now machine;
+      writing = machine.journal.writing;
+    }
 
 abbrev pub view_running : fine.Running → Running
-view_running running = record { session = running.session; left = running.left; right = running.right; plan = plan_of running }
+view_running running =
+    record {
+      session = running.session;
+      left = running.left;
+      right = running.right;
+      plan = plan_of running;
+    }
 
 abbrev pub view_coordinator : CoordinatorMachine → coarse.CoordinatorMachine
 view_coordinator machine = record {
@@ -47,26 +68,34 @@ view world = record {
   log = world.log;
 }
 
-pub view_of : (world : fine_world.World) (side : Which) → side_of (view world) side ≡ view_side (fine_world.side_of world side)
+pub view_of : (world : fine_world.World) (side : Which) →
+    side_of (view world) side ≡ view_side (fine_world.side_of world side)
 view_of world Left = refl
 view_of world Right = refl
 
-pub view_goes : (old : fine_world.World) (side : Which) (machine : SideMachine) (messages : List Message) (events : List Event) →
+pub view_goes : (old : fine_world.World) (side : Which) (machine : SideMachine)
+    (messages : List Message) (events : List Event) →
     view (fine_world.side_goes old side machine messages events)
-    ≡ record (set_side (view old) side (view_side machine)) { sent = old.sent ++ messages; acknowledged = old.acknowledged ++ map (λ event. Happened side event) events }
+    ≡ record (set_side (view old) side (view_side machine)) {
+      sent = old.sent ++ messages;
+      acknowledged = old.acknowledged ++ map (λ event. Happened side event) events;
+    }
 view_goes old Left machine messages events = refl
 view_goes old Right machine messages events = refl
 
-pub view_set : (old : fine_world.World) (side : Which) (machine : SideMachine) → view (fine_world.set_side old side machine) ≡ set_side (view old) side (view_side machine)
+pub view_set : (old : fine_world.World) (side : Which) (machine : SideMachine) →
+    view (fine_world.set_side old side machine) ≡ set_side (view old) side (view_side machine)
 view_set old Left machine = refl
 view_set old Right machine = refl
 
-pub staged_up : (status : Status) (staging : Option Staging) → status ≡ Up → staging_after status staging ≡ staging
+pub staged_up : (status : Status) (staging : Option Staging) → status ≡ Up →
+    staging_after status staging ≡ staging
 staged_up Up staging e = refl
 staged_up Halted staging e = refl
 staged_up Down staging e = absurd (let x : Down ≡ Up = e in cc)
 
-staged_or_none : (status : Status) (staging : Option Staging) → (staging_after status staging ≡ staging) ⊎ (staging_after status staging ≡ None)
+staged_or_none : (status : Status) (staging : Option Staging) →
+    (staging_after status staging ≡ staging) ⊎ (staging_after status staging ≡ None)
 staged_or_none Up staging = inl refl
 staged_or_none Halted staging = inl refl
 staged_or_none Down staging = inr refl
@@ -88,44 +117,75 @@ not_up status (inl e) up = halted_not_up (sym e ∙ up)
 not_up status (inr e) up = down_not_up (sym e ∙ up)
 
 -- A side writes an event
-view_writes : (pair : ℕ) (machine : SideMachine) (event : Event) (journal : Journaled History Event) (events : List Event) → machine.journal.status ≡ Up →
-    Writes (side_layout pair) machine.journal event journal events → coarse.Writes (view_side machine) event (view_side (with_journal machine journal)) events
+view_writes : (pair : ℕ) (machine : SideMachine) (event : Event) (journal : Journaled History Event)
+    (events : List Event) → machine.journal.status ≡ Up →
+    Writes (side_layout pair) machine.journal event journal events →
+    coarse.Writes (view_side machine) event (view_side (with_journal machine journal)) events
 view_writes pair machine event _ _ up (idle is) = absurd (true≢false (sym is))
 view_writes pair machine event _ _ up (written arms is meets) =
-    subst (λ staging. coarse.Writes (view_side machine) event (record { status = machine.journal.status; side = record { history = machine.journal.value ++ event ∷ []; staging = staging }; writing = machine.journal.writing }) (event ∷ []))
+    subst (λ staging. coarse.Writes (view_side machine) event
+    (record {
+      status = machine.journal.status;
+      side = record {
+        history = machine.journal.value
+            ++ event ∷ [];
+        staging = staging;
+      };
+      writing = machine.journal.writing;
+    }) (event ∷ []))
     (sym (staged_up machine.journal.status machine.staging up)) coarse.written
-view_writes pair machine event _ _ up (unwritten Up arms failed is (inl e) meets) = absurd (up_not_halted e)
-view_writes pair machine event _ _ up (unwritten Up arms failed is (inr e) meets) = absurd (up_not_down e)
+view_writes pair machine event _ _ up (unwritten Up arms failed is (inl e) meets) =
+    absurd (up_not_halted e)
+view_writes pair machine event _ _ up (unwritten Up arms failed is (inr e) meets) =
+    absurd (up_not_down e)
 view_writes pair machine event _ _ up (unwritten Halted arms failed is down meets) = coarse.failed
 view_writes pair machine event _ _ up (unwritten Down arms failed is down meets) = coarse.cut
 
-view_opens : (pair : ℕ) (machine : SideMachine) (calls : ℕ) (journal : Journaled History Event) (events : List Event) →
-    Opens (side_layout pair) IsAllowed machine.journal calls journal events → coarse.Opens (view_side machine) (view_side (with_journal machine journal)) events
+view_opens : (pair : ℕ) (machine : SideMachine) (calls : ℕ)
+    (journal : Journaled History Event) (events : List Event) →
+    Opens (side_layout pair) IsAllowed machine.journal calls journal events →
+    coarse.Opens (view_side machine) (view_side (with_journal machine journal)) events
 view_opens pair machine calls _ _ (opened room generation arms meets left) = coarse.opened
-view_opens pair machine calls _ _ (recovered arms event meets is allowed) = coarse.recovered event is allowed
+view_opens pair machine calls _ _ (recovered arms event meets is allowed) =
+    coarse.recovered event is allowed
 
 -- what is seen of a world where one side's machine is replaced by this
-on_side : (old : fine_world.World) (side : Which) (P : coarse.SideMachine → Type 0) → P (view_side (fine_world.side_of old side)) → P (side_of (view old) side)
+on_side : (old : fine_world.World) (side : Which) (P : coarse.SideMachine → Type 0) →
+    P (view_side (fine_world.side_of old side)) → P (side_of (view old) side)
 on_side old side P h = subst P (sym (view_of old side)) h
 
 -- a side's journal has another status, and what it stands for and was writing stay
-pub side_changes : (old new : fine_world.World) (side : Which) (journal : Journaled History Event) → journal.value ≡ (fine_world.side_of old side).journal.value → journal.writing ≡ (fine_world.side_of old side).journal.writing →
-    ((fine_world.side_of old side).journal.status ≢ Up → journal.status ≢ Up) →
-    view new ≡ set_side (view old) side (view_side (with_journal (fine_world.side_of old side) journal)) → Follows (view old) (view new)
+pub side_changes : (old new : fine_world.World) (side : Which) (journal : Journaled History Event) →
+    journal.value ≡ (fine_world.side_of old side).journal.value →
+    journal.writing ≡ (fine_world.side_of old side).journal.writing →
+    ((fine_world.side_of old side).journal.status ≢ Up → journal.status ≢ Up) → view new
+    ≡ set_side (view old) side (view_side (with_journal (fine_world.side_of old side) journal)) →
+    Follows (view old) (view new)
 side_changes old new side journal value writing up e =
     let machine = fine_world.side_of old side in
     let staging = staging_after journal.status machine.staging in
-    let build : History → Option Event → coarse.SideMachine = λ history writing. record { status = journal.status; side = record { history = history; staging = staging }; writing = writing } in
-    let with_status : coarse.SideMachine → coarse.SideMachine = λ m. record m { status = journal.status; side = record { history = m.side.history; staging = staging } } in
-    coarse.changes side journal.status staging (on_side old side (λ m. m.status ≢ Up → journal.status ≢ Up) up)
-    (on_side old side (λ m. (staging ≡ m.side.staging) ⊎ (staging ≡ None)) (staged_or_none journal.status machine.staging))
-    (e ∙ ap (set_side (view old) side) (ap₂ build value writing ∙ sym (ap with_status (view_of old side))))
+    let build : History → Option Event → coarse.SideMachine = λ history writing. record {
+      status =
+          journal.status;
+      side = record { history = history; staging = staging };
+      writing = writing;
+    } in
+    let with_status : coarse.SideMachine → coarse.SideMachine = λ m. record m
+    { status = journal.status; side = record { history = m.side.history; staging = staging } } in
+    coarse.changes side journal.status staging
+    (on_side old side (λ m. m.status ≢ Up → journal.status ≢ Up) up)
+    (on_side old side (λ m. (staging ≡ m.side.staging) ⊎ (staging ≡ None))
+    (staged_or_none journal.status machine.staging))
+    (e ∙ ap (set_side (view old) side)
+    (ap₂ build value writing ∙ sym (ap with_status (view_of old side))))
 
 -- What is refused changes nothing that is seen
-pub view_refused : (world : fine_world.World) (reason : Refusal) → view (refuses_with world reason) ≡ view world
+pub view_refused : (world : fine_world.World) (reason : Refusal) →
+    view (refuses_with world reason) ≡ view world
 view_refused world reason = refl
 
-pub view_answered : (machine : Machine) (world : fine_world.World) → view (answered_by machine world) ≡ view world
+pub view_answered : (machine : Machine) (world : fine_world.World) →
+    view (answered_by machine world) ≡ view world
 view_answered machine world = by (is_halted (status_of world machine))
   where
     by : (b : Bool) → view (if b then refuses_with world Device else world) ≡ view world
@@ -133,18 +193,34 @@ view_answered machine world = by (is_halted (status_of world machine))
     by false = refl
 
 -- Events that are acknowledged by a side, with nothing said
-pub side_acknowledges : (old : fine_world.World) (side : Which) (journal : Journaled History Event) (events : List Event) →
-    view (side_writes old side journal events) ≡ record (set_side (view old) side (view_side (with_journal (fine_world.side_of old side) journal))) { sent = (view old).sent ++ []; acknowledged = (view old).acknowledged ++ map (λ event. Happened side event) events }
-side_acknowledges old side journal events = view_goes old side (with_journal (fine_world.side_of old side) journal) [] events
+pub side_acknowledges : (old : fine_world.World) (side : Which) (journal : Journaled History Event)
+    (events : List Event) → view (side_writes old side journal events) ≡ record (set_side (view old)
+    side (view_side (with_journal (fine_world.side_of old side) journal))) {
+      sent = (view old).sent
+          ++ [];
+      acknowledged = (view old).acknowledged ++ map (λ event. Happened side event) events;
+    }
+side_acknowledges old side journal events =
+    view_goes old side (with_journal (fine_world.side_of old side) journal) [] events
 
 -- with none it is as if its machine were set
 pub side_settled : (old : fine_world.World) (side : Which) (journal : Journaled History Event) →
-    view (side_writes old side journal []) ≡ set_side (view old) side (view_side (with_journal (fine_world.side_of old side) journal))
+    view (side_writes old side journal [])
+    ≡ set_side (view old) side (view_side (with_journal (fine_world.side_of old side) journal))
 side_settled old side journal = side_acknowledges old side journal [] ∙ settled side
   where
-    settled : (which : Which) → record (set_side (view old) which (view_side (with_journal (fine_world.side_of old side) journal))) { sent = old.sent ++ []; acknowledged = old.acknowledged ++ [] } ≡ set_side (view old) which (view_side (with_journal (fine_world.side_of old side) journal))
-    settled Left = ap₂ (λ s a. record (set_side (view old) Left (view_side (with_journal (fine_world.side_of old side) journal))) { sent = s; acknowledged = a }) (append-nil old.sent) (append-nil old.acknowledged)
-    settled Right = ap₂ (λ s a. record (set_side (view old) Right (view_side (with_journal (fine_world.side_of old side) journal))) { sent = s; acknowledged = a }) (append-nil old.sent) (append-nil old.acknowledged)
+    settled : (which : Which) → record (set_side (view old) which
+        (view_side (with_journal (fine_world.side_of old side) journal)))
+        { sent = old.sent ++ []; acknowledged = old.acknowledged ++ [] }
+        ≡ set_side (view old) which (view_side (with_journal (fine_world.side_of old side) journal))
+    settled Left =
+        ap₂ (λ s a. record (set_side (view old) Left (view_side
+        (with_journal (fine_world.side_of old side) journal))) { sent = s; acknowledged = a })
+        (append-nil old.sent) (append-nil old.acknowledged)
+    settled Right =
+        ap₂ (λ s a. record (set_side (view old) Right (view_side
+        (with_journal (fine_world.side_of old side) journal))) { sent = s; acknowledged = a })
+        (append-nil old.sent) (append-nil old.acknowledged)
 
 -- a machine that is neither halted nor down is up
 pub neither : (status : Status) → is_halted status ≡ false → status ≢ Down → status ≡ Up
@@ -152,38 +228,59 @@ neither Up h k = refl
 neither Halted h k = absurd (true≢false h)
 neither Down h k = absurd (k refl)
 
-pub edits_follow : (old : fine_world.World) (side : Which) (user : ℕ) (edit : Edit) (new : fine_world.World) →
-    first_cause ((is_halted (status_of old (At side)), why.Halted) ∷ causes_of old.pair (fine_world.side_of old side) (Edited user edit)) ≡ None → status_of old (At side) ≢ Down →
-    EditsSide old side (Edited user edit) new → Follows (view old) (view new)
+pub edits_follow : (old : fine_world.World) (side : Which) (user : ℕ) (edit : Edit)
+    (new : fine_world.World) → first_cause ((is_halted (status_of old (At side)), why.Halted)
+    ∷ causes_of old.pair (fine_world.side_of old side) (Edited user edit)) ≡ None →
+    status_of old (At side) ≢ Down → EditsSide old side (Edited user edit) new →
+    Follows (view old) (view new)
 edits_follow old side user edit _ none down (fine_world.edits journal events lawful writes) =
     let machine = fine_world.side_of old side in
     let event = Edited user edit in
-    let first = first_cause-none (is_halted machine.journal.status, why.Halted) (causes_of old.pair machine event) none in
+    let first = first_cause-none (is_halted machine.journal.status, why.Halted)
+    (causes_of old.pair machine event) none in
     let up = neither machine.journal.status first.0 down in
-    let allowed : IsAllowed machine.journal.value event = record { lawful = lawful; not_refused = (none-append (event_causes machine.journal.value event) (room_causes (has_room_for old.pair machine) event) first.1).0 } in
-    coarse.edits side user edit (view_side (with_journal machine journal)) events (on_side old side (λ m. IsAllowed m.side.history event) allowed) (on_side old side (λ m. m.status ≡ Up) up)
-    (on_side old side (λ m. coarse.Writes m event (view_side (with_journal machine journal)) events) (view_writes old.pair machine event journal events up writes)) (side_acknowledges old side journal events)
+    let allowed : IsAllowed machine.journal.value event = record {
+      lawful = lawful;
+      not_refused = (none-append (event_causes machine.journal.value event)
+          (room_causes (has_room_for old.pair machine) event) first.1).0;
+    } in
+    coarse.edits side user edit (view_side (with_journal machine journal)) events
+    (on_side old side (λ m. IsAllowed m.side.history event) allowed)
+    (on_side old side (λ m. m.status ≡ Up) up)
+    (on_side old side (λ m. coarse.Writes m event (view_side (with_journal machine journal)) events)
+    (view_writes old.pair machine event journal events up writes))
+    (side_acknowledges old side journal events)
 
-pub opens_follow : (old : fine_world.World) (side : Which) (calls : ℕ) (journal : Journaled History Event) (events : List Event) →
-    Opens (side_layout old.pair) IsAllowed (fine_world.side_of old side).journal calls journal events → Follows (view old) (view (side_writes old side journal events))
+pub opens_follow : (old : fine_world.World) (side : Which) (calls : ℕ)
+    (journal : Journaled History Event) (events : List Event) → Opens
+    (side_layout old.pair) IsAllowed (fine_world.side_of old side).journal calls journal events →
+    Follows (view old) (view (side_writes old side journal events))
 opens_follow old side calls journal events opens =
     let machine = fine_world.side_of old side in
     coarse.opens side (view_side (with_journal machine journal)) events
-    (on_side old side (λ m. coarse.Opens m (view_side (with_journal machine journal)) events) (view_opens old.pair machine calls journal events opens)) (side_acknowledges old side journal events)
+    (on_side old side (λ m. coarse.Opens m (view_side (with_journal machine journal)) events)
+    (view_opens old.pair machine calls journal events opens))
+    (side_acknowledges old side journal events)
 
-pub compacts_follow : (old : fine_world.World) (side : Which) (journal : Journaled History Event) → Compacts (side_layout old.pair) (fine_world.side_of old side).journal journal →
+pub compacts_follow : (old : fine_world.World) (side : Which) (journal : Journaled History Event) →
+    Compacts (side_layout old.pair) (fine_world.side_of old side).journal journal →
     Follows (view old) (view (side_writes old side journal []))
 compacts_follow old side _ (compacted arms meets) =
     let journal = with_image (side_layout old.pair) (fine_world.side_of old side).journal arms in
-    side_changes old (side_writes old side journal []) side journal refl refl (λ h. h) (side_settled old side journal)
+    side_changes old (side_writes old side journal []) side journal refl refl (λ h. h)
+    (side_settled old side journal)
 compacts_follow old side _ (not_compacted status arms failed down meets) =
-    let journal = after_device (record (fine_world.side_of old side).journal { compacting = true }) status arms failed in
-    side_changes old (side_writes old side journal []) side journal refl refl (λ _. not_up status down) (side_settled old side journal)
+    let journal = after_device
+    (record (fine_world.side_of old side).journal { compacting = true }) status arms failed in
+    side_changes old (side_writes old side journal []) side journal refl refl
+    (λ _. not_up status down) (side_settled old side journal)
 
 -- A side takes a request
 
 longer : (h : History) (event : Event) → h ≡ h ++ event ∷ [] → ⊥
-longer h event e = let x : [] ≡ event ∷ [] = append_cancel_left h [] (event ∷ []) (append-nil h ∙ e) in cc
+longer h event e =
+    let x : [] ≡ event ∷ [] = append_cancel_left h [] (event ∷ []) (append-nil h ∙ e) in
+    cc
 
 said_up : (reply : Reply) (status : Status) → status ≡ Up → said status reply ≡ Some reply
 said_up reply Up e = refl
@@ -191,97 +288,189 @@ said_up reply Halted e = absurd (halted_not_up e)
 said_up reply Down e = absurd (down_not_up e)
 
 -- an answer with which an event is added leaves the staging
-adding_keeps : (side : Side) (session : ℕ) (request : Request) (served : Served) (event : Event) → Outcome side session request served → served.side.history ≡ side.history ++ event ∷ [] → served.side.staging ≡ side.staging
+adding_keeps : (side : Side) (session : ℕ) (request : Request) (served : Served) (event : Event) →
+    Outcome side session request served → served.side.history ≡ side.history ++ event ∷ [] →
+    served.side.staging ≡ side.staging
 adding_keeps side session request _ event (refuses _ reason) e = refl
 adding_keeps side session request _ event (begins_again pair last) e = refl
 adding_keeps side session request _ event (begins pair allowed) e = refl
 adding_keeps side session request _ event (lists path there) e = refl
 adding_keeps side session request _ event (lists_none path none) e = refl
 adding_keeps side session request _ event (fetches path since offset within quiet) e = refl
-adding_keeps side session request _ event (stages_first item offset bytes zero) e = absurd (longer side.history event e)
-adding_keeps side session request _ event (stages_more item offset bytes staging is same at) e = absurd (longer side.history event e)
+adding_keeps side session request _ event (stages_first item offset bytes zero) e =
+    absurd (longer side.history event e)
+adding_keeps side session request _ event (stages_more item offset bytes staging is same at) e =
+    absurd (longer side.history event e)
 adding_keeps side session request _ event (stages_again item offset bytes) e = refl
 adding_keeps side session request _ event (done_again item path since size is) e = refl
-adding_keeps side session request _ event (replaces item path since size new reads staged long within quiet allowed) e = refl
+adding_keeps side session request _ event
+    (replaces item path since size new reads staged long within quiet allowed) e =
+    refl
 
 -- a side that answers so, and adds these events
-answered_so : (old : fine_world.World) (side : Which) (session number : ℕ) (request : Request) (machine : SideMachine) (served : Served) (events : List Event) → Contains old.sent (Asks side session number request) →
-    ServesAs (fine_world.side_of old side).journal.status old.pair (has_room_for old.pair (fine_world.side_of old side)) (side_now (fine_world.side_of old side)) session request served →
-    served.side.history ≡ (fine_world.side_of old side).journal.value ++ events → view_side machine ≡ record (view_side (fine_world.side_of old side)) { side = served.side } →
-    Follows (view old) (view (fine_world.side_goes old side machine (Answers side session number served.reply ∷ []) events))
+answered_so : (old : fine_world.World) (side : Which) (session number : ℕ) (request : Request)
+    (machine : SideMachine) (served : Served) (events : List Event) →
+    Contains old.sent (Asks side session number request) →
+    ServesAs (fine_world.side_of old side).journal.status old.pair (has_room_for old.pair
+    (fine_world.side_of old side)) (side_now (fine_world.side_of old side)) session request served →
+    served.side.history ≡ (fine_world.side_of old side).journal.value ++ events →
+    view_side machine ≡ record (view_side (fine_world.side_of old side)) { side = served.side } →
+    Follows (view old) (view
+    (fine_world.side_goes old side machine (Answers side session number served.reply ∷ []) events))
 answered_so old side session number request machine served events asked serves added is =
     let was = fine_world.side_of old side in
-    let with_side : coarse.SideMachine → coarse.SideMachine = λ m. record m { side = served.side } in
-    let after : coarse.SideMachine → World = λ m. record (set_side (view old) side m) { sent = old.sent ++ Answers side session number served.reply ∷ []; acknowledged = old.acknowledged ++ map (λ event. Happened side event) events } in
+    let with_side : coarse.SideMachine →
+    coarse.SideMachine = λ m. record m { side = served.side } in
+    let after : coarse.SideMachine → World = λ m. record (set_side (view old) side m) {
+      sent = old.sent ++ Answers side session number served.reply ∷ [];
+      acknowledged = old.acknowledged ++ map (λ event. Happened side event) events;
+    } in
     coarse.serves side session number request asked (coarse.answered (record {
       served = served;
       has_room = has_room_for old.pair was;
       events = events;
-      serves = on_side old side (λ m. ServesAs m.status old.pair (has_room_for old.pair was) m.side session request served) serves;
+      serves =
+          on_side old side (λ m. ServesAs m.status old.pair
+          (has_room_for old.pair was) m.side session request served) serves;
       added = on_side old side (λ m. served.side.history ≡ m.side.history ++ events) added;
-      result = view_goes old side machine (Answers side session number served.reply ∷ []) events ∙ ap after (is ∙ sym (ap with_side (view_of old side)));
+      result =
+          view_goes old side machine (Answers side session number served.reply ∷ []) events
+          ∙ ap after (is ∙ sym (ap with_side (view_of old side)));
     }))
 
 -- what would be added to a side
-would : (old : fine_world.World) (side : Which) (session : ℕ) (request : Request) (served : Served) (event : Event) → (fine_world.side_of old side).journal.status ≡ Up →
-    Serves old.pair (has_room_for old.pair (fine_world.side_of old side)) (side_now (fine_world.side_of old side)) session request served →
-    served.side.history ≡ (fine_world.side_of old side).journal.value ++ event ∷ [] → coarse.WouldAdd old.pair (side_of (view old) side) session request event
-would old side session request served event up serves more = on_side old side (λ m. coarse.WouldAdd old.pair m session request event)
-    (record { served = served; has_room = has_room_for old.pair (fine_world.side_of old side); up = up; serves = serves; adds = more })
+would : (old : fine_world.World) (side : Which) (session : ℕ) (request : Request) (served : Served)
+    (event : Event) → (fine_world.side_of old side).journal.status ≡ Up →
+    Serves old.pair (has_room_for old.pair (fine_world.side_of old side))
+    (side_now (fine_world.side_of old side)) session request served →
+    served.side.history ≡ (fine_world.side_of old side).journal.value ++ event ∷ [] →
+    coarse.WouldAdd old.pair (side_of (view old) side) session request event
+would old side session request served event up serves more =
+    on_side old side (λ m. coarse.WouldAdd old.pair m session request event)
+    (record {
+      served = served;
+      has_room = has_room_for old.pair (fine_world.side_of old side);
+      up = up;
+      serves = serves;
+      adds = more;
+    })
 
-nothing_added : (old : fine_world.World) (side : Which) (m : coarse.SideMachine) (messages : List Message) →
-    record (set_side (view old) side m) { sent = old.sent ++ messages; acknowledged = old.acknowledged ++ [] } ≡ record (set_side (view old) side m) { sent = old.sent ++ messages }
-nothing_added old Left m messages = let with_acks : List Ack → World = λ a. record (set_side (view old) Left m) { sent = old.sent ++ messages; acknowledged = a } in ap with_acks (append-nil old.acknowledged)
-nothing_added old Right m messages = let with_acks : List Ack → World = λ a. record (set_side (view old) Right m) { sent = old.sent ++ messages; acknowledged = a } in ap with_acks (append-nil old.acknowledged)
+nothing_added : (old : fine_world.World) (side : Which) (m : coarse.SideMachine)
+    (messages : List Message) →
+    record (set_side (view old) side m) {
+      sent = old.sent ++ messages;
+      acknowledged =
+          old.acknowledged ++ [];
+    } ≡ record (set_side (view old) side m) { sent = old.sent ++ messages }
+nothing_added old Left m messages =
+    let with_acks : List Ack → World = λ a. record (set_side (view old) Left m)
+    { sent = old.sent ++ messages; acknowledged = a } in
+    ap with_acks (append-nil old.acknowledged)
+nothing_added old Right m messages =
+    let with_acks : List Ack → World = λ a. record (set_side (view old) Right m)
+    { sent = old.sent ++ messages; acknowledged = a } in
+    ap with_acks (append-nil old.acknowledged)
 
-nothing_said : (old : fine_world.World) (side : Which) (m : coarse.SideMachine) → record (set_side (view old) side m) { sent = old.sent ++ [] } ≡ set_side (view old) side m
-nothing_said old Left m = let with_sent : Sent → World = λ sent. record (set_side (view old) Left m) { sent = sent } in ap with_sent (append-nil old.sent)
-nothing_said old Right m = let with_sent : Sent → World = λ sent. record (set_side (view old) Right m) { sent = sent } in ap with_sent (append-nil old.sent)
+nothing_said : (old : fine_world.World) (side : Which) (m : coarse.SideMachine) →
+    record (set_side (view old) side m) { sent = old.sent ++ [] } ≡ set_side (view old) side m
+nothing_said old Left m =
+    let with_sent : Sent → World = λ sent. record (set_side (view old) Left m) { sent = sent } in
+    ap with_sent (append-nil old.sent)
+nothing_said old Right m =
+    let with_sent : Sent → World = λ sent. record (set_side (view old) Right m) { sent = sent } in
+    ap with_sent (append-nil old.sent)
 
 -- a side takes a request
-pub request_follows : (old : fine_world.World) (side : Which) (session number : ℕ) (request : Request) (machine : SideMachine) (reply : Option Reply) (events : List Event) → Contains old.sent (Asks side session number request) → IsLawfulRequest session request →
-    SideTakes old.pair (fine_world.side_of old side) session request machine reply events → Follows (view old) (view (fine_world.side_goes old side machine (says side session number reply) events))
+pub request_follows : (old : fine_world.World) (side : Which) (session number : ℕ)
+    (request : Request) (machine : SideMachine) (reply : Option Reply) (events : List Event) →
+    Contains old.sent (Asks side session number request) → IsLawfulRequest session request →
+    SideTakes old.pair (fine_world.side_of old side) session request machine reply events →
+    Follows (view old)
+    (view (fine_world.side_goes old side machine (says side session number reply) events))
 request_follows old side session number request _ _ _ asked lawful (answers served serves same) =
     let was = fine_world.side_of old side in
-    let with_history : History → coarse.SideMachine = λ history. record { status = was.journal.status; side = record { history = history; staging = served.side.staging }; writing = was.journal.writing } in
-    answered_so old side session number request (record was { staging = served.side.staging }) served [] asked serves (same ∙ sym (append-nil was.journal.value)) (ap with_history (sym same))
-request_follows old side session number request _ _ _ asked lawful (adds served event _ _ up serves more (idle is)) = absurd (true≢false (sym is))
-request_follows old side session number request _ _ _ asked lawful (adds served event _ _ up serves more (written arms is meets)) =
+    let with_history : History → coarse.SideMachine = λ history. record {
+      status =
+          was.journal.status;
+      side = record { history = history; staging = served.side.staging };
+      writing = was.journal.writing;
+    } in
+    answered_so old side session number request
+    (record was { staging = served.side.staging }) served
+    [] asked serves (same ∙ sym (append-nil was.journal.value)) (ap with_history (sym same))
+request_follows old side session number request _ _ _ asked lawful
+    (adds served event _ _ up serves more (idle is)) =
+    absurd (true≢false (sym is))
+request_follows old side session number request _ _ _ asked lawful
+    (adds served event _ _ up serves more (written arms is meets)) =
     let was = fine_world.side_of old side in
-    let keeps = adding_keeps (side_now was) session request served event (outcome old.pair (has_room_for old.pair was) (side_now was) session request served lawful serves) more in
-    let build : History → Option Staging → coarse.SideMachine = λ history staging. record { status = was.journal.status; side = record { history = history; staging = staging }; writing = was.journal.writing } in
-    let as_up : (status : Status) → status ≡ Up → said status served.reply ≡ Some served.reply = said_up served.reply in
-    subst (λ reply. Follows (view old) (view (fine_world.side_goes old side (with_journal was (with_record (side_layout old.pair) was.journal event arms)) (says side session number reply) (event ∷ [])))) (sym (as_up was.journal.status up))
-    (answered_so old side session number request (with_journal was (with_record (side_layout old.pair) was.journal event arms)) served (event ∷ []) asked
-    (subst (λ status. ServesAs status old.pair (has_room_for old.pair was) (side_now was) session request served) (sym up) serves) more
+    let keeps = adding_keeps (side_now was) session request served event (outcome old.pair
+    (has_room_for old.pair was) (side_now was) session request served lawful serves) more in
+    let build : History → Option Staging →
+    coarse.SideMachine = λ history staging. record {
+      status = was.journal.status;
+      side = record { history = history; staging = staging };
+      writing = was.journal.writing;
+    } in
+    let as_up : (status : Status) → status ≡ Up →
+    said status served.reply ≡ Some served.reply = said_up served.reply in
+    subst (λ reply. Follows (view old) (view (fine_world.side_goes old side
+    (with_journal was (with_record (side_layout old.pair) was.journal event arms))
+    (says side session number reply) (event ∷ [])))) (sym (as_up was.journal.status up))
+    (answered_so old side session number request (with_journal was
+    (with_record (side_layout old.pair) was.journal event arms)) served (event ∷ []) asked
+    (subst (λ status. ServesAs status old.pair (has_room_for old.pair was)
+    (side_now was) session request served) (sym up) serves) more
     (ap₂ build (sym more) (staged_up was.journal.status was.staging up ∙ sym keeps)))
-request_follows old side session number request _ _ _ asked lawful (adds served event _ _ up serves more (unwritten Up arms failed is (inl e) meets)) = absurd (up_not_halted e)
-request_follows old side session number request _ _ _ asked lawful (adds served event _ _ up serves more (unwritten Up arms failed is (inr e) meets)) = absurd (up_not_down e)
-request_follows old side session number request _ _ _ asked lawful (adds served event _ _ up serves more (unwritten Halted arms failed is down meets)) =
+request_follows old side session number request _ _ _ asked lawful
+    (adds served event _ _ up serves more (unwritten Up arms failed is (inl e) meets)) =
+    absurd (up_not_halted e)
+request_follows old side session number request _ _ _ asked lawful
+    (adds served event _ _ up serves more (unwritten Up arms failed is (inr e) meets)) =
+    absurd (up_not_down e)
+request_follows old side session number request _ _ _ asked lawful
+    (adds served event _ _ up serves more (unwritten Halted arms failed is down meets)) =
     let was = fine_world.side_of old side in
     let journal = after_device (record was.journal { writing = Some event }) Halted arms failed in
-    let halting : coarse.SideMachine → World = λ m. record (set_side (view old) side (record m { status = Halted; writing = Some event })) { sent = old.sent ++ Answers side session number (Refused Device) ∷ [] } in
-    coarse.serves side session number request asked (coarse.request_failed event (would old side session request served event up serves more)
-    (view_goes old side (with_journal was journal) (Answers side session number (Refused Device) ∷ []) [] ∙ (nothing_added old side (view_side (with_journal was journal)) (Answers side session number (Refused Device) ∷ [])
+    let halting : coarse.SideMachine → World =
+    λ m. record (set_side (view old) side (record m { status = Halted; writing = Some event }))
+    { sent = old.sent ++ Answers side session number (Refused Device) ∷ [] } in
+    coarse.serves side session number request asked
+    (coarse.request_failed event (would old side session request served event up serves more)
+    (view_goes old side (with_journal was journal)
+    (Answers side session number (Refused Device) ∷ []) [] ∙ (nothing_added old side
+    (view_side (with_journal was journal)) (Answers side session number (Refused Device) ∷ [])
     ∙ sym (ap halting (view_of old side)))))
-request_follows old side session number request _ _ _ asked lawful (adds served event _ _ up serves more (unwritten Down arms failed is down meets)) =
+request_follows old side session number request _ _ _ asked lawful
+    (adds served event _ _ up serves more (unwritten Down arms failed is down meets)) =
     let was = fine_world.side_of old side in
     let journal = after_device (record was.journal { writing = Some event }) Down arms failed in
-    let stopping : coarse.SideMachine → World = λ m. set_side (view old) side (coarse.stopped m (Some event)) in
-    coarse.serves side session number request asked (coarse.request_cut event (would old side session request served event up serves more)
-    (view_goes old side (with_journal was journal) [] [] ∙ (nothing_added old side (view_side (with_journal was journal)) [] ∙ (nothing_said old side (view_side (with_journal was journal))
+    let stopping : coarse.SideMachine →
+    World = λ m. set_side (view old) side (coarse.stopped m (Some event)) in
+    coarse.serves side session number request asked
+    (coarse.request_cut event (would old side session request served event up serves more)
+    (view_goes old side (with_journal was journal) [] [] ∙ (nothing_added old side (view_side
+    (with_journal was journal)) [] ∙ (nothing_said old side (view_side (with_journal was journal))
     ∙ sym (ap stopping (view_of old side))))))
 
 -- The devices
 
 -- a device is left so, and what the machine stands for stays
-pub device_follows : (old : fine_world.World) (machine : Machine) (status : Status) (arms : Arms) (failed : ℕ) → (status_of old machine ≢ Up → status ≢ Up) → Follows (view old) (view (set_device old machine status arms failed))
+pub device_follows : (old : fine_world.World) (machine : Machine) (status : Status) (arms : Arms)
+    (failed : ℕ) → (status_of old machine ≢ Up → status ≢ Up) →
+    Follows (view old) (view (set_device old machine status arms failed))
 device_follows old (At side) status arms failed up =
     let journal = after_device (fine_world.side_of old side).journal status arms failed in
-    side_changes old (set_device old (At side) status arms failed) side journal refl refl up (view_set old side (with_journal (fine_world.side_of old side) journal))
-device_follows old Coordinator status arms failed up = coarse.archive_changes status (option_map view_running (running_after status old.coordinator.running)) up (still status old.coordinator.running) refl
+    side_changes old (set_device old (At side) status arms failed) side journal refl refl up
+    (view_set old side (with_journal (fine_world.side_of old side) journal))
+device_follows old Coordinator status arms failed up =
+    coarse.archive_changes status
+    (option_map view_running (running_after status old.coordinator.running)) up
+    (still status old.coordinator.running) refl
   where
-    still : (status : Status) (running : Option fine.Running) → (option_map view_running (running_after status running) ≡ option_map view_running running) ⊎ (option_map view_running (running_after status running) ≡ None)
+    still : (status : Status) (running : Option fine.Running) →
+        (option_map view_running (running_after status running) ≡ option_map view_running running)
+        ⊎ (option_map view_running (running_after status running) ≡ None)
     still Up running = inl refl
     still Halted running = inl refl
     still Down running = inr refl

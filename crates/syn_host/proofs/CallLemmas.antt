@@ -25,7 +25,8 @@ use Rattle.syn_host.specs.declared.outcome.CoordinatorOutcome.{CoordinatorOutcom
 use Rattle.syn_model.specs.Archive.{Kept}
 use Rattle.syn_model.specs.Refusal.{Refusal, first_cause}
 use Rattle.syn_refusal.specs.declared.refusal.Refusal.{Refusal as Refused}
-use Rattle.syn_coordinator.specs.Coordinators.{Does, Stands, checkpoint_refusals, ended_in, goes_down}
+use Rattle.syn_coordinator.specs.Coordinators.{Does, Stands, checkpoint_refusals, ended_in}
+use Rattle.syn_coordinator.specs.Coordinators.{goes_down}
 use Rattle.syn_coordinator.specs.Coordinators.{goes_on, in_report, refusals_of, written}
 use Rattle.syn_coordinator.specs.Coordinators.{Checkpoints as DoesCheckpoint}
 use Rattle.syn_coordinator.specs.Coordinators.{checkpoints as does_checkpoint}

@@ -247,11 +247,11 @@ pub compact_refused : {D : Type 0} {disk : Ghosts D} (pair : ℕ) (old new : Rep
     (readings : KeepsReadings old new) (same_tried : tried_shown new ≡ tried_shown old)
     (arms : disk.arms (disk_of new) ≡ disk.arms (disk_of old))
     (is_up : (next : SideMachine) → IsUpAs pair new agent next → IsOf pair new agent next)
-    (outcome : Outcome) (reason : Refusal) (call : SideCall D disk) (position : ℕ)
-    → Settles (side_of new agent) position outcome call → refused_in outcome ≡ reason ∷ []
-    → Acknowledges outcome [] → first_cause (causes_at machine (full_generation machine.journal.generation)
-    ++ (true, why.Memory) ∷ []) ≡ Some reason
-    → CheckpointsSo pair machine call
+    (outcome : Outcome) (reason : Refusal) (call : SideCall D disk) (position : ℕ) →
+    Settles (side_of new agent) position outcome call → refused_in outcome ≡ reason ∷ [] →
+    Acknowledges outcome [] → first_cause
+    (causes_at machine (full_generation machine.journal.generation) ++ (true, why.Memory) ∷ [])
+    ≡ Some reason → CheckpointsSo pair machine call
 compact_refused pair old new agent machine runs up stands readings same_tried arms is_up outcome
     reason call position settles is_refused is_not some =
     let behind = settles.goes_on (ap is_stopped arms ∙ runs.is.runs) in

@@ -21,7 +21,8 @@ use Rattle.syn_model.specs.Refusal.{Refusal, Device, Memory}
 use Rattle.syn_refusal.specs.Refusals.{cause_of}
 use Rattle.syn_refusal.specs.declared.refusal.Refusal.{Refusal as Code}
 use Rattle.syn_coordinator.specs.Coordinators.{Does, Reopens, ReopensNot, Stands, device_of}
-use Rattle.syn_coordinator.specs.Coordinators.{goes_down, goes_on, reopens, reopens_not, tried_shown}
+use Rattle.syn_coordinator.specs.Coordinators.{goes_down, goes_on, reopens, reopens_not}
+use Rattle.syn_coordinator.specs.Coordinators.{tried_shown}
 use Rattle.syn_keep.specs.Machines.{Journal, LeavesMachine, cut_off, opened_again, stayed}
 use Rattle.syn_keep.specs.Machines.{went_down}
 use Rattle.syn_keep.specs.Tries.{Tries}

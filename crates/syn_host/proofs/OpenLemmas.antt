@@ -9,7 +9,8 @@ use Rattle.syn_agent.specs.declared.agent.Agent.{Agent}
 use Rattle.syn_disk.specs.Arms.{Arms as DiskArms, is_stopped}
 use Rattle.syn_disk.specs.Calls.{BreaksSometime, MakesAtLeast}
 use Rattle.syn_disk.specs.Stops.{Untouched}
-use Rattle.syn_headline.specs.Machine.{Status, Up, Halted, Down, Arms, Meets, unarmed, Opens, opened}
+use Rattle.syn_headline.specs.Machine.{Status, Up, Halted, Down, Arms, Meets, unarmed, Opens}
+use Rattle.syn_headline.specs.Machine.{opened}
 use Rattle.syn_headline.specs.Machine.{recovered, one_stops, all_made, one_fails}
 use Rattle.syn_headline.specs.SideMachine.{SideMachine, side_layout, with_journal}
 use Rattle.syn_host.specs.Outcomes.{Acknowledges}
@@ -136,9 +137,9 @@ module _ {D : Type 0} (disk : Ghosts D) (pair : ℕ) (side : DownSide D) (machin
       (is_up : (next : SideMachine) → IsUpAs pair replica agent next
       → IsOf pair replica agent next)
       (gains : Gains outcome side.position (position_shown replica) tried) (sides : SidesOpen) where
-    opened_so : (calls : ℕ) → is_stopped (disk.arms (disk_of replica)) ≡ false
-        → Meets machine.journal.arms calls Up (armed_at (disk.arms (disk_of replica))) 0
-        → OpensSo pair machine (record { side = host.Up (side_of replica agent); outcome = outcome })
+    opened_so : (calls : ℕ) → is_stopped (disk.arms (disk_of replica)) ≡ false →
+        Meets machine.journal.arms calls Up (armed_at (disk.arms (disk_of replica))) 0 →
+        OpensSo pair machine (record { side = host.Up (side_of replica agent); outcome = outcome })
     opened_so calls goes meets =
         let arms_now = armed_at (disk.arms (disk_of replica)) in
         let found = sides pair machine.journal calls arms_now here.value here.generation meets
@@ -178,8 +179,8 @@ module _ {D : Type 0} (disk : Ghosts D) (pair : ℕ) (side : DownSide D) (machin
           };
         }
 
-    pub open_ok : MakesAtLeast 1 (disk.arms side.disk) (disk.arms (disk_of replica))
-        → OpensSo pair machine (record { side = host.Up (side_of replica agent); outcome = outcome })
+    pub open_ok : MakesAtLeast 1 (disk.arms side.disk) (disk.arms (disk_of replica)) →
+        OpensSo pair machine (record { side = host.Up (side_of replica agent); outcome = outcome })
     open_ok makes =
         let found = reads 1 (disk.arms side.disk) (disk.arms (disk_of replica)) rests.goes makes in
         let met = goes_so found.0 Up 0 (disk.arms (disk_of replica)) found.2 in

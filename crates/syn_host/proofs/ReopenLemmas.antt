@@ -95,7 +95,8 @@ keeps_up {D} {disk} pair replica agent machine runs stays =
     ]
 
 module _ {D : Type 0} {disk : Ghosts D} (pair : ℕ) (old new : Replica D disk) (agent : Agent)
-    (machine : SideMachine) (runs : RunsAs pair (side_of old agent) machine) (call : SideCall D disk)
+    (machine : SideMachine) (runs : RunsAs pair (side_of old agent) machine)
+    (call : SideCall D disk)
     (position : ℕ) (position_now : position ≡ length machine.journal.value)
     (untouched : Untouched disk.seen disk.may_leave disk.moment disk.left_since (disk_of old)
     (disk_of new)) where
@@ -118,10 +119,11 @@ module _ {D : Type 0} {disk : Ghosts D} (pair : ℕ) (old new : Replica D disk) 
       subst (λ a. Meets a calls status arms failed) (sym runs.is.armed)
 
   -- it goes down among the device calls
-  cut_so : (tried : Option Bytes) → TriesWriting machine tried
-      → (is_stopped (disk.arms (disk_of new)) ≡ true → Stops (side_of new agent) position tried call)
-      → (calls failed : ℕ) → is_stopped (disk.arms (disk_of new)) ≡ true
-      → Meets machine.journal.arms calls Down unarmed failed → ReopensSo pair machine call
+  cut_so : (tried : Option Bytes) → TriesWriting machine tried →
+      (is_stopped (disk.arms (disk_of new)) ≡ true →
+      Stops (side_of new agent) position tried call) → (calls failed : ℕ) →
+      is_stopped (disk.arms (disk_of new)) ≡ true →
+      Meets machine.journal.arms calls Down unarmed failed → ReopensSo pair machine call
   cut_so tried tries settles calls failed stopped meets =
       let behind = settles stopped in
       let next = with_device machine Down unarmed failed in

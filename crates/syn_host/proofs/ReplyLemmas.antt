@@ -29,13 +29,15 @@ module _ (pair : ℕ) (plan : List Planned) (taken : Exchange) where
       advances_down _ end kept more other down
   advances_down start end kept (walk.side_refuses _ _ _ planned why free at said for more) other
       down = advances_down _ end kept more other down
-  advances_down start end kept (walk.archive_refuses _ _ _ planned what why free at is either because
+  advances_down start end kept
+      (walk.archive_refuses _ _ _ planned what why free at is either because
       more) other down = advances_down _ end kept more other down
   advances_down start end kept (walk.no_checkpoint _ _ _ what free full greatest more) other down =
       advances_down _ end kept more other down
   advances_down start end kept (walk.checkpoints _ _ _ what journal free full less compacts up more)
       other down = advances_down _ end kept more (λ is. up_not_down (sym up ∙ is)) down
-  advances_down start _ _ (walk.checkpoint_breaks _ what journal free full less compacts broke) other
+  advances_down start _ _
+      (walk.checkpoint_breaks _ what journal free full less compacts broke) other
       down = compacts_down pair start.journal journal other compacts down
   advances_down start end _ (walk.keeps _ _ what kept journal due room keeps up more) other down =
       advances_down _ end kept more (λ is. up_not_down (sym up ∙ is)) down
@@ -70,7 +72,8 @@ module _ (pair : ℕ) (machine : CoordinatorMachine)
       }
   takes_is_cut running taken _ _ (walk.ends plan logged at kept why sound has through ends) down =
       absurd (never_ends_down pair _ taken machine.journal.status at why ends other down)
-  takes_is_cut running taken _ _ (walk.Takes.goes_on plan logged at kept left right sound has through
+  takes_is_cut running taken _ _
+      (walk.Takes.goes_on plan logged at kept left right sound has through
       room same past asks) down = absurd (other (sym same ∙ down))
 
   pub reply_is_cut : (from : Which) (session number : ℕ) (reply : Reply)

@@ -1,5 +1,7 @@
 -- The image of a replica tells its pair and what it keeps.
-use Rattle.std.proofs.Common.{◌≡◌, ◌<◌, ◌≤◌, ◌^◌, ◌+◌, ℕ, zero, suc, true, List, [], ◌∷◌, ◌++◌, length, take, drop, slice_index_or, All, Option, Some, None, IfSome, refl, sym, ap, ap₂, ◌∙◌, subst, append_assoc, append-nil, arith}
+use Rattle.std.proofs.Common.{◌≡◌, ◌<◌, ◌≤◌, ◌^◌, ◌+◌, ℕ, zero, suc, true, List, [], ◌∷◌, ◌++◌}
+use Rattle.std.proofs.Common.{length, take, drop, slice_index_or, All, Option, Some, None, IfSome}
+use Rattle.std.proofs.Common.{refl, sym, ap, ap₂, ◌∙◌, subst, append_assoc, append-nil, arith}
 use Rattle.std.specs.Prelude.{bytes_eq, Result, Ok, Err, OnOk, IsErrAnd}
 use Rattle.std.specs.Int.{to_be_bytes, w16}
 use Rattle.std.proofs.lemmas.Slice.Eq.{bytes_eq-Decides}
@@ -23,8 +25,11 @@ use Rattle.syn_wire.proofs.NameLemmas.{paths_tell, first_or, rest_of}
 use Rattle.syn_wire.proofs.NumberLemmas.{u16_tells, u64_tells}
 use Rattle.syn_wire.proofs.Sequences.{both_tell}
 use Rattle.syn_wire.proofs.WritingLemmas.{whole_fits_part}
-use Rattle.syn_image.specs.Images.{IsImage, spelled_image, NoImageBeginsAnother, IsLastToken, IsTouch, AreTouches, touches_spelling}
-use Rattle.syn_image.specs.inner.Pasts.{Two, AreTwo, two_spelling, AreFour, four_spelling, AreFences, fences_spelling, IsPast, past_spelling, AreSoMany, each_spelling}
+use Rattle.syn_image.specs.Images.{IsImage, spelled_image, NoImageBeginsAnother, IsLastToken}
+use Rattle.syn_image.specs.Images.{IsTouch, AreTouches, touches_spelling}
+use Rattle.syn_image.specs.inner.Pasts.{Two, AreTwo, two_spelling, AreFour, four_spelling}
+use Rattle.syn_image.specs.inner.Pasts.{AreFences, fences_spelling, IsPast, past_spelling}
+use Rattle.syn_image.specs.inner.Pasts.{AreSoMany, each_spelling}
 
 -- ---- the numbers and the last token
 
@@ -46,95 +51,145 @@ last_token_tells (Some v) (Some w) r s hv hw e =
     (ap (λ t. Some t) same.0, same.1)
 
 -- the kind of a token has the token behind it
-pub no_token_behind : (bytes fields : Bytes) → bytes ≡ 1 ∷ fields → IsReading IsLawfulToken token_spelling fields None → IsReading IsLastToken last_token_spelling bytes None
-no_token_behind bytes fields is none None rest begins = let k = heads 1 0 _ _ (sym is ∙ begins.spelled) in absurd (omega (arith, k))
+pub no_token_behind : (bytes fields : Bytes) → bytes ≡ 1 ∷ fields →
+    IsReading IsLawfulToken token_spelling fields None →
+    IsReading IsLastToken last_token_spelling bytes None
+no_token_behind bytes fields is none None rest begins =
+    let k = heads 1 0 _ _ (sym is ∙ begins.spelled) in
+    absurd (omega (arith, k))
 no_token_behind bytes fields is none (Some token) rest begins =
-    none token rest (record { lawful = begins.lawful; spelled = ap rest_of (sym is ∙ begins.spelled) })
+    none token rest
+    (record { lawful = begins.lawful; spelled = ap rest_of (sym is ∙ begins.spelled) })
 
 pub fences_tell : NoneBeginsAnother AreFences fences_spelling
-fences_tell = both_tell AreFour IsLastToken four_spelling last_token_spelling four_tell last_token_tells
+fences_tell =
+    both_tell AreFour IsLastToken four_spelling last_token_spelling four_tell last_token_tells
 
 -- ---- the touches
 
 touch_tells : NoneBeginsAnother IsTouch touch_spelling
 touch_tells v w r s hv hw e =
-    let both = both_tell IsNumber64 IsPath number64_spelling path_spelling u64_tells paths_tell (v.position, v.path) (w.position, w.path) r s hv hw e in
+    let both = both_tell IsNumber64 IsPath number64_spelling path_spelling u64_tells paths_tell
+    (v.position, v.path) (w.position, w.path) r s hv hw e in
     (ap (λ p. record { position = p.0; path = p.1 }) both.0, both.1)
 
-each_of : (touches : List Touch) (r : Bytes) (t : Touch) → each_spelling (t ∷ touches) ++ r ≡ touch_spelling t ++ (each_spelling touches ++ r)
+each_of : (touches : List Touch) (r : Bytes) (t : Touch) →
+    each_spelling (t ∷ touches) ++ r ≡ touch_spelling t ++ (each_spelling touches ++ r)
 each_of touches r t = append_assoc (touch_spelling t) (each_spelling touches) r
 
 -- touches that go on to one list of bytes begin alike
-fronts : (p q more : List Touch) (r s : Bytes) → All IsTouch p → All IsTouch (q ++ more) → length p ≡ length q → each_spelling p ++ r ≡ each_spelling (q ++ more) ++ s → (p ≡ q) × (r ≡ each_spelling more ++ s)
+fronts : (p q more : List Touch) (r s : Bytes) → All IsTouch p → All IsTouch (q ++ more) →
+    length p ≡ length q → each_spelling p ++ r ≡ each_spelling (q ++ more) ++ s →
+    (p ≡ q) × (r ≡ each_spelling more ++ s)
 fronts [] [] more r s hp hq l e = (refl, e)
 fronts [] (m ∷ q) more r s hp hq l e = absurd (omega arith)
 fronts (n ∷ p) [] more r s hp hq l e = absurd (omega arith)
 fronts (n ∷ p) (m ∷ q) more r s hp hq l e =
-    let both = touch_tells n m (each_spelling p ++ r) (each_spelling (q ++ more) ++ s) (All-head IsTouch n p hp) (All-head IsTouch m (q ++ more) hq) (sym (each_of p r n) ∙ (e ∙ each_of (q ++ more) s m)) in
-    let rest = fronts p q more r s (All-tail IsTouch n p hp) (All-tail IsTouch m (q ++ more) hq) (omega arith) both.1 in
+    let both = touch_tells n m (each_spelling p ++ r) (each_spelling (q ++ more) ++ s)
+    (All-head IsTouch n p hp) (All-head IsTouch m (q ++ more) hq)
+    (sym (each_of p r n) ∙ (e ∙ each_of (q ++ more) s m)) in
+    let rest = fronts p q more r s (All-tail IsTouch n p hp) (All-tail IsTouch m (q ++ more) hq)
+    (omega arith) both.1 in
     (ap₂ (λ x xs. x ∷ xs) both.0 rest.0, rest.1)
 
 pub touches_tell : NoneBeginsAnother AreTouches touches_spelling
 touches_tell v w r s hv hw e =
-    let count = u16_tells (length v) (length w) (each_spelling v ++ r) (each_spelling w ++ s) hv.count hw.count
-    (sym (append_assoc (to_be_bytes w16 (length v)) (each_spelling v) r) ∙ (e ∙ append_assoc (to_be_bytes w16 (length w)) (each_spelling w) s)) in
-    fronts v w [] r s hv.each (subst (All IsTouch) (sym (append-nil w)) hw.each) count.0 (count.1 ∙ ap (λ xs. each_spelling xs ++ s) (sym (append-nil w)))
+    let count = u16_tells (length v) (length w) (each_spelling v ++ r)
+    (each_spelling w ++ s) hv.count hw.count
+    (sym (append_assoc (to_be_bytes w16 (length v)) (each_spelling v) r)
+    ∙ (e ∙ append_assoc (to_be_bytes w16 (length w)) (each_spelling w) s)) in
+    fronts v w [] r s hv.each (subst (All IsTouch) (sym (append-nil w)) hw.each) count.0
+    (count.1 ∙ ap (λ xs. each_spelling xs ++ s) (sym (append-nil w)))
 
 -- so many touches that begin the bytes go on with one more
-pub next_touch : (i count : ℕ) (touches : List Touch) (rest bytes : Bytes) (all : List Touch) (more : Bytes) → AreSoMany i touches → bytes ≡ each_spelling touches ++ rest → i < count →
-    BeginsWith (AreSoMany count) each_spelling bytes all more → (t : Touch) × (after : Bytes) × BeginsWith IsTouch touch_spelling rest t after
+pub next_touch : (i count : ℕ) (touches : List Touch) (rest bytes : Bytes) (all : List Touch)
+    (more : Bytes) → AreSoMany i touches → bytes ≡ each_spelling touches ++ rest → i < count →
+    BeginsWith (AreSoMany count) each_spelling bytes all more →
+    (t : Touch) × (after : Bytes) × BeginsWith IsTouch touch_spelling rest t after
 next_touch i count touches rest bytes all more h e l begins =
     let long : i < length all = omega (arith, begins.lawful.counted) in
     let parts = part all i long in
-    let f = fronts touches parts.0 (parts.1 ∷ parts.2) rest more h.each (subst (All IsTouch) parts.3 begins.lawful.each) (h.counted ∙ sym parts.4) (sym e ∙ (begins.spelled ∙ ap (λ p. each_spelling p ++ more) parts.3)) in (
+    let f = fronts touches parts.0 (parts.1 ∷ parts.2) rest more h.each
+    (subst (All IsTouch) parts.3 begins.lawful.each) (h.counted ∙ sym parts.4)
+    (sym e ∙ (begins.spelled ∙ ap (λ p. each_spelling p ++ more) parts.3)) in (
       parts.1,
       each_spelling parts.2 ++ more,
       record {
-        lawful = All-head IsTouch parts.1 parts.2 (after_front parts.0 (parts.1 ∷ parts.2) (subst (All IsTouch) parts.3 begins.lawful.each));
+        lawful =
+            All-head IsTouch parts.1 parts.2 (after_front parts.0 (parts.1 ∷ parts.2)
+            (subst (All IsTouch) parts.3 begins.lawful.each));
         spelled = f.1 ∙ each_of parts.2 more parts.1;
       },
     )
   where
-    part : (p : List Touch) (i : ℕ) → i < length p → (a : List Touch) × (n : Touch) × (b : List Touch) × (p ≡ a ++ n ∷ b) × (length a ≡ i)
+    part : (p : List Touch) (i : ℕ) → i < length p →
+        (a : List Touch) × (n : Touch) × (b : List Touch) × (p ≡ a ++ n ∷ b) × (length a ≡ i)
     part [] i l = absurd (omega arith)
     part (n ∷ p) zero l = ([], n, p, refl, refl)
-    part (n ∷ p) (suc i) l = let rest = part p i (omega arith) in (n ∷ rest.0, rest.1, rest.2, ap (λ xs. n ∷ xs) rest.3, ap suc rest.4)
+    part (n ∷ p) (suc i) l =
+        let rest = part p i (omega arith) in
+        (n ∷ rest.0, rest.1, rest.2, ap (λ xs. n ∷ xs) rest.3, ap suc rest.4)
 
     after_front : (a b : List Touch) → All IsTouch (a ++ b) → All IsTouch b
     after_front [] b h = h
     after_front (n ∷ a) b h = after_front a b (All-tail IsTouch n (a ++ b) h)
 
 -- one more touch was read
-pub one_touch_more : (i : ℕ) (touches : List Touch) (t : Touch) (bytes rest after : Bytes) → AreSoMany i touches → bytes ≡ each_spelling touches ++ rest → BeginsWith IsTouch touch_spelling rest t after →
+pub one_touch_more : (i : ℕ) (touches : List Touch) (t : Touch) (bytes rest after : Bytes) →
+    AreSoMany i touches → bytes ≡ each_spelling touches ++ rest →
+    BeginsWith IsTouch touch_spelling rest t after →
     AreSoMany (i + 1) (touches ++ t ∷ []) × (bytes ≡ each_spelling (touches ++ t ∷ []) ++ after)
 one_touch_more i touches t bytes rest after h e found = (
   record {
     counted = length-append touches (t ∷ []) ∙ ap (λ k. k + 1) h.counted;
-    each = All-append IsTouch touches (t ∷ []) h.each (All-cons IsTouch t [] found.lawful (All-nil IsTouch));
+    each =
+        All-append IsTouch touches (t ∷ []) h.each
+        (All-cons IsTouch t [] found.lawful (All-nil IsTouch));
   },
-  e ∙ (ap (λ xs. each_spelling touches ++ xs) (found.spelled ∙ ap (λ xs. xs ++ after) (sym (append-nil (touch_spelling t))))
-      ∙ (sym (append_assoc (each_spelling touches) (each_spelling (t ∷ [])) after) ∙ ap (λ xs. xs ++ after) (sym (flat_map-append touch_spelling touches (t ∷ []))))),
+  e ∙ (ap (λ xs. each_spelling touches ++ xs)
+      (found.spelled ∙ ap (λ xs. xs ++ after) (sym (append-nil (touch_spelling t))))
+      ∙ (sym (append_assoc (each_spelling touches) (each_spelling (t ∷ [])) after)
+      ∙ ap (λ xs. xs ++ after) (sym (flat_map-append touch_spelling touches (t ∷ []))))),
 )
 
 -- a number with so many touches behind it
-pub no_count : (bytes : Bytes) → IsReading (λ n. n < 2 ^ 16) (to_be_bytes w16) bytes None → IsReading AreTouches touches_spelling bytes None
+pub no_count : (bytes : Bytes) → IsReading (λ n. n < 2 ^ 16) (to_be_bytes w16) bytes None →
+    IsReading AreTouches touches_spelling bytes None
 no_count bytes none v rest begins =
-    none (length v) (each_spelling v ++ rest) (record { lawful = begins.lawful.count; spelled = begins.spelled ∙ append_assoc (to_be_bytes w16 (length v)) (each_spelling v) rest })
+    none (length v) (each_spelling v ++ rest) (record {
+      lawful = begins.lawful.count;
+      spelled = begins.spelled ∙ append_assoc (to_be_bytes w16 (length v)) (each_spelling v) rest;
+    })
 
-pub no_touches : (bytes after : Bytes) (count : ℕ) → BeginsWith (λ n. n < 2 ^ 16) (to_be_bytes w16) bytes count after → IsReading (AreSoMany count) each_spelling after None → IsReading AreTouches touches_spelling bytes None
+pub no_touches : (bytes after : Bytes) (count : ℕ) →
+    BeginsWith (λ n. n < 2 ^ 16) (to_be_bytes w16) bytes count after →
+    IsReading (AreSoMany count) each_spelling after None →
+    IsReading AreTouches touches_spelling bytes None
 no_touches bytes after count found none v rest begins =
-    let same = u16_tells count (length v) after (each_spelling v ++ rest) found.lawful begins.lawful.count (sym found.spelled ∙ (begins.spelled ∙ append_assoc (to_be_bytes w16 (length v)) (each_spelling v) rest)) in
-    none v rest (record { lawful = record { counted = sym same.0; each = begins.lawful.each }; spelled = same.1 })
+    let same = u16_tells count (length v) after
+    (each_spelling v ++ rest) found.lawful begins.lawful.count (sym found.spelled
+    ∙ (begins.spelled ∙ append_assoc (to_be_bytes w16 (length v)) (each_spelling v) rest)) in
+    none v rest (record
+    { lawful = record { counted = sym same.0; each = begins.lawful.each }; spelled = same.1 })
 
-pub touches_found : (bytes after rest : Bytes) (count : ℕ) (touches : List Touch) → BeginsWith (λ n. n < 2 ^ 16) (to_be_bytes w16) bytes count after → BeginsWith (AreSoMany count) each_spelling after touches rest →
+pub touches_found : (bytes after rest : Bytes) (count : ℕ) (touches : List Touch) →
+    BeginsWith (λ n. n < 2 ^ 16) (to_be_bytes w16) bytes count after →
+    BeginsWith (AreSoMany count) each_spelling after touches rest →
     BeginsWith AreTouches touches_spelling bytes touches rest
 touches_found bytes after rest count touches found read = record {
-  lawful = record { count = subst (λ n. n < 2 ^ 16) (sym read.lawful.counted) found.lawful; each = read.lawful.each };
-  spelled = found.spelled ∙ (ap₂ (λ n xs. to_be_bytes w16 n ++ xs) (sym read.lawful.counted) read.spelled ∙ sym (append_assoc (to_be_bytes w16 (length touches)) (each_spelling touches) rest));
+  lawful =
+      record {
+        count = subst (λ n. n < 2 ^ 16) (sym read.lawful.counted) found.lawful;
+        each = read.lawful.each;
+      };
+  spelled =
+      found.spelled ∙ (ap₂ (λ n xs. to_be_bytes w16 n ++ xs) (sym read.lawful.counted) read.spelled
+      ∙ sym (append_assoc (to_be_bytes w16 (length touches)) (each_spelling touches) rest));
 }
 
 past_tells : NoneBeginsAnother IsPast past_spelling
-past_tells = both_tell AreFences AreTouches fences_spelling touches_spelling fences_tell touches_tell
+past_tells =
+    both_tell AreFences AreTouches fences_spelling touches_spelling fences_tell touches_tell
 
 -- ---- the image in its parts
 
@@ -142,15 +197,21 @@ abbrev PastValue : Type 0
 PastValue = ((Two × Two) × Option Token) × List Touch
 
 abbrev pub past_value : ℕ → Past → PastValue
-past_value pair past = ((((pair, past.position), (past.floor, past.session)), past.token), past.touches)
+past_value pair past =
+    ((((pair, past.position), (past.floor, past.session)), past.token), past.touches)
 
-in_row : (f a b c d t n m s r : Bytes) → (f ++ (a ++ (b ++ (c ++ (d ++ (t ++ (n ++ (m ++ s)))))))) ++ r ≡ f ++ (((((a ++ b) ++ (c ++ d)) ++ t) ++ (n ++ m)) ++ (s ++ r))
+in_row : (f a b c d t n m s r : Bytes) → (f ++ (a ++ (b ++ (c ++ (d ++ (t ++ (n ++ (m ++ s))))))))
+    ++ r ≡ f ++ (((((a ++ b) ++ (c ++ d)) ++ t) ++ (n ++ m)) ++ (s ++ r))
 in_row f a b c d t n m s r = simp append_assoc
 
-image_row : (pair : ℕ) (standing : Standing) (r : Bytes) → spelled_image (pair, standing) ++ r ≡ replica_front ++ (past_spelling (past_value pair (past_in standing)) ++ (spelling standing.tree ++ r))
+image_row : (pair : ℕ) (standing : Standing) (r : Bytes) →
+    spelled_image (pair, standing) ++ r ≡ replica_front
+    ++ (past_spelling (past_value pair (past_in standing)) ++ (spelling standing.tree ++ r))
 image_row pair standing r =
-    in_row replica_front (number64_spelling pair) (number64_spelling standing.position) (number64_spelling standing.floor) (number64_spelling standing.session)
-    (last_token_spelling standing.token) (to_be_bytes w16 (length standing.touches)) (each_spelling standing.touches) (spelling standing.tree) r
+    in_row replica_front (number64_spelling pair) (number64_spelling standing.position)
+    (number64_spelling standing.floor) (number64_spelling standing.session)
+    (last_token_spelling standing.token) (to_be_bytes w16 (length standing.touches))
+    (each_spelling standing.touches) (spelling standing.tree) r
 
 small : (n : ℕ) → n ≤ greatest → n < 2 ^ 64
 small n h = omega (arith, h)
@@ -161,62 +222,126 @@ below m n h g = omega (arith, h, g)
 few : (n : ℕ) → n ≤ most_touches → n < 2 ^ 16
 few n h = omega (arith, h)
 
-token_lawful : (token : Option Token) (last : ℕ) → IfSome token (λ token. (1 ≤ token.session) × (token.session ≤ last) × IsLawfulToken token) → IsLastToken token
+token_lawful : (token : Option Token) (last : ℕ) →
+    IfSome token (λ token. (1 ≤ token.session) × (token.session ≤ last) × IsLawfulToken token) →
+    IsLastToken token
 token_lawful None last h = tt
 token_lawful (Some token) last h = h.2
 
-past_lawful : (pair : ℕ) (standing : Standing) → pair < 2 ^ 64 → IsStanding standing → IsPast (past_value pair (past_in standing))
+past_lawful : (pair : ℕ) (standing : Standing) → pair < 2 ^ 64 → IsStanding standing →
+    IsPast (past_value pair (past_in standing))
 past_lawful pair s h sound = (
-  (((h, small s.position sound.position), (below s.floor s.position sound.floor sound.position, small s.session sound.session)), token_lawful s.token s.session sound.token),
+  (
+    (
+      (h, small s.position sound.position),
+      (
+        below s.floor s.position sound.floor sound.position,
+        small s.session sound.session,
+      ),
+    ),
+    token_lawful s.token s.session sound.token,
+  ),
   record {
     count = few (length s.touches) sound.count;
-    each = λ k d short. (below_position (sound.touches k d short).1 sound.position, (sound.touches k d short).2);
+    each =
+        λ k d short. (
+          below_position (sound.touches k d short).1 sound.position,
+          (sound.touches k d short).2,
+        );
   },
 )
   where
     below_position : {m n : ℕ} → m < n → n ≤ greatest → m < 2 ^ 64
     below_position {m} {n} a b = omega (arith, a, b)
 
-pub no_past : (bytes fields : Bytes) → fields ≡ drop 5 bytes → IsReading IsPast past_spelling fields None → IsReading IsImage spelled_image bytes None
+pub no_past : (bytes fields : Bytes) → fields ≡ drop 5 bytes →
+    IsReading IsPast past_spelling fields None → IsReading IsImage spelled_image bytes None
 no_past bytes fields behind none value rest begins =
     none (past_value value.0 (past_in value.1)) (spelling value.1.tree ++ rest)
-    (record { lawful = past_lawful value.0 value.1 begins.lawful.0 begins.lawful.1; spelled = behind ∙ ap (drop 5) (begins.spelled ∙ image_row value.0 value.1 rest) })
+    (record {
+      lawful = past_lawful value.0 value.1 begins.lawful.0 begins.lawful.1;
+      spelled = behind
+          ∙ ap (drop 5) (begins.spelled ∙ image_row value.0 value.1 rest);
+    })
 
 -- what was read of the past is that of each image that the bytes begin with
-module _ (bytes fields after : Bytes) (past : PastValue) (behind : fields ≡ drop 5 bytes) (found : BeginsWith IsPast past_spelling fields past after)
-    (value : ℕ × Standing) (rest : Bytes) (begins : BeginsWith IsImage spelled_image bytes value rest) where
-  same_past : (past ≡ past_value value.0 (past_in value.1)) × (after ≡ spelling value.1.tree ++ rest)
-  same_past = past_tells past (past_value value.0 (past_in value.1)) after (spelling value.1.tree ++ rest) found.lawful (past_lawful value.0 value.1 begins.lawful.0 begins.lawful.1)
+module _ (bytes fields after : Bytes) (past : PastValue) (behind : fields ≡ drop 5 bytes)
+    (found : BeginsWith IsPast past_spelling fields past after)
+    (value : ℕ × Standing) (rest : Bytes)
+    (begins : BeginsWith IsImage spelled_image bytes value rest) where
+  same_past : (past ≡ past_value value.0 (past_in value.1))
+      × (after ≡ spelling value.1.tree ++ rest)
+  same_past =
+      past_tells past (past_value value.0 (past_in value.1)) after (spelling value.1.tree ++ rest)
+      found.lawful (past_lawful value.0 value.1 begins.lawful.0 begins.lawful.1)
       (sym found.spelled ∙ (behind ∙ ap (drop 5) (begins.spelled ∙ image_row value.0 value.1 rest)))
 
   pub no_whole_tree : IsReading IsWholeTree spelling after None → ⊥
-  no_whole_tree none = none value.1.tree rest (record { lawful = record { tree = begins.lawful.1.tree; fits = begins.lawful.1.fits }; spelled = same_past.1 })
+  no_whole_tree none =
+      none value.1.tree rest (record {
+        lawful = record {
+          tree = begins.lawful.1.tree;
+          fits = begins.lawful.1.fits;
+        };
+        spelled = same_past.1;
+      })
 
-  pub no_trail : (p : Past) → past ≡ past_value past.0.0.0.0 p → ((tree : Tree) → ¬ IsStanding (standing_with tree p)) → ⊥
+  pub no_trail : (p : Past) →
+      past ≡ past_value past.0.0.0.0 p → ((tree : Tree) → ¬ IsStanding (standing_with tree p)) → ⊥
   no_trail p is none =
-      let same : p ≡ past_in value.1 = ap {A = PastValue} {B = Past} (λ x. record { position = x.0.0.0.1; floor = x.0.0.1.0; touches = x.1; session = x.0.0.1.1; token = x.0.1 }) (sym is ∙ same_past.0) in
-      none value.1.tree (subst (λ p. IsStanding (standing_with value.1.tree p)) (sym same) begins.lawful.1)
+      let same : p ≡ past_in value.1 =
+      ap {A = PastValue} {B = Past} (λ x. record {
+        position = x.0.0.0.1;
+        floor = x.0.0.1.0;
+        touches = x.1;
+        session = x.0.0.1.1;
+        token = x.0.1;
+      }) (sym is ∙ same_past.0) in
+      none value.1.tree
+      (subst (λ p. IsStanding (standing_with value.1.tree p)) (sym same) begins.lawful.1)
 
-pub image_found : (bytes fields after rest : Bytes) (pair : ℕ) (past : Past) (tree : Tree) → bytes_eq (take 5 bytes) replica_front ≡ true → fields ≡ drop 5 bytes → BeginsWith IsPast past_spelling fields (past_value pair past) after →
-    BeginsWith IsWholeTree spelling after tree rest → IsLawful past → BeginsWith IsImage spelled_image bytes (pair, standing_with tree past) rest
+pub image_found : (bytes fields after rest : Bytes) (pair : ℕ) (past : Past) (tree : Tree) →
+    bytes_eq (take 5 bytes) replica_front ≡ true → fields ≡ drop 5 bytes →
+    BeginsWith IsPast past_spelling fields (past_value pair past) after →
+    BeginsWith IsWholeTree spelling after tree rest → IsLawful past →
+    BeginsWith IsImage spelled_image bytes (pair, standing_with tree past) rest
 image_found bytes fields after rest pair past tree front behind found read lawful = record {
   lawful = (found.lawful.0.0.0.0, lawful tree read.lawful.tree read.lawful.fits);
   spelled =
       sym (take-append-drop 5 bytes)
-      ∙ (ap₂ (λ a b. a ++ b) ((bytes_eq-Decides (take 5 bytes) replica_front).0 front) (sym behind ∙ (found.spelled ∙ ap (λ xs. past_spelling (past_value pair past) ++ xs) read.spelled))
+      ∙ (ap₂ (λ a b. a ++ b) ((bytes_eq-Decides (take 5 bytes) replica_front).0 front) (sym behind
+      ∙ (found.spelled ∙ ap (λ xs. past_spelling (past_value pair past) ++ xs) read.spelled))
       ∙ sym (image_row pair (standing_with tree past) rest));
 }
 
 -- an image begins with its front
-pub fronted : (bytes rest : Bytes) (value : ℕ × Standing) → BeginsWith IsImage spelled_image bytes value rest → bytes_eq (take 5 bytes) replica_front ≡ true
-fronted bytes rest value begins = (bytes_eq-Decides (take 5 bytes) replica_front).1 (ap (take 5) begins.spelled)
+pub fronted : (bytes rest : Bytes) (value : ℕ × Standing) →
+    BeginsWith IsImage spelled_image bytes value rest → bytes_eq (take 5 bytes) replica_front ≡ true
+fronted bytes rest value begins =
+    (bytes_eq-Decides (take 5 bytes) replica_front).1 (ap (take 5) begins.spelled)
 
 pub images_tell : NoSpellingBeginsAnother → NoImageBeginsAnother
 images_tell trees v w r s hv hw e =
-    let same = past_tells (past_value v.0 (past_in v.1)) (past_value w.0 (past_in w.1)) (spelling v.1.tree ++ r) (spelling w.1.tree ++ s) (past_lawful v.0 v.1 hv.0 hv.1) (past_lawful w.0 w.1 hw.0 hw.1)
+    let same = past_tells (past_value v.0 (past_in v.1)) (past_value w.0 (past_in w.1))
+    (spelling v.1.tree ++ r) (spelling w.1.tree ++ s) (past_lawful v.0 v.1 hv.0 hv.1)
+    (past_lawful w.0 w.1 hw.0 hw.1)
     (ap (drop 5) (sym (image_row v.0 v.1 r) ∙ (e ∙ image_row w.0 w.1 s))) in
-    let tree = trees v.1.tree w.1.tree r s hv.1.tree.part hw.1.tree.part (whole_fits_part v.1.tree hv.1.fits) (whole_fits_part w.1.tree hw.1.fits) same.1 in
-    (ap₂ {A = PastValue} {B = Tree} {C = ℕ × Standing} (λ x t. (x.0.0.0.0, record { tree = t; position = x.0.0.0.1; floor = x.0.0.1.0; touches = x.1; session = x.0.0.1.1; token = x.0.1 })) same.0 tree.0, tree.1)
+    let tree = trees v.1.tree w.1.tree r s hv.1.tree.part hw.1.tree.part
+    (whole_fits_part v.1.tree hv.1.fits) (whole_fits_part w.1.tree hw.1.fits) same.1 in (
+      ap₂ {A = PastValue} {B = Tree} {C = ℕ × Standing}
+          (λ x t. (
+            x.0.0.0.0,
+            record {
+              tree = t;
+              position = x.0.0.0.1;
+              floor = x.0.0.1.0;
+              touches = x.1;
+              session = x.0.0.1.1;
+              token = x.0.1;
+            },
+          )) same.0 tree.0,
+      tree.1,
+    )
 
 -- ---- what is written
 
@@ -224,11 +349,16 @@ pub one_behind : (old mid new a b : Bytes) → mid ≡ old ++ a → new ≡ mid 
 one_behind old mid new a b first second = second ∙ (ap (λ x. x ++ b) first ∙ append_assoc old a b)
 
 -- one touch more
-pub touch_more : (touches : List Touch) (i : ℕ) (x : Touch) (out old new : Bytes) → i < length touches → x ≡ slice_index_or touches i x → old ≡ out ++ each_spelling (take i touches) → new ≡ old ++ touch_spelling x → new ≡ out ++ each_spelling (take (i + 1) touches)
+pub touch_more : (touches : List Touch) (i : ℕ) (x : Touch) (out old new : Bytes) →
+    i < length touches → x ≡ slice_index_or touches i x →
+    old ≡ out ++ each_spelling (take i touches) → new ≡ old ++ touch_spelling x →
+    new ≡ out ++ each_spelling (take (i + 1) touches)
 touch_more touches i x out old new l is so_far added =
-    one_behind out old new (each_spelling (take i touches)) (touch_spelling x) so_far added ∙ ap (λ b. out ++ b) (sym more)
+    one_behind out old new (each_spelling (take i touches)) (touch_spelling x) so_far added
+    ∙ ap (λ b. out ++ b) (sym more)
   where
     more : each_spelling (take (i + 1) touches) ≡ each_spelling (take i touches) ++ touch_spelling x
     more =
         ap each_spelling (take_more touches i x l ∙ ap (λ y. take i touches ++ y ∷ []) (sym is))
-        ∙ (flat_map-append touch_spelling (take i touches) (x ∷ []) ∙ ap (λ b. each_spelling (take i touches) ++ b) (append-nil (touch_spelling x)))
+        ∙ (flat_map-append touch_spelling (take i touches) (x ∷ [])
+        ∙ ap (λ b. each_spelling (take i touches) ++ b) (append-nil (touch_spelling x)))

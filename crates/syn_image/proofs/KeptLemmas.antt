@@ -1,5 +1,6 @@
 -- What is read of what an archive keeps, and of the image of an archive.
-use Rattle.std.proofs.Common.{◌≡◌, ◌≢◌, ◌<◌, ◌≤◌, ◌^◌, ℕ, [], ◌∷◌, ◌++◌, drop, sym, ap, ap₂, ◌∙◌, Some, None, is_some, append_assoc, arith}
+use Rattle.std.proofs.Common.{◌≡◌, ◌≢◌, ◌<◌, ◌≤◌, ◌^◌, ℕ, [], ◌∷◌, ◌++◌, drop, sym, ap, ap₂, ◌∙◌}
+use Rattle.std.proofs.Common.{Some, None, is_some, append_assoc, arith}
 use Rattle.std.specs.FinMap.{get}
 use Rattle.syn_model.specs.Path.{Bytes, Path, IsPath, path_spelling, root}
 use Rattle.syn_model.specs.Tree.{Tree, Directory}
@@ -12,7 +13,8 @@ use Rattle.syn_wire.specs.Reads.{BeginsWith, IsReading}
 use Rattle.syn_wire.proofs.NameLemmas.{first_or, rest_of, paths_tell}
 use Rattle.syn_wire.proofs.NumberLemmas.{u64_tells}
 use Rattle.syn_wire.proofs.Sequences.{both_tell}
-use Rattle.syn_image.specs.Archives.{IsSpelledArchive, IsSpelledKept, spelled_archive, NoKeptBeginsAnother, NoArchiveBeginsAnother}
+use Rattle.syn_image.specs.Archives.{IsSpelledArchive, IsSpelledKept, spelled_archive}
+use Rattle.syn_image.specs.Archives.{NoKeptBeginsAnother, NoArchiveBeginsAnother}
 use Rattle.syn_image.specs.inner.Pasts.{Two, AreTwo, two_spelling}
 use Rattle.syn_image.proofs.ImageLemmas.{two_tell}
 
@@ -31,24 +33,35 @@ pub kept_tells : NoMarksBeginOthers → NoKeptBeginsAnother
 kept_tells marks (Session v) (Session w) r s hv hw e =
     let same = u64_tells v w r s hv hw (ap rest_of e) in
     (ap (λ x. Session x) same.0, same.1)
-kept_tells marks (Session v) (Recorded q u) r s hv hw e = other_kind 1 2 _ _ (λ same. omega (arith, same)) e
-kept_tells marks (Session v) (RecordedDir q) r s hv hw e = other_kind 1 3 _ _ (λ same. omega (arith, same)) e
-kept_tells marks (Recorded p t) (Session w) r s hv hw e = other_kind 2 1 _ _ (λ same. omega (arith, same)) e
+kept_tells marks (Session v) (Recorded q u) r s hv hw e =
+    other_kind 1 2 _ _ (λ same. omega (arith, same)) e
+kept_tells marks (Session v) (RecordedDir q) r s hv hw e =
+    other_kind 1 3 _ _ (λ same. omega (arith, same)) e
+kept_tells marks (Recorded p t) (Session w) r s hv hw e =
+    other_kind 2 1 _ _ (λ same. omega (arith, same)) e
 kept_tells marks (Recorded p t) (Recorded q u) r s hv hw e =
-    let same = both_tell IsPath IsOptionalMarkTree path_spelling mark_spelling paths_tell marks (p, t) (q, u) r s hv hw (ap rest_of e) in
+    let same = both_tell IsPath IsOptionalMarkTree path_spelling mark_spelling paths_tell marks
+    (p, t) (q, u) r s hv hw (ap rest_of e) in
     (ap (λ x. Recorded x.0 x.1) same.0, same.1)
-kept_tells marks (Recorded p t) (RecordedDir q) r s hv hw e = other_kind 2 3 _ _ (λ same. omega (arith, same)) e
-kept_tells marks (RecordedDir p) (Session w) r s hv hw e = other_kind 3 1 _ _ (λ same. omega (arith, same)) e
-kept_tells marks (RecordedDir p) (Recorded q u) r s hv hw e = other_kind 3 2 _ _ (λ same. omega (arith, same)) e
+kept_tells marks (Recorded p t) (RecordedDir q) r s hv hw e =
+    other_kind 2 3 _ _ (λ same. omega (arith, same)) e
+kept_tells marks (RecordedDir p) (Session w) r s hv hw e =
+    other_kind 3 1 _ _ (λ same. omega (arith, same)) e
+kept_tells marks (RecordedDir p) (Recorded q u) r s hv hw e =
+    other_kind 3 2 _ _ (λ same. omega (arith, same)) e
 kept_tells marks (RecordedDir p) (RecordedDir q) r s hv hw e =
     let same = paths_tell p q r s hv hw (ap rest_of e) in
     (ap (λ x. RecordedDir x) same.0, same.1)
 
 -- behind the kind of a record there is what is recorded
-pub no_record : (fields : Bytes) → IsReading IsRecorded recorded_spelling fields None → IsReading IsSpelledKept kept_spelling (2 ∷ fields) None
-no_record fields none (Session v) rest begins = other_kind 2 1 _ _ (λ same. omega (arith, same)) begins.spelled
-no_record fields none (Recorded p t) rest begins = none (p, t) rest (record { lawful = begins.lawful; spelled = ap rest_of begins.spelled })
-no_record fields none (RecordedDir p) rest begins = other_kind 2 3 _ _ (λ same. omega (arith, same)) begins.spelled
+pub no_record : (fields : Bytes) → IsReading IsRecorded recorded_spelling fields None →
+    IsReading IsSpelledKept kept_spelling (2 ∷ fields) None
+no_record fields none (Session v) rest begins =
+    other_kind 2 1 _ _ (λ same. omega (arith, same)) begins.spelled
+no_record fields none (Recorded p t) rest begins =
+    none (p, t) rest (record { lawful = begins.lawful; spelled = ap rest_of begins.spelled })
+no_record fields none (RecordedDir p) rest begins =
+    other_kind 2 3 _ _ (λ same. omega (arith, same)) begins.spelled
 
 -- ---- the image of an archive
 
@@ -57,8 +70,11 @@ abbrev pub archive_front : Bytes
 archive_front = 83 ∷ 89 ∷ 78 ∷ 65 ∷ 1 ∷ []
 
 archive_row : (pair : ℕ) (archive : Archive) (r : Bytes) →
-    spelled_archive (pair, archive) ++ r ≡ archive_front ++ (two_spelling (pair, archive.last_session) ++ (mark_spelling archive.marks ++ r))
-archive_row pair archive r = in_row archive_front (number64_spelling pair) (number64_spelling archive.last_session) (mark_spelling archive.marks) r
+    spelled_archive (pair, archive) ++ r ≡ archive_front
+    ++ (two_spelling (pair, archive.last_session) ++ (mark_spelling archive.marks ++ r))
+archive_row pair archive r =
+    in_row archive_front (number64_spelling pair) (number64_spelling archive.last_session)
+    (mark_spelling archive.marks) r
   where
     in_row : (f a b m r : Bytes) → (f ++ (a ++ (b ++ m))) ++ r ≡ f ++ ((a ++ b) ++ (m ++ r))
     in_row f a b m r = simp append_assoc
@@ -68,31 +84,49 @@ small n h = omega (arith, h)
 
 pub archives_tell : NoMarksBeginOthers → NoArchiveBeginsAnother
 archives_tell marks v w r s hv hw e =
-    let two = two_tell (v.0, v.1.last_session) (w.0, w.1.last_session) (mark_spelling v.1.marks ++ r) (mark_spelling w.1.marks ++ s)
-    (hv.0, small v.1.last_session hv.1.session) (hw.0, small w.1.last_session hw.1.session) (ap (drop 5) (sym (archive_row v.0 v.1 r) ∙ (e ∙ archive_row w.0 w.1 s))) in
-    let tree = marks v.1.marks w.1.marks r s (record { marks = hv.1.marks; fits = hv.1.fits }) (record { marks = hw.1.marks; fits = hw.1.fits }) two.1 in
-    (ap₂ {A = Two} {B = Tree} {C = ℕ × Archive} (λ x t. (x.0, record { marks = t; last_session = x.1 })) two.0 tree.0, tree.1)
+    let two = two_tell (v.0, v.1.last_session) (w.0, w.1.last_session)
+    (mark_spelling v.1.marks ++ r) (mark_spelling w.1.marks ++ s)
+    (hv.0, small v.1.last_session hv.1.session) (hw.0, small w.1.last_session hw.1.session)
+    (ap (drop 5) (sym (archive_row v.0 v.1 r) ∙ (e ∙ archive_row w.0 w.1 s))) in
+    let tree = marks v.1.marks w.1.marks r s (record { marks = hv.1.marks; fits = hv.1.fits })
+    (record { marks = hw.1.marks; fits = hw.1.fits }) two.1 in (
+      ap₂ {A = Two} {B = Tree} {C = ℕ × Archive}
+          (λ x t. (x.0, record { marks = t; last_session = x.1 })) two.0 tree.0,
+      tree.1,
+    )
 
 -- behind the front stand two numbers and marks whose root is a directory
-module _ (bytes fields : Bytes) (behind : fields ≡ drop 5 bytes) (value : ℕ × Archive) (rest : Bytes) (begins : BeginsWith IsSpelledArchive spelled_archive bytes value rest) where
-  numbers_there : BeginsWith AreTwo two_spelling fields (value.0, value.1.last_session) (mark_spelling value.1.marks ++ rest)
+module _ (bytes fields : Bytes) (behind : fields ≡ drop 5 bytes) (value : ℕ × Archive)
+    (rest : Bytes) (begins : BeginsWith IsSpelledArchive spelled_archive bytes value rest) where
+  numbers_there : BeginsWith AreTwo two_spelling fields (value.0, value.1.last_session)
+      (mark_spelling value.1.marks ++ rest)
   numbers_there = record {
     lawful = (begins.lawful.0, small value.1.last_session begins.lawful.1.session);
     spelled = behind ∙ ap (drop 5) (begins.spelled ∙ archive_row value.0 value.1 rest);
   }
 
   pub no_numbers : IsReading AreTwo two_spelling fields None → ⊥
-  no_numbers none = none (value.0, value.1.last_session) (mark_spelling value.1.marks ++ rest) numbers_there
+  no_numbers none =
+      none (value.0, value.1.last_session) (mark_spelling value.1.marks ++ rest) numbers_there
 
-  module _ (two : Two) (after : Bytes) (found : BeginsWith AreTwo two_spelling fields two after) where
+  module _ (two : Two) (after : Bytes)
+      (found : BeginsWith AreTwo two_spelling fields two after) where
     marks_there : BeginsWith IsMarkTree mark_spelling after value.1.marks rest
     marks_there = record {
-      lawful = record { optional = record { marks = begins.lawful.1.marks; fits = begins.lawful.1.fits }; present = ap is_some begins.lawful.1.tree.rooted };
-      spelled = (two_tell two (value.0, value.1.last_session) after (mark_spelling value.1.marks ++ rest) found.lawful numbers_there.lawful (sym found.spelled ∙ numbers_there.spelled)).1;
+      lawful =
+          record {
+            optional = record { marks = begins.lawful.1.marks; fits = begins.lawful.1.fits };
+            present = ap is_some begins.lawful.1.tree.rooted;
+          };
+      spelled =
+          (two_tell two (value.0, value.1.last_session) after (mark_spelling value.1.marks ++ rest)
+          found.lawful numbers_there.lawful (sym found.spelled ∙ numbers_there.spelled)).1;
     }
 
     -- marks of a file are no archive's
-    pub marks_of_file : NoMarksBeginOthers → (t : Tree) (left : Bytes) → BeginsWith IsMarkTree mark_spelling after t left → get t root ≢ Some Directory → ⊥
+    pub marks_of_file : NoMarksBeginOthers → (t : Tree) (left : Bytes) →
+        BeginsWith IsMarkTree mark_spelling after t left → get t root ≢ Some Directory → ⊥
     marks_of_file tells t left read other =
-        let same = tells t value.1.marks left rest read.lawful.optional marks_there.lawful.optional (sym read.spelled ∙ marks_there.spelled) in
+        let same = tells t value.1.marks left rest read.lawful.optional marks_there.lawful.optional
+        (sym read.spelled ∙ marks_there.spelled) in
         other (ap (λ u. get u root) same.0 ∙ begins.lawful.1.tree.rooted)

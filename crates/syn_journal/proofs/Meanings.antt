@@ -1,5 +1,7 @@
 -- What a disk whose current half is whole stands for.
-use Rattle.std.proofs.Common.{◌≡◌, ℕ, ◌+◌, ◌-◌, ◌≤◌, Bool, true, leb, List, ◌∷◌, ◌++◌, length, get_or, take, drop, Some, Ok, refl, sym, ◌∙◌, ap, subst, arith, length-append, length-take, length-drop, take-append-drop}
+use Rattle.std.proofs.Common.{◌≡◌, ℕ, ◌+◌, ◌-◌, ◌≤◌, Bool, true, leb, List, ◌∷◌, ◌++◌, length}
+use Rattle.std.proofs.Common.{get_or, take, drop, Some, Ok, refl, sym, ◌∙◌, ap, subst, arith}
+use Rattle.std.proofs.Common.{length-append, length-take, length-drop, take-append-drop}
 use Rattle.std.proofs.lemmas.List.{append_assoc, drop-drop, drop_more}
 use Rattle.std.proofs.lemmas.Bool.Decides.{nat_tests}
 use Rattle.std.proofs.lemmas.Nat.{from_be_bytes-to_be_bytes_4}
@@ -9,7 +11,10 @@ use Rattle.syn_disk.specs.Disk.{Only}
 use Rattle.syn_disk.specs.declared.disk.TheConstants.{DISK_SIZE}
 use Rattle.syn_journal.specs.declared.half.Half.{Half}
 use Rattle.syn_journal.specs.declared.half.Half.TheVariants.{First, Second}
-use Rattle.syn_journal.specs.Layout.{half_size, longest_image, start_of, other_half, is_open, HasJournal, Value, damaged, records, image_length_at, with_image, bytes_from, value_at, value_in, meaning, records_of, spelled}
+use Rattle.syn_journal.specs.Layout.{half_size, longest_image, start_of, other_half, is_open}
+use Rattle.syn_journal.specs.Layout.{HasJournal, Value, damaged, records, image_length_at}
+use Rattle.syn_journal.specs.Layout.{with_image, bytes_from, value_at, value_in, meaning}
+use Rattle.syn_journal.specs.Layout.{records_of, spelled}
 use Rattle.syn_journal.specs.inner.Whole.{IsWhole, IsInStep}
 use Rattle.syn_journal.specs.Layout.{value_or_empty}
 use Rattle.syn_journal.proofs.Parts.{next_part, take_over}
@@ -22,17 +27,23 @@ within_disk Second size is = omega arith
 regroup : (a b c d : List ℕ) → (a ++ (b ++ c)) ++ d ≡ a ++ (b ++ (c ++ d))
 regroup a b c d = simp append_assoc
 
-value_from : (disk : List ℕ) (half : Half) (size : ℕ) (image : List ℕ) (payloads : List (List ℕ)) → image_length_at disk half ≡ size → size ≤ longest_image → take size (drop (start_of half + 13) disk) ≡ image
-    → records (length (bytes_from disk half (13 + size))) (bytes_from disk half (13 + size)) ≡ Some payloads → value_at disk half ≡ Ok (record { image = image; payloads = payloads })
+value_from : (disk : List ℕ) (half : Half) (size : ℕ) (image : List ℕ) (payloads : List (List ℕ)) →
+    image_length_at disk half ≡ size → size ≤ longest_image →
+    take size (drop (start_of half + 13) disk) ≡ image →
+    records (length (bytes_from disk half (13 + size))) (bytes_from disk half (13 + size))
+    ≡ Some payloads → value_at disk half ≡ Ok (record { image = image; payloads = payloads })
 unfolding value_at
 value_from disk half size image payloads is fits image_is records_are =
     let test : leb size longest_image ≡ true = grind (arith, nat_tests) in
     let P : ℕ → Type 0 = λ k. (let behind = bytes_from disk half (13 + k) in
-    if leb k longest_image then with_image (take k (drop (start_of half + 13) disk)) (records (length behind) behind) else Err damaged) ≡ Ok (record { image = image; payloads = payloads }) in
+    if leb k longest_image then with_image (take k (drop (start_of half + 13) disk))
+    (records (length behind) behind) else Err damaged)
+    ≡ Ok (record { image = image; payloads = payloads }) in
     let at_size : P size = rw (test, image_is, records_are) refl in
     subst P (sym is) at_size
 
-module _ (disk : List ℕ) (half : Half) (generation gate : ℕ) (value : Value) (whole : IsWhole disk half generation gate value) where
+module _ (disk : List ℕ) (half : Half) (generation gate : ℕ) (value : Value)
+    (whole : IsWhole disk half generation gate value) where
   abbrev base : ℕ
   base = start_of half
 
@@ -50,50 +61,91 @@ module _ (disk : List ℕ) (half : Half) (generation gate : ℕ) (value : Value)
 
   pub sizes : gate ≡ 13 + length value.image + length recs
   unfolding spelled
-  sizes = omega (arith, ap length whole.front, length-take (gate - 9) (drop (base + 9) disk), length-drop (base + 9) disk, room, whole.within, length-append value.image recs)
+  sizes =
+      omega (
+        arith,
+        ap length whole.front,
+        length-take (gate - 9) (drop (base + 9) disk),
+        length-drop (base + 9) disk,
+        room,
+        whole.within,
+        length-append value.image recs,
+      )
 
   parts : drop (base + 9) disk ≡ word ++ (value.image ++ (recs ++ behind))
   unfolding behind spelled
   parts =
       let there : base + 9 + (gate - 9) ≡ base + gate = omega (arith, sizes) in
-      let last : drop (gate - 9) (drop (base + 9) disk) ≡ behind = drop-drop (gate - 9) (base + 9) disk ∙ ap (λ k. drop k disk) there ∙ drop_more disk (base + gate) 0 (omega (arith, room, whole.within)) in
-      sym (take-append-drop (gate - 9) (drop (base + 9) disk)) ∙ ap (λ (l : List ℕ). l ++ drop (gate - 9) (drop (base + 9) disk)) whole.front
-      ∙ ap (λ (l : List ℕ). spelled value.image value.payloads ++ l) last ∙ regroup word value.image recs behind
+      let last : drop (gate - 9) (drop (base + 9) disk) ≡ behind =
+      drop-drop (gate - 9) (base + 9) disk ∙ ap (λ k. drop k disk) there
+      ∙ drop_more disk (base + gate) 0 (omega (arith, room, whole.within)) in
+      sym (take-append-drop (gate - 9) (drop (base + 9) disk))
+      ∙ ap (λ (l : List ℕ). l ++ drop (gate - 9) (drop (base + 9) disk)) whole.front
+      ∙ ap (λ (l : List ℕ). spelled value.image value.payloads ++ l) last
+      ∙ regroup word value.image recs behind
 
-  then_length : (take 4 (drop (base + 9) disk) ≡ word) × (drop (base + 13) disk ≡ value.image ++ (recs ++ behind))
+  then_length : (take 4 (drop (base + 9) disk) ≡ word)
+      × (drop (base + 13) disk ≡ value.image ++ (recs ++ behind))
   then_length = next_part disk (base + 9) 4 (base + 13) word _ parts refl (omega arith)
 
-  then_image : (take (length value.image) (drop (base + 13) disk) ≡ value.image) × (drop (base + (13 + length value.image)) disk ≡ recs ++ behind)
-  then_image = next_part disk (base + 13) (length value.image) (base + (13 + length value.image)) value.image _ then_length.1 refl (omega arith)
+  then_image : (take (length value.image) (drop (base + 13) disk) ≡ value.image)
+      × (drop (base + (13 + length value.image)) disk ≡ recs ++ behind)
+  then_image =
+      next_part disk (base + 13) (length value.image)
+      (base + (13 + length value.image)) value.image _ then_length.1 refl (omega arith)
 
   length_is : image_length_at disk half ≡ length value.image
   unfolding image_length_at
-  length_is = ap (from_be_bytes w32) then_length.0 ∙ from_be_bytes-to_be_bytes_4 (length value.image) (omega (arith, sizes, whole.within))
+  length_is =
+      ap (from_be_bytes w32) then_length.0
+      ∙ from_be_bytes-to_be_bytes_4 (length value.image) (omega (arith, sizes, whole.within))
 
-  part_is : bytes_from disk half (13 + length value.image) ≡ recs ++ get_or disk (base + gate) 0 ∷ take (half_size - gate - 1) (drop (base + gate + 1) disk)
+  part_is : bytes_from disk half (13 + length value.image) ≡ recs ++ get_or disk (base + gate) 0
+      ∷ take (half_size - gate - 1) (drop (base + gate + 1) disk)
   unfolding behind
   part_is = ap (λ (l : List ℕ). take (half_size - (13 + length value.image)) l) then_image.1
-      ∙ take_over recs (get_or disk (base + gate) 0) (drop (base + gate + 1) disk) (half_size - (13 + length value.image)) (half_size - gate - 1) (omega (arith, sizes, whole.within))
+      ∙ take_over recs (get_or disk (base + gate) 0) (drop (base + gate + 1) disk)
+      (half_size - (13 + length value.image)) (half_size - gate - 1)
+      (omega (arith, sizes, whole.within))
 
-  records_are : records (length (bytes_from disk half (13 + length value.image))) (bytes_from disk half (13 + length value.image)) ≡ Some value.payloads
+  records_are : records (length (bytes_from disk half (13 + length value.image)))
+      (bytes_from disk half (13 + length value.image)) ≡ Some value.payloads
   records_are =
       ap (λ (l : List ℕ). records (length l) l) part_is
-      ∙ records_read value.payloads _ (get_or disk (base + gate) 0) _ whole.closed (omega (arith, sizes, whole.within))
-      (omega (arith, length-append recs (get_or disk (base + gate) 0 ∷ take (half_size - gate - 1) (drop (base + gate + 1) disk))))
+      ∙ records_read value.payloads _ (get_or disk (base + gate) 0) _ whole.closed
+      (omega (arith, sizes, whole.within))
+      (omega (
+        arith,
+        length-append recs
+            (get_or disk (base + gate) 0
+            ∷ take (half_size - gate - 1) (drop (base + gate + 1) disk)),
+      ))
 
   value_is : value_at disk half ≡ Ok value
-  value_is = value_from disk half (length value.image) value.image value.payloads length_is (omega (arith, sizes, whole.within)) then_image.0 records_are
+  value_is =
+      value_from disk half (length value.image) value.image value.payloads length_is
+      (omega (arith, sizes, whole.within)) then_image.0 records_are
 
   pub means : meaning disk ≡ Ok value
   unfolding meaning
   means = ap (value_in disk) whole.is_current ∙ value_is
 
   pub has : HasJournal disk value generation
-  has = record { means = means; half = half; is_current = whole.is_current; numbered = whole.numbered }
+  has =
+      record {
+        means = means;
+        half = half;
+        is_current = whole.is_current;
+        numbered = whole.numbered;
+      }
 
   -- and so for the value that its bytes have
   pub whole_by_meaning : IsWhole disk half generation gate (value_or_empty (meaning disk))
-  whole_by_meaning = subst (λ v. IsWhole disk half generation gate v) (sym (ap value_or_empty means)) whole
+  whole_by_meaning =
+      subst (λ v. IsWhole disk half generation gate v) (sym (ap value_or_empty means)) whole
 
-  pub in_step : (may_leave : List ℕ → Type 0) (other_is_open : Bool) → is_open disk (other_half half) ≡ other_is_open → Only disk may_leave → IsInStep disk may_leave half generation gate other_is_open
-  in_step may_leave other_is_open other durable = record { whole = whole_by_meaning; other = other; durable = durable }
+  pub in_step : (may_leave : List ℕ → Type 0) (other_is_open : Bool) →
+      is_open disk (other_half half) ≡ other_is_open → Only disk may_leave →
+      IsInStep disk may_leave half generation gate other_is_open
+  in_step may_leave other_is_open other durable =
+      record { whole = whole_by_meaning; other = other; durable = durable }

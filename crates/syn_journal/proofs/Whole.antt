@@ -1,51 +1,73 @@
 -- How the two steps of an append change a disk whose current half is whole.
-use Rattle.std.proofs.Common.{◌≡◌, ◌≢◌, ◌⊎◌, inl, inr, ⊎_elim, ℕ, zero, suc, ◌+◌, ◌-◌, ◌==◌, ◌<◌, ◌≤◌, Ok, List, [], ◌∷◌, ◌++◌, length, get_or, take, drop, sym, ◌∙◌, ap, subst, arith, length-append}
+use Rattle.std.proofs.Common.{◌≡◌, ◌≢◌, ◌⊎◌, inl, inr, ⊎_elim, ℕ, zero, suc, ◌+◌, ◌-◌, ◌==◌, ◌<◌}
+use Rattle.std.proofs.Common.{◌≤◌, Ok, List, [], ◌∷◌, ◌++◌, length, get_or, take, drop, sym, ◌∙◌}
+use Rattle.std.proofs.Common.{ap, subst, arith, length-append}
 use Rattle.std.proofs.lemmas.List.{get_or_append_left, get_or-append_right, append_assoc}
 use Rattle.std.specs.Int.{w32, w64, to_be_bytes, from_be_bytes}
 use Rattle.syn_disk.specs.Disk.{Torn, overwritten}
 use Rattle.syn_journal.specs.inner.Commit.{body_of_record}
 use Rattle.syn_journal.specs.declared.half.Half.{Half}
 use Rattle.syn_journal.specs.declared.half.Half.TheVariants.{First, Second}
-use Rattle.syn_journal.specs.Layout.{half_size, open_gate, start_of, other_half, Value, is_open, generation_at, current, current_of, record_of, records_of, spelled, with_payload}
+use Rattle.syn_journal.specs.Layout.{half_size, open_gate, start_of, other_half, Value, is_open}
+use Rattle.syn_journal.specs.Layout.{generation_at, current, current_of, record_of, records_of}
+use Rattle.syn_journal.specs.Layout.{spelled, with_payload}
 use Rattle.syn_journal.specs.inner.Whole.{IsWhole}
 use Rattle.syn_journal.proofs.Meanings.{within_disk, sizes}
-use Rattle.syn_journal.proofs.Parts.{same_part, part_is, part_add, length-overwritten, overwritten-below, overwritten-in, overwritten-behind, torn_by}
+use Rattle.syn_journal.proofs.Parts.{same_part, part_is, part_add, length-overwritten}
+use Rattle.syn_journal.proofs.Parts.{overwritten-below, overwritten-in, overwritten-behind, torn_by}
 use Rattle.syn_journal.proofs.Records.{records_of-push}
 
-spelled-push : (image : List ℕ) (payloads : List (List ℕ)) (payload : List ℕ) → spelled image (payloads ++ payload ∷ []) ≡ spelled image payloads ++ record_of payload
+spelled-push : (image : List ℕ) (payloads : List (List ℕ)) (payload : List ℕ) →
+    spelled image (payloads ++ payload ∷ []) ≡ spelled image payloads ++ record_of payload
 unfolding spelled
 spelled-push image payloads payload =
-    ap (λ (l : List ℕ). to_be_bytes w32 (length image) ++ (image ++ l)) (records_of-push payloads payload)
-    ∙ ap (λ (l : List ℕ). to_be_bytes w32 (length image) ++ l) (sym (append_assoc image (records_of payloads) (record_of payload)))
-    ∙ sym (append_assoc (to_be_bytes w32 (length image)) (image ++ records_of payloads) (record_of payload))
+    ap (λ (l : List ℕ). to_be_bytes w32 (length image) ++ (image ++ l))
+    (records_of-push payloads payload)
+    ∙ ap (λ (l : List ℕ). to_be_bytes w32 (length image) ++ l)
+    (sym (append_assoc image (records_of payloads) (record_of payload)))
+    ∙ sym (append_assoc (to_be_bytes w32 (length image)) (image ++ records_of payloads)
+    (record_of payload))
 
 -- a change inside one half leaves the other
-pub apart : (half : Half) (at n i : ℕ) → start_of half ≤ at → at + n ≤ start_of half + half_size → start_of (other_half half) ≤ i → i < start_of (other_half half) + half_size → (i < at) ⊎ (at + n ≤ i)
+pub apart : (half : Half) (at n i : ℕ) → start_of half ≤ at → at + n ≤ start_of half + half_size →
+    start_of (other_half half) ≤ i → i < start_of (other_half half) + half_size →
+    (i < at) ⊎ (at + n ≤ i)
 apart Second at n i low high from to = inl (omega arith)
 apart First at n i low high from to = inr (omega arith)
 
 -- the gate and the generation of a half stay
 abbrev pub SameHeader : List ℕ → List ℕ → Half → Type 0
-SameHeader disk after half = (i : ℕ) → start_of half ≤ i → i < start_of half + 9 → get_or after i 0 ≡ get_or disk i 0
+SameHeader disk after half =
+    (i : ℕ) → start_of half ≤ i → i < start_of half + 9 → get_or after i 0 ≡ get_or disk i 0
 
 -- what says which half is current
 module _ (disk after : List ℕ) (size : length after ≡ length disk) where
-  pub same_gate : (half : Half) → SameHeader disk after half → is_open after half ≡ is_open disk half
-  same_gate half same = ap (λ byte. byte == open_gate) (same (start_of half) (omega arith) (omega arith))
+  pub same_gate : (half : Half) → SameHeader disk after half →
+      is_open after half ≡ is_open disk half
+  same_gate half same =
+      ap (λ byte. byte == open_gate) (same (start_of half) (omega arith) (omega arith))
 
-  pub same_generation : (half : Half) → SameHeader disk after half → generation_at after half ≡ generation_at disk half
+  pub same_generation : (half : Half) → SameHeader disk after half →
+      generation_at after half ≡ generation_at disk half
   unfolding generation_at
-  same_generation half same = ap (from_be_bytes w64) (same_part disk after (start_of half + 1) 8 size (λ i from to. same i (omega arith) (omega arith)))
+  same_generation half same =
+      ap (from_be_bytes w64) (same_part disk after (start_of half + 1) 8 size
+      (λ i from to. same i (omega arith) (omega arith)))
 
-  same_both : SameHeader disk after First → SameHeader disk after Second → current after ≡ current disk
+  same_both : SameHeader disk after First → SameHeader disk after Second →
+      current after ≡ current disk
   unfolding current
-  same_both first second = λ i. current_of (same_gate First first i) (same_gate Second second i) (same_generation First first i) (same_generation Second second i)
+  same_both first second =
+      λ i. current_of (same_gate First first i) (same_gate Second second i)
+      (same_generation First first i) (same_generation Second second i)
 
-  pub same_current : (half : Half) → SameHeader disk after half → SameHeader disk after (other_half half) → current after ≡ current disk
+  pub same_current : (half : Half) → SameHeader disk after half →
+      SameHeader disk after (other_half half) → current after ≡ current disk
   same_current First here there = same_both here there
   same_current Second here there = same_both there here
 
-module _ (disk : List ℕ) (half : Half) (generation gate : ℕ) (value : Value) (whole : IsWhole disk half generation gate value) where
+module _ (disk : List ℕ) (half : Half) (generation gate : ℕ) (value : Value)
+    (whole : IsWhole disk half generation gate value) where
   abbrev base : ℕ
   base = start_of half
 
@@ -53,63 +75,95 @@ module _ (disk : List ℕ) (half : Half) (generation gate : ℕ) (value : Value)
   nine = omega (arith, sizes disk half generation gate value whole)
 
   -- a disk that has the front and a closed gate in the current half is whole in the same way
-  pub still_whole : (after : List ℕ) → length after ≡ length disk → ((i : ℕ) → base ≤ i → i < base + gate → get_or after i 0 ≡ get_or disk i 0)
-      → current after ≡ Ok half → get_or after (base + gate) 0 ≢ open_gate → IsWhole after half generation gate value
+  pub still_whole : (after : List ℕ) → length after ≡ length disk →
+      ((i : ℕ) → base ≤ i → i < base + gate → get_or after i 0 ≡ get_or disk i 0) →
+      current after ≡ Ok half → get_or after (base + gate) 0 ≢ open_gate →
+      IsWhole after half generation gate value
   still_whole after size inside is_current closed =
-      let here : SameHeader disk after half = λ i from to. inside i from (omega (arith, nine, to)) in
+      let here : SameHeader disk after half =
+      λ i from to. inside i from (omega (arith, nine, to)) in
       record {
         size = size ∙ whole.size;
         is_current = is_current;
         numbered = same_generation disk after size half here ∙ whole.numbered;
-        front = same_part disk after (base + 9) (gate - 9) size (λ i from to. inside i (omega arith) (omega (arith, nine, to))) ∙ whole.front;
+        front =
+            same_part disk after (base + 9) (gate - 9) size
+            (λ i from to. inside i (omega arith) (omega (arith, nine, to))) ∙ whole.front;
         closed = closed;
         within = whole.within;
       }
 
   -- the half is current where the other half's header stays, too
-  kept : (after : List ℕ) → length after ≡ length disk → ((i : ℕ) → base ≤ i → i < base + gate → get_or after i 0 ≡ get_or disk i 0)
-      → SameHeader disk after (other_half half) → get_or after (base + gate) 0 ≢ open_gate → IsWhole after half generation gate value
+  kept : (after : List ℕ) → length after ≡ length disk →
+      ((i : ℕ) → base ≤ i → i < base + gate → get_or after i 0 ≡ get_or disk i 0) →
+      SameHeader disk after (other_half half) → get_or after (base + gate) 0 ≢ open_gate →
+      IsWhole after half generation gate value
   kept after size inside outside closed =
-      still_whole after size inside (same_current disk after size half (λ i from to. inside i from (omega (arith, nine, to))) outside ∙ whole.is_current) closed
+      still_whole after size inside (same_current disk after size half
+      (λ i from to. inside i from (omega (arith, nine, to))) outside ∙ whole.is_current) closed
 
   -- any bytes behind the closed gate
-  pub behind_gate : (n : ℕ) (after : List ℕ) → gate + 1 + n ≤ half_size → Torn (base + gate + 1) n disk after → IsWhole after half generation gate value
+  pub behind_gate : (n : ℕ) (after : List ℕ) → gate + 1 + n ≤ half_size →
+      Torn (base + gate + 1) n disk after → IsWhole after half generation gate value
   behind_gate n after fits torn = kept after torn.size (λ i from to. torn.before i (omega arith))
-      (λ i from to. ⊎_elim (λ less. torn.before i less) (λ past. torn.behind i past) (apart half (base + gate + 1) n i (omega arith) (omega arith) from (omega (arith, to))))
+      (λ i from to. ⊎_elim (λ less. torn.before i less) (λ past. torn.behind i past)
+      (apart half (base + gate + 1) n i (omega arith) (omega arith) from (omega (arith, to))))
       (λ opened. whole.closed (sym (torn.before (base + gate) (omega arith)) ∙ opened))
 
   -- a whole record behind the gate, and any byte in the gate
-  module _ (payload body : List ℕ) (spells : body ≡ body_of_record payload) (fits : gate + 6 + length payload ≤ half_size) where
+  module _ (payload body : List ℕ) (spells : body ≡ body_of_record payload)
+      (fits : gate + 6 + length payload ≤ half_size) where
     pub long : length body ≡ 5 + length payload
-    long = ap length spells ∙ omega (arith, length-append (to_be_bytes w32 (length payload) ++ payload) (0 ∷ []), length-append (to_be_bytes w32 (length payload)) payload)
+    long =
+        ap length spells ∙ omega (
+          arith,
+          length-append (to_be_bytes w32 (length payload) ++ payload)
+              (0 ∷ []),
+          length-append (to_be_bytes w32 (length payload)) payload,
+        )
 
     in_disk : base + gate + 1 + length body ≤ length disk
     in_disk = omega (arith, within_disk half (length disk) whole.size, long)
 
-    module _ (after : List ℕ) (torn : Torn (base + gate) 1 (overwritten disk (base + gate + 1) body) after) where
+    module _ (after : List ℕ)
+        (torn : Torn (base + gate) 1 (overwritten disk (base + gate + 1) body) after) where
       size : length after ≡ length disk
       size = torn.size ∙ length-overwritten disk (base + gate + 1) body in_disk
 
       below : (i : ℕ) → i < base + gate → get_or after i 0 ≡ get_or disk i 0
-      below i less = torn.before i less ∙ overwritten-below disk (base + gate + 1) body in_disk i (omega arith)
+      below i less =
+          torn.before i less ∙ overwritten-below disk (base + gate + 1) body in_disk i (omega arith)
 
       in_body : (i : ℕ) → i < length body → get_or after (base + gate + 1 + i) 0 ≡ get_or body i 0
-      in_body i less = torn.behind (base + gate + 1 + i) (omega arith) ∙ overwritten-in disk (base + gate + 1) body in_disk i less
+      in_body i less =
+          torn.behind (base + gate + 1 + i) (omega arith)
+          ∙ overwritten-in disk (base + gate + 1) body in_disk i less
 
       past_body : (i : ℕ) → base + gate + 1 + length body ≤ i → get_or after i 0 ≡ get_or disk i 0
-      past_body i past = torn.behind i (omega arith) ∙ overwritten-behind disk (base + gate + 1) body in_disk i past
+      past_body i past =
+          torn.behind i (omega arith)
+          ∙ overwritten-behind disk (base + gate + 1) body in_disk i past
 
       outside : SameHeader disk after (other_half half)
-      outside i from to = ⊎_elim (λ less. below i less) (λ past. past_body i (omega (arith, past))) (apart half (base + gate) (1 + length body) i (omega arith) (omega (arith, long)) from (omega (arith, to)))
+      outside i from to =
+          ⊎_elim (λ less. below i less) (λ past. past_body i (omega (arith, past)))
+          (apart half (base + gate) (1 + length body) i (omega arith) (omega (arith, long)) from
+          (omega (arith, to)))
 
-      pub still_closed : get_or after (base + gate) 0 ≢ open_gate → IsWhole after half generation gate value
+      pub still_closed : get_or after (base + gate) 0 ≢ open_gate →
+          IsWhole after half generation gate value
       still_closed closed = kept after size (λ i from to. below i to) outside closed
 
-      record_there : get_or after (base + gate) 0 ≡ open_gate → (k : ℕ) → k < length (record_of payload) → get_or after (base + gate + k) 0 ≡ get_or (record_of payload) k 0
+      record_there : get_or after (base + gate) 0 ≡ open_gate → (k : ℕ) →
+          k < length (record_of payload) →
+          get_or after (base + gate + k) 0 ≡ get_or (record_of payload) k 0
       record_there opened zero less = ap (λ j. get_or after j 0) (omega arith) ∙ opened
       record_there opened (suc k) less =
-          let within : k < length (to_be_bytes w32 (length payload) ++ payload) = omega (arith, less) in
-          ap (λ j. get_or after j 0) (omega arith) ∙ in_body k (omega (arith, within, long, length-append (to_be_bytes w32 (length payload)) payload)) ∙ ap (λ (l : List ℕ). get_or l k 0) spells
+          let within : k < length (to_be_bytes w32 (length payload) ++ payload) =
+          omega (arith, less) in
+          ap (λ j. get_or after j 0) (omega arith) ∙ in_body k
+          (omega (arith, within, long, length-append (to_be_bytes w32 (length payload)) payload))
+          ∙ ap (λ (l : List ℕ). get_or l k 0) spells
           ∙ get_or_append_left (to_be_bytes w32 (length payload) ++ payload) (0 ∷ []) 0 k within
 
       length-record : length (record_of payload) ≡ 5 + length payload
@@ -120,22 +174,34 @@ module _ (disk : List ℕ) (half : Half) (generation gate : ℕ) (value : Value)
 
       next_closed : get_or after (base + (gate + (5 + length payload))) 0 ≡ 0
       next_closed =
-          ap (λ j. get_or after j 0) (omega arith) ∙ in_body (4 + length payload) (omega (arith, long)) ∙ ap (λ (l : List ℕ). get_or l (4 + length payload) 0) spells
-          ∙ get_or-append_right (to_be_bytes w32 (length payload) ++ payload) (0 ∷ []) (4 + length payload) (4 + length payload) 0 (length-append (to_be_bytes w32 (length payload)) payload) (omega arith)
+          ap (λ j. get_or after j 0) (omega arith) ∙ in_body (4 + length payload)
+          (omega (arith, long)) ∙ ap (λ (l : List ℕ). get_or l (4 + length payload) 0) spells
+          ∙ get_or-append_right (to_be_bytes w32 (length payload) ++ payload) (0 ∷ [])
+          (4 + length payload) (4 + length payload) 0
+          (length-append (to_be_bytes w32 (length payload)) payload) (omega arith)
           ∙ last (4 + length payload - (4 + length payload)) (omega arith)
 
-      front_now : get_or after (base + gate) 0 ≡ open_gate → take (gate + (5 + length payload) - 9) (drop (base + 9) after) ≡ spelled value.image (value.payloads ++ payload ∷ [])
+      front_now : get_or after (base + gate) 0 ≡ open_gate → take (gate + (5 + length payload) - 9)
+          (drop (base + 9) after) ≡ spelled value.image (value.payloads ++ payload ∷ [])
       front_now opened =
-          let there : take (length (record_of payload)) (drop (base + gate) after) ≡ record_of payload = part_is (record_of payload) after (base + gate) (omega (arith, length-record, in_disk, size, long)) (record_there opened) in
+          let there : take (length (record_of payload)) (drop (base + gate) after)
+          ≡ record_of payload = part_is (record_of payload) after (base + gate)
+          (omega (arith, length-record, in_disk, size, long)) (record_there opened) in
           let at_gate : base + 9 + (gate - 9) ≡ base + gate = omega (arith, nine) in
-          let more : take (5 + length payload) (drop (base + 9 + (gate - 9)) after) ≡ record_of payload =
-          ap (λ j. take (5 + length payload) (drop j after)) at_gate ∙ subst (λ k. take k (drop (base + gate) after) ≡ record_of payload) length-record there in
-          ap (λ k. take k (drop (base + 9) after)) (omega (arith, nine)) ∙ part_add (gate - 9) (5 + length payload) (base + 9) after
-          ∙ ap (λ (l : List ℕ). l ++ take (5 + length payload) (drop (base + 9 + (gate - 9)) after)) (same_part disk after (base + 9) (gate - 9) size (λ i from to. below i (omega (arith, nine, to))) ∙ whole.front)
+          let more : take (5 + length payload) (drop (base + 9 + (gate - 9)) after)
+          ≡ record_of payload =
+          ap (λ j. take (5 + length payload) (drop j after)) at_gate ∙ subst
+          (λ k. take k (drop (base + gate) after) ≡ record_of payload) length-record there in
+          ap (λ k. take k (drop (base + 9) after)) (omega (arith, nine))
+          ∙ part_add (gate - 9) (5 + length payload) (base + 9) after
+          ∙ ap (λ (l : List ℕ). l ++ take (5 + length payload) (drop (base + 9 + (gate - 9)) after))
+          (same_part disk after (base + 9) (gate - 9) size
+          (λ i from to. below i (omega (arith, nine, to))) ∙ whole.front)
           ∙ ap (λ (l : List ℕ). spelled value.image value.payloads ++ l) more
           ∙ sym (spelled-push value.image value.payloads payload)
 
-      pub now_open : get_or after (base + gate) 0 ≡ open_gate → IsWhole after half generation (gate + (5 + length payload)) (with_payload value payload)
+      pub now_open : get_or after (base + gate) 0 ≡ open_gate →
+          IsWhole after half generation (gate + (5 + length payload)) (with_payload value payload)
       now_open opened =
           let here : SameHeader disk after half = λ i from to. below i (omega (arith, nine, to)) in
           record {
@@ -148,18 +214,24 @@ module _ (disk : List ℕ) (half : Half) (generation gate : ℕ) (value : Value)
           }
 
     -- the other half's gate stays
-    pub other_kept : is_open (overwritten (overwritten disk (base + gate + 1) body) (base + gate) (open_gate ∷ [])) (other_half half) ≡ is_open disk (other_half half)
+    pub other_kept : is_open (overwritten (overwritten disk (base + gate + 1) body) (base + gate)
+        (open_gate ∷ [])) (other_half half) ≡ is_open disk (other_half half)
     other_kept =
         let mid = overwritten disk (base + gate + 1) body in
         let after = overwritten mid (base + gate) (open_gate ∷ []) in
-        let torn : Torn (base + gate) 1 mid after = torn_by mid (base + gate) (open_gate ∷ []) (omega (arith, length-overwritten disk (base + gate + 1) body in_disk, in_disk)) in
+        let torn : Torn (base + gate) 1 mid after = torn_by mid (base + gate) (open_gate ∷ [])
+        (omega (arith, length-overwritten disk (base + gate + 1) body in_disk, in_disk)) in
         same_gate disk after (size after torn) (other_half half) (outside after torn)
 
     -- the whole record behind the open gate
-    pub appended : IsWhole (overwritten (overwritten disk (base + gate + 1) body) (base + gate) (open_gate ∷ [])) half generation (gate + (5 + length payload)) (with_payload value payload)
+    pub appended : IsWhole (overwritten (overwritten disk (base + gate + 1) body) (base + gate)
+        (open_gate ∷ [])) half generation (gate + (5 + length payload)) (with_payload value payload)
     appended =
-        let in_mid : base + gate + 1 ≤ length (overwritten disk (base + gate + 1) body) = omega (arith, length-overwritten disk (base + gate + 1) body in_disk, in_disk) in
+        let in_mid : base + gate + 1 ≤ length (overwritten disk (base + gate + 1) body) =
+        omega (arith, length-overwritten disk (base + gate + 1) body in_disk, in_disk) in
         let mid = overwritten disk (base + gate + 1) body in
         let same : base + gate + 0 ≡ base + gate = omega arith in
-        now_open (overwritten mid (base + gate) (open_gate ∷ [])) (torn_by mid (base + gate) (open_gate ∷ []) in_mid)
-        (ap (λ k. get_or (overwritten mid (base + gate) (open_gate ∷ [])) k 0) (sym same) ∙ overwritten-in mid (base + gate) (open_gate ∷ []) in_mid 0 (omega arith))
+        now_open (overwritten mid (base + gate) (open_gate ∷ []))
+        (torn_by mid (base + gate) (open_gate ∷ []) in_mid)
+        (ap (λ k. get_or (overwritten mid (base + gate) (open_gate ∷ [])) k 0) (sym same)
+        ∙ overwritten-in mid (base + gate) (open_gate ∷ []) in_mid 0 (omega arith))

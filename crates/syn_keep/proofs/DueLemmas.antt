@@ -1,10 +1,14 @@
 -- A record that is due is what its machine does.
-use Rattle.std.proofs.Common.{◌≡◌, ◌≢◌, ◌⊎◌, ◌≤◌, ◌<◌, ◌+◌, ◌^◌, ℕ, Bool, true, false, nat_le, ◌||◌, if◌then◌else◌, List, [], ◌∷◌, ◌++◌, Some, None, is_some, refl, sym, ap, ap₂, ◌∙◌, subst, inl, inr, arith}
+use Rattle.std.proofs.Common.{◌≡◌, ◌≢◌, ◌⊎◌, ◌≤◌, ◌<◌, ◌+◌, ◌^◌, ℕ, Bool, true, false, nat_le, ◌||◌}
+use Rattle.std.proofs.Common.{if◌then◌else◌, List, [], ◌∷◌, ◌++◌, Some, None, is_some, refl, sym}
+use Rattle.std.proofs.Common.{ap, ap₂, ◌∙◌, subst, inl, inr, arith}
 use Rattle.std.proofs.lemmas.Bool.{false≢true, true≢false}
 use Rattle.std.proofs.lemmas.Bool.Decides.{nat_tests}
 use Rattle.std.proofs.lemmas.Option.{none-some}
 use Rattle.std.specs.FinMap.{get, get-empty}
-use Rattle.syn_archive.specs.Archive.{Stands, IsHalted, KeepsBeforeOrAfter, HasRecord, KeepsReadings, pair_of, shown, disk_of, left_shown, marks_shown, generation_shown, journal_of}
+use Rattle.syn_archive.specs.Archive.{Stands, IsHalted, KeepsBeforeOrAfter, HasRecord}
+use Rattle.syn_archive.specs.Archive.{KeepsReadings, pair_of, shown, disk_of, left_shown}
+use Rattle.syn_archive.specs.Archive.{marks_shown, generation_shown, journal_of}
 use Rattle.syn_archive.specs.Disks.{DiskKeeps, kept_size}
 use Rattle.syn_archive.specs.Refusals.{MakesIfDevice}
 use Rattle.syn_archive.specs.declared.archive.Archive.{Archive}
@@ -15,10 +19,12 @@ use Rattle.syn_disk.specs.Calls.{Makes}
 use Rattle.syn_disk.specs.Stops.{LeavesOnly}
 use Rattle.syn_disk.specs.declared.disk.Disk.{Ghosts}
 use Rattle.syn_headline.specs.Coordinator.{archive_layout, writes}
-use Rattle.syn_headline.specs.Machine.{Up, Halted, Down, Status, Compacts, compacted, not_compacted, has_room, idle}
+use Rattle.syn_headline.specs.Machine.{Up, Halted, Down, Status, Compacts, compacted, not_compacted}
+use Rattle.syn_headline.specs.Machine.{has_room, idle}
 use Rattle.syn_headline.specs.Session.{is_recorded}
 use Rattle.syn_model.specs.Archive as model
-use Rattle.syn_model.specs.Archive.{Kept, CanKeep, IsLawfulKept, RecordedDir, after_kept, kept_refusal, record_causes}
+use Rattle.syn_model.specs.Archive.{Kept, CanKeep, IsLawfulKept, RecordedDir, after_kept}
+use Rattle.syn_model.specs.Archive.{kept_refusal, record_causes}
 use Rattle.syn_model.specs.Limits.{greatest}
 use Rattle.syn_model.specs.Mark.{IsMarks}
 use Rattle.syn_model.specs.Path.{Bytes, Path, path_cmp, is_root}
@@ -29,8 +35,11 @@ use Rattle.syn_refusal.specs.declared.refusal.Refusal.TheVariants as refusal
 use Rattle.syn_keep.specs.Machines.{Journal, Runs, IsMachine}
 use Rattle.syn_keep.specs.declared.due.Due.{Due}
 use Rattle.syn_keep.specs.declared.due.Due.TheVariants.{Ends}
-use Rattle.syn_keep.specs.Due.{IsReady, MakesRoom, has_some, makes_some, Settles, recorded, no_checkpoint, checkpoint_breaks, record_breaks, no_memory, no_memory_behind}
-use Rattle.syn_keep.specs.inner.Recording.{Writes, written, Checkpoints, at_greatest, MakesRoomNow, has_made, made_none, ended_by}
+use Rattle.syn_keep.specs.Due.{IsReady, MakesRoom, has_some, makes_some, Settles, recorded}
+use Rattle.syn_keep.specs.Due.{no_checkpoint, checkpoint_breaks, record_breaks, no_memory}
+use Rattle.syn_keep.specs.Due.{no_memory_behind}
+use Rattle.syn_keep.specs.inner.Recording.{Writes, written, Checkpoints, at_greatest, MakesRoomNow}
+use Rattle.syn_keep.specs.inner.Recording.{has_made, made_none, ended_by}
 use Rattle.syn_keep.specs.inner.Recording as step
 use Rattle.syn_keep.specs.Tries.{IsShown}
 use Rattle.syn_keep.specs.Steps.{KeepsSo, moves_on, moves_down}
@@ -51,7 +60,11 @@ nothing_part = record {
 }
 
 pub nothing_marks : IsMarks absent
-nothing_marks = record { part = nothing_part; digests = λ path contents found. absurd (none-some _ (sym (nothing_at path) ∙ found)) }
+nothing_marks =
+    record {
+      part = nothing_part;
+      digests = λ path contents found. absurd (none-some _ (sym (nothing_at path) ∙ found));
+    }
 
 -- ---- whether it is for the device
 
@@ -63,7 +76,8 @@ not_device : (e : ArchiveError) → is_device e ≡ false → e ≢ error.Device
 unfolding is_device
 not_device e other device = false≢true (sym other ∙ ap is_device device)
 
-pub device_or_other : (e : ArchiveError) → (e ≡ error.Device) ⊎ ((e ≢ error.Device) × (ended_by e ≡ Ends refusal.Memory))
+pub device_or_other : (e : ArchiveError) →
+    (e ≡ error.Device) ⊎ ((e ≢ error.Device) × (ended_by e ≡ Ends refusal.Memory))
 unfolding is_device
 device_or_other error.Device = inl refl
 device_or_other error.NoParent = inr (not_device error.NoParent refl, refl)
@@ -80,7 +94,8 @@ pub full_no_device : error.Full ≢ error.Device
 unfolding is_device
 full_no_device = not_device error.Full refl
 
-pub full_not_halted : (e : ArchiveError) → e ≡ error.Full → failed (Unit {0}) e ≡ failed (Unit {0}) error.Halted → ⊥
+pub full_not_halted : (e : ArchiveError) → e ≡ error.Full →
+    failed (Unit {0}) e ≡ failed (Unit {0}) error.Halted → ⊥
 full_not_halted e full halted = cc
 
 pub is_greatest : (n : ℕ) → n + 1 ≡ 2 ^ 64 → nat_le greatest n ≡ true
@@ -97,120 +112,199 @@ up_or_down up down = cc
 
 -- ---- the machine of an archive
 
-module _ {D : Type 0} {disk : Ghosts D} (archive : Archive D disk) (pair : ℕ) (machine : Journal) (is : IsMachine archive pair machine) where
+module _ {D : Type 0} {disk : Ghosts D} (archive : Archive D disk) (pair : ℕ) (machine : Journal)
+    (is : IsMachine archive pair machine) where
   pub when_runs : (IsHalted archive → ⊥) → Runs archive machine
-  when_runs up = elim is.state as (λ _. Runs archive machine) [ inl was ↦ was | inr fails ↦ absurd (up fails.is_halted) ]
+  when_runs up =
+      elim is.state as (λ _. Runs archive machine)
+      [ inl was ↦ was | inr fails ↦ absurd (up fails.is_halted) ]
 
   pub when_up : machine.status ≡ Up → Runs archive machine
-  when_up up = elim is.state as (λ _. Runs archive machine) [ inl was ↦ was | inr fails ↦ absurd (up_or_halted up fails.halted) ]
+  when_up up =
+      elim is.state as (λ _. Runs archive machine)
+      [ inl was ↦ was | inr fails ↦ absurd (up_or_halted up fails.halted) ]
 
   pub when_halted : IsHalted archive → machine.status ≡ Halted
-  when_halted halted = elim is.state as (λ _. machine.status ≡ Halted) [ inl was ↦ absurd (false≢true (sym was.stands.runs.running ∙ halted)) | inr fails ↦ fails.halted ]
+  when_halted halted =
+      elim is.state as (λ _. machine.status ≡ Halted) [
+        | inl was ↦ absurd
+            (false≢true (sym was.stands.runs.running ∙ halted))
+        | inr fails ↦ fails.halted
+      ]
 
   pub not_halted : Runs archive machine → IsHalted archive → ⊥
   not_halted was halted = false≢true (sym was.stands.runs.running ∙ halted)
 
-  pub is_ready : (kept : Kept) → Runs archive machine → IsLawfulKept kept → kept_refusal (shown archive) kept ≡ None → IsReady machine kept
-  is_ready kept was lawful allowed = record { up = was.up; can = record { lawful = lawful; not_refused = ap (λ a. kept_refusal a kept) (sym is.remembers) ∙ allowed } }
+  pub is_ready : (kept : Kept) → Runs archive machine → IsLawfulKept kept →
+      kept_refusal (shown archive) kept ≡ None → IsReady machine kept
+  is_ready kept was lawful allowed =
+      record {
+        up = was.up;
+        can = record {
+          lawful = lawful;
+          not_refused = ap (λ a. kept_refusal a kept) (sym is.remembers) ∙ allowed;
+        };
+      }
 
   -- what the archive says of its room is what its machine says
-  pub room_is : (kept : Kept) → Runs archive machine → (is_recorded (shown archive) kept || nat_le (kept_size kept) (left_shown archive)) ≡ has_room (archive_layout pair) machine kept
-  room_is kept was = ap₂ (λ v r. is_recorded v kept || nat_le (kept_size kept) r) is.remembers was.room
+  pub room_is : (kept : Kept) → Runs archive machine →
+      (is_recorded (shown archive) kept || nat_le (kept_size kept) (left_shown archive))
+      ≡ has_room (archive_layout pair) machine kept
+  room_is kept was =
+      ap₂ (λ v r. is_recorded v kept || nat_le (kept_size kept) r) is.remembers was.room
 
 -- ---- a write
 
-module _ {D : Type 0} {disk : Ghosts D} (old new : Archive D disk) (pair : ℕ) (machine : Journal) (is : IsMachine old pair machine) where
+module _ {D : Type 0} {disk : Ghosts D} (old new : Archive D disk) (pair : ℕ) (machine : Journal)
+    (is : IsMachine old pair machine) where
   -- after a refusal but for the device it is the machine that it was
-  pub stays : (e : ArchiveError) → e ≢ error.Device → (e ≡ error.Device) ⊎ (journal_of new ≡ journal_of old) → KeepsReadings old new → IsMachine new pair machine
-  stays e other unchanged readings = elim unchanged as (λ _. IsMachine new pair machine) [ inl device ↦ absurd (other device) | inr same ↦ same_machine old new same readings pair machine is ]
+  pub stays : (e : ArchiveError) → e ≢ error.Device →
+      (e ≡ error.Device) ⊎ (journal_of new ≡ journal_of old) → KeepsReadings old new →
+      IsMachine new pair machine
+  stays e other unchanged readings =
+      elim unchanged as (λ _. IsMachine new pair machine) [
+        | inl device ↦ absurd (other device)
+        | inr same ↦ same_machine old new same readings pair machine is
+      ]
 
   module _ (kept : Kept) (ready : IsReady machine kept) where
-    pub write_fails : (archive_layout pair).is_idle machine.value kept ≡ false → (e : ArchiveError) → (failed (Unit {0}) e ≡ failed (Unit {0}) error.Device → IsHalted new) → KeepsReadings old new →
-        (e ≡ error.Device) ⊎ (journal_of new ≡ journal_of old) →
-        ((d : D) (t : ℕ) (c : List ℕ) → t ≤ disk.moment d → disk.may_leave d c → disk.left_since d t c) →
-        ((before : model.Archive) → Stands old before → LeavesOnly disk.moment disk.left_since (disk_of old) (disk_of new) (KeepsBeforeOrAfter old before kept)) →
-        BrokenCallsMeet → MakesIfDevice e 4 (disk.arms (disk_of old)) (disk.arms (disk_of new)) → Writes new pair machine kept (ended_by e)
+    pub write_fails : (archive_layout pair).is_idle machine.value kept ≡ false →
+        (e : ArchiveError) → (failed (Unit {0}) e ≡ failed (Unit {0}) error.Device → IsHalted new) →
+        KeepsReadings old new → (e ≡ error.Device) ⊎ (journal_of new ≡ journal_of old) → ((d : D)
+        (t : ℕ) (c : List ℕ) → t ≤ disk.moment d → disk.may_leave d c → disk.left_since d t c) →
+        ((before : model.Archive) → Stands old before → LeavesOnly disk.moment disk.left_since
+        (disk_of old) (disk_of new) (KeepsBeforeOrAfter old before kept)) → BrokenCallsMeet →
+        MakesIfDevice e 4 (disk.arms (disk_of old)) (disk.arms (disk_of new)) →
+        Writes new pair machine kept (ended_by e)
     write_fails written_now e halts readings unchanged counts moments broken calls =
         let was = when_up old pair machine is ready.up in
         elim (device_or_other e) as (λ _. Writes new pair machine kept (ended_by e)) [
           | inl device ↦ subst (λ x. Writes new pair machine kept (ended_by x)) (sym device)
-              (step.breaks (kept_failed old new pair machine kept is was written_now (halts (ap (failed (Unit {0})) device)) readings ready.can counts (moments machine.value was.stands) broken
-              (subst (λ x. MakesIfDevice x 4 (disk.arms (disk_of old)) (disk.arms (disk_of new))) device calls)))
-          | inr other ↦ subst (Writes new pair machine kept) (sym other.1) (step.no_memory (stays e other.0 unchanged readings))
+              (step.breaks (kept_failed old new pair machine kept is was written_now
+              (halts (ap (failed (Unit {0})) device)) readings ready.can counts
+              (moments machine.value was.stands) broken
+              (subst (λ x. MakesIfDevice x 4 (disk.arms (disk_of old)) (disk.arms (disk_of new)))
+              device calls)))
+          | inr other ↦ subst (Writes new pair machine kept) (sym other.1)
+              (step.no_memory (stays e other.0 unchanged readings))
         ]
 
-    pub write_made : (archive_layout pair).is_idle machine.value kept ≡ false → ((before : model.Archive) → Stands old before → Stands new (after_kept before kept)) → HasRecord old new kept →
-        ((after : model.Archive) → Stands new after → (bytes : Bytes) → disk.may_leave (disk_of new) bytes → DiskKeeps (pair_of new) after (left_shown new) (generation_shown new) bytes) →
-        MadeCallsMeet → StopsBehind → Makes 4 (disk.arms (disk_of old)) (disk.arms (disk_of new)) → KeepsSo new pair machine kept (kept ∷ []) Up
+    pub write_made : (archive_layout pair).is_idle machine.value kept ≡ false →
+        ((before : model.Archive) → Stands old before → Stands new (after_kept before kept)) →
+        HasRecord old new kept → ((after : model.Archive) → Stands new after → (bytes : Bytes) →
+        disk.may_leave (disk_of new) bytes →
+        DiskKeeps (pair_of new) after (left_shown new) (generation_shown new) bytes) →
+        MadeCallsMeet → StopsBehind → Makes 4 (disk.arms (disk_of old)) (disk.arms (disk_of new)) →
+        KeepsSo new pair machine kept (kept ∷ []) Up
     write_made written_now acknowledged has on_disk made behind makes =
         let was = when_up old pair machine is ready.up in
         let stands = acknowledged machine.value was.stands in
-        kept_ok old new pair machine kept is was written_now stands has (on_disk _ stands) made behind makes
+        kept_ok old new pair machine kept is was written_now stands has
+        (on_disk _ stands) made behind makes
 
   -- a directory that is recorded already is not written
   module _ (path : Path) (ready : IsReady machine (RecordedDir path)) where
-    pub idle_is : is_directory (marks_shown old) path ≡ (archive_layout pair).is_idle machine.value (RecordedDir path)
+    pub idle_is : is_directory (marks_shown old) path
+        ≡ (archive_layout pair).is_idle machine.value (RecordedDir path)
     idle_is = ap (λ a. is_directory a.marks path) is.remembers
 
     -- its journal shows what it showed
-    shows_alone : new ≡ old → (now : Journal) → now.room ≡ machine.room → now.generation ≡ machine.generation → IsShown new pair now
+    shows_alone : new ≡ old → (now : Journal) → now.room ≡ machine.room →
+        now.generation ≡ machine.generation → IsShown new pair now
     shows_alone same now room generation =
         let was = when_up old pair machine is ready.up in
-        let readings : (left_shown new ≡ now.room) × (generation_shown new ≡ now.generation) = (ap left_shown same ∙ (was.room ∙ sym room), ap generation_shown same ∙ (was.generation ∙ sym generation)) in
+        let readings : (left_shown new ≡ now.room) × (generation_shown new ≡ now.generation) = (
+          ap left_shown same ∙ (was.room ∙ sym room),
+          ap generation_shown same
+              ∙ (was.generation ∙ sym generation),
+        ) in
         record { as_left = inl readings; exactly = λ what writing. readings }
 
-    pub left_alone : is_directory (marks_shown old) path ≡ true → new ≡ old → KeepsSo new pair machine (RecordedDir path) (RecordedDir path ∷ []) Up
+    pub left_alone : is_directory (marks_shown old) path ≡ true → new ≡ old →
+        KeepsSo new pair machine (RecordedDir path) (RecordedDir path ∷ []) Up
     left_alone there same =
         let here = sym idle_is ∙ there in
-        let value : after_kept machine.value (RecordedDir path) ≡ machine.value = ap (λ b. if b then machine.value else record machine.value { marks = replace machine.value.marks path empty_directory }) here in
-        moves_on (record machine { value = after_kept machine.value (RecordedDir path) }) (writes _ _ (idle here), shows_alone same _ refl refl) ready.up
-        (subst (λ v. IsMachine new pair (record machine { value = v })) (sym value) (subst (λ a. IsMachine a pair machine) (sym same) is))
+        let value : after_kept machine.value (RecordedDir path) ≡ machine.value =
+        ap (λ b. if b then machine.value else record machine.value
+        { marks = replace machine.value.marks path empty_directory }) here in
+        moves_on (record machine { value = after_kept machine.value (RecordedDir path) })
+        (writes _ _ (idle here), shows_alone same _ refl refl) ready.up
+        (subst (λ v. IsMachine new pair (record machine { value = v })) (sym value)
+        (subst (λ a. IsMachine a pair machine) (sym same) is))
 
     -- it fails only where none is recorded
-    pub not_there : IsHalted old ⊎ ((is_root path ≡ true) ⊎ (is_directory (marks_shown old) path ≡ false)) → is_directory (marks_shown old) path ≡ false
-    not_there (inl halted) = absurd (not_halted old pair machine is (when_up old pair machine is ready.up) halted)
+    pub not_there : IsHalted old
+        ⊎ ((is_root path ≡ true) ⊎ (is_directory (marks_shown old) path ≡ false)) →
+        is_directory (marks_shown old) path ≡ false
+    not_there (inl halted) =
+        absurd (not_halted old pair machine is (when_up old pair machine is ready.up) halted)
     not_there (inr (inl root)) =
-        absurd (none-some _ (sym ready.can.not_refused ∙ ap (λ b. if b then Some Root else first_cause (if is_directory machine.value.marks path then [] else record_causes machine.value.marks path empty_directory)) root))
+        absurd (none-some _ (sym ready.can.not_refused
+        ∙ ap (λ b. if b then Some Root else first_cause (if is_directory machine.value.marks path
+        then [] else record_causes machine.value.marks path empty_directory)) root))
     not_there (inr (inr none)) = none
 
 -- ---- a checkpoint
 
-module _ {D : Type 0} {disk : Ghosts D} (old new : Archive D disk) (pair : ℕ) (machine : Journal) (is : IsMachine old pair machine) (fits : generation_shown old < 2 ^ 64) where
-  pub not_greatest : Runs old machine → (generation_shown old + 1 ≡ 2 ^ 64 → ⊥) → nat_le greatest machine.generation ≡ false
-  not_greatest was other = ap (nat_le greatest) (sym was.generation) ∙ is_less (generation_shown old) fits other
+module _ {D : Type 0} {disk : Ghosts D} (old new : Archive D disk) (pair : ℕ) (machine : Journal)
+    (is : IsMachine old pair machine) (fits : generation_shown old < 2 ^ 64) where
+  pub not_greatest : Runs old machine → (generation_shown old + 1 ≡ 2 ^ 64 → ⊥) →
+      nat_le greatest machine.generation ≡ false
+  not_greatest was other =
+      ap (nat_le greatest) (sym was.generation) ∙ is_less (generation_shown old) fits other
 
 -- ---- all of it
 
 -- a checkpoint leaves the value
-same_value : (pair : ℕ) (machine between : Journal) → Compacts (archive_layout pair) machine between → between.value ≡ machine.value
+same_value : (pair : ℕ) (machine between : Journal) →
+    Compacts (archive_layout pair) machine between → between.value ≡ machine.value
 same_value pair machine between (compacted arms meets) = refl
 same_value pair machine between (not_compacted status arms failed left meets) = refl
 
-module _ {D : Type 0} {disk : Ghosts D} (new : Archive D disk) (pair : ℕ) (machine : Journal) (kept : Kept) (ready : IsReady machine kept) where
-  pub settled : (made : Bool) (between : Journal) → MakesRoom pair machine kept made between → has_room (archive_layout pair) between kept ≡ true → (due : Due) → Writes new pair between kept due → Settles new pair machine kept due
+module _ {D : Type 0} {disk : Ghosts D} (new : Archive D disk) (pair : ℕ) (machine : Journal)
+    (kept : Kept) (ready : IsReady machine kept) where
+  pub settled : (made : Bool) (between : Journal) → MakesRoom pair machine kept made between →
+      has_room (archive_layout pair) between kept ≡ true → (due : Due) →
+      Writes new pair between kept due → Settles new pair machine kept due
   settled made between room has due (written keeps) = recorded made between ready room has keeps
-  settled made between room has due (step.breaks keeps) = record_breaks made between ready room has keeps
+  settled made between room has due (step.breaks keeps) =
+      record_breaks made between ready room has keeps
   settled made between (has_some enough) has due (step.no_memory is) = no_memory is
-  settled made between (makes_some new none less compacts up) has due (step.no_memory is) = no_memory_behind between ready (makes_some new none less compacts up) is
+  settled made between (makes_some new none less compacts up) has due (step.no_memory is) =
+      no_memory_behind between ready (makes_some new none less compacts up) is
 
-  pub ready_still : (between : Journal) → Compacts (archive_layout pair) machine between → between.status ≡ Up → IsReady between kept
-  ready_still between compacts up = record { up = up; can = subst (λ v. CanKeep v kept) (sym (same_value pair machine between compacts)) ready.can }
+  pub ready_still : (between : Journal) → Compacts (archive_layout pair) machine between →
+      between.status ≡ Up → IsReady between kept
+  ready_still between compacts up =
+      record {
+        up = up;
+        can =
+            subst (λ v. CanKeep v kept) (sym (same_value pair machine between compacts)) ready.can;
+      }
 
   module _ (no_room : has_room (archive_layout pair) machine kept ≡ false) where
-    pub without_room : (due : Due) → MakesRoomNow new pair machine (Some due) → Settles new pair machine kept due
+    pub without_room : (due : Due) → MakesRoomNow new pair machine (Some due) →
+        Settles new pair machine kept due
     without_room due (made_none due' checkpoint) = by due' checkpoint
       where
-        by : (due : Due) → Checkpoints new pair machine (Some due) → Settles new pair machine kept due
+        by : (due : Due) → Checkpoints new pair machine (Some due) →
+            Settles new pair machine kept due
         by due (at_greatest last is) = no_checkpoint ready no_room last is
         by due (step.breaks less moves) = checkpoint_breaks ready no_room less moves
         by due (step.no_memory is) = no_memory is
 
 -- behind a checkpoint the machine goes on, or was stopped
 module _ {D : Type 0} {disk : Ghosts D} (new : Archive D disk) (pair : ℕ) (machine : Journal) where
-  pub stopped_behind : is_stopped (disk.arms (disk_of new)) ≡ true → Checkpoints new pair machine None → Checkpoints new pair machine (Some (Ends refusal.Device))
-  stopped_behind stopped (step.made less (moves_on between compacts up is)) = absurd (false≢true (sym is.goes ∙ stopped))
-  stopped_behind stopped (step.made less (moves_down between compacts cut down leaves)) = step.breaks less (moves_down between compacts cut down leaves)
+  pub stopped_behind : is_stopped (disk.arms (disk_of new)) ≡ true →
+      Checkpoints new pair machine None → Checkpoints new pair machine (Some (Ends refusal.Device))
+  stopped_behind stopped (step.made less (moves_on between compacts up is)) =
+      absurd (false≢true (sym is.goes ∙ stopped))
+  stopped_behind stopped (step.made less (moves_down between compacts cut down leaves)) =
+      step.breaks less (moves_down between compacts cut down leaves)
 
-  pub goes_on_behind : is_stopped (disk.arms (disk_of new)) ≡ false → Checkpoints new pair machine None → MakesRoomNow new pair machine None
-  goes_on_behind goes (step.made less (moves_on between (compacts, _) up is)) = has_made between less compacts up is
-  goes_on_behind goes (step.made less (moves_down between compacts cut down leaves)) = absurd (false≢true (sym goes ∙ cut))
+  pub goes_on_behind : is_stopped (disk.arms (disk_of new)) ≡ false →
+      Checkpoints new pair machine None → MakesRoomNow new pair machine None
+  goes_on_behind goes (step.made less (moves_on between (compacts, _) up is)) =
+      has_made between less compacts up is
+  goes_on_behind goes (step.made less (moves_down between compacts cut down leaves)) =
+      absurd (false≢true (sym goes ∙ cut))

@@ -1,25 +1,28 @@
--- Each step of a pass on the lock keeps the rule.
-use Rattle.std.proofs.Common.{◌≡◌, ◌≢◌, ℕ, ◌+◌, ◌*◌, ◌/◌, ◌%◌, ◌<◌, ◌≤◌, ◌⊎◌, true, false, List, [], ◌∷◌, ◌++◌, length, get_or, set, Option, Some, refl, ap, sym, ◌∙◌, subst, ⊎_elim, arith, length-set, get_or-set_other, get_or-set_same}
+-- A look, a watch and a taking of the lock keep its rule.
+use Rattle.std.proofs.Common.{◌≡◌, ◌≢◌, ℕ, ◌+◌, ◌/◌, ◌%◌, ◌<◌, ◌≤◌, ◌⊎◌, true, false, List, ◌∷◌}
+use Rattle.std.proofs.Common.{◌++◌, length, get_or, set, Option, Some, refl, ap, sym, ◌∙◌, subst}
+use Rattle.std.proofs.Common.{⊎_elim, arith, length-set, get_or-set_other, get_or-set_same, []}
 use Rattle.std.specs.Global.{Box}
 use mathlib.Core.Option.{some, none}
 use mathlib.Core.List.{IsPrefix}
 use mathlib.Core.Logic.{dite}
 use native.Mathlib.Decide.{ℕ_discrete}
 use lib.ListN.{get_elem?}
-use lib.Seq.{set-get_or, set-set}
+use lib.Seq.{set-get_or}
 use Rattle.std.specs.Option.{unwrap_or}
 use Rattle.std.specs.Int.Bits.{bit_or}
-use Rattle.atomic_table.specs.Table.{State, step, keeps, takes, gives, stepped, Allows}
-use Rattle.atomic_table.proofs.Lists.{set_here}
+use Rattle.atomic_table.specs.Table.{State, step, keeps, takes, stepped, Allows}
 use Rattle.syn_lock.specs.declared.view.Hold.{Hold}
 use Rattle.syn_lock.specs.declared.view.Known.{Known}
 use Rattle.syn_lock.specs.History.{hold, end_of, IsHistory, holds_by}
-use Rattle.syn_lock.specs.Views.{seeing, entered, published, outside, own_hold, Sees}
-use Rattle.syn_lock.specs.inner.Rule.{Sat, known, caught_up, turned_away, takes_lock, publishes, gives_lock, leaves, looks, looks_far, far, Tells, confirms, Fits, Holds, Kept, Turned, Counted, Lawful}
+use Rattle.syn_lock.specs.Views.{seeing, entered, Sees}
+use Rattle.syn_lock.specs.inner.Rule.{Sat, caught_up, turned_away, takes_lock, looks, looks_far}
+use Rattle.syn_lock.specs.inner.Rule.{far, Tells, confirms, Fits, Holds, Kept, Turned, Counted}
+use Rattle.syn_lock.specs.inner.Rule.{Lawful}
 use Rattle.syn_lock.specs.Prefixes.{prefix_self}
-use Rattle.syn_lock.proofs.Histories.{at_below, nothing_told, prefix_more, end_of-append, history-append, own_more, other_more, prefix_grows}
+use Rattle.syn_lock.proofs.Histories.{nothing_told, prefix_more, prefix_grows}
 use Rattle.syn_lock.proofs.Bits.{with_bit, bit_there}
-use Rattle.syn_lock.proofs.Seats.{others, still, unused_set, number_used}
+use Rattle.syn_lock.proofs.Seats.{others, still, unused_set}
 use Rattle.syn_lock.proofs.Turns.{turned_same, turned_on, counted_same}
 
 module _ {S : Type 0} where
@@ -28,7 +31,8 @@ module _ {S : Type 0} where
   carried d [] = d
   carried d (x ∷ xs) = unwrap_or x.1 d
 
-  same_state : (a b : S) → ◌≡◌ {A = List (ℕ × Option S)} ((0, Some a) ∷ []) ((0, Some b) ∷ []) → a ≡ b
+  pub same_state : (a b : S) → ◌≡◌ {A = List (ℕ × Option S)} ((0, Some a) ∷ []) ((0, Some b) ∷ []) →
+      a ≡ b
   same_state a b e = ap (λ l. carried a l) e
 
   pub same_origin : (a b : S) → ◌≡◌ {A = Option S} (Some a) (Some b) → a ≡ b
@@ -48,79 +52,137 @@ module _ {S : Type 0} (position : S → ℕ) (grows : S → S → Type 0) (origi
   lock s = get_or s.words 1 0 % 2
 
   -- the pass sees all there is
-  sees_all : (s : St) (k : History s) (id : ℕ) (v : Known S) → get_elem? s.views id ≡ some v → (o : S) → v.view.origin ≡ Some o → Sees grows o v.view k.log
-  sees_all s k id v at o is = let f = k.fits id v at in (f.prefix, subst (λ x. IsHistory grows x k.log) (sym (f.origin_is o is)) k.legal, f.own_all)
+  sees_all : (s : St) (k : History s) (id : ℕ) (v : Known S) →
+      get_elem? s.views id ≡ some v → (o : S) → v.view.origin ≡ Some o → Sees grows o v.view k.log
+  sees_all s k id v at o is =
+      let f = k.fits id v at in
+      (f.prefix, subst (λ x. IsHistory grows x k.log) (sym (f.origin_is o is)) k.legal, f.own_all)
 
   -- a pass that has seen all still fits
-  fits_all : (log : List (Hold S)) (id : ℕ) (v w : Known S) → Fits origin log id v → w.view.number ≡ v.view.number → w.view.origin ≡ v.view.origin → w.view.own ≡ v.view.own → w.view.seen ≡ log → IsPrefix w.told log → Fits origin log id w
-  fits_all log id v w f number from own seen told = let mine : holds_by w.view.number log ≡ w.view.own = ap (λ p. holds_by p log) number ∙ (f.own_all ∙ sym own) in record {
-    origin_is = λ o e. f.origin_is o (sym from ∙ e);
-    prefix = subst (λ x. IsPrefix x log) (sym seen) (prefix_self log);
-    told = told;
-    own_all = mine;
-    own_seen = ap (holds_by w.view.number) seen ∙ mine;
-    numbered = subst (λ x. (x ≡ 0) ⊎ (x ≡ id + 1)) (sym number) f.numbered;
-  }
+  fits_all : (log : List (Hold S)) (id : ℕ) (v w : Known S) → Fits origin log id v →
+      w.view.number ≡ v.view.number → w.view.origin ≡ v.view.origin → w.view.own ≡ v.view.own →
+      w.view.seen ≡ log → IsPrefix w.told log → Fits origin log id w
+  fits_all log id v w f number from own seen told =
+      let mine : holds_by w.view.number log ≡ w.view.own = ap (λ p. holds_by p log) number
+      ∙ (f.own_all ∙ sym own) in
+      record {
+        origin_is = λ o e. f.origin_is o (sym from ∙ e);
+        prefix = subst (λ x. IsPrefix x log) (sym seen) (prefix_self log);
+        told = told;
+        own_all = mine;
+        own_seen = ap (holds_by w.view.number) seen ∙ mine;
+        numbered = subst (λ x. (x ≡ 0) ⊎ (x ≡ id + 1)) (sym number) f.numbered;
+      }
 
   -- what a pass has seen is the same, and so is what it was told
-  pub fits_same : (log : List (Hold S)) (id : ℕ) (v w : Known S) → Fits origin log id v → w.view.number ≡ v.view.number → w.view.origin ≡ v.view.origin → w.view.own ≡ v.view.own → w.view.seen ≡ v.view.seen → w.told ≡ v.told → Fits origin log id w
+  pub fits_same : (log : List (Hold S)) (id : ℕ) (v w : Known S) → Fits origin log id v →
+      w.view.number ≡ v.view.number → w.view.origin ≡ v.view.origin → w.view.own ≡ v.view.own →
+      w.view.seen ≡ v.view.seen → w.told ≡ v.told → Fits origin log id w
   fits_same log id v w f number from own seen told = record {
     origin_is = λ o e. f.origin_is o (sym from ∙ e);
     prefix = subst (λ x. IsPrefix x log) (sym seen) f.prefix;
     told = subst (λ x. IsPrefix x log) (sym told) f.told;
     own_all = ap (λ p. holds_by p log) number ∙ (f.own_all ∙ sym own);
-    own_seen = ap (λ p. holds_by p w.view.seen) number ∙ (ap (holds_by v.view.number) seen ∙ (f.own_seen ∙ sym own));
+    own_seen =
+        ap (λ p. holds_by p w.view.seen) number
+        ∙ (ap (holds_by v.view.number) seen ∙ (f.own_seen ∙ sym own));
     numbered = subst (λ x. (x ≡ 0) ⊎ (x ≡ id + 1)) (sym number) f.numbered;
   }
 
   -- a step that changes no word and moves no slot keeps the history of the state
-  pub unmoved : (s : St) (k : History s) (i id : ℕ) (cs : List (ℕ × Option (Box S))) (v w : Known S) → get_elem? s.views id ≡ some v → w.view.number ≡ v.view.number → Fits origin k.log id w → (w.inside ≡ true → Holds k.log (lock s) k.holder id w)
-      → History (stepped s i (get_or s.words i 0) id cs w keeps)
-  unmoved s k i id cs v w at number fit held = subst (λ (ws : List ℕ). History record { words = ws; homes = s.homes; views = set s.views id w }) (sym (set-get_or s.words i 0)) record {
-    log = k.log;
-    holder = k.holder;
-    words = k.words;
-    slots = k.slots;
-    legal = k.legal;
-    position_is = k.position_is;
-    fits = others (Fits origin k.log) s.views id w fit (λ j u _ e. k.fits j u e);
-    home = k.home;
-    inside = others (λ j u. u.inside ≡ true → Holds k.log (lock s) k.holder j u) s.views id w held (λ j u _ e. k.inside j u e);
-    unused = λ p e. k.unused p (unused_set s.views id v w at number p e);
-  }
+  pub unmoved : (s : St) (k : History s) (i id : ℕ) (cs : List (ℕ × Option (Box S)))
+      (v w : Known S) → get_elem? s.views id ≡ some v → w.view.number ≡ v.view.number →
+      Fits origin k.log id w → (w.inside ≡ true → Holds k.log (lock s) k.holder id w) →
+      History (stepped s i (get_or s.words i 0) id cs w keeps)
+  unmoved s k i id cs v w at number fit held =
+      subst (λ (ws : List ℕ). History record {
+        words = ws;
+        homes = s.homes;
+        views = set s.views id w;
+      }) (sym (set-get_or s.words i 0)) record {
+        log = k.log;
+        holder = k.holder;
+        words = k.words;
+        slots = k.slots;
+        legal = k.legal;
+        position_is = k.position_is;
+        fits = others (Fits origin k.log) s.views id w fit (λ j u _ e. k.fits j u e);
+        home = k.home;
+        inside =
+            others (λ j u. u.inside ≡ true → Holds k.log (lock s) k.holder j u) s.views id w held
+            (λ j u _ e. k.inside j u e);
+        unused = λ p e. k.unused p (unused_set s.views id v w at number p e);
+      }
 
-  -- the same for the whole rule, where it is no step on the lock's word, and the seat counts no further passes
-  quiet : (s : St) (r : Rule s) (i id : ℕ) (cs : List (ℕ × Option (Box S))) (v w : Known S) → get_elem? s.views id ≡ some v → w.view.number ≡ v.view.number → w.view.turns ≡ v.view.turns → w.watched ≡ v.watched → w.passes ≡ v.passes
-      → Fits origin r.0.log id w → (w.inside ≡ true → Holds r.0.log (lock s) r.0.holder id w) → Rule (stepped s i (get_or s.words i 0) id cs w keeps)
+  -- the same for the whole rule, where it is no step on the lock's word, and the seat counts no
+  -- further passes
+  quiet : (s : St) (r : Rule s) (i id : ℕ) (cs : List (ℕ × Option (Box S))) (v w : Known S) →
+      get_elem? s.views id ≡ some v → w.view.number ≡ v.view.number → w.view.turns ≡ v.view.turns →
+      w.watched ≡ v.watched → w.passes ≡ v.passes → Fits origin r.0.log id w →
+      (w.inside ≡ true → Holds r.0.log (lock s) r.0.holder id w) →
+      Rule (stepped s i (get_or s.words i 0) id cs w keeps)
   quiet s r i id cs v w at number turns watched passes fit held = (
     unmoved s r.0 i id cs v w at number fit held,
-    turned_same s.words (set s.words i (get_or s.words i 0)) s.views id v w at (ap (λ n. n % 2) (still s.words i 1)) number turns r.1 (subst (λ x. IsPrefix x r.1.turns) (sym watched) (r.1.watched id v at)),
-    counted_same s.words (set s.words i (get_or s.words i 0)) s.views id v w at (still s.words i 2) number (subst (λ n. n ≤ get_or s.words 2 0) (sym passes) (r.2.seen id v at)) r.2,
+    turned_same s.words (set s.words i (get_or s.words i 0)) s.views id v w at
+        (ap (λ n. n % 2) (still s.words i 1)) number turns r.1
+        (subst (λ x. IsPrefix x r.1.turns) (sym watched) (r.1.watched id v at)),
+    counted_same s.words (set s.words i (get_or s.words i 0)) s.views id v w at (still s.words i 2)
+        number (subst (λ n. n ≤ get_or s.words 2 0) (sym passes) (r.2.seen id v at)) r.2,
   )
 
   -- while the position is near, the first word is 0
-  none_far : (s : St) (k : History s) → position (end_of origin k.log) < far → get_or s.words 0 0 ≡ 0
-  none_far s k near = dite (ℕ_discrete (get_or s.words 0 0) 0) (λ e. e) (λ ne. let there = k.position_is.1 ne in absurd (omega (arith, there.0, there.1, near)))
+  pub none_far : (s : St) (k : History s) → position (end_of origin k.log) < far →
+      get_or s.words 0 0 ≡ 0
+  none_far s k near =
+      dite (ℕ_discrete (get_or s.words 0 0) 0) (λ e. e)
+      (λ ne. let there = k.position_is.1 ne in absurd (omega (arith, there.0, there.1, near)))
 
   -- and half of the lock's word is the position
-  near_of : (s : St) (k : History s) → position (end_of origin k.log) < far → get_or s.words 1 0 / 2 ≡ position (end_of origin k.log)
+  near_of : (s : St) (k : History s) → position (end_of origin k.log) < far →
+      get_or s.words 1 0 / 2 ≡ position (end_of origin k.log)
   near_of s k near = (k.position_is.0 (none_far s k near)).0
 
-  pub look_keeps : (id n : ℕ) (m : Sat S) → Allows Rule n id m 1 (λ r. r) (looks position grows (step n 1 0 0 none) m)
-  look_keeps id n m s r wide at _ = let k : History s = r.0 in let f = k.fits id m.0 at in let w = caught_up m.0 (seeing m.0.view k.log) m.0.inside in (
-    w,
-    keeps,
-    tt,
-    quiet s r 1 id m.1 m.0 w at refl refl refl refl (fits_all k.log id m.0 w f refl refl refl refl (nothing_told k.log))
-        (λ e. let h = k.inside id m.0 at e in record { is_holder = h.is_holder; seen_all = refl; taken = h.taken; number_is = h.number_is }),
-    λ o e. (k.log, sees_all s k id m.0 at o e, f.told, refl, subst (λ x. position (end_of x k.log) < far → get_or s.words 1 0 / 2 ≡ position (end_of x k.log)) (sym (f.origin_is o e)) (near_of s k)),
-  )
+  pub look_keeps : (id n : ℕ) (m : Sat S) →
+      Allows Rule n id m 1 (λ r. r) (looks position grows (step n 1 0 0 none) m)
+  look_keeps id n m s r wide at _ =
+      let k : History s = r.0 in
+      let f = k.fits id m.0 at in
+      let w = caught_up m.0 (seeing m.0.view k.log) m.0.inside in (
+        w,
+        keeps,
+        tt,
+        quiet s r 1 id m.1 m.0 w at refl refl refl refl
+            (fits_all k.log id m.0 w f refl refl refl refl (nothing_told k.log))
+            (λ e. let h = k.inside id m.0 at e in record {
+              is_holder = h.is_holder;
+              seen_all = refl;
+              taken = h.taken;
+              number_is = h.number_is;
+            }),
+        λ o e. (
+          k.log,
+          sees_all s k id m.0 at o e,
+          f.told,
+          refl,
+          subst
+              (λ x. position (end_of x k.log) < far →
+              get_or s.words 1 0 / 2 ≡ position (end_of x k.log))
+              (sym (f.origin_is o e)) (near_of s k),
+        ),
+      )
 
-  module _ (reflexive : (a : S) → grows a a) (transitive : (a b c : S) → grows a b → grows b c → grows a c) (advances : (a b : S) → grows a b → position a ≤ position b) where
-    not_before : (s : St) (k : History s) (id : ℕ) (v : Known S) (o : S) → get_elem? s.views id ≡ some v → v.view.origin ≡ Some o → position (end_of o v.view.seen) ≤ position (end_of o k.log)
-    not_before s k id v o at is = let sees = sees_all s k id v at o is in advances (end_of o v.view.seen) (end_of o k.log) (prefix_grows grows reflexive transitive o v.view.seen k.log sees.0 sees.1)
+  module _ (reflexive : (a : S) → grows a a) (transitive : (a b c : S) → grows a b → grows b c →
+      grows a c) (advances : (a b : S) → grows a b → position a ≤ position b) where
+    not_before : (s : St) (k : History s) (id : ℕ) (v : Known S) (o : S) →
+        get_elem? s.views id ≡ some v → v.view.origin ≡ Some o →
+        position (end_of o v.view.seen) ≤ position (end_of o k.log)
+    not_before s k id v o at is =
+        let sees = sees_all s k id v at o is in
+        advances (end_of o v.view.seen) (end_of o k.log)
+        (prefix_grows grows reflexive transitive o v.view.seen k.log sees.0 sees.1)
 
-    pub look_far_keeps : (id n : ℕ) (m : Sat S) → Allows Rule n id m 0 (λ r. r) (looks_far position grows (step n 0 0 0 none) m)
+    pub look_far_keeps : (id n : ℕ) (m : Sat S) →
+        Allows Rule n id m 0 (λ r. r) (looks_far position grows (step n 0 0 0 none) m)
     look_far_keeps id n m s r wide at _ = let k : History s = r.0 in let f = k.fits id m.0 at in
         dite (ℕ_discrete (get_or s.words 0 0) 0)
         (λ zero. (
@@ -128,72 +190,147 @@ module _ {S : Type 0} (position : S → ℕ) (grows : S → S → Type 0) (origi
           keeps,
           tt,
           quiet s r 0 id m.1 m.0 m.0 at refl refl refl refl f (λ e. k.inside id m.0 at e),
-          λ o e. ((λ _. let near = (k.position_is.0 zero).1 in let here = subst (λ x. position (end_of x k.log) < far) (sym (f.origin_is o e)) near in let up = not_before s k id m.0 o at e in (omega (arith, here, up), refl)), (λ ne. absurd (ne zero))),
+          λ o e. (
+            (λ _. let near = (k.position_is.0 zero).1 in
+                let here = subst (λ x. position (end_of x k.log) < far)
+                (sym (f.origin_is o e)) near in
+                let up = not_before s k id m.0 o at e in (omega (arith, here, up), refl)),
+            (λ ne. absurd (ne zero)),
+          ),
         ))
         (λ some_position. let w = caught_up m.0 (seeing m.0.view k.log) m.0.inside in (
           w,
           keeps,
           tt,
-          quiet s r 0 id m.1 m.0 w at refl refl refl refl (fits_all k.log id m.0 w f refl refl refl refl (nothing_told k.log))
-              (λ e. let h = k.inside id m.0 at e in record { is_holder = h.is_holder; seen_all = refl; taken = h.taken; number_is = h.number_is }),
-          λ o e. ((λ zero. absurd (some_position zero)), (λ _. (k.log, sees_all s k id m.0 at o e, refl, (k.position_is.1 some_position).0 ∙ ap (λ x. position (end_of x k.log)) (sym (f.origin_is o e))))),
+          quiet s r 0 id m.1 m.0 w at refl refl refl refl
+              (fits_all k.log id m.0 w f refl refl refl refl (nothing_told k.log))
+              (λ e. let h = k.inside id m.0 at e in record {
+                is_holder = h.is_holder;
+                seen_all = refl;
+                taken = h.taken;
+                number_is = h.number_is;
+              }),
+          λ o e. (
+            (λ zero. absurd (some_position zero)),
+            (λ _. (
+              k.log,
+              sees_all s k id m.0 at o e,
+              refl,
+              (k.position_is.1 some_position).0
+                  ∙ ap (λ x. position (end_of x k.log)) (sym (f.origin_is o e)),
+            )),
+          ),
         ))
 
-  pub confirm_keeps : (id n : ℕ) (m : Sat S) → Allows Rule n id m 0 (λ r. r) (confirms (step n 0 0 0 none) m)
-  confirm_keeps id n m s r wide at _ = let f = r.0.fits id m.0 at in (m.0, keeps, tt, quiet s r 0 id m.1 m.0 m.0 at refl refl refl refl f (λ e. r.0.inside id m.0 at e), (f.own_seen, refl))
+  pub confirm_keeps : (id n : ℕ) (m : Sat S) →
+      Allows Rule n id m 0 (λ r. r) (confirms (step n 0 0 0 none) m)
+  confirm_keeps id n m s r wide at _ =
+      let f = r.0.fits id m.0 at in (
+        m.0,
+        keeps,
+        tt,
+        quiet s r 0 id m.1 m.0 m.0 at refl refl refl refl f
+            (λ e. r.0.inside id m.0 at e),
+        (f.own_seen, refl),
+      )
 
   -- the number of a pass that may enter
-  its_number : (v : Known S) (id : ℕ) → 0 < v.view.number → (v.view.number ≡ 0) ⊎ (v.view.number ≡ id + 1) → v.view.number ≡ id + 1
-  its_number v id some_number e = ⊎_elim (λ (z : v.view.number ≡ 0). absurd (omega arith)) (λ (z : v.view.number ≡ id + 1). z) e
+  its_number : (v : Known S) (id : ℕ) → 0 < v.view.number →
+      (v.view.number ≡ 0) ⊎ (v.view.number ≡ id + 1) → v.view.number ≡ id + 1
+  its_number v id some_number e =
+      ⊎_elim (λ (z : v.view.number ≡ 0). absurd (omega arith)) (λ (z : v.view.number ≡ id + 1). z) e
 
   -- a number of one seat is none of another's
-  apart : (id j p : ℕ) (v : Known S) → j ≢ id → (v.view.number ≡ 0) ⊎ (v.view.number ≡ j + 1) → p ≡ id + 1 → p ≢ v.view.number
-  apart id j p v ne e is same = ⊎_elim (λ (z : v.view.number ≡ 0). omega arith) (λ (z : v.view.number ≡ j + 1). ne (omega arith)) e
+  pub apart : (id j p : ℕ) (v : Known S) → j ≢ id → (v.view.number ≡ 0) ⊎ (v.view.number ≡ j + 1) →
+      p ≡ id + 1 → p ≢ v.view.number
+  apart id j p v ne e is same =
+      ⊎_elim (λ (z : v.view.number ≡ 0). omega arith)
+      (λ (z : v.view.number ≡ j + 1). ne (omega arith)) e
 
   -- a pass's step on the lock's word, which becomes new
-  word_turned : (s : St) (r : Rule s) (id new : ℕ) (v w : Known S) (found left : ℕ) → get_elem? s.views id ≡ some v → v.view.number ≡ id + 1 → found ≡ lock s → new % 2 ≡ left → w.view.number ≡ v.view.number
-      → w.view.turns ≡ v.view.turns ++ hold v.view.number found left ∷ [] → IsPrefix w.watched (r.1.turns ++ hold v.view.number found left ∷ []) → Turned (set s.words 1 new) (set s.views id w)
+  pub word_turned : (s : St) (r : Rule s) (id new : ℕ) (v w : Known S) (found left : ℕ) →
+      get_elem? s.views id ≡ some v → v.view.number ≡ id + 1 → found ≡ lock s → new % 2 ≡ left →
+      w.view.number ≡ v.view.number →
+      w.view.turns ≡ v.view.turns ++ hold v.view.number found left ∷ [] →
+      IsPrefix w.watched (r.1.turns ++ hold v.view.number found left ∷ []) →
+      Turned (set s.words 1 new) (set s.views id w)
   word_turned s r id new v w found left at is was now number turns watched = let long = r.0.words in
-      turned_on s.words (set s.words 1 new) s.views id v w found left at was (ap (λ n. n % 2) (get_or-set_same s.words 1 new 0 (omega arith)) ∙ now) number (λ z. omega arith) turns
+      turned_on s.words (set s.words 1 new) s.views id v w found left at was
+      (ap (λ n. n % 2) (get_or-set_same s.words 1 new 0 (omega arith)) ∙ now) number
+      (λ z. omega arith) turns
       (λ j u ne e. apart id j v.view.number u ne ((r.0.fits j u e).numbered) is) r.1 watched
 
-  word_counted : (s : St) (r : Rule s) (id new : ℕ) (v w : Known S) → get_elem? s.views id ≡ some v → w.view.number ≡ v.view.number → w.passes ≡ v.passes → Counted (set s.words 1 new) (set s.views id w)
+  pub word_counted : (s : St) (r : Rule s) (id new : ℕ) (v w : Known S) →
+      get_elem? s.views id ≡ some v → w.view.number ≡ v.view.number → w.passes ≡ v.passes →
+      Counted (set s.words 1 new) (set s.views id w)
   word_counted s r id new v w at number passes =
-      counted_same s.words (set s.words 1 new) s.views id v w at (get_or-set_other s.words 1 2 new 0 (λ e. omega arith)) number (subst (λ n. n ≤ get_or s.words 2 0) (sym passes) (r.2.seen id v at)) r.2
+      counted_same s.words (set s.words 1 new) s.views id v w at
+      (get_or-set_other s.words 1 2 new 0 (λ e. omega arith)) number
+      (subst (λ n. n ≤ get_or s.words 2 0) (sym passes) (r.2.seen id v at)) r.2
 
   -- what an old watcher watched is a beginning of a longer history
-  watched_on : (s : St) (r : Rule s) (id found left : ℕ) (v : Known S) → get_elem? s.views id ≡ some v → IsPrefix v.watched (r.1.turns ++ hold v.view.number found left ∷ [])
-  watched_on s r id found left v at = prefix_more v.watched r.1.turns (hold v.view.number found left ∷ []) (r.1.watched id v at)
+  watched_on : (s : St) (r : Rule s) (id found left : ℕ) (v : Known S) →
+      get_elem? s.views id ≡ some v →
+      IsPrefix v.watched (r.1.turns ++ hold v.view.number found left ∷ [])
+  watched_on s r id found left v at =
+      prefix_more v.watched r.1.turns (hold v.view.number found left ∷ []) (r.1.watched id v at)
 
   -- the first two words tell the same position, where the second has the same half
-  tells_same : (s : St) (new p : ℕ) → length s.words ≡ 3 → new / 2 ≡ get_or s.words 1 0 / 2 → Tells (get_or s.words 0 0) (get_or s.words 1 0) p → Tells (get_or (set s.words 1 new) 0 0) (get_or (set s.words 1 new) 1 0) p
-  tells_same s new p long half t = subst (λ (x : ℕ × ℕ). Tells x.0 x.1 p) (λ i. (sym (get_or-set_other s.words 1 0 new 0 (λ e. omega arith)) i, sym (get_or-set_same s.words 1 new 0 (omega arith)) i))
+  tells_same : (s : St) (new p : ℕ) → length s.words ≡ 3 → new / 2 ≡ get_or s.words 1 0 / 2 →
+      Tells (get_or s.words 0 0) (get_or s.words 1 0) p →
+      Tells (get_or (set s.words 1 new) 0 0) (get_or (set s.words 1 new) 1 0) p
+  tells_same s new p long half t =
+      subst (λ (x : ℕ × ℕ). Tells x.0 x.1 p)
+      (λ i. (
+        sym (get_or-set_other s.words 1 0 new 0 (λ e. omega arith)) i,
+        sym (get_or-set_same s.words 1 new 0 (omega arith)) i,
+      ))
       ((λ e. let near = t.0 e in (half ∙ near.0, near.1)), (λ ne. t.1 ne))
 
   -- the lock's word where it is taken
-  taken_is : (s : St) → lock s ≢ 0 → 1 ≡ lock s
+  pub taken_is : (s : St) → lock s ≢ 0 → 1 ≡ lock s
   taken_is s taken = omega (arith, taken)
 
-  won : (s : St) (k : History s) (id new : ℕ) (v w : Known S) (home : Box S) → get_elem? s.views id ≡ some v → v.view.number ≡ id + 1 → lock s ≡ 0 → new % 2 ≡ 1 → new / 2 ≡ get_or s.words 1 0 / 2 → w ≡ caught_up v (entered v.view k.log) true
-      → History (stepped s 1 new id [] w (takes 0 (Some home)))
-  won s k id new v w home at number free odd half w_is = let f = k.fits id v at in let long = k.words in let one : get_or (set s.words 1 new) 1 0 % 2 ≡ 1 = ap (λ n. n % 2) (get_or-set_same s.words 1 new 0 (omega arith)) ∙ odd in record {
-    log = k.log;
-    holder = id;
-    words = length-set s.words 1 new ∙ k.words;
-    slots = length-set s.homes 0 none ∙ k.slots;
-    legal = k.legal;
-    position_is = tells_same s new (position (end_of origin k.log)) k.words half k.position_is;
-    fits = others (Fits origin k.log) s.views id w
-        (fits_all k.log id v w f (ap (λ x. x.view.number) w_is) (ap (λ x. x.view.origin) w_is) (ap (λ x. x.view.own) w_is) (ap (λ x. x.view.seen) w_is) (subst (λ x. IsPrefix x k.log) (sym (ap (λ x. x.told) w_is)) (nothing_told k.log)))
-        (λ j u _ e. k.fits j u e);
-    home = λ e. absurd (omega (arith, e, one));
-    inside = others (λ j u. u.inside ≡ true → Holds k.log (get_or (set s.words 1 new) 1 0 % 2) id j u) s.views id w
-        (λ _. record { is_holder = refl; seen_all = ap (λ x. x.view.seen) w_is; taken = λ e. omega (arith, e, one); number_is = ap (λ x. x.view.number) w_is ∙ number })
-        (λ j u _ e on. absurd ((k.inside j u e on).taken free));
-    unused = λ p e. k.unused p (unused_set s.views id v w at (ap (λ x. x.view.number) w_is) p e);
-  }
+  won : (s : St) (k : History s) (id new : ℕ) (v w : Known S) (home : Box S) →
+      get_elem? s.views id ≡ some v → v.view.number ≡ id + 1 → lock s ≡ 0 → new % 2 ≡ 1 →
+      new / 2 ≡ get_or s.words 1 0 / 2 → w ≡ caught_up v (entered v.view k.log) true →
+      History (stepped s 1 new id [] w (takes 0 (Some home)))
+  won s k id new v w home at number free odd half w_is =
+      let f = k.fits id v at in
+      let long = k.words in
+      let one : get_or (set s.words 1 new) 1 0 % 2 ≡ 1 =
+      ap (λ n. n % 2) (get_or-set_same s.words 1 new 0 (omega arith)) ∙ odd in
+      record {
+        log = k.log;
+        holder = id;
+        words = length-set s.words 1 new ∙ k.words;
+        slots = length-set s.homes 0 none ∙ k.slots;
+        legal = k.legal;
+        position_is = tells_same s new (position (end_of origin k.log)) k.words half k.position_is;
+        fits = others (Fits origin k.log) s.views id w
+            (fits_all k.log id v w f (ap (λ x. x.view.number) w_is) (ap (λ x. x.view.origin) w_is)
+            (ap (λ x. x.view.own) w_is) (ap (λ x. x.view.seen) w_is)
+            (subst (λ x. IsPrefix x k.log) (sym (ap (λ x. x.told) w_is)) (nothing_told k.log)))
+            (λ j u _ e. k.fits j u e);
+        home = λ e. absurd (omega (arith, e, one));
+        inside =
+            others (λ j u. u.inside ≡ true →
+            Holds k.log (get_or (set s.words 1 new) 1 0 % 2) id j u)
+            s.views id w
+            (λ _. record {
+              is_holder = refl;
+              seen_all = ap (λ x. x.view.seen) w_is;
+              taken = λ e. omega (arith, e, one);
+              number_is = ap (λ x. x.view.number) w_is ∙ number;
+            })
+            (λ j u _ e on. absurd ((k.inside j u e on).taken free));
+        unused =
+            λ p e. k.unused p (unused_set s.views id v w at (ap (λ x. x.view.number) w_is) p e);
+      }
 
-  take_idle : (id n : ℕ) (v : Known S) (o : S) → 0 < v.view.number → v.inside ≡ false → v.view.origin ≡ Some o → Allows Rule n id (v, []) 1 (λ r. bit_or r 1) (takes_lock grows (step n 1 1 0 none) (v, []))
+  take_idle : (id n : ℕ) (v : Known S) (o : S) → 0 < v.view.number →
+      v.inside ≡ false → v.view.origin ≡ Some o →
+      Allows Rule n id (v, []) 1 (λ r. bit_or r 1) (takes_lock grows (step n 1 1 0 none) (v, []))
   take_idle id n v o some_number out is s r wide at _ =
       let k : History s = r.0 in
       let f = k.fits id v at in
@@ -204,156 +341,43 @@ module _ {S : Type 0} (position : S → ℕ) (grows : S → S → Type 0) (origi
         w,
         takes 0 (Some home.0),
         home.2,
-        (won s k id (bit_or was 1) v w home.0 at number free (with_bit was).0 (with_bit was).1 refl, word_turned s r id (bit_or was 1) v w 0 1 at number (sym free) (with_bit was).0 refl refl (watched_on s r id 0 1 v at), word_counted s r id (bit_or was 1) v w at refl refl),
-        ((λ _ o' is'. (k.log, sees_all s k id v at o' is', home.0, home.1 ∙ ap (λ x. end_of x k.log) (sym (f.origin_is o' is')), refl)), (λ taken. absurd (taken free))),
+        (
+          won s k id (bit_or was 1) v w home.0 at number free (with_bit was).0
+              (with_bit was).1 refl,
+          word_turned s r id (bit_or was 1) v w 0 1 at number (sym free) (with_bit was).0 refl refl
+              (watched_on s r id 0 1 v at),
+          word_counted s r id (bit_or was 1) v w at refl refl,
+        ),
+        (
+          (λ _ o' is'. (
+            k.log,
+            sees_all s k id v at o' is',
+            home.0,
+            home.1 ∙ ap (λ x. end_of x k.log)
+                (sym (f.origin_is o' is')),
+            refl,
+          )),
+          (λ taken. absurd (taken free)),
+        ),
       ))
       (λ taken. let w = turned_away v in let one = taken_is s taken in (
         w,
         keeps,
         tt,
         subst (λ (x : ℕ). Rule (stepped s 1 x id [] w keeps)) (sym (bit_there was (sym one))) (
-          unmoved s k 1 id [] v w at refl (fits_same k.log id v w f refl refl refl refl refl) (λ e. absurd (cc (out, e))),
-          word_turned s r id was v w 1 1 at number one (sym one) refl refl (watched_on s r id 1 1 v at),
+          unmoved s k 1 id [] v w at refl (fits_same k.log id v w f refl refl refl refl refl)
+              (λ e. absurd (cc (out, e))),
+          word_turned s r id was v w 1 1 at number one
+              (sym one) refl refl (watched_on s r id 1 1 v at),
           word_counted s r id was v w at refl refl,
         ),
         ((λ free. absurd (taken free)), (λ _. refl)),
       ))
 
-  pub take_keeps : (id n : ℕ) (m : Sat S) (o : S) → m.1 ≡ [] → 0 < m.0.view.number → m.0.inside ≡ false → m.0.view.origin ≡ Some o
-      → Allows Rule n id m 1 (λ r. bit_or r 1) (takes_lock grows (step n 1 1 0 none) m)
-  take_keeps id n m o bare some_number out is = subst (λ (x : Sat S). Allows Rule n id x 1 (λ r. bit_or r 1) (takes_lock grows (step n 1 1 0 none) x)) (λ i. (m.0, sym bare i))
+  pub take_keeps : (id n : ℕ) (m : Sat S) (o : S) → m.1 ≡ [] → 0 < m.0.view.number →
+      m.0.inside ≡ false → m.0.view.origin ≡ Some o →
+      Allows Rule n id m 1 (λ r. bit_or r 1) (takes_lock grows (step n 1 1 0 none) m)
+  take_keeps id n m o bare some_number out is =
+      subst (λ (x : Sat S). Allows Rule n id x 1 (λ r. bit_or r 1)
+      (takes_lock grows (step n 1 1 0 none) x)) (λ i. (m.0, sym bare i))
       (take_idle id n m.0 o some_number out is)
-
-  -- the pass that has the lock adds its hold, and the words tell its position
-  published_rule : (s : St) (k : History s) (ws : List ℕ) (id : ℕ) (v w : Known S) (o left : S) → get_elem? s.views id ≡ some v → v.inside ≡ true → v.view.origin ≡ Some o
-      → grows (end_of o v.view.seen) left → length ws ≡ 3 → get_or ws 1 0 % 2 ≡ lock s → Tells (get_or ws 0 0) (get_or ws 1 0) (position left) → w ≡ caught_up v (published o v.view left) v.inside
-      → History record { words = ws; homes = s.homes; views = set s.views id w }
-  published_rule s k ws id v w o left at is from up long same here w_is = let f = k.fits id v at in let h = k.inside id v at is in let all = h.seen_all in let o_is = f.origin_is o from in
-      let p = v.view.number in
-      let added : List (Hold S) = own_hold o v.view left ∷ [] in
-      let log' : List (Hold S) = v.view.seen ++ added in
-      let old : IsHistory grows o v.view.seen = subst (λ (x : S × List (Hold S)). IsHistory grows x.0 x.1) (λ i. (sym o_is i, sym all i)) k.legal in
-      let mine = own_more p v.view.seen v.view.own (end_of o v.view.seen) left f.own_seen in
-      let number : w.view.number ≡ p = ap (λ x. x.view.number) w_is in record {
-        log = log';
-        holder = k.holder;
-        words = long;
-        slots = k.slots;
-        legal = subst (λ x. IsHistory grows x log') o_is (history-append grows o v.view.seen p left old up);
-        position_is = subst (λ x. Tells (get_or ws 0 0) (get_or ws 1 0) (position x)) (sym (end_of-append origin v.view.seen (own_hold o v.view left))) here;
-        fits = others (Fits origin log') s.views id w
-            (subst (Fits origin log' id) (sym w_is) record { origin_is = f.origin_is; prefix = prefix_self log'; told = nothing_told log'; own_all = mine; own_seen = mine; numbered = f.numbered })
-            (λ j u ne e. let g = k.fits j u e in record {
-              origin_is = g.origin_is;
-              prefix = prefix_more u.view.seen v.view.seen added (subst (IsPrefix u.view.seen) (sym all) g.prefix);
-              told = prefix_more u.told v.view.seen added (subst (IsPrefix u.told) (sym all) g.told);
-              own_all = other_more u.view.number p v.view.seen u.view.own (end_of o v.view.seen) left (apart id j p u ne g.numbered h.number_is) (ap (holds_by u.view.number) all ∙ g.own_all);
-              own_seen = g.own_seen;
-              numbered = g.numbered;
-            });
-        home = λ e. absurd (h.taken (sym same ∙ e));
-        inside = subst (λ (z : ℕ). (j : ℕ) (u : Known S) → get_elem? (set s.views id w) j ≡ some u → u.inside ≡ true → Holds log' z k.holder j u) (sym same)
-            (others (λ j u. u.inside ≡ true → Holds log' (lock s) k.holder j u) s.views id w
-            (λ _. record { is_holder = h.is_holder; seen_all = ap (λ x. x.view.seen) w_is; taken = h.taken; number_is = number ∙ h.number_is })
-            (λ j u ne e on. absurd (ne ((k.inside j u e on).is_holder ∙ sym h.is_holder))));
-        unused = λ q e. let was = unused_set s.views id v w at number q e in let mine_is = h.number_is in
-            other_more q p v.view.seen [] (end_of o v.view.seen) left (number_used s.views id v q at (λ z. omega arith) was) (ap (holds_by q) all ∙ k.unused q was);
-      }
-
-  published_at : (s : St) (r : Rule s) (i id new : ℕ) (v : Known S) (o left : S) → get_elem? s.views id ≡ some v → v.inside ≡ true → v.view.origin ≡ Some o → grows (end_of o v.view.seen) left
-      → get_or (set s.words i new) 1 0 % 2 ≡ lock s → get_or (set s.words i new) 2 0 ≡ get_or s.words 2 0 → Tells (get_or (set s.words i new) 0 0) (get_or (set s.words i new) 1 0) (position left)
-      → Rule (stepped s i new id [] (caught_up v (published o v.view left) v.inside) keeps)
-  published_at s r i id new v o left at is from up same count here = let w = caught_up v (published o v.view left) v.inside in let ws = set s.words i new in (
-    published_rule s r.0 ws id v w o left at is from up (length-set s.words i new ∙ r.0.words) same here refl,
-    turned_same s.words ws s.views id v w at same refl refl r.1 (r.1.watched id v at),
-    counted_same s.words ws s.views id v w at count refl (r.2.seen id v at) r.2,
-  )
-
-  pub publish_keeps : (id n new : ℕ) (m : Sat S) (o : S) (left : Box S) → m.1 ≡ (0, Some left) ∷ [] → m.0.inside ≡ true → m.0.view.origin ≡ Some o → grows (end_of o m.0.view.seen) left.value → new ≡ position left.value → far ≤ new
-      → Allows Rule n id m 0 (λ _. new) (λ _. publishes (step n 0 new 0 none) m new)
-  publish_keeps id n new m o left has is from up here distant s r wide at _ = let long = r.0.words in (
-    caught_up m.0 (published o m.0.view left.value) m.0.inside,
-    keeps,
-    tt,
-    published_at s r 0 id new m.0 o left.value at is from up (ap (λ x. x % 2) (get_or-set_other s.words 0 1 new 0 (λ e. omega arith))) (get_or-set_other s.words 0 2 new 0 (λ e. omega arith))
-        (subst (λ x. Tells x (get_or (set s.words 0 new) 1 0) (position left.value)) (sym (get_or-set_same s.words 0 new 0 (omega arith))) ((λ zero. absurd (omega (arith, zero, distant))), (λ _. (here, distant)))),
-    λ o' left' from' has'. let l = same_state left left' (sym has ∙ has') in let e = same_origin o o' (sym from ∙ from') in (λ i. (caught_up m.0 (published (e i) m.0.view (l i).value) m.0.inside, m.1)),
-  )
-
-  given : (s : St) (k : History s) (id new : ℕ) (v w : Known S) (o : S) (home : Box S) → home.value ≡ end_of o v.view.seen → get_elem? s.views id ≡ some v → v.inside ≡ true → v.view.origin ≡ Some o → Tells (get_or (set s.words 1 new) 0 0) (get_or (set s.words 1 new) 1 0) (position (end_of origin k.log))
-      → w.view.number ≡ v.view.number → w.view.origin ≡ v.view.origin → w.view.own ≡ v.view.own → w.view.seen ≡ v.view.seen → w.told ≡ v.told → w.inside ≡ false
-      → History (stepped s 1 new id ((0, Some home) ∷ []) w gives)
-  given s k id new v w o home last at is from tells number origin_same own seen told off = let f = k.fits id v at in let h = k.inside id v at is in let long = k.words in let slots = k.slots in let o_is = f.origin_is o from in record {
-    log = k.log;
-    holder = id;
-    words = length-set s.words 1 new ∙ k.words;
-    slots = length-set s.homes 0 (some (Some home)) ∙ k.slots;
-    legal = k.legal;
-    position_is = tells;
-    fits = others (Fits origin k.log) s.views id w (fits_same k.log id v w f number origin_same own seen told) (λ j u _ e. k.fits j u e);
-    home = λ _. (home, last ∙ (λ i. end_of (o_is i) (h.seen_all i)), set_here s.homes 0 (some (Some home)) (omega arith));
-    inside = others (λ j u. u.inside ≡ true → Holds k.log (get_or (set s.words 1 new) 1 0 % 2) id j u) s.views id w (λ e. absurd (cc (e, off)))
-        (λ j u ne e on. absurd (ne ((k.inside j u e on).is_holder ∙ sym h.is_holder)));
-    unused = λ p e. k.unused p (unused_set s.views id v w at number p e);
-  }
-
-  given_at : (s : St) (r : Rule s) (id new : ℕ) (v : Known S) (o : S) (home : Box S) → home.value ≡ end_of o v.view.seen → get_elem? s.views id ≡ some v → v.inside ≡ true → v.view.origin ≡ Some o → new % 2 ≡ 0
-      → Tells (get_or (set s.words 1 new) 0 0) (get_or (set s.words 1 new) 1 0) (position (end_of o v.view.seen))
-      → Rule (stepped s 1 new id ((0, Some home) ∷ []) (known (outside v.view) v.told (r.1.turns ++ hold v.view.number 1 0 ∷ []) false v.passes) gives)
-  given_at s r id new v o home last at is from even tells =
-      let h = r.0.inside id v at is in
-      let watched : List (Hold ℕ) = r.1.turns ++ hold v.view.number 1 0 ∷ [] in
-      let w = known (outside v.view) v.told watched false v.passes in (
-        given s r.0 id new v w o home last at is from (subst (λ x. Tells (get_or (set s.words 1 new) 0 0) (get_or (set s.words 1 new) 1 0) x) (λ i. position (end_of ((r.0.fits id v at).origin_is o from i) (h.seen_all i))) tells) refl refl refl refl refl refl,
-        word_turned s r id new v w 1 0 at h.number_is (taken_is s h.taken) even refl refl (prefix_self watched),
-        word_counted s r id new v w at refl refl,
-      )
-
-  give_inside : (id n : ℕ) (v : Known S) (o : S) (home : Box S) → home.value ≡ end_of o v.view.seen → v.inside ≡ true → v.view.origin ≡ Some o → far ≤ position (end_of o v.view.seen)
-      → Allows Rule n id (v, (0, Some home) ∷ []) 1 (λ _. 0) (λ _. gives_lock (step n 1 0 0 none) (v, (0, Some home) ∷ []) 0)
-  give_inside id n v o home ends is from distant s r wide at _ =
-      let k : History s = r.0 in
-      let watched : List (Hold ℕ) = r.1.turns ++ hold v.view.number 1 0 ∷ [] in
-      let last : position (end_of o v.view.seen) ≡ position (end_of origin k.log) = (λ i. position (end_of ((k.fits id v at).origin_is o from i) ((k.inside id v at is).seen_all i))) in
-      let other : get_or (set s.words 1 0) 0 0 ≡ get_or s.words 0 0 = get_or-set_other s.words 1 0 0 0 (λ e. omega arith) in
-      let tells : Tells (get_or (set s.words 1 0) 0 0) (get_or (set s.words 1 0) 1 0) (position (end_of o v.view.seen)) = subst (λ x. Tells x (get_or (set s.words 1 0) 1 0) (position (end_of o v.view.seen))) (sym other)
-      ((λ zero. let near = (k.position_is.0 zero).1 in absurd (omega (arith, near, last, distant))), (λ ne. let there = k.position_is.1 ne in (there.0 ∙ sym last, there.1))) in
-      (known (outside v.view) v.told watched false v.passes, gives, tt, given_at s r id 0 v o home ends at is from refl tells, (watched, refl))
-
-  pub give_keeps : (id n : ℕ) (m : Sat S) (o : S) (home : Box S) → home.value ≡ end_of o m.0.view.seen → m.1 ≡ (0, Some home) ∷ [] → m.0.inside ≡ true → m.0.view.origin ≡ Some o → far ≤ position (end_of o m.0.view.seen)
-      → Allows Rule n id m 1 (λ _. 0) (λ _. gives_lock (step n 1 0 0 none) m 0)
-  give_keeps id n m o home ends has is from distant = subst (λ (x : Sat S). Allows Rule n id x 1 (λ _. 0) (λ _. gives_lock (step n 1 0 0 none) x 0)) (λ i. (m.0, sym has i)) (give_inside id n m.0 o home ends is from distant)
-
-  -- The word becomes new, which is even: it tells the position, and the lock is free. It is as if the word became new + 1 before, which tells the position while the lock is taken
-  leave_inside : (id n new : ℕ) (v : Known S) (o : S) (home : Box S) → v.inside ≡ true → v.view.origin ≡ Some o → grows (end_of o v.view.seen) home.value → position (end_of o v.view.seen) ≤ position home.value → new ≡ 2 * position home.value → position home.value < far
-      → Allows Rule n id (v, (0, Some home) ∷ []) 1 (λ _. new) (λ _. leaves (step n 1 new 0 none) (v, (0, Some home) ∷ []) new)
-  leave_inside id n new v o home is from up later twice near s r wide at _ =
-      let left : S = home.value in
-      let k : History s = r.0 in
-      let long = k.words in
-      let h = k.inside id v at is in
-      let w = caught_up v (published o v.view left) v.inside in
-      let last : position (end_of o v.view.seen) ≡ position (end_of origin k.log) = (λ i. position (end_of ((k.fits id v at).origin_is o from i) (h.seen_all i))) in
-      let zero : get_or s.words 0 0 ≡ 0 = none_far s k (omega (arith, last, later, near)) in
-      let tells : (x : ℕ) → x / 2 ≡ position left → Tells (get_or (set s.words 1 x) 0 0) (get_or (set s.words 1 x) 1 0) (position left) = (λ x half.
-      subst (λ (y : ℕ × ℕ). Tells y.0 y.1 (position left)) (λ i. (sym (get_or-set_other s.words 1 0 x 0 (λ e. omega arith)) i, sym (get_or-set_same s.words 1 x 0 (omega arith)) i))
-      ((λ _. (half, near)), (λ ne. absurd (ne zero)))) in
-      let odd : get_or (set s.words 1 (new + 1)) 1 0 % 2 ≡ lock s = ap (λ x. x % 2) (get_or-set_same s.words 1 (new + 1) 0 (omega arith)) ∙ (omega (arith, twice) ∙ taken_is s h.taken) in
-      let mid = published_at s r 1 id (new + 1) v o left at is from up odd (get_or-set_other s.words 1 2 (new + 1) 0 (λ e. omega arith)) (tells (new + 1) (omega (arith, twice))) in
-      let watched : List (Hold ℕ) = mid.1.turns ++ hold v.view.number 1 0 ∷ [] in
-      let u : Known S = known (outside (published o v.view left)) [] watched false v.passes in
-      let told : Tells (get_or (set (set s.words 1 (new + 1)) 1 new) 0 0) (get_or (set (set s.words 1 (new + 1)) 1 new) 1 0) (position (end_of o w.view.seen)) =
-      subst (λ (y : List ℕ × S). Tells (get_or y.0 0 0) (get_or y.0 1 0) (position y.1)) (λ i. (sym (set-set s.words 1 (new + 1) new) i, sym (end_of-append o v.view.seen (own_hold o v.view left)) i)) (tells new (omega (arith, twice))) in
-      let after = given_at (stepped s 1 (new + 1) id [] w keeps) mid id new w o home (sym (end_of-append o v.view.seen (own_hold o v.view left))) (set_here s.views id w (at_below s.views id v at)) is from (omega (arith, twice)) told in (
-        u,
-        gives,
-        tt,
-        subst (λ (x : List ℕ × List (Known S)). Rule record { words = x.0; homes = set s.homes 0 (some (Some home)); views = x.1 })
-            (λ i. (set-set s.words 1 (new + 1) new i, set-set s.views id w u i)) after,
-        λ o' left' from' has'. let l = same_state home left' has' in let e = same_origin o o' (sym from ∙ from') in (watched, (λ i. (known (outside (published (e i) v.view (l i).value)) [] watched false v.passes, []))),
-      )
-
-  pub leave_keeps : (id n new : ℕ) (m : Sat S) (o : S) (left : Box S) → m.1 ≡ (0, Some left) ∷ [] → m.0.inside ≡ true → m.0.view.origin ≡ Some o → grows (end_of o m.0.view.seen) left.value → position (end_of o m.0.view.seen) ≤ position left.value
-      → new ≡ 2 * position left.value → position left.value < far → Allows Rule n id m 1 (λ _. new) (λ _. leaves (step n 1 new 0 none) m new)
-  leave_keeps id n new m o left has is from up later twice near =
-      subst (λ (x : Sat S). Allows Rule n id x 1 (λ _. new) (λ _. leaves (step n 1 new 0 none) x new)) (λ i. (m.0, sym has i)) (leave_inside id n new m.0 o left is from up later twice near)

@@ -3,4 +3,5 @@ pub mod Histories
 pub mod Seats
 pub mod Turns
 pub mod Keeps
+pub mod Gives
 pub mod Arrivals

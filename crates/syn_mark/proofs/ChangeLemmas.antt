@@ -1,5 +1,8 @@
 -- Marks with a part replaced.
-use Rattle.std.proofs.Common.{◌≡◌, ◌≤◌, ◌<◌, ◌+◌, ℕ, Bool, true, false, ◌&&◌, nat_le, [], ◌∷◌, ◌++◌, length, length-append, refl, sym, ap, ap₂, ◌∙◌, subst, Option, Some, None, is_some, inr, true≢false, if◌then◌else◌, not, arith, nat_lt, append-nil}
+use Rattle.std.proofs.Common.{◌≡◌, ◌≤◌, ◌<◌, ◌+◌, ℕ, Bool, true, false, ◌&&◌, nat_le, [], ◌∷◌, ◌++◌}
+use Rattle.std.proofs.Common.{length, length-append, refl, sym, ap, ap₂, ◌∙◌, subst, Option, Some}
+use Rattle.std.proofs.Common.{None, is_some, inr, true≢false, if◌then◌else◌, not, arith, nat_lt}
+use Rattle.std.proofs.Common.{append-nil}
 use Rattle.std.specs.List.{list_all}
 use Rattle.std.specs.Option.{option_map_or}
 use Rattle.std.specs.FinMap.{entries, get, get-empty, len, len-entries}
@@ -8,7 +11,8 @@ use Rattle.std.proofs.lemmas.Bool.Decides.{nat_tests}
 use Rattle.std.proofs.lemmas.List.Folds.{list_all-append}
 use Rattle.std.proofs.lemmas.Option.{none-some}
 use Rattle.syn_model.specs.Path.{Path, path_cmp, root, is_root, parent, strip_prefix, IsPath}
-use Rattle.syn_model.specs.Tree.{Tree, Pair, File, IsPart, replace, subtree, absent, is_present, is_directory, Directory, empty_directory}
+use Rattle.syn_model.specs.Tree.{Tree, Pair, File, IsPart, replace, subtree, absent, is_present}
+use Rattle.syn_model.specs.Tree.{is_directory, Directory, empty_directory}
 use Rattle.syn_model.specs.Mark.{IsMarks}
 use Rattle.syn_model.specs.Laws.{ReplacedIsThere, SubtreeFitsPaths}
 use Rattle.syn_model.specs.Limits.{fits_archive, fits_path, fits_paths}
@@ -18,14 +22,16 @@ use Rattle.syn_model.proofs.TreeLemmas.{same_tree, get-subtree, get-replace, rep
 use Rattle.syn_placed.specs.Pairs.{Pairs, within, before, behind, under}
 use Rattle.syn_tree.specs.Change.{taken_from}
 use Rattle.syn_placed.proofs.RisingLemmas.{replaced, three_parts, counted}
-use Rattle.syn_placed.proofs.TreeLemmas.{entries-replace, entries-absent, rising-entries, part-under, entries-one}
+use Rattle.syn_placed.proofs.TreeLemmas.{entries-replace, entries-absent, rising-entries}
+use Rattle.syn_placed.proofs.TreeLemmas.{part-under, entries-one}
 use Rattle.syn_tree.proofs.PartLemmas.{length_replaced, length_under}
 use Rattle.syn_tree.proofs.CheckLemmas.{path_fits}
 use Rattle.syn_tree.proofs.FitLemmas.{is_dir}
 use Rattle.syn_placed.proofs.ParentLemmas.{place_free}
 use Rattle.syn_tree.proofs.ChangeLemmas.{nothing_part}
 use Rattle.syn_mark.specs.Marks.{AreMarks}
-use Rattle.syn_mark.specs.Changes.{Replacement, ArePlaced, IsPreparedFor, PutPartFits, after_change, replace_refusal}
+use Rattle.syn_mark.specs.Changes.{Replacement, ArePlaced, IsPreparedFor, PutPartFits, after_change}
+use Rattle.syn_mark.specs.Changes.{replace_refusal}
 use Rattle.syn_mark.specs.inner.Spaces.{IsSpaced}
 use Rattle.syn_mark.proofs.MarkLemmas.{are_marks}
 
@@ -43,55 +49,90 @@ true_and : (a b : Bool) → a ≡ true → (a && b) ≡ b
 true_and a b h = ap (λ x. x && b) h
 
 -- the paths that stay keep their limits, so those that are put decide
-paths_replaced : (t : Tree) (at : Path) (us : Pairs) → fits_paths t ≡ true → paths_fit (replaced at (entries t) us) ≡ paths_fit (under at us)
+paths_replaced : (t : Tree) (at : Path) (us : Pairs) → fits_paths t ≡ true →
+    paths_fit (replaced at (entries t) us) ≡ paths_fit (under at us)
 paths_replaced t at us h =
     let f = λ (pair : Pair). fits_path pair.0 in
     let es = entries t in
-    let whole = sym (list_all-append f (before at es) (within at es ++ behind at es)) ∙ (ap (list_all f) (sym (three_parts at es (rising-entries t))) ∙ h) in
-    let first = and_parts (paths_fit (before at es)) (paths_fit (within at es ++ behind at es)) whole in
-    let last = (and_parts (paths_fit (within at es)) (paths_fit (behind at es)) (sym (list_all-append f (within at es) (behind at es)) ∙ first.1)).1 in
+    let whole = sym (list_all-append f (before at es) (within at es ++ behind at es))
+    ∙ (ap (list_all f) (sym (three_parts at es (rising-entries t))) ∙ h) in
+    let first = and_parts (paths_fit (before at es))
+    (paths_fit (within at es ++ behind at es)) whole in
+    let last = (and_parts (paths_fit (within at es)) (paths_fit (behind at es))
+    (sym (list_all-append f (within at es) (behind at es)) ∙ first.1)).1 in
     list_all-append f (before at es) (under at us ++ behind at es)
     ∙ (true_and (paths_fit (before at es)) (paths_fit (under at us ++ behind at es)) first.0
-    ∙ (list_all-append f (under at us) (behind at es) ∙ (ap (λ b. paths_fit (under at us) && b) last ∙ and_true (paths_fit (under at us)))))
+    ∙ (list_all-append f (under at us) (behind at es)
+    ∙ (ap (λ b. paths_fit (under at us) && b) last ∙ and_true (paths_fit (under at us)))))
 
-pub fits_replaced : (t : Tree) (at : Path) (u : Tree) (count : ℕ) → fits_archive t ≡ true → count + length (within at (entries t)) ≡ len t + len u →
+pub fits_replaced : (t : Tree) (at : Path) (u : Tree) (count : ℕ) → fits_archive t ≡ true →
+    count + length (within at (entries t)) ≡ len t + len u →
     fits_archive (replace t at u) ≡ (nat_le count 4096 && paths_fit (under at (entries u)))
 fits_replaced t at u count fits counts =
     let both = and_parts (nat_le (len t) 4096) (fits_paths t) fits in
     let es = entries t in
     let lengths = length_replaced at es (entries u) (rising-entries t) in
-    let number : len (replace t at u) ≡ count = omega (arith, len-entries (replace t at u), ap length (entries-replace t at u), lengths, counts, len-entries t, len-entries u) in
-    ap₂ (λ n b. nat_le n 4096 && b) number (ap paths_fit (entries-replace t at u) ∙ paths_replaced t at (entries u) both.1)
+    let number : len (replace t at u) ≡ count = omega (
+      arith,
+      len-entries (replace t at u),
+      ap length (entries-replace t at u),
+      lengths,
+      counts,
+      len-entries t,
+      len-entries u,
+    ) in
+    ap₂ (λ n b. nat_le n 4096 && b) number
+    (ap paths_fit (entries-replace t at u) ∙ paths_replaced t at (entries u) both.1)
 
 -- why a replacement is refused, where its place is allowed
-pub replace_answer : (t : Tree) (p : Path) (u : Tree) → first_cause (place_causes t p) ≡ None → replace_refusal t p u ≡ (if fits_archive (replace t p u) then None else Some Full)
+pub replace_answer : (t : Tree) (p : Path) (u : Tree) → first_cause (place_causes t p) ≡ None →
+    replace_refusal t p u ≡ (if fits_archive (replace t p u) then None else Some Full)
 replace_answer t p u place =
     let free = place_free t p place in
-    ap (λ x. if x then Some Root else (if not (is_directory t (parent p)) then Some NoParent else (if not (fits_archive (replace t p u)) then Some Full else None))) free.0
-    ∙ (ap (λ x. if not x then Some NoParent else (if not (fits_archive (replace t p u)) then Some Full else None)) free.1
-    ∙ elim (fits_archive (replace t p u)) as (λ x. (if not x then Some Full else None) ≡ (if x then None else Some Full)) [ true ↦ refl | false ↦ refl ])
+    ap (λ x. if x then Some Root else (if not (is_directory t (parent p)) then Some NoParent
+    else (if not (fits_archive (replace t p u)) then Some Full else None))) free.0
+    ∙ (ap (λ x. if not x then Some NoParent
+    else (if not (fits_archive (replace t p u)) then Some Full else None)) free.1
+    ∙ elim (fits_archive (replace t p u)) as (λ x. (if not x then Some Full else None)
+    ≡ (if x then None else Some Full)) [ true ↦ refl | false ↦ refl ])
 
 -- what refuses the place refuses the replacement
-pub place_refused : (t : Tree) (p : Path) (u : Tree) (why : Refusal) → first_cause (place_causes t p) ≡ Some why → replace_refusal t p u ≡ Some why
+pub place_refused : (t : Tree) (p : Path) (u : Tree) (why : Refusal) →
+    first_cause (place_causes t p) ≡ Some why → replace_refusal t p u ≡ Some why
 place_refused t p u why h = by (is_root p) (is_directory t (parent p)) refl refl h
   where
-    by : (a b : Bool) → is_root p ≡ a → is_directory t (parent p) ≡ b → first_cause (place_causes t p) ≡ Some why → replace_refusal t p u ≡ Some why
-    by true b e f k = ap (λ x. if x then Some Root else (if not (is_directory t (parent p)) then Some NoParent else (if not (fits_archive (replace t p u)) then Some Full else None))) e
-        ∙ (sym (ap (λ x. if x then Some Root else (if not (is_directory t (parent p)) then Some NoParent else None)) e) ∙ k)
-    by false false e f k = (ap (λ x. if x then Some Root else (if not (is_directory t (parent p)) then Some NoParent else (if not (fits_archive (replace t p u)) then Some Full else None))) e
-        ∙ ap (λ x. if not x then Some NoParent else (if not (fits_archive (replace t p u)) then Some Full else None)) f)
-        ∙ (sym (ap (λ x. if x then Some Root else (if not (is_directory t (parent p)) then Some NoParent else None)) e ∙ ap (λ x. if not x then Some NoParent else None) f) ∙ k)
-    by false true e f k = absurd (none-some _ (sym (ap (λ x. if x then Some Root else (if not (is_directory t (parent p)) then Some NoParent else None)) e ∙ ap (λ x. if not x then Some NoParent else None) f) ∙ k))
+    by : (a b : Bool) → is_root p ≡ a → is_directory t (parent p) ≡ b →
+        first_cause (place_causes t p) ≡ Some why → replace_refusal t p u ≡ Some why
+    by true b e f k =
+        ap (λ x. if x then Some Root else (if not (is_directory t (parent p)) then Some NoParent
+        else (if not (fits_archive (replace t p u)) then Some Full else None))) e
+        ∙ (sym (ap (λ x. if x then Some Root
+        else (if not (is_directory t (parent p)) then Some NoParent else None)) e) ∙ k)
+    by false false e f k =
+        (ap (λ x. if x then Some Root else (if not (is_directory t (parent p)) then Some NoParent
+        else (if not (fits_archive (replace t p u)) then Some Full else None))) e
+        ∙ ap (λ x. if not x then Some NoParent
+        else (if not (fits_archive (replace t p u)) then Some Full else None)) f)
+        ∙ (sym (ap (λ x. if x then Some Root else (if not (is_directory t (parent p))
+        then Some NoParent else None)) e ∙ ap (λ x. if not x then Some NoParent else None) f) ∙ k)
+    by false true e f k =
+        absurd (none-some _ (sym (ap (λ x. if x then Some Root
+        else (if not (is_directory t (parent p)) then Some NoParent else None)) e
+        ∙ ap (λ x. if not x then Some NoParent else None) f) ∙ k))
 
 -- ---- marks put into marks
 
-replaced_marks : (t : Tree) (p : Path) (u : Tree) → IsPart (replace t p u) → IsMarks t → IsMarks u → IsMarks (replace t p u)
+replaced_marks : (t : Tree) (p : Path) (u : Tree) → IsPart (replace t p u) → IsMarks t → IsMarks u →
+    IsMarks (replace t p u)
 replaced_marks t p u part ht hu = record {
   part = part;
-  digests = λ path contents found. elim (strip_prefix p path) as (λ rest. option_map_or (λ rest. get u rest) rest (get t path) ≡ Some (File contents) → length contents.bytes ≡ 32) [
-    | None ↦ λ e. ht.digests path contents e
-    | Some rest ↦ λ e. hu.digests rest contents e
-  ] (sym (get-replace t p u path) ∙ found);
+  digests =
+      λ path contents found. elim (strip_prefix p path)
+      as (λ rest. option_map_or (λ rest. get u rest) rest (get t path) ≡ Some (File contents) →
+      length contents.bytes ≡ 32) [
+        | None ↦ λ e. ht.digests path contents e
+        | Some rest ↦ λ e. hu.digests rest contents e
+      ] (sym (get-replace t p u path) ∙ found);
 }
 
 pub nothing_marks : IsMarks absent
@@ -107,57 +148,94 @@ not_below : (p : Path) → is_root p ≡ false → strip_prefix p root ≡ None
 not_below [] h = absurd (true≢false h)
 not_below (n ∷ p) h = refl
 
-module _ (t : Tree) (change : Replacement) (ds added : Pairs) (same : ds ≡ entries t) (present : is_present t root ≡ true) (marks : IsMarks t)
+module _ (t : Tree) (change : Replacement) (ds added : Pairs) (same : ds ≡ entries t)
+    (present : is_present t root ≡ true) (marks : IsMarks t)
     (ready : IsPreparedFor t change) (placed : ArePlaced change.at change.new added) where
   abbrev pub Made : Pairs → Type 0
   Made items = items ≡ before change.at ds ++ (added ++ behind change.at ds)
 
   pub made_entries : (items : Pairs) → Made items → items ≡ entries (after_change t change)
   made_entries items is =
-      is ∙ (ap₂ (λ es us. before change.at es ++ (us ++ behind change.at es)) same placed.placed ∙ sym (entries-replace t change.at change.new))
+      is ∙ (ap₂ (λ es us. before change.at es ++ (us ++ behind change.at es)) same placed.placed
+      ∙ sym (entries-replace t change.at change.new))
 
   pub made_marks : (items : Pairs) → Made items → AreMarks items
   made_marks items is =
       let u = after_change t change in
-      let part = replace-is_part t change.at change.new marks.part placed.marks.part (inr (is_dir (get t (parent change.at)) ready.parent)) placed.path.names in
+      let part = replace-is_part t change.at change.new marks.part placed.marks.part
+      (inr (is_dir (get t (parent change.at)) ready.parent)) placed.path.names in
       are_marks u items (made_entries items is)
-      (ap is_some (get-replace t change.at change.new root ∙ ap (λ o. option_map_or (λ rest. get change.new rest) o (get t root)) (not_below change.at ready.below)) ∙ present)
+      (ap is_some (get-replace t change.at change.new root ∙ ap (λ o. option_map_or
+      (λ rest. get change.new rest) o (get t root)) (not_below change.at ready.below)) ∙ present)
       (replaced_marks t change.at change.new part marks placed.marks) ready.fits
 
   -- there is room for it
-  pub made_room : length (before change.at ds) + length (behind change.at ds) + length added ≤ change.room
+  pub made_room : length (before change.at ds) + length (behind change.at ds) + length added
+      ≤ change.room
   made_room =
       let count = counted change.at (entries t) (rising-entries t) in
-      omega (arith, ready.room, len-entries t, len-entries change.new, ap length placed.placed, length_under change.at (entries change.new), count, ap (λ es. length (before change.at es)) same, ap (λ es. length (behind change.at es)) same)
+      omega (
+        arith,
+        ready.room,
+        len-entries t,
+        len-entries change.new,
+        ap length placed.placed,
+        length_under change.at (entries change.new),
+        count,
+        ap (λ es. length (before change.at es)) same,
+        ap (λ es. length (behind change.at es)) same,
+      )
 
 -- ---- what is allowed
 
-pub allowed_parts : (t : Tree) (p : Path) (u : Tree) → replace_refusal t p u ≡ None → (is_root p ≡ false) × ((is_directory t (parent p) ≡ true) × (fits_archive (replace t p u) ≡ true))
-allowed_parts t p u h = by (is_root p) (is_directory t (parent p)) (fits_archive (replace t p u)) refl refl refl
+pub allowed_parts : (t : Tree) (p : Path) (u : Tree) →
+    replace_refusal t p u ≡ None → (is_root p ≡ false)
+    × ((is_directory t (parent p) ≡ true) × (fits_archive (replace t p u) ≡ true))
+allowed_parts t p u h =
+    by (is_root p) (is_directory t (parent p)) (fits_archive (replace t p u)) refl refl refl
   where
     asked : (a b c : Bool) → Option Refusal
-    asked a b c = if a then Some Root else (if not b then Some NoParent else (if not c then Some Full else None))
+    asked a b c =
+        if a then Some Root
+        else (if not b then Some NoParent else (if not c then Some Full else None))
 
-    by : (a b c : Bool) → is_root p ≡ a → is_directory t (parent p) ≡ b → fits_archive (replace t p u) ≡ c → (is_root p ≡ false) × ((is_directory t (parent p) ≡ true) × (fits_archive (replace t p u) ≡ true))
+    by : (a b c : Bool) → is_root p ≡ a → is_directory t (parent p) ≡ b →
+        fits_archive (replace t p u) ≡ c → (is_root p ≡ false)
+        × ((is_directory t (parent p) ≡ true) × (fits_archive (replace t p u) ≡ true))
     by false true true e f g = (e, (f, g))
-    by true b c e f g = absurd (none-some _ (sym h ∙ ap (λ x. if x then Some Root else (if not (is_directory t (parent p)) then Some NoParent else (if not (fits_archive (replace t p u)) then Some Full else None))) e))
-    by false false c e f g = absurd (none-some _ (sym h ∙ (ap (λ x. if x then Some Root else (if not (is_directory t (parent p)) then Some NoParent else (if not (fits_archive (replace t p u)) then Some Full else None))) e
-        ∙ ap (λ x. if not x then Some NoParent else (if not (fits_archive (replace t p u)) then Some Full else None)) f)))
-    by false true false e f g = absurd (none-some _ (sym h ∙ (ap (λ x. if x then Some Root else (if not (is_directory t (parent p)) then Some NoParent else (if not (fits_archive (replace t p u)) then Some Full else None))) e
-        ∙ (ap (λ x. if not x then Some NoParent else (if not (fits_archive (replace t p u)) then Some Full else None)) f ∙ ap (λ x. if not x then Some Full else None) g))))
+    by true b c e f g =
+        absurd (none-some _ (sym h
+        ∙ ap (λ x. if x then Some Root else (if not (is_directory t (parent p)) then Some NoParent
+        else (if not (fits_archive (replace t p u)) then Some Full else None))) e))
+    by false false c e f g =
+        absurd (none-some _
+        (sym h ∙ (ap (λ x. if x then Some Root else (if not (is_directory t (parent p)) then Some
+        NoParent else (if not (fits_archive (replace t p u)) then Some Full else None))) e
+        ∙ ap (λ x. if not x then Some NoParent
+        else (if not (fits_archive (replace t p u)) then Some Full else None)) f)))
+    by false true false e f g =
+        absurd (none-some _
+        (sym h ∙ (ap (λ x. if x then Some Root else (if not (is_directory t (parent p)) then Some
+        NoParent else (if not (fits_archive (replace t p u)) then Some Full else None))) e
+        ∙ (ap (λ x. if not x then Some NoParent else (if not (fits_archive (replace t p u))
+        then Some Full else None)) f ∙ ap (λ x. if not x then Some Full else None) g))))
 
 -- the paths that are put keep their limits
-pub allowed_paths : (t : Tree) (p : Path) (u : Tree) → fits_archive t ≡ true → replace_refusal t p u ≡ None → paths_fit (under p (entries u)) ≡ true
+pub allowed_paths : (t : Tree) (p : Path) (u : Tree) → fits_archive t ≡ true →
+    replace_refusal t p u ≡ None → paths_fit (under p (entries u)) ≡ true
 allowed_paths t p u fits h =
     let paths = (and_parts (nat_le (len t) 4096) (fits_paths t) fits).1 in
-    let after = (and_parts (nat_le (len (replace t p u)) 4096) (fits_paths (replace t p u)) (allowed_parts t p u h).1.1).1 in
+    let after = (and_parts (nat_le (len (replace t p u)) 4096) (fits_paths (replace t p u))
+    (allowed_parts t p u h).1.1).1 in
     sym (ap paths_fit (entries-replace t p u) ∙ paths_replaced t p (entries u) paths) ∙ after
 
 -- what is added is taken from the place
-pub taken_is : (at : Path) (u : Tree) (added : Pairs) → added ≡ under at (entries u) → taken_from at added ≡ u
+pub taken_is : (at : Path) (u : Tree) (added : Pairs) → added ≡ under at (entries u) →
+    taken_from at added ≡ u
 taken_is at u added e = ap (λ es. taken_from at es) e ∙ part-under at u
 
-pub spaced_of : (at at' : Path) (u : Tree) (added space : Pairs) → at' ≡ at → IsPath at → IsMarks u → added ≡ under at (entries u) → space ≡ [] → IsSpaced at' added space
+pub spaced_of : (at at' : Path) (u : Tree) (added space : Pairs) → at' ≡ at → IsPath at →
+    IsMarks u → added ≡ under at (entries u) → space ≡ [] → IsSpaced at' added space
 spaced_of at at' u added space same path marks e empty =
     let taken = ap (λ p. taken_from p added) same ∙ taken_is at u added e in
     record {
@@ -169,10 +247,15 @@ spaced_of at at' u added space same path marks e empty =
       empty = empty;
     }
 
-pub placed_change : (at : Path) (added space : Pairs) (change : Replacement) → at ≡ change.at → taken_from at added ≡ change.new → IsSpaced at added space → ArePlaced change.at change.new added
-placed_change at added space change e f h = subst (λ w. ArePlaced change.at w added) f (subst (λ p. ArePlaced p (taken_from at added) added) e h.placed)
+pub placed_change : (at : Path) (added space : Pairs) (change : Replacement) → at ≡ change.at →
+    taken_from at added ≡ change.new → IsSpaced at added space →
+    ArePlaced change.at change.new added
+placed_change at added space change e f h =
+    subst (λ w. ArePlaced change.at w added) f
+    (subst (λ p. ArePlaced p (taken_from at added) added) e h.placed)
 
-pub under_all : (at : Path) (es : Pairs) → paths_fit (under at es) ≡ list_all (λ (pair : Pair). fits_path (at ++ pair.0)) es
+pub under_all : (at : Path) (es : Pairs) →
+    paths_fit (under at es) ≡ list_all (λ (pair : Pair). fits_path (at ++ pair.0)) es
 under_all at [] = refl
 under_all at (e ∷ es) = ap (λ b. fits_path (at ++ e.0) && b) (under_all at es)
 
@@ -180,10 +263,19 @@ pub none_under : (at : Path) → [] ≡ under at (entries absent)
 none_under at = sym (ap (under at) entries-absent)
 
 -- the limits by what is counted before the change
-pub fits_count : (t u : Tree) (at : Path) (ds us : Pairs) (count : ℕ) → ds ≡ entries t → us ≡ entries u → fits_archive t ≡ true → count + length (within at ds) ≡ length ds + length us →
+pub fits_count : (t u : Tree) (at : Path) (ds us : Pairs) (count : ℕ) → ds ≡ entries t →
+    us ≡ entries u → fits_archive t ≡ true → count + length (within at ds) ≡ length ds + length us →
     fits_archive (replace t at u) ≡ (nat_le count 4096 && paths_fit (under at us))
 fits_count t u at ds us count e f fits counts =
-    fits_replaced t at u count fits (omega (arith, counts, len-entries t, len-entries u, ap length e, ap length f, ap (λ xs. length (within at xs)) e))
+    fits_replaced t at u count fits (omega (
+      arith,
+      counts,
+      len-entries t,
+      len-entries u,
+      ap length e,
+      ap length f,
+      ap (λ xs. length (within at xs)) e,
+    ))
     ∙ ap (λ xs. nat_le count 4096 && paths_fit (under at xs)) (sym f)
 
 few : (n : ℕ) → n ≤ 4096 → nat_le n 4096 ≡ true
@@ -192,16 +284,27 @@ few n h = grind (arith, nat_tests)
 many : (n : ℕ) → 4096 < n → nat_le n 4096 ≡ false
 many n h = grind (arith, nat_tests)
 
-pub fits_none : (t : Tree) (at : Path) (ds : Pairs) (count : ℕ) → ds ≡ entries t → fits_archive t ≡ true → count + length (within at ds) ≡ length ds → nat_le count 4096 ≡ fits_archive (replace t at absent)
-fits_none t at ds count e fits counts = sym (fits_count t absent at ds [] count e (sym entries-absent) fits (omega (arith, counts)) ∙ and_true (nat_le count 4096))
+pub fits_none : (t : Tree) (at : Path) (ds : Pairs) (count : ℕ) → ds ≡ entries t →
+    fits_archive t ≡ true → count + length (within at ds) ≡ length ds →
+    nat_le count 4096 ≡ fits_archive (replace t at absent)
+fits_none t at ds count e fits counts =
+    sym (fits_count t absent at ds [] count e (sym entries-absent) fits (omega (arith, counts))
+    ∙ and_true (nat_le count 4096))
 
-pub fits_some : (t u : Tree) (at : Path) (ds us : Pairs) (count : ℕ) (paths : Bool) → ds ≡ entries t → us ≡ entries u → fits_archive t ≡ true → count + length (within at ds) ≡ length ds + length us →
-    count ≤ 4096 → paths ≡ paths_fit (under at us) → paths ≡ fits_archive (replace t at u)
-fits_some t u at ds us count paths e f fits counts l p = p ∙ sym (fits_count t u at ds us count e f fits counts ∙ ap (λ b. b && paths_fit (under at us)) (few count l))
+pub fits_some : (t u : Tree) (at : Path) (ds us : Pairs) (count : ℕ) (paths : Bool) →
+    ds ≡ entries t → us ≡ entries u → fits_archive t ≡ true →
+    count + length (within at ds) ≡ length ds + length us → count ≤ 4096 →
+    paths ≡ paths_fit (under at us) → paths ≡ fits_archive (replace t at u)
+fits_some t u at ds us count paths e f fits counts l p =
+    p ∙ sym (fits_count t u at ds us count e f fits counts
+    ∙ ap (λ b. b && paths_fit (under at us)) (few count l))
 
-pub fits_not : (t u : Tree) (at : Path) (ds us : Pairs) (count : ℕ) → ds ≡ entries t → us ≡ entries u → fits_archive t ≡ true → count + length (within at ds) ≡ length ds + length us →
+pub fits_not : (t u : Tree) (at : Path) (ds us : Pairs) (count : ℕ) → ds ≡ entries t →
+    us ≡ entries u → fits_archive t ≡ true → count + length (within at ds) ≡ length ds + length us →
     4096 < count → nat_le count 4096 ≡ fits_archive (replace t at u)
-fits_not t u at ds us count e f fits counts l = many count l ∙ sym (fits_count t u at ds us count e f fits counts ∙ ap (λ b. b && paths_fit (under at us)) (many count l))
+fits_not t u at ds us count e f fits counts l =
+    many count l ∙ sym (fits_count t u at ds us count e f fits counts
+    ∙ ap (λ b. b && paths_fit (under at us)) (many count l))
 
 -- what is put keeps the limits by itself
 pub put_part_fits : ReplacedIsThere → SubtreeFitsPaths → PutPartFits
@@ -212,16 +315,31 @@ put_part_fits there below t at u fits =
     let number = leb-true (len (replace t at u)) 4096 both.0 in
     let parts = length-append (before at es) (under at us ++ behind at es) in
     let rest = length-append (under at us) (behind at es) in
-    let small : len u ≤ 4096 = omega (arith, number, parts, rest, len-entries (replace t at u), ap length (entries-replace t at u), length_under at us, len-entries u) in
-    let paths : fits_paths u ≡ true = ap fits_paths (sym (there t at u)) ∙ below (replace t at u) at both.1 in
+    let small : len u ≤ 4096 = omega (
+      arith,
+      number,
+      parts,
+      rest,
+      len-entries (replace t at u),
+      ap length (entries-replace t at u),
+      length_under at us,
+      len-entries u,
+    ) in
+    let paths : fits_paths u ≡ true = ap fits_paths (sym (there t at u))
+    ∙ below (replace t at u) at both.1 in
     ap₂ (λ a b. a && b) (few (len u) small) paths
 
 -- a directory alone has one node, at the path itself
 next : (n : ℕ) → nat_lt n 4096 ≡ nat_le (n + 1) 4096
 next n = grind (arith, nat_tests)
 
-pub fits_dir : (t : Tree) (at : Path) (ds : Pairs) (count : ℕ) → ds ≡ entries t → fits_archive t ≡ true → count + length (within at ds) ≡ length ds → IsPath at → nat_lt count 4096 ≡ fits_archive (replace t at empty_directory)
+pub fits_dir : (t : Tree) (at : Path) (ds : Pairs) (count : ℕ) → ds ≡ entries t →
+    fits_archive t ≡ true → count + length (within at ds) ≡ length ds → IsPath at →
+    nat_lt count 4096 ≡ fits_archive (replace t at empty_directory)
 fits_dir t at ds count e fits counts lawful =
     let us : Pairs = (root, Directory) ∷ [] in
-    let one : paths_fit (under at us) ≡ true = ap (λ p. fits_path p && true) (append-nil at) ∙ ap (λ b. b && true) (path_fits at lawful) in
-    next count ∙ sym (fits_count t empty_directory at ds us (count + 1) e (sym (entries-one Directory)) fits (omega (arith, counts)) ∙ (ap (λ b. nat_le (count + 1) 4096 && b) one ∙ and_true (nat_le (count + 1) 4096)))
+    let one : paths_fit (under at us) ≡ true = ap (λ p. fits_path p && true) (append-nil at)
+    ∙ ap (λ b. b && true) (path_fits at lawful) in
+    next count ∙ sym (fits_count t empty_directory at ds us (count + 1) e
+    (sym (entries-one Directory)) fits (omega (arith, counts))
+    ∙ (ap (λ b. nat_le (count + 1) 4096 && b) one ∙ and_true (nat_le (count + 1) 4096)))

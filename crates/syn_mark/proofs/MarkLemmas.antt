@@ -1,5 +1,7 @@
 -- Lists of marks, and the trees that they are.
-use Rattle.std.proofs.Common.{◌≡◌, ◌≤◌, ◌<◌, ℕ, zero, suc, true, false, cond, ◌&&◌, nat_le, List, [], ◌∷◌, ◌++◌, length, refl, sym, ap, ap₂, ◌∙◌, subst, Option, Some, None, option_map, is_some, IsSome, append-nil, arith}
+use Rattle.std.proofs.Common.{◌≡◌, ◌≤◌, ◌<◌, ℕ, zero, suc, true, false, cond, ◌&&◌, nat_le, List}
+use Rattle.std.proofs.Common.{[], ◌∷◌, ◌++◌, length, refl, sym, ap, ap₂, ◌∙◌, subst, Option, Some}
+use Rattle.std.proofs.Common.{None, option_map, is_some, IsSome, append-nil, arith}
 use Rattle.std.specs.Int.{w32, to_be_bytes, byte_at, bytes_high_first}
 use Rattle.std.specs.Ordering.{eq_by_cmp}
 use Rattle.std.specs.List.{list_all, cons_option}
@@ -13,7 +15,8 @@ use Rattle.std.proofs.lemmas.Option.{none-some, same_Some}
 use Rattle.std.specs.Borrow.{Bor}
 use Rattle.sha2.specs.Sha256.{sha256, digest_bytes}
 use Rattle.syn_model.specs.Path.{Name, Path, path_cmp, root, strip_prefix}
-use Rattle.syn_model.specs.Tree.{Tree, Content, Contents, Pair, Directory, File, IsPart, at_root, is_present, subtree}
+use Rattle.syn_model.specs.Tree.{Tree, Content, Contents, Pair, Directory, File, IsPart, at_root}
+use Rattle.syn_model.specs.Tree.{is_present, subtree}
 use Rattle.syn_model.specs.Event.{AreBytes}
 use Rattle.syn_model.specs.Mark.{mark, mark_of, IsMarks}
 use Rattle.syn_model.specs.Limits.{children, only_name, fits_archive, fits_path, fits_paths}
@@ -24,7 +27,9 @@ use Rattle.syn_model.proofs.MarkLemmas.{get-mark, mark-digests}
 use Rattle.syn_model.proofs.SubtreeLemmas.{subtree-is_part, subtree-fits_paths}
 use Rattle.syn_placed.specs.Pairs.{Pairs, AreRising}
 use Rattle.syn_placed.proofs.RisingLemmas.{Rising, After, rising_of, are_rising, counted}
-use Rattle.syn_placed.proofs.TreeLemmas.{entries-rising, get-rising, rising-entries, from_entries-same, entries-one, entries-subtree, within-taken}
+use Rattle.syn_placed.proofs.TreeLemmas.{entries-rising, get-rising, rising-entries}
+use Rattle.syn_placed.proofs.TreeLemmas.{from_entries-same, entries-one, entries-subtree}
+use Rattle.syn_placed.proofs.TreeLemmas.{within-taken}
 use Rattle.syn_tree.proofs.PartLemmas.{length_under}
 use Rattle.syn_tree.specs.Lists.{contents_at}
 use Rattle.syn_mark.specs.declared.mark.Mark.{Mark}
@@ -43,7 +48,8 @@ pub marks_same : (t : Tree) (ds : Pairs) → ds ≡ entries t → marks_with ds 
 marks_same t ds e = ap (λ es. from_sorted {R = path_cmp} es) e ∙ from_entries-same t
 
 -- the list of a tree that is marks
-pub are_marks : (t : Tree) (ds : Pairs) → ds ≡ entries t → is_present t root ≡ true → IsMarks t → fits_archive t ≡ true → AreMarks ds
+pub are_marks : (t : Tree) (ds : Pairs) → ds ≡ entries t → is_present t root ≡ true → IsMarks t →
+    fits_archive t ≡ true → AreMarks ds
 are_marks t ds e present marks fits =
     let same = marks_same t ds e in
     record {
@@ -55,7 +61,8 @@ are_marks t ds e present marks fits =
 
 -- ---- one mark
 
-lawful_bytes : (c : Content) → IsDigestOrDirectory c → (contents : Contents) → c ≡ File contents → AreBytes contents.bytes × (length contents.bytes ≡ 32)
+lawful_bytes : (c : Content) → IsDigestOrDirectory c → (contents : Contents) → c ≡ File contents →
+    AreBytes contents.bytes × (length contents.bytes ≡ 32)
 lawful_bytes c h contents e = subst IsDigestOrDirectory e h
 
 pub one_marks : (c : Content) → IsDigestOrDirectory c → IsMarks (at_root c)
@@ -68,7 +75,9 @@ pub one_present : (c : Content) → is_present (at_root c) root ≡ true
 one_present c = ap is_some (get-at_root c root)
 
 pub one_fits : (c : Content) → fits_archive (at_root c) ≡ true
-one_fits c = ap₂ (λ n es. nat_le n 4096 && list_all (λ (pair : Pair). fits_path pair.0) es) (len-entries (at_root c) ∙ ap length (entries-one c)) (entries-one c)
+one_fits c =
+    ap₂ (λ n es. nat_le n 4096 && list_all (λ (pair : Pair). fits_path pair.0) es)
+    (len-entries (at_root c) ∙ ap length (entries-one c)) (entries-one c)
 
 pub one_entries : (c : Content) → (root, c) ∷ [] ≡ entries (at_root c)
 one_entries c = sym (entries-one c)
@@ -81,18 +90,28 @@ fewer m n h k = grind (arith, nat_tests)
 part_length : (t : Tree) (at : Path) → len (subtree t at) ≤ len t
 part_length t at =
     let es = entries t in
-    omega (arith, len-entries t, len-entries (subtree t at), ap length (entries-subtree t at), sym (length_under at _) ∙ sym (ap length (within-taken at es)), counted at es (rising-entries t))
+    omega (
+      arith,
+      len-entries t,
+      len-entries (subtree t at),
+      ap length (entries-subtree t at),
+      sym
+          (length_under at _) ∙ sym (ap length (within-taken at es)),
+      counted at es (rising-entries t),
+    )
 
 pub part_marks : (t : Tree) (at : Path) → IsMarks t → IsMarks (subtree t at)
 part_marks t at h = record {
   part = subtree-is_part t at h.part;
-  digests = λ path contents found. h.digests (at ++ path) contents (sym (get-subtree t at path) ∙ found);
+  digests =
+      λ path contents found. h.digests (at ++ path) contents (sym (get-subtree t at path) ∙ found);
 }
 
 pub part_fits : (t : Tree) (at : Path) → fits_archive t ≡ true → fits_archive (subtree t at) ≡ true
 part_fits t at h =
     let both = and_parts (nat_le (len t) 4096) (fits_paths t) h in
-    ap₂ (λ a b. a && b) (fewer (len (subtree t at)) (len t) (part_length t at) both.0) (subtree-fits_paths t at both.1)
+    ap₂ (λ a b. a && b) (fewer (len (subtree t at)) (len t) (part_length t at) both.0)
+    (subtree-fits_paths t at both.1)
 
 -- ---- the marks of a tree
 
@@ -108,7 +127,8 @@ pub entries-mark : (t : Tree) → entries (mark t) ≡ marked (entries t)
 unfolding mark
 entries-mark t =
     let rising = rising-marked (entries t) (rising-entries t) in
-    ap entries (same_tree (mark t) (marks_with (marked (entries t))) (λ q. get-from_entries path_total (marked (entries t)) q ∙ sym (get-rising (marked (entries t)) q rising)))
+    ap entries (same_tree (mark t) (marks_with (marked (entries t))) (λ q. get-from_entries
+    path_total (marked (entries t)) q ∙ sym (get-rising (marked (entries t)) q rising)))
     ∙ entries-rising (marked (entries t)) rising
 
 some_mapped : (o : Option Content) → is_some (option_map mark_of o) ≡ is_some o
@@ -125,20 +145,26 @@ byte_below (suc k) n = omega arith
 
 high_bytes : (k n : ℕ) → AreBytes (bytes_high_first k n)
 high_bytes zero n = All-nil (λ byte. byte < 256)
-high_bytes (suc k) n = All-cons (λ byte. byte < 256) (byte_at k n) (bytes_high_first k n) (byte_below k n) (high_bytes k n)
+high_bytes (suc k) n =
+    All-cons (λ byte. byte < 256) (byte_at k n) (bytes_high_first k n) (byte_below k n)
+    (high_bytes k n)
 
 words_bytes : (h : List ℕ) (n : ℕ) → AreBytes (digest_bytes h n)
 unfolding digest_bytes
 words_bytes h zero = All-nil (λ byte. byte < 256)
-words_bytes h (suc n) = All-append (λ byte. byte < 256) (digest_bytes h n) (to_be_bytes w32 _) (words_bytes h n) (high_bytes 4 _)
+words_bytes h (suc n) =
+    All-append (λ byte. byte < 256) (digest_bytes h n) (to_be_bytes w32 _) (words_bytes h n)
+    (high_bytes 4 _)
 
 digest_is_bytes : (bytes : List ℕ) → AreBytes (sha256 bytes)
 unfolding sha256
 digest_is_bytes bytes = words_bytes _ 8
 
-bytes_of_mark : (o : Option Content) (contents : Contents) → option_map mark_of o ≡ Some (File contents) → AreBytes contents.bytes
+bytes_of_mark : (o : Option Content) (contents : Contents) →
+    option_map mark_of o ≡ Some (File contents) → AreBytes contents.bytes
 bytes_of_mark None contents e = absurd (none-some _ e)
-bytes_of_mark (Some Directory) contents e = absurd (let x : Directory ≡ File contents = same_Some _ _ e in cc)
+bytes_of_mark (Some Directory) contents e =
+    absurd (let x : Directory ≡ File contents = same_Some _ _ e in cc)
 bytes_of_mark (Some (File was)) contents e =
     let x : File (record was { bytes = sha256 was.bytes }) ≡ File contents = same_Some _ _ e in
     let same : record was { bytes = sha256 was.bytes } ≡ contents = cc in
@@ -147,7 +173,9 @@ bytes_of_mark (Some (File was)) contents e =
 pub mark_is_marks : (t : Tree) → IsPart t → IsMarks (mark t)
 mark_is_marks t h = record {
   part = record {
-    parents = λ p n r some. get-mark t p ∙ ap (option_map mark_of) (h.parents p n r (there_of t (p ++ n ∷ r) some));
+    parents =
+        λ p n r some. get-mark t p
+        ∙ ap (option_map mark_of) (h.parents p n r (there_of t (p ++ n ∷ r) some));
     names = λ p some. h.names p (there_of t p some);
     bytes = λ p contents found. bytes_of_mark (get t p) contents (sym (get-mark t p) ∙ found);
   };
@@ -161,7 +189,8 @@ length_marked : (es : Pairs) → length (marked es) ≡ length es
 length_marked [] = refl
 length_marked (e ∷ es) = ap suc (length_marked es)
 
-paths_marked : (es : Pairs) → list_all (λ (pair : Pair). fits_path pair.0) (marked es) ≡ list_all (λ pair. fits_path pair.0) es
+paths_marked : (es : Pairs) → list_all (λ (pair : Pair). fits_path pair.0) (marked es)
+    ≡ list_all (λ pair. fits_path pair.0) es
 paths_marked [] = refl
 paths_marked (e ∷ es) = ap (λ b. fits_path e.0 && b) (paths_marked es)
 
@@ -171,42 +200,63 @@ few n h = grind (arith, nat_tests)
 pub mark_fits : (t : Tree) → len t ≤ 4096 → fits_paths t ≡ true → fits_archive (mark t) ≡ true
 mark_fits t count paths =
     ap₂ (λ a b. a && b)
-    (ap (λ n. nat_le n 4096) (len-entries (mark t) ∙ (ap length (entries-mark t) ∙ (length_marked (entries t) ∙ sym (len-entries t)))) ∙ few (len t) count)
-    (ap (list_all (λ (pair : Pair). fits_path pair.0)) (entries-mark t) ∙ (paths_marked (entries t) ∙ paths))
+    (ap (λ n. nat_le n 4096) (len-entries (mark t) ∙ (ap length (entries-mark t)
+    ∙ (length_marked (entries t) ∙ sym (len-entries t)))) ∙ few (len t) count)
+    (ap (list_all (λ (pair : Pair). fits_path pair.0)) (entries-mark t)
+    ∙ (paths_marked (entries t) ∙ paths))
 
 -- the mark of one content
 pub mark_one : (c : Content) → at_root (mark_of c) ≡ mark (at_root c)
-mark_one c = same_tree (at_root (mark_of c)) (mark (at_root c)) (λ q. get-at_root (mark_of c) q ∙ (chosen q ∙ (ap (option_map mark_of) (sym (get-at_root c q)) ∙ sym (get-mark (at_root c) q))))
+mark_one c =
+    same_tree (at_root (mark_of c)) (mark (at_root c)) (λ q. get-at_root (mark_of c) q ∙ (chosen q
+    ∙ (ap (option_map mark_of) (sym (get-at_root c q)) ∙ sym (get-mark (at_root c) q))))
   where
-    chosen : (q : Path) → cond (eq_by_cmp path_cmp q root) (Some (mark_of c)) None ≡ option_map mark_of (cond (eq_by_cmp path_cmp q root) (Some c) None)
-    chosen q = elim (eq_by_cmp path_cmp q root) as (λ b. cond b (Some (mark_of c)) None ≡ option_map mark_of (cond b (Some c) None)) [ true ↦ refl | false ↦ refl ]
+    chosen : (q : Path) → cond (eq_by_cmp path_cmp q root) (Some (mark_of c)) None
+        ≡ option_map mark_of (cond (eq_by_cmp path_cmp q root) (Some c) None)
+    chosen q =
+        elim (eq_by_cmp path_cmp q root)
+        as (λ b. cond b (Some (mark_of c)) None ≡ option_map mark_of (cond b (Some c) None))
+        [ true ↦ refl | false ↦ refl ]
 
-pub part_present : (t : Tree) (at : Path) (c : Content) → get t at ≡ Some c → is_present (subtree t at) root ≡ true
+pub part_present : (t : Tree) (at : Path) (c : Content) → get t at ≡ Some c →
+    is_present (subtree t at) root ≡ true
 part_present t at c here = ap is_some (get-subtree t at root ∙ (ap (get t) (append-nil at) ∙ here))
 
 -- the marks in a directory are those of what is in it
-marks_in : (path : Path) (es : Pairs) →
-    marks_of (filter_map {Y = Name × Content} (λ pair. option_map (λ name. (name, pair.1)) (option_and_then only_name (strip_prefix path pair.0))) es)
-    ≡ filter_map {Y = Name × Content} (λ pair. option_map (λ name. (name, pair.1)) (option_and_then only_name (strip_prefix path pair.0))) (marked es)
+marks_in : (path : Path) (es : Pairs) → marks_of (filter_map {Y = Name × Content} (λ pair.
+    option_map (λ name. (name, pair.1)) (option_and_then only_name (strip_prefix path pair.0))) es)
+    ≡ filter_map {Y = Name × Content} (λ pair. option_map (λ name. (name, pair.1))
+    (option_and_then only_name (strip_prefix path pair.0))) (marked es)
 marks_in path [] = refl
 marks_in path (e ∷ es) = one (option_and_then only_name (strip_prefix path e.0)) (marks_in path es)
   where
-    one : (o : Option Name) → marks_of (filter_map {Y = Name × Content} (λ pair. option_map (λ name. (name, pair.1)) (option_and_then only_name (strip_prefix path pair.0))) es)
-        ≡ filter_map {Y = Name × Content} (λ pair. option_map (λ name. (name, pair.1)) (option_and_then only_name (strip_prefix path pair.0))) (marked es) →
-        marks_of (cons_option (option_map (λ name. (name, e.1)) o) (filter_map {Y = Name × Content} (λ pair. option_map (λ name. (name, pair.1)) (option_and_then only_name (strip_prefix path pair.0))) es))
-        ≡ cons_option (option_map (λ name. (name, mark_of e.1)) o) (filter_map {Y = Name × Content} (λ pair. option_map (λ name. (name, pair.1)) (option_and_then only_name (strip_prefix path pair.0))) (marked es))
+    one : (o : Option Name) → marks_of (filter_map {Y = Name × Content} (λ pair. option_map
+        (λ name. (name, pair.1)) (option_and_then only_name (strip_prefix path pair.0))) es)
+        ≡ filter_map {Y = Name × Content} (λ pair. option_map (λ name. (name, pair.1))
+        (option_and_then only_name (strip_prefix path pair.0))) (marked es) → marks_of (cons_option
+        (option_map (λ name. (name, e.1)) o) (filter_map {Y = Name × Content} (λ pair. option_map
+        (λ name. (name, pair.1)) (option_and_then only_name (strip_prefix path pair.0))) es))
+        ≡ cons_option (option_map (λ name. (name, mark_of e.1)) o)
+        (filter_map {Y = Name × Content} (λ pair. option_map (λ name. (name, pair.1))
+        (option_and_then only_name (strip_prefix path pair.0))) (marked es))
     one None rest = rest
     one (Some n) rest = ap (λ xs. (n, mark_of e.1) ∷ xs) rest
 
 pub children-mark : (t : Tree) (path : Path) → marks_of (children t path) ≡ children (mark t) path
 children-mark t path =
-    marks_in path (entries t) ∙ ap (λ es. filter_map {Y = Name × Content} (λ pair. option_map (λ name. (name, pair.1)) (option_and_then only_name (strip_prefix path pair.0))) es) (sym (entries-mark t))
+    marks_in path (entries t)
+    ∙ ap (λ es. filter_map {Y = Name × Content} (λ pair. option_map (λ name. (name, pair.1))
+    (option_and_then only_name (strip_prefix path pair.0))) es) (sym (entries-mark t))
 
 -- one child more has one mark more
-pub marks-more : (listed : List (Name × Mark)) (read : List (Name × Bor Pair)) (x : Name × Bor Pair) (m : Mark) → contents_in listed ≡ marks_of (contents_at read) → content_of m ≡ mark_of x.1.now.1 →
+pub marks-more : (listed : List (Name × Mark)) (read : List (Name × Bor Pair)) (x : Name × Bor Pair)
+    (m : Mark) → contents_in listed ≡ marks_of (contents_at read) →
+    content_of m ≡ mark_of x.1.now.1 →
     contents_in (listed ++ (x.0, m) ∷ []) ≡ marks_of (contents_at (read ++ x ∷ []))
 marks-more listed read x m so_far is =
     map-append (λ (entry : Name × Mark). (entry.0, content_of entry.1)) listed ((x.0, m) ∷ [])
     ∙ (ap₂ (λ xs c. xs ++ (x.0, c) ∷ []) so_far is
-    ∙ sym (ap marks_of (map-append (λ (child : Name × Bor Pair). (child.0, child.1.now.1)) read (x ∷ []))
-    ∙ map-append (λ (child : Name × Content). (child.0, mark_of child.1)) (contents_at read) ((x.0, x.1.now.1) ∷ [])))
+    ∙ sym (ap marks_of
+    (map-append (λ (child : Name × Bor Pair). (child.0, child.1.now.1)) read (x ∷ []))
+    ∙ map-append (λ (child : Name × Content). (child.0, mark_of child.1)) (contents_at read)
+    ((x.0, x.1.now.1) ∷ [])))

@@ -11,10 +11,14 @@ within_is : (t : Tree) (at : Path) → within at (entries t) ≡ under at (entri
 within_is t at = within-taken at (entries t) ∙ ap (under at) (sym (entries-subtree t at))
 
 part_is : (t : Tree) (at : Path) → subtree t at ≡ subtree (marks_with (within at (entries t))) at
-part_is t at = sym (part-under at (subtree t at)) ∙ ap (λ es. subtree (marks_with es) at) (sym (within_is t at))
+part_is t at =
+    sym (part-under at (subtree t at))
+    ∙ ap (λ es. subtree (marks_with es) at) (sym (within_is t at))
 
-pub same_part : (t u : Tree) (at : Path) → within at (entries t) ≡ within at (entries u) → subtree t at ≡ subtree u at
+pub same_part : (t u : Tree) (at : Path) → within at (entries t) ≡ within at (entries u) →
+    subtree t at ≡ subtree u at
 same_part t u at e = part_is t at ∙ (ap (λ es. subtree (marks_with es) at) e ∙ sym (part_is u at))
 
-pub same_within : (t u : Tree) (at : Path) → subtree t at ≡ subtree u at → within at (entries t) ≡ within at (entries u)
+pub same_within : (t u : Tree) (at : Path) → subtree t at ≡ subtree u at →
+    within at (entries t) ≡ within at (entries u)
 same_within t u at e = within_is t at ∙ (ap (λ w. under at (entries w)) e ∙ sym (within_is u at))

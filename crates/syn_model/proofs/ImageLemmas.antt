@@ -1,5 +1,6 @@
 -- Images and payloads stand for histories.
-use Rattle.std.proofs.Common.{◌≡◌, true, List, [], ◌∷◌, ◌++◌, fold, refl, sym, ap, ◌∙◌, subst, arith}
+use Rattle.std.proofs.Common.{◌≡◌, true, List, [], ◌∷◌, ◌++◌, fold, refl, sym, ap, ◌∙◌, subst}
+use Rattle.std.proofs.Common.{arith}
 use Rattle.std.proofs.lemmas.List.{map-append}
 use Rattle.std.proofs.lemmas.List.Sums.{fold-append}
 use Rattle.std.proofs.lemmas.List.Elements.{All-nil}
@@ -7,7 +8,8 @@ use Rattle.std.specs.FinMap.{len-entries}
 use Rattle.syn_model.specs.Tree.{empty_directory}
 use Rattle.syn_model.specs.Limits.{fits_replica}
 use Rattle.syn_model.specs.Event.{Event}
-use Rattle.syn_model.specs.Standing.{Standing, new_standing, standing_after, IsAllowedAt, AllAllowedAt}
+use Rattle.syn_model.specs.Standing.{Standing, new_standing, standing_after, IsAllowedAt}
+use Rattle.syn_model.specs.Standing.{AllAllowedAt}
 use Rattle.syn_model.specs.History.{tree_of}
 use Rattle.syn_model.specs.Spelling.{event_spelling}
 use Rattle.syn_model.specs.Image.{IsStanding}
@@ -48,9 +50,12 @@ formatted_stands pair = record {
   };
 }
 
-allowed-append : (standing : Standing) (events : List Event) (event : Event) → AllAllowedAt standing events → IsAllowedAt (fold standing_after standing events) event → AllAllowedAt standing (events ++ event ∷ [])
+allowed-append : (standing : Standing) (events : List Event) (event : Event) →
+    AllAllowedAt standing events → IsAllowedAt (fold standing_after standing events) event →
+    AllAllowedAt standing (events ++ event ∷ [])
 allowed-append standing [] event all one = (one, tt)
-allowed-append standing (e ∷ events) event all one = (all.0, allowed-append (standing_after standing e) events event all.1 one)
+allowed-append standing (e ∷ events) event all one =
+    (all.0, allowed-append (standing_after standing e) events event all.1 one)
 
 pub payload_goes_on : PayloadGoesOn
 payload_goes_on pair image payloads history event stands allowed = record {
@@ -60,8 +65,15 @@ payload_goes_on pair image payloads history event stands allowed = record {
     events = stands.gives.events ++ event ∷ [];
     sound = stands.gives.sound;
     image_is = stands.gives.image_is;
-    payloads_are = ap (λ xs. xs ++ event_spelling event ∷ []) stands.gives.payloads_are ∙ sym (map-append event_spelling stands.gives.events (event ∷ []));
-    allowed = allowed-append stands.gives.first stands.gives.events event stands.gives.allowed (subst (λ s. IsAllowedAt s event) stands.gives.last (record { lawful = allowed.lawful; not_refused = allowed.not_refused }));
-    last = standing_steps history event ∙ (ap (λ s. standing_after s event) stands.gives.last ∙ sym (fold-append standing_after stands.gives.first stands.gives.events (event ∷ [])));
+    payloads_are =
+        ap (λ xs. xs ++ event_spelling event ∷ []) stands.gives.payloads_are
+        ∙ sym (map-append event_spelling stands.gives.events (event ∷ []));
+    allowed =
+        allowed-append stands.gives.first stands.gives.events event stands.gives.allowed
+        (subst (λ s. IsAllowedAt s event) stands.gives.last
+        (record { lawful = allowed.lawful; not_refused = allowed.not_refused }));
+    last =
+        standing_steps history event ∙ (ap (λ s. standing_after s event) stands.gives.last
+        ∙ sym (fold-append standing_after stands.gives.first stands.gives.events (event ∷ [])));
   };
 }

@@ -19,6 +19,7 @@ pub mod PlanOrder
 pub mod DirectoryLemmas
 pub mod CarryLemmas
 pub mod DecisionLemmas
+pub mod PlaceLemmas
 pub mod ResultLemmas
 pub mod ExitLemmas
 pub mod PlanSteps

@@ -1,115 +1,64 @@
 -- What carrying out a plan gives, path by path.
-use Rattle.std.proofs.Common.{◌≡◌, ℕ, zero, suc, Bool, true, false, not, if◌then◌else◌, ◌&&◌, ◌||◌, List, [], ◌∷◌, ◌++◌, refl, sym, ap, ap₂, ◌∙◌, subst, Option, option_map, Some, None, true≢false, append_assoc, append-nil}
+use Rattle.std.proofs.Common.{◌≡◌, true, ◌&&◌, ◌++◌, refl, sym, ap, ap₂, ◌∙◌, subst, option_map}
+use Rattle.std.proofs.Common.{Some, true≢false, append-nil, ℕ, zero, suc, Bool, false, not}
+use Rattle.std.proofs.Common.{if◌then◌else◌, ◌||◌, List, ◌∷◌, append_assoc, []}
+use Rattle.std.specs.FinMap.{get}
+use Rattle.syn_model.specs.Path.{Path, Name, name_cmp, root, child, strip_prefix}
+use Rattle.syn_model.specs.Tree.{Tree, Directory, subtree, is_directory_content, HasParents}
+use Rattle.syn_model.specs.Tree.{replace, is_directory, empty_directory}
+use Rattle.syn_model.specs.Mark.{mark, mark_of, AreApart}
+use Rattle.syn_model.specs.Dirty.{is_same_tree}
+use Rattle.syn_model.specs.Reconcile.{is_relevant, IsSyncedAt, IsReconciledAt, is_directory_in_both}
+use Rattle.syn_model.specs.Reconcile.{is_alike, is_settled}
+use Rattle.syn_model.specs.Plan.{Trees, scan_of, names_below, with_items_below, items_from}
+use Rattle.syn_model.specs.Plan.{most_names, with_directory, after_item, carried_out, CanBePlanned}
+use Rattle.syn_model.specs.Plan.{after_plan, PlanSynchronizes, PlanReconciles}
+use Rattle.syn_model.proofs.TreeLemmas.{subtree-replace, subtree-append}
+use Rattle.syn_model.proofs.MarkLemmas.{get-mark, mark-subtree}
+use Rattle.syn_model.proofs.DirectoryLemmas.{moved-directory, root_content, same_content_at}
+use Rattle.syn_model.proofs.DirectoryLemmas.{from_names, none_of, not_there, absent_below}
+use Rattle.syn_model.proofs.DirectoryLemmas.{mark_none, below_new_directory}
+use Rattle.syn_model.proofs.CarryLemmas.{SameAt, same-deeper, SameContent, same_itself, same-then}
+use Rattle.syn_model.proofs.CarryLemmas.{untouched, beside_items}
+use Rattle.syn_model.proofs.PlanOrder.{below, decision-fits, items-at, prefix-append, siblings}
+use Rattle.syn_model.proofs.PlanOrder.{every-weaker, items-below, name_alike}
 use native.Mathlib.Omega.{arith}
 use Rattle.std.specs.Ordering.{eq_by_cmp}
 use Rattle.std.specs.List.{list_any}
-use Rattle.std.specs.FinMap.{get}
 use Rattle.std.proofs.lemmas.Bool.{false_from_ne_true, and_parts, or_parts, or_right}
 use Rattle.std.proofs.lemmas.List.Sums.{fold-append}
-use Rattle.std.proofs.lemmas.Option.{none-some}
-use Rattle.sha2.specs.Sha256.{sha256}
-use Rattle.syn_model.specs.Path.{Path, Name, Bytes, name_cmp, root, child, strip_prefix}
-use Rattle.syn_model.specs.Tree.{Tree, Content, Contents, contents_of, Directory, File, HasParents, subtree, replace, is_directory, is_directory_content, empty_directory}
-use Rattle.syn_model.specs.Mark.{mark, mark_of, AreApart}
-use Rattle.syn_model.specs.Dirty.{dirty, is_same_tree}
-use Rattle.syn_model.specs.Reconcile.{is_directory_in_both, is_relevant, is_alike, is_settled, IsSyncedAt, IsReconciledAt}
-use Rattle.syn_model.specs.Decision.{Item, ToLeft, ToRight, MarkSame, MarkDir, Decision, decision, path_of}
-use Rattle.syn_model.specs.Plan.{names_below, with_items_below, items_from, most_names, Trees, with_directory, after_item, carried_out, scan_of, CanBePlanned, after_plan, PlanSynchronizes, PlanReconciles}
+use Rattle.syn_model.specs.Decision.{Item, ToLeft, ToRight, MarkSame, MarkDir, Decision, decision}
+use Rattle.syn_model.specs.Decision.{path_of}
 use Rattle.syn_model.proofs.PathLemmas.{name_itself, same_name}
-use Rattle.syn_model.proofs.TreeLemmas.{same_tree, get-subtree, subtree-replace, subtree-append}
 use Rattle.syn_model.proofs.HistoryLemmas.{get-at_root}
-use Rattle.syn_model.proofs.MarkLemmas.{get-mark, mark-subtree}
 use Rattle.syn_model.proofs.DirtyLemmas.{same_tree_is, tree_itself, dirty-closed, dirty-safe}
 use Rattle.syn_model.proofs.SyncLemmas.{directory_is, child_relevant}
 use Rattle.syn_model.proofs.QuietLemmas.{directory_of_mark}
-use Rattle.syn_model.proofs.DirectoryLemmas.{root_content, same_content_at, moved-directory, from_names, none_of, not_there, absent_below, mark_none, below_new_directory}
-use Rattle.syn_model.proofs.CarryLemmas.{SameAt, SameContent, same_itself, same-then, same-deeper, untouched, beside_items}
-use Rattle.syn_model.proofs.DecisionLemmas.{left_dirty, right_dirty, by_decision, clean_below, clean_nothing, nothing_relevant, IsShallow, shallow_below}
+use Rattle.syn_model.proofs.DecisionLemmas.{left_dirty, right_dirty, by_decision, clean_below}
+use Rattle.syn_model.proofs.DecisionLemmas.{clean_nothing, nothing_relevant, IsShallow}
+use Rattle.syn_model.proofs.DecisionLemmas.{shallow_below}
 use Rattle.syn_model.proofs.PlanNames.{Apart, names_apart}
-use Rattle.syn_model.proofs.PlanOrder.{decision-fits, items-at, prefix-append, siblings, every-weaker, below, items-below, name_alike}
-
--- Marks of files that are apart
-
-bytes_in : Option Content → Bytes
-bytes_in None = []
-bytes_in (Some Directory) = []
-bytes_in (Some (File contents)) = contents.bytes
-
-unmarked : (x y : Option Content) → ((c d : Contents) → x ≡ Some (File c) → y ≡ Some (File d) → sha256 c.bytes ≡ sha256 d.bytes → c.bytes ≡ d.bytes) → option_map mark_of x ≡ option_map mark_of y → x ≡ y
-unfolding bytes_in
-unmarked None None h e = refl
-unmarked None (Some d) h e = absurd (none-some _ e)
-unmarked (Some c) None h e = absurd (none-some _ (sym e))
-unmarked (Some Directory) (Some Directory) h e = refl
-unmarked (Some Directory) (Some (File d)) h e = absurd (true≢false (ap is_directory_content e))
-unmarked (Some (File c)) (Some Directory) h e = absurd (true≢false (sym (ap is_directory_content e)))
-unmarked (Some (File c)) (Some (File d)) h e = ap (λ z. Some (File (contents_of z))) (h c d refl refl (ap bytes_in e))
-
--- parts with one mark are one
-same_by_mark : (a b : Tree) → AreApart a b → (p : Path) → subtree (mark a) p ≡ subtree (mark b) p → subtree a p ≡ subtree b p
-same_by_mark a b apart p e = same_tree (subtree a p) (subtree b p) (λ q.
-    let at = p ++ q in
-    let marks : get (mark a) at ≡ get (mark b) at = sym (get-subtree (mark a) p q) ∙ (ap (λ w. get w q) e ∙ get-subtree (mark b) p q) in
-    get-subtree a p q ∙ (unmarked (get a at) (get b at) (apart at) (sym (get-mark a at) ∙ (marks ∙ get-mark b at)) ∙ sym (get-subtree b p q)))
-
--- The result at one path
-
--- the sides where files are apart, and the archive in any case
-record Result (a b o : Tree) (s : Trees) (path : Path) : Type 0 where
-  sides : AreApart a b → IsSyncedAt a b (dirty (scan_of a) o) (dirty (scan_of b) o) s.left s.right path
-  marks : IsReconciledAt a b (dirty (scan_of a) o) (dirty (scan_of b) o) s.left s.right o s.archive path
-
-moved-mark : (t u : Tree) (p : Path) → subtree t p ≡ subtree u p → subtree (mark t) p ≡ subtree (mark u) p
-moved-mark t u p e = sym (mark-subtree t p) ∙ (ap mark e ∙ mark-subtree u p)
-
--- a result at a path stays where what is there stays
-moved-result : (a b o : Tree) (s' s : Trees) (p : Path) → SameAt s' s p → Result a b o s p → Result a b o s' p
-moved-result a b o s' s p h r = record {
-  sides = λ apart.
-      let was = r.sides apart in
-      record {
-        left_clean = λ x. record { left_has = h.left ∙ (was.left_clean x).left_has; right_has = h.right ∙ (was.left_clean x).right_has };
-        right_clean = λ x. record { left_has = h.left ∙ (was.right_clean x).left_has; right_has = h.right ∙ (was.right_clean x).right_has };
-        directory = λ z. ap₂ (λ u v. u && v) (moved-directory s'.left s.left p h.left) (moved-directory s'.right s.right p h.right) ∙ was.directory z;
-        conflict = λ x y z. (h.left ∙ (was.conflict x y z).0, h.right ∙ (was.conflict x y z).1);
-      };
-  marks = record {
-    settled = λ e. record {
-      left_has = moved-mark s'.left s.left p h.left ∙ ((r.marks.settled e).left_has ∙ sym h.archive);
-      right_has = moved-mark s'.right s.right p h.right ∙ ((r.marks.settled e).right_has ∙ sym h.archive);
-    };
-    directory = λ z. moved-directory s'.archive s.archive p h.archive ∙ r.marks.directory z;
-    conflict = λ e z. h.archive ∙ r.marks.conflict e z;
-  };
-}
-
-abbrev start : Tree → Tree → Tree → Trees
-start a b o = record { left = a; right = b; archive = o }
-
-module _ (a b o : Tree) where
-  -- each relevant path at or below this one has its result
-  abbrev Good : Trees → Path → Type 0
-  Good s p = (q : Path) → is_relevant a b (p ++ q) ≡ true → Result a b o s (p ++ q)
-
-  moved-good : (s' s : Trees) (p : Path) → SameAt s' s p → Good s p → Good s' p
-  moved-good s' s p h g q r = moved-result a b o s' s (p ++ q) (same-deeper s' s p q h) (g q r)
-
-  good-here : (s : Trees) (p : Path) → Good s p → is_relevant a b p ≡ true → Result a b o s p
-  good-here s p g r = subst (Result a b o s) (append-nil p) (g [] (ap (is_relevant a b) (append-nil p) ∙ r))
+use Rattle.syn_model.proofs.PlaceLemmas.{same_by_mark, Result, moved-mark, start, Good, moved-good}
+use Rattle.syn_model.proofs.PlaceLemmas.{good-here}
 
 -- A plan from a path on, where both sides and the archive are still as they were
 
-module _ (a b o : Tree) (left_parents : HasParents a) (right_parents : HasParents b) (archive_parents : HasParents o) where
-  clean_here : (s : Trees) (p : Path) → SameAt s (start a b o) p → left_dirty a b o p ≡ false → right_dirty a b o p ≡ false → Result a b o s p
+module _ (a b o : Tree) (left_parents : HasParents a) (right_parents : HasParents b)
+    (archive_parents : HasParents o) where
+  clean_here : (s : Trees) (p : Path) → SameAt s (start a b o) p → left_dirty a b o p ≡ false →
+      right_dirty a b o p ≡ false → Result a b o s p
   clean_here s p h x y =
       let left_mark : subtree (mark a) p ≡ subtree o p = dirty-safe (scan_of a) o p x in
       let right_mark : subtree (mark b) p ≡ subtree o p = dirty-safe (scan_of b) o p y in
-      let same : AreApart a b → subtree a p ≡ subtree b p = λ apart. same_by_mark a b apart p (left_mark ∙ sym right_mark) in
+      let same : AreApart a b → subtree a p ≡ subtree b p =
+      λ apart. same_by_mark a b apart p (left_mark ∙ sym right_mark) in
       record {
         sides = λ apart. record {
           left_clean = λ _. record { left_has = h.left ∙ same apart; right_has = h.right };
           right_clean = λ _. record { left_has = h.left; right_has = h.right ∙ sym (same apart) };
-          directory = λ z. ap₂ (λ u v. u && v) (moved-directory s.left a p h.left) (moved-directory s.right b p h.right) ∙ z;
+          directory =
+              λ z. ap₂ (λ u v. u && v) (moved-directory s.left a p h.left)
+              (moved-directory s.right b p h.right) ∙ z;
           conflict = λ e _ _. absurd (true≢false (sym e ∙ x));
         };
         marks = record {
@@ -117,71 +66,116 @@ module _ (a b o : Tree) (left_parents : HasParents a) (right_parents : HasParent
             left_has = moved-mark s.left a p h.left ∙ (left_mark ∙ sym h.archive);
             right_has = moved-mark s.right b p h.right ∙ (right_mark ∙ sym h.archive);
           };
-          directory = λ z. moved-directory s.archive o p h.archive ∙ (moved-directory o (mark a) p (sym left_mark) ∙ (directory_of_mark a p ∙ (and_parts (is_directory a p) (is_directory b p) z).0));
+          directory =
+              λ z. moved-directory s.archive o p h.archive
+              ∙ (moved-directory o (mark a) p (sym left_mark)
+              ∙ (directory_of_mark a p ∙ (and_parts (is_directory a p) (is_directory b p) z).0));
           conflict = λ _ _. h.archive;
         };
       }
 
-  good_clean : (s : Trees) (p : Path) → SameAt s (start a b o) p → left_dirty a b o p ≡ false → right_dirty a b o p ≡ false → Good a b o s p
-  good_clean s p h x y q _ = clean_here s (p ++ q) (same-deeper s (start a b o) p q h) (clean_below o a p q x) (clean_below o b p q y)
+  good_clean : (s : Trees) (p : Path) → SameAt s (start a b o) p → left_dirty a b o p ≡ false →
+      right_dirty a b o p ≡ false → Good a b o s p
+  good_clean s p h x y q _ =
+      clean_here s (p ++ q) (same-deeper s (start a b o) p q h) (clean_below o a p q x)
+      (clean_below o b p q y)
 
-  only_here : (s : Trees) (p : Path) → is_directory_in_both a b p ≡ false → Result a b o s p → Good a b o s p
+  only_here : (s : Trees) (p : Path) → is_directory_in_both a b p ≡ false → Result a b o s p →
+      Good a b o s p
   only_here s p z r [] _ = subst (Result a b o s) (sym (append-nil p)) r
-  only_here s p z r (n ∷ q) relevant = absurd (nothing_relevant a b left_parents right_parents p n q z relevant)
+  only_here s p z r (n ∷ q) relevant =
+      absurd (nothing_relevant a b left_parents right_parents p n q z relevant)
 
   -- both sides have one part
-  one_part : (s : Trees) (p : Path) (part : Tree) → subtree s.left p ≡ part → subtree s.right p ≡ part → is_directory_in_both a b p ≡ false →
-      (left_dirty a b o p ≡ false → part ≡ subtree b p) → (right_dirty a b o p ≡ false → part ≡ subtree a p) →
-      (left_dirty a b o p ≡ true → right_dirty a b o p ≡ true → (part ≡ subtree a p) × (part ≡ subtree b p)) → IsSyncedAt a b (left_dirty a b o) (right_dirty a b o) s.left s.right p
+  one_part : (s : Trees) (p : Path) (part : Tree) → subtree s.left p ≡ part →
+      subtree s.right p ≡ part → is_directory_in_both a b p ≡ false →
+      (left_dirty a b o p ≡ false → part ≡ subtree b p) →
+      (right_dirty a b o p ≡ false → part ≡ subtree a p) → (left_dirty a b o p ≡ true →
+      right_dirty a b o p ≡ true → (part ≡ subtree a p) × (part ≡ subtree b p)) →
+      IsSyncedAt a b (left_dirty a b o) (right_dirty a b o) s.left s.right p
   one_part s p part left_has right_has z on_left on_right on_both = record {
     left_clean = λ x. record { left_has = left_has ∙ on_left x; right_has = right_has ∙ on_left x };
-    right_clean = λ y. record { left_has = left_has ∙ on_right y; right_has = right_has ∙ on_right y };
+    right_clean =
+        λ y. record { left_has = left_has ∙ on_right y; right_has = right_has ∙ on_right y };
     directory = λ e. absurd (true≢false (sym e ∙ z));
     conflict = λ x y _. (left_has ∙ (on_both x y).0, right_has ∙ (on_both x y).1);
   }
 
   -- and the archive has the mark of both
-  one_mark : (s : Trees) (p : Path) → mark (subtree s.left p) ≡ subtree s.archive p → mark (subtree s.right p) ≡ subtree s.archive p → is_directory_in_both a b p ≡ false →
-      is_settled a b (left_dirty a b o) (right_dirty a b o) p ≡ true → IsReconciledAt a b (left_dirty a b o) (right_dirty a b o) s.left s.right o s.archive p
+  one_mark : (s : Trees) (p : Path) → mark (subtree s.left p) ≡ subtree s.archive p →
+      mark (subtree s.right p) ≡ subtree s.archive p → is_directory_in_both a b p ≡ false →
+      is_settled a b (left_dirty a b o) (right_dirty a b o) p ≡ true →
+      IsReconciledAt a b (left_dirty a b o) (right_dirty a b o) s.left s.right o s.archive p
   one_mark s p left_has right_has z settled = record {
-    settled = λ _. record { left_has = sym (mark-subtree s.left p) ∙ left_has; right_has = sym (mark-subtree s.right p) ∙ right_has };
+    settled =
+        λ _. record {
+          left_has = sym (mark-subtree s.left p) ∙ left_has;
+          right_has = sym (mark-subtree s.right p) ∙ right_has;
+        };
     directory = λ e. absurd (true≢false (sym e ∙ z));
     conflict = λ e _. absurd (true≢false (sym settled ∙ e));
   }
 
-  settled_where : (p : Path) (x y v : Bool) → left_dirty a b o p ≡ x → right_dirty a b o p ≡ y → is_alike a b p ≡ v → (not (x && y) || v) ≡ true → is_settled a b (left_dirty a b o) (right_dirty a b o) p ≡ true
+  settled_where : (p : Path) (x y v : Bool) → left_dirty a b o p ≡ x → right_dirty a b o p ≡ y →
+      is_alike a b p ≡ v → (not (x && y) || v) ≡ true →
+      is_settled a b (left_dirty a b o) (right_dirty a b o) p ≡ true
   settled_where p x y v ex ey ev e = ap₂ (λ u w. u || w) (ap₂ (λ u w. not (u && w)) ex ey) ev ∙ e
 
-  to_right : (s : Trees) (p : Path) → SameAt s (start a b o) p → is_directory_in_both a b p ≡ false → left_dirty a b o p ≡ true → right_dirty a b o p ≡ false → Result a b o (after_item s (ToRight p)) p
+  to_right : (s : Trees) (p : Path) → SameAt s (start a b o) p →
+      is_directory_in_both a b p ≡ false → left_dirty a b o p ≡ true → right_dirty a b o p ≡ false →
+      Result a b o (after_item s (ToRight p)) p
   to_right s p h z x y =
       let put = subtree-replace s.right p (subtree s.left p) in
       let recorded = sym (subtree-replace s.archive p (mark (subtree s.left p))) in
       record {
-        sides = λ _. one_part (after_item s (ToRight p)) p (subtree a p) h.left (put ∙ h.left) z (λ e. absurd (true≢false (sym x ∙ e))) (λ _. refl) (λ _ e. absurd (true≢false (sym e ∙ y)));
-        marks = one_mark (after_item s (ToRight p)) p recorded (ap mark put ∙ recorded) z (settled_where p true false (is_alike a b p) x y refl refl);
+        sides =
+            λ _. one_part (after_item s (ToRight p)) p (subtree a p) h.left (put ∙ h.left) z
+            (λ e. absurd (true≢false (sym x ∙ e))) (λ _. refl)
+            (λ _ e. absurd (true≢false (sym e ∙ y)));
+        marks =
+            one_mark (after_item s (ToRight p)) p recorded (ap mark put ∙ recorded) z
+            (settled_where p true false (is_alike a b p) x y refl refl);
       }
 
-  to_left : (s : Trees) (p : Path) → SameAt s (start a b o) p → is_directory_in_both a b p ≡ false → left_dirty a b o p ≡ false → right_dirty a b o p ≡ true → Result a b o (after_item s (ToLeft p)) p
+  to_left : (s : Trees) (p : Path) → SameAt s (start a b o) p → is_directory_in_both a b p ≡ false →
+      left_dirty a b o p ≡ false → right_dirty a b o p ≡ true →
+      Result a b o (after_item s (ToLeft p)) p
   to_left s p h z x y =
       let put = subtree-replace s.left p (subtree s.right p) in
       let recorded = sym (subtree-replace s.archive p (mark (subtree s.right p))) in
       record {
-        sides = λ _. one_part (after_item s (ToLeft p)) p (subtree b p) (put ∙ h.right) h.right z (λ _. refl) (λ e. absurd (true≢false (sym y ∙ e))) (λ e _. absurd (true≢false (sym e ∙ x)));
-        marks = one_mark (after_item s (ToLeft p)) p (ap mark put ∙ recorded) recorded z (settled_where p false true (is_alike a b p) x y refl refl);
+        sides =
+            λ _. one_part (after_item s (ToLeft p)) p (subtree b p) (put ∙ h.right) h.right z
+            (λ _. refl) (λ e. absurd (true≢false (sym y ∙ e)))
+            (λ e _. absurd (true≢false (sym e ∙ x)));
+        marks =
+            one_mark (after_item s (ToLeft p)) p (ap mark put ∙ recorded) recorded z
+            (settled_where p false true (is_alike a b p) x y refl refl);
       }
 
-  mark_same : (s : Trees) (p : Path) → SameAt s (start a b o) p → is_directory_in_both a b p ≡ false → is_alike a b p ≡ true → Result a b o (after_item s (MarkSame p)) p
+  mark_same : (s : Trees) (p : Path) → SameAt s (start a b o) p →
+      is_directory_in_both a b p ≡ false → is_alike a b p ≡ true →
+      Result a b o (after_item s (MarkSame p)) p
   mark_same s p h z v =
-      let alike : subtree (mark a) p ≡ subtree (mark b) p = same_tree_is (subtree (mark a) p) (subtree (mark b) p) v in
-      let same : AreApart a b → subtree a p ≡ subtree b p = λ apart. same_by_mark a b apart p alike in
+      let alike : subtree (mark a) p ≡ subtree (mark b) p =
+      same_tree_is (subtree (mark a) p) (subtree (mark b) p) v in
+      let same : AreApart a b → subtree a p ≡ subtree b p =
+      λ apart. same_by_mark a b apart p alike in
       let recorded = sym (subtree-replace s.archive p (mark (subtree s.left p))) in
       record {
-        sides = λ apart. one_part (after_item s (MarkSame p)) p (subtree a p) h.left (h.right ∙ sym (same apart)) z (λ _. same apart) (λ _. refl) (λ _ _. (refl, same apart));
-        marks = one_mark (after_item s (MarkSame p)) p recorded (ap mark h.right ∙ (mark-subtree b p ∙ (sym alike ∙ (sym (mark-subtree a p) ∙ (ap mark (sym h.left) ∙ recorded))))) z
-            (ap (λ w. not (left_dirty a b o p && right_dirty a b o p) || w) v ∙ or_right (not (left_dirty a b o p && right_dirty a b o p)) true refl);
+        sides =
+            λ apart. one_part (after_item s (MarkSame p)) p (subtree a p) h.left (h.right
+            ∙ sym (same apart)) z (λ _. same apart) (λ _. refl) (λ _ _. (refl, same apart));
+        marks =
+            one_mark (after_item s (MarkSame p)) p recorded (ap mark h.right ∙ (mark-subtree b p
+            ∙ (sym alike ∙ (sym (mark-subtree a p) ∙ (ap mark (sym h.left) ∙ recorded))))) z
+            (ap (λ w. not (left_dirty a b o p && right_dirty a b o p) || w) v
+            ∙ or_right (not (left_dirty a b o p && right_dirty a b o p)) true refl);
       }
 
-  conflict : (s : Trees) (p : Path) → SameAt s (start a b o) p → is_directory_in_both a b p ≡ false → is_alike a b p ≡ false → left_dirty a b o p ≡ true → right_dirty a b o p ≡ true → Result a b o s p
+  conflict : (s : Trees) (p : Path) → SameAt s (start a b o) p →
+      is_directory_in_both a b p ≡ false → is_alike a b p ≡ false → left_dirty a b o p ≡ true →
+      right_dirty a b o p ≡ true → Result a b o s p
   conflict s p h z v x y = record {
     sides = λ _. record {
       left_clean = λ e. absurd (true≢false (sym x ∙ e));
@@ -190,7 +184,8 @@ module _ (a b o : Tree) (left_parents : HasParents a) (right_parents : HasParent
       conflict = λ _ _ _. (h.left, h.right);
     };
     marks = record {
-      settled = λ e. absurd (true≢false (sym e ∙ ap₂ (λ u w. u || w) (ap₂ (λ u w. not (u && w)) x y) v));
+      settled =
+          λ e. absurd (true≢false (sym e ∙ ap₂ (λ u w. u || w) (ap₂ (λ u w. not (u && w)) x y) v));
       directory = λ e. absurd (true≢false (sym e ∙ z));
       conflict = λ _ _. h.archive;
     };
@@ -201,58 +196,83 @@ module _ (a b o : Tree) (left_parents : HasParents a) (right_parents : HasParent
   alike_below : (p q : Path) → is_alike a b p ≡ true → is_alike a b (p ++ q) ≡ true
   alike_below p q e =
       let same : subtree (mark a) (p ++ q) ≡ subtree (mark b) (p ++ q) =
-      sym (subtree-append (mark a) p q) ∙ (ap (λ w. subtree w q) (same_tree_is (subtree (mark a) p) (subtree (mark b) p) e) ∙ subtree-append (mark b) p q) in
-      ap (is_same_tree (subtree (mark a) (p ++ q))) (sym same) ∙ tree_itself (subtree (mark a) (p ++ q))
+      sym (subtree-append (mark a) p q) ∙ (ap (λ w. subtree w q)
+      (same_tree_is (subtree (mark a) p) (subtree (mark b) p) e) ∙ subtree-append (mark b) p q) in
+      ap (is_same_tree (subtree (mark a) (p ++ q))) (sym same)
+      ∙ tree_itself (subtree (mark a) (p ++ q))
 
-  settled_below : (p q : Path) → is_settled a b (left_dirty a b o) (right_dirty a b o) p ≡ true → is_settled a b (left_dirty a b o) (right_dirty a b o) (p ++ q) ≡ true
+  settled_below : (p q : Path) → is_settled a b (left_dirty a b o) (right_dirty a b o) p ≡ true →
+      is_settled a b (left_dirty a b o) (right_dirty a b o) (p ++ q) ≡ true
   settled_below p q e =
       let w = p ++ q in
-      elim (left_dirty a b o w) as (λ x. left_dirty a b o w ≡ x → (not (x && right_dirty a b o w) || is_alike a b w) ≡ true) [
+      elim (left_dirty a b o w)
+      as (λ x. left_dirty a b o w ≡ x → (not (x && right_dirty a b o w) || is_alike a b w) ≡ true) [
         | false ↦ λ _. refl
-        | true ↦ λ x. elim (right_dirty a b o w) as (λ y. right_dirty a b o w ≡ y → (not y || is_alike a b w) ≡ true) [
-          | false ↦ λ _. refl
-          | true ↦ λ y.
-              let on_left = dirty-closed (scan_of a) o p w (prefix-append p q) x in
-              let on_right = dirty-closed (scan_of b) o p w (prefix-append p q) y in
-              alike_below p q (sym (ap₂ (λ u v. not (u && v) || is_alike a b p) on_left on_right) ∙ e)
-        ] refl
+        | true ↦ λ x. elim (right_dirty a b o w)
+            as (λ y. right_dirty a b o w ≡ y → (not y || is_alike a b w) ≡ true) [
+              | false ↦ λ _. refl
+              | true ↦ λ y.
+                  let on_left = dirty-closed (scan_of a) o p w (prefix-append p q) x in
+                  let on_right = dirty-closed (scan_of b) o p w (prefix-append p q) y in
+                  alike_below p q
+                  (sym (ap₂ (λ u v. not (u && v) || is_alike a b p) on_left on_right) ∙ e)
+            ] refl
       ] refl
 
   -- both sides and the archive have a directory with each name as it should be
-  directory_result : (s : Trees) (p : Path) → is_directory_in_both a b p ≡ true → get s.left p ≡ Some Directory → get s.right p ≡ Some Directory → get s.archive p ≡ Some Directory →
-      ((n : Name) → Result a b o s (child p n)) → Result a b o s p
+  directory_result : (s : Trees) (p : Path) → is_directory_in_both a b p ≡ true →
+      get s.left p ≡ Some Directory → get s.right p ≡ Some Directory →
+      get s.archive p ≡ Some Directory → ((n : Name) → Result a b o s (child p n)) →
+      Result a b o s p
   directory_result s p z left_has right_has archive_has each =
       let directories = and_parts (is_directory a p) (is_directory b p) z in
       let a_has : get a p ≡ Some Directory = directory_is (get a p) directories.0 in
       let b_has : get b p ≡ Some Directory = directory_is (get b p) directories.1 in
-      let marked : (t : Tree) → get t p ≡ Some Directory → get (mark t) p ≡ Some Directory = λ t e. get-mark t p ∙ ap (option_map mark_of) e in
+      let marked : (t : Tree) → get t p ≡ Some Directory →
+      get (mark t) p ≡ Some Directory = λ t e. get-mark t p ∙ ap (option_map mark_of) e in
       record {
         sides = λ apart. record {
           left_clean = λ x. record {
-            left_has = from_names s.left b p (left_has ∙ sym b_has) (λ n. (((each n).sides apart).left_clean (clean_below o a p (n ∷ []) x)).left_has);
-            right_has = from_names s.right b p (right_has ∙ sym b_has) (λ n. (((each n).sides apart).left_clean (clean_below o a p (n ∷ []) x)).right_has);
+            left_has =
+                from_names s.left b p (left_has ∙ sym b_has) (λ n.
+                (((each n).sides apart).left_clean (clean_below o a p (n ∷ []) x)).left_has);
+            right_has =
+                from_names s.right b p (right_has ∙ sym b_has) (λ n.
+                (((each n).sides apart).left_clean (clean_below o a p (n ∷ []) x)).right_has);
           };
           right_clean = λ y. record {
-            left_has = from_names s.left a p (left_has ∙ sym a_has) (λ n. (((each n).sides apart).right_clean (clean_below o b p (n ∷ []) y)).left_has);
-            right_has = from_names s.right a p (right_has ∙ sym a_has) (λ n. (((each n).sides apart).right_clean (clean_below o b p (n ∷ []) y)).right_has);
+            left_has =
+                from_names s.left a p (left_has ∙ sym a_has) (λ n.
+                (((each n).sides apart).right_clean (clean_below o b p (n ∷ []) y)).left_has);
+            right_has =
+                from_names s.right a p (right_has ∙ sym a_has) (λ n.
+                (((each n).sides apart).right_clean (clean_below o b p (n ∷ []) y)).right_has);
           };
-          directory = λ _. ap₂ (λ u v. is_directory_content u && is_directory_content v) left_has right_has;
+          directory =
+              λ _. ap₂ (λ u v. is_directory_content u && is_directory_content v) left_has right_has;
           conflict = λ _ _ e. absurd (true≢false (sym z ∙ e));
         };
         marks = record {
           settled = λ e. record {
-            left_has = from_names (mark s.left) s.archive p (marked s.left left_has ∙ sym archive_has) (λ n. ((each n).marks.settled (settled_below p (n ∷ []) e)).left_has);
-            right_has = from_names (mark s.right) s.archive p (marked s.right right_has ∙ sym archive_has) (λ n. ((each n).marks.settled (settled_below p (n ∷ []) e)).right_has);
+            left_has =
+                from_names (mark s.left) s.archive p (marked s.left left_has ∙ sym archive_has)
+                (λ n. ((each n).marks.settled (settled_below p (n ∷ []) e)).left_has);
+            right_has =
+                from_names (mark s.right) s.archive p (marked s.right right_has ∙ sym archive_has)
+                (λ n. ((each n).marks.settled (settled_below p (n ∷ []) e)).right_has);
           };
           directory = λ _. ap is_directory_content archive_has;
           conflict = λ _ e. absurd (true≢false (sym z ∙ e));
         };
       }
 
-  directory_good : (s : Trees) (p : Path) → is_directory_in_both a b p ≡ true → get s.left p ≡ Some Directory → get s.right p ≡ Some Directory → get s.archive p ≡ Some Directory →
-      ((n : Name) → Good a b o s (child p n)) → Good a b o s p
-  directory_good s p z left_has right_has archive_has each [] _ = subst (Result a b o s) (sym (append-nil p))
-      (directory_result s p z left_has right_has archive_has (λ n. good-here a b o s (child p n) (each n) (child_relevant a b p n z)))
+  directory_good : (s : Trees) (p : Path) → is_directory_in_both a b p ≡ true →
+      get s.left p ≡ Some Directory → get s.right p ≡ Some Directory →
+      get s.archive p ≡ Some Directory → ((n : Name) → Good a b o s (child p n)) → Good a b o s p
+  directory_good s p z left_has right_has archive_has each [] _ =
+      subst (Result a b o s) (sym (append-nil p))
+      (directory_result s p z left_has right_has archive_has
+      (λ n. good-here a b o s (child p n) (each n) (child_relevant a b p n z)))
   directory_good s p z left_has right_has archive_has each (n ∷ q) relevant =
       let path = append_assoc p (n ∷ []) q in
       subst (Result a b o s) path (each n q (ap (is_relevant a b) path ∙ relevant))
@@ -272,105 +292,160 @@ module _ (a b o : Tree) (left_parents : HasParents a) (right_parents : HasParent
   items_below levels p names = below decided_at names_at levels p names
 
   one_then_more : (s : Trees) (levels : ℕ) (p : Path) (m : Name) (names : List Name) →
-      carried_out s (items_below levels p (m ∷ names)) ≡ carried_out (carried_out s (items levels (child p m))) (items_below levels p names)
-  one_then_more s levels p m names = fold-append after_item s (items levels (child p m)) (items_below levels p names)
+      carried_out s (items_below levels p (m ∷ names))
+      ≡ carried_out (carried_out s (items levels (child p m))) (items_below levels p names)
+  one_then_more s levels p m names =
+      fold-append after_item s (items levels (child p m)) (items_below levels p names)
 
-  beside_one : (s : Trees) (levels : ℕ) (p : Path) (m n : Name) → eq_by_cmp name_cmp m n ≡ false → SameAt (carried_out s (items levels (child p m))) s (child p n)
-  beside_one s levels p m n h = beside_items s (items levels (child p m)) (child p m) (child p n) (items-at decided_at (decision-fits (scan_of a) (scan_of b) o) names_at levels (child p m)) (siblings p m n h)
+  beside_one : (s : Trees) (levels : ℕ) (p : Path) (m n : Name) → eq_by_cmp name_cmp m n ≡ false →
+      SameAt (carried_out s (items levels (child p m))) s (child p n)
+  beside_one s levels p m n h =
+      beside_items s (items levels (child p m)) (child p m) (child p n)
+      (items-at decided_at (decision-fits (scan_of a) (scan_of b) o) names_at levels (child p m))
+      (siblings p m n h)
 
   -- the items below some names leave what is at another
-  beside_names : (s : Trees) (levels : ℕ) (p : Path) (names : List Name) (n : Name) → list_any (eq_by_cmp name_cmp n) names ≡ false → SameAt (carried_out s (items_below levels p names)) s (child p n)
+  beside_names : (s : Trees) (levels : ℕ) (p : Path) (names : List Name) (n : Name) →
+      list_any (eq_by_cmp name_cmp n) names ≡ false →
+      SameAt (carried_out s (items_below levels p names)) s (child p n)
   beside_names s levels p [] n h = same_itself s (child p n)
   beside_names s levels p (m ∷ names) n h =
       let parts = or_parts (eq_by_cmp name_cmp n m) (list_any (eq_by_cmp name_cmp n) names) h in
       let s' = carried_out s (items levels (child p m)) in
       subst (λ t. SameAt t s (child p n)) (sym (one_then_more s levels p m names))
-      (same-then (carried_out s' (items_below levels p names)) s' s (child p n) (beside_names s' levels p names n parts.1) (beside_one s levels p m n (name_alike m n ∙ parts.0)))
+      (same-then (carried_out s' (items_below levels p names)) s' s (child p n) (beside_names s'
+      levels p names n parts.1) (beside_one s levels p m n (name_alike m n ∙ parts.0)))
 
   -- of the names below a directory each is as it should be, if the items below it alone make it so
-  each_name : (levels : ℕ) (p : Path) → ((n : Name) (s : Trees) → SameAt s (start a b o) (child p n) → Good a b o (carried_out s (items levels (child p n))) (child p n)) →
-      (names : List Name) → Apart names → (s : Trees) → ((n : Name) → list_any (eq_by_cmp name_cmp n) names ≡ true → SameAt s (start a b o) (child p n)) →
-      (n : Name) → list_any (eq_by_cmp name_cmp n) names ≡ true → Good a b o (carried_out s (items_below levels p names)) (child p n)
+  each_name : (levels : ℕ) (p : Path) →
+      ((n : Name) (s : Trees) → SameAt s (start a b o) (child p n) →
+      Good a b o (carried_out s (items levels (child p n))) (child p n)) → (names : List Name) →
+      Apart names → (s : Trees) → ((n : Name) → list_any (eq_by_cmp name_cmp n) names ≡ true →
+      SameAt s (start a b o) (child p n)) → (n : Name) →
+      list_any (eq_by_cmp name_cmp n) names ≡ true →
+      Good a b o (carried_out s (items_below levels p names)) (child p n)
   each_name levels p one [] distinct s same n h = absurd (true≢false (sym h))
   each_name levels p one (m ∷ names) distinct s same n h =
       let s' = carried_out s (items levels (child p m)) in
       subst (λ t. Good a b o t (child p n)) (sym (one_then_more s levels p m names))
-      (elim (eq_by_cmp name_cmp n m) as (λ e. eq_by_cmp name_cmp n m ≡ e → (e || list_any (eq_by_cmp name_cmp n) names) ≡ true → Good a b o (carried_out s' (items_below levels p names)) (child p n)) [
+      (elim (eq_by_cmp name_cmp n m)
+      as (λ e. eq_by_cmp name_cmp n m ≡ e → (e || list_any (eq_by_cmp name_cmp n) names) ≡ true →
+      Good a b o (carried_out s' (items_below levels p names)) (child p n)) [
         | true ↦ λ e _.
             let is : m ≡ n = sym (same_name n m e) in
-            let done : Good a b o s' (child p m) = one m s (same m (ap (λ u. u || list_any (eq_by_cmp name_cmp m) names) (name_itself m))) in
+            let done : Good a b o s' (child p m) = one m s
+            (same m (ap (λ u. u || list_any (eq_by_cmp name_cmp m) names) (name_itself m))) in
             subst (λ k. Good a b o (carried_out s' (items_below levels p names)) (child p k)) is
-            (moved-good a b o (carried_out s' (items_below levels p names)) s' (child p m) (beside_names s' levels p names m distinct.0) done)
+            (moved-good a b o (carried_out s' (items_below levels p names)) s' (child p m)
+            (beside_names s' levels p names m distinct.0) done)
         | false ↦ λ _ among. each_name levels p one names distinct.1 s' (λ k there.
             same-then s' s (start a b o) (child p k)
-            (beside_one s levels p m k (false_from_ne_true (eq_by_cmp name_cmp m k) (λ e. true≢false (sym there ∙ (ap (λ w. list_any (eq_by_cmp name_cmp w) names) (sym (same_name m k e)) ∙ distinct.0)))))
-            (same k (or_right (eq_by_cmp name_cmp k m) (list_any (eq_by_cmp name_cmp k) names) there))) n among
+            (beside_one s levels p m k
+            (false_from_ne_true (eq_by_cmp name_cmp m k) (λ e. true≢false (sym there ∙ (ap
+            (λ w. list_any (eq_by_cmp name_cmp w) names) (sym (same_name m k e)) ∙ distinct.0)))))
+            (same k (or_right (eq_by_cmp name_cmp k m)
+            (list_any (eq_by_cmp name_cmp k) names) there))) n among
       ] refl h)
 
   -- the whole plan from a path on
 
   names_good : (levels : ℕ) (p : Path) (s : Trees) → is_directory_in_both a b p ≡ true →
-      ((n : Name) (s : Trees) → SameAt s (start a b o) (child p n) → Good a b o (carried_out s (items levels (child p n))) (child p n)) →
-      ((n : Name) → SameAt s (start a b o) (child p n)) → get s.left p ≡ Some Directory → get s.right p ≡ Some Directory → get s.archive p ≡ Some Directory →
+      ((n : Name) (s : Trees) → SameAt s (start a b o) (child p n) →
+      Good a b o (carried_out s (items levels (child p n))) (child p n)) →
+      ((n : Name) → SameAt s (start a b o) (child p n)) → get s.left p ≡ Some Directory →
+      get s.right p ≡ Some Directory → get s.archive p ≡ Some Directory →
       Good a b o (carried_out s (items_below levels p (names_at p))) p
   names_good levels p s z one same left_has right_has archive_has =
       let names = names_at p in
       let s' = carried_out s (items_below levels p names) in
       let here : SameContent s' s p = untouched s (items_below levels p names) p
-      (every-weaker (λ item under. none_of (strip_prefix (path_of item) p) under.1) (items_below levels p names) (items-below decided_at (decision-fits (scan_of a) (scan_of b) o) names_at levels p names)) in
-      directory_good s' p z (here.left ∙ left_has) (here.right ∙ right_has) (here.archive ∙ archive_has) (λ n.
-      elim (list_any (eq_by_cmp name_cmp n) names) as (λ e. list_any (eq_by_cmp name_cmp n) names ≡ e → Good a b o s' (child p n)) [
-        | true ↦ λ among. each_name levels p one names (names_apart (scan_of a) (scan_of b) o p) s (λ k _. same k) n among
+      (every-weaker (λ item under. none_of (strip_prefix (path_of item) p) under.1)
+      (items_below levels p names) (items-below decided_at
+      (decision-fits (scan_of a) (scan_of b) o) names_at levels p names)) in
+      directory_good s' p z (here.left ∙ left_has) (here.right ∙ right_has)
+      (here.archive ∙ archive_has) (λ n.
+      elim (list_any (eq_by_cmp name_cmp n) names)
+      as (λ e. list_any (eq_by_cmp name_cmp n) names ≡ e → Good a b o s' (child p n)) [
+        | true ↦ λ among. each_name levels p one names (names_apart (scan_of a) (scan_of b) o p) s
+            (λ k _. same k) n among
         | false ↦ λ not_among.
             let nowhere = not_there (scan_of a) (scan_of b) o p n not_among in
             let in_archive = absent_below o (child p n) archive_parents nowhere.in_archive in
-            good_clean s' (child p n) (same-then s' s (start a b o) (child p n) (beside_names s levels p names n not_among) (same n))
-            (clean_nothing o a (child p n) (absent_below a (child p n) left_parents (mark_none a (child p n) nowhere.on_left)) in_archive)
-            (clean_nothing o b (child p n) (absent_below b (child p n) right_parents (mark_none b (child p n) nowhere.on_right)) in_archive)
+            good_clean s' (child p n) (same-then s' s (start a b o) (child p n)
+            (beside_names s levels p names n not_among) (same n))
+            (clean_nothing o a (child p n) (absent_below a (child p n) left_parents
+            (mark_none a (child p n) nowhere.on_left)) in_archive)
+            (clean_nothing o b (child p n) (absent_below b (child p n) right_parents
+            (mark_none b (child p n) nowhere.on_right)) in_archive)
       ] refl)
 
-  -- where the archive has no directory it has nothing below either, as after the directory is recorded
-  recorded_directory : (s : Trees) (p : Path) (n : Name) → SameAt s (start a b o) p → is_directory o p ≡ false → SameAt (after_item s (MarkDir p)) (start a b o) (child p n)
+  -- where the archive has no directory it has nothing below either, as after the directory is
+  -- recorded
+  recorded_directory : (s : Trees) (p : Path) (n : Name) → SameAt s (start a b o) p →
+      is_directory o p ≡ false → SameAt (after_item s (MarkDir p)) (start a b o) (child p n)
   recorded_directory s p n h none =
       let is : is_directory s.archive p ≡ false = moved-directory s.archive o p h.archive ∙ none in
       let deeper = same-deeper s (start a b o) p (n ∷ []) h in
       record {
         left = deeper.left;
         right = deeper.right;
-        archive = ap (λ w. subtree (if w then s.archive else replace s.archive p empty_directory) (child p n)) is ∙ below_new_directory s.archive o p n [] archive_parents none;
+        archive =
+            ap (λ w. subtree (if w then s.archive else replace s.archive p empty_directory)
+            (child p n)) is ∙ below_new_directory s.archive o p n [] archive_parents none;
       }
 
-  recorded_here : (s : Trees) (p : Path) → SameAt s (start a b o) p → is_directory o p ≡ false → get (with_directory s.archive p) p ≡ Some Directory
+  recorded_here : (s : Trees) (p : Path) → SameAt s (start a b o) p → is_directory o p ≡ false →
+      get (with_directory s.archive p) p ≡ Some Directory
   recorded_here s p h none =
-      ap (λ w. get (if w then s.archive else replace s.archive p empty_directory) p) (moved-directory s.archive o p h.archive ∙ none)
-      ∙ (sym (root_content (replace s.archive p empty_directory) p) ∙ (ap (λ w. get w root) (subtree-replace s.archive p empty_directory) ∙ get-at_root Directory root))
+      ap (λ w. get (if w then s.archive else replace s.archive p empty_directory) p)
+      (moved-directory s.archive o p h.archive ∙ none)
+      ∙ (sym (root_content (replace s.archive p empty_directory) p) ∙ (ap (λ w. get w root)
+      (subtree-replace s.archive p empty_directory) ∙ get-at_root Directory root))
 
-  items_good : (levels : ℕ) (p : Path) (s : Trees) → SameAt s (start a b o) p → IsShallow levels p a → IsShallow levels p b → IsShallow levels p o → Good a b o (carried_out s (items levels p)) p
+  items_good : (levels : ℕ) (p : Path) (s : Trees) → SameAt s (start a b o) p →
+      IsShallow levels p a → IsShallow levels p b → IsShallow levels p o →
+      Good a b o (carried_out s (items levels p)) p
   items_good zero p s h shallow_left shallow_right shallow_archive = good_clean s p h
-      (clean_nothing o a p (λ q. shallow_left q (omega arith)) (λ q. shallow_archive q (omega arith)))
-      (clean_nothing o b p (λ q. shallow_right q (omega arith)) (λ q. shallow_archive q (omega arith)))
+      (clean_nothing o a p (λ q. shallow_left q (omega arith))
+      (λ q. shallow_archive q (omega arith)))
+      (clean_nothing o b p (λ q. shallow_right q (omega arith))
+      (λ q. shallow_archive q (omega arith)))
   items_good (suc levels) p s h shallow_left shallow_right shallow_archive =
       let under = items_below levels p (names_at p) in
-      let one : (n : Name) (s' : Trees) → SameAt s' (start a b o) (child p n) → Good a b o (carried_out s' (items levels (child p n))) (child p n) = λ n s' same. items_good levels (child p n) s' same (shallow_below levels p n a shallow_left) (shallow_below levels p n b shallow_right) (shallow_below levels p n o shallow_archive) in
-      let left_has : is_directory_in_both a b p ≡ true → get s.left p ≡ Some Directory = λ z. same_content_at s.left a p h.left ∙ directory_is (get a p) (and_parts (is_directory a p) (is_directory b p) z).0 in
-      let right_has : is_directory_in_both a b p ≡ true → get s.right p ≡ Some Directory = λ z. same_content_at s.right b p h.right ∙ directory_is (get b p) (and_parts (is_directory a p) (is_directory b p) z).1 in
+      let one : (n : Name) (s' : Trees) → SameAt s' (start a b o) (child p n) →
+      Good a b o (carried_out s' (items levels (child p n))) (child p n) =
+      λ n s' same. items_good levels (child p n) s' same (shallow_below levels p n a shallow_left)
+      (shallow_below levels p n b shallow_right) (shallow_below levels p n o shallow_archive) in
+      let left_has : is_directory_in_both a b p ≡ true →
+      get s.left p ≡ Some Directory = λ z. same_content_at s.left a p h.left
+      ∙ directory_is (get a p) (and_parts (is_directory a p) (is_directory b p) z).0 in
+      let right_has : is_directory_in_both a b p ≡ true →
+      get s.right p ≡ Some Directory = λ z. same_content_at s.right b p h.right
+      ∙ directory_is (get b p) (and_parts (is_directory a p) (is_directory b p) z).1 in
       by_decision a b o (λ d. Good a b o (carried_out s (with_items_below d under)) p) p
       (λ x y. good_clean s p h x y)
-      (λ z w. names_good levels p s z one (λ n. same-deeper s (start a b o) p (n ∷ []) h) (left_has z) (right_has z) (same_content_at s.archive o p h.archive ∙ directory_is (get o p) w))
-      (λ z w. names_good levels p (after_item s (MarkDir p)) z one (λ n. recorded_directory s p n h w) (left_has z) (right_has z) (recorded_here s p h w))
+      (λ z w. names_good levels p s z one (λ n. same-deeper s (start a b o) p (n ∷ []) h) (left_has
+      z) (right_has z) (same_content_at s.archive o p h.archive ∙ directory_is (get o p) w))
+      (λ z w. names_good levels p (after_item s (MarkDir p)) z one
+      (λ n. recorded_directory s p n h w) (left_has z) (right_has z) (recorded_here s p h w))
       (λ z v. only_here (after_item s (MarkSame p)) p z (mark_same s p h z v))
       (λ z v x y. only_here (after_item s (ToRight p)) p z (to_right s p h z x y))
       (λ z v x y. only_here (after_item s (ToLeft p)) p z (to_left s p h z x y))
       (λ z v x y. only_here s p z (conflict s p h z v x y))
 
-plan_good : (found : Trees) → CanBePlanned found.left → CanBePlanned found.right → CanBePlanned found.archive → Good found.left found.right found.archive (after_plan found) root
+plan_good : (found : Trees) → CanBePlanned found.left → CanBePlanned found.right →
+    CanBePlanned found.archive → Good found.left found.right found.archive (after_plan found) root
 plan_good found on_left on_right in_archive =
-    items_good found.left found.right found.archive on_left.parents on_right.parents in_archive.parents (suc most_names) root found (same_itself found root) on_left.depth on_right.depth in_archive.depth
+    items_good found.left found.right found.archive on_left.parents on_right.parents
+    in_archive.parents (suc most_names) root found
+    (same_itself found root) on_left.depth on_right.depth in_archive.depth
 
 -- a plan that is carried out leaves a synchronization, where files are apart
 pub plan_synchronizes : PlanSynchronizes
-plan_synchronizes found on_left on_right in_archive apart path relevant = (plan_good found on_left on_right in_archive path relevant).sides apart
+plan_synchronizes found on_left on_right in_archive apart path relevant =
+    (plan_good found on_left on_right in_archive path relevant).sides apart
 
 -- and its archive
 pub plan_reconciles : PlanReconciles
-plan_reconciles found on_left on_right in_archive path relevant = (plan_good found on_left on_right in_archive path relevant).marks
+plan_reconciles found on_left on_right in_archive path relevant =
+    (plan_good found on_left on_right in_archive path relevant).marks

@@ -1,5 +1,8 @@
 -- The spelling of a tree, or of a part of one, tells it.
-use Rattle.std.proofs.Common.{◌≡◌, ◌<◌, ◌^◌, ℕ, zero, suc, true, false, ◌&&◌, nat_le, List, [], ◌∷◌, ◌++◌, length, take, drop, map, flat_map, refl, sym, ap, ap₂, ◌∙◌, subst, Option, Some, None, is_some, append_assoc, true≢false, ◌≢◌, arith, cond}
+use Rattle.std.proofs.Common.{◌≡◌, ◌<◌, ◌^◌, ℕ, zero, suc, true, false, ◌&&◌, nat_le, List, [], ◌∷◌}
+use Rattle.std.proofs.Common.{◌++◌, length, take, drop, map, flat_map, refl, sym, ap, ap₂, ◌∙◌}
+use Rattle.std.proofs.Common.{subst, Option, Some, None, is_some, append_assoc, true≢false, ◌≢◌}
+use Rattle.std.proofs.Common.{arith, cond}
 use Rattle.std.specs.Int.{from_be_bytes, to_be_bytes, w16, w32}
 use Rattle.std.proofs.lemmas.Nat.{from_be_bytes-to_be_bytes_2, from_be_bytes-to_be_bytes_4}
 use Rattle.std.proofs.lemmas.Bool.{leb-true, and_parts}
@@ -10,7 +13,8 @@ use Rattle.std.specs.FinMap.{entries, find, get, get-entries, len}
 use Rattle.std.proofs.lemmas.Bool.{false_from_ne_true}
 use Rattle.std.proofs.lemmas.Option.{none-some, same_Some}
 use Rattle.syn_model.specs.Path.{Bytes, Name, Path, name_cmp, path_cmp, root}
-use Rattle.syn_model.specs.Tree.{Tree, Content, Contents, contents_of, Directory, File, IsPart, subtree, is_directory}
+use Rattle.syn_model.specs.Tree.{Tree, Content, Contents, contents_of, Directory, File, IsPart}
+use Rattle.syn_model.specs.Tree.{subtree, is_directory}
 use Rattle.syn_model.specs.Limits.{children, fits_content, fits_part}
 use Rattle.syn_model.specs.Spelling.{content_spelling, spelling, spelling_within}
 use Rattle.syn_model.specs.Laws.{NoSpellingBeginsAnother, SpellingUnfolds}
@@ -43,18 +47,25 @@ rest_of (x ∷ xs) = xs
 
 module _ (t : Tree) (h : fits_part t ≡ true) where
   -- what holds of each pair holds of what is found
-  found : (es : List (Path × Content)) (p : Path) (c : Content) → list_all (λ pair. fits_content pair.1 && nat_le (length (children t pair.0)) 256) es ≡ true → find path_cmp p es ≡ Some c →
-      (fits_content c && nat_le (length (children t p)) 256) ≡ true
+  found : (es : List (Path × Content)) (p : Path) (c : Content) →
+      list_all (λ pair. fits_content pair.1 && nat_le (length (children t pair.0)) 256) es ≡ true →
+      find path_cmp p es ≡ Some c → (fits_content c && nat_le (length (children t p)) 256) ≡ true
   found [] p c f e = absurd (none-some _ e)
   found (x ∷ es) p c f e =
       let two = and_parts (fits_content x.1 && nat_le (length (children t x.0)) 256) _ f in
-      elim (eq_by_cmp path_cmp p x.0) as (λ b. eq_by_cmp path_cmp p x.0 ≡ b → cond b (Some x.1) (find path_cmp p es) ≡ Some c → (fits_content c && nat_le (length (children t p)) 256) ≡ true) [
-        | true ↦ λ same k. ap₂ (λ q d. fits_content d && nat_le (length (children t q)) 256) (same_path p x.0 same) (sym (same_Some _ _ k)) ∙ two.0
+      elim (eq_by_cmp path_cmp p x.0)
+      as (λ b. eq_by_cmp path_cmp p x.0 ≡ b → cond b (Some x.1) (find path_cmp p es) ≡ Some c →
+      (fits_content c && nat_le (length (children t p)) 256) ≡ true) [
+        | true ↦ λ same k. ap₂ (λ q d. fits_content d && nat_le (length (children t q)) 256)
+            (same_path p x.0 same) (sym (same_Some _ _ k)) ∙ two.0
         | false ↦ λ _ k. found es p c two.1 k
       ] refl e
 
-  at : (p : Path) (c : Content) → get t p ≡ Some c → (fits_content c ≡ true) × (nat_le (length (children t p)) 256 ≡ true)
-  at p c e = and_parts (fits_content c) (nat_le (length (children t p)) 256) (found (entries t) p c h (sym (get-entries t p) ∙ e))
+  at : (p : Path) (c : Content) → get t p ≡ Some c →
+      (fits_content c ≡ true) × (nat_le (length (children t p)) 256 ≡ true)
+  at p c e =
+      and_parts (fits_content c) (nat_le (length (children t p)) 256)
+      (found (entries t) p c h (sym (get-entries t p) ∙ e))
 
   brief : (contents : Contents) → get t root ≡ Some (File contents) → length contents.bytes < 2 ^ 32
   brief contents e =
@@ -69,17 +80,21 @@ module _ (t : Tree) (h : fits_part t ≡ true) where
 -- ---- parts
 
 -- parts with one content at the root and one part at each name are one
-same_part : (t u : Tree) → get t root ≡ get u root → ((n : Name) (p : Path) → get t (n ∷ p) ≡ get u (n ∷ p)) → t ≡ u
+same_part : (t u : Tree) →
+    get t root ≡ get u root → ((n : Name) (p : Path) → get t (n ∷ p) ≡ get u (n ∷ p)) → t ≡ u
 same_part t u h each = same_tree t u (λ q. at q)
   where
     at : (q : Path) → get t q ≡ get u q
     at [] = h
     at (n ∷ q) = each n q
 
-pub no_directory : (t u : Tree) → IsPart t → IsPart u → get t root ≡ get u root → get t root ≢ Some Directory → t ≡ u
+pub no_directory : (t u : Tree) → IsPart t → IsPart u → get t root ≡ get u root →
+    get t root ≢ Some Directory → t ≡ u
 no_directory t u ht hu same denied =
-    let none : (w : Tree) → get t root ≡ get w root → is_directory w root ≡ false = λ w e. false_from_ne_true (is_directory w root) (λ is. denied (e ∙ directory_is (get w root) is)) in
-    same_part t u same (λ n p. nothing_below t root n p ht.parents (none t refl) ∙ sym (nothing_below u root n p hu.parents (none u same)))
+    let none : (w : Tree) → get t root ≡ get w root → is_directory w root ≡ false = λ w e.
+    false_from_ne_true (is_directory w root) (λ is. denied (e ∙ directory_is (get w root) is)) in
+    same_part t u same (λ n p. nothing_below t root n p ht.parents (none t refl)
+    ∙ sym (nothing_below u root n p hu.parents (none u same)))
 
 -- ---- the entries of a directory
 
@@ -93,16 +108,23 @@ pub record SameEntries (t u : Tree) (xs ys : List (Name × Content)) (r s : Byte
 
 -- the spellings of parts tell them, whatever follows
 abbrev pub Tells : (Tree → Bytes) → (Tree → Bytes) → Tree → Tree → Type 0
-Tells f g t u = (n m : Name) (r s : Bytes) → f (subtree t (n ∷ [])) ++ r ≡ g (subtree u (m ∷ [])) ++ s → (subtree t (n ∷ []) ≡ subtree u (m ∷ [])) × (r ≡ s)
+Tells f g t u =
+    (n m : Name) (r s : Bytes) → f (subtree t (n ∷ [])) ++ r ≡ g (subtree u (m ∷ [])) ++ s →
+    (subtree t (n ∷ []) ≡ subtree u (m ∷ [])) × (r ≡ s)
 
-same_entries : (f g : Tree → Bytes) (t u : Tree) → Tells f g t u → (xs ys : List (Name × Content)) (r s : Bytes) → length xs ≡ length ys →
-    flat_map (named_spelling f t) xs ++ r ≡ flat_map (named_spelling g u) ys ++ s → SameEntries t u xs ys r s
+same_entries : (f g : Tree → Bytes) (t u : Tree) →
+    Tells f g t u → (xs ys : List (Name × Content)) (r s : Bytes) → length xs ≡ length ys →
+    flat_map (named_spelling f t) xs ++ r ≡ flat_map (named_spelling g u) ys ++ s →
+    SameEntries t u xs ys r s
 same_entries f g t u tells [] [] r s l e = record { names = refl; parts = tt; rest = e }
 same_entries f g t u tells [] (y ∷ ys) r s l e = absurd (omega (arith, l))
 same_entries f g t u tells (x ∷ xs) [] r s l e = absurd (omega (arith, l))
 same_entries f g t u tells (x ∷ xs) (y ∷ ys) r s l e =
-    let regroup = λ (h : Tree → Bytes) (w : Tree) (z : Name × Content) (more k : Bytes). append_assoc (named_spelling h w z) more k ∙ append_assoc (length z.0 ∷ z.0) (h (subtree w (z.0 ∷ []))) (more ++ k) in
-    let whole = sym (regroup f t x (flat_map (named_spelling f t) xs) r) ∙ (e ∙ regroup g u y (flat_map (named_spelling g u) ys) s) in
+    let regroup = λ (h : Tree → Bytes) (w : Tree) (z : Name × Content) (more k : Bytes).
+    append_assoc (named_spelling h w z) more k
+    ∙ append_assoc (length z.0 ∷ z.0) (h (subtree w (z.0 ∷ []))) (more ++ k) in
+    let whole = sym (regroup f t x (flat_map (named_spelling f t) xs) r)
+    ∙ (e ∙ regroup g u y (flat_map (named_spelling g u) ys) s) in
     let heads : length x.0 ≡ length y.0 = ap (λ b. first_or b 0) whole in
     let name = split x.0 y.0 _ _ heads (ap rest_of whole) in
     let part = tells x.0 y.0 _ _ name.1 in
@@ -113,22 +135,27 @@ same_entries f g t u tells (x ∷ xs) (y ∷ ys) r s l e =
       rest = more.rest;
     }
 
-found_name : (n : Name) (P : Name → Type 0) (xs : List (Name × Content)) → AllByRecursion (λ (x : Name × Content). P x.0) xs → is_some (find name_cmp n xs) ≡ true → P n
+found_name : (n : Name) (P : Name → Type 0) (xs : List (Name × Content)) →
+    AllByRecursion (λ (x : Name × Content). P x.0) xs → is_some (find name_cmp n xs) ≡ true → P n
 found_name n P [] h e = absurd (true≢false (sym e))
 found_name n P (x ∷ xs) h e =
-    elim (eq_by_cmp name_cmp n x.0) as (λ b. eq_by_cmp name_cmp n x.0 ≡ b → is_some (cond b (Some x.1) (find name_cmp n xs)) ≡ true → P n) [
+    elim (eq_by_cmp name_cmp n x.0) as (λ b. eq_by_cmp name_cmp n x.0 ≡ b →
+    is_some (cond b (Some x.1) (find name_cmp n xs)) ≡ true → P n) [
       | true ↦ λ same _. subst P (sym (same_name n x.0 same)) h.0
       | false ↦ λ _ k. found_name n P xs h.1 k
     ] refl e
 
-some_by_name : (n : Name) (xs ys : List (Name × Content)) → map (λ x. x.0) xs ≡ map (λ y. y.0) ys → is_some (find name_cmp n xs) ≡ is_some (find name_cmp n ys)
+some_by_name : (n : Name) (xs ys : List (Name × Content)) → map (λ x. x.0) xs ≡ map (λ y. y.0) ys →
+    is_some (find name_cmp n xs) ≡ is_some (find name_cmp n ys)
 some_by_name n [] [] e = refl
 some_by_name n [] (y ∷ ys) e = absurd (omega (arith, ap length e))
 some_by_name n (x ∷ xs) [] e = absurd (omega (arith, ap length e))
 some_by_name n (x ∷ xs) (y ∷ ys) e =
     let more = some_by_name n xs ys (ap rest_names e) in
-    ap (λ m. is_some (cond (eq_by_cmp name_cmp n m) (Some x.1) (find name_cmp n xs))) (ap (λ ns. first_name ns x.0) e)
-    ∙ elim (eq_by_cmp name_cmp n y.0) as (λ b. is_some (cond b (Some x.1) (find name_cmp n xs)) ≡ is_some (cond b (Some y.1) (find name_cmp n ys))) [ true ↦ refl | false ↦ more ]
+    ap (λ m. is_some (cond (eq_by_cmp name_cmp n m) (Some x.1) (find name_cmp n xs)))
+    (ap (λ ns. first_name ns x.0) e)
+    ∙ elim (eq_by_cmp name_cmp n y.0) as (λ b. is_some (cond b (Some x.1) (find name_cmp n xs))
+    ≡ is_some (cond b (Some y.1) (find name_cmp n ys))) [ true ↦ refl | false ↦ more ]
   where
     rest_names : List Name → List Name
     rest_names [] = []
@@ -139,15 +166,21 @@ some_by_name n (x ∷ xs) (y ∷ ys) e =
     first_name (n ∷ ns) d = n
 
 -- directories whose entries are the same are one
-same_directory : (t u : Tree) (r s : Bytes) → IsPart t → IsPart u → get t root ≡ get u root → SameEntries t u (children t root) (children u root) r s → t ≡ u
+same_directory : (t u : Tree) (r s : Bytes) → IsPart t → IsPart u → get t root ≡ get u root →
+    SameEntries t u (children t root) (children u root) r s → t ≡ u
 same_directory t u r s ht hu at_root same =
-    same_part t u at_root (λ n p. elim (is_some (find name_cmp n (children t root))) as (λ b. is_some (find name_cmp n (children t root)) ≡ b → get t (n ∷ p) ≡ get u (n ∷ p)) [
-      | true ↦ λ there. sym (get-subtree t (n ∷ []) p) ∙ (ap (λ w. get w p) (found_name n (λ m. subtree t (m ∷ []) ≡ subtree u (m ∷ [])) (children t root) same.parts there) ∙ get-subtree u (n ∷ []) p)
+    same_part t u at_root (λ n p. elim (is_some (find name_cmp n (children t root)))
+    as (λ b. is_some (find name_cmp n (children t root)) ≡ b → get t (n ∷ p) ≡ get u (n ∷ p)) [
+      | true ↦ λ there. sym (get-subtree t (n ∷ []) p)
+          ∙ (ap (λ w. get w p) (found_name n (λ m. subtree t (m ∷ []) ≡ subtree u (m ∷ []))
+          (children t root) same.parts there) ∙ get-subtree u (n ∷ []) p)
       | false ↦ λ gone.
-          not_there t ht n p gone ∙ sym (not_there u hu n p (sym (some_by_name n (children t root) (children u root) same.names) ∙ gone))
+          not_there t ht n p gone ∙ sym (not_there u hu n p
+          (sym (some_by_name n (children t root) (children u root) same.names) ∙ gone))
     ] refl)
   where
-    not_there : (w : Tree) → IsPart w → (n : Name) (p : Path) → is_some (find name_cmp n (children w root)) ≡ false → get w (n ∷ p) ≡ None
+    not_there : (w : Tree) → IsPart w → (n : Name) (p : Path) →
+        is_some (find name_cmp n (children w root)) ≡ false → get w (n ∷ p) ≡ None
     not_there w hw n p gone = absent_below w (n ∷ []) hw.parents (not_child w root n gone) p
 
 -- ---- spellings
@@ -158,83 +191,116 @@ At f t r = content_spelling f t (get t root) ++ r
 pub heads_differ : {X : Type 0} (a b : ℕ) (x y : Bytes) → a ≢ b → a ∷ x ≡ b ∷ y → X
 heads_differ a b x y denied e = absurd (denied (ap (λ z. first_or z 0) e))
 
--- what the counts in a spelling can tell of a tree: how long a file at its root is, and how many names are in it
+-- what the counts in a spelling can tell of a tree: how long a file at its root is, and how many
+-- names are in it
 pub record IsCounted (t : Tree) : Type 0 where
-  pub brief : (contents : Contents) → get t root ≡ Some (File contents) → length contents.bytes < 2 ^ 32
+  pub brief : (contents : Contents) → get t root ≡ Some (File contents) →
+      length contents.bytes < 2 ^ 32
   pub few : get t root ≡ Some Directory → length (children t root) < 2 ^ 16
 
 counted : (t : Tree) → fits_part t ≡ true → IsCounted t
 counted t h = record { brief = brief t h; few = few t h }
 
 -- one level, where the parts below tell themselves
-pub level : (f g : Tree → Bytes) (t u : Tree) (r s : Bytes) → IsPart t → IsPart u → IsCounted t → IsCounted u →
-    (get t root ≡ Some Directory → get u root ≡ Some Directory → Tells f g t u) →
-    (a b : Option Content) → get t root ≡ a → get u root ≡ b → content_spelling f t a ++ r ≡ content_spelling g u b ++ s → (t ≡ u) × (r ≡ s)
-level f g t u r s ht hu ft fu tells None None a b e = (no_directory t u ht hu (a ∙ sym b) (λ d. none-some _ (sym a ∙ d)), ap rest_of e)
-level f g t u r s ht hu ft fu tells None (Some (File d)) a b e = heads_differ 0 1 _ _ (λ z. omega (arith, z)) e
-level f g t u r s ht hu ft fu tells None (Some Directory) a b e = heads_differ 0 2 _ _ (λ z. omega (arith, z)) e
-level f g t u r s ht hu ft fu tells (Some (File c)) None a b e = heads_differ 1 0 _ _ (λ z. omega (arith, z)) e
-level f g t u r s ht hu ft fu tells (Some (File c)) (Some Directory) a b e = heads_differ 1 2 _ _ (λ z. omega (arith, z)) e
-level f g t u r s ht hu ft fu tells (Some Directory) None a b e = heads_differ 2 0 _ _ (λ z. omega (arith, z)) e
-level f g t u r s ht hu ft fu tells (Some Directory) (Some (File d)) a b e = heads_differ 2 1 _ _ (λ z. omega (arith, z)) e
+pub level : (f g : Tree → Bytes) (t u : Tree) (r s : Bytes) → IsPart t → IsPart u → IsCounted t →
+    IsCounted u → (get t root ≡ Some Directory → get u root ≡ Some Directory → Tells f g t u) →
+    (a b : Option Content) → get t root ≡ a → get u root ≡ b →
+    content_spelling f t a ++ r ≡ content_spelling g u b ++ s → (t ≡ u) × (r ≡ s)
+level f g t u r s ht hu ft fu tells None None a b e =
+    (no_directory t u ht hu (a ∙ sym b) (λ d. none-some _ (sym a ∙ d)), ap rest_of e)
+level f g t u r s ht hu ft fu tells None (Some (File d)) a b e =
+    heads_differ 0 1 _ _ (λ z. omega (arith, z)) e
+level f g t u r s ht hu ft fu tells None (Some Directory) a b e =
+    heads_differ 0 2 _ _ (λ z. omega (arith, z)) e
+level f g t u r s ht hu ft fu tells (Some (File c)) None a b e =
+    heads_differ 1 0 _ _ (λ z. omega (arith, z)) e
+level f g t u r s ht hu ft fu tells (Some (File c)) (Some Directory) a b e =
+    heads_differ 1 2 _ _ (λ z. omega (arith, z)) e
+level f g t u r s ht hu ft fu tells (Some Directory) None a b e =
+    heads_differ 2 0 _ _ (λ z. omega (arith, z)) e
+level f g t u r s ht hu ft fu tells (Some Directory) (Some (File d)) a b e =
+    heads_differ 2 1 _ _ (λ z. omega (arith, z)) e
 level f g t u r s ht hu ft fu tells (Some (File c)) (Some (File d)) a b e =
-    let whole = sym (append_assoc (1 ∷ to_be_bytes w32 (length c.bytes)) c.bytes r) ∙ (e ∙ append_assoc (1 ∷ to_be_bytes w32 (length d.bytes)) d.bytes s) in
-    let count = split (to_be_bytes w32 (length c.bytes)) (to_be_bytes w32 (length d.bytes)) _ _ refl (ap rest_of whole) in
-    let long = sym (from_be_bytes-to_be_bytes_4 (length c.bytes) (ft.brief c a)) ∙ (ap (from_be_bytes w32) count.0 ∙ from_be_bytes-to_be_bytes_4 (length d.bytes) (fu.brief d b)) in
+    let whole = sym (append_assoc (1 ∷ to_be_bytes w32 (length c.bytes)) c.bytes r)
+    ∙ (e ∙ append_assoc (1 ∷ to_be_bytes w32 (length d.bytes)) d.bytes s) in
+    let count = split (to_be_bytes w32 (length c.bytes))
+    (to_be_bytes w32 (length d.bytes)) _ _ refl (ap rest_of whole) in
+    let long = sym (from_be_bytes-to_be_bytes_4 (length c.bytes) (ft.brief c a)) ∙ (ap
+    (from_be_bytes w32) count.0 ∙ from_be_bytes-to_be_bytes_4 (length d.bytes) (fu.brief d b)) in
     let text = split c.bytes d.bytes r s long count.1 in
-    let alike : Some (File c) ≡ Some (File d) = ap (λ x. Some (File (contents_of x))) text.0 in
-    (no_directory t u ht hu (a ∙ (alike ∙ sym b)) (λ k. no_file c (same_Some _ _ (sym k ∙ a))), text.1)
+    let alike : Some (File c) ≡ Some (File d) = ap (λ x. Some (File (contents_of x))) text.0 in (
+      no_directory t u ht hu (a ∙ (alike ∙ sym b)) (λ k. no_file c (same_Some _ _ (sym k ∙ a))),
+      text.1,
+    )
 level f g t u r s ht hu ft fu tells (Some Directory) (Some Directory) a b e =
     let all = λ (h : Tree → Bytes) (w : Tree). flat_map (named_spelling h w) (children w root) in
-    let whole = sym (append_assoc (2 ∷ to_be_bytes w16 (length (children t root))) (all f t) r) ∙ (e ∙ append_assoc (2 ∷ to_be_bytes w16 (length (children u root))) (all g u) s) in
-    let count = split (to_be_bytes w16 (length (children t root))) (to_be_bytes w16 (length (children u root))) _ _ refl (ap rest_of whole) in
-    let long = sym (from_be_bytes-to_be_bytes_2 (length (children t root)) (ft.few a)) ∙ (ap (from_be_bytes w16) count.0 ∙ from_be_bytes-to_be_bytes_2 (length (children u root)) (fu.few b)) in
-    let same = same_entries f g t u (tells a b) (children t root) (children u root) r s long count.1 in
+    let whole = sym (append_assoc (2 ∷ to_be_bytes w16 (length (children t root))) (all f t) r)
+    ∙ (e ∙ append_assoc (2 ∷ to_be_bytes w16 (length (children u root))) (all g u) s) in
+    let count = split (to_be_bytes w16 (length (children t root)))
+    (to_be_bytes w16 (length (children u root))) _ _ refl (ap rest_of whole) in
+    let long = sym (from_be_bytes-to_be_bytes_2 (length (children t root)) (ft.few a))
+    ∙ (ap (from_be_bytes w16) count.0
+    ∙ from_be_bytes-to_be_bytes_2 (length (children u root)) (fu.few b)) in
+    let same = same_entries f g t u (tells a b) (children t root)
+    (children u root) r s long count.1 in
     (same_directory t u r s ht hu (a ∙ sym b) same, same.rest)
 
-spelled_within : (d k : ℕ) (t u : Tree) (r s : Bytes) → len t < d → len u < k → IsPart t → IsPart u → fits_part t ≡ true → fits_part u ≡ true →
+spelled_within : (d k : ℕ) (t u : Tree) (r s : Bytes) → len t < d → len u < k → IsPart t →
+    IsPart u → fits_part t ≡ true → fits_part u ≡ true →
     spelling_within d t ++ r ≡ spelling_within k u ++ s → (t ≡ u) × (r ≡ s)
 unfolding spelling_within
 spelled_within zero k t u r s lt lu ht hu ft fu e = absurd (omega (arith, lt))
 spelled_within (suc d) zero t u r s lt lu ht hu ft fu e = absurd (omega (arith, lu))
 spelled_within (suc d) (suc k) t u r s lt lu ht hu ft fu e =
-    level (spelling_within d) (spelling_within k) t u r s ht hu (counted t ft) (counted u fu) (λ dt du n m r' s' e'.
+    level (spelling_within d) (spelling_within k) t u r s ht hu (counted t ft) (counted u fu)
+    (λ dt du n m r' s' e'.
     let st = subtree_smaller t n [] (ap is_some dt) in
     let su = subtree_smaller u m [] (ap is_some du) in
-    spelled_within d k (subtree t (n ∷ [])) (subtree u (m ∷ [])) r' s' (omega (arith, st, lt)) (omega (arith, su, lu))
-    (subtree-is_part t (n ∷ []) ht) (subtree-is_part u (m ∷ []) hu) (subtree-fits t (n ∷ []) ft) (subtree-fits u (m ∷ []) fu) e')
+    spelled_within d k (subtree t (n ∷ [])) (subtree u (m ∷ [])) r' s' (omega (arith, st, lt))
+    (omega (arith, su, lu))
+    (subtree-is_part t (n ∷ []) ht) (subtree-is_part u (m ∷ []) hu) (subtree-fits t (n ∷ []) ft)
+    (subtree-fits u (m ∷ []) fu) e')
     (get t root) (get u root) refl refl e
 
 -- no spelling begins another
 pub spelling_tells : NoSpellingBeginsAnother
-spelling_tells t u r s ht hu ft fu e = spelled_within (suc (len t)) (suc (len u)) t u r s (omega arith) (omega arith) ht hu ft fu e
+spelling_tells t u r s ht hu ft fu e =
+    spelled_within (suc (len t)) (suc (len u)) t u r s (omega arith) (omega arith) ht hu ft fu e
 
 -- ---- the depth of a spelling
 
 -- parts that are spelled alike make entries that are
-alike_entries : (f g : Tree → Bytes) (t : Tree) → ((n : Name) → f (subtree t (n ∷ [])) ≡ g (subtree t (n ∷ []))) → (xs : List (Name × Content)) →
+alike_entries : (f g : Tree → Bytes) (t : Tree) →
+    ((n : Name) → f (subtree t (n ∷ [])) ≡ g (subtree t (n ∷ []))) → (xs : List (Name × Content)) →
     flat_map (named_spelling f t) xs ≡ flat_map (named_spelling g t) xs
 alike_entries f g t same [] = refl
-alike_entries f g t same (x ∷ xs) = ap₂ (λ b more. (length x.0 ∷ x.0 ++ b) ++ more) (same x.0) (alike_entries f g t same xs)
+alike_entries f g t same (x ∷ xs) =
+    ap₂ (λ b more. (length x.0 ∷ x.0 ++ b) ++ more) (same x.0) (alike_entries f g t same xs)
 
-pub alike_content : (f g : Tree → Bytes) (t : Tree) → (get t root ≡ Some Directory → (n : Name) → f (subtree t (n ∷ [])) ≡ g (subtree t (n ∷ []))) →
+pub alike_content : (f g : Tree → Bytes) (t : Tree) →
+    (get t root ≡ Some Directory → (n : Name) → f (subtree t (n ∷ [])) ≡ g (subtree t (n ∷ []))) →
     (o : Option Content) → get t root ≡ o → content_spelling f t o ≡ content_spelling g t o
 alike_content f g t same None e = refl
 alike_content f g t same (Some (File c)) e = refl
-alike_content f g t same (Some Directory) e = ap (λ b. 2 ∷ to_be_bytes w16 (length (children t root)) ++ b) (alike_entries f g t (same e) (children t root))
+alike_content f g t same (Some Directory) e =
+    ap (λ b. 2 ∷ to_be_bytes w16 (length (children t root)) ++ b)
+    (alike_entries f g t (same e) (children t root))
 
 -- a spelling is the same at each depth that is enough
-deep_enough : (d k : ℕ) (t : Tree) → len t < d → len t < k → spelling_within d t ≡ spelling_within k t
+deep_enough : (d k : ℕ) (t : Tree) → len t < d → len t < k →
+    spelling_within d t ≡ spelling_within k t
 unfolding spelling_within
 deep_enough zero k t h l = absurd (omega (arith, h))
 deep_enough (suc d) zero t h l = absurd (omega (arith, l))
 deep_enough (suc d) (suc k) t h l = alike_content (spelling_within d) (spelling_within k) t (λ e n.
     let small = subtree_smaller t n [] (ap is_some e) in
-    deep_enough d k (subtree t (n ∷ [])) (omega (arith, small, h)) (omega (arith, small, l))) (get t root) refl
+    deep_enough d k (subtree t (n ∷ [])) (omega (arith, small, h)) (omega (arith, small, l)))
+    (get t root) refl
 
 -- so that the spelling of a part is made of those of the parts below its root
 pub spelling_unfolds : SpellingUnfolds
 unfolding spelling_within
 spelling_unfolds t = alike_content (spelling_within (len t)) spelling t (λ e n.
     let small = subtree_smaller t n [] (ap is_some e) in
-    deep_enough (len t) (suc (len (subtree t (n ∷ [])))) (subtree t (n ∷ [])) small (omega arith)) (get t root) refl
+    deep_enough (len t) (suc (len (subtree t (n ∷ [])))) (subtree t (n ∷ [])) small (omega arith))
+    (get t root) refl

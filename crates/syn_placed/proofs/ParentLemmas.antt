@@ -1,5 +1,7 @@
 -- Parents and children of paths.
-use Rattle.std.proofs.Common.{◌≡◌, ◌≤◌, ◌<◌, ◌+◌, ℕ, zero, suc, Bool, true, false, cond, if◌then◌else◌, not, [], ◌∷◌, take, length, refl, sym, ap, ◌∙◌, Some, None, is_some, arith}
+use Rattle.std.proofs.Common.{◌≡◌, ◌≤◌, ◌<◌, ◌+◌, ℕ, zero, suc, Bool, true, false, cond}
+use Rattle.std.proofs.Common.{if◌then◌else◌, not, [], ◌∷◌, take, length, refl, sym, ap, ◌∙◌, Some}
+use Rattle.std.proofs.Common.{None, is_some, arith}
 use Rattle.std.specs.Prelude.{option_and_then}
 use Rattle.std.specs.Ordering.{eq_by_cmp}
 use Rattle.std.specs.Cmp.{eq_by_cmp_equiv}
@@ -27,19 +29,29 @@ pub only_root : (q : Path) → length q < 1 → is_root q ≡ true
 only_root [] h = refl
 only_root (n ∷ q) h = absurd (omega arith)
 
-pub child-take : (p q : Path) (k : ℕ) → k + 1 ≡ length q → eq_by_cmp path_cmp (take k q) p ≡ is_child p q
+pub child-take : (p q : Path) (k : ℕ) → k + 1 ≡ length q →
+    eq_by_cmp path_cmp (take k q) p ≡ is_child p q
 child-take p [] k h = absurd (omega arith)
 child-take p (m ∷ []) (suc k) h = absurd (omega arith)
 child-take p (m ∷ x ∷ q) zero h = absurd (omega arith)
 child-take [] (m ∷ []) zero h = refl
 child-take [] (m ∷ x ∷ q) (suc k) h = refl
-child-take (n ∷ []) (m ∷ []) zero h = elim (eq_by_cmp name_cmp n m) as (λ b. false ≡ is_some (option_and_then only_name (if b then Some [] else None))) [ true ↦ refl | false ↦ refl ]
-child-take (n ∷ x ∷ p) (m ∷ []) zero h = elim (eq_by_cmp name_cmp n m) as (λ b. false ≡ is_some (option_and_then only_name (if b then None else None))) [ true ↦ refl | false ↦ refl ]
+child-take (n ∷ []) (m ∷ []) zero h =
+    elim (eq_by_cmp name_cmp n m)
+    as (λ b. false ≡ is_some (option_and_then only_name (if b then Some [] else None)))
+    [ true ↦ refl | false ↦ refl ]
+child-take (n ∷ x ∷ p) (m ∷ []) zero h =
+    elim (eq_by_cmp name_cmp n m)
+    as (λ b. false ≡ is_some (option_and_then only_name (if b then None else None)))
+    [ true ↦ refl | false ↦ refl ]
 child-take (n ∷ p) (m ∷ x ∷ q) (suc k) h =
     let rest = child-take p (x ∷ q) k (omega arith) in
     then_rest m n (take k (x ∷ q)) p
-    ∙ (ap (λ b. cond b (eq_by_cmp path_cmp (take k (x ∷ q)) p) false) ((eq_by_cmp_equiv name_total).symm m n)
-    ∙ elim (eq_by_cmp name_cmp n m) as (λ b. cond b (eq_by_cmp path_cmp (take k (x ∷ q)) p) false ≡ is_some (option_and_then only_name (if b then strip_prefix p (x ∷ q) else None))) [ true ↦ rest | false ↦ refl ])
+    ∙ (ap (λ b. cond b (eq_by_cmp path_cmp (take k (x ∷ q)) p) false)
+    ((eq_by_cmp_equiv name_total).symm m n)
+    ∙ elim (eq_by_cmp name_cmp n m) as (λ b. cond b (eq_by_cmp path_cmp (take k (x ∷ q)) p) false
+    ≡ is_some (option_and_then only_name (if b then strip_prefix p (x ∷ q) else None)))
+    [ true ↦ rest | false ↦ refl ])
 
 pub no_child : (p q : Path) → length q < 1 → is_child p q ≡ false
 no_child [] [] h = refl
@@ -47,21 +59,33 @@ no_child (n ∷ p) [] h = refl
 no_child p (m ∷ q) h = absurd (omega arith)
 
 -- why nothing may be put at a place
-pub place_root : (t : Tree) (q : Path) → is_root q ≡ true → first_cause (place_causes t q) ≡ Some Root
-place_root t q h = ap (λ b. if b then Some Root else first_cause ((not (is_directory t (parent q)), NoParent) ∷ [])) h
+pub place_root : (t : Tree) (q : Path) → is_root q ≡ true →
+    first_cause (place_causes t q) ≡ Some Root
+place_root t q h =
+    ap (λ b. if b then Some Root
+    else first_cause ((not (is_directory t (parent q)), NoParent) ∷ [])) h
 
-pub place_answer : (t : Tree) (q : Path) → is_root q ≡ false → first_cause (place_causes t q) ≡ (if is_directory t (parent q) then None else Some NoParent)
+pub place_answer : (t : Tree) (q : Path) → is_root q ≡ false →
+    first_cause (place_causes t q) ≡ (if is_directory t (parent q) then None else Some NoParent)
 place_answer t q h =
-    ap (λ b. if b then Some Root else first_cause ((not (is_directory t (parent q)), NoParent) ∷ [])) h
-    ∙ elim (is_directory t (parent q)) as (λ b. (if not b then Some NoParent else None) ≡ (if b then None else Some NoParent)) [ true ↦ refl | false ↦ refl ]
+    ap (λ b. if b then Some Root
+    else first_cause ((not (is_directory t (parent q)), NoParent) ∷ [])) h
+    ∙ elim (is_directory t (parent q))
+    as (λ b. (if not b then Some NoParent else None) ≡ (if b then None else Some NoParent))
+    [ true ↦ refl | false ↦ refl ]
 
-pub place_free : (t : Tree) (q : Path) → first_cause (place_causes t q) ≡ None → (is_root q ≡ false) × (is_directory t (parent q) ≡ true)
+pub place_free : (t : Tree) (q : Path) → first_cause (place_causes t q) ≡ None →
+    (is_root q ≡ false) × (is_directory t (parent q) ≡ true)
 place_free t q h = by_root (is_root q) refl (is_directory t (parent q)) refl
   where
-    by_root : (a : Bool) → is_root q ≡ a → (b : Bool) → is_directory t (parent q) ≡ b → (is_root q ≡ false) × (is_directory t (parent q) ≡ true)
+    by_root : (a : Bool) → is_root q ≡ a → (b : Bool) → is_directory t (parent q) ≡ b →
+        (is_root q ≡ false) × (is_directory t (parent q) ≡ true)
     by_root true is b is' = absurd (none-some _ (sym h ∙ place_root t q is))
     by_root false is true is' = (is, is')
-    by_root false is false is' = absurd (none-some _ (sym h ∙ (place_answer t q is ∙ ap (λ b. if b then None else Some NoParent) is')))
+    by_root false is false is' =
+        absurd (none-some _
+        (sym h ∙ (place_answer t q is ∙ ap (λ b. if b then None else Some NoParent) is')))
 
-pub place_allowed : (t : Tree) (q : Path) → is_root q ≡ false → is_directory t (parent q) ≡ true → first_cause (place_causes t q) ≡ None
+pub place_allowed : (t : Tree) (q : Path) → is_root q ≡ false → is_directory t (parent q) ≡ true →
+    first_cause (place_causes t q) ≡ None
 place_allowed t q h k = place_answer t q h ∙ ap (λ b. if b then None else Some NoParent) k

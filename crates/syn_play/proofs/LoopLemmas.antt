@@ -1,6 +1,8 @@
 -- Steps and lines that are played one after another.
-use Rattle.std.proofs.Common.{◌≡◌, ◌<◌, ◌≤◌, ◌+◌, ◌-◌, ℕ, suc, Bool, true, false, List, [], ◌∷◌, ◌++◌}
-use Rattle.std.proofs.Common.{length, map, slice_index_or, refl, sym, ap, ◌∙◌, subst, arith, inl, inr}
+use Rattle.std.proofs.Common.{◌≡◌, ◌<◌, ◌≤◌, ◌+◌, ◌-◌, ℕ, suc, Bool, true, false, List, [], ◌∷◌}
+use Rattle.std.proofs.Common.{◌++◌}
+use Rattle.std.proofs.Common.{length, map, slice_index_or, refl, sym, ap, ◌∙◌, subst, arith, inl}
+use Rattle.std.proofs.Common.{inr}
 use Rattle.std.proofs.lemmas.Bool.{cases_lt}
 use Rattle.std.proofs.lemmas.List.{append_assoc, length_push, map-append}
 use Rattle.std.proofs.lemmas.List.FromFn.{map-range_with_len_more}
@@ -82,7 +84,8 @@ module _ {D : Type 0} {disk : Ghosts D} (old : State) where
       (map Deliver (range_with_len first (low + high))) had.new player (
         refl,
         subst (λ l. Moves old l had.new) parts
-            (moves_on old had.new had.new _ _ had.moves (idle_all had.new (first + low) high beyond)),
+            (moves_on old had.new had.new _ _ had.moves
+            (idle_all had.new (first + low) high beyond)),
       )
       had.is
 
@@ -101,8 +104,9 @@ module _ {D : Type 0} {disk : Ghosts D} (old : State) where
   }
 
   -- what is below the lowest that is left was delivered
-  abbrev pub drained_from : (count number : ℕ) (player : Player D disk) (had : HasDrained old count player)
-      → IsLowest had.new number → HasDrained old count (record player { lowest = number })
+  abbrev pub drained_from : (count number : ℕ) (player : Player D disk)
+      (had : HasDrained old count player) → IsLowest had.new number →
+      HasDrained old count (record player { lowest = number })
   drained_from count number player had low = record {
     made = had.made;
     new = had.new;

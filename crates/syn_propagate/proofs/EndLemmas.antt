@@ -12,7 +12,9 @@ use Rattle.syn_propagate.specs.declared.next.Next.{Next}
 use Rattle.syn_propagate.specs.declared.next.Next.TheVariants.{Ask, Done, Refused}
 
 -- where it asks for something, that is so
-pub goes_on_behind : (c : Carriage) (request : Request) (answer : Reply) (result : Result Next TransferError) → is_last (reply_of answer) ≡ false → IfOk result IsAsking → IfOk result (EndsBy c request (reply_of answer))
+pub goes_on_behind : (c : Carriage) (request : Request) (answer : Reply)
+    (result : Result Next TransferError) → is_last (reply_of answer) ≡ false →
+    IfOk result IsAsking → IfOk result (EndsBy c request (reply_of answer))
 goes_on_behind c request answer (Ok (Ask side asked)) on asking = on
 goes_on_behind c request answer (Ok Done) on asking = absurd asking
 goes_on_behind c request answer (Ok (Refused why)) on asking = absurd asking

@@ -1,5 +1,7 @@
--- Two lists of paths in path order, merged: the rows stand in path order, and each says in which lists its path is.
-use Rattle.std.proofs.Common.{◌≡◌, Bool, true, false, ◌||◌, List, [], ◌∷◌, map, refl, sym, ap, ap₂, ◌∙◌, subst, Less, Equal, Greater, is_eq, true≢false, inl, inr}
+-- Two lists of paths in path order, merged: the rows stand in path order, and each says in which
+-- lists its path is.
+use Rattle.std.proofs.Common.{◌≡◌, Bool, true, false, ◌||◌, List, [], ◌∷◌, map, refl, sym, ap, ap₂}
+use Rattle.std.proofs.Common.{◌∙◌, subst, Less, Equal, Greater, is_eq, true≢false, inl, inr}
 use Rattle.std.specs.List.{AllByRecursion}
 use Rattle.std.specs.List.Sorted.{IsStrictlySortedBy}
 use Rattle.std.specs.Ordering.{eq_by_cmp, ordering_reverse}
@@ -47,11 +49,14 @@ rising_right : (es : List Path) → Rising es → RisingRows (map on_right es)
 rising_right [] h = tt
 rising_right (e ∷ es) h = (after_right e es h.0, rising_right es h.1)
 
-after_among : (q l : Path) (behind : List Path → Rows) → ((rs : List Path) → After q rs → AfterRow q (behind rs)) → path_cmp q l ≡ Less → (rs : List Path) → After q rs → AfterRow q (among l behind rs)
+after_among : (q l : Path) (behind : List Path → Rows) →
+    ((rs : List Path) → After q rs → AfterRow q (behind rs)) →
+    path_cmp q l ≡ Less → (rs : List Path) → After q rs → AfterRow q (among l behind rs)
 after_among q l behind h less [] a = (less, h [] tt)
 after_among q l behind h less (r ∷ rs) a =
     let rest = after_among q l behind h less rs a.1 in
-    elim (path_cmp l r) as (λ o. AfterRow q (by_order o (on_left l ∷ behind (r ∷ rs)) (on_both l ∷ behind rs) (on_right r ∷ among l behind rs))) [
+    elim (path_cmp l r) as (λ o. AfterRow q (by_order o (on_left l ∷ behind (r ∷ rs))
+    (on_both l ∷ behind rs) (on_right r ∷ among l behind rs))) [
       | Less ↦ (less, h (r ∷ rs) a)
       | Equal ↦ (less, h rs a.1)
       | Greater ↦ (a.0, rest)
@@ -59,24 +64,34 @@ after_among q l behind h less (r ∷ rs) a =
 
 after_merged : (q : Path) (ls rs : List Path) → After q ls → After q rs → AfterRow q (merged ls rs)
 after_merged q [] rs h k = after_right q rs k
-after_merged q (l ∷ ls) rs h k = after_among q l (merged ls) (λ rs a. after_merged q ls rs h.1 a) h.0 rs k
+after_merged q (l ∷ ls) rs h k =
+    after_among q l (merged ls) (λ rs a. after_merged q ls rs h.1 a) h.0 rs k
 
-rising_among : (l : Path) (ls : List Path) (behind : List Path → Rows) → ((rs : List Path) → Rising rs → RisingRows (behind rs)) → ((q : Path) (rs : List Path) → After q ls → After q rs → AfterRow q (behind rs)) → After l ls →
-    (rs : List Path) → Rising rs → RisingRows (among l behind rs)
+rising_among : (l : Path) (ls : List Path) (behind : List Path → Rows) →
+    ((rs : List Path) → Rising rs → RisingRows (behind rs)) →
+    ((q : Path) (rs : List Path) → After q ls → After q rs → AfterRow q (behind rs)) →
+    After l ls → (rs : List Path) → Rising rs → RisingRows (among l behind rs)
 rising_among l ls behind up after a [] h = (after l [] a tt, up [] tt)
 rising_among l ls behind up after a (r ∷ rs) h =
     let rest = rising_among l ls behind up after a rs h.1 in
-    elim (path_cmp l r) as (λ o. path_cmp l r ≡ o → RisingRows (by_order o (on_left l ∷ behind (r ∷ rs)) (on_both l ∷ behind rs) (on_right r ∷ among l behind rs))) [
+    elim (path_cmp l r) as (λ o. path_cmp l r ≡ o → RisingRows (by_order o
+    (on_left l ∷ behind (r ∷ rs)) (on_both l ∷ behind rs) (on_right r ∷ among l behind rs))) [
       | Less ↦ λ e. (after l (r ∷ rs) a (e, after_more l r rs e h.0), up (r ∷ rs) h)
-      | Equal ↦ λ e. (after l rs a (subst (λ p. After p rs) (sym (same_path l r (ap is_eq e))) h.0), up rs h.1)
+      | Equal ↦ λ e.
+          (after l rs a (subst (λ p. After p rs) (sym (same_path l r (ap is_eq e))) h.0), up rs h.1)
       | Greater ↦ λ e.
-          let less = turned l r e in
-          (after_among r l behind (λ others k. after r others (after_more r l ls less a) k) less rs h.0, rest)
+          let less = turned l r e in (
+            after_among r l behind
+                (λ others k. after r others (after_more r l ls less a) k) less rs h.0,
+            rest,
+          )
     ] refl
 
 pub rising_merged : (ls rs : List Path) → Rising ls → Rising rs → RisingRows (merged ls rs)
 rising_merged [] rs h k = rising_right rs k
-rising_merged (l ∷ ls) rs h k = rising_among l ls (merged ls) (λ rs a. rising_merged ls rs h.1 a) (λ q rs a b. after_merged q ls rs a b) h.0 rs k
+rising_merged (l ∷ ls) rs h k =
+    rising_among l ls (merged ls) (λ rs a. rising_merged ls rs h.1 a)
+    (λ q rs a b. after_merged q ls rs a b) h.0 rs k
 
 -- ---- the paths of the rows
 
@@ -105,18 +120,25 @@ or_twice : (a b c : Bool) → (a || (b || c)) ≡ ((a || b) || (a || c))
 or_twice true b c = refl
 or_twice false b c = refl
 
-among_both : (q l : Path) (ls : List Path) (behind : List Path → Rows) → ((rs : List Path) → is_among (paths_in (behind rs)) q ≡ (is_among ls q || is_among rs q)) →
-    (rs : List Path) → is_among (paths_in (among l behind rs)) q ≡ (is_among (l ∷ ls) q || is_among rs q)
-among_both q l ls behind ih [] = ap (λ b. eq_by_cmp path_cmp q l || b) (ih []) ∙ or_assoc (eq_by_cmp path_cmp q l) (is_among ls q) false
+among_both : (q l : Path) (ls : List Path) (behind : List Path → Rows) → ((rs : List Path) →
+    is_among (paths_in (behind rs)) q ≡ (is_among ls q || is_among rs q)) → (rs : List Path) →
+    is_among (paths_in (among l behind rs)) q ≡ (is_among (l ∷ ls) q || is_among rs q)
+among_both q l ls behind ih [] =
+    ap (λ b. eq_by_cmp path_cmp q l || b) (ih [])
+    ∙ or_assoc (eq_by_cmp path_cmp q l) (is_among ls q) false
 among_both q l ls behind ih (r ∷ rs) =
     let rest = among_both q l ls behind ih rs in
     let a : Bool = eq_by_cmp path_cmp q l in
     let b : Bool = eq_by_cmp path_cmp q r in
-    elim (path_cmp l r) as (λ o. path_cmp l r ≡ o → is_among (paths_in (by_order o (on_left l ∷ behind (r ∷ rs)) (on_both l ∷ behind rs) (on_right r ∷ among l behind rs))) q ≡ ((a || is_among ls q) || (b || is_among rs q))) [
+    elim (path_cmp l r) as (λ o. path_cmp l r ≡ o →
+    is_among (paths_in (by_order o (on_left l ∷ behind (r ∷ rs)) (on_both l ∷ behind rs)
+    (on_right r ∷ among l behind rs))) q ≡ ((a || is_among ls q) || (b || is_among rs q))) [
       | Less ↦ λ _. ap (λ c. a || c) (ih (r ∷ rs)) ∙ or_assoc a (is_among ls q) (b || is_among rs q)
       | Equal ↦ λ e.
           let at : l ≡ r = same_path l r (ap is_eq e) in
-          ap (λ c. a || c) (ih rs) ∙ (or_assoc a (is_among ls q) (is_among rs q) ∙ (absorbed a (is_among ls q) (is_among rs q) ∙ ap (λ p. (a || is_among ls q) || (eq_by_cmp path_cmp q p || is_among rs q)) at))
+          ap (λ c. a || c) (ih rs) ∙ (or_assoc a (is_among ls q) (is_among rs q)
+          ∙ (absorbed a (is_among ls q) (is_among rs q)
+          ∙ ap (λ p. (a || is_among ls q) || (eq_by_cmp path_cmp q p || is_among rs q)) at))
       | Greater ↦ λ _. ap (λ c. b || c) rest ∙ or_same b (a || is_among ls q) (is_among rs q)
     ] refl
   where
@@ -124,7 +146,8 @@ among_both q l ls behind ih (r ∷ rs) =
     absorbed true b c = refl
     absorbed false b c = refl
 
-pub among_merged : (q : Path) (ls rs : List Path) → is_among (paths_in (merged ls rs)) q ≡ (is_among ls q || is_among rs q)
+pub among_merged : (q : Path) (ls rs : List Path) →
+    is_among (paths_in (merged ls rs)) q ≡ (is_among ls q || is_among rs q)
 among_merged q [] rs = among_right q rs
 among_merged q (l ∷ ls) rs = among_both q l ls (merged ls) (λ rs. among_merged q ls rs) rs
 
@@ -148,36 +171,44 @@ later_of p q (x ∷ qs) a e =
 
 -- of a path in one of two lists, two others tell the same
 abbrev Agree : List Path → List Path → List Path → List Path → Type 0
-Agree L R ls rs = (q : Path) → (is_among ls q || is_among rs q) ≡ true → (is_among L q ≡ is_among ls q) × (is_among R q ≡ is_among rs q)
+Agree L R ls rs =
+    (q : Path) → (is_among ls q || is_among rs q) ≡ true →
+    (is_among L q ≡ is_among ls q) × (is_among R q ≡ is_among rs q)
 
 abbrev Flags : List Path → List Path → Rows → Type 0
 Flags L R rows = AllByRecursion (Says L R) rows
 
 -- no path behind another is that one
-other_of : (l q : Path) (ls rs : List Path) → After l ls → After l rs → (is_among ls q || is_among rs q) ≡ true → eq_by_cmp path_cmp q l ≡ false
+other_of : (l q : Path) (ls rs : List Path) → After l ls → After l rs →
+    (is_among ls q || is_among rs q) ≡ true → eq_by_cmp path_cmp q l ≡ false
 other_of l q ls rs a b e =
     elim (or_cases (is_among ls q) (is_among rs q) e) as (λ _. eq_by_cmp path_cmp q l ≡ false) [
       | inl left ↦ ap is_eq (path_total.antisymm q l ∙ ap ordering_reverse (later_of l q ls a left))
-      | inr right ↦ ap is_eq (path_total.antisymm q l ∙ ap ordering_reverse (later_of l q rs b right))
+      | inr right ↦ ap is_eq
+          (path_total.antisymm q l ∙ ap ordering_reverse (later_of l q rs b right))
     ]
 
-agree_left : (L R : List Path) (l : Path) (ls rs : List Path) → After l ls → After l rs → Agree L R (l ∷ ls) rs → Agree L R ls rs
+agree_left : (L R : List Path) (l : Path) (ls rs : List Path) → After l ls → After l rs →
+    Agree L R (l ∷ ls) rs → Agree L R ls rs
 agree_left L R l ls rs a b h q e =
     let other = other_of l q ls rs a b e in
     let both = h q (ap (λ c. (c || is_among ls q) || is_among rs q) other ∙ e) in
     (both.0 ∙ ap (λ c. c || is_among ls q) other, both.1)
 
-agree_right : (L R : List Path) (r : Path) (ls rs : List Path) → After r ls → After r rs → Agree L R ls (r ∷ rs) → Agree L R ls rs
+agree_right : (L R : List Path) (r : Path) (ls rs : List Path) → After r ls → After r rs →
+    Agree L R ls (r ∷ rs) → Agree L R ls rs
 agree_right L R r ls rs a b h q e =
     let other = other_of r q ls rs a b e in
     let both = h q (ap (λ c. is_among ls q || (c || is_among rs q)) other ∙ e) in
     (both.0, both.1 ∙ ap (λ c. c || is_among rs q) other)
 
-agree_equal : (L R : List Path) (l r : Path) (ls rs : List Path) → l ≡ r → After l ls → After l rs → Agree L R (l ∷ ls) (r ∷ rs) → Agree L R ls rs
+agree_equal : (L R : List Path) (l r : Path) (ls rs : List Path) → l ≡ r → After l ls → After l rs →
+    Agree L R (l ∷ ls) (r ∷ rs) → Agree L R ls rs
 agree_equal L R l r ls rs at a b h q e =
     let other = other_of l q ls rs a b e in
     let other_right : eq_by_cmp path_cmp q r ≡ false = ap (eq_by_cmp path_cmp q) (sym at) ∙ other in
-    let both = h q (ap₂ (λ c d. (c || is_among ls q) || (d || is_among rs q)) other other_right ∙ e) in
+    let both =
+    h q (ap₂ (λ c d. (c || is_among ls q) || (d || is_among rs q)) other other_right ∙ e) in
     (both.0 ∙ ap (λ c. c || is_among ls q) other, both.1 ∙ ap (λ c. c || is_among rs q) other_right)
 
 itself_among : (q : Path) (qs : List Path) → is_among (q ∷ qs) q ≡ true
@@ -186,42 +217,59 @@ itself_among q qs = ap (λ b. b || is_among qs q) (path_itself q)
 right_flags : (L R rs : List Path) → Rising rs → Agree L R [] rs → Flags L R (map on_right rs)
 right_flags L R [] up h = tt
 right_flags L R (r ∷ rs) up h =
-    let both = h r (itself_among r rs) in
-    ((sym both.0, sym (both.1 ∙ itself_among r rs)), right_flags L R rs up.1 (agree_right L R r [] rs tt up.0 h))
+    let both = h r (itself_among r rs) in (
+      (sym both.0, sym (both.1 ∙ itself_among r rs)),
+      right_flags L R rs up.1 (agree_right L R r [] rs tt up.0 h),
+    )
 
 or_left : (a b : Bool) → a ≡ true → (a || b) ≡ true
 or_left a b h = ap (λ c. c || b) h
 
-among_flags : (L R : List Path) (l : Path) (ls : List Path) (behind : List Path → Rows) → ((rs : List Path) → Rising rs → Agree L R ls rs → Flags L R (behind rs)) → After l ls →
+among_flags : (L R : List Path) (l : Path) (ls : List Path) (behind : List Path → Rows) →
+    ((rs : List Path) → Rising rs → Agree L R ls rs → Flags L R (behind rs)) → After l ls →
     (rs : List Path) → Rising rs → Agree L R (l ∷ ls) rs → Flags L R (among l behind rs)
 among_flags L R l ls behind ih a [] up h =
     let both = h l (or_left (is_among (l ∷ ls) l) false (itself_among l ls)) in
     ((sym (both.0 ∙ itself_among l ls), sym both.1), ih [] tt (agree_left L R l ls [] a tt h))
 among_flags L R l ls behind ih a (r ∷ rs) up h =
     let rest = among_flags L R l ls behind ih a rs up.1 in
-    elim (path_cmp l r) as (λ o. path_cmp l r ≡ o → Flags L R (by_order o (on_left l ∷ behind (r ∷ rs)) (on_both l ∷ behind rs) (on_right r ∷ among l behind rs))) [
+    elim (path_cmp l r) as (λ o. path_cmp l r ≡ o → Flags L R (by_order o
+    (on_left l ∷ behind (r ∷ rs)) (on_both l ∷ behind rs) (on_right r ∷ among l behind rs))) [
       | Less ↦ λ e.
-          let both = h l (or_left (is_among (l ∷ ls) l) (is_among (r ∷ rs) l) (itself_among l ls)) in
-          let beyond : After l (r ∷ rs) = (e, after_more l r rs e up.0) in
-          ((sym (both.0 ∙ itself_among l ls), sym (both.1 ∙ not_before l (r ∷ rs) beyond)), ih (r ∷ rs) up (agree_left L R l ls (r ∷ rs) a beyond h))
+          let both =
+          h l (or_left (is_among (l ∷ ls) l) (is_among (r ∷ rs) l) (itself_among l ls)) in
+          let beyond : After l (r ∷ rs) = (e, after_more l r rs e up.0) in (
+            (sym (both.0 ∙ itself_among l ls), sym (both.1 ∙ not_before l (r ∷ rs) beyond)),
+            ih (r ∷ rs) up (agree_left L R l ls (r ∷ rs) a beyond h),
+          )
       | Equal ↦ λ e.
           let at : l ≡ r = same_path l r (ap is_eq e) in
-          let both = h l (or_left (is_among (l ∷ ls) l) (is_among (r ∷ rs) l) (itself_among l ls)) in
+          let both =
+          h l (or_left (is_among (l ∷ ls) l) (is_among (r ∷ rs) l) (itself_among l ls)) in
           let beyond : After l rs = subst (λ p. After p rs) (sym at) up.0 in (
-            (sym (both.0 ∙ itself_among l ls), sym (both.1 ∙ (ap (λ w. is_among (w ∷ rs) l) (sym at) ∙ itself_among l rs))),
+            (
+              sym (both.0 ∙ itself_among l ls),
+              sym (both.1 ∙ (ap (λ w. is_among (w ∷ rs) l) (sym at) ∙ itself_among l rs)),
+            ),
             ih rs up.1 (agree_equal L R l r ls rs at a beyond h),
           )
       | Greater ↦ λ e.
           let less = turned l r e in
           let beyond : After r (l ∷ ls) = (less, after_more r l ls less a) in
-          let both = h r (or_right (is_among (l ∷ ls) r) (is_among (r ∷ rs) r) (itself_among r rs)) in
-          ((sym (both.0 ∙ not_before r (l ∷ ls) beyond), sym (both.1 ∙ itself_among r rs)), rest (agree_right L R r (l ∷ ls) rs beyond up.0 h))
+          let both =
+          h r (or_right (is_among (l ∷ ls) r) (is_among (r ∷ rs) r) (itself_among r rs)) in (
+            (sym (both.0 ∙ not_before r (l ∷ ls) beyond), sym (both.1 ∙ itself_among r rs)),
+            rest (agree_right L R r (l ∷ ls) rs beyond up.0 h),
+          )
     ] refl
 
-flags_of : (L R ls rs : List Path) → Rising ls → Rising rs → Agree L R ls rs → Flags L R (merged ls rs)
+flags_of : (L R ls rs : List Path) → Rising ls → Rising rs → Agree L R ls rs →
+    Flags L R (merged ls rs)
 flags_of L R [] rs up k h = right_flags L R rs k h
-flags_of L R (l ∷ ls) rs up k h = among_flags L R l ls (merged ls) (λ rs k h. flags_of L R ls rs up.1 k h) up.0 rs k h
+flags_of L R (l ∷ ls) rs up k h =
+    among_flags L R l ls (merged ls) (λ rs k h. flags_of L R ls rs up.1 k h) up.0 rs k h
 
 -- each row says in which of the lists its path is
-pub says_each : (ls rs : List Path) → Rising ls → Rising rs → AllByRecursion (Says ls rs) (merged ls rs)
+pub says_each : (ls rs : List Path) → Rising ls → Rising rs →
+    AllByRecursion (Says ls rs) (merged ls rs)
 says_each ls rs up k = flags_of ls rs ls rs up k (λ q e. (refl, refl))

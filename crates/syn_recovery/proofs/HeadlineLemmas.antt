@@ -1,5 +1,6 @@
 -- Three disks are a start, and a run from them is crash safe.
-use Rattle.std.proofs.Common.{◌≡◌, ℕ, ◌⊎◌, false, [], ◌∷◌, ◌++◌, Option, Some, None, refl, sym, ap, ◌∙◌, subst, inl, inr, append-nil}
+use Rattle.std.proofs.Common.{◌≡◌, ℕ, ◌⊎◌, false, [], ◌∷◌, ◌++◌, Option, Some, None, refl, sym, ap}
+use Rattle.std.proofs.Common.{◌∙◌, subst, inl, inr, append-nil}
 use Rattle.syn_model.specs.Path.{Bytes}
 use Rattle.syn_model.specs.Event.{Event}
 use Rattle.syn_model.specs.History.{History, IsAllowed}
@@ -9,15 +10,20 @@ use Rattle.syn_headline.specs.Machine.{Journaled, Up, unarmed}
 use Rattle.syn_headline.specs.Network.{Which, Left, Right}
 use Rattle.syn_headline.specs.Acknowledged.{Stores, history_of, stores_after, Grown, ArchiveGrown}
 use Rattle.syn_headline.specs.World.{World, side_of}
-use Rattle.syn_headline.specs.Headline.{stores_of, OfEachRun, EachReplacementIsLegal, EachEntryWasHeld, LeavesPair}
-use Rattle.syn_headline.specs.Headline.{CompleteSessionsSynchronize, CompleteSessionsReconcile, RunsStand, StandsFor}
-use Rattle.syn_recovery.specs.Meaning.{Keeping, IsDiskOf, IsOf, MayBeOf, as_kept, with_record, compacted}
+use Rattle.syn_headline.specs.Headline.{stores_of, OfEachRun, EachReplacementIsLegal}
+use Rattle.syn_headline.specs.Headline.{EachEntryWasHeld, LeavesPair}
+use Rattle.syn_headline.specs.Headline.{CompleteSessionsSynchronize, CompleteSessionsReconcile}
+use Rattle.syn_headline.specs.Headline.{RunsStand, StandsFor}
+use Rattle.syn_recovery.specs.Meaning.{Keeping, IsDiskOf, IsOf, MayBeOf, as_kept, with_record}
+use Rattle.syn_recovery.specs.Meaning.{compacted}
 use Rattle.syn_recovery.specs.Machines.{of_side, of_archive}
-use Rattle.syn_recovery.specs.Headline.{Disks, disk_of, DisksStand, IsOpenedFrom, DisksAreStart, Headline}
+use Rattle.syn_recovery.specs.Headline.{Disks, disk_of, DisksStand, IsOpenedFrom, DisksAreStart}
+use Rattle.syn_recovery.specs.Headline.{Headline}
 
 -- Before the run
 
-module _ {V W : Type 0} (keeping : Keeping V W) (bytes : Bytes) (kept : V) (disk : IsDiskOf keeping bytes kept) where
+module _ {V W : Type 0} (keeping : Keeping V W) (bytes : Bytes) (kept : V)
+    (disk : IsDiskOf keeping bytes kept) where
   -- a machine as an opening of the disk gives it
   abbrev machine_of : Journaled V W
   machine_of = record {
@@ -43,9 +49,21 @@ module _ (pair : ℕ) (disks : Disks) (stores : Stores) (d : DisksStand pair dis
   abbrev world_of : World
   world_of = record {
     pair = pair;
-    left = record { journal = machine_of (of_side pair) disks.left stores.left (d.side Left); staging = None };
-    right = record { journal = machine_of (of_side pair) disks.right stores.right (d.side Right); staging = None };
-    coordinator = record { journal = machine_of (of_archive pair) disks.archive stores.archive d.archive; running = None };
+    left =
+        record {
+          journal = machine_of (of_side pair) disks.left stores.left (d.side Left);
+          staging = None;
+        };
+    right =
+        record {
+          journal = machine_of (of_side pair) disks.right stores.right (d.side Right);
+          staging = None;
+        };
+    coordinator =
+        record {
+          journal = machine_of (of_archive pair) disks.archive stores.archive d.archive;
+          running = None;
+        };
     sent = [];
     acknowledged = [];
     refusals = [];
@@ -53,7 +71,8 @@ module _ (pair : ℕ) (disks : Disks) (stores : Stores) (d : DisksStand pair dis
     log = [];
   }
 
-  each_side : (which : Which) → IsOf (of_side pair) (side_of world_of which).journal (disk_of disks which)
+  each_side : (which : Which) →
+      IsOf (of_side pair) (side_of world_of which).journal (disk_of disks which)
   each_side Left = is_of (of_side pair) disks.left stores.left (d.side Left)
   each_side Right = is_of (of_side pair) disks.right stores.right (d.side Right)
 
@@ -72,47 +91,76 @@ module _ (pair : ℕ) (disks : Disks) (stores : Stores) (d : DisksStand pair dis
   }
 
 pub disks_are_start : DisksAreStart
-disks_are_start pair disks stores d = (world_of pair disks stores d, opened_from pair disks stores d, refl)
+disks_are_start pair disks stores d =
+    (world_of pair disks stores d, opened_from pair disks stores d, refl)
 
 -- After the run
 
--- what the disk of a machine stands for: what it keeps, or that with the record that was being written
+-- what the disk of a machine stands for: what it keeps, or that with the record that was being
+-- written
 IsGrown : {V W : Type 0} → Keeping V W → Journaled V W → V → Type 0
 IsGrown {W = W} keeping machine kept =
     (kept ≡ machine.value)
-    ⊎ ((added : W) × (machine.writing ≡ Some added) × keeping.CanAdd machine.value added × (kept ≡ keeping.layout.after machine.value added))
+    ⊎ ((added : W) × (machine.writing ≡ Some added) × keeping.CanAdd machine.value added
+    × (kept ≡ keeping.layout.after machine.value added))
 
 module _ {V W : Type 0} (keeping : Keeping V W) (machine : Journaled V W) (bytes : Bytes) where
-  recovers : MayBeOf keeping machine bytes → (kept : V) × IsDiskOf keeping bytes kept × IsGrown keeping machine kept
+  recovers : MayBeOf keeping machine bytes →
+      (kept : V) × IsDiskOf keeping bytes kept × IsGrown keeping machine kept
   unfolding IsGrown
   recovers may = elim may.means [
-    | as_kept means ↦ (machine.value, record { value = may.value; generation = may.generation; journal = may.journal; stands = means.stands }, inl refl)
+    | as_kept means ↦ (
+      machine.value,
+      record {
+        value = may.value;
+        generation = may.generation;
+        journal = may.journal;
+        stands = means.stands;
+      },
+      inl refl,
+    )
     | with_record means ↦ (
       keeping.layout.after machine.value means.added,
-      record { value = may.value; generation = may.generation; journal = may.journal; stands = means.stands },
+      record {
+        value = may.value;
+        generation = may.generation;
+        journal = may.journal;
+        stands = means.stands;
+      },
       inr (means.added, means.writing, means.can_add, refl),
     )
-    | compacted means ↦ (machine.value, record { value = may.value; generation = may.generation; journal = may.journal; stands = means.stands }, inl refl)
+    | compacted means ↦ (
+      machine.value,
+      record {
+        value = may.value;
+        generation = may.generation;
+        journal = may.journal;
+        stands = means.stands;
+      },
+      inl refl,
+    )
   ]
 
 same_history : (writing : Option Event) (old new : History) → new ≡ old → Grown writing old new
 same_history None old new e = e
 same_history (Some event) old new e = inl e
 
-history_grown : (pair : ℕ) (machine : Journaled History Event) (old new : History) → machine.value ≡ old →
-    IsGrown (of_side pair) machine new → Grown machine.writing old new
+history_grown : (pair : ℕ) (machine : Journaled History Event) (old new : History) →
+    machine.value ≡ old → IsGrown (of_side pair) machine new → Grown machine.writing old new
 unfolding IsGrown
 history_grown pair machine old new is (inl same) = same_history machine.writing old new (same ∙ is)
 history_grown pair machine old new is (inr (added, writing, allowed, more)) =
     subst (λ w. Grown w old new) (sym writing)
     (inr (subst (λ h. IsAllowed h added) is allowed, more ∙ ap (λ h. h ++ added ∷ []) is))
 
-same_archive : (writing : Option Kept) (old new : Archive) → new ≡ old → ArchiveGrown writing old new
+same_archive : (writing : Option Kept) (old new : Archive) → new ≡ old →
+    ArchiveGrown writing old new
 same_archive None old new e = e
 same_archive (Some kept) old new e = inl e
 
-archive_grown : (pair : ℕ) (machine : Journaled Archive Kept) (old new : Archive) → machine.value ≡ old →
-    IsGrown (of_archive pair) machine new → ArchiveGrown machine.writing old new
+archive_grown : (pair : ℕ) (machine : Journaled Archive Kept) (old new : Archive) →
+    machine.value ≡ old → IsGrown (of_archive pair) machine new →
+    ArchiveGrown machine.writing old new
 unfolding IsGrown
 archive_grown pair machine old new is (inl same) = same_archive machine.writing old new (same ∙ is)
 archive_grown pair machine old new is (inr (added, writing, can, more)) =
@@ -124,40 +172,56 @@ at_start : (world : World) → world.acknowledged ≡ [] → StandsFor (stores_o
 at_start world none =
     let before = stores_of world in
     record {
-      left = sym (append-nil before.left) ∙ ap (λ acks. history_of (stores_after before acks) Left) (sym none);
-      right = sym (append-nil before.right) ∙ ap (λ acks. history_of (stores_after before acks) Right) (sym none);
+      left =
+          sym (append-nil before.left)
+          ∙ ap (λ acks. history_of (stores_after before acks) Left) (sym none);
+      right =
+          sym (append-nil before.right)
+          ∙ ap (λ acks. history_of (stores_after before acks) Right) (sym none);
       archive = ap (λ acks. (stores_after before acks).archive) (sym none);
     }
 
-module _ (stand : RunsStand) (legal : OfEachRun EachReplacementIsLegal) (held : OfEachRun EachEntryWasHeld) (again : OfEachRun LeavesPair)
-    (synchronized : OfEachRun CompleteSessionsSynchronize) (reconciled : OfEachRun CompleteSessionsReconcile) where
+module _ (stand : RunsStand) (legal : OfEachRun EachReplacementIsLegal)
+    (held : OfEachRun EachEntryWasHeld) (again : OfEachRun LeavesPair)
+    (synchronized : OfEachRun CompleteSessionsSynchronize)
+    (reconciled : OfEachRun CompleteSessionsReconcile) where
   pub headline : Headline
   headline pair disks later old new steps opened runs left =
       let before = stores_of old in
       let stands = stand before old new steps runs (at_start old opened.start.nothing_yet.1) in
       let of_left = recovers (of_side new.pair) new.left.journal later.left (left.side Left) in
       let of_right = recovers (of_side new.pair) new.right.journal later.right (left.side Right) in
-      let of_both = recovers (of_archive new.pair) new.coordinator.journal later.archive left.archive in
+      let of_both = recovers
+      (of_archive new.pair) new.coordinator.journal later.archive left.archive in
       let now : Stores = record { left = of_left.0; right = of_right.0; archive = of_both.0 } in
       let after = stores_after before new.acknowledged in
-      let left_grown = history_grown new.pair new.left.journal after.left of_left.0 stands.left of_left.2 in
-      let right_grown = history_grown new.pair new.right.journal after.right of_right.0 stands.right of_right.2 in
-      let grown = archive_grown new.pair new.coordinator.journal after.archive of_both.0 stands.archive of_both.2 in
+      let left_grown =
+      history_grown new.pair new.left.journal after.left of_left.0 stands.left of_left.2 in
+      let right_grown =
+      history_grown new.pair new.right.journal after.right of_right.0 stands.right of_right.2 in
+      let grown = archive_grown new.pair new.coordinator.journal after.archive of_both.0
+      stands.archive of_both.2 in
       record {
         now = now;
         recovered = record {
           stand = record {
-            side = λ which. elim which as (λ which. IsDiskOf (of_side new.pair) (disk_of later which) (history_of now which)) [
-              | Left ↦ of_left.1
-              | Right ↦ of_right.1
-            ];
+            side =
+                λ which. elim which as (λ which. IsDiskOf (of_side new.pair) (disk_of later which)
+                (history_of now which)) [
+                  | Left ↦ of_left.1
+                  | Right ↦ of_right.1
+                ];
             archive = of_both.1;
-            is_pair = again old new steps opened.start runs of_left.0 of_right.0 of_both.0 left_grown right_grown grown;
+            is_pair =
+                again old new steps opened.start runs of_left.0 of_right.0 of_both.0 left_grown
+                right_grown grown;
           };
-          side = λ which. elim which as (λ which. Grown (side_of new which).journal.writing (history_of after which) (history_of now which)) [
-            | Left ↦ left_grown
-            | Right ↦ right_grown
-          ];
+          side =
+              λ which. elim which as (λ which. Grown (side_of new which).journal.writing
+              (history_of after which) (history_of now which)) [
+                | Left ↦ left_grown
+                | Right ↦ right_grown
+              ];
           archive = grown;
         };
         replaced = legal old new steps opened.start runs;

@@ -10,9 +10,11 @@ use Rattle.syn_recovery.specs.Meaning.{Keeping, MayMean, as_kept, with_record, c
 alone_room : (image : Bytes) → room_behind image ≡ bytes_left (image_alone image)
 alone_room image = omega arith
 
-module _ {V W : Type 0} (keeping : Keeping V W) (machine : Journaled V W) (calls : ℕ) (arms : Arms) (value : Value) (generation : ℕ)
+module _ {V W : Type 0} (keeping : Keeping V W) (machine : Journaled V W) (calls : ℕ) (arms : Arms)
+    (value : Value) (generation : ℕ)
     (made : Meets machine.arms calls Up arms 0) where
-  pub opens_to : MayMean keeping machine value generation → OpensTo keeping machine calls arms value generation
+  pub opens_to : MayMean keeping machine value generation →
+      OpensTo keeping machine calls arms value generation
   opens_to (as_kept means) = record {
     new = reopened machine machine.room machine.generation arms;
     added = [];
@@ -22,7 +24,9 @@ module _ {V W : Type 0} (keeping : Keeping V W) (machine : Journaled V W) (calls
     means = record { stands = means.stands; room = means.room; numbered = means.numbered };
   }
   opens_to (with_record means) = record {
-    new = and_record keeping.layout (reopened machine machine.room machine.generation arms) means.added arms;
+    new =
+        and_record keeping.layout
+        (reopened machine machine.room machine.generation arms) means.added arms;
     added = means.added ∷ [];
     opens = recovered arms means.added made means.writing means.can_add;
     opened = record { up = refl; idle = refl; settled = refl };
@@ -34,7 +38,9 @@ module _ {V W : Type 0} (keeping : Keeping V W) (machine : Journaled V W) (calls
       record {
         new = reopened machine (room_behind image) (suc machine.generation) arms;
         added = [];
-        opens = opened (room_behind image) (suc machine.generation) arms made (inr (means.compacting, refl, refl));
+        opens =
+            opened (room_behind image) (suc machine.generation) arms made
+            (inr (means.compacting, refl, refl));
         opened = record { up = refl; idle = refl; settled = refl };
         armed = refl;
         means = record {

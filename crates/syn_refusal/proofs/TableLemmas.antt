@@ -1,5 +1,6 @@
 -- Each refusal is in the list of all of them.
-use Rattle.std.proofs.Common.{◌≡◌, ◌≢◌, ℕ, Bool, true, false, Option, Some, None, refl, sym, ap, ◌∙◌}
+use Rattle.std.proofs.Common.{◌≡◌, ◌≢◌, ℕ, Bool, true, false, Option, Some, None, refl, sym, ap}
+use Rattle.std.proofs.Common.{◌∙◌}
 use Rattle.std.specs.Prelude.{◌==◌, find, is_none, IfNone}
 use Rattle.syn_model.specs.Refusal.{number}
 use Rattle.syn_refusal.specs.Refusals.{cause_of}

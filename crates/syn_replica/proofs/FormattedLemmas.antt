@@ -19,13 +19,18 @@ nothing_yet = refl
 
 new_length : Spellings → (pair : ℕ) → length (image_spelling pair new_standing) ≡ 43
 new_length rows pair = ap (λ tree. length (replica_front ++ (to_be_bytes w64 pair
-    ++ (to_be_bytes w64 0 ++ (to_be_bytes w64 0 ++ (to_be_bytes w64 0 ++ (0 ∷ [] ++ (0 ∷ 0 ∷ [] ++ ([] ++ tree))))))))) rows.no_names
+    ++ (to_be_bytes w64 0 ++ (to_be_bytes w64 0
+    ++ (to_be_bytes w64 0 ++ (0 ∷ [] ++ (0 ∷ 0 ∷ [] ++ ([] ++ tree))))))))) rows.no_names
 
 -- the image is short, so that no formatting is refused for its length
-pub image_fits : Spellings → (pair : ℕ) (image : Bytes) → image ≡ image_spelling pair new_standing → longest_image < length image → ⊥
-image_fits rows pair image e long = let count = ap length e ∙ new_length rows pair in absurd (omega (arith, count, long))
+pub image_fits : Spellings → (pair : ℕ) (image : Bytes) → image ≡ image_spelling pair new_standing →
+    longest_image < length image → ⊥
+image_fits rows pair image e long =
+    let count = ap length e ∙ new_length rows pair in
+    absurd (omega (arith, count, long))
 
-pub format_refusal : (error : JournalError) → IsFormatRefusal error → (error ≡ journal.Full → ⊥) → IsOneOf format_refusals (Journal error)
+pub format_refusal : (error : JournalError) → IsFormatRefusal error → (error ≡ journal.Full → ⊥) →
+    IsOneOf format_refusals (Journal error)
 format_refusal journal.Full h full = absurd (full refl)
 format_refusal journal.JournalFull h full = absurd h
 format_refusal journal.Device h full = refl

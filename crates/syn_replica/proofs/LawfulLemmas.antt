@@ -1,5 +1,6 @@
 -- Why a lawful disk is not opened.
-use Rattle.std.proofs.Common.{◌≡◌, ◌⊎◌, ◌<◌, ◌∙◌, ℕ, List, Result, Ok, Err, Some, ap, inl, inr, refl}
+use Rattle.std.proofs.Common.{◌≡◌, ◌⊎◌, ◌<◌, ◌∙◌, ℕ, List, Result, Ok, Err, Some, ap, inl, inr}
+use Rattle.std.proofs.Common.{refl}
 use Rattle.std.proofs.Common.{subst, sym}
 use Rattle.std.specs.Prelude.{◌^◌}
 use Rattle.syn_journal.specs.Layout.{Fault, Value, meaning}
@@ -12,7 +13,8 @@ use Rattle.syn_standing.specs.Refusals.{refusal_of}
 use Rattle.syn_standing.specs.declared.error.ReplicaError.{ReplicaError}
 use Rattle.syn_standing.specs.declared.error.ReplicaError.TheVariants.{Tree, History as OfHistory}
 use Rattle.syn_standing.specs.declared.error.ReplicaError.TheVariants.{Journal, Memory, Touched}
-use Rattle.syn_standing.specs.declared.error.ReplicaError.TheVariants.{OldSession, Damaged, WrongPair}
+use Rattle.syn_standing.specs.declared.error.ReplicaError.TheVariants.{OldSession, Damaged}
+use Rattle.syn_standing.specs.declared.error.ReplicaError.TheVariants.{WrongPair}
 use Rattle.syn_standing.specs.Readings.{OneIsGiven}
 
 not_both : (r : Result Value Fault) (v : Value) (f : Fault) → r ≡ Ok v → r ≡ Err f → ⊥
@@ -49,7 +51,8 @@ module _ (one : OneIsGiven) (pair : ℕ) (bytes : List ℕ) (history : History) 
       let other = why.other in
       let same = one why.value.image why.value.payloads pair other.pair _ other.standing fits
       other.fits (stands_there why.value why.means).gives other.gives in
-      let asked : pair ≡ other.asked = let k : Some pair ≡ Some other.asked = other.wanted_is in cc in
+      let asked : pair ≡ other.asked = let k : Some pair ≡ Some other.asked = other.wanted_is in
+      cc in
       absurd (other.differ (sym asked ∙ same.0))
   lawful_opens (Tree e) why = absurd why
   lawful_opens (OfHistory e) why = absurd why

@@ -1,5 +1,6 @@
 -- Why a disk is not opened.
-use Rattle.std.proofs.Common.{◌≡◌, ℕ, List, refl, sym, ap, ◌∙◌, subst, Option, Result, Ok, Err, true≢false, Bool, true, false}
+use Rattle.std.proofs.Common.{◌≡◌, ℕ, List, refl, sym, ap, ◌∙◌, subst, Option, Result, Ok, Err}
+use Rattle.std.proofs.Common.{true≢false, Bool, true, false}
 use Rattle.syn_disk.specs.Arms.{Arms}
 use Rattle.syn_disk.specs.Calls.{MakesAtLeast}
 use Rattle.syn_journal.specs.Layout.{Value, Fault, meaning}
@@ -11,13 +12,16 @@ use Rattle.syn_standing.specs.Readings.{GivesOtherPair, GivesNothing}
 use Rattle.syn_replica.specs.Refusals.{CountsFailures, AfterReads, IsOneOf, hiding_refusals}
 use Rattle.syn_standing.specs.Readings.{IsOfMeaning}
 use Rattle.syn_standing.specs.declared.error.ReplicaError.{ReplicaError}
-use Rattle.syn_standing.specs.declared.error.ReplicaError.TheVariants.{Tree, History, Journal, Memory, Touched, OldSession, Damaged, WrongPair}
+use Rattle.syn_standing.specs.declared.error.ReplicaError.TheVariants.{Tree, History, Journal}
+use Rattle.syn_standing.specs.declared.error.ReplicaError.TheVariants.{Memory, Touched, OldSession}
+use Rattle.syn_standing.specs.declared.error.ReplicaError.TheVariants.{Damaged, WrongPair}
 
 is_ok : Result Value Fault → Bool
 is_ok (Ok value) = true
 is_ok (Err fault) = false
 
-pub no_value : (d : Result Value Fault) (value : Value) (fault : Fault) → d ≡ Ok value → d ≡ Err fault → ⊥
+pub no_value : (d : Result Value Fault) (value : Value) (fault : Fault) → d ≡ Ok value →
+    d ≡ Err fault → ⊥
 unfolding is_ok
 no_value d value fault a b = true≢false (ap is_ok (sym a ∙ b))
 
@@ -29,7 +33,8 @@ one_value d a b x y = ap (λ r. value_or r a) (sym x ∙ y)
     value_or (Err fault) other = other
 
 -- what a journal refuses, a replica does
-pub journal_refusal : (e : JournalError) (wanted : Option ℕ) (bytes : List ℕ) → journal.IsOpenRefusal e (meaning bytes) → IsOpenRefusal (Journal e) wanted bytes
+pub journal_refusal : (e : JournalError) (wanted : Option ℕ) (bytes : List ℕ) →
+    journal.IsOpenRefusal e (meaning bytes) → IsOpenRefusal (Journal e) wanted bytes
 journal_refusal refused.Full wanted bytes h = absurd h
 journal_refusal refused.JournalFull wanted bytes h = absurd h
 journal_refusal refused.Device wanted bytes h = tt
@@ -39,30 +44,42 @@ journal_refusal refused.NoImage wanted bytes h = h
 journal_refusal refused.Damaged wanted bytes h = h
 
 -- of a disk that means something only for want of memory, or where a device call failed
-pub journal_hides : (e : JournalError) (wanted : Option ℕ) (bytes : List ℕ) → journal.IsOpenRefusal e (meaning bytes) → IsOfOtherPair wanted bytes → IsOneOf hiding_refusals (Journal e)
+pub journal_hides : (e : JournalError) (wanted : Option ℕ) (bytes : List ℕ) →
+    journal.IsOpenRefusal e (meaning bytes) → IsOfOtherPair wanted bytes →
+    IsOneOf hiding_refusals (Journal e)
 journal_hides refused.Full wanted bytes h other = absurd h
 journal_hides refused.JournalFull wanted bytes h other = absurd h
 journal_hides refused.Device wanted bytes h other = refl
 journal_hides refused.Halted wanted bytes h other = absurd h
 journal_hides refused.Memory wanted bytes h other = refl
-journal_hides refused.NoImage wanted bytes h other = absurd (no_value (meaning bytes) other.value _ other.means h)
-journal_hides refused.Damaged wanted bytes h other = absurd (no_value (meaning bytes) other.value _ other.means h)
+journal_hides refused.NoImage wanted bytes h other =
+    absurd (no_value (meaning bytes) other.value _ other.means h)
+journal_hides refused.Damaged wanted bytes h other =
+    absurd (no_value (meaning bytes) other.value _ other.means h)
 
 -- and what its image and its payloads refuse
-pub meaning_refusal : (e : ReplicaError) (wanted : Option ℕ) (bytes : List ℕ) (value : Value) → meaning bytes ≡ Ok value → IsOfMeaning e →
-    (e ≡ Damaged → GivesNothing value.image value.payloads) → (e ≡ WrongPair → GivesOtherPair wanted value.image value.payloads) → IsOpenRefusal e wanted bytes
+pub meaning_refusal : (e : ReplicaError) (wanted : Option ℕ) (bytes : List ℕ) (value : Value) →
+    meaning bytes ≡ Ok value → IsOfMeaning e →
+    (e ≡ Damaged → GivesNothing value.image value.payloads) →
+    (e ≡ WrongPair → GivesOtherPair wanted value.image value.payloads) →
+    IsOpenRefusal e wanted bytes
 meaning_refusal (Tree e) wanted bytes value means h damaged other = absurd h
 meaning_refusal (History e) wanted bytes value means h damaged other = absurd h
 meaning_refusal (Journal e) wanted bytes value means h damaged other = absurd h
 meaning_refusal Memory wanted bytes value means h damaged other = tt
 meaning_refusal Touched wanted bytes value means h damaged other = absurd h
 meaning_refusal OldSession wanted bytes value means h damaged other = absurd h
-meaning_refusal Damaged wanted bytes value means h damaged other = record { value = value; means = means; nothing = damaged refl }
-meaning_refusal WrongPair wanted bytes value means h damaged other = record { value = value; means = means; other = other refl }
+meaning_refusal Damaged wanted bytes value means h damaged other =
+    record { value = value; means = means; nothing = damaged refl }
+meaning_refusal WrongPair wanted bytes value means h damaged other =
+    record { value = value; means = means; other = other refl }
 
 -- the disk is of another pair as its value is
-pub other_value : (wanted : Option ℕ) (bytes : List ℕ) (value : Value) → meaning bytes ≡ Ok value → IsOfOtherPair wanted bytes → GivesOtherPair wanted value.image value.payloads
-other_value wanted bytes value means other = subst (λ v. GivesOtherPair wanted v.image v.payloads) (one_value (meaning bytes) other.value value other.means means) other.other
+pub other_value : (wanted : Option ℕ) (bytes : List ℕ) (value : Value) → meaning bytes ≡ Ok value →
+    IsOfOtherPair wanted bytes → GivesOtherPair wanted value.image value.payloads
+other_value wanted bytes value means other =
+    subst (λ v. GivesOtherPair wanted v.image v.payloads)
+    (one_value (meaning bytes) other.value value other.means means) other.other
 
 -- these make no device call that fails
 pub quiet : (e : ReplicaError) (old new : ℕ) → IsOfMeaning e → new ≡ old → CountsFailures e old new
@@ -75,7 +92,8 @@ quiet OldSession old new h same = absurd h
 quiet Damaged old new h same = same
 quiet WrongPair old new h same = same
 
-pub after_reads : (e : ReplicaError) (least : ℕ) (old new : Arms) → IsOfMeaning e → MakesAtLeast least old new → AfterReads least e old new
+pub after_reads : (e : ReplicaError) (least : ℕ) (old new : Arms) → IsOfMeaning e →
+    MakesAtLeast least old new → AfterReads least e old new
 after_reads (Tree e) least old new h made = absurd h
 after_reads (History e) least old new h made = absurd h
 after_reads (Journal e) least old new h made = absurd h

@@ -1,5 +1,7 @@
 -- Which refusals a call may answer.
-use Rattle.std.proofs.Common.{◌≡◌, ◌⊎◌, ℕ, Bool, true, false, ◌||◌, ◌==◌, List, [], ◌∷◌, refl, sym, ap, ap₂, ◌∙◌, subst, Option, Some, None, Result, Ok, Err, inl, inr, true≢false, arith}
+use Rattle.std.proofs.Common.{◌≡◌, ◌⊎◌, ℕ, Bool, true, false, ◌||◌, ◌==◌, List, [], ◌∷◌, refl, sym}
+use Rattle.std.proofs.Common.{ap, ap₂, ◌∙◌, subst, Option, Some, None, Result, Ok, Err, inl, inr}
+use Rattle.std.proofs.Common.{true≢false, arith}
 use Rattle.std.specs.Prelude.{IsErrAnd, IfErr, OnOk, MatchResult}
 use Rattle.std.specs.List.{list_any, AllByRecursion}
 use Rattle.std.proofs.lemmas.Bool.Decides.{nat_tests}
@@ -12,7 +14,8 @@ use Rattle.syn_model.specs.Standing.{Standing, causes_at, refusal_at}
 use Rattle.syn_disk.specs.Arms.{Arms}
 use Rattle.syn_disk.specs.declared.disk.Disk.{Ghosts}
 use Rattle.syn_journal.specs.declared.error.JournalError.TheVariants as journal
-use Rattle.syn_replica.specs.Refusals.{IsOneOf, CountsFailures, MakesIfDevice, edit_refusals, outside_refusals}
+use Rattle.syn_replica.specs.Refusals.{IsOneOf, CountsFailures, MakesIfDevice, edit_refusals}
+use Rattle.syn_replica.specs.Refusals.{outside_refusals}
 use Rattle.syn_replica.specs.Replica.{Tries}
 use Rattle.syn_replica.specs.declared.replica.Replica.{Replica}
 use Rattle.syn_standing.proofs.StandingLemmas.{early_at}
@@ -25,10 +28,14 @@ abbrev pub is_among : List Refusal → Refusal → Bool
 is_among refusals refusal = list_any (λ why. number why == number refusal) refusals
 
 -- the first of some causes has a refusal that one of them has
-pub first_among : (refusals : List Refusal) (causes : List Cause) (refusal : Refusal) → AllByRecursion (λ cause. is_among refusals cause.1 ≡ true) causes → first_cause causes ≡ Some refusal → is_among refusals refusal ≡ true
+pub first_among : (refusals : List Refusal) (causes : List Cause) (refusal : Refusal) →
+    AllByRecursion (λ cause. is_among refusals cause.1 ≡ true) causes →
+    first_cause causes ≡ Some refusal → is_among refusals refusal ≡ true
 first_among refusals [] refusal all e = absurd (none-some _ e)
-first_among refusals ((true, cause) ∷ causes) refusal all e = subst (λ w. is_among refusals w ≡ true) (same_Some _ _ e) all.0
-first_among refusals ((false, cause) ∷ causes) refusal all e = first_among refusals causes refusal all.1 e
+first_among refusals ((true, cause) ∷ causes) refusal all e =
+    subst (λ w. is_among refusals w ≡ true) (same_Some _ _ e) all.0
+first_among refusals ((false, cause) ∷ causes) refusal all e =
+    first_among refusals causes refusal all.1 e
 
 -- one of two numbers
 two_numbers : (n : ℕ) → (11 == n || (9 == n || false)) ≡ true → (11 ≡ n) ⊎ (9 ≡ n)
@@ -46,7 +53,9 @@ two_numbers n h = by_test (11 == n) refl
     by_test false e = second (9 == n) refl e
 
 -- want of memory and a failed device call are among the refusals of a call where both are listed
-pub outside_among : (refusals : List Refusal) → is_among refusals why.Memory ≡ true → is_among refusals why.Device ≡ true → (e : ReplicaError) → IsOneOf outside_refusals e → IsOneOf refusals e
+pub outside_among : (refusals : List Refusal) → is_among refusals why.Memory ≡ true →
+    is_among refusals why.Device ≡ true → (e : ReplicaError) → IsOneOf outside_refusals e →
+    IsOneOf refusals e
 outside_among refusals memory device e h =
     elim (two_numbers (number (refusal_of e)) h) as (λ _. IsOneOf refusals e) [
       | inl same ↦ subst (λ n. list_any (λ why. number why == n) refusals ≡ true) same memory
@@ -54,17 +63,26 @@ outside_among refusals memory device e h =
     ]
 
 -- a refusal that is answered is the one
-pub same_refusal : (e : ReplicaError) (refusal : Refusal) (answered : Option Refusal) → answered ≡ Some (refusal_of e) → answered ≡ Some refusal → refusal_of e ≡ refusal
+pub same_refusal : (e : ReplicaError) (refusal : Refusal) (answered : Option Refusal) →
+    answered ≡ Some (refusal_of e) → answered ≡ Some refusal → refusal_of e ≡ refusal
 same_refusal e refusal answered a b = same_Some _ _ (sym a ∙ b)
 
 -- an edit is refused for what an edit may be refused
-pub edit_among : (standing : Standing) (user : ℕ) (edit : Edit) (refusal : Refusal) → refusal_at standing (Edited user edit) ≡ Some refusal → is_among edit_refusals refusal ≡ true
-edit_among s user (Put path bytes) refusal e = first_among edit_refusals (causes_at s (Edited user (Put path bytes))) refusal (refl, (refl, (refl, (refl, (refl, tt))))) e
-edit_among s user (MakeDir path) refusal e = first_among edit_refusals (causes_at s (Edited user (MakeDir path))) refusal (refl, (refl, (refl, (refl, (refl, tt))))) e
-edit_among s user (Remove path) refusal e = first_among edit_refusals (causes_at s (Edited user (Remove path))) refusal (refl, (refl, (refl, (refl, (refl, tt))))) e
+pub edit_among : (standing : Standing) (user : ℕ) (edit : Edit) (refusal : Refusal) →
+    refusal_at standing (Edited user edit) ≡ Some refusal → is_among edit_refusals refusal ≡ true
+edit_among s user (Put path bytes) refusal e =
+    first_among edit_refusals (causes_at s (Edited user (Put path bytes))) refusal
+    (refl, (refl, (refl, (refl, (refl, tt))))) e
+edit_among s user (MakeDir path) refusal e =
+    first_among edit_refusals (causes_at s (Edited user (MakeDir path))) refusal
+    (refl, (refl, (refl, (refl, (refl, tt))))) e
+edit_among s user (Remove path) refusal e =
+    first_among edit_refusals (causes_at s (Edited user (Remove path))) refusal
+    (refl, (refl, (refl, (refl, (refl, tt))))) e
 
 -- what no history is the cause of is want of memory or a failed device call
-pub outside_is : (w : Refusal) → is_among outside_refusals w ≡ true → (w ≡ why.Memory) ⊎ (w ≡ why.Device)
+pub outside_is : (w : Refusal) → is_among outside_refusals w ≡ true →
+    (w ≡ why.Memory) ⊎ (w ≡ why.Device)
 outside_is why.BadPath h = absurd (true≢false (sym h))
 outside_is why.NoParent h = absurd (true≢false (sym h))
 outside_is why.IsDirectory h = absurd (true≢false (sym h))
@@ -92,19 +110,25 @@ outside_is why.NoSeat h = absurd (true≢false (sym h))
 outside_is why.NoAnswer h = absurd (true≢false (sym h))
 
 -- where a cause stands, it is answered, or in its place that memory is refused
-pub refused_by : (r : Result ℕ ReplicaError) (answered : Option Refusal) (cause : Refusal) → answered ≡ Some cause → OnOk r (answered ≡ None) → IfErr r (λ e. refusal_of e ≡ why.Device → answered ≡ None) →
-    IfErr r (λ e. IsOneOf outside_refusals e ⊎ (answered ≡ Some (refusal_of e))) → IsErrAnd r (λ e. (refusal_of e ≡ cause) ⊎ (refusal_of e ≡ why.Memory))
+pub refused_by : (r : Result ℕ ReplicaError) (answered : Option Refusal) (cause : Refusal) →
+    answered ≡ Some cause → OnOk r (answered ≡ None) →
+    IfErr r (λ e. refusal_of e ≡ why.Device → answered ≡ None) →
+    IfErr r (λ e. IsOneOf outside_refusals e ⊎ (answered ≡ Some (refusal_of e))) →
+    IsErrAnd r (λ e. (refusal_of e ≡ cause) ⊎ (refusal_of e ≡ why.Memory))
 refused_by (Ok x) answered cause e none device told = none-some _ (sym none ∙ e)
-refused_by (Err x) answered cause e none device told = elim told as (λ _. (refusal_of x ≡ cause) ⊎ (refusal_of x ≡ why.Memory)) [
-  | inl outside ↦ elim (outside_is (refusal_of x) outside) as (λ _. (refusal_of x ≡ cause) ⊎ (refusal_of x ≡ why.Memory)) [
-    | inl memory ↦ inr memory
-    | inr failed ↦ absurd (none-some _ (sym (device failed) ∙ e))
-  ]
-  | inr is ↦ inl (same_refusal x cause answered is e)
-]
+refused_by (Err x) answered cause e none device told =
+    elim told as (λ _. (refusal_of x ≡ cause) ⊎ (refusal_of x ≡ why.Memory)) [
+      | inl outside ↦ elim (outside_is (refusal_of x) outside)
+          as (λ _. (refusal_of x ≡ cause) ⊎ (refusal_of x ≡ why.Memory)) [
+            | inl memory ↦ inr memory
+            | inr failed ↦ absurd (none-some _ (sym (device failed) ∙ e))
+          ]
+      | inr is ↦ inl (same_refusal x cause answered is e)
+    ]
 
 -- what a clause says of each refusal, where all are for what no history is the cause of
-pub or_outside : {X : Type 0} (Q : ReplicaError → Type 0) (r : Result X ReplicaError) → IfErr r (IsOneOf outside_refusals) → IfErr r (λ e. IsOneOf outside_refusals e ⊎ Q e)
+pub or_outside : {X : Type 0} (Q : ReplicaError → Type 0) (r : Result X ReplicaError) →
+    IfErr r (IsOneOf outside_refusals) → IfErr r (λ e. IsOneOf outside_refusals e ⊎ Q e)
 or_outside Q (Ok x) h = tt
 or_outside Q (Err x) h = inl h
 
@@ -113,32 +137,51 @@ pub whatever_ok : {X : Type 0} (P : Type 0) → P → (r : Result X ReplicaError
 whatever_ok P holds (Ok x) = holds
 whatever_ok P holds (Err x) = tt
 
-pub whatever_why : {X : Type 0} (w : Refusal) (P : Type 0) → P → (r : Result X ReplicaError) → IfErr r (λ e. refusal_of e ≡ w → P)
+pub whatever_why : {X : Type 0} (w : Refusal) (P : Type 0) → P → (r : Result X ReplicaError) →
+    IfErr r (λ e. refusal_of e ≡ w → P)
 whatever_why w P holds (Ok x) = tt
 whatever_why w P holds (Err x) = λ _. holds
 
 -- ---- a refusal of want of memory, or of what a history is the cause of
 
 abbrev pub inner_refusals : List Refusal
-inner_refusals = why.Memory ∷ why.Root ∷ why.NoParent ∷ why.IsDirectory ∷ why.Exists ∷ why.Absent ∷ why.Full ∷ why.OldSession ∷ []
+inner_refusals =
+    why.Memory ∷ why.Root ∷ why.NoParent ∷ why.IsDirectory ∷ why.Exists ∷ why.Absent ∷ why.Full
+    ∷ why.OldSession ∷ []
 
-cause_among : (standing : Standing) (event : Event) (refusal : Refusal) → refusal_at standing event ≡ Some refusal → is_among inner_refusals refusal ≡ true
-cause_among s (Edited user (Put path bytes)) refusal e = first_among inner_refusals (causes_at s (Edited user (Put path bytes))) refusal (refl, (refl, (refl, (refl, (refl, tt))))) e
-cause_among s (Edited user (MakeDir path)) refusal e = first_among inner_refusals (causes_at s (Edited user (MakeDir path))) refusal (refl, (refl, (refl, (refl, (refl, tt))))) e
-cause_among s (Edited user (Remove path)) refusal e = first_among inner_refusals (causes_at s (Edited user (Remove path))) refusal (refl, (refl, (refl, (refl, (refl, tt))))) e
-cause_among s (Began session) refusal e = first_among inner_refusals (causes_at s (Began session)) refusal (refl, (refl, tt)) e
-cause_among s (Replaced token path since new) refusal e = first_among inner_refusals (causes_at s (Replaced token path since new)) refusal (refl, (refl, (refl, (refl, (refl, tt))))) e
+cause_among : (standing : Standing) (event : Event) (refusal : Refusal) →
+    refusal_at standing event ≡ Some refusal → is_among inner_refusals refusal ≡ true
+cause_among s (Edited user (Put path bytes)) refusal e =
+    first_among inner_refusals (causes_at s (Edited user (Put path bytes))) refusal
+    (refl, (refl, (refl, (refl, (refl, tt))))) e
+cause_among s (Edited user (MakeDir path)) refusal e =
+    first_among inner_refusals (causes_at s (Edited user (MakeDir path))) refusal
+    (refl, (refl, (refl, (refl, (refl, tt))))) e
+cause_among s (Edited user (Remove path)) refusal e =
+    first_among inner_refusals (causes_at s (Edited user (Remove path))) refusal
+    (refl, (refl, (refl, (refl, (refl, tt))))) e
+cause_among s (Began session) refusal e =
+    first_among inner_refusals (causes_at s (Began session)) refusal (refl, (refl, tt)) e
+cause_among s (Replaced token path since new) refusal e =
+    first_among inner_refusals (causes_at s (Replaced token path since new)) refusal
+    (refl, (refl, (refl, (refl, (refl, tt))))) e
 
-pub inner_among : (standing : Standing) (event : Event) (e : ReplicaError) → (refusal_of e ≡ why.Memory) ⊎ (refusal_at standing event ≡ Some (refusal_of e)) → IsOneOf inner_refusals e
+pub inner_among : (standing : Standing) (event : Event) (e : ReplicaError) →
+    (refusal_of e ≡ why.Memory) ⊎ (refusal_at standing event ≡ Some (refusal_of e)) →
+    IsOneOf inner_refusals e
 inner_among s event e (inl memory) = subst (λ w. is_among inner_refusals w ≡ true) (sym memory) refl
 inner_among s event e (inr cause) = cause_among s event (refusal_of e) cause
 
-pub early_among : (standing : Standing) (event : Event) (e : ReplicaError) → Some (refusal_of e) ≡ first_cause (early_causes standing event) → IsOneOf inner_refusals e
-early_among s event e early = cause_among s event (refusal_of e) (early_at s event (refusal_of e) (sym early))
+pub early_among : (standing : Standing) (event : Event) (e : ReplicaError) →
+    Some (refusal_of e) ≡ first_cause (early_causes standing event) → IsOneOf inner_refusals e
+early_among s event e early =
+    cause_among s event (refusal_of e) (early_at s event (refusal_of e) (sym early))
 
 -- a refusal that is among these is none that is not
-pub never : (refusals : List Refusal) (w : Refusal) → is_among refusals w ≡ false → (e : ReplicaError) → IsOneOf refusals e → refusal_of e ≡ w → ⊥
-never refusals w none e h same = true≢false (sym (subst (λ r. is_among refusals r ≡ true) same h) ∙ none)
+pub never : (refusals : List Refusal) (w : Refusal) →
+    is_among refusals w ≡ false → (e : ReplicaError) → IsOneOf refusals e → refusal_of e ≡ w → ⊥
+never refusals w none e h same =
+    true≢false (sym (subst (λ r. is_among refusals r ≡ true) same h) ∙ none)
 
 no_failure : (e : ReplicaError) (n : ℕ) → (refusal_of e ≡ why.Device → ⊥) → CountsFailures e n n
 no_failure (replica.Journal journal.Device) n quiet = absurd (quiet refl)
@@ -156,7 +199,8 @@ no_failure replica.OldSession n quiet = refl
 no_failure replica.Damaged n quiet = refl
 no_failure replica.WrongPair n quiet = refl
 
-no_calls : (e : ReplicaError) (most : ℕ) (arms : Arms) → (refusal_of e ≡ why.Device → ⊥) → MakesIfDevice e most arms arms
+no_calls : (e : ReplicaError) (most : ℕ) (arms : Arms) → (refusal_of e ≡ why.Device → ⊥) →
+    MakesIfDevice e most arms arms
 no_calls (replica.Journal journal.Device) most arms quiet = absurd (quiet refl)
 no_calls (replica.Journal journal.Halted) most arms quiet = refl
 no_calls (replica.Journal journal.Full) most arms quiet = refl
@@ -173,17 +217,22 @@ no_calls replica.Damaged most arms quiet = refl
 no_calls replica.WrongPair most arms quiet = refl
 
 -- what a clause says of an exit, where no device call failed, and nothing changed
-module _ {X : Type 0} (r : Result X ReplicaError) (e : ReplicaError) (is : IsErrAnd r (λ x. x ≡ e)) (quiet : refusal_of e ≡ why.Device → ⊥) where
+module _ {X : Type 0} (r : Result X ReplicaError) (e : ReplicaError) (is : IsErrAnd r (λ x. x ≡ e))
+    (quiet : refusal_of e ≡ why.Device → ⊥) where
   pub quiet_failures : (P : X → Type 0) (n : ℕ) → MatchResult r P (λ e. CountsFailures e n n)
   quiet_failures P n = match_of_exit r e P (λ e. CountsFailures e n n) is (no_failure e n quiet)
 
-  pub quiet_calls : (P : X → Type 0) (most : ℕ) (arms : Arms) → MatchResult r P (λ e. MakesIfDevice e most arms arms)
-  quiet_calls P most arms = match_of_exit r e P (λ e. MakesIfDevice e most arms arms) is (no_calls e most arms quiet)
+  pub quiet_calls : (P : X → Type 0) (most : ℕ) (arms : Arms) →
+      MatchResult r P (λ e. MakesIfDevice e most arms arms)
+  quiet_calls P most arms =
+      match_of_exit r e P (λ e. MakesIfDevice e most arms arms) is (no_calls e most arms quiet)
 
   pub quiet_device : (Q : Type 0) → IfErr r (λ e. refusal_of e ≡ why.Device → Q)
-  quiet_device Q = if_err_of_exit r e (λ e. refusal_of e ≡ why.Device → Q) is (λ device. absurd (quiet device))
+  quiet_device Q =
+      if_err_of_exit r e (λ e. refusal_of e ≡ why.Device → Q) is (λ device. absurd (quiet device))
 
-  pub quiet_tries : {D : Type 0} {disk : Ghosts D} (old : Replica D disk) (event : Event) → Tries old old event r
+  pub quiet_tries : {D : Type 0} {disk : Ghosts D} (old : Replica D disk) (event : Event) →
+      Tries old old event r
   quiet_tries old event = at r is
     where
       at : (r : Result X ReplicaError) → IsErrAnd r (λ x. x ≡ e) → Tries old old event r

@@ -1,5 +1,6 @@
 -- Why a replica is not opened again, and what it stands for where it is.
-use Rattle.std.proofs.Common.{◌≡◌, ◌≤◌, ◌<◌, ◌^◌, ℕ, List, [], ◌∷◌, ◌++◌, length, refl, sym, ap, ◌∙◌, subst, inl, inr, arith, Some, Ok, Bool, true, false, true≢false}
+use Rattle.std.proofs.Common.{◌≡◌, ◌≤◌, ◌<◌, ◌^◌, ℕ, List, [], ◌∷◌, ◌++◌, length, refl, sym, ap}
+use Rattle.std.proofs.Common.{◌∙◌, subst, inl, inr, arith, Some, Ok, Bool, true, false, true≢false}
 use Rattle.std.proofs.lemmas.List.{length-append}
 use Rattle.syn_disk.specs.declared.disk.Disk.{Ghosts}
 use Rattle.syn_journal.specs.Layout.{Value, meaning}
@@ -17,11 +18,15 @@ use Rattle.syn_replica.specs.Growing.{remembered}
 use Rattle.syn_standing.specs.Readings.{OneIsGiven, IsOfMeaning}
 use Rattle.syn_replica.specs.declared.replica.Replica.{Replica}
 use Rattle.syn_standing.specs.declared.error.ReplicaError.{ReplicaError}
-use Rattle.syn_standing.specs.declared.error.ReplicaError.TheVariants.{Tree, History as OfHistory, Journal, Memory, Touched, OldSession, Damaged, WrongPair}
+use Rattle.syn_standing.specs.declared.error.ReplicaError.TheVariants.{Tree, History as OfHistory}
+use Rattle.syn_standing.specs.declared.error.ReplicaError.TheVariants.{Journal, Memory, Touched}
+use Rattle.syn_standing.specs.declared.error.ReplicaError.TheVariants.{OldSession, Damaged}
+use Rattle.syn_standing.specs.declared.error.ReplicaError.TheVariants.{WrongPair}
 use Rattle.syn_replica.proofs.GrowthLemmas.{disk_keeps}
 use Rattle.syn_replica.proofs.MeaningLemmas.{no_value, one_value}
 
-pub of_open : (e : ReplicaError) (pair position : ℕ) (bytes : List ℕ) → IsOpenRefusal e (Some pair) bytes → IsReopenRefusal e pair position bytes
+pub of_open : (e : ReplicaError) (pair position : ℕ) (bytes : List ℕ) →
+    IsOpenRefusal e (Some pair) bytes → IsReopenRefusal e pair position bytes
 of_open (Tree e) pair position bytes h = h
 of_open (OfHistory e) pair position bytes h = h
 of_open (Journal e) pair position bytes h = h
@@ -35,27 +40,37 @@ asked_is : (a b : ℕ) → Some a ≡ Some b → a ≡ b
 asked_is a b e = cc e
 
 -- what a journal refuses of a disk that stands for a history
-pub journal_outside : (e : JournalError) (pair : ℕ) (bytes : List ℕ) (history : History) → DiskStands pair bytes history → journal.IsOpenRefusal e (meaning bytes) → IsOneOf outside_refusals (Journal e)
+pub journal_outside : (e : JournalError) (pair : ℕ) (bytes : List ℕ) (history : History) →
+    DiskStands pair bytes history → journal.IsOpenRefusal e (meaning bytes) →
+    IsOneOf outside_refusals (Journal e)
 journal_outside refused.Full pair bytes history d h = absurd h
 journal_outside refused.JournalFull pair bytes history d h = absurd h
 journal_outside refused.Device pair bytes history d h = refl
 journal_outside refused.Halted pair bytes history d h = absurd h
 journal_outside refused.Memory pair bytes history d h = refl
-journal_outside refused.NoImage pair bytes history d h = absurd (no_value (meaning bytes) d.value _ d.means h)
-journal_outside refused.Damaged pair bytes history d h = absurd (no_value (meaning bytes) d.value _ d.means h)
+journal_outside refused.NoImage pair bytes history d h =
+    absurd (no_value (meaning bytes) d.value _ d.means h)
+journal_outside refused.Damaged pair bytes history d h =
+    absurd (no_value (meaning bytes) d.value _ d.means h)
 
--- a replica that runs has a value on its disk, so want of memory and its device alone refuse to read it
-pub running_outside : (bytes : List ℕ) (value : Value) → meaning bytes ≡ Ok value → (e : JournalError) → journal.IsOpenRefusal e (meaning bytes) → IsOneOf outside_refusals (Journal e)
+-- a replica that runs has a value on its disk, so want of memory and its device alone refuse to
+-- read it
+pub running_outside : (bytes : List ℕ) (value : Value) →
+    meaning bytes ≡ Ok value → (e : JournalError) → journal.IsOpenRefusal e (meaning bytes) →
+    IsOneOf outside_refusals (Journal e)
 running_outside bytes value means refused.Full h = absurd h
 running_outside bytes value means refused.JournalFull h = absurd h
 running_outside bytes value means refused.Device h = refl
 running_outside bytes value means refused.Halted h = absurd h
 running_outside bytes value means refused.Memory h = refl
-running_outside bytes value means refused.NoImage h = absurd (no_value (meaning bytes) value _ means h)
-running_outside bytes value means refused.Damaged h = absurd (no_value (meaning bytes) value _ means h)
+running_outside bytes value means refused.NoImage h =
+    absurd (no_value (meaning bytes) value _ means h)
+running_outside bytes value means refused.Damaged h =
+    absurd (no_value (meaning bytes) value _ means h)
 
 -- what shows that it is halted does not show it where it runs
-pub runs_on : (shown halted : Bool) → (shown ≡ true → halted ≡ true) → halted ≡ false → shown ≡ false
+pub runs_on : (shown halted : Bool) → (shown ≡ true → halted ≡ true) → halted ≡ false →
+    shown ≡ false
 runs_on true halted is runs = absurd (true≢false (sym (is refl) ∙ runs))
 runs_on false halted is runs = refl
 
@@ -71,12 +86,17 @@ memory_alone Damaged of outside = cc
 memory_alone WrongPair of outside = cc
 
 -- what a disk gives that stands for a history
-module _ (one : OneIsGiven) (pair : ℕ) (bytes : List ℕ) (history : History) (fits : pair < 2 ^ 64) (d : DiskStands pair bytes history) where
-  given : (value : Value) → meaning bytes ≡ Ok value → Gives pair value.image value.payloads (standing_of history)
-  given value means = subst (λ (v : Value). Gives pair v.image v.payloads (standing_of history)) (one_value (meaning bytes) d.value value d.means means) d.stands.gives
+module _ (one : OneIsGiven) (pair : ℕ) (bytes : List ℕ) (history : History) (fits : pair < 2 ^ 64)
+    (d : DiskStands pair bytes history) where
+  given : (value : Value) → meaning bytes ≡ Ok value →
+      Gives pair value.image value.payloads (standing_of history)
+  given value means =
+      subst (λ (v : Value). Gives pair v.image v.payloads (standing_of history))
+      (one_value (meaning bytes) d.value value d.means means) d.stands.gives
 
   -- it is refused for want of memory, or where a device call fails
-  pub outside : (e : ReplicaError) (position : ℕ) → position ≤ length history → IsReopenRefusal e pair position bytes → IsOneOf outside_refusals e
+  pub outside : (e : ReplicaError) (position : ℕ) → position ≤ length history →
+      IsReopenRefusal e pair position bytes → IsOneOf outside_refusals e
   outside (Tree e) position early h = absurd h
   outside (OfHistory e) position early h = absurd h
   outside (Journal refused.Full) position early h = absurd h
@@ -84,43 +104,60 @@ module _ (one : OneIsGiven) (pair : ℕ) (bytes : List ℕ) (history : History) 
   outside (Journal refused.Device) position early h = refl
   outside (Journal refused.Halted) position early h = absurd h
   outside (Journal refused.Memory) position early h = refl
-  outside (Journal refused.NoImage) position early h = absurd (no_value (meaning bytes) d.value _ d.means h)
-  outside (Journal refused.Damaged) position early h = absurd (no_value (meaning bytes) d.value _ d.means h)
+  outside (Journal refused.NoImage) position early h =
+      absurd (no_value (meaning bytes) d.value _ d.means h)
+  outside (Journal refused.Damaged) position early h =
+      absurd (no_value (meaning bytes) d.value _ d.means h)
   outside Memory position early h = refl
   outside Touched position early h = absurd h
   outside OldSession position early h = absurd h
-  outside Damaged position early (inl u) = absurd (u.nothing pair (standing_of history) fits (given u.value u.means))
+  outside Damaged position early (inl u) =
+      absurd (u.nothing pair (standing_of history) fits (given u.value u.means))
   outside Damaged position early (inr f) =
-      let same = (one f.gives.value.image f.gives.value.payloads pair pair f.standing (standing_of history) fits fits f.gives.gives (given f.gives.value f.gives.means)).1 in
+      let same = (one f.gives.value.image f.gives.value.payloads pair pair f.standing
+      (standing_of history) fits fits f.gives.gives (given f.gives.value f.gives.means)).1 in
       let long : f.standing.position ≡ length history = ap (λ (s : Standing). s.position) same in
       let few = f.fewer in
       absurd (omega (arith, early, long, few))
   outside WrongPair position early o =
       let other = o.other in
-      let same = (one o.value.image o.value.payloads pair other.pair (standing_of history) other.standing fits other.fits (given o.value o.means) other.gives).0 in
+      let same = (one o.value.image o.value.payloads pair other.pair (standing_of history)
+      other.standing fits other.fits (given o.value o.means) other.gives).0 in
       absurd (other.differ (sym (asked_is pair other.asked other.wanted_is) ∙ same))
 
 module _ {D : Type 0} {disk : Ghosts D} where
-  pub refused_outside : OneIsGiven → (old : Replica D disk) (history : History) → KeepsUp old history → pair_of old < 2 ^ 64 → (e : ReplicaError) →
-      IsReopenRefusal e (pair_of old) (position_shown old) (disk.seen (disk_of old)) → IsOneOf outside_refusals e
+  pub refused_outside : OneIsGiven → (old : Replica D disk) (history : History) →
+      KeepsUp old history → pair_of old < 2 ^ 64 → (e : ReplicaError) →
+      IsReopenRefusal e (pair_of old) (position_shown old) (disk.seen (disk_of old)) →
+      IsOneOf outside_refusals e
   refused_outside one old history k fits e h =
-      let here : position_shown old ≡ length history = ap (λ (s : Standing). s.position) (remembered old history k).standing in
+      let here : position_shown old ≡ length history =
+      ap (λ (s : Standing). s.position) (remembered old history k).standing in
       elim (disk_keeps old history k) as (λ _. IsOneOf outside_refusals e) [
-        | inl d ↦ outside one (pair_of old) (disk.seen (disk_of old)) history fits d e (position_shown old) (omega (arith, here)) h
+        | inl d ↦ outside one (pair_of old) (disk.seen (disk_of old)) history fits d e
+            (position_shown old) (omega (arith, here)) h
         | inr d ↦ let more = length-append history (d.0 ∷ []) in
-            outside one (pair_of old) (disk.seen (disk_of old)) (history ++ d.0 ∷ []) fits d.2 e (position_shown old) (omega (arith, here, more)) h
+            outside one (pair_of old) (disk.seen (disk_of old)) (history ++ d.0 ∷ []) fits d.2 e
+            (position_shown old) (omega (arith, here, more)) h
       ]
 
-  pub not_read_outside : (old : Replica D disk) (history : History) → KeepsUp old history → (e : JournalError) → journal.IsOpenRefusal e (meaning (disk.seen (disk_of old))) → IsOneOf outside_refusals (Journal e)
-  not_read_outside old history k e h = elim (disk_keeps old history k) as (λ _. IsOneOf outside_refusals (Journal e)) [
-    | inl d ↦ journal_outside e (pair_of old) (disk.seen (disk_of old)) history d h
-    | inr d ↦ journal_outside e (pair_of old) (disk.seen (disk_of old)) (history ++ d.0 ∷ []) d.2 h
-  ]
+  pub not_read_outside : (old : Replica D disk) (history : History) → KeepsUp old history →
+      (e : JournalError) → journal.IsOpenRefusal e (meaning (disk.seen (disk_of old))) →
+      IsOneOf outside_refusals (Journal e)
+  not_read_outside old history k e h =
+      elim (disk_keeps old history k) as (λ _. IsOneOf outside_refusals (Journal e)) [
+        | inl d ↦ journal_outside e (pair_of old) (disk.seen (disk_of old)) history d h
+        | inr d ↦ journal_outside e (pair_of old) (disk.seen (disk_of old))
+            (history ++ d.0 ∷ []) d.2 h
+      ]
 
-  pub stands_again : (old new : Replica D disk) (history : History) → pair_of new ≡ pair_of old → ((h : History) → DiskStands (pair_of new) (disk.seen (disk_of old)) h → Stands new h) → KeepsUp old history →
-      WithTried (Stands new) (tried_shown old) history
+  pub stands_again : (old new : Replica D disk) (history : History) → pair_of new ≡ pair_of old →
+      ((h : History) → DiskStands (pair_of new) (disk.seen (disk_of old)) h → Stands new h) →
+      KeepsUp old history → WithTried (Stands new) (tried_shown old) history
   stands_again old new history pair stands k =
-      let of_new : (h : History) → DiskStands (pair_of old) (disk.seen (disk_of old)) h → Stands new h = λ h d. stands h (subst (λ (n : ℕ). DiskStands n (disk.seen (disk_of old)) h) (sym pair) d) in
+      let of_new : (h : History) → DiskStands (pair_of old) (disk.seen (disk_of old)) h →
+      Stands new h = λ h d. stands h
+      (subst (λ (n : ℕ). DiskStands n (disk.seen (disk_of old)) h) (sym pair) d) in
       elim (disk_keeps old history k) as (λ _. WithTried (Stands new) (tried_shown old) history) [
         | inl d ↦ inl (of_new history d)
         | inr d ↦ inr (d.0, d.1, of_new (history ++ d.0 ∷ []) d.2)

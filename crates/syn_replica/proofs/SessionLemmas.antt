@@ -1,5 +1,7 @@
 -- Why a replacement is refused, as it is found out step by step.
-use Rattle.std.proofs.Common.{◌≡◌, ◌≢◌, ◌==◌, ◌⊎◌, inr, ℕ, Bool, false, not, nat_lt, nat_le, if◌then◌else◌, List, [], ◌∷◌, ◌++◌, length, refl, sym, ap, ap₂, ◌∙◌, subst, Option, Some, None, append_assoc, arith, ◌+◌, Result, Ok, Err}
+use Rattle.std.proofs.Common.{◌≡◌, ◌≢◌, ◌==◌, ◌⊎◌, inr, ℕ, Bool, false, not, nat_lt, nat_le}
+use Rattle.std.proofs.Common.{if◌then◌else◌, List, [], ◌∷◌, ◌++◌, length, refl, sym, ap, ap₂, ◌∙◌}
+use Rattle.std.proofs.Common.{subst, Option, Some, None, append_assoc, arith, ◌+◌, Result, Ok, Err}
 use Rattle.std.specs.Prelude.{IfOk, IfErr, IsErrAnd, IfSome}
 use Rattle.std.proofs.lemmas.List.{length-append}
 use Rattle.std.proofs.lemmas.Bool.Decides.{nat_tests}
@@ -11,9 +13,11 @@ use Rattle.syn_model.specs.Event.{Token, Event, Began, Replaced}
 use Rattle.syn_model.specs.Refusal.{Refusal, Memory, OldSession, WrongPair, Cause, first_cause}
 use Rattle.syn_model.specs.Spelling.{event_spelling}
 use Rattle.syn_model.specs.Standing.{Standing, is_old, place_causes, full_causes}
-use Rattle.syn_model.specs.History.{History, standing_of, tree_of, is_old_token, last_session, position_causes}
+use Rattle.syn_model.specs.History.{History, standing_of, tree_of, is_old_token, last_session}
+use Rattle.syn_model.specs.History.{position_causes}
 use Rattle.syn_replica.specs.Refusals.{IsOneOf, outside_refusals}
-use Rattle.syn_replica.specs.Steps.{add_refusal, room_causes, replace_refusal, begin_refusal, is_done, replaced, begun}
+use Rattle.syn_replica.specs.Steps.{add_refusal, room_causes, replace_refusal, begin_refusal}
+use Rattle.syn_replica.specs.Steps.{is_done, replaced, begun}
 use Rattle.syn_replica.specs.inner.Additions.{add_refusal_at}
 use Rattle.syn_standing.specs.Causes.{since_causes}
 use Rattle.syn_standing.specs.Refusals.{refusal_of}
@@ -26,18 +30,28 @@ use Rattle.syn_standing.proofs.SinceLemmas.{first_false}
 
 module _ (room : ℕ) (history : History) (token : Token) (path : Path) (since : ℕ) (new : Tree) where
   rest_causes : List Cause
-  rest_causes = place_causes (tree_of history) path ++ (full_causes (replace (tree_of history) path new)
+  rest_causes =
+      place_causes (tree_of history) path ++ (full_causes (replace (tree_of history) path new)
       ++ (position_causes history ++ room_causes room (Replaced token path since new)))
 
-  not_old : is_old_token history token ≡ false → replace_refusal room history token path since new ≡ first_cause (since_causes history path since ++ rest_causes)
+  not_old : is_old_token history token ≡ false → replace_refusal room history token path since new
+      ≡ first_cause (since_causes history path since ++ rest_causes)
   unfolding rest_causes
-  not_old current = first_false (is_old_token history token) OldSession (since_causes history path since ++ rest_causes) current
+  not_old current =
+      first_false (is_old_token history token) OldSession
+      (since_causes history path since ++ rest_causes) current
 
-  untouched : is_old_token history token ≡ false → first_cause (since_causes history path since) ≡ None → replace_refusal room history token path since new ≡ first_cause rest_causes
-  untouched current none = not_old current ∙ first_skips (since_causes history path since) rest_causes none
+  untouched : is_old_token history token ≡ false →
+      first_cause (since_causes history path since) ≡ None →
+      replace_refusal room history token path since new ≡ first_cause rest_causes
+  untouched current none =
+      not_old current ∙ first_skips (since_causes history path since) rest_causes none
 
   -- where the token and the path stand as they should, what is left is why the event is not added
-  pub replaced_rest : is_old_token history token ≡ false → first_cause (since_causes history path since) ≡ None → replace_refusal room history token path since new ≡ add_refusal room history (Replaced token path since new)
+  pub replaced_rest : is_old_token history token ≡ false →
+      first_cause (since_causes history path since) ≡ None →
+      replace_refusal room history token path since new
+      ≡ add_refusal room history (Replaced token path since new)
   unfolding rest_causes
   replaced_rest current none =
       let place = place_causes (tree_of history) path in
@@ -45,24 +59,35 @@ module _ (room : ℕ) (history : History) (token : Token) (path : Path) (since :
       let position = position_causes history in
       let last = room_causes room (Replaced token path since new) in
       untouched current none
-      ∙ (ap first_cause (sym (append_assoc place full (position ++ last)) ∙ (sym (append_assoc (place ++ full) position last) ∙ ap (λ xs. xs ++ last) (append_assoc place full position)))
-      ∙ sym (first_false (is_old_token history token) OldSession ((place ++ (full ++ position)) ++ last) current))
+      ∙ (ap first_cause (sym (append_assoc place full (position ++ last)) ∙ (sym (append_assoc
+      (place ++ full) position last) ∙ ap (λ xs. xs ++ last) (append_assoc place full position)))
+      ∙ sym (first_false (is_old_token history token) OldSession
+      ((place ++ (full ++ position)) ++ last) current))
 
   -- where the tree refuses what is put, that is answered
-  refused_place : is_old_token history token ≡ false → first_cause (since_causes history path since) ≡ None → (refusal : Refusal) → tree_refusal (tree_of history) path new ≡ Some refusal → replace_refusal room history token path since new ≡ Some refusal
+  refused_place : is_old_token history token ≡ false →
+      first_cause (since_causes history path since) ≡ None → (refusal : Refusal) →
+      tree_refusal (tree_of history) path new ≡ Some refusal →
+      replace_refusal room history token path since new ≡ Some refusal
   unfolding rest_causes
   refused_place current none refusal e =
       let place = place_causes (tree_of history) path in
       let full = full_causes (replace (tree_of history) path new) in
       let rest = position_causes history ++ room_causes room (Replaced token path since new) in
-      untouched current none ∙ (ap first_cause (sym (append_assoc place full rest)) ∙ first_stays (place ++ full) rest refusal e)
+      untouched current none ∙ (ap first_cause (sym (append_assoc place full rest))
+      ∙ first_stays (place ++ full) rest refusal e)
 
-  pub refused_part : {X : Type 0} (r : Result X ReplicaError) (e : ReplicaError) (standing : Standing) (tree : Tree) (old : Bool) → IsErrAnd r (λ x. x ≡ e) → standing ≡ standing_of history → old ≡ is_old standing.session standing.token token → old ≡ false
-      → None ≡ first_cause (since_causes history path since) → tree ≡ standing.tree → tree_refusal tree path new ≡ Some (refusal_of e)
-      → IfErr r (λ e. (refusal_of e ≡ Memory) ⊎ (replace_refusal room history token path since new ≡ Some (refusal_of e)))
+  pub refused_part : {X : Type 0} (r : Result X ReplicaError) (e : ReplicaError)
+      (standing : Standing) (tree : Tree) (old : Bool) → IsErrAnd r (λ x. x ≡ e) →
+      standing ≡ standing_of history → old ≡ is_old standing.session standing.token token →
+      old ≡ false → None ≡ first_cause (since_causes history path since) → tree ≡ standing.tree →
+      tree_refusal tree path new ≡ Some (refusal_of e) → IfErr r (λ e. (refusal_of e ≡ Memory)
+      ⊎ (replace_refusal room history token path since new ≡ Some (refusal_of e)))
   refused_part r e standing tree old same is tests current none there refused =
-      if_err_of_exit r e (λ e. (refusal_of e ≡ Memory) ⊎ (replace_refusal room history token path since new ≡ Some (refusal_of e))) same
-      (inr (refused_place (ap (λ s. is_old s.session s.token token) (sym is) ∙ (sym tests ∙ current)) (sym none) (refusal_of e)
+      if_err_of_exit r e (λ e. (refusal_of e ≡ Memory)
+      ⊎ (replace_refusal room history token path since new ≡ Some (refusal_of e))) same
+      (inr (refused_place (ap (λ s. is_old s.session s.token token) (sym is)
+      ∙ (sym tests ∙ current)) (sym none) (refusal_of e)
       (ap (λ t. tree_refusal t path new) (ap (λ s. s.tree) (sym is) ∙ sym there) ∙ refused)))
 
 -- ---- the causes at a begin
@@ -80,30 +105,52 @@ pub begun_size : (session : ℕ) → length (event_spelling (Began session)) ≡
 begun_size session = refl
 
 module _ (room own : ℕ) (history : History) (pair session : ℕ) where
-  -- where the pair is the replica's and the session was not begun, what is left is why the event is not added
-  begin_rest : pair ≡ own → session ≢ last_session history → begin_refusal room own history pair session ≡ add_refusal room history (Began session)
+  -- where the pair is the replica's and the session was not begun, what is left is why the event is
+  -- not added
+  begin_rest : pair ≡ own → session ≢ last_session history →
+      begin_refusal room own history pair session ≡ add_refusal room history (Began session)
   begin_rest same other =
       let last = position_causes history ++ room_causes room (Began session) in
-      first_false (not (pair == own)) WrongPair ((nat_lt session (last_session history), OldSession) ∷ (if session == last_session history then [] else last)) (not_other pair own same)
-      ∙ ap₂ (λ b c. first_cause ((b, OldSession) ∷ (if c then [] else last))) (less_or_same session (last_session history) other) (differs session (last_session history) other)
+      first_false (not (pair == own)) WrongPair ((nat_lt session (last_session history), OldSession)
+      ∷ (if session == last_session history then [] else last)) (not_other pair own same)
+      ∙ ap₂ (λ b c. first_cause ((b, OldSession) ∷ (if c then [] else last)))
+      (less_or_same session (last_session history) other)
+      (differs session (last_session history) other)
 
-  pub rest_at : (standing : Standing) (begun_last : ℕ) → standing ≡ standing_of history → pair ≡ own → begun_last ≡ standing.session → session ≢ begun_last → begin_refusal room own history pair session ≡ add_refusal_at room standing (Began session)
-  rest_at standing begun_last is same last other = begin_rest same (λ again. other (again ∙ sym (last ∙ ap (λ s. s.session) is))) ∙ ap (λ s. add_refusal_at room s (Began session)) (sym is)
+  pub rest_at : (standing : Standing) (begun_last : ℕ) → standing ≡ standing_of history →
+      pair ≡ own → begun_last ≡ standing.session → session ≢ begun_last →
+      begin_refusal room own history pair session ≡ add_refusal_at room standing (Began session)
+  rest_at standing begun_last is same last other =
+      begin_rest same (λ again. other (again ∙ sym (last ∙ ap (λ s. s.session) is)))
+      ∙ ap (λ s. add_refusal_at room s (Began session)) (sym is)
 
   -- where it may be added, there is no cause
-  pub begin_allowed : (standing : Standing) (begun_last : ℕ) (why : Refusal) → standing ≡ standing_of history → pair ≡ own → begun_last ≡ standing.session → session ≢ begun_last → add_refusal_at room standing (Began session) ≡ None → begin_refusal room own history pair session ≡ Some why → ⊥
-  begin_allowed standing begun_last why is same last other none cause = none-some _ (sym (rest_at standing begun_last is same last other ∙ none) ∙ cause)
+  pub begin_allowed : (standing : Standing) (begun_last : ℕ) (why : Refusal) →
+      standing ≡ standing_of history → pair ≡ own → begun_last ≡ standing.session →
+      session ≢ begun_last → add_refusal_at room standing (Began session) ≡ None →
+      begin_refusal room own history pair session ≡ Some why → ⊥
+  begin_allowed standing begun_last why is same last other none cause =
+      none-some _ (sym (rest_at standing begun_last is same last other ∙ none) ∙ cause)
 
-  module _ {X : Type 0} (r : Result X ReplicaError) (e : ReplicaError) (standing : Standing) (begun_last : ℕ) (at_exit : IsErrAnd r (λ x. x ≡ e)) (is : standing ≡ standing_of history) (same : pair ≡ own)
-      (last : begun_last ≡ standing.session) (other : session ≢ begun_last) (told : add_refusal_at room standing (Began session) ≡ Some (refusal_of e)) where
+  module _ {X : Type 0} (r : Result X ReplicaError) (e : ReplicaError) (standing : Standing)
+      (begun_last : ℕ) (at_exit : IsErrAnd r (λ x. x ≡ e)) (is : standing ≡ standing_of history)
+      (same : pair ≡ own)
+      (last : begun_last ≡ standing.session) (other : session ≢ begun_last)
+      (told : add_refusal_at room standing (Began session) ≡ Some (refusal_of e)) where
     answered : begin_refusal room own history pair session ≡ Some (refusal_of e)
     answered = rest_at standing begun_last is same last other ∙ told
 
-    pub begin_cause : IfErr r (λ e. IsOneOf outside_refusals e ⊎ (begin_refusal room own history pair session ≡ Some (refusal_of e)))
-    begin_cause = if_err_of_exit r e (λ e. IsOneOf outside_refusals e ⊎ (begin_refusal room own history pair session ≡ Some (refusal_of e))) at_exit (inr answered)
+    pub begin_cause : IfErr r (λ e. IsOneOf outside_refusals e
+        ⊎ (begin_refusal room own history pair session ≡ Some (refusal_of e)))
+    begin_cause =
+        if_err_of_exit r e (λ e. IsOneOf outside_refusals e
+        ⊎ (begin_refusal room own history pair session ≡ Some (refusal_of e))) at_exit
+        (inr answered)
 
-    pub begin_refused : (why : Refusal) → begin_refusal room own history pair session ≡ Some why → IsErrAnd r (λ e. refusal_of e ≡ why)
-    begin_refused why cause = is_err_of_exit r e (λ e. refusal_of e ≡ why) at_exit (same_Some _ _ (sym answered ∙ cause))
+    pub begin_refused : (why : Refusal) → begin_refusal room own history pair session ≡ Some why →
+        IsErrAnd r (λ e. refusal_of e ≡ why)
+    begin_refused why cause =
+        is_err_of_exit r e (λ e. refusal_of e ≡ why) at_exit (same_Some _ _ (sym answered ∙ cause))
 
 -- ---- what is answered
 
@@ -111,14 +158,22 @@ module _ (room own : ℕ) (history : History) (pair session : ℕ) where
 pub in_some : {X : Type 0} (P : X → Type 0) (o : Option X) (x : X) → IfSome o P → o ≡ Some x → P x
 in_some P o x h e = subst (λ o. IfSome o P) e h
 
-pub one_longer : (r : Result ℕ ReplicaError) (history : History) (event : Event) (P : Type 0) → IfOk r (λ position. (position ≡ length history + 1) × P) → IfOk r (λ position. (position ≡ length (history ++ event ∷ [])) × P)
+pub one_longer : (r : Result ℕ ReplicaError) (history : History) (event : Event) (P : Type 0) →
+    IfOk r (λ position. (position ≡ length history + 1) × P) →
+    IfOk r (λ position. (position ≡ length (history ++ event ∷ [])) × P)
 one_longer (Ok x) history event P h = (h.0 ∙ sym (length-append history (event ∷ [])), h.1)
 one_longer (Err x) history event P h = h
 
 -- a token that is not done goes on by its event
-pub not_done : (history : History) (token : Token) (path : Path) (since : ℕ) (new : Tree) → is_done history token ≡ false → replaced history token path since new ≡ history ++ Replaced token path since new ∷ []
-not_done history token path since new e = ap (λ b. if b then history else history ++ Replaced token path since new ∷ []) e
+pub not_done : (history : History) (token : Token) (path : Path) (since : ℕ) (new : Tree) →
+    is_done history token ≡ false →
+    replaced history token path since new ≡ history ++ Replaced token path since new ∷ []
+not_done history token path since new e =
+    ap (λ b. if b then history else history ++ Replaced token path since new ∷ []) e
 
 -- a session that was not begun last goes on by its event
-pub not_begun : (history : History) (session : ℕ) → session ≢ last_session history → begun history session ≡ history ++ Began session ∷ []
-not_begun history session other = ap (λ b. if b then history else history ++ Began session ∷ []) (differs session (last_session history) other)
+pub not_begun : (history : History) (session : ℕ) → session ≢ last_session history →
+    begun history session ≡ history ++ Began session ∷ []
+not_begun history session other =
+    ap (λ b. if b then history else history ++ Began session ∷ [])
+    (differs session (last_session history) other)

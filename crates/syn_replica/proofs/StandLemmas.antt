@@ -1,7 +1,10 @@
 -- What a replica and its disk stand for goes on.
-use Rattle.std.proofs.Common.{◌≡◌, ◌⊎◌, ◌<◌, ◌≤◌, ◌^◌, ℕ, ◌+◌, ◌-◌, List, [], ◌∷◌, ◌++◌, refl, sym, ap, ap₂, ◌∙◌, subst, inl, inr, Result, Ok, Err, arith}
+use Rattle.std.proofs.Common.{◌≡◌, ◌⊎◌, ◌<◌, ◌≤◌, ◌^◌, ℕ, ◌+◌, ◌-◌, List, [], ◌∷◌, ◌++◌, refl, sym}
+use Rattle.std.proofs.Common.{ap, ap₂, ◌∙◌, subst, inl, inr, Result, Ok, Err, arith}
 use Rattle.syn_disk.specs.declared.disk.Disk.{Ghosts}
-use Rattle.syn_journal.specs.Layout.{Value, Fault, half_size, longest_image, HasJournal, LeftBehindPayload, meaning, with_payload, image_alone, record_size, bytes_left, IsBeforeOrAfter}
+use Rattle.syn_journal.specs.Layout.{Value, Fault, half_size, longest_image, HasJournal}
+use Rattle.syn_journal.specs.Layout.{LeftBehindPayload, meaning, with_payload, image_alone}
+use Rattle.syn_journal.specs.Layout.{record_size, bytes_left, IsBeforeOrAfter}
 use Rattle.syn_journal.specs.Journal as journal
 use Rattle.syn_disk.specs.Stops.{LeavesOnly}
 use Rattle.syn_model.proofs.ExitLemmas.{if_err_of_exit}
@@ -23,58 +26,96 @@ use Rattle.syn_journal.specs.Refusals.{refusal_of as of_journal}
 use Rattle.syn_journal.specs.declared.error.JournalError.{JournalError}
 use Rattle.syn_journal.specs.declared.error.JournalError.TheVariants as journal_error
 use Rattle.syn_replica.specs.declared.replica.Replica.{Replica}
-use Rattle.syn_replica.specs.Replica.{Remembers, Stands, standing_shown, pair_of, journal_of, disk_of, left_shown, generation_shown}
+use Rattle.syn_replica.specs.Replica.{Remembers, Stands, standing_shown, pair_of, journal_of}
+use Rattle.syn_replica.specs.Replica.{disk_of, left_shown, generation_shown}
 
 -- the payload of an allowed event takes the value one event on
-pub payload_stands : PayloadGoesOn → (pair : ℕ) (value : Value) (payload : Bytes) (history : History) (event : Event) → StandsFor pair value.image value.payloads history → IsAllowed history event → payload ≡ event_spelling event →
+pub payload_stands : PayloadGoesOn → (pair : ℕ) (value : Value) (payload : Bytes)
+    (history : History) (event : Event) → StandsFor pair value.image value.payloads history →
+    IsAllowed history event → payload ≡ event_spelling event →
     StandsFor pair value.image (value.payloads ++ payload ∷ []) (history ++ event ∷ [])
 payload_stands goes_on pair value payload history event stands allowed e =
-    subst (λ p. StandsFor pair value.image (value.payloads ++ p ∷ []) (history ++ event ∷ [])) (sym e) (goes_on pair value.image value.payloads history event stands allowed)
+    subst (λ p. StandsFor pair value.image (value.payloads ++ p ∷ []) (history ++ event ∷ []))
+    (sym e) (goes_on pair value.image value.payloads history event stands allowed)
 
-pub stop_keeps : PayloadGoesOn → LeftBehindPayload → (pair : ℕ) (value : Value) (payload : Bytes) (history : History) (event : Event) (left generation : ℕ) → StandsFor pair value.image value.payloads history → IsAllowed history event →
-    payload ≡ event_spelling event → bytes_left value ≡ left → (bytes : Bytes) → IsBeforeOrAfter value generation (with_payload value payload) generation bytes →
-    DiskKeeps pair history left generation bytes ⊎ DiskKeeps pair (history ++ event ∷ []) (left - event_size event) generation bytes
-stop_keeps goes_on less pair value payload history event left generation stands allowed e same bytes (inl has) = inl (record { value = value; journal = has; stands = stands; left_is = same })
-stop_keeps goes_on less pair value payload history event left generation stands allowed e same bytes (inr has) = inr (record {
-  value = with_payload value payload;
-  journal = has;
-  stands = payload_stands goes_on pair value payload history event stands allowed e;
-  left_is = less value payload ∙ ap₂ (λ n p. n - record_size p) same e;
-})
+pub stop_keeps : PayloadGoesOn → LeftBehindPayload → (pair : ℕ) (value : Value) (payload : Bytes)
+    (history : History) (event : Event) (left generation : ℕ) →
+    StandsFor pair value.image value.payloads history → IsAllowed history event →
+    payload ≡ event_spelling event → bytes_left value ≡ left → (bytes : Bytes) →
+    IsBeforeOrAfter value generation (with_payload value payload) generation bytes →
+    DiskKeeps pair history left generation bytes
+    ⊎ DiskKeeps pair (history ++ event ∷ []) (left - event_size event) generation bytes
+stop_keeps goes_on less pair value payload history event left generation stands allowed e same bytes
+    (inl has) =
+    inl (record { value = value; journal = has; stands = stands; left_is = same })
+stop_keeps goes_on less pair value payload history event left generation stands allowed e same bytes
+    (inr has) =
+    inr (record {
+      value = with_payload value payload;
+      journal = has;
+      stands = payload_stands goes_on pair value payload history event stands allowed e;
+      left_is = less value payload ∙ ap₂ (λ n p. n - record_size p) same e;
+    })
 
 -- what a stop leaves has more than was said of it
-pub leaves_weaker : {D : Type 0} (moment : D → ℕ) (left_since : D → ℕ → List ℕ → Type 0) (old new : D) (P Q : List ℕ → Type 0) → ((c : List ℕ) → P c → Q c) → LeavesOnly moment left_since old new P → LeavesOnly moment left_since old new Q
+pub leaves_weaker : {D : Type 0} (moment : D → ℕ) (left_since : D → ℕ → List ℕ → Type 0)
+    (old new : D) (P Q : List ℕ → Type 0) → ((c : List ℕ) → P c → Q c) →
+    LeavesOnly moment left_since old new P → LeavesOnly moment left_since old new Q
 leaves_weaker moment left_since old new P Q f l = record {
   later = l.later;
   each = λ c left. f c (l.each c left);
-  before = λ t c le left. elim (l.before t c le left) as (λ _. left_since old t c ⊎ Q c) [ inl was ↦ inl was | inr p ↦ inr (f c p) ];
+  before =
+      λ t c le left. elim (l.before t c le left) as (λ _. left_since old t c ⊎ Q c)
+      [ inl was ↦ inl was | inr p ↦ inr (f c p) ];
 }
 
 -- an image of what is kept, and no payload
-pub image_stands : ImageStands → (pair : ℕ) (history : History) (standing : Standing) (image : Bytes) → IsHistory history → standing ≡ standing_of history → image ≡ image_spelling pair standing → StandsFor pair image [] history
+pub image_stands : ImageStands → (pair : ℕ) (history : History) (standing : Standing)
+    (image : Bytes) → IsHistory history → standing ≡ standing_of history →
+    image ≡ image_spelling pair standing → StandsFor pair image [] history
 image_stands stands pair history standing image lawful same e =
-    subst (λ bytes. StandsFor pair bytes [] history) (sym (e ∙ ap (image_spelling pair) same)) (stands pair history lawful)
+    subst (λ bytes. StandsFor pair bytes [] history) (sym (e ∙ ap (image_spelling pair) same))
+    (stands pair history lawful)
 
-pub stop_compacts : ImageStands → (pair : ℕ) (value : Value) (history : History) (standing : Standing) (image : Bytes) (left generation : ℕ) → StandsFor pair value.image value.payloads history → standing ≡ standing_of history →
-    image ≡ image_spelling pair standing → bytes_left value ≡ left → (bytes : Bytes) → IsBeforeOrAfter value generation (image_alone image) (generation + 1) bytes →
-    DiskKeeps pair history left generation bytes ⊎ DiskCompacted pair history standing (generation + 1) bytes
-stop_compacts stands pair value history standing image left generation before same e left_is bytes (inl has) = inl (record { value = value; journal = has; stands = before; left_is = left_is })
-stop_compacts stands pair value history standing image left generation before same e left_is bytes (inr has) = inr (record {
-  journal = subst (λ i. HasJournal bytes (image_alone i) (generation + 1)) e has;
-  stands = subst (λ i. StandsFor pair i [] history) e (image_stands stands pair history standing image before.lawful same e);
-})
+pub stop_compacts : ImageStands → (pair : ℕ) (value : Value) (history : History)
+    (standing : Standing) (image : Bytes) (left generation : ℕ) →
+    StandsFor pair value.image value.payloads history → standing ≡ standing_of history →
+    image ≡ image_spelling pair standing → bytes_left value ≡ left → (bytes : Bytes) →
+    IsBeforeOrAfter value generation (image_alone image) (generation + 1) bytes →
+    DiskKeeps pair history left generation bytes
+    ⊎ DiskCompacted pair history standing (generation + 1) bytes
+stop_compacts stands pair value history standing image left generation before same e left_is bytes
+    (inl has) =
+    inl (record { value = value; journal = has; stands = before; left_is = left_is })
+stop_compacts stands pair value history standing image left generation before same e left_is bytes
+    (inr has) =
+    inr (record {
+      journal = subst (λ i. HasJournal bytes (image_alone i) (generation + 1)) e has;
+      stands =
+          subst (λ i. StandsFor pair i [] history) e
+          (image_stands stands pair history standing image before.lawful same e);
+    })
 
 -- the bytes that are left are those behind the value
-pub left_behind : {D : Type 0} {disk : Ghosts D} (replica : Replica D disk) (value : Value) → journal.Stands (journal_of replica) value → bytes_left value ≡ left_shown replica
+pub left_behind : {D : Type 0} {disk : Ghosts D} (replica : Replica D disk) (value : Value) →
+    journal.Stands (journal_of replica) value → bytes_left value ≡ left_shown replica
 left_behind replica value runs = ap (λ gate. half_size - 1 - gate) (sym runs.gate)
 
 -- what is allowed where the replica stands is allowed after the history
-pub allowed_after : (standing : Standing) (history : History) (event : Event) → standing ≡ standing_of history → IsAllowedAt standing event → IsAllowed history event
-allowed_after standing history event same allowed = record { lawful = allowed.lawful; not_refused = ap (λ s. refusal_at s event) (sym same) ∙ allowed.not_refused }
+pub allowed_after : (standing : Standing) (history : History) (event : Event) →
+    standing ≡ standing_of history → IsAllowedAt standing event → IsAllowed history event
+allowed_after standing history event same allowed =
+    record {
+      lawful = allowed.lawful;
+      not_refused = ap (λ s. refusal_at s event) (sym same)
+          ∙ allowed.not_refused;
+    }
 
 -- with the event the replica remembers the longer history
-pub remembers_more : AllowedGoesOn → StandingSteps → {D : Type 0} {disk : Ghosts D} (old new : Replica D disk) (history : History) (event : Event) → Remembers old history → IsAllowed history event →
-    standing_shown new ≡ standing_after (standing_shown old) event → Remembers new (history ++ event ∷ [])
+pub remembers_more : AllowedGoesOn → StandingSteps → {D : Type 0} {disk : Ghosts D}
+    (old new : Replica D disk) (history : History) (event : Event) → Remembers old history →
+    IsAllowed history event → standing_shown new ≡ standing_after (standing_shown old) event →
+    Remembers new (history ++ event ∷ [])
 remembers_more goes_on steps old new history event r allowed makes = record {
   lawful = goes_on history event r.lawful allowed;
   standing = makes ∙ (ap (λ s. standing_after s event) r.standing ∙ sym (steps history event));
@@ -90,13 +131,17 @@ same_value d a b x y = ap (λ r. value_or r a) (sym x ∙ y)
 
 -- what a replica shows of the one standing that its disk gives is kept of each history that it
 -- stands for
-pub stands_for_each : OneIsGiven → {D : Type 0} {disk : Ghosts D} (replica : Replica D disk) (value : Value) (bytes : List ℕ) (number : ℕ) (history : History) →
-    journal.Stands (journal_of replica) value → disk.seen (disk_of replica) ≡ bytes → pair_of replica < 2 ^ 64 → Gives (pair_of replica) value.image value.payloads (standing_shown replica) →
-    number < 2 ^ 64 → DiskStands number bytes history → (number ≡ pair_of replica) × Stands replica history
+pub stands_for_each : OneIsGiven → {D : Type 0} {disk : Ghosts D} (replica : Replica D disk)
+    (value : Value) (bytes : List ℕ) (number : ℕ) (history : History) →
+    journal.Stands (journal_of replica) value → disk.seen (disk_of replica) ≡ bytes →
+    pair_of replica < 2 ^ 64 →
+    Gives (pair_of replica) value.image value.payloads (standing_shown replica) → number < 2 ^ 64 →
+    DiskStands number bytes history → (number ≡ pair_of replica) × Stands replica history
 stands_for_each one replica value bytes number history runs seen fits gives h d =
     let same = same_value _ d.value value d.means (ap meaning (sym seen) ∙ runs.holds.means) in
     let stands = subst (λ v. StandsFor number v.image v.payloads history) same d.stands in
-    let both = one value.image value.payloads number (pair_of replica) (standing_of history) (standing_shown replica) h fits stands.gives gives in (
+    let both = one value.image value.payloads number (pair_of replica) (standing_of history)
+    (standing_shown replica) h fits stands.gives gives in (
       both.0,
       record {
         remembers = record { lawful = stands.lawful; standing = sym both.1 };
@@ -107,9 +152,11 @@ stands_for_each one replica value bytes number history runs seen fits gives h d 
     )
 
 -- what a replica shows of what its disk gives is kept of each history that it stands for
-pub shown_of_each : {D : Type 0} {disk : Ghosts D} (replica : Replica D disk) (value : Value) (bytes : List ℕ) (number : ℕ) (history : History) →
-    journal.Stands (journal_of replica) value → disk.seen (disk_of replica) ≡ bytes → DiskStands number bytes history →
-    (Gives number value.image value.payloads (standing_of history) → (number ≡ pair_of replica) × (standing_of history ≡ standing_shown replica)) →
+pub shown_of_each : {D : Type 0} {disk : Ghosts D} (replica : Replica D disk) (value : Value)
+    (bytes : List ℕ) (number : ℕ) (history : History) → journal.Stands (journal_of replica) value →
+    disk.seen (disk_of replica) ≡ bytes → DiskStands number bytes history →
+    (Gives number value.image value.payloads (standing_of history) →
+    (number ≡ pair_of replica) × (standing_of history ≡ standing_shown replica)) →
     (number ≡ pair_of replica) × Stands replica history
 shown_of_each replica value bytes number history runs seen d one =
     let same = same_value _ d.value value d.means (ap meaning (sym seen) ∙ runs.holds.means) in
@@ -125,25 +172,45 @@ shown_of_each replica value bytes number history runs seen d one =
     )
 
 -- a replica whose journal was read anew stands as it did
-pub stands_as_before : {D : Type 0} {disk : Ghosts D} (old new : Replica D disk) (value : Value) (history : History) → Stands old history → journal.Stands (journal_of new) value → disk.seen (disk_of new) ≡ disk.seen (disk_of old) →
-    pair_of new ≡ pair_of old → standing_shown new ≡ standing_shown old → Stands new history
+pub stands_as_before : {D : Type 0} {disk : Ghosts D} (old new : Replica D disk) (value : Value)
+    (history : History) → Stands old history → journal.Stands (journal_of new) value →
+    disk.seen (disk_of new) ≡ disk.seen (disk_of old) → pair_of new ≡ pair_of old →
+    standing_shown new ≡ standing_shown old → Stands new history
 stands_as_before old new value history stands runs seen pair standing =
-    let same = same_value _ value stands.value (ap meaning (sym seen) ∙ runs.holds.means) stands.runs.holds.means in
+    let same = same_value _ value stands.value
+    (ap meaning (sym seen) ∙ runs.holds.means) stands.runs.holds.means in
     record {
-      remembers = record { lawful = stands.remembers.lawful; standing = standing ∙ stands.remembers.standing };
+      remembers =
+          record {
+            lawful = stands.remembers.lawful;
+            standing = standing
+                ∙ stands.remembers.standing;
+          };
       value = value;
       runs = runs;
-      means = subst (λ n. StandsFor n value.image value.payloads history) (sym pair) (subst (λ v. StandsFor (pair_of old) v.image v.payloads history) (sym same) stands.means);
+      means =
+          subst (λ n. StandsFor n value.image value.payloads history) (sym pair) (subst
+          (λ v. StandsFor (pair_of old) v.image v.payloads history) (sym same) stands.means);
     }
 
 -- its disk keeps the history with the bytes that it shows to be left
-pub keeps_now : {D : Type 0} {disk : Ghosts D} (replica : Replica D disk) (history : History) → Stands replica history →
-    DiskKeeps (pair_of replica) history (left_shown replica) (generation_shown replica) (disk.seen (disk_of replica))
-keeps_now replica history stands = record { value = stands.value; journal = stands.runs.holds; stands = stands.means; left_is = left_behind replica stands.value stands.runs }
+pub keeps_now : {D : Type 0} {disk : Ghosts D} (replica : Replica D disk) (history : History) →
+    Stands replica history → DiskKeeps (pair_of replica) history (left_shown replica)
+    (generation_shown replica) (disk.seen (disk_of replica))
+keeps_now replica history stands =
+    record {
+      value = stands.value;
+      journal = stands.runs.holds;
+      stands = stands.means;
+      left_is = left_behind replica stands.value stands.runs;
+    }
 
 -- and so does each stop where nothing was written
-pub not_written : {D : Type 0} {disk : Ghosts D} (only_now : (d : D) (c : List ℕ) → disk.left_since d (disk.moment d) c → disk.may_leave d c) (replica : Replica D disk) (history : History) → Stands replica history → (P : List ℕ → Type 0) →
-    P (disk.seen (disk_of replica)) → LeavesOnly disk.moment disk.left_since (disk_of replica) (disk_of replica) P
+pub not_written : {D : Type 0} {disk : Ghosts D}
+    (only_now : (d : D) (c : List ℕ) → disk.left_since d (disk.moment d) c → disk.may_leave d c)
+    (replica : Replica D disk) (history : History) →
+    Stands replica history → (P : List ℕ → Type 0) → P (disk.seen (disk_of replica)) →
+    LeavesOnly disk.moment disk.left_since (disk_of replica) (disk_of replica) P
 not_written only_now replica history stands P here = record {
   later = omega arith;
   each = λ c left. subst P (sym (stands.runs.durable c (only_now _ c left))) here;
@@ -151,11 +218,14 @@ not_written only_now replica history stands P here = record {
 }
 
 -- a checkpoint of an image that is short enough is refused 7 for its generation alone
-pub greatest_alone : (e : JournalError) (size generation : ℕ) → size ≤ longest_image → (e ≡ journal_error.Full → (longest_image < size) ⊎ (generation + 1 ≡ 2 ^ 64)) → of_journal e ≡ why.Full → generation + 1 ≡ 2 ^ 64
-greatest_alone journal_error.Full size generation few full same = elim (full refl) as (λ _. generation + 1 ≡ 2 ^ 64) [
-  | inl long ↦ absurd (omega (arith, few, long))
-  | inr greatest ↦ greatest
-]
+pub greatest_alone : (e : JournalError) (size generation : ℕ) → size ≤ longest_image →
+    (e ≡ journal_error.Full → (longest_image < size) ⊎ (generation + 1 ≡ 2 ^ 64)) →
+    of_journal e ≡ why.Full → generation + 1 ≡ 2 ^ 64
+greatest_alone journal_error.Full size generation few full same =
+    elim (full refl) as (λ _. generation + 1 ≡ 2 ^ 64) [
+      | inl long ↦ absurd (omega (arith, few, long))
+      | inr greatest ↦ greatest
+    ]
 greatest_alone journal_error.JournalFull size generation few full same = cc same
 greatest_alone journal_error.Device size generation few full same = cc same
 greatest_alone journal_error.Halted size generation few full same = cc same
@@ -164,11 +234,14 @@ greatest_alone journal_error.NoImage size generation few full same = cc same
 greatest_alone journal_error.Damaged size generation few full same = cc same
 
 -- and one that is too long, for that too
-of_full : (e : JournalError) (size spelled generation : ℕ) → size ≡ spelled → (e ≡ journal_error.Full → (longest_image < size) ⊎ (generation + 1 ≡ 2 ^ 64)) → of_journal e ≡ why.Full → (generation + 1 ≡ 2 ^ 64) ⊎ (longest_image < spelled)
-of_full journal_error.Full size spelled generation is full same = elim (full refl) as (λ _. (generation + 1 ≡ 2 ^ 64) ⊎ (longest_image < spelled)) [
-  | inl long ↦ inr (subst (λ n. longest_image < n) is long)
-  | inr greatest ↦ inl greatest
-]
+of_full : (e : JournalError) (size spelled generation : ℕ) → size ≡ spelled →
+    (e ≡ journal_error.Full → (longest_image < size) ⊎ (generation + 1 ≡ 2 ^ 64)) →
+    of_journal e ≡ why.Full → (generation + 1 ≡ 2 ^ 64) ⊎ (longest_image < spelled)
+of_full journal_error.Full size spelled generation is full same =
+    elim (full refl) as (λ _. (generation + 1 ≡ 2 ^ 64) ⊎ (longest_image < spelled)) [
+      | inl long ↦ inr (subst (λ n. longest_image < n) is long)
+      | inr greatest ↦ inl greatest
+    ]
 of_full journal_error.JournalFull size spelled generation is full same = cc same
 of_full journal_error.Device size spelled generation is full same = cc same
 of_full journal_error.Halted size spelled generation is full same = cc same
@@ -176,16 +249,25 @@ of_full journal_error.Memory size spelled generation is full same = cc same
 of_full journal_error.NoImage size spelled generation is full same = cc same
 of_full journal_error.Damaged size spelled generation is full same = cc same
 
-pub full_because : {X : Type 0} (r : Result X ReplicaError) (e : JournalError) (size spelled generation : ℕ) → IsErrAnd r (λ x. x ≡ Journal e) → size ≡ spelled → (e ≡ journal_error.Full → (longest_image < size) ⊎ (generation + 1 ≡ 2 ^ 64))
-    → IfErr r (λ e. refusal_of e ≡ why.Full → (generation + 1 ≡ 2 ^ 64) ⊎ (longest_image < spelled))
+pub full_because : {X : Type 0} (r : Result X ReplicaError) (e : JournalError)
+    (size spelled generation : ℕ) → IsErrAnd r (λ x. x ≡ Journal e) → size ≡ spelled →
+    (e ≡ journal_error.Full → (longest_image < size) ⊎ (generation + 1 ≡ 2 ^ 64)) →
+    IfErr r (λ e. refusal_of e ≡ why.Full → (generation + 1 ≡ 2 ^ 64) ⊎ (longest_image < spelled))
 full_because r e size spelled generation is same full =
-    if_err_of_exit r (Journal e) (λ e. refusal_of e ≡ why.Full → (generation + 1 ≡ 2 ^ 64) ⊎ (longest_image < spelled)) is (of_full e size spelled generation same full)
+    if_err_of_exit r (Journal e) (λ e. refusal_of e ≡ why.Full → (generation + 1 ≡ 2 ^ 64)
+    ⊎ (longest_image < spelled)) is (of_full e size spelled generation same full)
 
 -- a disk that keeps a history stands for it
-pub keeps_stands : {pair : ℕ} {history : History} {left generation : ℕ} {bytes : List ℕ} → DiskKeeps pair history left generation bytes → DiskStands pair bytes history
-keeps_stands keeps = record { value = keeps.value; means = keeps.journal.means; stands = keeps.stands }
+pub keeps_stands : {pair : ℕ} {history : History} {left generation : ℕ} {bytes : List ℕ} →
+    DiskKeeps pair history left generation bytes → DiskStands pair bytes history
+keeps_stands keeps =
+    record { value = keeps.value; means = keeps.journal.means; stands = keeps.stands }
 
 -- what a read gives after a call is among what a stop leaves of it
-pub seen_is_left : {D : Type 0} (seen : D → List ℕ) (may_leave : D → List ℕ → Type 0) (moment : D → ℕ) (left_since : D → ℕ → List ℕ → Type 0) → ((disk : D) → may_leave disk (seen disk)) →
-    ((disk : D) (t : ℕ) (bytes : List ℕ) → t ≤ moment disk → may_leave disk bytes → left_since disk t bytes) → (old new : D) (P : List ℕ → Type 0) → LeavesOnly moment left_since old new P → P (seen new)
-seen_is_left seen may_leave moment left_since stays counts old new P leaves = leaves.each (seen new) (counts new (moment old) (seen new) leaves.later (stays new))
+pub seen_is_left : {D : Type 0} (seen : D → List ℕ) (may_leave : D → List ℕ → Type 0)
+    (moment : D → ℕ) (left_since : D → ℕ → List ℕ → Type 0) →
+    ((disk : D) → may_leave disk (seen disk)) → ((disk : D) (t : ℕ) (bytes : List ℕ) →
+    t ≤ moment disk → may_leave disk bytes → left_since disk t bytes) → (old new : D)
+    (P : List ℕ → Type 0) → LeavesOnly moment left_since old new P → P (seen new)
+seen_is_left seen may_leave moment left_since stays counts old new P leaves =
+    leaves.each (seen new) (counts new (moment old) (seen new) leaves.later (stays new))

@@ -1,5 +1,7 @@
 -- A listing whose names rise is the marks of a directory.
-use Rattle.std.proofs.Common.{◌≡◌, ◌≤◌, ◌<◌, ◌∙◌, ◌&&◌, ℕ, suc, Bool, true, false, List, [], ◌∷◌, length, refl, sym, ap, ap₂, Less, Equal, Greater, true≢false, is_lt, arith}
+use Rattle.std.proofs.Common.{◌≡◌, ◌≤◌, ◌<◌, ◌∙◌, ◌&&◌, ℕ, suc, Bool, true, false, List, [], ◌∷◌}
+use Rattle.std.proofs.Common.{length, refl, sym, ap, ap₂, Less, Equal, Greater, true≢false, is_lt}
+use Rattle.std.proofs.Common.{arith}
 use Rattle.std.specs.Ordering.{ordering_then}
 use Rattle.std.specs.List.{list_all}
 use Rattle.std.specs.FinMap.{find, entries, get-entries, len, len-entries}
@@ -21,7 +23,8 @@ then_same Less = refl
 then_same Equal = refl
 then_same Greater = refl
 
-below_named : (n : Name) (es : Listing) → below_all path_cmp (n ∷ []) (named es) ≡ below_all name_cmp n es
+below_named : (n : Name) (es : Listing) →
+    below_all path_cmp (n ∷ []) (named es) ≡ below_all name_cmp n es
 below_named n [] = refl
 below_named n (e ∷ es) = ap₂ (λ o b. is_lt o && b) (then_same (name_cmp n e.0)) (below_named n es)
 
@@ -51,12 +54,15 @@ length_named (e ∷ es) = ap suc (length_named es)
 few : (n m : ℕ) → n ≡ m → m < 4096 → suc n ≤ 4096
 few n m e h = omega (arith, e, h)
 
-pub marks_of : (es : Listing) → names_rise es ≡ true → AreMarkPairs (named es) → length es < 4096 → AreMarks (listing_pairs es)
+pub marks_of : (es : Listing) → names_rise es ≡ true → AreMarkPairs (named es) → length es < 4096 →
+    AreMarks (listing_pairs es)
 marks_of es rise lawful count =
-    placed_marks (named es) (rising_pairs es ∙ rise) (stand_named (named es) es) lawful (few (length (named es)) (length es) (length_named es) count)
+    placed_marks (named es) (rising_pairs es ∙ rise) (stand_named (named es) es) lawful
+    (few (length (named es)) (length es) (length_named es) count)
 
 -- so names that are no marks do not rise
-pub do_not_rise : (es : Listing) → AreMarkPairs (named es) → ¬ AreMarks (listing_pairs es) → length es < 4096 → names_rise es ≡ false
+pub do_not_rise : (es : Listing) → AreMarkPairs (named es) → ¬ AreMarks (listing_pairs es) →
+    length es < 4096 → names_rise es ≡ false
 do_not_rise es lawful none count = by (names_rise es) refl
   where
     by : (b : Bool) → names_rise es ≡ b → names_rise es ≡ false
@@ -68,5 +74,7 @@ pub has_node : (t : Tree) (p : Path) → is_directory t p ≡ true → 1 ≤ len
 has_node t p h = by (entries t) refl
   where
     by : (es : Pairs) → entries t ≡ es → 1 ≤ len t
-    by [] e = absurd (true≢false (sym h ∙ ap is_directory_content (get-entries t p ∙ ap (find path_cmp p) e)))
+    by [] e =
+        absurd
+        (true≢false (sym h ∙ ap is_directory_content (get-entries t p ∙ ap (find path_cmp p) e)))
     by (x ∷ es) e = omega (arith, len-entries t ∙ ap length e)

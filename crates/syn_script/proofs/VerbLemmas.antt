@@ -1,5 +1,6 @@
 -- What words say, by the first of them.
-use Rattle.std.proofs.Common.{◌≡◌, ◌≢◌, ◌∙◌, List, [], ◌∷◌, codes, refl, sym, ap, if◌then◌else◌, subst}
+use Rattle.std.proofs.Common.{◌≡◌, ◌≢◌, ◌∙◌, List, [], ◌∷◌, codes, refl, sym, ap, if◌then◌else◌}
+use Rattle.std.proofs.Common.{subst}
 use Rattle.std.specs.Prelude.{bytes_eq}
 use Rattle.syn_script.specs.Words.{Say, Text}
 use Rattle.syn_script.specs.inner.Rows.{NothingBehind, NothingSaid, SayBehind, verb_word}
@@ -50,15 +51,18 @@ one_verb : (v w : Verb) → verb_word v ≡ verb_word w → v ≡ w
 one_verb v w e = sym (verb_is v) ∙ ap verb_at e ∙ verb_is w
 
 -- what the words behind a verb say, the words with it say
-pub said_behind : (v : Verb) (words : List Text) (line : Line) → SayBehind v words line → Say (verb_word v ∷ words) line
-said_behind verb.Edit words (has.Edit side user edit) s = (s.0, s.1, ap (λ rest. codes "edit" ∷ rest) s.2, s.3, s.4)
+pub said_behind : (v : Verb) (words : List Text) (line : Line) → SayBehind v words line →
+    Say (verb_word v ∷ words) line
+said_behind verb.Edit words (has.Edit side user edit) s =
+    (s.0, s.1, ap (λ rest. codes "edit" ∷ rest) s.2, s.3, s.4)
 said_behind verb.Start words has.Start s = ap (λ rest. codes "start" ∷ rest) s
 said_behind verb.Tick words has.Tick s = ap (λ rest. codes "tick" ∷ rest) s
 said_behind verb.Deliver words (has.Deliver first last) s = (words, refl, s)
 said_behind verb.Drain words has.Drain s = ap (λ rest. codes "drain" ∷ rest) s
 said_behind verb.Checkpoint words (has.Checkpoint m) s = ap (λ rest. codes "checkpoint" ∷ rest) s
 said_behind verb.Fail words (has.Fail m call) s = (s.0, ap (λ rest. codes "fail" ∷ rest) s.1, s.2)
-said_behind verb.Stop words (has.Stop m call leaves) s = (s.0, ap (λ rest. codes "stop" ∷ rest) s.1, s.2)
+said_behind verb.Stop words (has.Stop m call leaves) s =
+    (s.0, ap (λ rest. codes "stop" ∷ rest) s.1, s.2)
 said_behind verb.Open words (has.Open m) s = ap (λ rest. codes "open" ∷ rest) s
 said_behind verb.Reopen words (has.Reopen m) s = ap (λ rest. codes "reopen" ∷ rest) s
 said_behind v words line s = absurd s
@@ -70,14 +74,16 @@ record IsBehind (words : List Text) (line : Line) : Type 0 where
   said : SayBehind (verb_of line) rest line
 
 behind_said : (words : List Text) (line : Line) → Say words line → IsBehind words line
-behind_said words (has.Edit side user edit) s = record { rest = _; parts = s.2; said = (s.0, s.1, refl, s.3, s.4) }
+behind_said words (has.Edit side user edit) s =
+    record { rest = _; parts = s.2; said = (s.0, s.1, refl, s.3, s.4) }
 behind_said words has.Start s = record { rest = []; parts = s; said = refl }
 behind_said words has.Tick s = record { rest = []; parts = s; said = refl }
 behind_said words (has.Deliver first last) s = record { rest = s.0; parts = s.1; said = s.2 }
 behind_said words has.Drain s = record { rest = []; parts = s; said = refl }
 behind_said words (has.Checkpoint m) s = record { rest = _; parts = s; said = refl }
 behind_said words (has.Fail m call) s = record { rest = _; parts = s.1; said = (s.0, refl, s.2) }
-behind_said words (has.Stop m call leaves) s = record { rest = _; parts = s.1; said = (s.0, refl, s.2) }
+behind_said words (has.Stop m call leaves) s =
+    record { rest = _; parts = s.1; said = (s.0, refl, s.2) }
 behind_said words (has.Open m) s = record { rest = _; parts = s; said = refl }
 behind_said words (has.Reopen m) s = record { rest = _; parts = s; said = refl }
 
@@ -85,7 +91,8 @@ head_is : (x y : Text) (xs ys : List Text) → x ∷ xs ≡ y ∷ ys → (x ≡ 
 head_is x y xs ys e = (cc, cc)
 
 -- where the words behind a verb say nothing, the words with it say nothing
-pub nothing_said : (v : Verb) (words : List Text) → NothingBehind v words → NothingSaid (verb_word v ∷ words)
+pub nothing_said : (v : Verb) (words : List Text) → NothingBehind v words →
+    NothingSaid (verb_word v ∷ words)
 nothing_said v words nothing line s =
     let b = behind_said (verb_word v ∷ words) line s in
     let e = head_is _ _ _ _ b.parts in
@@ -94,7 +101,8 @@ nothing_said v words nothing line s =
     nothing line (subst P (sym (one_verb _ _ e.0)) (subst Q (sym e.1) b.said))
 
 -- words whose first has no verb say nothing
-pub no_verb : (word : Text) (words : List Text) → ((v : Verb) → word ≢ verb_word v) → NothingSaid (word ∷ words)
+pub no_verb : (word : Text) (words : List Text) → ((v : Verb) → word ≢ verb_word v) →
+    NothingSaid (word ∷ words)
 no_verb word words none line s =
     let b = behind_said (word ∷ words) line s in
     none (verb_of line) (head_is _ _ _ _ b.parts).0

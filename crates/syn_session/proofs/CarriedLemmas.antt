@@ -1,5 +1,6 @@
 -- What an answer for the item that is carried comes to.
-use Rattle.std.proofs.Common.{◌≡◌, ◌⊎◌, ℕ, suc, false, List, [], ◌∷◌, ◌++◌, Option, Some, None, sym, ap, ◌∙◌, subst, inl, inr, arith}
+use Rattle.std.proofs.Common.{◌≡◌, ◌⊎◌, ℕ, suc, false, List, [], ◌∷◌, ◌++◌, Option, Some, None, sym}
+use Rattle.std.proofs.Common.{ap, ◌∙◌, subst, inl, inr, arith}
 use Rattle.std.specs.Prelude.{Ok, Err, unwrap_or}
 use Rattle.std.specs.List.{slice_get}
 use Rattle.syn_headline.specs.Coordinator.{Exchange, IsDue, IsFor, fault_of, is_last}
@@ -16,7 +17,8 @@ use Rattle.syn_model.specs.Archive as kept_in
 use Rattle.syn_model.specs.Archive.{Kept, Recorded}
 use Rattle.syn_model.specs.Refusal.{Memory, Refusal as Why}
 use Rattle.syn_propagate.specs.Carrying.{source_of, target_of}
-use Rattle.syn_propagate.specs.Transfers.{Asks as TransferAsks, EndsBy, IsForItem, WaitsFor, WaitsForItem, carriage_of}
+use Rattle.syn_propagate.specs.Transfers.{Asks as TransferAsks, EndsBy, IsForItem, WaitsFor}
+use Rattle.syn_propagate.specs.Transfers.{WaitsForItem, carriage_of}
 use Rattle.syn_propagate.specs.declared.carriage.Carriage.{Carriage}
 use Rattle.syn_propagate.specs.Refusals.{refusal_of}
 use Rattle.syn_propagate.specs.declared.error.TransferError.{TransferError}
@@ -31,14 +33,17 @@ use Rattle.syn_session.specs.declared.course.Course.{Course}
 use Rattle.syn_session.specs.Answering.{exchange_of}
 use Rattle.syn_session.specs.Carrying.{IsCarriedOut, TakesAnswer}
 use Rattle.syn_session.specs.Plans.{Plan}
-use Rattle.syn_session.specs.Stages.{AreAskedBefore, Carries, IsAskedBefore, IsCarriageOf, IsCarriedFor, Reached, plan_in}
-use Rattle.syn_session.proofs.CarryingLemmas.{marks_of, source_other, asked_then, is_carried, carries_on, carrying_more}
+use Rattle.syn_session.specs.Stages.{AreAskedBefore, Carries, IsAskedBefore, IsCarriageOf}
+use Rattle.syn_session.specs.Stages.{IsCarriedFor, Reached, plan_in}
+use Rattle.syn_session.proofs.CarryingLemmas.{marks_of, source_other, asked_then, is_carried}
+use Rattle.syn_session.proofs.CarryingLemmas.{carries_on, carrying_more}
 use Rattle.syn_session.proofs.CourseLemmas.{no_conflict}
 use Rattle.syn_image.specs.Archives.{kept_of}
 
 -- ---- a request for what is carried is one for the item
 
-module _ (plan : Plan) (cursor : ℕ) (planned : Planned) (at : slice_get plan cursor ≡ Some planned) (c : Carriage) (is : IsCarriageOf c planned cursor) (to : Which) where
+module _ (plan : Plan) (cursor : ℕ) (planned : Planned) (at : slice_get plan cursor ≡ Some planned)
+    (c : Carriage) (is : IsCarriageOf c planned cursor) (to : Which) where
   asked_for : (request : Request) → IsForItem c to request → IsAskedBefore plan (suc cursor) request
   asked_for (Begin pair) it = tt
   asked_for (ListAt path) it = tt
@@ -54,16 +59,26 @@ module _ (plan : Plan) (cursor : ℕ) (planned : Planned) (at : slice_get plan c
   is_for (Replace item path since size) it = it.1 ∙ is.item_is
 
   -- its replacement is done, so its record is due
-  is_due : (number : ℕ) (request : Request) (reply : model.Reply) (what : Kept) → what ≡ Recorded c.path (seen_on planned (source_of c)).marks → IsForItem c to request → reply ≡ model.Done → (size : ℕ) → request ≡ Replace c.item c.path c.target_since size → IsDue cursor planned (exchange_of to number request reply) what
+  is_due : (number : ℕ) (request : Request) (reply : model.Reply) (what : Kept) →
+      what ≡ Recorded c.path (seen_on planned (source_of c)).marks → IsForItem c to request →
+      reply ≡ model.Done → (size : ℕ) → request ≡ Replace c.item c.path c.target_since size →
+      IsDue cursor planned (exchange_of to number request reply) what
   is_due number request reply what is_what it said size asked =
       let to_target : to ≡ target_of c = (subst (IsForItem c to) asked it).0 in
       subst (IsDue cursor planned (exchange_of to number request reply))
-      (ap (λ w. Recorded c.path (seen_on planned w).marks) (ap other to_target ∙ source_other c) ∙ sym is_what)
-      (is_due_by.done c.path c.target_since size said (asked ∙ ap (λ n. Replace n c.path c.target_since size) is.item_is) (subst (λ w. WritesTo planned.item w c.path) (sym to_target) is.writes))
+      (ap (λ w. Recorded c.path (seen_on planned w).marks) (ap other to_target ∙ source_other c)
+      ∙ sym is_what)
+      (is_due_by.done c.path c.target_since size said
+      (asked ∙ ap (λ n. Replace n c.path c.target_since size) is.item_is)
+      (subst (λ w. WritesTo planned.item w c.path) (sym to_target) is.writes))
 
 -- ---- what an answer comes to
 
-module _ (archive : kept_in.Archive) (course : Course) (left right : Found) (all : List Exchange) (before : Reached) (to : Which) (number : ℕ) (request : Request) (reply : model.Reply) (carries : Carries archive course left right all before (λ transfer. WaitsFor transfer all to request)) (was : Carried) (same : course.carried ≡ Some was) where
+module _ (archive : kept_in.Archive) (course : Course) (left right : Found) (all : List Exchange)
+    (before : Reached) (to : Which) (number : ℕ) (request : Request) (reply : model.Reply)
+    (carries :
+    Carries archive course left right all before (λ transfer. WaitsFor transfer all to request))
+    (was : Carried) (same : course.carried ≡ Some was) where
   abbrev taken : Exchange
   taken = exchange_of to number request reply
 
@@ -81,9 +96,13 @@ module _ (archive : kept_in.Archive) (course : Course) (left right : Found) (all
     for_item = law was.transfer all to request waits_for
 
     asked_all : AreAskedBefore (plan_in course left right) (suc course.cursor) (all ++ taken ∷ [])
-    asked_all = asked_then (plan_in course left right) (suc course.cursor) all taken carries.asked (asked_for (plan_in course left right) course.cursor carries.planned carries.at (carriage_of was.transfer) for_it.carriage to request for_item)
+    asked_all =
+        asked_then (plan_in course left right) (suc course.cursor) all taken carries.asked
+        (asked_for (plan_in course left right) course.cursor carries.planned carries.at
+        (carriage_of was.transfer) for_it.carriage to request for_item)
 
-    carried_out : (now : Option Carried) → IsCarriedOut (record course { carried = now }) left right (all ++ taken ∷ []) before carries.planned
+    carried_out : (now : Option Carried) → IsCarriedOut (record course { carried = now }) left right
+        (all ++ taken ∷ []) before carries.planned
     carried_out now = record {
       course_is = carrying_more course now left right before carries.course_is;
       at = carries.at;
@@ -92,43 +111,60 @@ module _ (archive : kept_in.Archive) (course : Course) (left right : Found) (all
       asked = asked_all;
     }
 
-    pub takes_on : (later : Carried) → carriage_of later.transfer ≡ carriage_of was.transfer → later.kept ≡ was.kept → (side : Side) (asks : Asked) → is_last reply ≡ false → TransferAsks later.transfer (all ++ taken ∷ []) (which_of side) (request_of asks) →
-        TakesAnswer archive left right all before taken (record course { carried = Some later }) (Ok (carrying.Asks side asks))
+    pub takes_on : (later : Carried) → carriage_of later.transfer ≡ carriage_of was.transfer →
+        later.kept ≡ was.kept → (side : Side) (asks : Asked) → is_last reply ≡ false →
+        TransferAsks later.transfer (all ++ taken ∷ []) (which_of side) (request_of asks) →
+        TakesAnswer archive left right all before taken (record course { carried = Some later })
+        (Ok (carrying.Asks side asks))
     takes_on later same_carriage same_record side asks goes asks_it = (
       fault,
       (
         goes,
-        carries_on archive course left right before carries.course_is carries.planned carries.at was later same_carriage same_record for_it (all ++ taken ∷ []) asked_all
-            (λ transfer. TransferAsks transfer (all ++ taken ∷ []) (which_of side) (request_of asks)) asks_it,
+        carries_on archive course left right before carries.course_is carries.planned carries.at was
+            later same_carriage same_record for_it (all ++ taken ∷ []) asked_all
+            (λ transfer. TransferAsks transfer (all ++ taken ∷ []) (which_of side)
+            (request_of asks)) asks_it,
       ),
     )
 
-    pub takes_done : (now : Option Carried) → EndsBy (carriage_of was.transfer) request reply next.Done → TakesAnswer archive left right all before taken (record course { carried = now }) (Ok (carrying.Done was.kept))
+    pub takes_done : (now : Option Carried) →
+        EndsBy (carriage_of was.transfer) request reply next.Done → TakesAnswer archive left right
+        all before taken (record course { carried = now }) (Ok (carrying.Done was.kept))
     takes_done now ends = (
       fault,
       (
         carries.planned,
         carried_out now,
-        is_due (plan_in course left right) course.cursor carries.planned carries.at (carriage_of was.transfer) for_it.carriage to number request reply (kept_of was.kept)
-            (marks_of carries.planned (carriage_of was.transfer) course.cursor (kept_of was.kept) for_it.carriage for_it.record_is) for_item ends.0 ends.1 ends.2,
+        is_due (plan_in course left right) course.cursor carries.planned carries.at
+            (carriage_of was.transfer) for_it.carriage to number request reply (kept_of was.kept)
+            (marks_of carries.planned (carriage_of was.transfer) course.cursor
+            (kept_of was.kept) for_it.carriage for_it.record_is) for_item ends.0 ends.1 ends.2,
       ),
     )
 
-    pub takes_refused : (now : Option Carried) (why : Refusal) → reply ≡ model.Refused (cause_of why) → TakesAnswer archive left right all before taken (record course { carried = now }) (Ok (carrying.Refused why))
+    pub takes_refused : (now : Option Carried) (why : Refusal) →
+        reply ≡ model.Refused (cause_of why) → TakesAnswer archive left right all before taken
+        (record course { carried = now }) (Ok (carrying.Refused why))
     takes_refused now why said = (
       fault,
       (
         carries.planned,
         carried_out now,
         said,
-        is_for (plan_in course left right) course.cursor carries.planned carries.at (carriage_of was.transfer) for_it.carriage to request for_item,
+        is_for (plan_in course left right) course.cursor carries.planned carries.at
+            (carriage_of was.transfer) for_it.carriage to request for_item,
       ),
     )
 
-  pub takes_fault : (now : Option Carried) (why : Refusal) → (fault_of all to request reply ≡ Some (cause_of why)) ⊎ (cause_of why ≡ Memory) → TakesAnswer archive left right all before taken (record course { carried = now }) (Err why)
+  pub takes_fault : (now : Option Carried) (why : Refusal) →
+      (fault_of all to request reply ≡ Some (cause_of why)) ⊎ (cause_of why ≡ Memory) →
+      TakesAnswer archive left right all before taken (record course { carried = now }) (Err why)
   takes_fault now why fault = (fault, carrying_more course now left right before carries.course_is)
 
 -- what ended the transfer ends the session
-pub ended_with : (fault : Option Why) (error : TransferError) (why : Refusal) → cause_of why ≡ refusal_of error → (error ≡ error_is.Memory) ⊎ (fault ≡ Some (refusal_of error)) → (fault ≡ Some (cause_of why)) ⊎ (cause_of why ≡ Memory)
+pub ended_with : (fault : Option Why) (error : TransferError) (why : Refusal) →
+    cause_of why ≡ refusal_of error →
+    (error ≡ error_is.Memory) ⊎ (fault ≡ Some (refusal_of error)) →
+    (fault ≡ Some (cause_of why)) ⊎ (cause_of why ≡ Memory)
 ended_with fault error why same (inl memory) = inr (same ∙ ap refusal_of memory)
 ended_with fault error why same (inr is) = inl (is ∙ ap (λ w. Some w) (sym same))

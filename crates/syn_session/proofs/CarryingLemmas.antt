@@ -1,5 +1,6 @@
 -- What is carried for an item of a plan.
-use Rattle.std.proofs.Common.{◌≡◌, ℕ, true, List, [], ◌∷◌, ◌++◌, Option, Some, None, refl, sym, ap, ◌∙◌, subst, inl, inr, suc}
+use Rattle.std.proofs.Common.{◌≡◌, ℕ, true, List, [], ◌∷◌, ◌++◌, Option, Some, None, refl, sym, ap}
+use Rattle.std.proofs.Common.{◌∙◌, subst, inl, inr, suc}
 use Rattle.std.specs.Prelude.{slice_get, unwrap_or}
 use Rattle.std.proofs.lemmas.List.Elements.{Contains-push_cases}
 use Rattle.syn_headline.specs.Coordinator.{Exchange}
@@ -15,7 +16,8 @@ use Rattle.syn_propagate.specs.declared.carriage.Carriage.{Carriage}
 use Rattle.syn_session.specs.declared.course.Carried.{Carried}
 use Rattle.syn_session.specs.declared.course.Course.{Course}
 use Rattle.syn_image.specs.Archives.{kept_of}
-use Rattle.syn_session.specs.Stages.{Carries, IsCarriageOf, IsCarriedFor, IsCourse, Reached, plan_in, AreAskedBefore, IsAskedBefore}
+use Rattle.syn_session.specs.Stages.{Carries, IsCarriageOf, IsCarriedFor, IsCourse, Reached}
+use Rattle.syn_session.specs.Stages.{plan_in, AreAskedBefore, IsAskedBefore}
 use Rattle.syn_headline.specs.Report.{is_carrying}
 use Rattle.syn_scan.specs.Found.{Found}
 use Rattle.syn_session.specs.Plans.{Plan}
@@ -29,13 +31,16 @@ source_other c = by (source_of c)
     by Right = refl
 
 -- the record of an item that is carried has the marks of its source
-pub marks_of : (planned : Planned) (c : Carriage) (item : ℕ) (kept : Kept) → IsCarriageOf c planned item → record_for planned planned.item ≡ Some kept → kept ≡ Recorded c.path (seen_on planned (source_of c)).marks
+pub marks_of : (planned : Planned) (c : Carriage) (item : ℕ) (kept : Kept) →
+    IsCarriageOf c planned item → record_for planned planned.item ≡ Some kept →
+    kept ≡ Recorded c.path (seen_on planned (source_of c)).marks
 marks_of planned c item kept is recorded = by planned.item (source_of c) is.writes recorded
   where
     some_in : (a b : Kept) → Some a ≡ Some b → b ≡ a
     some_in a b e = sym (ap (λ o. unwrap_or o a) e)
 
-    by : (it : _) (from : Which) → WritesTo it (other from) c.path → record_for planned it ≡ Some kept → kept ≡ Recorded c.path (seen_on planned from).marks
+    by : (it : _) (from : Which) → WritesTo it (other from) c.path →
+        record_for planned it ≡ Some kept → kept ≡ Recorded c.path (seen_on planned from).marks
     by (ToLeft at) Right writes e = some_in _ _ e ∙ ap (λ p. Recorded p planned.right.marks) writes
     by (ToRight at) Left writes e = some_in _ _ e ∙ ap (λ p. Recorded p planned.left.marks) writes
     by (ToLeft at) Left writes e = absurd writes
@@ -48,7 +53,8 @@ marks_of planned c item kept is recorded = by planned.item (source_of c) is.writ
     by (Conflict at) Right writes e = absurd writes
 
 -- what is carried is of an item that carries
-pub is_carried : (planned : Planned) (carriage : Carriage) (item : ℕ) → IsCarriageOf carriage planned item → is_carrying planned.item ≡ true
+pub is_carried : (planned : Planned) (carriage : Carriage) (item : ℕ) →
+    IsCarriageOf carriage planned item → is_carrying planned.item ≡ true
 is_carried planned carriage item is = by planned.item (target_of carriage) is.writes
   where
     by : (item : Item) (side : Which) → WritesTo item side carriage.path → is_carrying item ≡ true
@@ -62,14 +68,20 @@ is_carried planned carriage item is = by planned.item (target_of carriage) is.wr
     by (Conflict at) Right writes = absurd writes
 
 -- what was asked before an item, with one more exchange
-pub asked_then : (plan : Plan) (cursor : ℕ) (taken : List Exchange) (one : Exchange) → AreAskedBefore plan cursor taken → IsAskedBefore plan cursor one.request → AreAskedBefore plan cursor (taken ++ one ∷ [])
-asked_then plan cursor taken one before mine exchange has = elim (Contains-push_cases taken one exchange has) as (λ _. IsAskedBefore plan cursor exchange.request) [
-  | inl was ↦ before exchange was
-  | inr is ↦ subst (λ e. IsAskedBefore plan cursor e.request) is mine
-]
+pub asked_then : (plan : Plan) (cursor : ℕ) (taken : List Exchange) (one : Exchange) →
+    AreAskedBefore plan cursor taken → IsAskedBefore plan cursor one.request →
+    AreAskedBefore plan cursor (taken ++ one ∷ [])
+asked_then plan cursor taken one before mine exchange has =
+    elim (Contains-push_cases taken one exchange has)
+    as (λ _. IsAskedBefore plan cursor exchange.request) [
+      | inl was ↦ before exchange was
+      | inr is ↦ subst (λ e. IsAskedBefore plan cursor e.request) is mine
+    ]
 
 -- whatever is carried, the course is the same
-pub carrying_more : (course : Course) (carried : Option Carried) (left right : Found) (reached : Reached) → IsCourse course left right reached → IsCourse (record course { carried = carried }) left right reached
+pub carrying_more : (course : Course) (carried : Option Carried) (left right : Found)
+    (reached : Reached) → IsCourse course left right reached →
+    IsCourse (record course { carried = carried }) left right reached
 carrying_more course carried left right reached is = record {
   plan = is.plan;
   made = is.made;
@@ -83,20 +95,30 @@ carrying_more course carried left right reached is = record {
 }
 
 -- it asks for what is carried
-pub carries_on : (archive : model.Archive) (course : Course) (left right : Found) (reached : Reached) → IsCourse course left right reached → (planned : Planned) → slice_get (plan_in course left right) course.cursor ≡ Some planned → (carried later : Carried) → carriage_of later.transfer ≡ carriage_of carried.transfer → later.kept ≡ carried.kept →
-    IsCarriedFor archive carried planned course.cursor → (all : List Exchange) → AreAskedBefore (plan_in course left right) (suc course.cursor) all → (Is : Transfer → Type 0) → Is later.transfer →
+pub carries_on : (archive : model.Archive) (course : Course) (left right : Found)
+    (reached : Reached) → IsCourse course left right reached → (planned : Planned) →
+    slice_get (plan_in course left right) course.cursor ≡ Some planned → (carried later : Carried) →
+    carriage_of later.transfer ≡ carriage_of carried.transfer → later.kept ≡ carried.kept →
+    IsCarriedFor archive carried planned course.cursor → (all : List Exchange) →
+    AreAskedBefore (plan_in course left right) (suc course.cursor) all →
+    (Is : Transfer → Type 0) → Is later.transfer →
     Carries archive (record course { carried = Some later }) left right all reached Is
-carries_on archive course left right reached is planned at carried later same_carriage same_record carries all asked Is asks = record {
-  course_is = carrying_more course (Some later) left right reached is;
-  carried = later;
-  is_carried = refl;
-  planned = planned;
-  at = at;
-  carries = record {
-    carriage = subst (λ c. IsCarriageOf c planned course.cursor) (sym same_carriage) carries.carriage;
-    record_is = subst (λ k. record_for planned planned.item ≡ Some (kept_of k)) (sym same_record) carries.record_is;
-    can = subst (λ k. kept_refusal archive (kept_of k) ≡ None) (sym same_record) carries.can;
-  };
-  asked = asked;
-  is = asks;
-}
+carries_on archive course left right reached is planned at carried later same_carriage same_record
+    carries all asked Is asks =
+    record {
+      course_is = carrying_more course (Some later) left right reached is;
+      carried = later;
+      is_carried = refl;
+      planned = planned;
+      at = at;
+      carries = record {
+        carriage =
+            subst (λ c. IsCarriageOf c planned course.cursor) (sym same_carriage) carries.carriage;
+        record_is =
+            subst (λ k. record_for planned planned.item ≡ Some (kept_of k))
+            (sym same_record) carries.record_is;
+        can = subst (λ k. kept_refusal archive (kept_of k) ≡ None) (sym same_record) carries.can;
+      };
+      asked = asked;
+      is = asks;
+    }

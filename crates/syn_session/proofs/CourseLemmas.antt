@@ -1,5 +1,7 @@
 -- What a course tells behind an item.
-use Rattle.std.proofs.Common.{◌≡◌, ◌<◌, ◌^◌, ◌+◌, ℕ, suc, true, false, if◌then◌else◌, List, [], ◌∷◌, ◌++◌, Some, None, length, map, not, Bool, refl, sym, ap, ap₂, ◌∙◌, subst, arith, Option}
+use Rattle.std.proofs.Common.{◌≡◌, ◌<◌, ◌^◌, ◌+◌, ℕ, suc, true, false, if◌then◌else◌, List, [], ◌∷◌}
+use Rattle.std.proofs.Common.{◌++◌, Some, None, length, map, not, Bool, refl, sym, ap, ap₂, ◌∙◌}
+use Rattle.std.proofs.Common.{subst, arith, Option}
 use Rattle.std.specs.List.{slice_get}
 use Rattle.std.proofs.lemmas.List.{length-map, map_push}
 use Rattle.std.proofs.lemmas.Option.{none-some, slice_get_within}
@@ -19,13 +21,17 @@ use Rattle.syn_session.specs.Passing.{kept_at, past_at, refused_at}
 use Rattle.syn_session.specs.Plans.{AreRecordedBefore, planned_all, planned_by, recorded_count}
 use Rattle.syn_session.specs.Stages.{IsCourse, Reached, plan_in}
 use Rattle.syn_session.proofs.PlanLemmas.{named_once}
-use Rattle.syn_session.proofs.TallyLemmas.{conflicts_to, conflict_past, counted_within, other_past, record_counts, recorded_more, recorded_past}
+use Rattle.syn_session.proofs.TallyLemmas.{conflicts_to, conflict_past, counted_within, other_past}
+use Rattle.syn_session.proofs.TallyLemmas.{record_counts, recorded_more, recorded_past}
 use Rattle.syn_model.proofs.PathLemmas.{path_itself}
 
 after_one : (n : ℕ) → suc n ≡ n + 1
 after_one n = omega arith
 
-module _ (old new : Course) (left right : Found) (reached : Reached) (is : IsCourse old left right reached) (planned : Planned) (at : slice_get (plan_in old left right) old.cursor ≡ Some planned) (items : new.items ≡ old.items) (cursor : new.cursor ≡ old.cursor + 1) where
+module _ (old new : Course) (left right : Found) (reached : Reached)
+    (is : IsCourse old left right reached) (planned : Planned)
+    (at : slice_get (plan_in old left right) old.cursor ≡ Some planned)
+    (items : new.items ≡ old.items) (cursor : new.cursor ≡ old.cursor + 1) where
   same_plan : plan_in new left right ≡ plan_in old left right
   same_plan = ap (λ v. planned_all left right (items_of v.items)) items
 
@@ -41,19 +47,27 @@ module _ (old new : Course) (left right : Found) (reached : Reached) (is : IsCou
   cursor_is : suc reached.cursor ≡ new.cursor
   cursor_is = ap suc is.cursor ∙ next
 
-  at_new : (kept : List Kept) → AreRecordedBefore (plan_in old left right) (suc old.cursor) kept → AreRecordedBefore (plan_in new left right) new.cursor kept
-  at_new kept before = subst (λ p. AreRecordedBefore p new.cursor kept) (sym same_plan) (subst (λ n. AreRecordedBefore (plan_in old left right) n kept) next before)
+  at_new : (kept : List Kept) → AreRecordedBefore (plan_in old left right) (suc old.cursor) kept →
+      AreRecordedBefore (plan_in new left right) new.cursor kept
+  at_new kept before =
+      subst (λ p. AreRecordedBefore p new.cursor kept) (sym same_plan)
+      (subst (λ n. AreRecordedBefore (plan_in old left right) n kept) next before)
 
-  count_is : (is_of : Item → Bool) (kept : List Kept) → recorded_count is_of (plan_in new left right) kept ≡ recorded_count is_of (plan_in old left right) kept
+  count_is : (is_of : Item → Bool) (kept : List Kept) → recorded_count is_of
+      (plan_in new left right) kept ≡ recorded_count is_of (plan_in old left right) kept
   count_is is_of kept = ap (λ p. recorded_count is_of p kept) same_plan
 
-  conflicts_are : conflicts_to new.cursor (plan_in new left right) ≡ conflicts_to (suc old.cursor) (plan_in old left right)
+  conflicts_are : conflicts_to new.cursor (plan_in new left right)
+      ≡ conflicts_to (suc old.cursor) (plan_in old left right)
   conflicts_are = ap₂ conflicts_to (sym next) same_plan
 
   -- its record is kept
-  pub course_recorded : PlanIsOrderly → (what : Kept) → is_record_of planned.item what ≡ true → conflict_at planned.item ≡ None →
-      new.done ≡ old.done + (if is_carrying planned.item then 1 else 0) → new.marked ≡ old.marked + (if is_marking planned.item then 1 else 0) →
-      new.conflicts ≡ old.conflicts → new.refused ≡ old.refused → IsCourse new left right (kept_at reached what)
+  pub course_recorded : PlanIsOrderly → (what : Kept) → is_record_of planned.item what ≡ true →
+      conflict_at planned.item ≡ None →
+      new.done ≡ old.done + (if is_carrying planned.item then 1 else 0) →
+      new.marked ≡ old.marked + (if is_marking planned.item then 1 else 0) →
+      new.conflicts ≡ old.conflicts → new.refused ≡ old.refused →
+      IsCourse new left right (kept_at reached what)
   course_recorded orderly what of none done marked conflicts refused =
       let once = named_once left right is.made.0 (items_of old.items.items) is.made.1 orderly in
       record {
@@ -61,54 +75,83 @@ module _ (old new : Course) (left right : Found) (reached : Reached) (is : IsCou
         made = (is.made.0, ap (λ v. items_of v.items) items ∙ is.made.1);
         short = short_is;
         cursor = cursor_is;
-        recorded = at_new (reached.kept ++ what ∷ []) (recorded_more (plan_in old left right) once old.cursor reached.kept is.recorded planned at what of);
-        done = count_is is_carrying (reached.kept ++ what ∷ []) ∙ (record_counts (plan_in old left right) once old.cursor reached.kept is.recorded planned at what of is_carrying ∙ (ap (λ n. n + (if is_carrying planned.item then 1 else 0)) is.done ∙ sym done));
-        marked = count_is is_marking (reached.kept ++ what ∷ []) ∙ (record_counts (plan_in old left right) once old.cursor reached.kept is.recorded planned at what of is_marking ∙ (ap (λ n. n + (if is_marking planned.item then 1 else 0)) is.marked ∙ sym marked));
-        conflicts = conflicts_are ∙ (other_past (plan_in old left right) old.cursor planned at none ∙ (is.conflicts ∙ ap (λ v. v.items) (sym conflicts)));
+        recorded =
+            at_new (reached.kept ++ what ∷ []) (recorded_more
+            (plan_in old left right) once old.cursor reached.kept is.recorded planned at what of);
+        done =
+            count_is is_carrying (reached.kept ++ what ∷ [])
+            ∙ (record_counts (plan_in old left right) once old.cursor reached.kept is.recorded
+            planned at what of is_carrying
+            ∙ (ap (λ n. n + (if is_carrying planned.item then 1 else 0)) is.done ∙ sym done));
+        marked =
+            count_is is_marking (reached.kept ++ what ∷ [])
+            ∙ (record_counts (plan_in old left right) once old.cursor reached.kept is.recorded
+            planned at what of is_marking
+            ∙ (ap (λ n. n + (if is_marking planned.item then 1 else 0)) is.marked ∙ sym marked));
+        conflicts =
+            conflicts_are ∙ (other_past (plan_in old left right) old.cursor planned at none
+            ∙ (is.conflicts ∙ ap (λ v. v.items) (sym conflicts)));
         refused = is.refused ∙ ap (λ v. map (λ one. (cause_of one.0, one.1)) v.items) (sym refused);
       }
 
   module _ (done : new.done ≡ old.done) (marked : new.marked ≡ old.marked) where
     -- it is refused
-    pub course_refused : (why : Refusal) → conflict_at planned.item ≡ None → new.conflicts ≡ old.conflicts →
-        new.refused.items ≡ old.refused.items ++ (why, path_of planned.item) ∷ [] → IsCourse new left right (refused_at reached (cause_of why) planned)
+    pub course_refused : (why : Refusal) → conflict_at planned.item ≡ None →
+        new.conflicts ≡ old.conflicts →
+        new.refused.items ≡ old.refused.items ++ (why, path_of planned.item) ∷ [] →
+        IsCourse new left right (refused_at reached (cause_of why) planned)
     course_refused why none conflicts refused = record {
       plan = plan_is;
       made = (is.made.0, ap (λ v. items_of v.items) items ∙ is.made.1);
       short = short_is;
       cursor = cursor_is;
-      recorded = at_new reached.kept (recorded_past (plan_in old left right) old.cursor reached.kept is.recorded);
+      recorded =
+          at_new reached.kept
+          (recorded_past (plan_in old left right) old.cursor reached.kept is.recorded);
       done = count_is is_carrying reached.kept ∙ (is.done ∙ sym done);
       marked = count_is is_marking reached.kept ∙ (is.marked ∙ sym marked);
-      conflicts = conflicts_are ∙ (other_past (plan_in old left right) old.cursor planned at none ∙ (is.conflicts ∙ ap (λ v. v.items) (sym conflicts)));
-      refused = ap (λ l. l ++ (cause_of why, path_of planned.item) ∷ []) is.refused ∙ (sym (map_push (λ one. (cause_of one.0, one.1)) old.refused.items (why, path_of planned.item)) ∙ ap (map (λ one. (cause_of one.0, one.1))) (sym refused));
+      conflicts =
+          conflicts_are ∙ (other_past (plan_in old left right) old.cursor planned at none
+          ∙ (is.conflicts ∙ ap (λ v. v.items) (sym conflicts)));
+      refused =
+          ap (λ l. l ++ (cause_of why, path_of planned.item) ∷ []) is.refused
+          ∙ (sym (map_push (λ one. (cause_of one.0, one.1)) old.refused.items
+          (why, path_of planned.item)) ∙ ap (map (λ one. (cause_of one.0, one.1))) (sym refused));
     }
 
     -- it is a conflict
-    pub course_conflict : (path : Path) → planned.item ≡ Conflict path → new.conflicts.items ≡ old.conflicts.items ++ path ∷ [] → new.refused ≡ old.refused → IsCourse new left right (past_at reached)
+    pub course_conflict : (path : Path) → planned.item ≡ Conflict path →
+        new.conflicts.items ≡ old.conflicts.items ++ path ∷ [] → new.refused ≡ old.refused →
+        IsCourse new left right (past_at reached)
     course_conflict path conflict conflicts refused = record {
       plan = plan_is;
       made = (is.made.0, ap (λ v. items_of v.items) items ∙ is.made.1);
       short = short_is;
       cursor = cursor_is;
-      recorded = at_new reached.kept (recorded_past (plan_in old left right) old.cursor reached.kept is.recorded);
+      recorded =
+          at_new reached.kept
+          (recorded_past (plan_in old left right) old.cursor reached.kept is.recorded);
       done = count_is is_carrying reached.kept ∙ (is.done ∙ sym done);
       marked = count_is is_marking reached.kept ∙ (is.marked ∙ sym marked);
-      conflicts = conflicts_are ∙ (conflict_past (plan_in old left right) old.cursor planned at path conflict ∙ (ap (λ l. l ++ path ∷ []) is.conflicts ∙ sym conflicts));
+      conflicts =
+          conflicts_are ∙ (conflict_past (plan_in old left right) old.cursor planned at path
+          conflict ∙ (ap (λ l. l ++ path ∷ []) is.conflicts ∙ sym conflicts));
       refused = is.refused ∙ ap (λ v. map (λ one. (cause_of one.0, one.1)) v.items) (sym refused);
     }
 
 -- ---- which items have a record
 
 -- no conflict has one, and what does not carry only marks
-pub no_conflict : (planned : Planned) (item : Item) (what : Kept) → record_for planned item ≡ Some what → conflict_at item ≡ None
+pub no_conflict : (planned : Planned) (item : Item) (what : Kept) →
+    record_for planned item ≡ Some what → conflict_at item ≡ None
 no_conflict planned (ToLeft path) what e = refl
 no_conflict planned (ToRight path) what e = refl
 no_conflict planned (MarkSame path) what e = refl
 no_conflict planned (MarkDir path) what e = refl
 no_conflict planned (Conflict path) what e = absurd (none-some _ e)
 
-pub marks_else : (planned : Planned) (item : Item) (what : Kept) → record_for planned item ≡ Some what → is_marking item ≡ not (is_carrying item)
+pub marks_else : (planned : Planned) (item : Item) (what : Kept) →
+    record_for planned item ≡ Some what → is_marking item ≡ not (is_carrying item)
 marks_else planned (ToLeft path) what e = refl
 marks_else planned (ToRight path) what e = refl
 marks_else planned (MarkSame path) what e = refl
@@ -116,7 +159,8 @@ marks_else planned (MarkDir path) what e = refl
 marks_else planned (Conflict path) what e = absurd (none-some _ e)
 
 -- what is recorded for an item is counted for its item
-pub record_is : (planned : Planned) (item : Item) (kept : Kept) → record_for planned item ≡ Some kept → is_record_of item kept ≡ true
+pub record_is : (planned : Planned) (item : Item) (kept : Kept) →
+    record_for planned item ≡ Some kept → is_record_of item kept ≡ true
 record_is planned item kept e = by item e
   where
     is_of : Item → Option Kept → Type 0
@@ -132,20 +176,46 @@ record_is planned item kept e = by item e
 
 -- ---- what fits
 
-module _ (course : Course) (left right : Found) (reached : Reached) (is : IsCourse course left right reached) (planned : Planned) (at : slice_get (plan_in course left right) course.cursor ≡ Some planned) where
+module _ (course : Course) (left right : Found) (reached : Reached)
+    (is : IsCourse course left right reached) (planned : Planned)
+    (at : slice_get (plan_in course left right) course.cursor ≡ Some planned) where
   plan_is_short : length (plan_in course left right) < 2 ^ 32
-  plan_is_short = omega (arith, is.short, length-map (items_of course.items.items) (planned_by left right), length-map course.items.items item_of)
+  plan_is_short =
+      omega (
+        arith,
+        is.short,
+        length-map (items_of course.items.items) (planned_by left right),
+        length-map course.items.items item_of,
+      )
 
   pub cursor_fits : course.cursor < 2 ^ 32
-  cursor_fits = omega (arith, plan_is_short, slice_get_within (plan_in course left right) course.cursor planned at)
+  cursor_fits =
+      omega (
+        arith,
+        plan_is_short,
+        slice_get_within (plan_in course left right) course.cursor planned at,
+      )
 
   -- one more of its kind, where its record is kept
-  pub count_fits : PlanIsOrderly → (what : Kept) → is_record_of planned.item what ≡ true → (is_of : Item → Bool) (count : ℕ) → recorded_count is_of (plan_in course left right) reached.kept ≡ count → is_of planned.item ≡ true → count + 1 < 2 ^ 32
+  pub count_fits : PlanIsOrderly → (what : Kept) →
+      is_record_of planned.item what ≡ true → (is_of : Item → Bool) (count : ℕ) →
+      recorded_count is_of (plan_in course left right) reached.kept ≡ count →
+      is_of planned.item ≡ true → count + 1 < 2 ^ 32
   count_fits orderly what of is_of count counted mine =
       let once = named_once left right is.made.0 (items_of course.items.items) is.made.1 orderly in
-      let more = record_counts (plan_in course left right) once course.cursor reached.kept is.recorded planned at what of is_of in
-      let one = ap (λ b. recorded_count is_of (plan_in course left right) reached.kept + (if b then 1 else 0)) mine in
-      omega (arith, plan_is_short, counted_within is_of (plan_in course left right) (reached.kept ++ what ∷ []), more, one, counted)
+      let more = record_counts (plan_in course left right) once course.cursor reached.kept
+      is.recorded planned at what of is_of in
+      let one = ap (λ b. recorded_count is_of (plan_in course left right) reached.kept
+      + (if b then 1 else 0)) mine in
+      omega (
+        arith,
+        plan_is_short,
+        counted_within is_of (plan_in course left right)
+            (reached.kept ++ what ∷ []),
+        more,
+        one,
+        counted,
+      )
 
 -- whether one is counted
 pub counts_one : (n : ℕ) (b : Bool) → b ≡ true → n + 1 ≡ n + (if b then 1 else 0)

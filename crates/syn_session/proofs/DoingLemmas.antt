@@ -29,29 +29,85 @@ use Rattle.syn_image.specs.Archives.{kept_of}
 use Rattle.syn_session.specs.declared.error.SessionError.{SessionError}
 use Rattle.syn_session.proofs.PlanLemmas.{same_marks}
 
-module _ (course : Course) (left right : Found) (reached : Reached) (is : IsCourse course left right reached) where
-  planned_at : (item : Option model.Item) → slice_get (items_of course.items.items) course.cursor ≡ item → slice_get (plan_in course left right) course.cursor ≡ option_map (planned_by left right) item
-  planned_at item e = slice_get-map (planned_by left right) (items_of course.items.items) course.cursor ∙ ap (option_map (planned_by left right)) e
+module _ (course : Course) (left right : Found) (reached : Reached)
+    (is : IsCourse course left right reached) where
+  planned_at : (item : Option model.Item) →
+      slice_get (items_of course.items.items) course.cursor ≡ item →
+      slice_get (plan_in course left right) course.cursor ≡ option_map (planned_by left right) item
+  planned_at item e =
+      slice_get-map (planned_by left right) (items_of course.items.items) course.cursor
+      ∙ ap (option_map (planned_by left right)) e
 
-  pub nothing_left : slice_get (items_of course.items.items) course.cursor ≡ None → slice_get (plan_in course left right) course.cursor ≡ None
+  pub nothing_left : slice_get (items_of course.items.items) course.cursor ≡ None →
+      slice_get (plan_in course left right) course.cursor ≡ None
   nothing_left e = planned_at None e
 
-  module _ (decided : PlanIsDecided) (item : model.Item) (there : slice_get (items_of course.items.items) course.cursor ≡ Some item) where
+  module _ (decided : PlanIsDecided) (item : model.Item)
+      (there : slice_get (items_of course.items.items) course.cursor ≡ Some item) where
     abbrev planned : Planned
     planned = planned_by left right item
 
     at : slice_get (plan_in course left right) course.cursor ≡ Some planned
     at = planned_at (Some item) there
 
-    carried_to_left : (path : Path) (c : Carriage) → item ≡ ToLeft path → c ≡ record { source = side.Right; item = course.cursor; path = path; source_since = position_of right (parent path); target_since = position_of left (parent path) } → IsCarriageOf c planned course.cursor
-    carried_to_left path c e same_c = subst (λ x. IsCarriageOf x planned course.cursor) (sym same_c) (subst (λ i. IsCarriageOf (record { source = side.Right; item = course.cursor; path = path; source_since = position_of right (parent path); target_since = position_of left (parent path) }) (planned_by left right i) course.cursor) (sym e)
-        (record { item_is = refl; path_is = refl; writes = refl; source_since = refl; target_since = refl }))
+    carried_to_left : (path : Path) (c : Carriage) → item ≡ ToLeft path →
+        c ≡ record {
+          source = side.Right;
+          item = course.cursor;
+          path = path;
+          source_since =
+              position_of right (parent path);
+          target_since = position_of left (parent path);
+        } →
+        IsCarriageOf c planned course.cursor
+    carried_to_left path c e same_c =
+        subst (λ x. IsCarriageOf x planned course.cursor) (sym same_c)
+        (subst (λ i. IsCarriageOf (record {
+          source = side.Right;
+          item = course.cursor;
+          path = path;
+          source_since = position_of right (parent path);
+          target_since =
+              position_of left (parent path);
+        }) (planned_by left right i) course.cursor) (sym e)
+        (record {
+          item_is = refl;
+          path_is = refl;
+          writes = refl;
+          source_since = refl;
+          target_since = refl;
+        }))
 
-    carried_to_right : (path : Path) (c : Carriage) → item ≡ ToRight path → c ≡ record { source = side.Left; item = course.cursor; path = path; source_since = position_of left (parent path); target_since = position_of right (parent path) } → IsCarriageOf c planned course.cursor
-    carried_to_right path c e same_c = subst (λ x. IsCarriageOf x planned course.cursor) (sym same_c) (subst (λ i. IsCarriageOf (record { source = side.Left; item = course.cursor; path = path; source_since = position_of left (parent path); target_since = position_of right (parent path) }) (planned_by left right i) course.cursor) (sym e)
-        (record { item_is = refl; path_is = refl; writes = refl; source_since = refl; target_since = refl }))
+    carried_to_right : (path : Path) (c : Carriage) → item ≡ ToRight path →
+        c ≡ record {
+          source = side.Left;
+          item = course.cursor;
+          path = path;
+          source_since =
+              position_of left (parent path);
+          target_since = position_of right (parent path);
+        } →
+        IsCarriageOf c planned course.cursor
+    carried_to_right path c e same_c =
+        subst (λ x. IsCarriageOf x planned course.cursor) (sym same_c)
+        (subst (λ i. IsCarriageOf (record {
+          source = side.Left;
+          item = course.cursor;
+          path = path;
+          source_since = position_of left (parent path);
+          target_since =
+              position_of right (parent path);
+        }) (planned_by left right i) course.cursor) (sym e)
+        (record {
+          item_is = refl;
+          path_is = refl;
+          writes = refl;
+          source_since = refl;
+          target_since = refl;
+        }))
 
-    pub doing_so : (doing : Doing) → IsDoingFor item course.cursor left right doing → IsDoing course left right doing
+    pub doing_so : (doing : Doing) → IsDoingFor item course.cursor left right doing →
+        IsDoing course left right doing
     doing_so has.Nothing never = absurd never
     doing_so (has.Conflict path) e = (planned, at, e)
     doing_so (has.Mark kept) (inl (path, e, recorded)) = (
@@ -59,8 +115,10 @@ module _ (course : Course) (left right : Found) (reached : Reached) (is : IsCour
       at,
       ap is_carrying e,
       subst IsOfItem (sym recorded) tt,
-      λ taken. subst (λ k. IsDue course.cursor planned taken k) (ap (λ p. Recorded path (subtree left.marks p)) (ap path_of e) ∙ sym recorded)
-          (same path e (same_marks left right is.made.0 (items_of course.items.items) is.made.1 decided course.cursor planned path at e)),
+      λ taken. subst (λ k. IsDue course.cursor planned taken k)
+          (ap (λ p. Recorded path (subtree left.marks p)) (ap path_of e) ∙ sym recorded)
+          (same path e (same_marks left right is.made.0
+          (items_of course.items.items) is.made.1 decided course.cursor planned path at e)),
     )
     doing_so (has.Mark kept) (inr (path, e, recorded)) = (
       planned,
@@ -73,32 +131,46 @@ module _ (course : Course) (left right : Found) (reached : Reached) (is : IsCour
       planned,
       at,
       carried_to_left path (carriage_of carried.transfer) e from.carriage,
-      subst (λ i. record_for (planned_by left right i) i ≡ Some (kept_of carried.kept)) (sym e) (ap (λ k. Some k) (sym from.record_is)),
+      subst (λ i. record_for (planned_by left right i) i ≡ Some (kept_of carried.kept)) (sym e)
+          (ap (λ k. Some k) (sym from.record_is)),
       from.ready,
     )
     doing_so (has.Carry carried) (inr (path, e, from)) = (
       planned,
       at,
       carried_to_right path (carriage_of carried.transfer) e from.carriage,
-      subst (λ i. record_for (planned_by left right i) i ≡ Some (kept_of carried.kept)) (sym e) (ap (λ k. Some k) (sym from.record_is)),
+      subst (λ i. record_for (planned_by left right i) i ≡ Some (kept_of carried.kept)) (sym e)
+          (ap (λ k. Some k) (sym from.record_is)),
       from.ready,
     )
 
 -- whatever is answered
-pub if_doing : (course : Course) (left right : Found) (reached : Reached) → IsCourse course left right reached → PlanIsDecided → (item : model.Item) → slice_get (items_of course.items.items) course.cursor ≡ Some item → (number : ℕ) → number ≡ course.cursor →
-    (result : Result Doing SessionError) → IfOk result (IsDoingFor item number left right) → IfOk result (IsDoing course left right)
-if_doing course left right reached is decided item there number same_number (Ok doing) so = doing_so course left right reached is decided item there doing (subst (λ n. IsDoingFor item n left right doing) same_number so)
+pub if_doing : (course : Course) (left right : Found) (reached : Reached) →
+    IsCourse course left right reached → PlanIsDecided → (item : model.Item) →
+    slice_get (items_of course.items.items) course.cursor ≡ Some item → (number : ℕ) →
+    number ≡ course.cursor → (result : Result Doing SessionError) →
+    IfOk result (IsDoingFor item number left right) → IfOk result (IsDoing course left right)
+if_doing course left right reached is decided item there number same_number (Ok doing) so =
+    doing_so course left right reached is decided item there doing
+    (subst (λ n. IsDoingFor item n left right doing) same_number so)
 if_doing course left right reached is decided item there number same_number (Err e) so = tt
 
 -- what it would have kept is the record of an item
-keeps_of_item : (item : model.Item) (number : ℕ) (left right : Found) (doing : Doing) → IsDoingFor item number left right doing → KeepsOfItem doing
+keeps_of_item : (item : model.Item) (number : ℕ) (left right : Found) (doing : Doing) →
+    IsDoingFor item number left right doing → KeepsOfItem doing
 keeps_of_item item number left right has.Nothing so = tt
 keeps_of_item item number left right (has.Conflict path) so = tt
-keeps_of_item item number left right (has.Mark kept) (inl (path, e, recorded)) = subst IsOfItem (sym recorded) tt
-keeps_of_item item number left right (has.Mark kept) (inr (path, e, recorded)) = subst IsOfItem (sym recorded) tt
-keeps_of_item item number left right (has.Carry carried) (inl (path, e, from)) = subst IsOfItem (sym from.record_is) tt
-keeps_of_item item number left right (has.Carry carried) (inr (path, e, from)) = subst IsOfItem (sym from.record_is) tt
+keeps_of_item item number left right (has.Mark kept) (inl (path, e, recorded)) =
+    subst IsOfItem (sym recorded) tt
+keeps_of_item item number left right (has.Mark kept) (inr (path, e, recorded)) =
+    subst IsOfItem (sym recorded) tt
+keeps_of_item item number left right (has.Carry carried) (inl (path, e, from)) =
+    subst IsOfItem (sym from.record_is) tt
+keeps_of_item item number left right (has.Carry carried) (inr (path, e, from)) =
+    subst IsOfItem (sym from.record_is) tt
 
-pub if_keeps : (item : model.Item) (number : ℕ) (left right : Found) (result : Result Doing SessionError) → IfOk result (IsDoingFor item number left right) → IfOk result KeepsOfItem
+pub if_keeps : (item : model.Item) (number : ℕ) (left right : Found)
+    (result : Result Doing SessionError) → IfOk result (IsDoingFor item number left right) →
+    IfOk result KeepsOfItem
 if_keeps item number left right (Ok doing) so = keeps_of_item item number left right doing so
 if_keeps item number left right (Err e) so = tt

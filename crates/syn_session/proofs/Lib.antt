@@ -4,6 +4,7 @@ pub mod PlanLemmas
 pub mod SessionLemmas
 pub mod AnswerLemmas
 pub mod HearLemmas
+pub mod TellingLemmas
 pub mod HearingLemmas
 pub mod CourseLemmas
 pub mod DoingLemmas

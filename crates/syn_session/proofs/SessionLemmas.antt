@@ -1,10 +1,12 @@
 -- A session that begins, and one whose requests are sent again.
-use Rattle.std.proofs.Common.{◌≡◌, ◌≤◌, ◌<◌, ◌^◌, ◌⊎◌, ◌+◌, ℕ, suc, false, List, [], ◌∷◌, Option, Some, None, refl, sym, ap, ◌∙◌, subst, inl, inr, arith}
+use Rattle.std.proofs.Common.{◌≡◌, ◌≤◌, ◌<◌, ◌^◌, ◌⊎◌, ◌+◌, ℕ, suc, false, List, [], ◌∷◌, Option}
+use Rattle.std.proofs.Common.{Some, None, refl, sym, ap, ◌∙◌, subst, inl, inr, arith}
 use Rattle.std.specs.Prelude.{Contains, option_map, is_some}
 use Rattle.std.specs.List.{count_by}
 use Rattle.std.proofs.lemmas.List.{length-map}
 use Rattle.std.proofs.lemmas.List.Elements.{Contains-push, Contains-push_cases}
-use Rattle.syn_headline.specs.Coordinator.{Running, Outstanding, outstanding, asked_count, once_more}
+use Rattle.syn_headline.specs.Coordinator.{Running, Outstanding, outstanding, asked_count}
+use Rattle.syn_headline.specs.Coordinator.{once_more}
 use Rattle.syn_headline.specs.Network.{Which, Left, Right, other, is_side}
 use Rattle.syn_headline.specs.Session.{Exchange, WasAsked}
 use Rattle.syn_headline.specs.Side.{Request, Begin}
@@ -15,8 +17,10 @@ use Rattle.syn_session.specs.declared.course.Course.{Course}
 use Rattle.syn_session.specs.declared.line.Line.{Line}
 use Rattle.syn_session.specs.declared.requests.Waiting.{Waiting}
 use Rattle.syn_session.specs.declared.session.Session.{Session}
-use Rattle.syn_session.specs.Sessions.{IsLine, IsSession, IsStage, asks, begin_of, begun, outstanding_of, resent_once, waiting_of}
-use Rattle.syn_session.specs.Stages.{IsBeginningOrListing, IsToBegin, IsToList, Reached, begins, lists, asks_now, line_of, reached_by}
+use Rattle.syn_session.specs.Sessions.{IsLine, IsSession, IsStage, asks, begin_of, begun}
+use Rattle.syn_session.specs.Sessions.{outstanding_of, resent_once, waiting_of}
+use Rattle.syn_session.specs.Stages.{IsBeginningOrListing, IsToBegin, IsToList, Reached, begins}
+use Rattle.syn_session.specs.Stages.{lists, asks_now, line_of, reached_by}
 use Rattle.std.proofs.lemmas.Bool.{false≢true}
 
 -- the request of the first that waits
@@ -24,71 +28,104 @@ abbrev pub first_request : List Outstanding → Option Request
 first_request [] = None
 first_request (one ∷ more) = Some one.request
 
-pub asks_first : (waiting : Option Waiting) → option_map (λ one. request_of one.request) waiting ≡ first_request (waiting_of waiting)
+pub asks_first : (waiting : Option Waiting) →
+    option_map (λ one. request_of one.request) waiting ≡ first_request (waiting_of waiting)
 asks_first None = refl
 asks_first (Some one) = refl
 
 -- ---- a session that begins
 
-begins_line : (line : Line) (number pair : ℕ) (side : Which) → waiting_of line.waiting ≡ begin_of pair → line.asked ≡ 1 → IsLine line (begun number pair) side
-begins_line line number pair Left waits asked = record { waits = sym waits; count = sym asked; few = subst (λ n. n ≤ 2 ^ 32) (sym asked) (omega arith) }
-begins_line line number pair Right waits asked = record { waits = sym waits; count = sym asked; few = subst (λ n. n ≤ 2 ^ 32) (sym asked) (omega arith) }
+begins_line : (line : Line) (number pair : ℕ) (side : Which) →
+    waiting_of line.waiting ≡ begin_of pair → line.asked ≡ 1 → IsLine line (begun number pair) side
+begins_line line number pair Left waits asked =
+    record {
+      waits = sym waits;
+      count = sym asked;
+      few = subst (λ n. n ≤ 2 ^ 32) (sym asked) (omega arith);
+    }
+begins_line line number pair Right waits asked =
+    record {
+      waits = sym waits;
+      count = sym asked;
+      few = subst (λ n. n ≤ 2 ^ 32) (sym asked) (omega arith);
+    }
 
 none_taken : {T : Type 0} (x : T) → Contains [] x → ⊥
 none_taken x has = omega (arith, has.1)
 
-only_begin : (number pair : ℕ) (side : Which) (n : ℕ) (a : Request) → WasAsked (begun number pair) side n a → n ≡ 0
+only_begin : (number pair : ℕ) (side : Which) (n : ℕ) (a : Request) →
+    WasAsked (begun number pair) side n a → n ≡ 0
 only_begin number pair side n a (inl (reply, has)) = absurd (none_taken _ has)
 only_begin number pair Left n a (inr (resent, has)) = by (Contains-push_cases [] _ _ has)
   where
-    by : let one : Outstanding = record { number = n; request = a; resent = resent } in Contains [] one ⊎ (asks 0 (Begin pair) ≡ one) → n ≡ 0
+    by : let one : Outstanding = record { number = n; request = a; resent = resent } in
+        Contains [] one ⊎ (asks 0 (Begin pair) ≡ one) → n ≡ 0
     by (inl never) = absurd (none_taken _ never)
     by (inr is) = sym (ap (λ (o : Outstanding). o.number) is)
 only_begin number pair Right n a (inr (resent, has)) = by (Contains-push_cases [] _ _ has)
   where
-    by : let one : Outstanding = record { number = n; request = a; resent = resent } in Contains [] one ⊎ (asks 0 (Begin pair) ≡ one) → n ≡ 0
+    by : let one : Outstanding = record { number = n; request = a; resent = resent } in
+        Contains [] one ⊎ (asks 0 (Begin pair) ≡ one) → n ≡ 0
     by (inl never) = absurd (none_taken _ never)
     by (inr is) = sym (ap (λ (o : Outstanding). o.number) is)
 
-module _ (archive : model.Archive) (session : Session) (number pair : ℕ) (numbered : session.number ≡ number) (lawful : number < 2 ^ 64) (stable : session.is_unstable ≡ false) (scans : session.course ≡ None)
-    (waits : (side : Which) → waiting_of (line_of session side).waiting ≡ begin_of pair) (asked : (side : Which) → (line_of session side).asked ≡ 1) (found : (side : Which) → IsFoundIn (found_of (line_of session side).scan) side []) where
+module _ (archive : model.Archive) (session : Session) (number pair : ℕ)
+    (numbered : session.number ≡ number) (lawful : number < 2 ^ 64)
+    (stable : session.is_unstable ≡ false) (scans : session.course ≡ None)
+    (waits : (side : Which) → waiting_of (line_of session side).waiting ≡ begin_of pair)
+    (asked : (side : Which) → (line_of session side).asked ≡ 1)
+    (found : (side : Which) → IsFoundIn (found_of (line_of session side).scan) side []) where
   pub session_begins : IsSession archive session (begun number pair)
   session_begins = record {
     number = sym numbered;
     lawful = subst (λ n. n < 2 ^ 64) (sym numbered) lawful;
     line = λ side. begins_line (line_of session side) number pair side (waits side) (asked side);
-    once = λ side m n a b was_m was_n _. only_begin number pair side m a was_m ∙ sym (only_begin number pair side n b was_n);
+    once =
+        λ side m n a b was_m was_n _. only_begin number pair side m a was_m
+        ∙ sym (only_begin number pair side n b was_n);
     unstable = sym stable;
-    stage = subst (λ course. IsStage archive session course [] (record { plan = None; cursor = 0; kept = []; refused = [] })) (sym scans) (record {
-      nothing = refl;
-      of_scan = λ exchange has. absurd (none_taken _ has);
-      found = found;
-      at = begins (λ side. inl (pair, asks_first (line_of session side).waiting ∙ ap first_request (waits side)));
-    });
+    stage =
+        subst (λ course. IsStage archive session course
+        [] (record { plan = None; cursor = 0; kept = []; refused = [] })) (sym scans) (record {
+          nothing = refl;
+          of_scan = λ exchange has. absurd (none_taken _ has);
+          found = found;
+          at =
+              begins (λ side. inl
+              (pair, asks_first (line_of session side).waiting ∙ ap first_request (waits side)));
+        });
   }
 
 -- ---- a session whose requests are sent again
 
 -- what waits stays, and what was found
 module _ (archive : model.Archive) (old new : Session) (taken : List Exchange) (reached : Reached)
-    (same : (side : Which) → asks_now (line_of new side) ≡ asks_now (line_of old side)) (scan : (side : Which) → (line_of new side).scan ≡ (line_of old side).scan) where
+    (same : (side : Which) → asks_now (line_of new side) ≡ asks_now (line_of old side))
+    (scan : (side : Which) → (line_of new side).scan ≡ (line_of old side).scan) where
   begins_still : (side : Which) → IsToBegin old taken side → IsToBegin new taken side
   begins_still side (inl (pair, is)) = inl (pair, same side ∙ is)
   begins_still side (inr (is, pair, position, was)) = inr (same side ∙ is, pair, position, was)
 
   lists_still : (side : Which) → IsToList old side → IsToList new side
-  lists_still side (inl (path, is, waits)) = inl (path, same side ∙ is, subst (λ s. WaitsFor s path) (sym (scan side)) waits)
-  lists_still side (inr (is, whole)) = inr (same side ∙ is, subst (λ s. Rattle.syn_scan.specs.Found.IsWhole (found_of s)) (sym (scan side)) whole)
+  lists_still side (inl (path, is, waits)) =
+      inl (path, same side ∙ is, subst (λ s. WaitsFor s path) (sym (scan side)) waits)
+  lists_still side (inr (is, whole)) =
+      inr (
+        same side ∙ is,
+        subst (λ s. Rattle.syn_scan.specs.Found.IsWhole (found_of s)) (sym (scan side)) whole,
+      )
 
   at_still : IsBeginningOrListing old taken → IsBeginningOrListing new taken
   at_still (begins each) = begins (λ side. begins_still side (each side))
   at_still (lists begun each) = lists begun (λ side. lists_still side (each side))
 
-  stage_still : (course : Option Course) → IsStage archive old course taken reached → IsStage archive new course taken reached
+  stage_still : (course : Option Course) → IsStage archive old course taken reached →
+      IsStage archive new course taken reached
   stage_still None is = record {
     nothing = is.nothing;
     of_scan = is.of_scan;
-    found = λ side. subst (λ s. IsFoundIn (found_of s) side taken) (sym (scan side)) (is.found side);
+    found =
+        λ side. subst (λ s. IsFoundIn (found_of s) side taken) (sym (scan side)) (is.found side);
     at = at_still is.at;
   }
   stage_still (Some course) is = record {
@@ -96,12 +133,19 @@ module _ (archive : model.Archive) (old new : Session) (taken : List Exchange) (
     request = is.request;
     waits = same is.to ∙ is.waits;
     alone = same (other is.to) ∙ is.alone;
-    carries = subst (λ r. Rattle.syn_session.specs.Stages.Carries archive course (found_of new.left.scan) (found_of r) taken reached (λ transfer. Rattle.syn_propagate.specs.Transfers.WaitsFor transfer taken is.to is.request)) (sym (scan Right))
-        (subst (λ l. Rattle.syn_session.specs.Stages.Carries archive course (found_of l) (found_of old.right.scan) taken reached (λ transfer. Rattle.syn_propagate.specs.Transfers.WaitsFor transfer taken is.to is.request)) (sym (scan Left)) is.carries);
+    carries =
+        subst (λ r. Rattle.syn_session.specs.Stages.Carries archive course (found_of new.left.scan)
+        (found_of r) taken reached (λ transfer. Rattle.syn_propagate.specs.Transfers.WaitsFor
+        transfer taken is.to is.request)) (sym (scan Right))
+        (subst (λ l. Rattle.syn_session.specs.Stages.Carries archive course (found_of l) (found_of
+        old.right.scan) taken reached (λ transfer. Rattle.syn_propagate.specs.Transfers.WaitsFor
+        transfer taken is.to is.request)) (sym (scan Left)) is.carries);
   }
 
-  pub stage_goes_on : new.course ≡ old.course → IsStage archive old old.course taken reached → IsStage archive new new.course taken reached
-  stage_goes_on course is = subst (λ c. IsStage archive new c taken reached) (sym course) (stage_still old.course is)
+  pub stage_goes_on : new.course ≡ old.course → IsStage archive old old.course taken reached →
+      IsStage archive new new.course taken reached
+  stage_goes_on course is =
+      subst (λ c. IsStage archive new c taken reached) (sym course) (stage_still old.course is)
 
 -- a line whose request was sent once more
 pub record SentAgain (old new : Line) : Type 0 where
@@ -113,42 +157,67 @@ pub record SentAgain (old new : Line) : Type 0 where
 abbrev waits_as : ℕ → Request → ℕ → Outstanding
 waits_as number request resent = record { number = number; request = request; resent = resent }
 
-was_once : (waiting : Option Waiting) (n : ℕ) (a : Request) (k : ℕ) → Contains (once_more (waiting_of waiting)) (waits_as n a k) → (m : ℕ) × Contains (waiting_of waiting) (waits_as n a m)
+was_once : (waiting : Option Waiting) (n : ℕ) (a : Request) (k : ℕ) →
+    Contains (once_more (waiting_of waiting)) (waits_as n a k) →
+    (m : ℕ) × Contains (waiting_of waiting) (waits_as n a m)
 was_once None n a k has = absurd (none_taken _ has)
 was_once (Some one) n a k has = by (Contains-push_cases [] _ _ has)
   where
-    by : Contains [] (waits_as n a k) ⊎ (waits_as one.number (request_of one.request) (suc one.resent) ≡ waits_as n a k) → (m : ℕ) × Contains (waiting_of (Some one)) (waits_as n a m)
+    by : Contains [] (waits_as n a k)
+        ⊎ (waits_as one.number (request_of one.request) (suc one.resent) ≡ waits_as n a k) →
+        (m : ℕ) × Contains (waiting_of (Some one)) (waits_as n a m)
     by (inl never) = absurd (none_taken _ never)
     by (inr is) = (
       one.resent,
-      subst (λ (r : Request). Contains (waiting_of (Some one)) (waits_as n r one.resent)) (ap (λ (o : Outstanding). o.request) is)
-          (subst (λ (m : ℕ). Contains (waiting_of (Some one)) (waits_as m (request_of one.request) one.resent)) (ap (λ (o : Outstanding). o.number) is) (Contains-push [] (outstanding_of one))),
+      subst (λ (r : Request). Contains (waiting_of (Some one)) (waits_as n r one.resent))
+          (ap (λ (o : Outstanding). o.request) is)
+          (subst (λ (m : ℕ). Contains (waiting_of (Some one))
+          (waits_as m (request_of one.request) one.resent))
+          (ap (λ (o : Outstanding). o.number) is) (Contains-push [] (outstanding_of one))),
     )
 
-module _ (archive : model.Archive) (old new : Session) (running : Running) (is : IsSession archive old running) (number : new.number ≡ old.number) (unstable : new.is_unstable ≡ old.is_unstable) (course : new.course ≡ old.course)
+module _ (archive : model.Archive) (old new : Session) (running : Running)
+    (is : IsSession archive old running) (number : new.number ≡ old.number)
+    (unstable : new.is_unstable ≡ old.is_unstable) (course : new.course ≡ old.course)
     (again : (side : Which) → SentAgain (line_of old side) (line_of new side)) where
-  waits_again : (side : Which) → outstanding (resent_once running) side ≡ waiting_of (line_of new side).waiting
+  waits_again : (side : Which) →
+      outstanding (resent_once running) side ≡ waiting_of (line_of new side).waiting
   waits_again Left = ap once_more (is.line Left).waits ∙ sym (again Left).waits
   waits_again Right = ap once_more (is.line Right).waits ∙ sym (again Right).waits
 
   count_again : (side : Which) → asked_count (resent_once running) side ≡ (line_of new side).asked
-  count_again Left = ap (λ n. count_by (λ exchange. is_side Left exchange.side) running.taken + n) (length-map running.left _) ∙ ((is.line Left).count ∙ sym (again Left).asked)
-  count_again Right = ap (λ n. count_by (λ exchange. is_side Right exchange.side) running.taken + n) (length-map running.right _) ∙ ((is.line Right).count ∙ sym (again Right).asked)
+  count_again Left =
+      ap (λ n. count_by (λ exchange. is_side Left exchange.side) running.taken + n)
+      (length-map running.left _) ∙ ((is.line Left).count ∙ sym (again Left).asked)
+  count_again Right =
+      ap (λ n. count_by (λ exchange. is_side Right exchange.side) running.taken + n)
+      (length-map running.right _) ∙ ((is.line Right).count ∙ sym (again Right).asked)
 
-  was_asked : (side : Which) (n : ℕ) (a : Request) → WasAsked (resent_once running) side n a → WasAsked running side n a
+  was_asked : (side : Which) (n : ℕ) (a : Request) → WasAsked (resent_once running) side n a →
+      WasAsked running side n a
   was_asked side n a (inl taken) = inl taken
   was_asked side n a (inr (k, has)) =
-      let was = was_once (line_of old side).waiting n a k (subst (λ l. Contains l (waits_as n a k)) (waits_again side ∙ (again side).waits) has) in
+      let was = was_once (line_of old side).waiting n a k
+      (subst (λ l. Contains l (waits_as n a k)) (waits_again side ∙ (again side).waits) has) in
       inr (was.0, subst (λ l. Contains l (waits_as n a was.0)) (sym (is.line side).waits) was.1)
 
   pub resent_so : IsSession archive new (resent_once running)
   resent_so = record {
     number = is.number ∙ sym number;
     lawful = subst (λ n. n < 2 ^ 64) (sym number) is.lawful;
-    line = λ side. record { waits = waits_again side; count = count_again side; few = subst (λ n. n ≤ 2 ^ 32) (sym (again side).asked) (is.line side).few };
-    once = λ side m n a b was_m was_n repeat. is.once side m n a b (was_asked side m a was_m) (was_asked side n b was_n) repeat;
+    line =
+        λ side. record {
+          waits = waits_again side;
+          count = count_again side;
+          few = subst (λ n. n ≤ 2 ^ 32) (sym (again side).asked) (is.line side).few;
+        };
+    once =
+        λ side m n a b was_m was_n repeat. is.once side m n a b (was_asked side m a was_m)
+        (was_asked side n b was_n) repeat;
     unstable = is.unstable ∙ sym unstable;
-    stage = stage_goes_on archive old new running.taken (reached_by running) (λ side. (again side).same) (λ side. (again side).scan) course is.stage;
+    stage =
+        stage_goes_on archive old new running.taken (reached_by running) (λ side. (again side).same)
+        (λ side. (again side).scan) course is.stage;
   }
 
 -- none is there

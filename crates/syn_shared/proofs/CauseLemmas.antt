@@ -1,5 +1,7 @@
 -- Which refusals a history causes, and which cause the world names first.
-use Rattle.std.proofs.Common.{◌≡◌, ◌≢◌, ◌⊎◌, ◌+◌, ◌-◌, ◌≤◌, ℕ, suc, [], ◌∷◌, ◌++◌, List, length, refl, sym, ap, ◌∙◌, inl, inr, true, false, not, Option, None, Some, arith}
+use Rattle.std.proofs.Common.{◌≡◌, ◌≢◌, ◌⊎◌, ◌+◌, ◌-◌, ◌≤◌, ℕ, suc, [], ◌∷◌, ◌++◌, List, length}
+use Rattle.std.proofs.Common.{refl, sym, ap, ◌∙◌, inl, inr, true, false, not, Option, None, Some}
+use Rattle.std.proofs.Common.{arith}
 use Rattle.std.proofs.lemmas.Bool.Decides.{leb_tells}
 use Rattle.std.specs.Prelude.{nat_le, nat_lt}
 use Rattle.syn_disk.specs.Arms.{Arms}
@@ -20,7 +22,9 @@ use Rattle.syn_replica.specs.Refusals.{IsOneOf, outside_refusals, checkpoint_ref
 use Rattle.syn_replica.specs.Steps.{add_refusal, replace_refusal, room_causes}
 use Rattle.syn_standing.specs.Causes.{since_causes}
 use Rattle.syn_standing.specs.declared.error.ReplicaError.{ReplicaError}
-use Rattle.syn_standing.specs.declared.error.ReplicaError.TheVariants.{Tree, Journal, Memory, Touched, OldSession, Damaged, WrongPair}
+use Rattle.syn_standing.specs.declared.error.ReplicaError.TheVariants.{Tree, Journal, Memory}
+use Rattle.syn_standing.specs.declared.error.ReplicaError.TheVariants.{Touched, OldSession, Damaged}
+use Rattle.syn_standing.specs.declared.error.ReplicaError.TheVariants.{WrongPair}
 use Rattle.syn_standing.specs.declared.error.ReplicaError.TheVariants as replica_error
 use Rattle.syn_tree.specs.declared.error.TreeError.TheVariants as tree_error
 use Rattle.syn_agent.proofs.CauseLemmas.{Never, history_is_none, never_first, none_is_no, rooms}
@@ -28,7 +32,8 @@ use Rattle.syn_agent.proofs.CauseLemmas.{tree_is_none}
 use Rattle.syn_replica.proofs.RoomLemmas.{spelled_long}
 
 -- a device call that failed is the journal's
-pub device_or_other : (e : ReplicaError) → (e ≡ Journal journal_error.Device) ⊎ (refusal_of e ≢ why.Device)
+pub device_or_other : (e : ReplicaError) →
+    (e ≡ Journal journal_error.Device) ⊎ (refusal_of e ≢ why.Device)
 device_or_other (Tree x) = inr (tree_is_none x)
 device_or_other (replica_error.History x) = inr (history_is_none x)
 device_or_other (Journal journal_error.Device) = inl refl
@@ -45,27 +50,43 @@ device_or_other Damaged = inr (λ d. cc d)
 device_or_other WrongPair = inr (λ d. cc d)
 
 -- no history causes that a device call fails as a side replaces
-pub replace_never : (room : ℕ) (history : History) (token : Token) (path : Path) (since : ℕ) (new : Model) (other : Refusal) → replace_refusal room history token path since new ≡ Some other → other ≢ why.Device
+pub replace_never : (room : ℕ) (history : History) (token : Token) (path : Path) (since : ℕ)
+    (new : Model) (other : Refusal) →
+    replace_refusal room history token path since new ≡ Some other → other ≢ why.Device
 replace_never room history token path since new other is =
     never_first why.Device other
-    ((is_old_token history token, why.OldSession) ∷ since_causes history path since ++ (place_causes (tree_of history) path ++ (full_causes (replace (tree_of history) path new)
-    ++ (position_causes history ++ room_causes room (Replaced token path since new)))))
-    ((λ d. cc d), ((λ d. cc d), ((λ d. cc d), ((λ d. cc d), ((λ d. cc d), ((λ d. cc d), ((λ d. cc d), ((λ d. cc d), tt)))))))) is
+    ((is_old_token history token, why.OldSession) ∷ since_causes history path since
+    ++ (place_causes (tree_of history) path ++ (full_causes (replace (tree_of history) path new)
+    ++ (position_causes history ++ room_causes room (Replaced token path since new))))) (
+      (λ d. cc d),
+      (
+        (λ d. cc d),
+        (
+          (λ d. cc d),
+          ((λ d. cc d), ((λ d. cc d), ((λ d. cc d), ((λ d. cc d), ((λ d. cc d), tt))))),
+        ),
+      ),
+    ) is
 
 -- the replica and the world name the same causes of an event
-pub same_causes : (pair room : ℕ) (machine : SideMachine) (event : Event) → room ≡ machine.journal.room - 5 → add_refusal room machine.journal.value event ≡ first_cause (causes_of pair machine event)
+pub same_causes : (pair room : ℕ) (machine : SideMachine) (event : Event) →
+    room ≡ machine.journal.room - 5 →
+    add_refusal room machine.journal.value event ≡ first_cause (causes_of pair machine event)
 same_causes pair room machine event is =
     ap (λ b. first_cause (event_causes machine.journal.value event ++ (b, JournalFull) ∷ []))
     (rooms room machine.journal.room (length (event_spelling event)) is (spelled_long event))
 
 -- want of memory is named where no other cause stands
-pub memory_last : (causes : List Cause) → first_cause causes ≡ None → first_cause (causes ++ (true, why.Memory) ∷ []) ≡ Some why.Memory
+pub memory_last : (causes : List Cause) → first_cause causes ≡ None →
+    first_cause (causes ++ (true, why.Memory) ∷ []) ≡ Some why.Memory
 memory_last [] is = refl
 memory_last ((true, first) ∷ causes) is = absurd (none_is_no first (sym is))
 memory_last ((false, first) ∷ causes) is = memory_last causes is
 
 -- the refusals of a checkpoint
-pub checkpoint_one : (e : ReplicaError) → IsOneOf checkpoint_refusals e → (e ≡ Journal journal_error.Halted) ⊎ ((refusal_of e ≡ why.Full) ⊎ ((refusal_of e ≡ why.Memory) ⊎ (e ≡ Journal journal_error.Device)))
+pub checkpoint_one : (e : ReplicaError) → IsOneOf checkpoint_refusals e →
+    (e ≡ Journal journal_error.Halted) ⊎ ((refusal_of e ≡ why.Full)
+    ⊎ ((refusal_of e ≡ why.Memory) ⊎ (e ≡ Journal journal_error.Device)))
 checkpoint_one (Tree tree_error.Full) is = inr (inl refl)
 checkpoint_one (Tree tree_error.Memory) is = inr (inr (inl refl))
 checkpoint_one (Tree tree_error.NoParent) is = cc is
@@ -90,7 +111,8 @@ checkpoint_one Damaged is = cc is
 checkpoint_one WrongPair is = cc is
 
 -- where memory is refused all device calls of an opening were made
-pub after_reads : (e : ReplicaError) (old new : Arms) → refusal_of e ≡ why.Memory → AfterReads 1 e old new → MakesAtLeast 1 old new
+pub after_reads : (e : ReplicaError) (old new : Arms) → refusal_of e ≡ why.Memory →
+    AfterReads 1 e old new → MakesAtLeast 1 old new
 after_reads (Tree x) old new is made = made
 after_reads (replica_error.History x) old new is made = made
 after_reads (Journal journal_error.Device) old new is made = cc is

@@ -5,3 +5,4 @@ pub mod LimitLemmas
 pub mod StepLemmas
 pub mod UpkeepLemmas
 pub mod WorldLemmas
+pub mod UpkeepSteps

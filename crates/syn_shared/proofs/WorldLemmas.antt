@@ -1,51 +1,46 @@
 -- What a hold's call answers and leaves, as a step of the machine that the replica is.
-use Rattle.std.proofs.Common.{◌≡◌, ◌≢◌, ◌⊎◌, ◌+◌, ◌-◌, ◌≤◌, ◌<◌, ◌^◌, ℕ, [], ◌∷◌, ◌++◌, List, length, refl, sym, ap, ◌∙◌, subst, inl, inr, true, false, true≢false, Bool, if◌then◌else◌, Option, None, Some, Result, Ok, Err, arith}
-use Rattle.std.specs.Prelude.{IfOk, IfErr, OnOk, IsErrAnd, ◌↔◌, nat_le}
+use Rattle.std.proofs.Common.{◌≡◌, ◌≢◌, ◌⊎◌, ◌+◌, ◌-◌, ◌≤◌, ℕ, ◌∷◌, ◌++◌, List, length, refl, sym}
+use Rattle.std.proofs.Common.{ap, ◌∙◌, subst, inl, inr, true, false, Bool, if◌then◌else◌, Option}
+use Rattle.std.proofs.Common.{None, Some, Result, Ok, Err, arith, []}
+use Rattle.std.specs.Prelude.{IfOk, IfErr, OnOk, IsErrAnd, ◌↔◌}
 use Rattle.std.specs.Result.{MatchResult}
-use Rattle.std.proofs.lemmas.Bool.Decides.{leb_tells}
 use Rattle.std.proofs.lemmas.List.{length-append}
-use Rattle.syn_agent.specs.Machines.{IsOf, StandsAs, UpIsOf, WrittenIsOf, CompactedIsOf}
+use Rattle.syn_agent.specs.Machines.{IsOf, StandsAs, UpIsOf, WrittenIsOf}
 use Rattle.syn_agent.specs.declared.agent.Agent.{Agent}
-use Rattle.syn_disk.specs.Calls.{Makes, MakesAtLeast}
-use Rattle.syn_disk.specs.Stops.{LeavesOnly, Untouched}
+use Rattle.syn_disk.specs.Calls.{Makes}
+use Rattle.syn_disk.specs.Stops.{LeavesOnly}
 use Rattle.syn_disk.specs.declared.disk.Disk.{Ghosts}
-use Rattle.syn_headline.specs.Machine.{Status, Up, Halted, Down, Journaled}
-use Rattle.syn_headline.specs.SideMachine.{SideMachine, causes_of, staging_after}
-use Rattle.syn_headline.specs.World.{is_halted, full_generation}
-use Rattle.syn_journal.specs.Journal as journal
-use Rattle.syn_journal.specs.Layout.{image_alone}
+use Rattle.syn_headline.specs.Machine.{Status, Up, Halted, Down}
+use Rattle.syn_headline.specs.SideMachine.{SideMachine, causes_of}
+use Rattle.syn_headline.specs.World.{is_halted}
 use Rattle.syn_journal.specs.declared.error.JournalError.TheVariants as journal_error
 use Rattle.syn_model.specs.Event.{Edit, Event, Edited, Replaced, Token}
 use Rattle.syn_model.specs.History.{History}
-use Rattle.syn_model.specs.Image.{image_spelling}
-use Rattle.syn_model.specs.Limits.{greatest}
-use Rattle.syn_model.specs.Path.{Bytes, Path}
+use Rattle.syn_model.specs.Path.{Path}
 use Rattle.syn_model.specs.Refusal.{Refusal, Cause, first_cause}
 use Rattle.syn_model.specs.Refusal as why
-use Rattle.syn_model.specs.Standing.{Standing}
-use Rattle.syn_model.specs.Tree.{Tree as Model}
-use Rattle.syn_recovery.specs.Calls.{BrokenCallsMeet, MadeCallsMeet, MadeReadsMeet}
-use Rattle.syn_recovery.specs.Machines.{of_side, SidesOpen}
-use Rattle.syn_recovery.specs.Meaning.{MayBeOf, MayMean, as_kept, with_record, compacted}
-use Rattle.syn_replica.specs.Disks.{DiskStands}
+use Rattle.syn_recovery.specs.Calls.{BrokenCallsMeet, MadeCallsMeet}
 use Rattle.syn_standing.specs.Refusals.{refusal_of}
-use Rattle.syn_replica.specs.Refusals.{IsOneOf, outside_refusals, checkpoint_refusals, MakesIfDevice, AfterReads}
-use Rattle.syn_replica.specs.Replica.{IsHalted, Stands, Remembers, SameMemory, KeepsReadings, HasRecord, KeepsBeforeOrAfter, KeepsOrCompacts, disk_of, journal_of, room_shown, left_shown, position_shown, standing_shown, generation_shown, pair_of}
+use Rattle.syn_replica.specs.Refusals.{IsOneOf, outside_refusals, MakesIfDevice}
+use Rattle.syn_replica.specs.Replica.{IsHalted, Stands, KeepsReadings, HasRecord}
+use Rattle.syn_replica.specs.Replica.{KeepsBeforeOrAfter, disk_of, journal_of, room_shown}
+use Rattle.syn_replica.specs.Replica.{left_shown}
 use Rattle.syn_replica.specs.Steps.{add_refusal, replace_refusal, replaced, is_done, MakesIfNew}
 use Rattle.syn_standing.specs.declared.error.ReplicaError.{ReplicaError}
 use Rattle.syn_standing.specs.declared.error.ReplicaError.TheVariants.{Journal}
 use Rattle.syn_replica.specs.declared.replica.Replica.{Replica}
-use Rattle.syn_shared.proofs.CauseLemmas.{after_reads, checkpoint_one, device_or_other}
 use Rattle.syn_shared.proofs.CauseLemmas.{memory_last, replace_never, same_causes}
-use Rattle.syn_shared.proofs.EventLemmas.{event_up, event_halted, still_of}
-use Rattle.syn_shared.proofs.UpkeepLemmas.{compacts_ok, compacts_not, opens_again, opens_not, opens_later}
-use Rattle.syn_shared.specs.Machines.{EditsSide, IsMade, IsRefused, IsRefusedEarly, WritesEvent, CompactsSide, keeps, ReopensSide}
-use Rattle.syn_agent.proofs.CauseLemmas.{outside as memory_or_device, edit_never}
+use Rattle.syn_shared.proofs.EventLemmas.{event_up, event_halted}
+use Rattle.syn_shared.specs.Machines.{EditsSide, IsMade, IsRefused, IsRefusedEarly, WritesEvent}
+use Rattle.syn_agent.proofs.CauseLemmas.{edit_never, outside as memory_or_device}
 use Rattle.syn_standing.proofs.CauseLemmas.{first_stays}
+use Rattle.syn_model.specs.Tree.{Tree as Model}
 
 -- where no history causes the answer there is no cause
-no_cause : (answer : Result ℕ ReplicaError) (found : Option Refusal) → ((other : Refusal) → found ≡ Some other → other ≢ why.Device) →
-    ((other : Refusal) → found ≡ Some other → IsErrAnd answer (λ e. (refusal_of e ≡ other) ⊎ (refusal_of e ≡ why.Memory))) →
+no_cause : (answer : Result ℕ ReplicaError) (found : Option Refusal) →
+    ((other : Refusal) → found ≡ Some other → other ≢ why.Device) →
+    ((other : Refusal) → found ≡ Some other →
+    IsErrAnd answer (λ e. (refusal_of e ≡ other) ⊎ (refusal_of e ≡ why.Memory))) →
     MatchResult answer (λ _. found ≡ None) (λ e. refusal_of e ≡ why.Device → found ≡ None)
 no_cause (Ok n) None never refused = refl
 no_cause (Ok n) (Some other) never refused = absurd (refused other refl)
@@ -55,29 +50,41 @@ no_cause (Err e) (Some other) never refused = λ d. absurd (elim (refused other 
   | inr memory ↦ (let k : why.Memory ≡ why.Device = sym memory ∙ d in cc)
 ])
 
-or_memory : (answer : Result ℕ ReplicaError) (other : Refusal) → IsErrAnd answer (λ e. refusal_of e ≡ other) → IsErrAnd answer (λ e. (refusal_of e ≡ other) ⊎ (refusal_of e ≡ why.Memory))
+or_memory : (answer : Result ℕ ReplicaError) (other : Refusal) →
+    IsErrAnd answer (λ e. refusal_of e ≡ other) →
+    IsErrAnd answer (λ e. (refusal_of e ≡ other) ⊎ (refusal_of e ≡ why.Memory))
 or_memory (Ok n) other is = is
 or_memory (Err e) other is = inl is
 
-match_map : {X : Type 0} (answer : Result X ReplicaError) (P Q : Type 0) → (P → Q) → MatchResult answer (λ _. P) (λ e. refusal_of e ≡ why.Device → P) → MatchResult answer (λ _. Q) (λ e. refusal_of e ≡ why.Device → Q)
+match_map : {X : Type 0} (answer : Result X ReplicaError) (P Q : Type 0) → (P → Q) →
+    MatchResult answer (λ _. P) (λ e. refusal_of e ≡ why.Device → P) →
+    MatchResult answer (λ _. Q) (λ e. refusal_of e ≡ why.Device → Q)
 match_map (Ok x) P Q f p = f p
 match_map (Err e) P Q f p = λ d. f (p d)
 
 -- a refusal is the first cause, or memory is wanting
-refused_so : (e : ReplicaError) (causes : List Cause) (found : Option Refusal) → first_cause causes ≡ found → refusal_of e ≢ why.Device → IsOneOf outside_refusals e ⊎ (found ≡ Some (refusal_of e)) →
-    ((other : Refusal) → found ≡ Some other → refusal_of e ≡ other) → first_cause (causes ++ (true, why.Memory) ∷ []) ≡ Some (refusal_of e)
+refused_so : (e : ReplicaError) (causes : List Cause) (found : Option Refusal) →
+    first_cause causes ≡ found → refusal_of e ≢ why.Device →
+    IsOneOf outside_refusals e ⊎ (found ≡ Some (refusal_of e)) →
+    ((other : Refusal) → found ≡ Some other → refusal_of e ≡ other) →
+    first_cause (causes ++ (true, why.Memory) ∷ []) ≡ Some (refusal_of e)
 refused_so e causes found is not (inr some) refused =
     first_stays causes _ (refusal_of e) (is ∙ some)
-refused_so e causes None is not (inl outside) refused = elim (memory_or_device e outside) as (λ _. first_cause (causes ++ (true, why.Memory) ∷ []) ≡ Some (refusal_of e)) [
-  | inl memory ↦ memory_last causes is ∙ ap (λ r. Some r) (sym memory)
-  | inr device ↦ absurd (not device)
-]
+refused_so e causes None is not (inl outside) refused =
+    elim (memory_or_device e outside)
+    as (λ _. first_cause (causes ++ (true, why.Memory) ∷ []) ≡ Some (refusal_of e)) [
+      | inl memory ↦ memory_last causes is ∙ ap (λ r. Some r) (sym memory)
+      | inr device ↦ absurd (not device)
+    ]
 refused_so e causes (Some other) is not (inl outside) refused =
     first_stays causes _ (refusal_of e) (is ∙ ap (λ r. Some r) (sym (refused other refl)))
 
-module _ {D : Type 0} {disk : Ghosts D} (pair : ℕ) (found left : Replica D disk) (agent : Agent) (machine : SideMachine) (is : IsOf pair found agent machine)
-    (counts_now : (d : D) (t : ℕ) (c : List ℕ) → t ≤ disk.moment d → disk.may_leave d c → disk.left_since d t c) (up_law : UpIsOf found) (law : WrittenIsOf) (made : MadeCallsMeet) (broken : BrokenCallsMeet) where
-  abbrev value : History
+module _ {D : Type 0} {disk : Ghosts D} (pair : ℕ) (found left : Replica D disk) (agent : Agent)
+    (machine : SideMachine) (is : IsOf pair found agent machine)
+    (counts_now : (d : D) (t : ℕ) (c : List ℕ) → t ≤ disk.moment d → disk.may_leave d c →
+    disk.left_since d t c) (up_law : UpIsOf found) (law : WrittenIsOf) (made : MadeCallsMeet)
+    (broken : BrokenCallsMeet) where
+  abbrev pub value : History
   value = machine.journal.value
 
   room_is : machine.journal.status ≡ Up → room_shown found ≡ machine.journal.room - 5
@@ -86,14 +93,23 @@ module _ {D : Type 0} {disk : Ghosts D} (pair : ℕ) (found left : Replica D dis
       half : room_shown found ≡ left_shown found - 5
       half = omega arith
 
-  made_up : machine.journal.status ≡ Up → (causes : List Cause) → first_cause causes ≡ None → IsMade machine causes
-  made_up up causes none = subst (λ s. first_cause ((is_halted s, why.Halted) ∷ causes) ≡ None) (sym up) none
+  made_up : machine.journal.status ≡ Up → (causes : List Cause) → first_cause causes ≡ None →
+      IsMade machine causes
+  made_up up causes none =
+      subst (λ s. first_cause ((is_halted s, why.Halted) ∷ causes) ≡ None) (sym up) none
 
-  refused_up : machine.journal.status ≡ Up → (causes : List Cause) (e : ReplicaError) → first_cause (causes ++ (true, why.Memory) ∷ []) ≡ Some (refusal_of e) → IsRefused machine causes e
-  refused_up up causes e some = subst (λ s. first_cause ((is_halted s, why.Halted) ∷ causes ++ (true, why.Memory) ∷ []) ≡ Some (refusal_of e)) (sym up) some
+  refused_up : machine.journal.status ≡ Up → (causes : List Cause) (e : ReplicaError) →
+      first_cause (causes ++ (true, why.Memory) ∷ []) ≡ Some (refusal_of e) →
+      IsRefused machine causes e
+  refused_up up causes e some =
+      subst (λ s. first_cause ((is_halted s, why.Halted) ∷ causes ++ (true, why.Memory) ∷ [])
+      ≡ Some (refusal_of e)) (sym up) some
 
-  refused_halted : machine.journal.status ≡ Halted → (causes : List Cause) → IsRefused machine causes (Journal journal_error.Halted)
-  refused_halted at causes = subst (λ s. first_cause ((is_halted s, why.Halted) ∷ causes ++ (true, why.Memory) ∷ []) ≡ Some why.Halted) (sym at) refl
+  refused_halted : machine.journal.status ≡ Halted → (causes : List Cause) →
+      IsRefused machine causes (Journal journal_error.Halted)
+  refused_halted at causes =
+      subst (λ s. first_cause ((is_halted s, why.Halted) ∷ causes ++ (true, why.Memory) ∷ [])
+      ≡ Some why.Halted) (sym at) refl
 
   module _ (user : ℕ) (edit : Edit) (answer : Result ℕ ReplicaError) where
     abbrev event : Event
@@ -102,37 +118,64 @@ module _ {D : Type 0} {disk : Ghosts D} (pair : ℕ) (found left : Replica D dis
     abbrev causes : List Cause
     causes = causes_of pair machine event
 
-    edit_refused : machine.journal.status ≡ Up → (stands : Stands found value) → (given : Result ℕ ReplicaError) →
-        IfErr given (λ e. IsOneOf outside_refusals e ⊎ (add_refusal (room_shown found) value event ≡ Some (refusal_of e))) →
-        ((other : Refusal) → add_refusal (room_shown found) value event ≡ Some other → IsErrAnd given (λ e. refusal_of e ≡ other)) →
+    edit_refused : machine.journal.status ≡ Up → (stands : Stands found value) →
+        (given : Result ℕ ReplicaError) → IfErr given (λ e. IsOneOf outside_refusals e
+        ⊎ (add_refusal (room_shown found) value event ≡ Some (refusal_of e))) →
+        ((other : Refusal) → add_refusal (room_shown found) value event ≡ Some other →
+        IsErrAnd given (λ e. refusal_of e ≡ other)) →
         IfErr given (λ e. refusal_of e ≢ why.Device → IsRefused machine causes e)
     edit_refused up stands (Ok n) cause refused = tt
     edit_refused up stands (Err e) cause refused = λ not. refused_up up causes e
-        (refused_so e causes (add_refusal (room_shown found) value event) (sym (same_causes pair (room_shown found) machine event (room_is up))) not cause refused)
+        (refused_so e causes (add_refusal (room_shown found) value event)
+        (sym (same_causes pair (room_shown found) machine event (room_is up))) not cause refused)
 
-    pub edit_world : ((history : History) → Stands found history → IfOk answer (λ position. (position ≡ length history + 1) × Stands left (history ++ event ∷ []))) → OnOk answer (HasRecord found left event) →
-        ((history : History) → Stands found history → LeavesOnly disk.moment disk.left_since (disk_of found) (disk_of left) (KeepsBeforeOrAfter found history event)) →
-        ((history : History) → Stands found history → IfErr answer (λ e. IsOneOf outside_refusals e ⊎ (add_refusal (room_shown found) history event ≡ Some (refusal_of e)))) →
-        ((history : History) (other : Refusal) → Stands found history → add_refusal (room_shown found) history event ≡ Some other → IsErrAnd answer (λ e. refusal_of e ≡ other)) →
-        (answer ≡ Err (Journal journal_error.Halted)) ↔ IsHalted found → IfErr answer (λ e. refusal_of e ≡ why.Device → IsHalted left) → IfErr answer (λ e. (refusal_of e ≡ why.Device) ⊎ (journal_of left ≡ journal_of found)) →
-        IfErr answer (λ _. KeepsReadings found left) → MatchResult answer (λ _. Makes 4 (disk.arms (disk_of found)) (disk.arms (disk_of left))) (λ e. MakesIfDevice e 4 (disk.arms (disk_of found)) (disk.arms (disk_of left))) →
+    pub edit_world : ((history : History) → Stands found history → IfOk answer
+        (λ position. (position ≡ length history + 1) × Stands left (history ++ event ∷ []))) →
+        OnOk answer (HasRecord found left event) →
+        ((history : History) → Stands found history → LeavesOnly disk.moment disk.left_since
+        (disk_of found) (disk_of left) (KeepsBeforeOrAfter found history event)) →
+        ((history : History) → Stands found history → IfErr answer (λ e. IsOneOf outside_refusals e
+        ⊎ (add_refusal (room_shown found) history event ≡ Some (refusal_of e)))) →
+        ((history : History) (other : Refusal) → Stands found history →
+        add_refusal (room_shown found) history event ≡ Some other →
+        IsErrAnd answer (λ e. refusal_of e ≡ other)) →
+        (answer ≡ Err (Journal journal_error.Halted)) ↔ IsHalted found →
+        IfErr answer (λ e. refusal_of e ≡ why.Device → IsHalted left) →
+        IfErr answer (λ e. (refusal_of e ≡ why.Device) ⊎ (journal_of left ≡ journal_of found)) →
+        IfErr answer (λ _. KeepsReadings found left) →
+        MatchResult answer (λ _. Makes 4 (disk.arms (disk_of found)) (disk.arms (disk_of left)))
+        (λ e. MakesIfDevice e 4 (disk.arms (disk_of found)) (disk.arms (disk_of left))) →
         EditsSide pair left agent machine event answer
-    edit_world acknowledged record_is moments cause refused halted halts unchanged readings makes = by machine.journal.status refl is.stands
+    edit_world acknowledged record_is moments cause refused halted halts unchanged readings makes =
+        by machine.journal.status refl is.stands
       where
-        by : (status : Status) → machine.journal.status ≡ status → StandsAs status found value → EditsSide pair left agent machine event answer
+        by : (status : Status) → machine.journal.status ≡ status → StandsAs status found value →
+            EditsSide pair left agent machine event answer
         by Up up stands =
-            event_up pair found left agent machine is counts_now event (IsMade machine causes) (IsRefused machine causes) up_law law made broken up stands (moments value stands) answer (acknowledged value stands) record_is halts unchanged readings makes
-            (match_map answer (add_refusal (room_shown found) value event ≡ None) (IsMade machine causes) (λ none. made_up up causes (sym (same_causes pair (room_shown found) machine event (room_is up)) ∙ none))
-            (no_cause answer (add_refusal (room_shown found) value event) (edit_never (room_shown found) value user edit) (λ other some. or_memory answer other (refused value other stands some))))
-            (edit_refused up stands answer (cause value stands) (λ other some. refused value other stands some))
+            event_up pair found left agent machine is counts_now event (IsMade machine causes)
+            (IsRefused machine causes) up_law law made broken up stands (moments value stands)
+            answer (acknowledged value stands) record_is halts unchanged readings makes
+            (match_map answer (add_refusal (room_shown found) value event ≡ None)
+            (IsMade machine causes) (λ none. made_up up causes
+            (sym (same_causes pair (room_shown found) machine event (room_is up)) ∙ none))
+            (no_cause answer (add_refusal (room_shown found) value event)
+            (edit_never (room_shown found) value user edit)
+            (λ other some. or_memory answer other (refused value other stands some))))
+            (edit_refused up stands answer (cause value stands)
+            (λ other some. refused value other stands some))
         by Halted at stands =
             let same = halted.1 stands.0 in
             subst (λ a. EditsSide pair left agent machine event a) (sym same)
-            (event_halted pair found left agent machine is counts_now event (IsMade machine causes) (IsRefused machine causes) up_law law made broken (Journal journal_error.Halted) refl (refused_halted at causes)
-            (subst (λ a. IfErr a (λ e. (refusal_of e ≡ why.Device) ⊎ (journal_of left ≡ journal_of found))) same unchanged) (subst (λ a. IfErr a (λ _. KeepsReadings found left)) same readings))
+            (event_halted pair found left agent machine is counts_now event (IsMade machine causes)
+            (IsRefused machine causes) up_law law made broken
+            (Journal journal_error.Halted) refl (refused_halted at causes)
+            (subst (λ a. IfErr a (λ e. (refusal_of e ≡ why.Device)
+            ⊎ (journal_of left ≡ journal_of found))) same unchanged)
+            (subst (λ a. IfErr a (λ _. KeepsReadings found left)) same readings))
         by Down at stands = absurd stands
 
-  module _ (token : Token) (path : Path) (since : ℕ) (new : Model) (open_is : is_done value token ≡ false) (answer : Result ℕ ReplicaError) where
+  module _ (token : Token) (path : Path) (since : ℕ) (new : Model)
+      (open_is : is_done value token ≡ false) (answer : Result ℕ ReplicaError) where
     abbrev replacement : Event
     replacement = Replaced token path since new
 
@@ -140,186 +183,86 @@ module _ {D : Type 0} {disk : Ghosts D} (pair : ℕ) (found left : Replica D dis
     cause_now = replace_refusal (room_shown found) value token path since new
 
     longer : replaced value token path since new ≡ value ++ replacement ∷ []
-    longer = ap (λ (b : Bool). if b then value else value ++ Replaced token path since new ∷ []) open_is
+    longer =
+        ap (λ (b : Bool). if b then value else value ++ Replaced token path since new ∷ []) open_is
 
-    replaced_ok : (given : Result ℕ ReplicaError) → IfOk given (λ position. (position ≡ length (replaced value token path since new)) × Stands left (replaced value token path since new)) →
-        IfOk given (λ position. (position ≡ length value + 1) × Stands left (value ++ replacement ∷ []))
-    replaced_ok (Ok n) acknowledged = (acknowledged.0 ∙ (ap length longer ∙ length-append value (replacement ∷ [])), subst (λ (h : History). Stands left h) longer acknowledged.1)
+    replaced_ok : (given : Result ℕ ReplicaError) →
+        IfOk given (λ position. (position ≡ length (replaced value token path since new))
+        × Stands left (replaced value token path since new)) → IfOk given
+        (λ position. (position ≡ length value + 1) × Stands left (value ++ replacement ∷ []))
+    replaced_ok (Ok n) acknowledged = (
+      acknowledged.0 ∙ (ap length longer ∙ length-append value (replacement ∷ [])),
+      subst (λ (h : History). Stands left h) longer acknowledged.1,
+    )
     replaced_ok (Err e) acknowledged = tt
 
-    calls_are : (given : Result ℕ ReplicaError) → MatchResult given (λ _. MakesIfNew (is_done value token) (disk.arms (disk_of found)) (disk.arms (disk_of left))) (λ e. MakesIfDevice e 4 (disk.arms (disk_of found)) (disk.arms (disk_of left))) →
-        MatchResult given (λ _. Makes 4 (disk.arms (disk_of found)) (disk.arms (disk_of left))) (λ e. MakesIfDevice e 4 (disk.arms (disk_of found)) (disk.arms (disk_of left)))
-    calls_are (Ok n) makes = subst (λ (b : Bool). MakesIfNew b (disk.arms (disk_of found)) (disk.arms (disk_of left))) open_is makes
+    calls_are : (given : Result ℕ ReplicaError) → MatchResult given (λ _. MakesIfNew
+        (is_done value token) (disk.arms (disk_of found)) (disk.arms (disk_of left)))
+        (λ e. MakesIfDevice e 4 (disk.arms (disk_of found)) (disk.arms (disk_of left))) →
+        MatchResult given (λ _. Makes 4 (disk.arms (disk_of found)) (disk.arms (disk_of left)))
+        (λ e. MakesIfDevice e 4 (disk.arms (disk_of found)) (disk.arms (disk_of left)))
+    calls_are (Ok n) makes =
+        subst (λ (b : Bool). MakesIfNew b (disk.arms (disk_of found)) (disk.arms (disk_of left)))
+        open_is makes
     calls_are (Err e) makes = makes
 
-    refused_early : machine.journal.status ≡ Up → (given : Result ℕ ReplicaError) → IfErr given (λ e. IsOneOf outside_refusals e ⊎ (cause_now ≡ Some (refusal_of e))) → IfErr given (λ e. refusal_of e ≢ why.Device → IsRefusedEarly machine cause_now e)
+    refused_early : machine.journal.status ≡ Up → (given : Result ℕ ReplicaError) →
+        IfErr given (λ e. IsOneOf outside_refusals e ⊎ (cause_now ≡ Some (refusal_of e))) →
+        IfErr given (λ e. refusal_of e ≢ why.Device → IsRefusedEarly machine cause_now e)
     refused_early up (Ok n) cause = tt
     refused_early up (Err e) (inr some) = λ not. inr (up, inr some)
-    refused_early up (Err e) (inl outside) = λ not. elim (memory_or_device e outside) as (λ _. IsRefusedEarly machine cause_now e) [
-      | inl memory ↦ inr (up, inl memory)
-      | inr device ↦ absurd (not device)
-    ]
+    refused_early up (Err e) (inl outside) =
+        λ not. elim (memory_or_device e outside) as (λ _. IsRefusedEarly machine cause_now e) [
+          | inl memory ↦ inr (up, inl memory)
+          | inr device ↦ absurd (not device)
+        ]
 
-    pub replace_world : ((history : History) → Stands found history → let after = replaced history token path since new in IfOk answer (λ position. (position ≡ length after) × Stands left after)) →
-        ((history : History) → Stands found history → is_done history token ≡ false → OnOk answer (HasRecord found left replacement)) →
-        ((history : History) → Stands found history → LeavesOnly disk.moment disk.left_since (disk_of found) (disk_of left) (KeepsBeforeOrAfter found history replacement)) →
-        ((history : History) → Stands found history → IfErr answer (λ e. IsOneOf outside_refusals e ⊎ (replace_refusal (room_shown found) history token path since new ≡ Some (refusal_of e)))) →
-        ((history : History) (other : Refusal) → Stands found history → is_done history token ≡ false → replace_refusal (room_shown found) history token path since new ≡ Some other → IsErrAnd answer (λ e. (refusal_of e ≡ other) ⊎ (refusal_of e ≡ why.Memory))) →
-        (answer ≡ Err (Journal journal_error.Halted)) ↔ IsHalted found → IfErr answer (λ e. refusal_of e ≡ why.Device → IsHalted left) → IfErr answer (λ e. (refusal_of e ≡ why.Device) ⊎ (journal_of left ≡ journal_of found)) →
+    pub replace_world : ((history : History) → Stands found history →
+        let after = replaced history token path since new in
+        IfOk answer (λ position. (position ≡ length after) × Stands left after)) →
+        ((history : History) → Stands found history → is_done history token ≡ false →
+        OnOk answer (HasRecord found left replacement)) →
+        ((history : History) → Stands found history → LeavesOnly disk.moment disk.left_since
+        (disk_of found) (disk_of left) (KeepsBeforeOrAfter found history replacement)) →
+        ((history : History) → Stands found history →
+        IfErr answer (λ e. IsOneOf outside_refusals e ⊎ (replace_refusal
+        (room_shown found) history token path since new ≡ Some (refusal_of e)))) →
+        ((history : History) (other : Refusal) → Stands found history → is_done history token
+        ≡ false → replace_refusal (room_shown found) history token path since new ≡ Some other →
+        IsErrAnd answer (λ e. (refusal_of e ≡ other) ⊎ (refusal_of e ≡ why.Memory))) →
+        (answer ≡ Err (Journal journal_error.Halted)) ↔ IsHalted found →
+        IfErr answer (λ e. refusal_of e ≡ why.Device → IsHalted left) →
+        IfErr answer (λ e. (refusal_of e ≡ why.Device) ⊎ (journal_of left ≡ journal_of found)) →
         IfErr answer (λ _. KeepsReadings found left) →
-        ((history : History) → Stands found history → MatchResult answer (λ _. MakesIfNew (is_done history token) (disk.arms (disk_of found)) (disk.arms (disk_of left))) (λ e. MakesIfDevice e 4 (disk.arms (disk_of found)) (disk.arms (disk_of left)))) →
-        WritesEvent pair left agent machine replacement (cause_now ≡ None) (IsRefusedEarly machine cause_now) answer
-    replace_world acknowledged record_is moments cause refused halted halts unchanged readings makes = by machine.journal.status refl is.stands
+        ((history : History) → Stands found history → MatchResult answer (λ _. MakesIfNew
+        (is_done history token) (disk.arms (disk_of found)) (disk.arms (disk_of left)))
+        (λ e. MakesIfDevice e 4 (disk.arms (disk_of found)) (disk.arms (disk_of left)))) →
+        WritesEvent pair left agent machine replacement (cause_now ≡ None)
+        (IsRefusedEarly machine cause_now) answer
+    replace_world acknowledged record_is moments cause refused halted halts unchanged readings
+        makes =
+        by machine.journal.status refl is.stands
       where
-        by : (status : Status) → machine.journal.status ≡ status → StandsAs status found value → WritesEvent pair left agent machine replacement (cause_now ≡ None) (IsRefusedEarly machine cause_now) answer
+        by : (status : Status) → machine.journal.status ≡ status → StandsAs status found value →
+            WritesEvent pair left agent machine replacement (cause_now ≡ None)
+            (IsRefusedEarly machine cause_now) answer
         by Up up stands =
-            event_up pair found left agent machine is counts_now replacement (cause_now ≡ None) (IsRefusedEarly machine cause_now) up_law law made broken up stands (moments value stands) answer (replaced_ok answer (acknowledged value stands))
-            (record_is value stands open_is) halts unchanged readings (calls_are answer (makes value stands))
-            (no_cause answer cause_now (replace_never (room_shown found) value token path since new) (λ other some. refused value other stands open_is some)) (refused_early up answer (cause value stands))
+            event_up pair found left agent machine is counts_now replacement (cause_now ≡ None)
+            (IsRefusedEarly machine cause_now) up_law law made broken up stands
+            (moments value stands) answer (replaced_ok answer (acknowledged value stands))
+            (record_is value stands open_is) halts unchanged readings
+            (calls_are answer (makes value stands))
+            (no_cause answer cause_now (replace_never (room_shown found) value token path since new)
+            (λ other some. refused value other stands open_is some))
+            (refused_early up answer (cause value stands))
         by Halted at stands =
             let same = halted.1 stands.0 in
-            subst (λ a. WritesEvent pair left agent machine replacement (cause_now ≡ None) (IsRefusedEarly machine cause_now) a) (sym same)
-            (event_halted pair found left agent machine is counts_now replacement (cause_now ≡ None) (IsRefusedEarly machine cause_now) up_law law made broken (Journal journal_error.Halted) refl (inl (at, refl))
-            (subst (λ a. IfErr a (λ e. (refusal_of e ≡ why.Device) ⊎ (journal_of left ≡ journal_of found))) same unchanged) (subst (λ a. IfErr a (λ _. KeepsReadings found left)) same readings))
+            subst (λ a. WritesEvent pair left agent machine replacement (cause_now ≡ None)
+            (IsRefusedEarly machine cause_now) a) (sym same)
+            (event_halted pair found left agent machine is counts_now replacement (cause_now ≡ None)
+            (IsRefusedEarly machine cause_now) up_law law made broken
+            (Journal journal_error.Halted) refl (inl (at, refl))
+            (subst (λ a. IfErr a (λ e. (refusal_of e ≡ why.Device)
+            ⊎ (journal_of left ≡ journal_of found))) same unchanged)
+            (subst (λ a. IfErr a (λ _. KeepsReadings found left)) same readings))
         by Down at stands = absurd stands
-
--- the greatest generation
-is_greatest : (n : ℕ) → n + 1 ≡ 2 ^ 64 → nat_le greatest n ≡ true
-is_greatest n is = elim (leb_tells greatest n) as (λ _. nat_le greatest n ≡ true) [
-  | inl enough ↦ enough.0
-  | inr few ↦ absurd (let k = few.1 in omega (arith, is, k))
-]
-
-not_greatest : (n : ℕ) → n < 2 ^ 64 → (n + 1 ≡ 2 ^ 64 → ⊥) → nat_le greatest n ≡ false
-not_greatest n fits not = elim (leb_tells greatest n) as (λ _. nat_le greatest n ≡ false) [
-  | inl enough ↦ absurd (not (let k = enough.1 in omega (arith, fits, k)))
-  | inr few ↦ few.0
-]
-
--- the checkpoint of a hold
-module _ {D : Type 0} {disk : Ghosts D} (pair : ℕ) (found left : Replica D disk) (agent : Agent) (machine : SideMachine) (is : IsOf pair found agent machine)
-    (counts_now : (d : D) (t : ℕ) (c : List ℕ) → t ≤ disk.moment d → disk.may_leave d c → disk.left_since d t c) (up_law : UpIsOf found) (law : CompactedIsOf) (made : MadeCallsMeet) (broken : BrokenCallsMeet)
-    (fits : generation_shown found < 2 ^ 64) (memory : SameMemory found left) where
-  made_of : machine.journal.status ≡ Up → nat_le greatest (generation_shown found) ≡ false → IsMade machine (full_generation machine.journal.generation)
-  made_of up few = subst (λ s. first_cause ((is_halted s, why.Halted) ∷ full_generation machine.journal.generation) ≡ None) (sym up)
-      (subst (λ g. first_cause (full_generation g) ≡ None) (sym (is.generation up)) (ap (λ (b : Bool). if b then Some why.Full else None) few))
-
-  refused_of : machine.journal.status ≡ Up → (e : ReplicaError) → first_cause (full_generation (generation_shown found) ++ (true, why.Memory) ∷ []) ≡ Some (refusal_of e) → IsRefused machine (full_generation machine.journal.generation) e
-  refused_of up e some = subst (λ s. first_cause ((is_halted s, why.Halted) ∷ full_generation machine.journal.generation ++ (true, why.Memory) ∷ []) ≡ Some (refusal_of e)) (sym up)
-      (subst (λ g. first_cause (full_generation g ++ (true, why.Memory) ∷ []) ≡ Some (refusal_of e)) (sym (is.generation up)) some)
-
-  by_full : (b : Bool) (e : ReplicaError) → b ≡ true → refusal_of e ≡ why.Full → (if b then Some why.Full else Some why.Memory) ≡ Some (refusal_of e)
-  by_full b e is same = ap (λ (x : Bool). if x then Some why.Full else Some why.Memory) is ∙ ap (λ r. Some r) (sym same)
-
-  by_memory : (b : Bool) (e : ReplicaError) → b ≡ false → refusal_of e ≡ why.Memory → (if b then Some why.Full else Some why.Memory) ≡ Some (refusal_of e)
-  by_memory b e is same = ap (λ (x : Bool). if x then Some why.Full else Some why.Memory) is ∙ ap (λ r. Some r) (sym same)
-
-  checkpoint_up : machine.journal.status ≡ Up → (stands : Stands found machine.journal.value) → LeavesOnly disk.moment disk.left_since (disk_of found) (disk_of left) (KeepsOrCompacts found machine.journal.value) → (answer : Result Unit ReplicaError) →
-      OnOk answer (Stands left machine.journal.value) → OnOk answer (journal.Stands (journal_of left) (image_alone (image_spelling (pair_of found) (standing_shown found)))) → OnOk answer (generation_shown left ≡ generation_shown found + 1) →
-      IfErr answer (λ e. refusal_of e ≡ why.Full → generation_shown found + 1 ≡ 2 ^ 64) → (generation_shown found + 1 ≡ 2 ^ 64 → answer ≡ Err (Journal journal_error.Full)) → IfErr answer (IsOneOf checkpoint_refusals) →
-      (answer ≡ Err (Journal journal_error.Halted) → ⊥) → IfErr answer (λ e. refusal_of e ≡ why.Device → IsHalted left) → IfErr answer (λ _. KeepsReadings found left) → IfErr answer (λ e. (refusal_of e ≡ why.Device) ⊎ (journal_of left ≡ journal_of found)) →
-      MatchResult answer (λ _. Makes 6 (disk.arms (disk_of found)) (disk.arms (disk_of left))) (λ e. MakesIfDevice e 6 (disk.arms (disk_of found)) (disk.arms (disk_of left))) → CompactsSide pair left agent machine answer
-  checkpoint_up up stands moments (Ok x) acknowledged image numbered full first refusals running halts readings unchanged makes =
-      compacts_ok pair found left agent machine is counts_now up stands moments law memory up_law made
-      (made_of up (not_greatest (generation_shown found) fits (λ g. let k : ◌≡◌ {A = Result Unit ReplicaError} (Ok x) (Err (Journal journal_error.Full)) = first g in cc))) acknowledged image numbered makes
-  checkpoint_up up stands moments (Err e) acknowledged image numbered full first refusals running halts readings unchanged makes = elim (checkpoint_one e refusals) as (λ _. CompactsSide pair left agent machine (Err e)) [
-    | inl halted ↦ absurd (running (ap (λ x. Err x) halted))
-    | inr (inl is_full) ↦ keeps e (refused_of up e (by_full (nat_le greatest (generation_shown found)) e (is_greatest (generation_shown found) (full is_full)) is_full)) (unchanged_is e (λ d. let k : why.Full ≡ why.Device = sym is_full ∙ d in cc) unchanged)
-    | inr (inr (inl is_memory)) ↦ keeps e (refused_of up e (by_memory (nat_le greatest (generation_shown found)) e (not_greatest (generation_shown found) fits (λ g. not_full e is_memory (first g))) is_memory)) (unchanged_is e (λ d. let k : why.Memory ≡ why.Device = sym is_memory ∙ d in cc) unchanged)
-    | inr (inr (inr device)) ↦ compacts_not pair found left agent machine is counts_now up stands moments law memory broken
-        (made_of up (not_greatest (generation_shown found) fits (λ g. let k : ◌≡◌ {A = Result Unit ReplicaError} (Err e) (Err (Journal journal_error.Full)) = first g in let d : e ≡ Journal journal_error.Device = device in cc)))
-        (halts (ap refusal_of device)) readings e (ap refusal_of device) (subst (λ x. MakesIfDevice x 6 (disk.arms (disk_of found)) (disk.arms (disk_of left))) device makes)
-  ]
-    where
-      not_full : (e : ReplicaError) → refusal_of e ≡ why.Memory → ◌≡◌ {A = Result Unit ReplicaError} (Err e) (Err (Journal journal_error.Full)) → ⊥
-      not_full e memory same = let k : e ≡ Journal journal_error.Full = (let s : ◌≡◌ {A = Result Unit ReplicaError} (Err e) (Err (Journal journal_error.Full)) = same in cc) in let m : why.Full ≡ why.Memory = sym (ap refusal_of k) ∙ memory in cc
-
-      unchanged_is : (e : ReplicaError) → refusal_of e ≢ why.Device → (refusal_of e ≡ why.Device) ⊎ (journal_of left ≡ journal_of found) → IsOf pair left agent machine
-      unchanged_is e not (inl d) = absurd (not d)
-      unchanged_is e not (inr same) = still_of pair found left agent machine is memory same
-
-  pub checkpoint_world : (answer : Result Unit ReplicaError) → ((history : History) → Stands found history → LeavesOnly disk.moment disk.left_since (disk_of found) (disk_of left) (KeepsOrCompacts found history)) → ((history : History) → Stands found history → OnOk answer (Stands left history)) →
-      OnOk answer (journal.Stands (journal_of left) (image_alone (image_spelling (pair_of found) (standing_shown found)))) → OnOk answer (generation_shown left ≡ generation_shown found + 1) →
-      ((history : History) → Stands found history → IfErr answer (λ e. refusal_of e ≡ why.Full → generation_shown found + 1 ≡ 2 ^ 64)) → (generation_shown found + 1 ≡ 2 ^ 64 → ¬ IsHalted found → answer ≡ Err (Journal journal_error.Full)) →
-      IfErr answer (IsOneOf checkpoint_refusals) → (answer ≡ Err (Journal journal_error.Halted)) ↔ IsHalted found → IfErr answer (λ e. refusal_of e ≡ why.Device → IsHalted left) → IfErr answer (λ _. KeepsReadings found left) →
-      IfErr answer (λ e. (refusal_of e ≡ why.Device) ⊎ (journal_of left ≡ journal_of found)) → MatchResult answer (λ _. Makes 6 (disk.arms (disk_of found)) (disk.arms (disk_of left))) (λ e. MakesIfDevice e 6 (disk.arms (disk_of found)) (disk.arms (disk_of left))) →
-      CompactsSide pair left agent machine answer
-  checkpoint_world answer moments acknowledged image numbered full first refusals halted halts readings unchanged makes = by machine.journal.status refl is.stands
-    where
-      by : (status : Status) → machine.journal.status ≡ status → StandsAs status found machine.journal.value → CompactsSide pair left agent machine answer
-      by Up up stands =
-          let running : ¬ IsHalted found = λ h. true≢false (sym h ∙ stands.runs.running) in
-          checkpoint_up up stands (moments machine.journal.value stands) answer (acknowledged machine.journal.value stands) image numbered (full machine.journal.value stands) (λ g. first g running) refusals (λ same. running (halted.0 same)) halts readings unchanged makes
-      by Halted at stands =
-          let same = halted.1 stands.0 in
-          subst (λ a. CompactsSide pair left agent machine a) (sym same)
-          (keeps (Journal journal_error.Halted) (subst (λ s. first_cause ((is_halted s, why.Halted) ∷ full_generation machine.journal.generation ++ (true, why.Memory) ∷ []) ≡ Some why.Halted) (sym at) refl)
-          (elim (subst (λ a. IfErr a (λ e. (refusal_of e ≡ why.Device) ⊎ (journal_of left ≡ journal_of found))) same unchanged) as (λ _. IsOf pair left agent machine) [
-            | inl d ↦ absurd (let k : why.Halted ≡ why.Device = d in cc)
-            | inr j ↦ still_of pair found left agent machine is memory j
-          ]))
-      by Down at stands = absurd stands
-
--- what the disk of a machine may mean is some history, and not a shorter one
-some_history : (pair : ℕ) (machine : Journaled History Event) (bytes : Bytes) → MayBeOf (of_side pair) machine bytes → (history : History) × DiskStands pair bytes history × (length machine.value ≤ length history)
-some_history pair machine bytes may = by may.means
-  where
-    longer_by : (history : History) (event : Event) → length history ≤ length (history ++ event ∷ [])
-    longer_by history event = let k = length-append history (event ∷ []) in omega (arith, k)
-
-    by : MayMean (of_side pair) machine may.value may.generation → (history : History) × DiskStands pair bytes history × (length machine.value ≤ length history)
-    by (as_kept m) = (machine.value, record { value = may.value; means = may.journal.means; stands = m.stands }, omega arith)
-    by (with_record m) = (machine.value ++ m.added ∷ [], record { value = may.value; means = may.journal.means; stands = m.stands }, longer_by machine.value m.added)
-    by (compacted m) = (machine.value, record { value = may.value; means = may.journal.means; stands = m.stands }, omega arith)
-
--- another opening in a hold
-module _ {D : Type 0} {disk : Ghosts D} (pair : ℕ) (found left : Replica D disk) (agent : Agent) (machine : SideMachine) (is : IsOf pair found agent machine)
-    (untouched : Untouched disk.seen disk.may_leave disk.moment disk.left_since (disk_of found) (disk_of left)) (stays : (d : D) → disk.may_leave d (disk.seen d))
-    (up_law : UpIsOf found) (laws : SidesOpen) (reads : MadeReadsMeet) (broken : BrokenCallsMeet) (same_pair : pair_of left ≡ pair_of found) where
-  remembered : (status : Status) → StandsAs status found machine.journal.value → Remembers found machine.journal.value
-  remembered Up stands = stands.remembers
-  remembered Halted stands = stands.1
-  remembered Down stands = absurd stands
-
-  staged : (status : Status) → StandsAs status found machine.journal.value → staging_after status machine.staging ≡ machine.staging
-  staged Up stands = refl
-  staged Halted stands = refl
-  staged Down stands = absurd stands
-
-  pub reopen_world : (answer : Result Unit ReplicaError) → OnOk answer ((history : History) → DiskStands (pair_of left) (disk.seen (disk_of found)) history → Stands left history) →
-      ((history : History) → DiskStands (pair_of found) (disk.seen (disk_of found)) history → position_shown found ≤ length history → IfErr answer (IsOneOf outside_refusals)) → IfErr answer (λ e. refusal_of e ≢ why.Memory → IsHalted left) →
-      IfErr answer (λ _. SameMemory found left) → IfErr answer (λ _. IsHalted found → IsHalted left) → ((history : History) → Stands found history → IfErr answer (λ _. KeepsReadings found left)) →
-      ((history : History) → Stands found history → IfErr answer (λ e. (refusal_of e ≡ why.Device) ⊎ Stands left history)) →
-      MatchResult answer (λ _. MakesAtLeast 1 (disk.arms (disk_of found)) (disk.arms (disk_of left))) (λ e. AfterReads 1 e (disk.arms (disk_of found)) (disk.arms (disk_of left))) → ReopensSide pair left agent machine answer
-  reopen_world (Ok x) each lawful halts memory halted room unchanged makes = opens_again pair found left agent machine is untouched stays up_law laws reads same_pair each makes
-  reopen_world (Err e) each lawful halts memory halted room unchanged makes = elim (device_or_other e) as (λ _. ReopensSide pair left agent machine (Err e)) [
-    | inl device ↦
-        let d = ap refusal_of device in
-        opens_not pair found left agent machine is untouched stays broken memory (halts (λ m. let k : why.Device ≡ why.Memory = sym d ∙ m in cc)) (remembered machine.journal.status is.stands) e d
-        (subst (λ x. AfterReads 1 x (disk.arms (disk_of found)) (disk.arms (disk_of left))) device makes)
-    | inr not ↦ elim (memory_or_device e outside) as (λ _. ReopensSide pair left agent machine (Err e)) [
-      | inl m ↦ opens_later pair found left agent machine is untouched stays reads memory (λ up. room machine.journal.value (subst (λ s. StandsAs s found machine.journal.value) up is.stands)) (stands_as machine.journal.status is.stands m) e m
-          (after_reads e (disk.arms (disk_of found)) (disk.arms (disk_of left)) m makes) (staged machine.journal.status is.stands)
-      | inr d ↦ absurd (not d)
-    ]
-  ]
-    where
-      here : (history : History) × DiskStands pair (disk.seen (disk_of found)) history × (length machine.journal.value ≤ length history)
-      here = some_history pair machine.journal (disk.seen (disk_of found)) (is.left (disk.seen (disk_of found)) (stays (disk_of found)))
-
-      position : position_shown found ≡ length machine.journal.value
-      position = ap (λ (s : Standing). s.position) (remembered machine.journal.status is.stands).standing
-
-      outside : IsOneOf outside_refusals e
-      outside = lawful here.0 (subst (λ p. DiskStands p (disk.seen (disk_of found)) here.0) (sym is.pair_is) here.1) (let k = here.2 in omega (arith, position, k))
-
-      stands_as : (status : Status) → StandsAs status found machine.journal.value → refusal_of e ≡ why.Memory → StandsAs status left machine.journal.value
-      stands_as Up stands m = elim (unchanged machine.journal.value stands) as (λ _. Stands left machine.journal.value) [
-        | inl d ↦ absurd (not_both m d)
-        | inr now ↦ now
-      ]
-        where
-          not_both : refusal_of e ≡ why.Memory → refusal_of e ≡ why.Device → ⊥
-          not_both a b = let k : why.Memory ≡ why.Device = sym a ∙ b in cc
-      stands_as Halted stands m = (halted stands.0, record { lawful = stands.1.lawful; standing = memory.standing ∙ stands.1.standing })
-      stands_as Down stands m = stands

@@ -1,25 +1,30 @@
 -- The lines of entries, one after the other.
-use Rattle.std.proofs.Common.{◌≡◌, ◌++◌, ◌∷◌, ◌∙◌, ℕ, [], List, Option, Some, None, append_assoc, append-nil, ap}
+use Rattle.std.proofs.Common.{◌≡◌, ◌++◌, ◌∷◌, ◌∙◌, ℕ, [], List, Option, Some, None, append_assoc}
+use Rattle.std.proofs.Common.{append-nil, ap}
 use Rattle.std.proofs.lemmas.Grind.{flat_map-append}
 use Rattle.std.specs.Io.KnownBytes.{Appends}
 use Rattle.syn_model.specs.Tree.{Pair}
 use Rattle.syn_show.specs.Printed.{content_line, lines_of, lines_of_marks, mark_line}
 
 -- what was appended twice was appended in a row
-pub appends_more : (a b c : Option (List ℕ)) (xs ys : List ℕ) → Appends a b xs → Appends b c ys → Appends a c (xs ++ ys)
+pub appends_more : (a b c : Option (List ℕ)) (xs ys : List ℕ) → Appends a b xs → Appends b c ys →
+    Appends a c (xs ++ ys)
 appends_more None b c xs ys h g = tt
 appends_more (Some held) None c xs ys h g = absurd h
 appends_more (Some held) (Some bs) None xs ys h g = absurd g
-appends_more (Some held) (Some bs) (Some cs) xs ys h g = g ∙ (ap (λ z. z ++ ys) h ∙ append_assoc held xs ys)
+appends_more (Some held) (Some bs) (Some cs) xs ys h g =
+    g ∙ (ap (λ z. z ++ ys) h ∙ append_assoc held xs ys)
 
 -- one pair more has its own line
-pub more_lines : (pairs : List Pair) (pair : Pair) → lines_of (pairs ++ pair ∷ []) ≡ lines_of pairs ++ content_line pair.0 pair.1
+pub more_lines : (pairs : List Pair) (pair : Pair) →
+    lines_of (pairs ++ pair ∷ []) ≡ lines_of pairs ++ content_line pair.0 pair.1
 more_lines pairs pair =
     flat_map-append (λ p. content_line p.0 p.1) pairs (pair ∷ [])
     ∙ ap (λ z. lines_of pairs ++ z) (append-nil (content_line pair.0 pair.1))
 
 -- and so has one mark more
-pub more_marks : (pairs : List Pair) (pair : Pair) → lines_of_marks (pairs ++ pair ∷ []) ≡ lines_of_marks pairs ++ mark_line pair.0 pair.1
+pub more_marks : (pairs : List Pair) (pair : Pair) →
+    lines_of_marks (pairs ++ pair ∷ []) ≡ lines_of_marks pairs ++ mark_line pair.0 pair.1
 more_marks pairs pair =
     flat_map-append (λ p. mark_line p.0 p.1) pairs (pair ∷ [])
     ∙ ap (λ z. lines_of_marks pairs ++ z) (append-nil (mark_line pair.0 pair.1))

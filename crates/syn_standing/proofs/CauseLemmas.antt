@@ -1,24 +1,31 @@
 -- What it says that an event has no cause to be refused.
-use Rattle.std.proofs.Common.{◌≡◌, ◌<◌, ◌≤◌, ◌^◌, ◌-◌, ℕ, Bool, true, false, not, nat_le, ◌&&◌, if◌then◌else◌, List, [], ◌∷◌, ◌++◌, length, refl, sym, ap, subst, Some, None, arith}
+use Rattle.std.proofs.Common.{◌≡◌, ◌<◌, ◌≤◌, ◌^◌, ◌-◌, ℕ, Bool, true, false, not, nat_le, ◌&&◌}
+use Rattle.std.proofs.Common.{if◌then◌else◌, List, [], ◌∷◌, ◌++◌, length, refl, sym, ap, subst}
+use Rattle.std.proofs.Common.{Some, None, arith}
 use Rattle.std.specs.FinMap.{len}
 use Rattle.std.proofs.lemmas.Bool.{and_parts}
 use Rattle.std.proofs.lemmas.Option.{none-some}
 use Rattle.std.proofs.lemmas.Bool.Decides.{nat_tests}
 use Rattle.syn_model.specs.Laws.{PutFits, ReplacedIsThere, SubtreeFits, SubtreeFitsPaths}
 use Rattle.syn_model.specs.Tree.{Tree, replace}
-use Rattle.syn_model.specs.Limits.{fits_replica, fits_part, fits_paths, tree_spelling_length, greatest, greatest_spelling}
-use Rattle.syn_model.specs.Event.{Put, MakeDir, Remove, Edit, Event, Edited, Began, Replaced, after_edit}
+use Rattle.syn_model.specs.Limits.{fits_replica, fits_part, fits_paths, tree_spelling_length}
+use Rattle.syn_model.specs.Limits.{greatest, greatest_spelling}
+use Rattle.syn_model.specs.Event.{Put, MakeDir, Remove, Edit, Event, Edited, Began, Replaced}
+use Rattle.syn_model.specs.Event.{after_edit}
 use Rattle.syn_model.specs.Refusal.{Refusal, Full, OldSession, Cause, first_cause}
-use Rattle.syn_model.specs.Standing.{Standing, edit_causes, place_causes, full_causes, full_position, is_old, refusal_at, IsAllowedAt}
+use Rattle.syn_model.specs.Standing.{Standing, edit_causes, place_causes, full_causes}
+use Rattle.syn_model.specs.Standing.{full_position, is_old, refusal_at, IsAllowedAt}
 use Rattle.syn_wire.specs.Events.{IsShort, IsSpelledEvent}
 
 -- of causes in a row none holds just where none of each part does
-pub no_cause : (a b : List Cause) → first_cause (a ++ b) ≡ None → (first_cause a ≡ None) × (first_cause b ≡ None)
+pub no_cause : (a b : List Cause) → first_cause (a ++ b) ≡ None →
+    (first_cause a ≡ None) × (first_cause b ≡ None)
 no_cause [] b e = (refl, e)
 no_cause ((true, why) ∷ a) b e = absurd (none-some _ (sym e))
 no_cause ((false, why) ∷ a) b e = no_cause a b e
 
-pub no_causes : (a b : List Cause) → first_cause a ≡ None → first_cause b ≡ None → first_cause (a ++ b) ≡ None
+pub no_causes : (a b : List Cause) → first_cause a ≡ None → first_cause b ≡ None →
+    first_cause (a ++ b) ≡ None
 no_causes [] b e f = f
 no_causes ((true, why) ∷ a) b e f = absurd (none-some _ (sym e))
 no_causes ((false, why) ∷ a) b e f = no_causes a b e f
@@ -30,7 +37,8 @@ first_skips ((true, why) ∷ a) b e = absurd (none-some _ (sym e))
 first_skips ((false, why) ∷ a) b e = first_skips a b e
 
 -- and the first of some causes is the first of them with others behind
-pub first_stays : (a b : List Cause) (why : Refusal) → first_cause a ≡ Some why → first_cause (a ++ b) ≡ Some why
+pub first_stays : (a b : List Cause) (why : Refusal) → first_cause a ≡ Some why →
+    first_cause (a ++ b) ≡ Some why
 first_stays [] b why e = absurd (none-some _ e)
 first_stays ((true, other) ∷ a) b why e = e
 first_stays ((false, other) ∷ a) b why e = first_stays a b why e
@@ -49,34 +57,47 @@ below_greatest n h = ap (λ b. if b then Some Full else None) (below n h)
     below n h = grind (arith, nat_tests)
 
 -- the limits of each file, directory and path, of those of a replica
-pub limits_of : (tree : Tree) → fits_replica tree ≡ true → (fits_part tree ≡ true) × (fits_paths tree ≡ true)
+pub limits_of : (tree : Tree) → fits_replica tree ≡ true →
+    (fits_part tree ≡ true) × (fits_paths tree ≡ true)
 limits_of tree fits =
     let size = nat_le (tree_spelling_length tree) greatest_spelling in
-    let first = and_parts (nat_le (len tree) 1024 && size && fits_part tree) (fits_paths tree) fits in
+    let first = and_parts (nat_le (len tree) 1024 && size && fits_part tree)
+    (fits_paths tree) fits in
     ((and_parts (nat_le (len tree) 1024 && size) (fits_part tree) first.0).1, first.1)
 
 -- what is put by an allowed event has few bytes
-module _ (put : PutFits) (there : ReplacedIsThere) (below : SubtreeFits) (paths : SubtreeFitsPaths) where
+module _ (put : PutFits) (there : ReplacedIsThere) (below : SubtreeFits)
+    (paths : SubtreeFitsPaths) where
   few : (n : ℕ) → n ≤ 16384 → n < 2 ^ 32
   few n h = omega (arith, h)
 
-  pub short_edit : (tree : Tree) (user : ℕ) (edit : Edit) → first_cause (full_causes (after_edit tree edit)) ≡ None → IsShort (Edited user edit)
-  short_edit tree user (Put path bytes) e = few (length bytes) (put tree path bytes (fits_where (after_edit tree (Put path bytes)) e))
+  pub short_edit : (tree : Tree) (user : ℕ) (edit : Edit) →
+      first_cause (full_causes (after_edit tree edit)) ≡ None → IsShort (Edited user edit)
+  short_edit tree user (Put path bytes) e =
+      few (length bytes) (put tree path bytes (fits_where (after_edit tree (Put path bytes)) e))
   short_edit tree user (MakeDir path) e = tt
   short_edit tree user (Remove path) e = tt
 
-  pub short_at : (standing : Standing) (event : Event) → refusal_at standing event ≡ None → IsShort event
+  pub short_at : (standing : Standing) (event : Event) → refusal_at standing event ≡ None →
+      IsShort event
   short_at s (Edited user edit) none =
-      let full = no_cause (edit_causes s.tree edit) (full_causes (after_edit s.tree edit) ++ full_position s.position) none in
-      short_edit s.tree user edit (no_cause (full_causes (after_edit s.tree edit)) (full_position s.position) full.1).0
+      let full = no_cause (edit_causes s.tree edit)
+      (full_causes (after_edit s.tree edit) ++ full_position s.position) none in
+      short_edit s.tree user edit
+      (no_cause (full_causes (after_edit s.tree edit)) (full_position s.position) full.1).0
   short_at s (Began session) none = tt
   short_at s (Replaced token path since new) none =
       let after = replace s.tree path new in
-      let full = no_cause ((is_old s.session s.token token, OldSession) ∷ place_causes s.tree path) (full_causes after ++ full_position s.position) none in
-      let fits = fits_where after (no_cause (full_causes after) (full_position s.position) full.1).0 in
-      let limits = limits_of after fits in
-      (subst (λ t. fits_part t ≡ true) (there s.tree path new) (below after path limits.0), subst (λ t. fits_paths t ≡ true) (there s.tree path new) (paths after path limits.1))
+      let full = no_cause ((is_old s.session s.token token, OldSession) ∷ place_causes s.tree path)
+      (full_causes after ++ full_position s.position) none in
+      let fits = fits_where after
+      (no_cause (full_causes after) (full_position s.position) full.1).0 in
+      let limits = limits_of after fits in (
+        subst (λ t. fits_part t ≡ true) (there s.tree path new) (below after path limits.0),
+        subst (λ t. fits_paths t ≡ true) (there s.tree path new) (paths after path limits.1),
+      )
 
   -- each event that is allowed is spelled
-  pub spelled_one : (standing : Standing) (event : Event) → IsAllowedAt standing event → IsSpelledEvent event
+  pub spelled_one : (standing : Standing) (event : Event) → IsAllowedAt standing event →
+      IsSpelledEvent event
   spelled_one standing event allowed = (allowed.lawful, short_at standing event allowed.not_refused)

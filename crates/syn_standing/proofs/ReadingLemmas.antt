@@ -1,5 +1,7 @@
 -- What is read of an image and of its payloads.
-use Rattle.std.proofs.Common.{◌≡◌, ◌⊎◌, inl, inr, refl, ◌<◌, ◌+◌, ℕ, List, [], ◌∷◌, ◌++◌, length, map, take, drop, sym, ap, ap₂, ◌∙◌, Some, None, append-nil, append_assoc, slice_index_or}
+use Rattle.std.proofs.Common.{◌≡◌, ◌⊎◌, inl, inr, refl, ◌<◌, ◌+◌, ℕ, List, [], ◌∷◌, ◌++◌, length}
+use Rattle.std.proofs.Common.{map, take, drop, sym, ap, ap₂, ◌∙◌, Some, None, append-nil}
+use Rattle.std.proofs.Common.{append_assoc, slice_index_or}
 use Rattle.std.specs.Global.{Vec}
 use Rattle.std.proofs.lemmas.List.{map-append, map_more, take-append-drop}
 use Rattle.syn_model.specs.Path.{Bytes}
@@ -14,45 +16,64 @@ use Rattle.syn_image.specs.Images.{IsImage, spelled_image, NoImageBeginsAnother}
 use Rattle.syn_standing.specs.Readings.{Replays, IsEventOf, IsImageOf, OneIsGiven, bytes_of_each}
 use Rattle.syn_standing.specs.Readings.{IsOfPayload}
 use Rattle.syn_standing.specs.declared.error.ReplicaError.{ReplicaError}
-use Rattle.syn_standing.specs.declared.error.ReplicaError.TheVariants.{Tree, History, Journal, Memory, Touched, OldSession, Damaged, WrongPair}
+use Rattle.syn_standing.specs.declared.error.ReplicaError.TheVariants.{Tree, History, Journal}
+use Rattle.syn_standing.specs.declared.error.ReplicaError.TheVariants.{Memory, Touched, OldSession}
+use Rattle.syn_standing.specs.declared.error.ReplicaError.TheVariants.{Damaged, WrongPair}
 use Rattle.syn_standing.proofs.AlikeLemmas.{replays_nothing}
 
 -- ---- the whole of what is read, and nothing behind it
 
-module _ (payload : Bytes) (event : Event) (spelled : IsSpelledEvent event) (e : payload ≡ event_spelling event) where
+module _ (payload : Bytes) (event : Event) (spelled : IsSpelledEvent event)
+    (e : payload ≡ event_spelling event) where
   alone : payload ≡ event_spelling event ++ []
   alone = e ∙ sym (append-nil (event_spelling event))
 
   pub event_there : ¬ IsReading IsSpelledEvent event_spelling payload None
   event_there none = none event [] (record { lawful = spelled; spelled = alone })
 
-  pub event_ends : NoEventBeginsAnother → (other : Event) (rest : Bytes) → BeginsWith IsSpelledEvent event_spelling payload other rest → rest ≡ []
-  event_ends tell other rest read = (tell other event rest [] read.lawful spelled (sym read.spelled ∙ alone)).1
+  pub event_ends : NoEventBeginsAnother → (other : Event) (rest : Bytes) →
+      BeginsWith IsSpelledEvent event_spelling payload other rest → rest ≡ []
+  event_ends tell other rest read =
+      (tell other event rest [] read.lawful spelled (sym read.spelled ∙ alone)).1
 
 module _ (image : Bytes) (pair : ℕ) (standing : Standing) (is : IsImageOf image pair standing) where
   image_alone : image ≡ spelled_image (pair, standing) ++ []
   image_alone = is.spelled ∙ sym (append-nil (spelled_image (pair, standing)))
 
   pub image_there : ¬ IsReading IsImage spelled_image image None
-  image_there none = none (pair, standing) [] (record { lawful = (is.fits, is.sound); spelled = image_alone })
+  image_there none =
+      none (pair, standing) [] (record { lawful = (is.fits, is.sound); spelled = image_alone })
 
-  pub image_ends : NoImageBeginsAnother → (other : ℕ × Standing) (rest : Bytes) → BeginsWith IsImage spelled_image image other rest → rest ≡ []
-  image_ends tell other rest read = (tell other (pair, standing) rest [] read.lawful (is.fits, is.sound) (sym read.spelled ∙ image_alone)).1
+  pub image_ends : NoImageBeginsAnother → (other : ℕ × Standing) (rest : Bytes) →
+      BeginsWith IsImage spelled_image image other rest → rest ≡ []
+  image_ends tell other rest read =
+      (tell other (pair, standing) rest
+      [] read.lawful (is.fits, is.sound) (sym read.spelled ∙ image_alone)).1
 
 -- with nothing behind it the whole is what was read
-pub event_whole : (payload rest : Bytes) (event : Event) → BeginsWith IsSpelledEvent event_spelling payload event rest → rest ≡ [] → IsEventOf payload (Some event)
-event_whole payload rest event read empty = (read.lawful, read.spelled ∙ (ap (λ xs. event_spelling event ++ xs) empty ∙ append-nil (event_spelling event)))
+pub event_whole : (payload rest : Bytes) (event : Event) →
+    BeginsWith IsSpelledEvent event_spelling payload event rest → rest ≡ [] →
+    IsEventOf payload (Some event)
+event_whole payload rest event read empty = (
+  read.lawful,
+  read.spelled
+      ∙ (ap (λ xs. event_spelling event ++ xs) empty ∙ append-nil (event_spelling event)),
+)
 
-pub image_whole : (image rest : Bytes) (value : ℕ × Standing) → BeginsWith IsImage spelled_image image value rest → rest ≡ [] → IsImageOf image value.0 value.1
+pub image_whole : (image rest : Bytes) (value : ℕ × Standing) →
+    BeginsWith IsImage spelled_image image value rest → rest ≡ [] → IsImageOf image value.0 value.1
 image_whole image rest value read empty = record {
   fits = read.lawful.0;
   sound = read.lawful.1;
-  spelled = read.spelled ∙ (ap (λ xs. spelled_image value ++ xs) empty ∙ append-nil (spelled_image value));
+  spelled =
+      read.spelled
+      ∙ (ap (λ xs. spelled_image value ++ xs) empty ∙ append-nil (spelled_image value));
 }
 
 -- ---- an image with its payloads
 
-pub gives_of : (image : Bytes) (payloads : List Bytes) (pair : ℕ) (first last : Standing) → IsImageOf image pair first → Replays first payloads last → Gives pair image payloads last
+pub gives_of : (image : Bytes) (payloads : List Bytes) (pair : ℕ) (first last : Standing) →
+    IsImageOf image pair first → Replays first payloads last → Gives pair image payloads last
 gives_of image payloads pair first last is replays = record {
   first = first;
   events = replays.events;
@@ -64,23 +85,29 @@ gives_of image payloads pair first last is replays = record {
 }
 
 -- what an image gives is read of it
-pub same_image : OneIsGiven → (image : Bytes) (p q : ℕ) (s t : Standing) → IsImageOf image p s → IsImageOf image q t → s ≡ t
+pub same_image : OneIsGiven → (image : Bytes) (p q : ℕ) (s t : Standing) → IsImageOf image p s →
+    IsImageOf image q t → s ≡ t
 same_image one image p q s t a b =
-    (one image [] p q s t a.fits b.fits (gives_of image [] p s s a (replays_nothing s)) (gives_of image [] q t t b (replays_nothing t))).1
+    (one image [] p q s t a.fits b.fits (gives_of image [] p s s a (replays_nothing s))
+    (gives_of image [] q t t b (replays_nothing t))).1
 
 -- the payloads in three parts: those that were read, the next one, and the others
-pub row_parts : (payloads : List (Vec ℕ)) (i : ℕ) (payload : Vec ℕ) (events : List Event) → i < length payloads → payload ≡ slice_index_or payloads i payload → bytes_of_each (take i payloads) ≡ map event_spelling events →
-    bytes_of_each payloads ≡ map event_spelling events ++ payload.items ∷ bytes_of_each (drop (i + 1) payloads)
+pub row_parts : (payloads : List (Vec ℕ)) (i : ℕ) (payload : Vec ℕ) (events : List Event) →
+    i < length payloads → payload ≡ slice_index_or payloads i payload →
+    bytes_of_each (take i payloads) ≡ map event_spelling events → bytes_of_each payloads
+    ≡ map event_spelling events ++ payload.items ∷ bytes_of_each (drop (i + 1) payloads)
 row_parts payloads i payload events inside is read =
     let f : Vec ℕ → Bytes = λ p. p.items in
     let rest = bytes_of_each (drop (i + 1) payloads) in
     ap bytes_of_each (sym (take-append-drop (i + 1) payloads))
     ∙ (map-append f (take (i + 1) payloads) (drop (i + 1) payloads)
-    ∙ (ap (λ xs. xs ++ rest) (map_more f payloads i payload inside ∙ ap₂ (λ xs p. xs ++ p.items ∷ []) read (sym is))
+    ∙ (ap (λ xs. xs ++ rest)
+    (map_more f payloads i payload inside ∙ ap₂ (λ xs p. xs ++ p.items ∷ []) read (sym is))
     ∙ append_assoc (map event_spelling events) (payload.items ∷ []) rest))
 
 -- what is refused of payloads that are lawful is memory alone
-pub memory_else : (e : ReplicaError) → IsOfPayload e → (e ≡ Damaged → ⊥) → (e ≡ Memory) ⊎ (e ≡ WrongPair)
+pub memory_else : (e : ReplicaError) → IsOfPayload e → (e ≡ Damaged → ⊥) →
+    (e ≡ Memory) ⊎ (e ≡ WrongPair)
 memory_else (Tree e) of other = absurd of
 memory_else (History e) of other = absurd of
 memory_else (Journal e) of other = absurd of

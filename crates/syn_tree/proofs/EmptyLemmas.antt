@@ -1,10 +1,12 @@
 -- The empty directory.
-use Rattle.std.proofs.Common.{◌≡◌, ◌≤◌, ℕ, true, ◌&&◌, nat_le, [], length, refl, sym, ap, ap₂, ◌∙◌, subst}
+use Rattle.std.proofs.Common.{◌≡◌, ◌≤◌, ℕ, true, ◌&&◌, nat_le, [], length, refl, sym, ap, ap₂, ◌∙◌}
+use Rattle.std.proofs.Common.{subst}
 use Rattle.std.specs.List.{list_all}
 use Rattle.std.specs.FinMap.{len-entries, from_sorted}
 use Rattle.syn_model.specs.Path.{root}
 use Rattle.syn_model.specs.Tree.{IsTree, Directory, at_root, empty_directory}
-use Rattle.syn_model.specs.Limits.{fits_replica, fits_part, fits_paths, fits_path, greatest_spelling}
+use Rattle.syn_model.specs.Limits.{fits_replica, fits_part, fits_paths, fits_path}
+use Rattle.syn_model.specs.Limits.{greatest_spelling}
 use Rattle.syn_model.proofs.HistoryLemmas.{get-at_root}
 use Rattle.syn_placed.specs.Pairs.{Pairs, tree_with, spelling_length}
 use Rattle.syn_tree.specs.Entries.{AreEntries}
@@ -27,7 +29,10 @@ empty_paths = ap (list_all (λ pair. fits_path pair.0)) (entries-one Directory)
 
 empty_fits : fits_replica empty_directory ≡ true
 empty_fits =
-    ap₂ (λ a b. a && b) (ap₂ (λ a b. a && b) (ap₂ (λ m n. nat_le m 1024 && nat_le n greatest_spelling) (len-entries empty_directory ∙ ap length (entries-one Directory)) (ap spelling_length (entries-one Directory))) (one_fits Directory refl)) empty_paths
+    ap₂ (λ a b. a && b)
+    (ap₂ (λ a b. a && b) (ap₂ (λ m n. nat_le m 1024 && nat_le n greatest_spelling)
+    (len-entries empty_directory ∙ ap length (entries-one Directory))
+    (ap spelling_length (entries-one Directory))) (one_fits Directory refl)) empty_paths
 
 pub empty_entries : (es : Pairs) → es ≡ [] → AreEntries es
 empty_entries es e = subst AreEntries (sym e) (record {

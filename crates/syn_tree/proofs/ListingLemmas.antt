@@ -1,5 +1,7 @@
 -- The names in a directory, one pair after the other.
-use Rattle.std.proofs.Common.{List, ◌≡◌, ◌<◌, ◌+◌, ℕ, true, false, [], ◌∷◌, ◌++◌, length, take, refl, sym, ap, ap₂, ◌∙◌, Option, Some, None, is_some, slice_index_or, true≢false, arith}
+use Rattle.std.proofs.Common.{List, ◌≡◌, ◌<◌, ◌+◌, ℕ, true, false, [], ◌∷◌, ◌++◌, length, take}
+use Rattle.std.proofs.Common.{refl, sym, ap, ap₂, ◌∙◌, Option, Some, None, is_some, slice_index_or}
+use Rattle.std.proofs.Common.{true≢false, arith}
 use Rattle.std.specs.Prelude.{option_map, option_and_then}
 use Rattle.std.specs.Borrow.{Bor}
 use Rattle.std.specs.List.{cons_option}
@@ -20,34 +22,50 @@ no_name None h = refl
 no_name (Some n) h = absurd (true≢false h)
 
 -- a path that is no child has no name there
-pub not_named : (above path : Path) → is_child above path ≡ false → option_and_then only_name (strip_prefix above path) ≡ None
+pub not_named : (above path : Path) → is_child above path ≡ false →
+    option_and_then only_name (strip_prefix above path) ≡ None
 not_named above path h = no_name (option_and_then only_name (strip_prefix above path)) h
 
 -- a child has its last name
-pub named_last : (above path : Path) (k : ℕ) (name : Name) → k + 1 ≡ length path → name ≡ slice_index_or path k name → eq_by_cmp path_cmp (take k path) above ≡ true → option_and_then only_name (strip_prefix above path) ≡ Some name
+pub named_last : (above path : Path) (k : ℕ) (name : Name) → k + 1 ≡ length path →
+    name ≡ slice_index_or path k name → eq_by_cmp path_cmp (take k path) above ≡ true →
+    option_and_then only_name (strip_prefix above path) ≡ Some name
 named_last above path k name long last same =
     let whole : path ≡ above ++ name ∷ [] =
-    sym (take-length path) ∙ (ap (λ n. take n path) (sym long) ∙ (take_more path k name (omega (arith, long)) ∙ ap₂ (λ p n. p ++ n ∷ []) (same_path (take k path) above same) (sym last))) in
-    ap (option_and_then only_name) (ap (strip_prefix above) whole ∙ strip_prefix-append above (name ∷ []))
+    sym (take-length path)
+    ∙ (ap (λ n. take n path) (sym long) ∙ (take_more path k name (omega (arith, long))
+    ∙ ap₂ (λ p n. p ++ n ∷ []) (same_path (take k path) above same) (sym last))) in
+    ap (option_and_then only_name)
+    (ap (strip_prefix above) whole ∙ strip_prefix-append above (name ∷ []))
 
 -- what one pair adds to the children
-pub one_more : (above : Path) (x : Pair) (o : Option Name) → option_and_then only_name (strip_prefix above x.0) ≡ o → child_contents above (x ∷ []) ≡ cons_option (option_map (λ name. (name, x.1)) o) []
+pub one_more : (above : Path) (x : Pair) (o : Option Name) →
+    option_and_then only_name (strip_prefix above x.0) ≡ o →
+    child_contents above (x ∷ []) ≡ cons_option (option_map (λ name. (name, x.1)) o) []
 one_more above x o e = ap (λ o. cons_option (option_map (λ name. (name, x.1)) o) []) e
 
-root_unlisted : (path : Path) (ds : Pairs) → child_contents path (rooted ds) ≡ child_contents path ds
+root_unlisted : (path : Path) (ds : Pairs) →
+    child_contents path (rooted ds) ≡ child_contents path ds
 root_unlisted [] ds = refl
 root_unlisted (n ∷ path) ds = refl
 
-pub children-entries : (t : Tree) (path : Path) (ds : Pairs) → entries t ≡ rooted ds → children t path ≡ child_contents path ds
+pub children-entries : (t : Tree) (path : Path) (ds : Pairs) → entries t ≡ rooted ds →
+    children t path ≡ child_contents path ds
 children-entries t path ds e = ap (child_contents path) e ∙ root_unlisted path ds
 
 -- one pair more
-pub contents-more : (above : Path) (list : Pairs) (i : ℕ) (x : Pair) → i < length list → x ≡ slice_index_or list i x → child_contents above (take (i + 1) list) ≡ child_contents above (take i list) ++ child_contents above (x ∷ [])
+pub contents-more : (above : Path) (list : Pairs) (i : ℕ) (x : Pair) → i < length list →
+    x ≡ slice_index_or list i x → child_contents above (take (i + 1) list)
+    ≡ child_contents above (take i list) ++ child_contents above (x ∷ [])
 contents-more above list i x l is =
     ap (child_contents above) (take_more list i x l ∙ ap (λ y. take i list ++ y ∷ []) (sym is))
-    ∙ filter_map-append (λ pair. option_map (λ name. (name, pair.1)) (option_and_then only_name (strip_prefix above pair.0))) (take i list) (x ∷ [])
+    ∙ filter_map-append (λ pair. option_map (λ name. (name, pair.1))
+    (option_and_then only_name (strip_prefix above pair.0))) (take i list) (x ∷ [])
 
 -- one child more has one kind more
-pub kinds-more : (xs : List (Name × Bor Pair)) (x : Name × Bor Pair) → kinds_of (contents_at (xs ++ x ∷ [])) ≡ kinds_of (contents_at xs) ++ (x.0, is_directory_content (Some x.1.now.1)) ∷ []
+pub kinds-more : (xs : List (Name × Bor Pair)) (x : Name × Bor Pair) →
+    kinds_of (contents_at (xs ++ x ∷ []))
+    ≡ kinds_of (contents_at xs) ++ (x.0, is_directory_content (Some x.1.now.1)) ∷ []
 kinds-more [] x = refl
-kinds-more (y ∷ ys) x = ap (λ zs. (y.0, is_directory_content (Some y.1.now.1)) ∷ zs) (kinds-more ys x)
+kinds-more (y ∷ ys) x =
+    ap (λ zs. (y.0, is_directory_content (Some y.1.now.1)) ∷ zs) (kinds-more ys x)

@@ -1,5 +1,9 @@
 -- What is below a path, without the path.
-use Rattle.std.proofs.Common.{◌≡◌, ◌≤◌, ◌<◌, ◌+◌, ℕ, suc, Bool, true, false, cond, not, ◌&&◌, ◌==◌, nat_le, if◌then◌else◌, List, [], ◌∷◌, ◌++◌, filter, length, length-append, take, drop, refl, sym, ap, ap₂, ◌∙◌, subst, Option, Some, None, is_some, IsSome, slice_index_or, All, is_lt, append-nil, true≢false, arith}
+use Rattle.std.proofs.Common.{◌≡◌, ◌≤◌, ◌<◌, ◌+◌, ℕ, suc, Bool, true, false, cond, not, ◌&&◌, ◌==◌}
+use Rattle.std.proofs.Common.{nat_le, if◌then◌else◌, List, [], ◌∷◌, ◌++◌, filter, length}
+use Rattle.std.proofs.Common.{length-append, take, drop, refl, sym, ap, ap₂, ◌∙◌, subst, Option}
+use Rattle.std.proofs.Common.{Some, None, is_some, IsSome, slice_index_or, All, is_lt, append-nil}
+use Rattle.std.proofs.Common.{true≢false, arith}
 use Rattle.std.specs.Prelude.{option_map, option_and_then, flat_map}
 use Rattle.std.specs.List.{cons_option, list_all}
 use Rattle.std.specs.FinMap.{entries, get, get-entries, get-empty, find}
@@ -10,8 +14,10 @@ use Rattle.std.proofs.lemmas.Grind.{flat_map-append}
 use Rattle.std.proofs.lemmas.List.{take_more}
 use Rattle.std.proofs.lemmas.List.Elements.{filter_map-append, All-drop}
 use Rattle.std.proofs.lemmas.List.Folds.{list_all-append}
-use Rattle.syn_model.specs.Path.{Name, Path, IsName, IsPath, path_cmp, root, is_root, strip_prefix, is_prefix, path_spelling}
-use Rattle.syn_model.specs.Tree.{Tree, Content, Contents, Pair, Directory, File, HasParents, IsTree, absent, at_root, subtree, is_directory_content}
+use Rattle.syn_model.specs.Path.{Name, Path, IsName, IsPath, path_cmp, root, is_root, strip_prefix}
+use Rattle.syn_model.specs.Path.{is_prefix, path_spelling}
+use Rattle.syn_model.specs.Tree.{Tree, Content, Contents, Pair, Directory, File, HasParents, IsTree}
+use Rattle.syn_model.specs.Tree.{absent, at_root, subtree, is_directory_content}
 use Rattle.syn_model.proofs.HistoryLemmas.{get-at_root}
 use Rattle.std.specs.Ordering.{eq_by_cmp}
 use Rattle.std.proofs.lemmas.Option.{none-some, same_Some}
@@ -22,28 +28,36 @@ use Rattle.syn_placed.specs.Pairs.{Pairs, rooted, before, within, behind, under}
 use Rattle.syn_tree.specs.Lists.{below_off, stripped}
 use Rattle.syn_tree.specs.Entries.{AreEntries}
 use Rattle.syn_placed.proofs.RisingLemmas.{Rising, After, three_parts}
-use Rattle.syn_placed.proofs.TreeLemmas.{taken, within-taken, rising-taken, rising-entries, entries-subtree}
+use Rattle.syn_placed.proofs.TreeLemmas.{taken, within-taken, rising-taken, rising-entries}
+use Rattle.syn_placed.proofs.TreeLemmas.{entries-subtree}
 use Rattle.syn_placed.proofs.CountLemmas.{kids, kids-append, kids-under, no_root}
 use Rattle.syn_tree.proofs.FitLemmas.{part-pairs, pair_fits}
 use Rattle.syn_tree.proofs.PartLemmas.{subtree-parents}
 use Rattle.syn_tree.proofs.WholeLemmas.{whole_rising, whole_tree}
 
 -- a path with a prefix, and the rest
-pub prefix_rest : (at x : Path) → is_prefix at x ≡ true → strip_prefix at x ≡ Some (drop (length at) x)
+pub prefix_rest : (at x : Path) → is_prefix at x ≡ true →
+    strip_prefix at x ≡ Some (drop (length at) x)
 prefix_rest at x h =
     let r = is_prefix-is at x h in
-    ap (strip_prefix at) r.1 ∙ (strip_prefix-append at r.0 ∙ ap (λ q. Some q) (sym (ap (drop (length at)) r.1 ∙ drop-append_seam at r.0)))
+    ap (strip_prefix at) r.1 ∙ (strip_prefix-append at r.0
+    ∙ ap (λ q. Some q) (sym (ap (drop (length at)) r.1 ∙ drop-append_seam at r.0)))
 
 pub prefix_whole : (at x : Path) → is_prefix at x ≡ true → x ≡ at ++ drop (length at) x
-prefix_whole at x h = let r = is_prefix-is at x h in r.1 ∙ ap (λ q. at ++ q) (sym (ap (drop (length at)) r.1 ∙ drop-append_seam at r.0))
+prefix_whole at x h =
+    let r = is_prefix-is at x h in
+    r.1 ∙ ap (λ q. at ++ q) (sym (ap (drop (length at)) r.1 ∙ drop-append_seam at r.0))
 
 pub prefix_shorter : (at x : Path) → is_prefix at x ≡ true → length at ≤ length x
-prefix_shorter at x h = let r = is_prefix-is at x h in omega (arith, ap length r.1, length-append at r.0)
+prefix_shorter at x h =
+    let r = is_prefix-is at x h in
+    omega (arith, ap length r.1, length-append at r.0)
 
 pub strip_beside : (at : Path) (x : Pair) → is_prefix at x.0 ≡ false → stripped at (x ∷ []) ≡ []
 strip_beside at x h = by_rest (strip_prefix at x.0) h
   where
-    by_rest : (o : Option Path) → is_some o ≡ false → cons_option {X = Pair} (option_and_then {U = Pair} (λ rest. if is_root rest then None else Some (rest, x.1)) o) [] ≡ []
+    by_rest : (o : Option Path) → is_some o ≡ false → cons_option {X = Pair} (option_and_then
+        {U = Pair} (λ rest. if is_root rest then None else Some (rest, x.1)) o) [] ≡ []
     by_rest None k = refl
     by_rest (Some r) k = absurd (true≢false k)
 
@@ -54,26 +68,38 @@ root_of : (q : Path) → (length q == 0) ≡ true → is_root q ≡ true
 root_of [] h = refl
 root_of (n ∷ q) h = absurd (true≢false (sym h ∙ suc_not (length q)))
 
-pub strip_itself : (at : Path) (x : Pair) → is_prefix at x.0 ≡ true → (length (drop (length at) x.0) == 0) ≡ true → stripped at (x ∷ []) ≡ []
+pub strip_itself : (at : Path) (x : Pair) → is_prefix at x.0 ≡ true →
+    (length (drop (length at) x.0) == 0) ≡ true → stripped at (x ∷ []) ≡ []
 strip_itself at x h k =
-    ap (λ o. cons_option (option_and_then (λ rest. if is_root rest then None else Some (rest, x.1)) o) []) (prefix_rest at x.0 h)
-    ∙ ap (λ b. cons_option (if b then None else Some (drop (length at) x.0, x.1)) []) (root_of (drop (length at) x.0) k)
+    ap (λ o. cons_option (option_and_then
+    (λ rest. if is_root rest then None else Some (rest, x.1)) o) []) (prefix_rest at x.0 h)
+    ∙ ap (λ b. cons_option (if b then None else Some (drop (length at) x.0, x.1)) [])
+    (root_of (drop (length at) x.0) k)
 
 below_of : (q : Path) → (length q == 0) ≡ false → is_root q ≡ false
 below_of [] h = absurd (true≢false h)
 below_of (n ∷ q) h = refl
 
-pub strip_below : (at : Path) (x : Pair) → is_prefix at x.0 ≡ true → (length (drop (length at) x.0) == 0) ≡ false → stripped at (x ∷ []) ≡ (drop (length at) x.0, x.1) ∷ []
+pub strip_below : (at : Path) (x : Pair) → is_prefix at x.0 ≡ true →
+    (length (drop (length at) x.0) == 0) ≡ false →
+    stripped at (x ∷ []) ≡ (drop (length at) x.0, x.1) ∷ []
 strip_below at x h k =
-    ap (λ o. cons_option (option_and_then (λ rest. if is_root rest then None else Some (rest, x.1)) o) []) (prefix_rest at x.0 h)
-    ∙ ap (λ b. cons_option (if b then None else Some (drop (length at) x.0, x.1)) []) (below_of (drop (length at) x.0) k)
+    ap (λ o. cons_option (option_and_then
+    (λ rest. if is_root rest then None else Some (rest, x.1)) o) []) (prefix_rest at x.0 h)
+    ∙ ap (λ b. cons_option (if b then None else Some (drop (length at) x.0, x.1)) [])
+    (below_of (drop (length at) x.0) k)
 
-pub strip_more : (at : Path) (list : Pairs) (i : ℕ) (x : Pair) → i < length list → x ≡ slice_index_or list i x → stripped at (take (i + 1) list) ≡ stripped at (take i list) ++ stripped at (x ∷ [])
-strip_more at list i x l is = ap (stripped at) (take_more list i x l ∙ ap (λ y. take i list ++ y ∷ []) (sym is)) ∙ filter_map-append (below_off at) (take i list) (x ∷ [])
+pub strip_more : (at : Path) (list : Pairs) (i : ℕ) (x : Pair) → i < length list →
+    x ≡ slice_index_or list i x →
+    stripped at (take (i + 1) list) ≡ stripped at (take i list) ++ stripped at (x ∷ [])
+strip_more at list i x l is =
+    ap (stripped at) (take_more list i x l ∙ ap (λ y. take i list ++ y ∷ []) (sym is))
+    ∙ filter_map-append (below_off at) (take i list) (x ∷ [])
 
 -- a rest of a lawful path is lawful
 names_behind : (p q : Path) → All IsName (p ++ q) → All IsName q
-names_behind p q h = subst (All IsName) (drop-append_seam p q) (All-drop IsName (length p) (p ++ q) h)
+names_behind p q h =
+    subst (All IsName) (drop-append_seam p q) (All-drop IsName (length p) (p ++ q) h)
 
 spelling_behind : (p q : Path) → length (path_spelling q) ≤ length (path_spelling (p ++ q))
 spelling_behind p q =
@@ -100,21 +126,31 @@ fewer m n h k = grind (arith, nat_tests)
 
 rest_fits : (p q : Path) → fits_path (p ++ q) ≡ true → fits_path q ≡ true
 rest_fits p q h =
-    let both = and_parts (nat_le (length (p ++ q)) 16) (nat_le (length (path_spelling (p ++ q))) 255) h in
-    ap₂ (λ a b. a && b) (shorter (length q) (length (p ++ q)) (omega (arith, length-append p q)) both.0) (smaller (length (path_spelling q)) (length (path_spelling (p ++ q))) (spelling_behind p q) both.1)
+    let both = and_parts (nat_le (length (p ++ q)) 16)
+    (nat_le (length (path_spelling (p ++ q))) 255) h in
+    ap₂ (λ a b. a && b)
+    (shorter (length q) (length (p ++ q)) (omega (arith, length-append p q)) both.0) (smaller
+    (length (path_spelling q)) (length (path_spelling (p ++ q))) (spelling_behind p q) both.1)
 
-paths_under : (at : Path) (us : Pairs) → list_all (λ pair. fits_path pair.0) (under at us) ≡ true → list_all (λ pair. fits_path pair.0) us ≡ true
+paths_under : (at : Path) (us : Pairs) → list_all (λ pair. fits_path pair.0) (under at us) ≡ true →
+    list_all (λ pair. fits_path pair.0) us ≡ true
 paths_under at [] h = refl
 paths_under at (x ∷ us) h =
-    let both = and_parts (fits_path (at ++ x.0)) (list_all (λ pair. fits_path pair.0) (under at us)) h in
+    let both = and_parts (fits_path (at ++ x.0))
+    (list_all (λ pair. fits_path pair.0) (under at us)) h in
     ap₂ (λ a b. a && b) (rest_fits at x.0 both.0) (paths_under at us both.1)
 
 -- what passes in the whole passes in the part at a path
-part_passes : (f : Pair → Bool) (t : Tree) (at : Path) → list_all f (entries t) ≡ true → list_all f (under at (taken at (entries t))) ≡ true
+part_passes : (f : Pair → Bool) (t : Tree) (at : Path) → list_all f (entries t) ≡ true →
+    list_all f (under at (taken at (entries t))) ≡ true
 part_passes f t at h =
     let es = entries t in
-    let first = and_parts (list_all f (before at es)) (list_all f (within at es ++ behind at es)) (sym (list_all-append f (before at es) (within at es ++ behind at es)) ∙ (ap (list_all f) (sym (three_parts at es (rising-entries t))) ∙ h)) in
-    ap (list_all f) (sym (within-taken at es)) ∙ (and_parts (list_all f (within at es)) (list_all f (behind at es)) (sym (list_all-append f (within at es) (behind at es)) ∙ first.1)).0
+    let first = and_parts (list_all f (before at es)) (list_all f (within at es ++ behind at es))
+    (sym (list_all-append f (before at es) (within at es ++ behind at es))
+    ∙ (ap (list_all f) (sym (three_parts at es (rising-entries t))) ∙ h)) in
+    ap (list_all f) (sym (within-taken at es))
+    ∙ (and_parts (list_all f (within at es)) (list_all f (behind at es))
+    (sym (list_all-append f (within at es) (behind at es)) ∙ first.1)).0
 
 kids_in_part : (t : Tree) (at q : Path) → kids q (taken at (entries t)) ≤ kids (at ++ q) (entries t)
 kids_in_part t at q =
@@ -125,38 +161,49 @@ kids_in_part t at q =
     let same = ap (kids (at ++ q)) (within-taken at es) ∙ kids-under at q (taken at es) in
     omega (arith, whole, parts, inner, same)
 
-fits_under : (t : Tree) (at : Path) (us : Pairs) → list_all (pair_fits (entries t)) (under at us) ≡ true → list_all (pair_fits (taken at (entries t))) us ≡ true
+fits_under : (t : Tree) (at : Path) (us : Pairs) →
+    list_all (pair_fits (entries t)) (under at us) ≡ true →
+    list_all (pair_fits (taken at (entries t))) us ≡ true
 fits_under t at [] h = refl
 fits_under t at (x ∷ us) h =
-    let both = and_parts (pair_fits (entries t) (at ++ x.0, x.1)) (list_all (pair_fits (entries t)) (under at us)) h in
+    let both = and_parts (pair_fits (entries t) (at ++ x.0, x.1))
+    (list_all (pair_fits (entries t)) (under at us)) h in
     let one = and_parts (fits_content x.1) (nat_le (kids (at ++ x.0) (entries t)) 256) both.0 in
-    ap₂ (λ a b. a && b) (ap₂ (λ a b. a && b) one.0 (fewer (kids x.0 (taken at (entries t))) (kids (at ++ x.0) (entries t)) (kids_in_part t at x.0) one.1)) (fits_under t at us both.1)
+    ap₂ (λ a b. a && b) (ap₂ (λ a b. a && b) one.0 (fewer (kids x.0 (taken at (entries t)))
+    (kids (at ++ x.0) (entries t)) (kids_in_part t at x.0) one.1)) (fits_under t at us both.1)
 
 subtree_part : (t : Tree) (at : Path) → fits_part t ≡ true → fits_part (subtree t at) ≡ true
 subtree_part t at h =
     part-pairs (subtree t at) ∙ (ap (λ es. list_all (pair_fits es) es) (entries-subtree t at)
-    ∙ fits_under t at (taken at (entries t)) (part_passes (pair_fits (entries t)) t at (sym (part-pairs t) ∙ h)))
+    ∙ fits_under t at (taken at (entries t))
+    (part_passes (pair_fits (entries t)) t at (sym (part-pairs t) ∙ h)))
 
 subtree_paths : (t : Tree) (at : Path) → fits_paths t ≡ true → fits_paths (subtree t at) ≡ true
-subtree_paths t at h = ap (list_all (λ pair. fits_path pair.0)) (entries-subtree t at) ∙ paths_under at (taken at (entries t)) (part_passes (λ pair. fits_path pair.0) t at h)
+subtree_paths t at h =
+    ap (list_all (λ pair. fits_path pair.0)) (entries-subtree t at)
+    ∙ paths_under at (taken at (entries t)) (part_passes (λ pair. fits_path pair.0) t at h)
 
 subtree_tree : (t : Tree) (at : Path) → IsTree t → get t at ≡ Some Directory → IsTree (subtree t at)
 subtree_tree t at tree dir = record {
   rooted = get-subtree t at root ∙ (ap (get t) (append-nil at) ∙ dir);
   part = record {
     parents = subtree-parents t at tree.part.parents;
-    names = λ p h. names_behind at p (tree.part.names (at ++ p) (subst IsSome (get-subtree t at p) h));
+    names =
+        λ p h. names_behind at p (tree.part.names (at ++ p) (subst IsSome (get-subtree t at p) h));
     bytes = λ p contents h. tree.part.bytes (at ++ p) contents (sym (get-subtree t at p) ∙ h);
   };
 }
 
 -- below the root of the part
-strip_taken : (at : Path) (es : Pairs) → stripped at es ≡ filter (λ e. not (is_root e.0)) (taken at es)
+strip_taken : (at : Path) (es : Pairs) →
+    stripped at es ≡ filter (λ e. not (is_root e.0)) (taken at es)
 strip_taken at [] = refl
 strip_taken at (e ∷ es) = by_rest (strip_prefix at e.0) (strip_taken at es)
   where
     by_rest : (o : Option Path) → stripped at es ≡ filter (λ e. not (is_root e.0)) (taken at es) →
-        cons_option (option_and_then (λ rest. if is_root rest then None else Some (rest, e.1)) o) (stripped at es) ≡ filter (λ e. not (is_root e.0)) (cons_option (option_map (λ rest. (rest, e.1)) o) (taken at es))
+        cons_option (option_and_then (λ rest. if is_root rest then None else Some (rest, e.1)) o)
+        (stripped at es) ≡ filter (λ e. not (is_root e.0))
+        (cons_option (option_map (λ rest. (rest, e.1)) o) (taken at es))
     by_rest None rest = rest
     by_rest (Some []) rest = rest
     by_rest (Some (n ∷ r)) rest = ap (λ xs. (n ∷ r, e.1) ∷ xs) rest
@@ -166,29 +213,39 @@ all_below [] h = refl
 all_below (([], c) ∷ es) h = absurd (true≢false (sym (ap is_lt h.0)))
 all_below ((n ∷ r, c) ∷ es) h = ap (λ xs. (n ∷ r, c) ∷ xs) (all_below es h.1)
 
-root_first : (c : Content) (es : Pairs) → Rising es → find path_cmp root es ≡ Some c → (root, c) ∷ filter (λ e. not (is_root e.0)) es ≡ es
+root_first : (c : Content) (es : Pairs) → Rising es → find path_cmp root es ≡ Some c →
+    (root, c) ∷ filter (λ e. not (is_root e.0)) es ≡ es
 root_first c [] h e = absurd (none-some _ e)
-root_first c (([], d) ∷ es) h e = ap₂ (λ (x : Content) xs. (root, x) ∷ xs) (sym (same_Some _ _ e)) (all_below es h.0)
+root_first c (([], d) ∷ es) h e =
+    ap₂ (λ (x : Content) xs. (root, x) ∷ xs) (sym (same_Some _ _ e)) (all_below es h.0)
 root_first c ((n ∷ r, d) ∷ es) h e = absurd (none-some _ (sym (no_root n r es h.0) ∙ e))
 
 -- what stands at a path, and the entries below it, are those of the part there
-pub stripped_part : (t : Tree) (at : Path) (c : Content) → get t at ≡ Some c → (root, c) ∷ stripped at (entries t) ≡ entries (subtree t at)
+pub stripped_part : (t : Tree) (at : Path) (c : Content) → get t at ≡ Some c →
+    (root, c) ∷ stripped at (entries t) ≡ entries (subtree t at)
 stripped_part t at c here =
     let es = entries t in
-    let found = ap (find path_cmp root) (sym (entries-subtree t at)) ∙ (sym (get-entries (subtree t at) root) ∙ (get-subtree t at root ∙ (ap (get t) (append-nil at) ∙ here))) in
+    let found = ap (find path_cmp root) (sym (entries-subtree t at))
+    ∙ (sym (get-entries (subtree t at) root)
+    ∙ (get-subtree t at root ∙ (ap (get t) (append-nil at) ∙ here))) in
     ap (λ xs. (root, c) ∷ xs) (strip_taken at es)
-    ∙ (root_first c (taken at es) (rising-taken at es (rising-entries t)) found ∙ sym (entries-subtree t at))
+    ∙ (root_first c (taken at es) (rising-taken at es (rising-entries t)) found
+    ∙ sym (entries-subtree t at))
 
 -- the entries below a directory are those of its subtree
-pub stripped_entries : (t : Tree) (at : Path) (ds copies : Pairs) → entries t ≡ rooted ds → get t at ≡ Some Directory → copies ≡ stripped at ds → rooted copies ≡ entries (subtree t at)
+pub stripped_entries : (t : Tree) (at : Path) (ds copies : Pairs) → entries t ≡ rooted ds →
+    get t at ≡ Some Directory → copies ≡ stripped at ds → rooted copies ≡ entries (subtree t at)
 stripped_entries t at ds copies all dir e =
-    ap rooted (e ∙ (sym (root_stripped at ds) ∙ ap (stripped at) (sym all))) ∙ stripped_part t at Directory dir
+    ap rooted (e ∙ (sym (root_stripped at ds) ∙ ap (stripped at) (sym all)))
+    ∙ stripped_part t at Directory dir
   where
     root_stripped : (at : Path) (ds : Pairs) → stripped at (rooted ds) ≡ stripped at ds
     root_stripped [] ds = refl
     root_stripped (n ∷ at) ds = refl
 
-pub stripped_lawful : (t : Tree) (at : Path) (ds copies : Pairs) → entries t ≡ rooted ds → IsTree t → fits_part t ≡ true → fits_paths t ≡ true → get t at ≡ Some Directory → copies ≡ stripped at ds → AreEntries copies
+pub stripped_lawful : (t : Tree) (at : Path) (ds copies : Pairs) → entries t ≡ rooted ds →
+    IsTree t → fits_part t ≡ true → fits_paths t ≡ true → get t at ≡ Some Directory →
+    copies ≡ stripped at ds → AreEntries copies
 stripped_lawful t at ds copies all tree part paths dir e =
     let u = subtree t at in
     let whole = stripped_entries t at ds copies all dir e in
@@ -205,23 +262,31 @@ none_of None h = refl
 none_of (Some c) h = absurd (true≢false h)
 
 -- nothing stands below a path where no directory is
-nothing_below : (t : Tree) (at : Path) (n : Name) (r : Path) → HasParents t → is_directory_content (get t at) ≡ false → get t (at ++ n ∷ r) ≡ None
-nothing_below t at n r parents other = none_of (get t (at ++ n ∷ r)) (by_case (is_some (get t (at ++ n ∷ r))) refl)
+nothing_below : (t : Tree) (at : Path) (n : Name) (r : Path) → HasParents t →
+    is_directory_content (get t at) ≡ false → get t (at ++ n ∷ r) ≡ None
+nothing_below t at n r parents other =
+    none_of (get t (at ++ n ∷ r)) (by_case (is_some (get t (at ++ n ∷ r))) refl)
   where
     by_case : (b : Bool) → is_some (get t (at ++ n ∷ r)) ≡ b → b ≡ false
     by_case true e = absurd (true≢false (sym (ap is_directory_content (parents at n r e)) ∙ other))
     by_case false e = refl
 
 pub subtree_none : (t : Tree) (at : Path) → HasParents t → get t at ≡ None → absent ≡ subtree t at
-subtree_none t at parents none = same_tree absent (subtree t at) (λ q. get-empty path_cmp q ∙ sym (get-subtree t at q ∙ by_path q))
+subtree_none t at parents none =
+    same_tree absent (subtree t at)
+    (λ q. get-empty path_cmp q ∙ sym (get-subtree t at q ∙ by_path q))
   where
     by_path : (q : Path) → get t (at ++ q) ≡ None
     by_path [] = ap (get t) (append-nil at) ∙ none
     by_path (n ∷ r) = nothing_below t at n r parents (ap is_directory_content none)
 
-pub subtree_file : (t : Tree) (at : Path) (contents : Contents) → HasParents t → get t at ≡ Some (File contents) → at_root (File contents) ≡ subtree t at
-subtree_file t at contents parents here = same_tree (at_root (File contents)) (subtree t at) (λ q. get-at_root (File contents) q ∙ (by_path q ∙ sym (get-subtree t at q)))
+pub subtree_file : (t : Tree) (at : Path) (contents : Contents) → HasParents t →
+    get t at ≡ Some (File contents) → at_root (File contents) ≡ subtree t at
+subtree_file t at contents parents here =
+    same_tree (at_root (File contents)) (subtree t at)
+    (λ q. get-at_root (File contents) q ∙ (by_path q ∙ sym (get-subtree t at q)))
   where
-    by_path : (q : Path) → cond (eq_by_cmp path_cmp q root) (Some (File contents)) None ≡ get t (at ++ q)
+    by_path : (q : Path) →
+        cond (eq_by_cmp path_cmp q root) (Some (File contents)) None ≡ get t (at ++ q)
     by_path [] = sym (ap (get t) (append-nil at) ∙ here)
     by_path (n ∷ r) = sym (nothing_below t at n r parents (ap is_directory_content here))

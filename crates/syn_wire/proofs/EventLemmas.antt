@@ -1,13 +1,16 @@
 -- The spelling of an event tells it.
-use Rattle.std.proofs.Common.{◌≡◌, ◌≢◌, ℕ, ◌∷◌, ◌++◌, length, sym, ap, ◌∙◌, None, append_assoc, arith}
+use Rattle.std.proofs.Common.{◌≡◌, ◌≢◌, ℕ, ◌∷◌, ◌++◌, length, sym, ap, ◌∙◌, None, append_assoc}
+use Rattle.std.proofs.Common.{arith}
 use Rattle.std.specs.Int.{to_be_bytes, w32}
 use Rattle.syn_model.specs.Path.{Bytes, Path, IsPath, path_spelling}
 use Rattle.syn_model.specs.Tree.{Tree}
-use Rattle.syn_model.specs.Event.{Token, Edited, Began, Replaced, Put, MakeDir, Remove, IsLawfulToken}
+use Rattle.syn_model.specs.Event.{Token, Edited, Began, Replaced, Put, MakeDir, Remove}
+use Rattle.syn_model.specs.Event.{IsLawfulToken}
 use Rattle.syn_model.specs.Spelling.{spelling, token_spelling, event_spelling}
 use Rattle.syn_model.specs.Laws.{NoSpellingBeginsAnother}
 use Rattle.syn_wire.specs.Reads.{IsReading, NoneBeginsAnother}
-use Rattle.syn_wire.specs.Events.{Both, IsFile, IsNumber32, IsNumber64, IsSpelledEvent, both_spelling, file_spelling, number_spelling, number64_spelling}
+use Rattle.syn_wire.specs.Events.{Both, IsFile, IsNumber32, IsNumber64, IsSpelledEvent}
+use Rattle.syn_wire.specs.Events.{both_spelling, file_spelling, number_spelling, number64_spelling}
 use Rattle.syn_wire.specs.Trees.{IsOptionalTree}
 use Rattle.syn_wire.specs.Laws.{NoEventBeginsAnother}
 use Rattle.syn_wire.proofs.NameLemmas.{split, paths_tell, first_or, rest_of}
@@ -18,7 +21,9 @@ use Rattle.syn_wire.proofs.Sequences.{both_tell}
 
 pub file_tells : NoneBeginsAnother IsFile file_spelling
 file_tells v w r s hv hw e =
-    let count = u32_tells (length v) (length w) (v ++ r) (w ++ s) hv.brief hw.brief (sym (append_assoc (to_be_bytes w32 (length v)) v r) ∙ (e ∙ append_assoc (to_be_bytes w32 (length w)) w s)) in
+    let count = u32_tells (length v) (length w) (v ++ r) (w ++ s) hv.brief hw.brief
+    (sym (append_assoc (to_be_bytes w32 (length v)) v r)
+    ∙ (e ∙ append_assoc (to_be_bytes w32 (length w)) w s)) in
     split v w r s count.0 count.1
 
 abbrev pub IsPlace : ℕ × Path → Type 0
@@ -41,7 +46,8 @@ put_tells = both_tell IsPlace IsFile place_spelling file_spelling place_tells fi
 
 pub token_tells : NoneBeginsAnother IsLawfulToken token_spelling
 token_tells v w r s hv hw e =
-    let both = both_tell IsNumber64 IsNumber32 number64_spelling number_spelling u64_tells u32_tells (v.session, v.item) (w.session, w.item) r s hv hw e in
+    let both = both_tell IsNumber64 IsNumber32 number64_spelling number_spelling u64_tells u32_tells
+    (v.session, v.item) (w.session, w.item) r s hv hw e in
     (ap (λ p. record { session = p.0; item = p.1 }) both.0, both.1)
 
 -- the parts of a replacement in a row
@@ -70,12 +76,17 @@ pub since_tells : NoneBeginsAnother IsSince since_spelling
 since_tells = both_tell IsItem IsNumber64 item_spelling number64_spelling item_tells u64_tells
 
 replacement_tells : NoSpellingBeginsAnother → NoneBeginsAnother IsReplacement replacement_spelling
-replacement_tells trees = both_tell IsSince IsOptionalTree since_spelling spelling since_tells (λ t u r s ht hu e. trees t u r s ht.part hu.part ht.fits hu.fits e)
+replacement_tells trees =
+    both_tell IsSince IsOptionalTree since_spelling spelling since_tells
+    (λ t u r s ht hu e. trees t u r s ht.part hu.part ht.fits hu.fits e)
 
-pub replacement_parts : (token : Token) (path : Path) (since : ℕ) (new : Tree) (rest : Bytes) → event_spelling (Replaced token path since new) ++ rest ≡ 5 ∷ (replacement_spelling (((token, path), since), new) ++ rest)
+pub replacement_parts : (token : Token) (path : Path) (since : ℕ) (new : Tree) (rest : Bytes) →
+    event_spelling (Replaced token path since new) ++ rest
+    ≡ 5 ∷ (replacement_spelling (((token, path), since), new) ++ rest)
 replacement_parts token path since new rest =
     ap (λ xs. 5 ∷ (xs ++ rest)) (
-    sym (append_assoc (token_spelling token) (path_spelling path) (number64_spelling since ++ spelling new))
+    sym (append_assoc (token_spelling token) (path_spelling path)
+    (number64_spelling since ++ spelling new))
     ∙ sym (append_assoc (item_spelling (token, path)) (number64_spelling since) (spelling new))
     )
 
@@ -85,84 +96,144 @@ other_kind : {X : Type 0} (a b : ℕ) (x y : Bytes) → a ≢ b → a ∷ x ≡ 
 other_kind a b x y differ e = absurd (differ (ap (λ z. first_or z 0) e))
 
 -- the parts of a put in a row
-pub put_parts : (user : ℕ) (path : Path) (bytes rest : Bytes) → event_spelling (Edited user (Put path bytes)) ++ rest ≡ 1 ∷ (put_spelling ((user, path), bytes) ++ rest)
-put_parts user path bytes rest = ap (λ xs. 1 ∷ (xs ++ rest)) (sym (append_assoc (number_spelling user) (path_spelling path) (file_spelling bytes)))
+pub put_parts : (user : ℕ) (path : Path) (bytes rest : Bytes) → event_spelling
+    (Edited user (Put path bytes)) ++ rest ≡ 1 ∷ (put_spelling ((user, path), bytes) ++ rest)
+put_parts user path bytes rest =
+    ap (λ xs. 1 ∷ (xs ++ rest))
+    (sym (append_assoc (number_spelling user) (path_spelling path) (file_spelling bytes)))
 
 pub event_tells : NoSpellingBeginsAnother → NoEventBeginsAnother
 event_tells trees (Edited u (Put p b)) (Edited v (Put q c)) r s hv hw e =
     let same = put_tells ((u, p), b) ((v, q), c) r s
-    ((hv.0.0, hv.0.1.0), record { bytes = hv.0.1.1; brief = hv.1 }) ((hw.0.0, hw.0.1.0), record { bytes = hw.0.1.1; brief = hw.1 })
+    ((hv.0.0, hv.0.1.0), record { bytes = hv.0.1.1; brief = hv.1 })
+    ((hw.0.0, hw.0.1.0), record { bytes = hw.0.1.1; brief = hw.1 })
     (ap rest_of (sym (put_parts u p b r) ∙ (e ∙ put_parts v q c s))) in
     (ap (λ x. Edited x.0.0 (Put x.0.1 x.1)) same.0, same.1)
-event_tells trees (Edited a (Put b c)) (Edited w (MakeDir x)) r s hv hw e = other_kind 1 2 _ _ (λ same. omega (arith, same)) e
-event_tells trees (Edited a (Put b c)) (Edited w (Remove x)) r s hv hw e = other_kind 1 3 _ _ (λ same. omega (arith, same)) e
-event_tells trees (Edited a (Put b c)) (Began w) r s hv hw e = other_kind 1 4 _ _ (λ same. omega (arith, same)) e
-event_tells trees (Edited a (Put b c)) (Replaced w x y z) r s hv hw e = other_kind 1 5 _ _ (λ same. omega (arith, same)) e
-event_tells trees (Edited a (MakeDir b)) (Edited w (Put x y)) r s hv hw e = other_kind 2 1 _ _ (λ same. omega (arith, same)) e
+event_tells trees (Edited a (Put b c)) (Edited w (MakeDir x)) r s hv hw e =
+    other_kind 1 2 _ _ (λ same. omega (arith, same)) e
+event_tells trees (Edited a (Put b c)) (Edited w (Remove x)) r s hv hw e =
+    other_kind 1 3 _ _ (λ same. omega (arith, same)) e
+event_tells trees (Edited a (Put b c)) (Began w) r s hv hw e =
+    other_kind 1 4 _ _ (λ same. omega (arith, same)) e
+event_tells trees (Edited a (Put b c)) (Replaced w x y z) r s hv hw e =
+    other_kind 1 5 _ _ (λ same. omega (arith, same)) e
+event_tells trees (Edited a (MakeDir b)) (Edited w (Put x y)) r s hv hw e =
+    other_kind 2 1 _ _ (λ same. omega (arith, same)) e
 event_tells trees (Edited u (MakeDir p)) (Edited v (MakeDir q)) r s hv hw e =
     let same = place_tells (u, p) (v, q) r s hv.0 hw.0 (ap rest_of e) in
     (ap (λ x. Edited x.0 (MakeDir x.1)) same.0, same.1)
-event_tells trees (Edited a (MakeDir b)) (Edited w (Remove x)) r s hv hw e = other_kind 2 3 _ _ (λ same. omega (arith, same)) e
-event_tells trees (Edited a (MakeDir b)) (Began w) r s hv hw e = other_kind 2 4 _ _ (λ same. omega (arith, same)) e
-event_tells trees (Edited a (MakeDir b)) (Replaced w x y z) r s hv hw e = other_kind 2 5 _ _ (λ same. omega (arith, same)) e
-event_tells trees (Edited a (Remove b)) (Edited w (Put x y)) r s hv hw e = other_kind 3 1 _ _ (λ same. omega (arith, same)) e
-event_tells trees (Edited a (Remove b)) (Edited w (MakeDir x)) r s hv hw e = other_kind 3 2 _ _ (λ same. omega (arith, same)) e
+event_tells trees (Edited a (MakeDir b)) (Edited w (Remove x)) r s hv hw e =
+    other_kind 2 3 _ _ (λ same. omega (arith, same)) e
+event_tells trees (Edited a (MakeDir b)) (Began w) r s hv hw e =
+    other_kind 2 4 _ _ (λ same. omega (arith, same)) e
+event_tells trees (Edited a (MakeDir b)) (Replaced w x y z) r s hv hw e =
+    other_kind 2 5 _ _ (λ same. omega (arith, same)) e
+event_tells trees (Edited a (Remove b)) (Edited w (Put x y)) r s hv hw e =
+    other_kind 3 1 _ _ (λ same. omega (arith, same)) e
+event_tells trees (Edited a (Remove b)) (Edited w (MakeDir x)) r s hv hw e =
+    other_kind 3 2 _ _ (λ same. omega (arith, same)) e
 event_tells trees (Edited u (Remove p)) (Edited v (Remove q)) r s hv hw e =
     let same = place_tells (u, p) (v, q) r s hv.0 hw.0 (ap rest_of e) in
     (ap (λ x. Edited x.0 (Remove x.1)) same.0, same.1)
-event_tells trees (Edited a (Remove b)) (Began w) r s hv hw e = other_kind 3 4 _ _ (λ same. omega (arith, same)) e
-event_tells trees (Edited a (Remove b)) (Replaced w x y z) r s hv hw e = other_kind 3 5 _ _ (λ same. omega (arith, same)) e
-event_tells trees (Began a) (Edited w (Put x y)) r s hv hw e = other_kind 4 1 _ _ (λ same. omega (arith, same)) e
-event_tells trees (Began a) (Edited w (MakeDir x)) r s hv hw e = other_kind 4 2 _ _ (λ same. omega (arith, same)) e
-event_tells trees (Began a) (Edited w (Remove x)) r s hv hw e = other_kind 4 3 _ _ (λ same. omega (arith, same)) e
+event_tells trees (Edited a (Remove b)) (Began w) r s hv hw e =
+    other_kind 3 4 _ _ (λ same. omega (arith, same)) e
+event_tells trees (Edited a (Remove b)) (Replaced w x y z) r s hv hw e =
+    other_kind 3 5 _ _ (λ same. omega (arith, same)) e
+event_tells trees (Began a) (Edited w (Put x y)) r s hv hw e =
+    other_kind 4 1 _ _ (λ same. omega (arith, same)) e
+event_tells trees (Began a) (Edited w (MakeDir x)) r s hv hw e =
+    other_kind 4 2 _ _ (λ same. omega (arith, same)) e
+event_tells trees (Began a) (Edited w (Remove x)) r s hv hw e =
+    other_kind 4 3 _ _ (λ same. omega (arith, same)) e
 event_tells trees (Began m) (Began n) r s hv hw e =
     let same = u64_tells m n r s hv.0 hw.0 (ap rest_of e) in
     (ap (λ x. Began x) same.0, same.1)
-event_tells trees (Began a) (Replaced w x y z) r s hv hw e = other_kind 4 5 _ _ (λ same. omega (arith, same)) e
-event_tells trees (Replaced a b c d) (Edited w (Put x y)) r s hv hw e = other_kind 5 1 _ _ (λ same. omega (arith, same)) e
-event_tells trees (Replaced a b c d) (Edited w (MakeDir x)) r s hv hw e = other_kind 5 2 _ _ (λ same. omega (arith, same)) e
-event_tells trees (Replaced a b c d) (Edited w (Remove x)) r s hv hw e = other_kind 5 3 _ _ (λ same. omega (arith, same)) e
-event_tells trees (Replaced a b c d) (Began w) r s hv hw e = other_kind 5 4 _ _ (λ same. omega (arith, same)) e
+event_tells trees (Began a) (Replaced w x y z) r s hv hw e =
+    other_kind 4 5 _ _ (λ same. omega (arith, same)) e
+event_tells trees (Replaced a b c d) (Edited w (Put x y)) r s hv hw e =
+    other_kind 5 1 _ _ (λ same. omega (arith, same)) e
+event_tells trees (Replaced a b c d) (Edited w (MakeDir x)) r s hv hw e =
+    other_kind 5 2 _ _ (λ same. omega (arith, same)) e
+event_tells trees (Replaced a b c d) (Edited w (Remove x)) r s hv hw e =
+    other_kind 5 3 _ _ (λ same. omega (arith, same)) e
+event_tells trees (Replaced a b c d) (Began w) r s hv hw e =
+    other_kind 5 4 _ _ (λ same. omega (arith, same)) e
 event_tells trees (Replaced t p k new) (Replaced u q l old) r s hv hw e =
     let same = replacement_tells trees (((t, p), k), new) (((u, q), l), old) r s
-    (((hv.0.0, hv.0.1), hv.0.2), record { part = hv.0.3; fits = hv.1.0; paths = hv.1.1 }) (((hw.0.0, hw.0.1), hw.0.2), record { part = hw.0.3; fits = hw.1.0; paths = hw.1.1 })
+    (((hv.0.0, hv.0.1), hv.0.2), record { part = hv.0.3; fits = hv.1.0; paths = hv.1.1 })
+    (((hw.0.0, hw.0.1), hw.0.2), record { part = hw.0.3; fits = hw.1.0; paths = hw.1.1 })
     (ap rest_of (sym (replacement_parts t p k new r) ∙ (e ∙ replacement_parts u q l old s))) in
     (ap (λ x. Replaced x.0.0.0 x.0.0.1 x.0.1 x.1) same.0, same.1)
 
 -- ---- what is read behind a kind
 
-pub put_none : (fields : Bytes) → IsReading IsPutOf put_spelling fields None → IsReading IsSpelledEvent event_spelling (1 ∷ fields) None
+pub put_none : (fields : Bytes) → IsReading IsPutOf put_spelling fields None →
+    IsReading IsSpelledEvent event_spelling (1 ∷ fields) None
 put_none fields none (Edited user (Put path bytes)) rest begins =
     none ((user, path), bytes) rest (record {
-      lawful = ((begins.lawful.0.0, begins.lawful.0.1.0), record { bytes = begins.lawful.0.1.1; brief = begins.lawful.1 });
+      lawful = (
+        (begins.lawful.0.0, begins.lawful.0.1.0),
+        record { bytes = begins.lawful.0.1.1; brief = begins.lawful.1 },
+      );
       spelled = ap rest_of (begins.spelled ∙ put_parts user path bytes rest);
     })
-put_none fields none (Edited w (MakeDir x)) rest begins = other_kind 1 2 _ _ (λ same. omega (arith, same)) begins.spelled
-put_none fields none (Edited w (Remove x)) rest begins = other_kind 1 3 _ _ (λ same. omega (arith, same)) begins.spelled
-put_none fields none (Began w) rest begins = other_kind 1 4 _ _ (λ same. omega (arith, same)) begins.spelled
-put_none fields none (Replaced t p k new) rest begins = other_kind 1 5 _ _ (λ same. omega (arith, same)) begins.spelled
+put_none fields none (Edited w (MakeDir x)) rest begins =
+    other_kind 1 2 _ _ (λ same. omega (arith, same)) begins.spelled
+put_none fields none (Edited w (Remove x)) rest begins =
+    other_kind 1 3 _ _ (λ same. omega (arith, same)) begins.spelled
+put_none fields none (Began w) rest begins =
+    other_kind 1 4 _ _ (λ same. omega (arith, same)) begins.spelled
+put_none fields none (Replaced t p k new) rest begins =
+    other_kind 1 5 _ _ (λ same. omega (arith, same)) begins.spelled
 
-pub make_dir_none : (fields : Bytes) → IsReading IsPlace place_spelling fields None → IsReading IsSpelledEvent event_spelling (2 ∷ fields) None
-make_dir_none fields none (Edited user (MakeDir path)) rest begins = none (user, path) rest (record { lawful = begins.lawful.0; spelled = ap rest_of begins.spelled })
-make_dir_none fields none (Edited w (Put x y)) rest begins = other_kind 2 1 _ _ (λ same. omega (arith, same)) begins.spelled
-make_dir_none fields none (Edited w (Remove x)) rest begins = other_kind 2 3 _ _ (λ same. omega (arith, same)) begins.spelled
-make_dir_none fields none (Began w) rest begins = other_kind 2 4 _ _ (λ same. omega (arith, same)) begins.spelled
-make_dir_none fields none (Replaced t p k new) rest begins = other_kind 2 5 _ _ (λ same. omega (arith, same)) begins.spelled
+pub make_dir_none : (fields : Bytes) → IsReading IsPlace place_spelling fields None →
+    IsReading IsSpelledEvent event_spelling (2 ∷ fields) None
+make_dir_none fields none (Edited user (MakeDir path)) rest begins =
+    none (user, path) rest
+    (record { lawful = begins.lawful.0; spelled = ap rest_of begins.spelled })
+make_dir_none fields none (Edited w (Put x y)) rest begins =
+    other_kind 2 1 _ _ (λ same. omega (arith, same)) begins.spelled
+make_dir_none fields none (Edited w (Remove x)) rest begins =
+    other_kind 2 3 _ _ (λ same. omega (arith, same)) begins.spelled
+make_dir_none fields none (Began w) rest begins =
+    other_kind 2 4 _ _ (λ same. omega (arith, same)) begins.spelled
+make_dir_none fields none (Replaced t p k new) rest begins =
+    other_kind 2 5 _ _ (λ same. omega (arith, same)) begins.spelled
 
-pub remove_none : (fields : Bytes) → IsReading IsPlace place_spelling fields None → IsReading IsSpelledEvent event_spelling (3 ∷ fields) None
-remove_none fields none (Edited user (Remove path)) rest begins = none (user, path) rest (record { lawful = begins.lawful.0; spelled = ap rest_of begins.spelled })
-remove_none fields none (Edited w (Put x y)) rest begins = other_kind 3 1 _ _ (λ same. omega (arith, same)) begins.spelled
-remove_none fields none (Edited w (MakeDir x)) rest begins = other_kind 3 2 _ _ (λ same. omega (arith, same)) begins.spelled
-remove_none fields none (Began w) rest begins = other_kind 3 4 _ _ (λ same. omega (arith, same)) begins.spelled
-remove_none fields none (Replaced t p k new) rest begins = other_kind 3 5 _ _ (λ same. omega (arith, same)) begins.spelled
+pub remove_none : (fields : Bytes) → IsReading IsPlace place_spelling fields None →
+    IsReading IsSpelledEvent event_spelling (3 ∷ fields) None
+remove_none fields none (Edited user (Remove path)) rest begins =
+    none (user, path) rest
+    (record { lawful = begins.lawful.0; spelled = ap rest_of begins.spelled })
+remove_none fields none (Edited w (Put x y)) rest begins =
+    other_kind 3 1 _ _ (λ same. omega (arith, same)) begins.spelled
+remove_none fields none (Edited w (MakeDir x)) rest begins =
+    other_kind 3 2 _ _ (λ same. omega (arith, same)) begins.spelled
+remove_none fields none (Began w) rest begins =
+    other_kind 3 4 _ _ (λ same. omega (arith, same)) begins.spelled
+remove_none fields none (Replaced t p k new) rest begins =
+    other_kind 3 5 _ _ (λ same. omega (arith, same)) begins.spelled
 
-pub replaced_none : (fields : Bytes) → IsReading IsReplacement replacement_spelling fields None → IsReading IsSpelledEvent event_spelling (5 ∷ fields) None
+pub replaced_none : (fields : Bytes) → IsReading IsReplacement replacement_spelling fields None →
+    IsReading IsSpelledEvent event_spelling (5 ∷ fields) None
 replaced_none fields none (Replaced token path since new) rest begins =
     none (((token, path), since), new) rest (record {
-      lawful = (((begins.lawful.0.0, begins.lawful.0.1), begins.lawful.0.2), record { part = begins.lawful.0.3; fits = begins.lawful.1.0; paths = begins.lawful.1.1 });
+      lawful = (
+        ((begins.lawful.0.0, begins.lawful.0.1), begins.lawful.0.2),
+        record {
+          part =
+              begins.lawful.0.3;
+          fits = begins.lawful.1.0;
+          paths = begins.lawful.1.1;
+        },
+      );
       spelled = ap rest_of (begins.spelled ∙ replacement_parts token path since new rest);
     })
-replaced_none fields none (Edited w (Put x y)) rest begins = other_kind 5 1 _ _ (λ same. omega (arith, same)) begins.spelled
-replaced_none fields none (Edited w (MakeDir x)) rest begins = other_kind 5 2 _ _ (λ same. omega (arith, same)) begins.spelled
-replaced_none fields none (Edited w (Remove x)) rest begins = other_kind 5 3 _ _ (λ same. omega (arith, same)) begins.spelled
-replaced_none fields none (Began w) rest begins = other_kind 5 4 _ _ (λ same. omega (arith, same)) begins.spelled
+replaced_none fields none (Edited w (Put x y)) rest begins =
+    other_kind 5 1 _ _ (λ same. omega (arith, same)) begins.spelled
+replaced_none fields none (Edited w (MakeDir x)) rest begins =
+    other_kind 5 2 _ _ (λ same. omega (arith, same)) begins.spelled
+replaced_none fields none (Edited w (Remove x)) rest begins =
+    other_kind 5 3 _ _ (λ same. omega (arith, same)) begins.spelled
+replaced_none fields none (Began w) rest begins =
+    other_kind 5 4 _ _ (λ same. omega (arith, same)) begins.spelled

@@ -1,5 +1,6 @@
 -- What trees of both kinds keep.
-use Rattle.std.proofs.Common.{◌≡◌, ◌<◌, ◌^◌, true, ◌&&◌, nat_le, ◌∷◌, [], length, sym, ap, ◌∙◌, Some, arith}
+use Rattle.std.proofs.Common.{◌≡◌, ◌<◌, ◌^◌, true, ◌&&◌, nat_le, ◌∷◌, [], length, sym, ap, ◌∙◌}
+use Rattle.std.proofs.Common.{Some, arith}
 use Rattle.std.specs.List.{list_all}
 use Rattle.std.specs.FinMap.{get}
 use Rattle.std.proofs.lemmas.Bool.{and_parts, leb-true}
@@ -9,7 +10,8 @@ use Rattle.syn_model.specs.Mark.{IsMarks}
 use Rattle.syn_model.specs.Limits.{children, fits_content, fits_part}
 use Rattle.syn_model.proofs.TreeLemmas.{get-subtree}
 use Rattle.syn_model.proofs.SubtreeLemmas.{subtree-fits, subtree-is_part, subtree_smaller}
-use Rattle.syn_wire.specs.inner.Kinds.{Kind, OfContents, OfMarks, spelling_of, file_spelling_of, IsFileOf, IsPartOf}
+use Rattle.syn_wire.specs.inner.Kinds.{Kind, OfContents, OfMarks, spelling_of, file_spelling_of}
+use Rattle.syn_wire.specs.inner.Kinds.{IsFileOf, IsPartOf}
 use Rattle.syn_wire.specs.Reads.{NoneBeginsAnother}
 use Rattle.syn_wire.proofs.EventLemmas.{file_tells}
 use Rattle.syn_wire.proofs.GroupLemmas.{is_rooted}
@@ -18,11 +20,13 @@ use Rattle.syn_wire.proofs.NameLemmas.{split}
 use Rattle.syn_wire.proofs.WalkLemmas.{content_by, tree_unfolds}
 
 -- what stands at the root keeps its limits
-pub root_fits : (t : Tree) (c : Content) → fits_part t ≡ true → get t root ≡ Some c → (fits_content c ≡ true) × (nat_le (length (children t root)) 256 ≡ true)
+pub root_fits : (t : Tree) (c : Content) → fits_part t ≡ true → get t root ≡ Some c →
+    (fits_content c ≡ true) × (nat_le (length (children t root)) 256 ≡ true)
 root_fits t c h is =
     let rooted = is_rooted t c is in
     let fit : Pair → _ = λ pair. fits_content pair.1 && nat_le (length (children t pair.0)) 256 in
-    and_parts (fits_content c) (nat_le (length (children t root)) 256) (and_parts (fit (root, c)) (list_all fit rooted.below) (ap (list_all fit) (sym rooted.whole) ∙ h)).0
+    and_parts (fits_content c) (nat_le (length (children t root)) 256) (and_parts (fit (root, c))
+    (list_all fit rooted.below) (ap (list_all fit) (sym rooted.whole) ∙ h)).0
 
 -- what is below a path of marks are marks
 marks_below : (t : Tree) (n : Name) → IsMarks t → IsMarks (subtree t (n ∷ []))
@@ -31,7 +35,8 @@ marks_below t n is = record {
   digests = λ q contents e. is.digests (n ∷ q) contents (sym (get-subtree t (n ∷ []) q) ∙ e);
 }
 
-pub unfolds : (kind : Kind) (t : Tree) → spelling_of kind t ≡ content_by (file_spelling_of kind) (spelling_of kind) t (get t root)
+pub unfolds : (kind : Kind) (t : Tree) →
+    spelling_of kind t ≡ content_by (file_spelling_of kind) (spelling_of kind) t (get t root)
 unfolds OfContents t = tree_unfolds t
 unfolds OfMarks t = mark_unfolds t
 
@@ -39,19 +44,27 @@ pub is_part : (kind : Kind) (t : Tree) → IsPartOf kind t → IsPart t
 is_part OfContents t h = h.0
 is_part OfMarks t h = h.0.part
 
-pub is_file : (kind : Kind) (t : Tree) → IsPartOf kind t → (c : Contents) → get t root ≡ Some (File c) → IsFileOf kind c.bytes
+pub is_file : (kind : Kind) (t : Tree) → IsPartOf kind t → (c : Contents) →
+    get t root ≡ Some (File c) → IsFileOf kind c.bytes
 is_file OfContents t h c is =
     let short = leb-true (length c.bytes) 16384 (root_fits t (File c) h.1 is).0 in
     record { bytes = h.0.bytes root c is; brief = omega (arith, short) }
 is_file OfMarks t h c is = (h.0.part.bytes root c is, h.0.digests root c is)
 
-pub has_few : (kind : Kind) (t : Tree) → IsPartOf kind t → (c : Content) → get t root ≡ Some c → length (children t root) < 2 ^ 16
-has_few OfContents t h c is = let small = leb-true (length (children t root)) 256 (root_fits t c h.1 is).1 in omega (arith, small)
+pub has_few : (kind : Kind) (t : Tree) → IsPartOf kind t → (c : Content) → get t root ≡ Some c →
+    length (children t root) < 2 ^ 16
+has_few OfContents t h c is =
+    let small = leb-true (length (children t root)) 256 (root_fits t c h.1 is).1 in
+    omega (arith, small)
 has_few OfMarks t h c is = let small = few_children t root h.1 in omega (arith, small)
 
-pub is_part_below : (kind : Kind) (t : Tree) (n : Name) → is_present t root ≡ true → IsPartOf kind t → IsPartOf kind (subtree t (n ∷ []))
+pub is_part_below : (kind : Kind) (t : Tree) (n : Name) → is_present t root ≡ true →
+    IsPartOf kind t → IsPartOf kind (subtree t (n ∷ []))
 is_part_below OfContents t n is h = (subtree-is_part t (n ∷ []) h.0, subtree-fits t (n ∷ []) h.1)
-is_part_below OfMarks t n is h = let small = subtree_smaller t n [] is in let few = h.1 in (marks_below t n h.0, omega (arith, small, few))
+is_part_below OfMarks t n is h =
+    let small = subtree_smaller t n [] is in
+    let few = h.1 in
+    (marks_below t n h.0, omega (arith, small, few))
 
 -- a spelling of a file tells it
 pub files_tell : (kind : Kind) → NoneBeginsAnother (IsFileOf kind) (file_spelling_of kind)

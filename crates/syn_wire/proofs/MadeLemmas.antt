@@ -1,5 +1,7 @@
 -- Entries that were read make the tree that the bytes spell.
-use Rattle.std.proofs.Common.{◌≡◌, ◌≢◌, ◌<◌, ◌≤◌, ◌^◌, ℕ, Bool, true, false, cond, ◌&&◌, nat_le, [], ◌∷◌, ◌++◌, length, refl, sym, ap, ap₂, ◌∙◌, subst, Option, Some, None, is_some, IsSome, true≢false, arith}
+use Rattle.std.proofs.Common.{◌≡◌, ◌≢◌, ◌<◌, ◌≤◌, ◌^◌, ℕ, Bool, true, false, cond, ◌&&◌, nat_le, []}
+use Rattle.std.proofs.Common.{◌∷◌, ◌++◌, length, refl, sym, ap, ap₂, ◌∙◌, subst, Option, Some, None}
+use Rattle.std.proofs.Common.{is_some, IsSome, true≢false, arith}
 use Rattle.std.specs.Int.{to_be_bytes, w16}
 use Rattle.std.specs.List.{list_all}
 use Rattle.std.specs.Ordering.{eq_by_cmp}
@@ -7,8 +9,10 @@ use Rattle.std.specs.FinMap.{entries, entries_sorted, find, from_sorted, get, ge
 use Rattle.std.proofs.lemmas.Bool.{and_parts, le-leb, leb-true}
 use Rattle.std.proofs.lemmas.Option.{none-some}
 use Rattle.syn_model.specs.Path.{Bytes, Path, IsPath, path_cmp, root}
-use Rattle.syn_model.specs.Tree.{Tree, Content, Directory, File, IsPart, IsTree, absent, contents_of, file}
-use Rattle.syn_model.specs.Limits.{fits_part, fits_path, fits_paths, fits_replica, greatest_spelling, tree_spelling_length}
+use Rattle.syn_model.specs.Tree.{Tree, Content, Directory, File, IsPart, IsTree, absent}
+use Rattle.syn_model.specs.Tree.{contents_of, file}
+use Rattle.syn_model.specs.Limits.{fits_part, fits_path, fits_paths, fits_replica}
+use Rattle.syn_model.specs.Limits.{greatest_spelling, tree_spelling_length}
 use Rattle.syn_model.specs.Spelling.{spelling, content_spelling}
 use Rattle.syn_model.proofs.PathLemmas.{same_path}
 use Rattle.syn_model.proofs.SpellingLemmas.{spelling_unfolds}
@@ -23,7 +27,8 @@ use Rattle.syn_wire.specs.Events.{IsFile, file_spelling}
 use Rattle.syn_wire.specs.Reads.{BeginsWith, IsReading}
 use Rattle.syn_wire.specs.Trees.{NoTreeBeginsAnother, IsDirectoryTree, IsOptionalTree, IsWholeTree}
 use Rattle.syn_wire.specs.inner.Kinds.{OfContents}
-use Rattle.syn_wire.specs.inner.Parts.{ReadsParts, PartsAreRead, StandsAt, parts_pairs, parts_spelling}
+use Rattle.syn_wire.specs.inner.Parts.{ReadsParts, PartsAreRead, StandsAt, parts_pairs}
+use Rattle.syn_wire.specs.inner.Parts.{parts_spelling}
 use Rattle.syn_wire.proofs.EventLemmas.{file_tells}
 use Rattle.syn_wire.proofs.KindLemmas.{root_fits}
 use Rattle.syn_wire.proofs.NameLemmas.{first_or}
@@ -33,12 +38,19 @@ use Rattle.syn_wire.proofs.PartsLemmas.{file_at, directory_at, parts_in, parts_s
 
 -- ---- limits
 
-path_found : (es : Pairs) (q : Path) → list_all (λ pair. fits_path pair.0) es ≡ true → is_some (find path_cmp q es) ≡ true → fits_path q ≡ true
+path_found : (es : Pairs) (q : Path) → list_all (λ pair. fits_path pair.0) es ≡ true →
+    is_some (find path_cmp q es) ≡ true → fits_path q ≡ true
 path_found [] q h is = absurd (true≢false (sym is))
-path_found (e ∷ es) q h is = by_path (eq_by_cmp path_cmp q e.0) refl is (λ some. path_found es q (and_parts (fits_path e.0) (list_all (λ pair. fits_path pair.0) es) h).1 some)
+path_found (e ∷ es) q h is =
+    by_path (eq_by_cmp path_cmp q e.0) refl is (λ some. path_found es q
+    (and_parts (fits_path e.0) (list_all (λ pair. fits_path pair.0) es) h).1 some)
   where
-    by_path : (b : Bool) → eq_by_cmp path_cmp q e.0 ≡ b → is_some (cond b (Some e.1) (find path_cmp q es)) ≡ true → (is_some (find path_cmp q es) ≡ true → fits_path q ≡ true) → fits_path q ≡ true
-    by_path true same some later = ap fits_path (same_path q e.0 same) ∙ (and_parts (fits_path e.0) (list_all (λ pair. fits_path pair.0) es) h).0
+    by_path : (b : Bool) → eq_by_cmp path_cmp q e.0 ≡ b →
+        is_some (cond b (Some e.1) (find path_cmp q es)) ≡ true →
+        (is_some (find path_cmp q es) ≡ true → fits_path q ≡ true) → fits_path q ≡ true
+    by_path true same some later =
+        ap fits_path (same_path q e.0 same)
+        ∙ (and_parts (fits_path e.0) (list_all (λ pair. fits_path pair.0) es) h).0
     by_path false same some later = later some
 
 pub as_optional : (t : Tree) → IsDirectoryTree t → IsOptionalTree t
@@ -46,12 +58,21 @@ as_optional t h = record { part = h.tree.part; fits = h.fits; paths = h.paths }
 
 pub as_directory : (t : Tree) → IsWholeTree t → IsDirectoryTree t
 as_directory t h =
-    let whole = and_parts (nat_le (len t) 1024 && nat_le (tree_spelling_length t) greatest_spelling && fits_part t) (fits_paths t) h.fits in
-    record { tree = h.tree; fits = (and_parts (nat_le (len t) 1024 && nat_le (tree_spelling_length t) greatest_spelling) (fits_part t) whole.0).1; paths = whole.1 }
+    let whole = and_parts (nat_le (len t) 1024 && nat_le (tree_spelling_length t) greatest_spelling
+    && fits_part t) (fits_paths t) h.fits in
+    record {
+      tree = h.tree;
+      fits = (and_parts (nat_le (len t) 1024 && nat_le
+          (tree_spelling_length t) greatest_spelling) (fits_part t) whole.0).1;
+      paths = whole.1;
+    }
 
 -- each path of what keeps the limits of paths is a lawful one
-pub paths_stand : (t : Tree) → IsPart t → fits_paths t ≡ true → (q : Path) → IsSome (get t q) → IsPath q
-paths_stand t part fits q some = fits-path q (part.names q some) (path_found (entries t) q fits (ap is_some (sym (get-entries t q)) ∙ some))
+pub paths_stand : (t : Tree) → IsPart t → fits_paths t ≡ true → (q : Path) → IsSome (get t q) →
+    IsPath q
+paths_stand t part fits q some =
+    fits-path q (part.names q some)
+    (path_found (entries t) q fits (ap is_some (sym (get-entries t q)) ∙ some))
 
 stands_at_root : (t : Tree) → IsDirectoryTree t → StandsAt OfContents root t
 stands_at_root t h = record {
@@ -63,31 +84,46 @@ stands_at_root t h = record {
 -- ---- directories
 
 -- a directory's count and parts stand behind its kind
-pub no_directory_read : (fields : Bytes) → IsReading (λ n. n < 2 ^ 16) (to_be_bytes w16) fields None → (t : Tree) (rest : Bytes) → IsDirectoryTree t → 2 ∷ fields ≡ spelling t ++ rest → ⊥
+pub no_directory_read : (fields : Bytes) →
+    IsReading (λ n. n < 2 ^ 16) (to_be_bytes w16) fields None → (t : Tree) (rest : Bytes) →
+    IsDirectoryTree t → 2 ∷ fields ≡ spelling t ++ rest → ⊥
 no_directory_read fields none t rest h e =
     let d = directory_at OfContents t fields rest (h.tree.part, h.fits) e in
-    none (length (parts_in t)) (parts_spelling OfContents (parts_in t) ++ rest) (record { lawful = d.few; spelled = d.spelled })
+    none (length (parts_in t)) (parts_spelling OfContents (parts_in t) ++ rest)
+    (record { lawful = d.few; spelled = d.spelled })
 
-module _ (fields below : Bytes) (above : Path) (count : ℕ) (found : BeginsWith (λ n. n < 2 ^ 16) (to_be_bytes w16) fields count below) (is_root : above ≡ root) where
-  what_is_read : (old new : Pairs) (left : Option Bytes) → ReadsParts OfContents above count below old new left → (t : Tree) (rest : Bytes) → IsDirectoryTree t → 2 ∷ fields ≡ spelling t ++ rest →
+module _ (fields below : Bytes) (above : Path) (count : ℕ)
+    (found : BeginsWith (λ n. n < 2 ^ 16) (to_be_bytes w16) fields count below)
+    (is_root : above ≡ root) where
+  what_is_read : (old new : Pairs) (left : Option Bytes) →
+      ReadsParts OfContents above count below old new left → (t : Tree) (rest : Bytes) →
+      IsDirectoryTree t → 2 ∷ fields ≡ spelling t ++ rest →
       (left ≡ Some rest) × (new ≡ old ++ parts_pairs root (parts_in t))
   what_is_read old new left read t rest h e =
       let d = directory_at OfContents t fields rest (h.tree.part, h.fits) e in
-      let same = u16_tells count (length (parts_in t)) below (parts_spelling OfContents (parts_in t) ++ rest) found.lawful d.few (sym found.spelled ∙ d.spelled) in
-      subst (λ p. ReadsParts OfContents p count below old new left) is_root read (parts_in t) rest (sym same.0) (parts_stand OfContents root t (stands_at_root t h)) same.1
+      let same = u16_tells count (length (parts_in t)) below (parts_spelling OfContents (parts_in t)
+      ++ rest) found.lawful d.few (sym found.spelled ∙ d.spelled) in
+      subst (λ p. ReadsParts OfContents p count below old new left) is_root read (parts_in t) rest
+      (sym same.0) (parts_stand OfContents root t (stands_at_root t h)) same.1
 
-  pub no_parts_read : (old new : Pairs) → ReadsParts OfContents above count below old new None → (t : Tree) (rest : Bytes) → IsDirectoryTree t → 2 ∷ fields ≡ spelling t ++ rest → ⊥
+  pub no_parts_read : (old new : Pairs) → ReadsParts OfContents above count below old new None →
+      (t : Tree) (rest : Bytes) → IsDirectoryTree t → 2 ∷ fields ≡ spelling t ++ rest → ⊥
   no_parts_read old new none t rest h e = none-some _ (what_is_read old new None none t rest h e).0
 
   -- what was read is below the root of the tree
-  pub all_entries : (old new : Pairs) (left : Bytes) → old ≡ [] → ReadsParts OfContents above count below old new (Some left) → (t : Tree) (rest : Bytes) → IsDirectoryTree t → 2 ∷ fields ≡ spelling t ++ rest → rooted new ≡ entries t
+  pub all_entries : (old new : Pairs) (left : Bytes) → old ≡ [] →
+      ReadsParts OfContents above count below old new (Some left) → (t : Tree) (rest : Bytes) →
+      IsDirectoryTree t → 2 ∷ fields ≡ spelling t ++ rest → rooted new ≡ entries t
   all_entries old new left empty read t rest h e =
       let d = directory_at OfContents t fields rest (h.tree.part, h.fits) e in
-      ap rooted ((what_is_read old new (Some left) read t rest h e).1 ∙ ap (λ es. es ++ parts_pairs root (parts_in t)) empty) ∙ sym d.whole
+      ap rooted ((what_is_read old new (Some left) read t rest h e).1
+      ∙ ap (λ es. es ++ parts_pairs root (parts_in t)) empty) ∙ sym d.whole
 
-are_entries : (t : Tree) (list : Pairs) → IsDirectoryTree t → rooted list ≡ entries t → AreEntries list
+are_entries : (t : Tree) (list : Pairs) → IsDirectoryTree t → rooted list ≡ entries t →
+    AreEntries list
 are_entries t list h all =
-    let same : t ≡ tree_with list = sym (ap (λ es. from_sorted {R = path_cmp} es) all ∙ from_entries-same t) in
+    let same : t ≡ tree_with list =
+    sym (ap (λ es. from_sorted {R = path_cmp} es) all ∙ from_entries-same t) in
     record {
       rising = subst AreRising (sym all) (sorted_of _ (entries_sorted t));
       tree = subst IsTree same h.tree;
@@ -96,7 +132,8 @@ are_entries t list h all =
     }
 
 -- so that no other list is one's
-pub not_made : (t : Tree) (list : Pairs) → IsDirectoryTree t → rooted list ≡ entries t → ¬ AreEntries list → ⊥
+pub not_made : (t : Tree) (list : Pairs) → IsDirectoryTree t → rooted list ≡ entries t →
+    ¬ AreEntries list → ⊥
 not_made t list h all none = none (are_entries t list h all)
 
 pub under_root : (es : Pairs) → under root es ≡ es
@@ -104,33 +141,56 @@ under_root [] = refl
 under_root (e ∷ es) = ap (λ xs. e ∷ xs) (under_root es)
 
 -- what was read is the tree that it makes
-pub directory_made : (fields below : Bytes) (above : Path) (count : ℕ) (old list : Pairs) (left : Bytes) (u : Tree) → BeginsWith (λ n. n < 2 ^ 16) (to_be_bytes w16) fields count below → above ≡ root → old ≡ [] →
-    PartsAreRead OfContents above count below old list (Some left) → rooted list ≡ entries u → IsDirectoryTree u → BeginsWith IsDirectoryTree spelling (2 ∷ fields) u left
+pub directory_made : (fields below : Bytes) (above : Path) (count : ℕ) (old list : Pairs)
+    (left : Bytes) (u : Tree) → BeginsWith (λ n. n < 2 ^ 16) (to_be_bytes w16) fields count below →
+    above ≡ root → old ≡ [] → PartsAreRead OfContents above count below old list (Some left) →
+    rooted list ≡ entries u → IsDirectoryTree u →
+    BeginsWith IsDirectoryTree spelling (2 ∷ fields) u left
 directory_made fields below above count old list left u found is_root empty read all h =
-    let pairs : list ≡ read.0 = read.1 ∙ ap₂ (λ es p. es ++ under p read.0) empty is_root ∙ under_root read.0 in
+    let pairs : list ≡ read.0 = read.1 ∙ ap₂ (λ es p. es ++ under p read.0) empty is_root
+    ∙ under_root read.0 in
     let whole : rooted read.0 ≡ entries u = ap rooted (sym pairs) ∙ all in
-    let rising : AreRising (rooted read.0) = subst AreRising (sym whole) (sorted_of _ (entries_sorted u)) in
-    let same : from_sorted (rooted read.0) ≡ u = ap (λ es. from_sorted {R = path_cmp} es) whole ∙ from_entries-same u in
-    record { lawful = h; spelled = ap (λ b. 2 ∷ b) found.spelled ∙ (read.2 rising ∙ ap (λ t. spelling t ++ left) same) }
+    let rising : AreRising (rooted read.0) =
+    subst AreRising (sym whole) (sorted_of _ (entries_sorted u)) in
+    let same : from_sorted (rooted read.0) ≡ u = ap (λ es. from_sorted {R = path_cmp} es) whole
+    ∙ from_entries-same u in
+    record {
+      lawful = h;
+      spelled = ap (λ b. 2 ∷ b) found.spelled
+          ∙ (read.2 rising ∙ ap (λ t. spelling t ++ left) same);
+    }
 
 -- ---- files, and nothing
 
 pub absent_lawful : IsOptionalTree absent
-absent_lawful = record { part = nothing_part; fits = ap (list_all _) entries-absent; paths = ap (list_all (λ pair. fits_path pair.0)) entries-absent }
+absent_lawful =
+    record {
+      part = nothing_part;
+      fits = ap (list_all _) entries-absent;
+      paths = ap (list_all (λ pair. fits_path pair.0)) entries-absent;
+    }
 
-pub no_file_read : (fields : Bytes) → IsReading IsFile file_spelling fields None → IsReading IsOptionalTree spelling (1 ∷ fields) None
+pub no_file_read : (fields : Bytes) → IsReading IsFile file_spelling fields None →
+    IsReading IsOptionalTree spelling (1 ∷ fields) None
 no_file_read fields none t rest begins =
-    let f = file_at OfContents t fields rest (begins.lawful.part, begins.lawful.fits) begins.spelled in
+    let f = file_at OfContents t fields rest
+    (begins.lawful.part, begins.lawful.fits) begins.spelled in
     none f.contents.bytes rest (record { lawful = f.lawful; spelled = f.spelled })
 
-pub long_file_read : (fields bytes after : Bytes) → BeginsWith IsFile file_spelling fields bytes after → 16384 < length bytes → IsReading IsOptionalTree spelling (1 ∷ fields) None
+pub long_file_read : (fields bytes after : Bytes) →
+    BeginsWith IsFile file_spelling fields bytes after → 16384 < length bytes →
+    IsReading IsOptionalTree spelling (1 ∷ fields) None
 long_file_read fields bytes after found long t rest begins =
-    let f = file_at OfContents t fields rest (begins.lawful.part, begins.lawful.fits) begins.spelled in
-    let same = ap length (file_tells bytes f.contents.bytes after rest found.lawful f.lawful (sym found.spelled ∙ f.spelled)).0 in
-    let short = leb-true (length f.contents.bytes) 16384 (root_fits t (File f.contents) begins.lawful.fits f.here).0 in
+    let f = file_at OfContents t fields rest
+    (begins.lawful.part, begins.lawful.fits) begins.spelled in
+    let same = ap length (file_tells bytes f.contents.bytes after rest found.lawful f.lawful
+    (sym found.spelled ∙ f.spelled)).0 in
+    let short = leb-true (length f.contents.bytes) 16384
+    (root_fits t (File f.contents) begins.lawful.fits f.here).0 in
     absurd (omega (arith, same, short, long))
 
-pub file_read : (fields bytes after : Bytes) → BeginsWith IsFile file_spelling fields bytes after → length bytes ≤ 16384 → BeginsWith IsOptionalTree spelling (1 ∷ fields) (file bytes) after
+pub file_read : (fields bytes after : Bytes) → BeginsWith IsFile file_spelling fields bytes after →
+    length bytes ≤ 16384 → BeginsWith IsOptionalTree spelling (1 ∷ fields) (file bytes) after
 file_read fields bytes after found short = record {
   lawful = record {
     part = lawful_part (File (contents_of bytes)) found.lawful.bytes;
@@ -143,44 +203,64 @@ file_read fields bytes after found short = record {
 -- ---- kinds
 
 -- behind the kind of a directory stands a directory
-pub directory_none : (fields : Bytes) → IsReading IsDirectoryTree spelling (2 ∷ fields) None → IsReading IsOptionalTree spelling (2 ∷ fields) None
+pub directory_none : (fields : Bytes) → IsReading IsDirectoryTree spelling (2 ∷ fields) None →
+    IsReading IsOptionalTree spelling (2 ∷ fields) None
 directory_none fields none t rest begins =
-    let d = directory_at OfContents t fields rest (begins.lawful.part, begins.lawful.fits) begins.spelled in
+    let d = directory_at OfContents t fields rest
+    (begins.lawful.part, begins.lawful.fits) begins.spelled in
     none t rest (record {
-      lawful = record { tree = record { rooted = d.here; part = begins.lawful.part }; fits = begins.lawful.fits; paths = begins.lawful.paths };
+      lawful =
+          record {
+            tree = record { rooted = d.here; part = begins.lawful.part };
+            fits = begins.lawful.fits;
+            paths = begins.lawful.paths;
+          };
       spelled = begins.spelled;
     })
 
 -- a spelling has a kind
-kind_of : (t : Tree) (rest bytes : Bytes) → bytes ≡ spelling t ++ rest → (kind : ℕ) × (fields : Bytes) × (bytes ≡ kind ∷ fields) × (kind ≤ 2)
+kind_of : (t : Tree) (rest bytes : Bytes) → bytes ≡ spelling t ++ rest →
+    (kind : ℕ) × (fields : Bytes) × (bytes ≡ kind ∷ fields) × (kind ≤ 2)
 kind_of t rest bytes e = by_content (get t root) (e ∙ ap (λ b. b ++ rest) (spelling_unfolds t))
   where
-    by_content : (o : Option Content) → bytes ≡ content_spelling spelling t o ++ rest → (kind : ℕ) × (fields : Bytes) × (bytes ≡ kind ∷ fields) × (kind ≤ 2)
+    by_content : (o : Option Content) → bytes ≡ content_spelling spelling t o ++ rest →
+        (kind : ℕ) × (fields : Bytes) × (bytes ≡ kind ∷ fields) × (kind ≤ 2)
     by_content None k = (0, _, k, omega arith)
     by_content (Some (File c)) k = (1, _, k, omega arith)
     by_content (Some Directory) k = (2, _, k, omega arith)
 
-pub none_without_kind : (P : Tree → Type 0) (bytes : Bytes) → length bytes < 1 → IsReading P spelling bytes None
-none_without_kind P bytes short t rest begins = let k = kind_of t rest bytes begins.spelled in absurd (omega (arith, ap length k.2, short))
+pub none_without_kind : (P : Tree → Type 0) (bytes : Bytes) → length bytes < 1 →
+    IsReading P spelling bytes None
+none_without_kind P bytes short t rest begins =
+    let k = kind_of t rest bytes begins.spelled in
+    absurd (omega (arith, ap length k.2, short))
 
-pub none_of_other_kind : (P : Tree → Type 0) (bytes fields : Bytes) (kind : ℕ) → bytes ≡ kind ∷ fields → 2 < kind → IsReading P spelling bytes None
+pub none_of_other_kind : (P : Tree → Type 0) (bytes fields : Bytes) (kind : ℕ) →
+    bytes ≡ kind ∷ fields → 2 < kind → IsReading P spelling bytes None
 none_of_other_kind P bytes fields kind is other t rest begins =
     let k = kind_of t rest bytes begins.spelled in
     let same : k.0 ≡ kind = ap (λ b. first_or b 0) (sym k.2 ∙ is) in
     absurd (omega (arith, same, k.3, other))
 
 -- the root of a whole tree is a directory
-pub no_whole_of_kind : (bytes fields : Bytes) (kind : ℕ) → bytes ≡ kind ∷ fields → kind ≢ 2 → IsReading IsWholeTree spelling bytes None
+pub no_whole_of_kind : (bytes fields : Bytes) (kind : ℕ) → bytes ≡ kind ∷ fields → kind ≢ 2 →
+    IsReading IsWholeTree spelling bytes None
 no_whole_of_kind bytes fields kind is other t rest begins =
-    other (ap (λ b. first_or b 0) (sym is ∙ (begins.spelled ∙ ap (λ b. b ++ rest) (spelling_unfolds t ∙ ap (content_spelling spelling t) begins.lawful.tree.rooted))))
+    other (ap (λ b. first_or b 0) (sym is ∙ (begins.spelled ∙ ap (λ b. b ++ rest)
+    (spelling_unfolds t ∙ ap (content_spelling spelling t) begins.lawful.tree.rooted))))
 
 -- ---- whole trees
 
-pub no_whole : (fields : Bytes) → IsReading IsDirectoryTree spelling (2 ∷ fields) None → IsReading IsWholeTree spelling (2 ∷ fields) None
-no_whole fields none t rest begins = none t rest (record { lawful = as_directory t begins.lawful; spelled = begins.spelled })
+pub no_whole : (fields : Bytes) → IsReading IsDirectoryTree spelling (2 ∷ fields) None →
+    IsReading IsWholeTree spelling (2 ∷ fields) None
+no_whole fields none t rest begins =
+    none t rest (record { lawful = as_directory t begins.lawful; spelled = begins.spelled })
 
-pub full_whole : NoTreeBeginsAnother → (fields after : Bytes) (t : Tree) → BeginsWith IsDirectoryTree spelling (2 ∷ fields) t after → fits_replica t ≡ false → IsReading IsWholeTree spelling (2 ∷ fields) None
+pub full_whole : NoTreeBeginsAnother → (fields after : Bytes) (t : Tree) →
+    BeginsWith IsDirectoryTree spelling (2 ∷ fields) t after → fits_replica t ≡ false →
+    IsReading IsWholeTree spelling (2 ∷ fields) None
 full_whole tells fields after t found full u rest begins =
     let lawful = as_directory u begins.lawful in
-    let same = tells u t rest after (as_optional u lawful) (as_optional t found.lawful) (sym begins.spelled ∙ found.spelled) in
+    let same = tells u t rest after (as_optional u lawful) (as_optional t found.lawful)
+    (sym begins.spelled ∙ found.spelled) in
     true≢false (sym begins.lawful.fits ∙ (ap fits_replica same.0 ∙ full))

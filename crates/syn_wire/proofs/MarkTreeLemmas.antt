@@ -1,5 +1,6 @@
 -- What is read of trees of marks.
-use Rattle.std.proofs.Common.{◌≡◌, ◌≢◌, ◌<◌, ℕ, true, [], ◌∷◌, ◌++◌, length, refl, sym, ap, ap₂, ◌∙◌, subst, Option, Some, None, is_some, arith}
+use Rattle.std.proofs.Common.{◌≡◌, ◌≢◌, ◌<◌, ℕ, true, [], ◌∷◌, ◌++◌, length, refl, sym, ap, ap₂}
+use Rattle.std.proofs.Common.{◌∙◌, subst, Option, Some, None, is_some, arith}
 use Rattle.std.specs.FinMap.{entries, entries_sorted, from_sorted, get, get-empty, len-entries}
 use Rattle.std.proofs.lemmas.Option.{none-some}
 use Rattle.syn_model.specs.Path.{Bytes, Path, path_cmp, root}
@@ -11,7 +12,8 @@ use Rattle.syn_mark.specs.Marks.{AreMarks, marks_with}
 use Rattle.syn_placed.specs.Pairs.{Pairs, AreRising, under}
 use Rattle.syn_placed.proofs.RisingLemmas.{sorted_of}
 use Rattle.syn_placed.proofs.TreeLemmas.{entries-absent, from_entries-same}
-use Rattle.syn_wire.specs.Marks.{IsMarkTree, IsOptionalMarkTree, digest_spelling, NoMarksBeginOthers}
+use Rattle.syn_wire.specs.Marks.{IsMarkTree, IsOptionalMarkTree, digest_spelling}
+use Rattle.syn_wire.specs.Marks.{NoMarksBeginOthers}
 use Rattle.syn_wire.specs.Reads.{BeginsWith, IsReading}
 use Rattle.syn_wire.specs.inner.Kinds.{OfMarks}
 use Rattle.syn_wire.specs.inner.Parts.{PartIsRead, ReadsPart, StandsAt}
@@ -27,18 +29,24 @@ marks_at_root t h = record {
   paths = paths_stand t h.optional.marks.part (few_paths t h.optional.fits);
 }
 
-module _ (bytes : Bytes) (at : Path) (old list : Pairs) (is_root : at ≡ root) (empty : old ≡ []) where
+module _ (bytes : Bytes) (at : Path) (old list : Pairs) (is_root : at ≡ root)
+    (empty : old ≡ []) where
   -- what begins the bytes is what was read
-  the_marks : (left : Option Bytes) → ReadsPart OfMarks at bytes old list left → (t : Tree) (rest : Bytes) → BeginsWith IsMarkTree mark_spelling bytes t rest → (left ≡ Some rest) × (list ≡ entries t)
+  the_marks : (left : Option Bytes) →
+      ReadsPart OfMarks at bytes old list left → (t : Tree) (rest : Bytes) →
+      BeginsWith IsMarkTree mark_spelling bytes t rest → (left ≡ Some rest) × (list ≡ entries t)
   the_marks left read t rest begins =
-      let both = subst (λ p. ReadsPart OfMarks p bytes old list left) is_root read t rest (marks_at_root t begins.lawful) begins.spelled in
+      let both = subst (λ p. ReadsPart OfMarks p bytes old list left) is_root read t rest
+      (marks_at_root t begins.lawful) begins.spelled in
       (both.0, both.1 ∙ (ap (λ es. es ++ under root (entries t)) empty ∙ under_root (entries t)))
 
-  pub no_part_read : ReadsPart OfMarks at bytes old list None → IsReading IsMarkTree mark_spelling bytes None
+  pub no_part_read : ReadsPart OfMarks at bytes old list None →
+      IsReading IsMarkTree mark_spelling bytes None
   no_part_read none t rest begins = none-some _ (the_marks None none t rest begins).0
 
   -- so that no other list is that of marks
-  pub not_marks : (left : Bytes) → ReadsPart OfMarks at bytes old list (Some left) → ¬ AreMarks list → IsReading IsMarkTree mark_spelling bytes None
+  pub not_marks : (left : Bytes) → ReadsPart OfMarks at bytes old list (Some left) →
+      ¬ AreMarks list → IsReading IsMarkTree mark_spelling bytes None
   not_marks left read none t rest begins =
       let same : t ≡ marks_with (entries t) = sym (from_entries-same t) in
       none (subst AreMarks (sym (the_marks (Some left) read t rest begins).1) (record {
@@ -49,27 +57,45 @@ module _ (bytes : Bytes) (at : Path) (old list : Pairs) (is_root : at ≡ root) 
       }))
 
   -- what was read is the tree that it makes
-  pub marks_made : (left : Bytes) (t : Tree) → PartIsRead OfMarks at bytes old list (Some left) → list ≡ entries t → IsMarkTree t → BeginsWith IsMarkTree mark_spelling bytes t left
+  pub marks_made : (left : Bytes) (t : Tree) → PartIsRead OfMarks at bytes old list (Some left) →
+      list ≡ entries t → IsMarkTree t → BeginsWith IsMarkTree mark_spelling bytes t left
   marks_made left t read all h =
-      let pairs : list ≡ read.0 = read.1 ∙ (ap₂ (λ es p. es ++ under p read.0) empty is_root ∙ under_root read.0) in
+      let pairs : list ≡ read.0 = read.1
+      ∙ (ap₂ (λ es p. es ++ under p read.0) empty is_root ∙ under_root read.0) in
       let whole : read.0 ≡ entries t = sym pairs ∙ all in
-      let rising : AreRising read.0 = subst AreRising (sym whole) (sorted_of _ (entries_sorted t)) in
-      let same : from_sorted read.0 ≡ t = ap (λ es. from_sorted {R = path_cmp} es) whole ∙ from_entries-same t in
-      record { lawful = h; spelled = read.2.spelled rising ∙ ap (λ u. mark_spelling u ++ left) same }
+      let rising : AreRising read.0 =
+      subst AreRising (sym whole) (sorted_of _ (entries_sorted t)) in
+      let same : from_sorted read.0 ≡ t = ap (λ es. from_sorted {R = path_cmp} es) whole
+      ∙ from_entries-same t in
+      record {
+        lawful = h;
+        spelled = read.2.spelled rising
+            ∙ ap (λ u. mark_spelling u ++ left) same;
+      }
 
 -- something stands at the root of what no zero spells
-pub no_marks_there : (bytes fields : Bytes) (kind : ℕ) → bytes ≡ kind ∷ fields → kind ≢ 0 → IsReading IsMarkTree mark_spelling bytes None → IsReading IsOptionalMarkTree mark_spelling bytes None
+pub no_marks_there : (bytes fields : Bytes) (kind : ℕ) → bytes ≡ kind ∷ fields → kind ≢ 0 →
+    IsReading IsMarkTree mark_spelling bytes None →
+    IsReading IsOptionalMarkTree mark_spelling bytes None
 no_marks_there bytes fields kind is other none t rest begins = by_content (get t root) refl
   where
     by_content : (o : Option Content) → get t root ≡ o → ⊥
     by_content None e =
-        other (ap (λ b. first_or b 0) (sym is ∙ (begins.spelled ∙ ap (λ b. b ++ rest) (mark_unfolds t ∙ ap (content_by digest_spelling mark_spelling t) e))))
-    by_content (Some c) e = none t rest (record { lawful = record { optional = begins.lawful; present = ap is_some e }; spelled = begins.spelled })
+        other (ap (λ b. first_or b 0) (sym is ∙ (begins.spelled ∙ ap (λ b. b ++ rest)
+        (mark_unfolds t ∙ ap (content_by digest_spelling mark_spelling t) e))))
+    by_content (Some c) e =
+        none t rest (record {
+          lawful = record { optional = begins.lawful; present = ap is_some e };
+          spelled = begins.spelled;
+        })
 
-pub none_without_byte : (bytes : Bytes) → length bytes < 1 → IsReading IsOptionalMarkTree mark_spelling bytes None
-none_without_byte bytes short t rest begins = by_content (get t root) (begins.spelled ∙ ap (λ b. b ++ rest) (mark_unfolds t))
+pub none_without_byte : (bytes : Bytes) → length bytes < 1 →
+    IsReading IsOptionalMarkTree mark_spelling bytes None
+none_without_byte bytes short t rest begins =
+    by_content (get t root) (begins.spelled ∙ ap (λ b. b ++ rest) (mark_unfolds t))
   where
-    by_content : (o : Option Content) → bytes ≡ content_by digest_spelling mark_spelling t o ++ rest → ⊥
+    by_content : (o : Option Content) →
+        bytes ≡ content_by digest_spelling mark_spelling t o ++ rest → ⊥
     by_content None e = omega (arith, ap length e, short)
     by_content (Some (File c)) e = omega (arith, ap length e, short)
     by_content (Some Directory) e = omega (arith, ap length e, short)
@@ -80,9 +106,14 @@ nothing_fits = rw (len-entries, entries-absent)
 
 pub nothing_lawful : IsOptionalMarkTree absent
 nothing_lawful = record {
-  marks = record { part = absent_lawful.part; digests = λ path contents e. absurd (none-some _ (sym (get-empty path_cmp path) ∙ e)) };
+  marks =
+      record {
+        part = absent_lawful.part;
+        digests = λ path contents e. absurd (none-some _ (sym (get-empty path_cmp path) ∙ e));
+      };
   fits = nothing_fits;
 }
 
 pub marks_tell : NoMarkSpellingBeginsAnother → NoMarksBeginOthers
-marks_tell tells t u r s ht hu e = tells t u r s ht.marks hu.marks (few_nodes t ht.fits) (few_nodes u hu.fits) e
+marks_tell tells t u r s ht hu e =
+    tells t u r s ht.marks hu.marks (few_nodes t ht.fits) (few_nodes u hu.fits) e

@@ -1,5 +1,7 @@
 -- The spelling of a name or of names tells them.
-use Rattle.std.proofs.Common.{◌≡◌, ℕ, zero, suc, ◌+◌, ◌-◌, slice_index_or, ◌<◌, ◌≤◌, [], ◌∷◌, ◌++◌, length, take, drop, refl, sym, ap, ap₂, ◌∙◌, subst, append_assoc, append-nil, arith}
+use Rattle.std.proofs.Common.{◌≡◌, ℕ, zero, suc, ◌+◌, ◌-◌, slice_index_or, ◌<◌, ◌≤◌, [], ◌∷◌, ◌++◌}
+use Rattle.std.proofs.Common.{length, take, drop, refl, sym, ap, ap₂, ◌∙◌, subst, append_assoc}
+use Rattle.std.proofs.Common.{append-nil, arith}
 use Rattle.std.specs.Prelude.{All}
 use Rattle.std.proofs.Math.Seq.{take-append_seam, drop-append_seam, take-length}
 use Rattle.std.proofs.lemmas.List.Elements.{All-head, All-tail, All-cons, All-nil, All-append}
@@ -32,11 +34,13 @@ names_tell v w r s hv hw e =
 -- ---- a name behind its length
 
 -- no byte is there for the length
-pub no_length : (bytes : Bytes) → length bytes < 1 → (value : Name) (rest : Bytes) → ¬ BeginsWith IsName name_spelling bytes value rest
+pub no_length : (bytes : Bytes) → length bytes < 1 → (value : Name) (rest : Bytes) →
+    ¬ BeginsWith IsName name_spelling bytes value rest
 no_length bytes short value rest begins = absurd (omega (arith, ap length begins.spelled, short))
 
 -- fewer bytes follow than the length says
-pub too_few : (first : ℕ) (bytes after : Bytes) → bytes ≡ first ∷ after → length after < first → (value : Name) (rest : Bytes) → ¬ BeginsWith IsName name_spelling bytes value rest
+pub too_few : (first : ℕ) (bytes after : Bytes) → bytes ≡ first ∷ after → length after < first →
+    (value : Name) (rest : Bytes) → ¬ BeginsWith IsName name_spelling bytes value rest
 too_few first bytes after parts short value rest begins =
     let all = sym parts ∙ begins.spelled in
     let counted : first ≡ length value = ap (λ xs. first_or xs 0) all in
@@ -44,85 +48,117 @@ too_few first bytes after parts short value rest begins =
     absurd (omega (arith, counted, long, short))
 
 -- so many bytes are the name, where one is there
-pub front_lawful : (first : ℕ) (bytes after front : Bytes) → bytes ≡ first ∷ after → front ≡ take first after → (value : Name) (rest : Bytes) → BeginsWith IsName name_spelling bytes value rest → IsName front
+pub front_lawful : (first : ℕ) (bytes after front : Bytes) → bytes ≡ first ∷ after →
+    front ≡ take first after → (value : Name) (rest : Bytes) →
+    BeginsWith IsName name_spelling bytes value rest → IsName front
 front_lawful first bytes after front parts is value rest begins =
     let all = sym parts ∙ begins.spelled in
     let counted : first ≡ length value = ap (λ xs. first_or xs 0) all in
-    subst IsName (sym (is ∙ (ap₂ take counted (ap rest_of all) ∙ take-append_seam value rest))) begins.lawful
+    subst IsName (sym (is ∙ (ap₂ take counted (ap rest_of all) ∙ take-append_seam value rest)))
+    begins.lawful
 
 -- and such bytes are the name that was read
-pub a_name : (first : ℕ) (bytes after front back : Bytes) (name : Name) → bytes ≡ first ∷ after → after ≡ front ++ back → length front ≡ first → name ≡ front → IsName front → BeginsWith IsName name_spelling bytes name back
+pub a_name : (first : ℕ) (bytes after front back : Bytes) (name : Name) → bytes ≡ first ∷ after →
+    after ≡ front ++ back → length front ≡ first → name ≡ front → IsName front →
+    BeginsWith IsName name_spelling bytes name back
 a_name first bytes after front back name parts all counted is lawful = record {
   lawful = subst IsName (sym is) lawful;
-  spelled = parts ∙ (ap₂ (λ n xs. n ∷ xs) (sym counted) all ∙ ap (λ x. name_spelling x ++ back) (sym is));
+  spelled =
+      parts ∙ (ap₂ (λ n xs. n ∷ xs) (sym counted) all ∙ ap (λ x. name_spelling x ++ back) (sym is));
 }
 
-names_of : (names : Path) (r : Bytes) (n : Name) → names_spelling (n ∷ names) ++ r ≡ name_spelling n ++ (names_spelling names ++ r)
+names_of : (names : Path) (r : Bytes) (n : Name) →
+    names_spelling (n ∷ names) ++ r ≡ name_spelling n ++ (names_spelling names ++ r)
 names_of names r n = append_assoc (name_spelling n) (names_spelling names) r
 
 -- names that go on to one list of bytes begin alike
-pub fronts : (p q : Path) (more : Path) (r s : Bytes) → All IsName p → All IsName (q ++ more) → length p ≡ length q → names_spelling p ++ r ≡ names_spelling (q ++ more) ++ s → (p ≡ q) × (r ≡ names_spelling more ++ s)
+pub fronts : (p q : Path) (more : Path) (r s : Bytes) → All IsName p → All IsName (q ++ more) →
+    length p ≡ length q → names_spelling p ++ r ≡ names_spelling (q ++ more) ++ s →
+    (p ≡ q) × (r ≡ names_spelling more ++ s)
 fronts [] [] more r s hp hq l e = (refl, e)
 fronts [] (m ∷ q) more r s hp hq l e = absurd (omega arith)
 fronts (n ∷ p) [] more r s hp hq l e = absurd (omega arith)
 fronts (n ∷ p) (m ∷ q) more r s hp hq l e =
-    let both = names_tell n m (names_spelling p ++ r) (names_spelling (q ++ more) ++ s) (All-head IsName n p hp) (All-head IsName m (q ++ more) hq) (sym (names_of p r n) ∙ (e ∙ names_of (q ++ more) s m)) in
-    let rest = fronts p q more r s (All-tail IsName n p hp) (All-tail IsName m (q ++ more) hq) (omega arith) both.1 in
+    let both = names_tell n m (names_spelling p ++ r) (names_spelling (q ++ more) ++ s)
+    (All-head IsName n p hp) (All-head IsName m (q ++ more) hq)
+    (sym (names_of p r n) ∙ (e ∙ names_of (q ++ more) s m)) in
+    let rest = fronts p q more r s (All-tail IsName n p hp) (All-tail IsName m (q ++ more) hq)
+    (omega arith) both.1 in
     (ap₂ (λ x xs. x ∷ xs) both.0 rest.0, rest.1)
 
 pub paths_tell : NoneBeginsAnother IsPath path_spelling
 paths_tell p q r s hp hq e =
     let count : length p ≡ length q = ap (λ xs. first_or xs 0) e in
-    let both = fronts p q [] r s hp.names (subst (All IsName) (sym (append-nil q)) hq.names) count (ap rest_of e ∙ ap (λ xs. names_spelling xs ++ s) (sym (append-nil q))) in
+    let both = fronts p q [] r s hp.names (subst (All IsName) (sym (append-nil q)) hq.names) count
+    (ap rest_of e ∙ ap (λ xs. names_spelling xs ++ s) (sym (append-nil q))) in
     both
 
 -- so many names that begin the bytes go on with one more
-pub next_name : (i count : ℕ) (names : Path) (rest : Bytes) (bytes : Bytes) (all : Path) (more : Bytes) → AreNames i names → bytes ≡ names_spelling names ++ rest → i < count →
-    BeginsWith (AreNames count) names_spelling bytes all more → (n : Name) × (after : Bytes) × BeginsWith IsName name_spelling rest n after
+pub next_name : (i count : ℕ) (names : Path) (rest : Bytes) (bytes : Bytes) (all : Path)
+    (more : Bytes) → AreNames i names → bytes ≡ names_spelling names ++ rest → i < count →
+    BeginsWith (AreNames count) names_spelling bytes all more →
+    (n : Name) × (after : Bytes) × BeginsWith IsName name_spelling rest n after
 next_name i count names rest bytes all more h e l begins =
     let long : i < length all = omega (arith, begins.lawful.counted) in
     let parts = part all i long in
-    let f = fronts names parts.0 (parts.1 ∷ parts.2) rest more h.lawful (subst (All IsName) parts.3 begins.lawful.lawful) (h.counted ∙ sym parts.4) (sym e ∙ (begins.spelled ∙ ap (λ p. names_spelling p ++ more) parts.3)) in (
+    let f = fronts names parts.0 (parts.1 ∷ parts.2) rest more h.lawful
+    (subst (All IsName) parts.3 begins.lawful.lawful) (h.counted ∙ sym parts.4)
+    (sym e ∙ (begins.spelled ∙ ap (λ p. names_spelling p ++ more) parts.3)) in (
       parts.1,
       names_spelling parts.2 ++ more,
       record {
-        lawful = All-head IsName parts.1 parts.2 (after_front parts.0 (parts.1 ∷ parts.2) (subst (All IsName) parts.3 begins.lawful.lawful));
+        lawful =
+            All-head IsName parts.1 parts.2 (after_front parts.0 (parts.1 ∷ parts.2)
+            (subst (All IsName) parts.3 begins.lawful.lawful));
         spelled = f.1 ∙ names_of parts.2 more parts.1;
       },
     )
   where
-    part : (p : Path) (i : ℕ) → i < length p → (a : Path) × (n : Name) × (b : Path) × (p ≡ a ++ n ∷ b) × (length a ≡ i)
+    part : (p : Path) (i : ℕ) →
+        i < length p → (a : Path) × (n : Name) × (b : Path) × (p ≡ a ++ n ∷ b) × (length a ≡ i)
     part [] i l = absurd (omega arith)
     part (n ∷ p) zero l = ([], n, p, refl, refl)
-    part (n ∷ p) (suc i) l = let rest = part p i (omega arith) in (n ∷ rest.0, rest.1, rest.2, ap (λ xs. n ∷ xs) rest.3, ap suc rest.4)
+    part (n ∷ p) (suc i) l =
+        let rest = part p i (omega arith) in
+        (n ∷ rest.0, rest.1, rest.2, ap (λ xs. n ∷ xs) rest.3, ap suc rest.4)
 
     after_front : (a b : Path) → All IsName (a ++ b) → All IsName b
     after_front [] b h = h
     after_front (n ∷ a) b h = after_front a b (All-tail IsName n (a ++ b) h)
 
 -- one more name was read
-pub one_more : (i : ℕ) (names : Path) (n : Name) (bytes rest after : Bytes) → AreNames i names → bytes ≡ names_spelling names ++ rest → BeginsWith IsName name_spelling rest n after →
+pub one_more : (i : ℕ) (names : Path) (n : Name) (bytes rest after : Bytes) → AreNames i names →
+    bytes ≡ names_spelling names ++ rest → BeginsWith IsName name_spelling rest n after →
     AreNames (i + 1) (names ++ n ∷ []) × (bytes ≡ names_spelling (names ++ n ∷ []) ++ after)
 one_more i names n bytes rest after h e found = (
   record {
     counted = length-append names (n ∷ []) ∙ ap (λ k. k + 1) h.counted;
-    lawful = All-append IsName names (n ∷ []) h.lawful (All-cons IsName n [] found.lawful (All-nil IsName));
+    lawful =
+        All-append IsName names (n ∷ []) h.lawful
+        (All-cons IsName n [] found.lawful (All-nil IsName));
   },
-  e ∙ (ap (λ xs. names_spelling names ++ xs) (found.spelled ∙ ap (λ xs. xs ++ after) (sym (append-nil (name_spelling n))))
-      ∙ (sym (append_assoc (names_spelling names) (names_spelling (n ∷ [])) after) ∙ ap (λ xs. xs ++ after) (sym (flat_map-append (λ name. length name ∷ name) names (n ∷ []))))),
+  e ∙ (ap (λ xs. names_spelling names ++ xs)
+      (found.spelled ∙ ap (λ xs. xs ++ after) (sym (append-nil (name_spelling n))))
+      ∙ (sym (append_assoc (names_spelling names) (names_spelling (n ∷ [])) after) ∙ ap
+      (λ xs. xs ++ after) (sym (flat_map-append (λ name. length name ∷ name) names (n ∷ []))))),
 )
 
 -- the names that were read are those of the path that the bytes begin with
-pub path_of_names : (count : ℕ) (names : Path) (bytes rest : Bytes) (path : Path) (more : Bytes) → BeginsWith (AreNames count) names_spelling bytes names rest →
+pub path_of_names : (count : ℕ) (names : Path) (bytes rest : Bytes) (path : Path) (more : Bytes) →
+    BeginsWith (AreNames count) names_spelling bytes names rest →
     BeginsWith IsPath path_spelling (count ∷ bytes) path more → IsPath names
 path_of_names count names bytes rest path more read begins =
     let counts : count ≡ length path = ap (λ xs. first_or xs 0) begins.spelled in
-    let same = fronts names path [] rest more read.lawful.lawful (subst (All IsName) (sym (append-nil path)) begins.lawful.names) (read.lawful.counted ∙ counts)
-    (sym read.spelled ∙ (ap rest_of begins.spelled ∙ ap (λ xs. names_spelling xs ++ more) (sym (append-nil path)))) in
+    let same = fronts names path [] rest more read.lawful.lawful
+    (subst (All IsName) (sym (append-nil path)) begins.lawful.names)
+    (read.lawful.counted ∙ counts)
+    (sym read.spelled ∙ (ap rest_of begins.spelled
+    ∙ ap (λ xs. names_spelling xs ++ more) (sym (append-nil path)))) in
     subst IsPath (sym same.0) begins.lawful
 
 -- what a pattern of a first byte and the others takes apart
-pub first_and_rest : (xs : Bytes) → 1 ≤ length xs → xs ≡ slice_index_or xs 0 0 ∷ take (length xs - 1) (drop 1 xs)
+pub first_and_rest : (xs : Bytes) → 1 ≤ length xs →
+    xs ≡ slice_index_or xs 0 0 ∷ take (length xs - 1) (drop 1 xs)
 first_and_rest [] l = absurd (omega arith)
 first_and_rest (x ∷ xs) l = ap (λ ys. x ∷ ys) (sym (take-all (length xs) xs))
   where
@@ -135,20 +171,28 @@ first_and_rest (x ∷ xs) l = ap (λ ys. x ∷ ys) (sym (take-all (length xs) xs
 -- ---- what is written of a path
 
 -- one name more behind its length
-pub name_added : (names : Path) (i : ℕ) (name : Name) (text bytes front old pushed new : Bytes) → i < length names → name ≡ slice_index_or names i name → text ≡ name → bytes ≡ text →
-    old ≡ front ++ names_spelling (take i names) → pushed ≡ old ++ length text ∷ [] → new ≡ pushed ++ bytes → new ≡ front ++ names_spelling (take (i + 1) names)
+pub name_added : (names : Path) (i : ℕ) (name : Name) (text bytes front old pushed new : Bytes) →
+    i < length names → name ≡ slice_index_or names i name → text ≡ name → bytes ≡ text →
+    old ≡ front ++ names_spelling (take i names) → pushed ≡ old ++ length text ∷ [] →
+    new ≡ pushed ++ bytes → new ≡ front ++ names_spelling (take (i + 1) names)
 name_added names i name text bytes front old pushed new l is texted written so_far begun added =
     added ∙ (ap₂ (λ x y. x ++ y) begun written
     ∙ (append_assoc old (length text ∷ []) text ∙ (ap₂ (λ x t. x ++ name_spelling t) so_far texted
-    ∙ (append_assoc front (names_spelling (take i names)) (name_spelling name) ∙ ap (λ b. front ++ b) (sym more)))))
+    ∙ (append_assoc front (names_spelling (take i names)) (name_spelling name)
+    ∙ ap (λ b. front ++ b) (sym more)))))
   where
     more : names_spelling (take (i + 1) names) ≡ names_spelling (take i names) ++ name_spelling name
     more =
         ap names_spelling (take_more names i name l ∙ ap (λ y. take i names ++ y ∷ []) (sym is))
-        ∙ (flat_map-append name_spelling (take i names) (name ∷ []) ∙ ap (λ b. names_spelling (take i names) ++ b) (append-nil (name_spelling name)))
+        ∙ (flat_map-append name_spelling (take i names) (name ∷ [])
+        ∙ ap (λ b. names_spelling (take i names) ++ b) (append-nil (name_spelling name)))
 
 -- the count and all names
-pub path_added : (path names : Path) (i : ℕ) (front first new : Bytes) → names ≡ path → i ≡ length names → first ≡ front ++ length names ∷ [] → new ≡ first ++ names_spelling (take i names) → new ≡ front ++ path_spelling path
+pub path_added : (path names : Path) (i : ℕ) (front first new : Bytes) → names ≡ path →
+    i ≡ length names → first ≡ front ++ length names ∷ [] →
+    new ≡ first ++ names_spelling (take i names) → new ≡ front ++ path_spelling path
 path_added path names i front first new same ended begun written =
-    written ∙ (ap₂ (λ b ns. b ++ names_spelling ns) begun (ap (λ n. take n names) ended ∙ take-length names)
-    ∙ (append_assoc front (length names ∷ []) (names_spelling names) ∙ ap (λ p. front ++ path_spelling p) same))
+    written ∙ (ap₂ (λ b ns. b ++ names_spelling ns) begun
+    (ap (λ n. take n names) ended ∙ take-length names)
+    ∙ (append_assoc front (length names ∷ []) (names_spelling names)
+    ∙ ap (λ p. front ++ path_spelling p) same))

@@ -13,13 +13,19 @@ use Rattle.syn_placed.proofs.TreeLemmas.{entries-one}
 use Rattle.syn_wire.specs.Events.{file_spelling}
 
 pub absent_spelled : spelling absent ≡ 0 ∷ []
-absent_spelled = spelling_unfolds absent ∙ ap (content_spelling spelling absent) (get-empty path_cmp root)
+absent_spelled =
+    spelling_unfolds absent ∙ ap (content_spelling spelling absent) (get-empty path_cmp root)
 
 pub file_spelled : (bytes : Bytes) → spelling (file bytes) ≡ 1 ∷ file_spelling bytes
-file_spelled bytes = spelling_unfolds (file bytes) ∙ ap (content_spelling spelling (file bytes)) (get-at_root (File (contents_of bytes)) root)
+file_spelled bytes =
+    spelling_unfolds (file bytes)
+    ∙ ap (content_spelling spelling (file bytes)) (get-at_root (File (contents_of bytes)) root)
 
 pub file_brief : (bytes : Bytes) → fits_part (file bytes) ≡ true → length bytes ≤ 16384
 file_brief bytes h =
     let t = file bytes in
-    let one = ap (list_all (λ pair. fits_content pair.1 && nat_le (length (children t pair.0)) 256)) (sym (entries-one (File (contents_of bytes)))) ∙ h in
-    leb-true (length bytes) 16384 (and_parts (nat_le (length bytes) 16384) (nat_le (length (children t root)) 256) (and_parts (nat_le (length bytes) 16384 && nat_le (length (children t root)) 256) true one).0).0
+    let one = ap (list_all (λ pair. fits_content pair.1 && nat_le (length (children t pair.0)) 256))
+    (sym (entries-one (File (contents_of bytes)))) ∙ h in
+    leb-true (length bytes) 16384
+    (and_parts (nat_le (length bytes) 16384) (nat_le (length (children t root)) 256) (and_parts
+    (nat_le (length bytes) 16384 && nat_le (length (children t root)) 256) true one).0).0

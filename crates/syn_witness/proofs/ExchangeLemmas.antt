@@ -1,5 +1,6 @@
 -- A session that carries one file each way: the steps of the coordinator, and the whole run.
-use Rattle.std.proofs.Common.{◌-◌, ◌≡◌, ◌<◌, List, [], ◌∷◌, map, take, refl, sym, ap, ◌∙◌, subst, Some, None, arith, inl, inr, nat_le, true}
+use Rattle.std.proofs.Common.{◌-◌, ◌≡◌, ◌<◌, List, [], ◌∷◌, map, take, refl, sym, ap, ◌∙◌, subst}
+use Rattle.std.proofs.Common.{Some, None, arith, inl, inr, nat_le, true}
 use Rattle.std.specs.FinMap.{entries}
 use Rattle.std.proofs.lemmas.List.Elements.{All-nil, All-cons, All-from_recursion}
 use Rattle.sha2.specs.Sha256.{sha256}
@@ -14,24 +15,47 @@ use Rattle.syn_model.specs.Dirty.{IsScanBy}
 use Rattle.syn_model.proofs.TreeLemmas.{subtree-replace}
 use Rattle.syn_witness.specs.Rows.{file_bytes}
 use Rattle.syn_headline.specs.Machine.{record_size}
-use Rattle.syn_headline.specs.Side.{Begin, ListAt, Fetch, Stage, Replace, Begun, Listed, NotDir, Piece, Staged, Done, token_of}
+use Rattle.syn_headline.specs.Side.{Begin, ListAt, Fetch, Stage, Replace, Begun, Listed, NotDir}
+use Rattle.syn_headline.specs.Side.{Piece, Staged, Done, token_of}
 use Rattle.syn_headline.specs.Network.{Which, Left, Right}
 use Rattle.syn_headline.specs.Planning.{SeesBoth}
-use Rattle.syn_headline.specs.Coordinator.{MakesPlan, WasTaken, BothBegun, fault_of, hearing, start_of, makes, stands, done}
+use Rattle.syn_headline.specs.Coordinator.{MakesPlan, WasTaken, BothBegun, fault_of, hearing}
+use Rattle.syn_headline.specs.Coordinator.{start_of, makes, stands, done}
 use Rattle.syn_headline.specs.Coordinator as coordinator
 use Rattle.syn_headline.specs.World.{Edits, Runs, Start, Deliver, Steps}
 use Rattle.syn_headline.specs.Headline.{IsQuietSession, IsNoEdit, formatted, stores_of}
 use Rattle.syn_model.specs.MarkSpelling.{kept_spelling}
-use Rattle.syn_witness.specs.Witness.{opened_world, a_path, b_path, put_one, put_two, one, two, complete, HasBoth, FilesAreExchanged}
+use Rattle.syn_witness.specs.Witness.{opened_world, a_path, b_path, put_one, put_two, one, two}
+use Rattle.syn_witness.specs.Witness.{complete, HasBoth, FilesAreExchanged}
 use Rattle.syn_witness.proofs.WitnessTrees.{get_by, replace-entries, fits_archive_by, children_by}
-use Rattle.syn_witness.proofs.WitnessFiles.{letter_size, alone, with_file, digest, alone-entries, file_mark-entries, put-entries, marked_whole, root_only, path_of_letter, are_marks}
-use Rattle.syn_witness.proofs.WitnessScans.{left_history, left_scan, left-entries, left_marks-entries, left_part}
-use Rattle.syn_witness.proofs.ExchangeScans.{right_history, right_scan, right-entries, right_marks-entries, right_part, plan_is}
+use Rattle.syn_witness.proofs.WitnessFiles.{letter_size, alone, with_file, digest, alone-entries}
+use Rattle.syn_witness.proofs.WitnessFiles.{file_mark-entries, put-entries, marked_whole, root_only}
+use Rattle.syn_witness.proofs.WitnessFiles.{path_of_letter, are_marks}
+use Rattle.syn_witness.proofs.WitnessScans.{left_history, left_scan, left-entries}
+use Rattle.syn_witness.proofs.WitnessScans.{left_marks-entries, left_part}
+use Rattle.syn_witness.proofs.ExchangeScans.{right_history, right_scan, right-entries}
+use Rattle.syn_witness.proofs.ExchangeScans.{right_marks-entries, right_part, plan_is}
 use Rattle.syn_witness.proofs.WitnessMessages.{number_of}
-use Rattle.syn_witness.proofs.WitnessSteps.{took, runs_with, starts_so, asks_so, goes_on_so, not_last, ends_so, keeps_so, recorded, runs_on_from}
+use Rattle.syn_witness.proofs.WitnessSteps.{took, runs_with, starts_so, asks_so, goes_on_so}
+use Rattle.syn_witness.proofs.WitnessSteps.{not_last, ends_so, keeps_so, recorded, runs_on_from}
 use Rattle.syn_witness.proofs.WitnessLemmas.{letter_a}
 use Rattle.syn_witness.proofs.WitnessSession.{root_lawful, none_there}
-use Rattle.syn_witness.proofs.ExchangeSides.{scans, listed_at, made, two_bytes, right_done, left_done, begun_archive, first_archive, both_archive, first_planned, second_planned, plan, both_begin, right_begins, both_list, right_lists, left_fetches, right_stages, right_replaces, right_fetches, left_stages, left_replaces, first_edited, both_edited, started, left_begun, both_begun, right_awaited, listing, left_listed, both_listed, right_list_awaited, fetching, fetched, staging, staged, replacing, replaced, second_fetching, second_fetched, second_staging, second_staged, second_replacing, second_replaced, exchanged, edits_left, letter_b, edits_right, begins_left, begins_right, lists_left, lists_right, stays, fetches_first, stages_first, replaces_first, fetches_second, stages_second, replaces_second, transcript}
+use Rattle.syn_witness.proofs.ExchangeSides.{scans, listed_at, made, two_bytes, right_done}
+use Rattle.syn_witness.proofs.ExchangeSides.{left_done, begun_archive, first_archive, both_archive}
+use Rattle.syn_witness.proofs.ExchangeSides.{first_planned, second_planned, plan, both_begin}
+use Rattle.syn_witness.proofs.ExchangeSides.{right_begins, both_list, right_lists, left_fetches}
+use Rattle.syn_witness.proofs.ExchangeSides.{right_stages, right_replaces, right_fetches}
+use Rattle.syn_witness.proofs.ExchangeSides.{left_stages, left_replaces, first_edited, both_edited}
+use Rattle.syn_witness.proofs.ExchangeSides.{started, left_begun, both_begun, right_awaited}
+use Rattle.syn_witness.proofs.ExchangeSides.{listing, left_listed, both_listed, right_list_awaited}
+use Rattle.syn_witness.proofs.ExchangeSides.{fetching, fetched, staging, staged, replacing}
+use Rattle.syn_witness.proofs.ExchangeSides.{replaced, second_fetching, second_fetched}
+use Rattle.syn_witness.proofs.ExchangeSides.{second_staging, second_staged, second_replacing}
+use Rattle.syn_witness.proofs.ExchangeSides.{second_replaced, exchanged, edits_left, letter_b}
+use Rattle.syn_witness.proofs.ExchangeSides.{edits_right, begins_left, begins_right, lists_left}
+use Rattle.syn_witness.proofs.ExchangeSides.{lists_right, stays, fetches_first, stages_first}
+use Rattle.syn_witness.proofs.ExchangeSides.{replaces_first, fetches_second, stages_second}
+use Rattle.syn_witness.proofs.ExchangeSides.{replaces_second, transcript}
 
 -- The plan is of what the sides listed
 have_begun : BothBegun (take 4 transcript)
@@ -42,18 +66,28 @@ two_begun : BothBegun (take 2 transcript)
 two_begun Left = (7, 2, (0, (0, omega arith, refl)))
 two_begun Right = (7, 2, (0, (1, omega arith, refl)))
 
-both_scanned : (side : Which) → IsScanBy (λ path position entries. WasTaken (take 4 transcript) side (ListAt path) (Listed position entries)) (λ path position. WasTaken (take 4 transcript) side (ListAt path) (NotDir position)) (scans side) (listed_at side)
+both_scanned : (side : Which) → IsScanBy (λ path position entries. WasTaken (take 4 transcript) side
+    (ListAt path) (Listed position entries)) (λ path position. WasTaken (take 4 transcript) side
+    (ListAt path) (NotDir position)) (scans side) (listed_at side)
 both_scanned Left = record {
   tree = marked_whole (tree_of left_history) 97 (49 ∷ []) letter_a left-entries;
   fits = fits_archive_by left_scan.marks (with_file 97 (digest (49 ∷ []))) left_marks-entries;
-  listed = λ path there stable. subst (λ at. WasTaken (take 4 transcript) Left (ListAt at) (Listed 2 (children left_scan.marks at))) (sym (root_only left_scan.marks 97 (sha256 (49 ∷ [])) left_marks-entries path there)) (1, (2, omega arith, refl));
+  listed =
+      λ path there stable. subst (λ at. WasTaken (take 4 transcript) Left (ListAt at)
+      (Listed 2 (children left_scan.marks at)))
+      (sym (root_only left_scan.marks 97 (sha256 (49 ∷ [])) left_marks-entries path there))
+      (1, (2, omega arith, refl));
   not_dir = λ path c. absurd (none_there path c);
   nothing_below = λ path c. absurd (none_there path c);
 }
 both_scanned Right = record {
   tree = marked_whole (tree_of right_history) 98 (50 ∷ []) letter_b right-entries;
   fits = fits_archive_by right_scan.marks (with_file 98 (digest (50 ∷ []))) right_marks-entries;
-  listed = λ path there stable. subst (λ at. WasTaken (take 4 transcript) Right (ListAt at) (Listed 2 (children right_scan.marks at))) (sym (root_only right_scan.marks 98 (sha256 (50 ∷ [])) right_marks-entries path there)) (1, (3, omega arith, refl));
+  listed =
+      λ path there stable. subst (λ at. WasTaken (take 4 transcript) Right (ListAt at)
+      (Listed 2 (children right_scan.marks at)))
+      (sym (root_only right_scan.marks 98 (sha256 (50 ∷ [])) right_marks-entries path there))
+      (1, (3, omega arith, refl));
   not_dir = λ path c. absurd (none_there path c);
   nothing_below = λ path c. absurd (none_there path c);
 }
@@ -66,7 +100,8 @@ sees_second : SeesBoth scans listed_at second_planned
 sees_second Left = (refl, refl)
 sees_second Right = (sym right_part, refl)
 
-makes_plan : MakesPlan (hearing right_lists (took Right 1 (ListAt root) (Listed 2 (children right_scan.marks root)))) begun_archive made
+makes_plan : MakesPlan (hearing right_lists
+    (took Right 1 (ListAt root) (Listed 2 (children right_scan.marks root)))) begun_archive made
 makes_plan = record {
   of_session = refl;
   prefers_none = refl;
@@ -74,7 +109,10 @@ makes_plan = record {
   begun = have_begun;
   scanned = both_scanned;
   items = sym plan_is;
-  seen = All-cons (SeesBoth scans listed_at) first_planned (second_planned ∷ []) sees_first (All-cons (SeesBoth scans listed_at) second_planned [] sees_second (All-nil (SeesBoth scans listed_at)));
+  seen =
+      All-cons (SeesBoth scans listed_at) first_planned (second_planned ∷ []) sees_first
+      (All-cons (SeesBoth scans listed_at) second_planned
+      [] sees_second (All-nil (SeesBoth scans listed_at)));
 }
 
 -- The steps of the coordinator
@@ -82,31 +120,58 @@ begins_session : Steps both_edited Start started
 begins_session = starts_so both_edited 1 refl refl refl refl (omega arith, omega arith) started refl
 
 takes_left_begun : Steps both_begun (Deliver 2) right_awaited
-takes_left_begun = goes_on_so both_begun both_begin Left 0 (Begin 7) (Begun 2) None [] (start_of both_begun.coordinator both_begin) [] [] [] refl refl refl coordinator.stays (stands (start_of both_begun.coordinator both_begin)) refl refl not_last
-    (asks_so number_of begun_archive right_begins [] [] tt tt tt (omega arith) (omega arith) ((refl, tt), tt, (refl, tt)) (omega arith, omega arith, omega arith))
+takes_left_begun =
+    goes_on_so both_begun both_begin Left 0 (Begin 7) (Begun 2) None
+    [] (start_of both_begun.coordinator both_begin) [] [] [] refl refl refl coordinator.stays
+    (stands (start_of both_begun.coordinator both_begin)) refl refl not_last
+    (asks_so number_of begun_archive right_begins [] [] tt tt tt (omega arith) (omega arith)
+    ((refl, tt), tt, (refl, tt)) (omega arith, omega arith, omega arith))
 
 takes_right_begun : Steps right_awaited (Deliver 3) listing
-takes_right_begun = goes_on_so right_awaited right_begins Right 0 (Begin 7) (Begun 2) None [] (start_of right_awaited.coordinator right_begins) [] (ListAt root ∷ []) (ListAt root ∷ []) refl refl refl coordinator.stays (stands (start_of right_awaited.coordinator right_begins)) refl refl not_last
-    (asks_so number_of begun_archive (runs_with 1 (take 2 transcript) [] [] None 0 []) (ListAt root ∷ []) (ListAt root ∷ []) ((refl, two_begun, inl refl), tt) ((refl, two_begun, inl refl), tt) ((omega arith, root_lawful), ((omega arith, root_lawful), tt))
-    (omega arith) (omega arith) ((refl, (refl, tt)), (refl, tt), (refl, tt)) (omega arith, omega arith, omega arith))
+takes_right_begun =
+    goes_on_so right_awaited right_begins Right 0 (Begin 7) (Begun 2) None
+    [] (start_of right_awaited.coordinator right_begins)
+    [] (ListAt root ∷ []) (ListAt root ∷ []) refl refl refl coordinator.stays
+    (stands (start_of right_awaited.coordinator right_begins)) refl refl not_last
+    (asks_so number_of begun_archive (runs_with 1 (take 2 transcript) [] [] None 0 []) (ListAt root
+    ∷ []) (ListAt root ∷ []) ((refl, two_begun, inl refl), tt) ((refl, two_begun, inl refl), tt)
+    ((omega arith, root_lawful), ((omega arith, root_lawful), tt))
+    (omega arith) (omega arith) ((refl, (refl, tt)), (refl, tt), (refl, tt))
+    (omega arith, omega arith, omega arith))
 
-left_listing : fault_of (take 2 transcript) Left (ListAt root) (Listed 2 (children left_scan.marks root)) ≡ None
-left_listing = ap (λ entries. fault_of (take 2 transcript) Left (ListAt root) (Listed 2 entries)) (children_by left_scan.marks (with_file 97 (digest (49 ∷ []))) left_marks-entries)
+left_listing : fault_of (take 2 transcript) Left (ListAt root)
+    (Listed 2 (children left_scan.marks root)) ≡ None
+left_listing =
+    ap (λ entries. fault_of (take 2 transcript) Left (ListAt root) (Listed 2 entries))
+    (children_by left_scan.marks (with_file 97 (digest (49 ∷ []))) left_marks-entries)
 
-right_listing : fault_of (take 3 transcript) Right (ListAt root) (Listed 2 (children right_scan.marks root)) ≡ None
-right_listing = ap (λ entries. fault_of (take 3 transcript) Right (ListAt root) (Listed 2 entries)) (children_by right_scan.marks (with_file 98 (digest (50 ∷ []))) right_marks-entries)
+right_listing : fault_of (take 3 transcript) Right (ListAt root)
+    (Listed 2 (children right_scan.marks root)) ≡ None
+right_listing =
+    ap (λ entries. fault_of (take 3 transcript) Right (ListAt root) (Listed 2 entries))
+    (children_by right_scan.marks (with_file 98 (digest (50 ∷ []))) right_marks-entries)
 
 takes_left_listing : Steps both_listed (Deliver 6) right_list_awaited
-takes_left_listing = goes_on_so both_listed both_list Left 1 (ListAt root) (Listed 2 (children left_scan.marks root)) None [] (start_of both_listed.coordinator both_list) [] [] [] refl refl left_listing coordinator.stays (stands (start_of both_listed.coordinator both_list)) refl refl not_last
-    (asks_so number_of begun_archive right_lists [] [] tt tt tt (omega arith) (omega arith) ((refl, (refl, (refl, tt))), tt, (refl, tt)) (omega arith, omega arith, omega arith))
+takes_left_listing =
+    goes_on_so both_listed both_list Left 1 (ListAt root) (Listed 2 (children left_scan.marks root))
+    None [] (start_of both_listed.coordinator both_list) [] [] [] refl refl left_listing
+    coordinator.stays (stands (start_of both_listed.coordinator both_list)) refl refl not_last
+    (asks_so number_of begun_archive right_lists [] [] tt tt tt (omega arith) (omega arith)
+    ((refl, (refl, (refl, tt))), tt, (refl, tt)) (omega arith, omega arith, omega arith))
 
 first-entries : entries first_archive.marks ≡ with_file 97 (digest (49 ∷ []))
-first-entries = put-entries empty_directory (mark one) 97 (digest (49 ∷ [])) alone-entries (file_mark-entries (49 ∷ []))
+first-entries =
+    put-entries empty_directory (mark one) 97 (digest (49 ∷ [])) alone-entries
+    (file_mark-entries (49 ∷ []))
 
 can_record_first : CanKeep begun_archive (Recorded a_path (mark one))
 can_record_first = record {
   lawful = (path_of_letter 97 letter_a, are_marks (49 ∷ []));
-  not_refused = rw (get_by empty_directory alone root alone-entries, fits_archive_by first_archive.marks (with_file 97 (digest (49 ∷ []))) first-entries) refl;
+  not_refused =
+      rw (
+        get_by empty_directory alone root alone-entries,
+        fits_archive_by first_archive.marks (with_file 97 (digest (49 ∷ []))) first-entries,
+      ) refl;
 }
 
 abbrev both_marks : List Pair
@@ -114,74 +179,202 @@ both_marks = (root, Directory) ∷ (a_path, digest (49 ∷ [])) ∷ (b_path, dig
 
 can_record_second : CanKeep first_archive (Recorded b_path (mark two))
 can_record_second =
-    let both = replace-entries first_archive.marks b_path (mark two) (with_file 97 (digest (49 ∷ []))) ((root, digest (50 ∷ [])) ∷ []) first-entries (file_mark-entries (50 ∷ [])) in
+    let both = replace-entries first_archive.marks b_path (mark two)
+    (with_file 97 (digest (49 ∷ []))) ((root, digest (50 ∷ [])) ∷ []) first-entries
+    (file_mark-entries (50 ∷ [])) in
     record {
       lawful = (path_of_letter 98 letter_b, are_marks (50 ∷ []));
-      not_refused = rw (get_by first_archive.marks (with_file 97 (digest (49 ∷ []))) root first-entries, fits_archive_by both_archive.marks both_marks both) refl;
+      not_refused =
+          rw (
+            get_by first_archive.marks (with_file 97 (digest (49 ∷ []))) root first-entries,
+            fits_archive_by both_archive.marks both_marks both,
+          ) refl;
     }
 
 takes_right_listing : Steps right_list_awaited (Deliver 7) fetching
-takes_right_listing = goes_on_so right_list_awaited right_lists Right 1 (ListAt root) (Listed 2 (children right_scan.marks root)) (Some plan) (made ∷ []) (start_of right_list_awaited.coordinator right_lists) [] (Fetch a_path 2 0 ∷ []) [] refl refl right_listing (makes made refl makes_plan)
+takes_right_listing =
+    goes_on_so right_list_awaited right_lists Right 1 (ListAt root)
+    (Listed 2 (children right_scan.marks root)) (Some plan) (made ∷ [])
+    (start_of right_list_awaited.coordinator right_lists) [] (Fetch a_path 2 0 ∷ [])
+    [] refl refl right_listing (makes made refl makes_plan)
     (stands (start_of right_list_awaited.coordinator right_lists)) refl refl not_last
-    (asks_so number_of begun_archive (runs_with 1 (take 4 transcript) [] [] (Some plan) 0 []) (Fetch a_path 2 0 ∷ []) [] ((first_planned, refl, (refl, refl, can_record_first.not_refused, inl refl, refl)), tt) tt ((omega arith, (path_of_letter 97 letter_a, omega arith, omega arith)), tt)
-    (omega arith) (omega arith) ((refl, (refl, (refl, (refl, tt)))), (refl, tt), tt) (omega arith, omega arith, omega arith))
+    (asks_so number_of begun_archive
+    (runs_with 1 (take 4 transcript) [] [] (Some plan) 0 []) (Fetch a_path 2 0 ∷ [])
+    [] ((first_planned, refl, (refl, refl, can_record_first.not_refused, inl refl, refl)), tt) tt
+    ((omega arith, (path_of_letter 97 letter_a, omega arith, omega arith)), tt)
+    (omega arith) (omega arith) ((refl, (refl, (refl, (refl, tt)))), (refl, tt), tt)
+    (omega arith, omega arith, omega arith))
 
 first_bytes_lawful : AreBytes file_bytes
-first_bytes_lawful = All-from_recursion (λ byte. byte < 256) file_bytes (omega arith, (omega arith, (omega arith, (omega arith, (omega arith, (omega arith, tt))))))
+first_bytes_lawful =
+    All-from_recursion (λ byte. byte < 256) file_bytes
+    (omega arith, (omega arith, (omega arith, (omega arith, (omega arith, (omega arith, tt))))))
 
 takes_first_piece : Steps fetched (Deliver 9) staging
-takes_first_piece = goes_on_so fetched left_fetches Left 2 (Fetch a_path 2 0) (Piece 6 file_bytes) (Some plan) [] (start_of fetched.coordinator left_fetches) [] [] (Stage 0 0 file_bytes ∷ []) refl refl refl coordinator.stays (stands (start_of fetched.coordinator left_fetches)) refl refl not_last
-    (asks_so number_of begun_archive (runs_with 1 (take 5 transcript) [] [] (Some plan) 0 []) [] (Stage 0 0 file_bytes ∷ []) tt ((refl, (first_planned, refl, (refl, 6, (2, (4, omega arith, refl))))), tt) ((omega arith, (omega arith, omega arith, (omega arith, omega arith, first_bytes_lawful))), tt)
-    (omega arith) (omega arith) ((refl, (refl, (refl, (refl, (refl, tt))))), tt, (refl, tt)) (omega arith, omega arith, omega arith))
+takes_first_piece =
+    goes_on_so fetched left_fetches Left 2 (Fetch a_path 2 0) (Piece 6 file_bytes) (Some plan)
+    [] (start_of fetched.coordinator left_fetches) [] [] (Stage 0 0 file_bytes ∷ []) refl refl
+    refl coordinator.stays (stands (start_of fetched.coordinator left_fetches)) refl refl not_last
+    (asks_so number_of begun_archive (runs_with 1 (take 5 transcript) [] [] (Some plan) 0 [])
+    [] (Stage 0 0 file_bytes ∷ []) tt
+    ((refl, (first_planned, refl, (refl, 6, (2, (4, omega arith, refl))))), tt) (
+      (
+        omega arith,
+        (omega arith, omega arith, (omega arith, omega arith, first_bytes_lawful)),
+      ),
+      tt,
+    )
+    (omega arith) (omega arith) ((refl, (refl, (refl, (refl, (refl, tt))))), tt, (refl, tt))
+    (omega arith, omega arith, omega arith))
 
 takes_first_staged : Steps staged (Deliver 11) replacing
-takes_first_staged = goes_on_so staged right_stages Right 2 (Stage 0 0 file_bytes) Staged (Some plan) [] (start_of staged.coordinator right_stages) [] [] (Replace 0 a_path 2 6 ∷ []) refl refl refl coordinator.stays (stands (start_of staged.coordinator right_stages)) refl refl not_last
-    (asks_so number_of begun_archive (runs_with 1 (take 6 transcript) [] [] (Some plan) 0 []) [] (Replace 0 a_path 2 6 ∷ []) tt ((refl, (first_planned, refl, (refl, refl, 0, file_bytes, (2, (4, omega arith, refl)), inr (0, file_bytes, (2, (5, omega arith, refl)), refl)))), tt) ((omega arith, (omega arith, path_of_letter 97 letter_a, omega arith, omega arith)), tt)
-    (omega arith) (omega arith) ((refl, (refl, (refl, (refl, (refl, (refl, tt)))))), tt, (refl, tt)) (omega arith, omega arith, omega arith))
+takes_first_staged =
+    goes_on_so staged right_stages Right 2 (Stage 0 0 file_bytes) Staged (Some plan)
+    [] (start_of staged.coordinator right_stages) [] [] (Replace 0 a_path 2 6 ∷ []) refl refl refl
+    coordinator.stays (stands (start_of staged.coordinator right_stages)) refl refl not_last
+    (asks_so number_of begun_archive (runs_with 1 (take 6 transcript) [] [] (Some plan) 0 [])
+    [] (Replace 0 a_path 2 6 ∷ []) tt (
+      (
+        refl,
+        (
+          first_planned,
+          refl,
+          (
+            refl,
+            refl,
+            0,
+            file_bytes,
+            (2, (4, omega arith, refl)),
+            inr (0, file_bytes, (2, (5, omega arith, refl)), refl),
+          ),
+        ),
+      ),
+      tt,
+    )
+    ((omega arith, (omega arith, path_of_letter 97 letter_a, omega arith, omega arith)), tt)
+    (omega arith) (omega arith) ((refl, (refl, (refl, (refl, (refl, (refl, tt)))))), tt, (refl, tt))
+    (omega arith, omega arith, omega arith))
 
 takes_first_done : Steps replaced (Deliver 13) second_fetching
 takes_first_done =
     let walk = start_of replaced.coordinator right_replaces in
-    goes_on_so replaced right_replaces Right 3 (Replace 0 a_path 2 6) Done (Some plan) [] (recorded 7 walk (Recorded a_path (mark one))) (Recorded a_path (mark one) ∷ []) [] (Fetch b_path 2 0 ∷ []) refl refl refl coordinator.stays
-    (keeps_so 7 plan (took Right 3 (Replace 0 a_path 2 6) Done) walk (Recorded a_path (mark one)) first_planned refl (done a_path 2 6 refl refl refl) can_record_first refl refl refl (ap (λ size. nat_le size 4194252) (letter_size 97 (49 ∷ [])))) refl refl (λ _ e. omega (arith, e))
-    (asks_so number_of first_archive (runs_with 1 (take 7 transcript) [] [] (Some plan) 1 (Recorded a_path (mark one) ∷ [])) [] (Fetch b_path 2 0 ∷ []) tt ((second_planned, refl, (refl, refl, can_record_second.not_refused, inl refl, refl)), tt) ((omega arith, (path_of_letter 98 letter_b, omega arith, omega arith)), tt)
-    (omega arith) (omega arith) ((refl, (refl, (refl, (refl, (refl, (refl, (refl, tt))))))), tt, (refl, tt)) (omega arith, omega arith, omega arith))
+    goes_on_so replaced right_replaces Right 3 (Replace 0 a_path 2 6) Done (Some plan)
+    [] (recorded 7 walk (Recorded a_path (mark one))) (Recorded a_path (mark one) ∷ [])
+    [] (Fetch b_path 2 0 ∷ []) refl refl refl coordinator.stays
+    (keeps_so 7 plan (took Right 3 (Replace 0 a_path 2 6) Done) walk (Recorded a_path (mark one))
+    first_planned refl (done a_path 2 6 refl refl refl) can_record_first refl refl refl (ap
+    (λ size. nat_le size 4194252) (letter_size 97 (49 ∷ [])))) refl refl (λ _ e. omega (arith, e))
+    (asks_so number_of first_archive (runs_with 1 (take 7 transcript) []
+    [] (Some plan) 1 (Recorded a_path (mark one) ∷ [])) [] (Fetch b_path 2 0 ∷ []) tt
+    ((second_planned, refl, (refl, refl, can_record_second.not_refused, inl refl, refl)), tt)
+    ((omega arith, (path_of_letter 98 letter_b, omega arith, omega arith)), tt)
+    (omega arith) (omega arith) (
+      (refl, (refl, (refl, (refl, (refl, (refl, (refl, tt))))))),
+      tt,
+      (refl, tt),
+    ) (omega arith, omega arith, omega arith))
 
 second_bytes_lawful : AreBytes two_bytes
-second_bytes_lawful = All-from_recursion (λ byte. byte < 256) two_bytes (omega arith, (omega arith, (omega arith, (omega arith, (omega arith, (omega arith, tt))))))
+second_bytes_lawful =
+    All-from_recursion (λ byte. byte < 256) two_bytes
+    (omega arith, (omega arith, (omega arith, (omega arith, (omega arith, (omega arith, tt))))))
 
 takes_second_piece : Steps second_fetched (Deliver 15) second_staging
-takes_second_piece = goes_on_so second_fetched right_fetches Right 4 (Fetch b_path 2 0) (Piece 6 two_bytes) (Some plan) [] (start_of second_fetched.coordinator right_fetches) [] (Stage 1 0 two_bytes ∷ []) [] refl refl refl coordinator.stays (stands (start_of second_fetched.coordinator right_fetches)) refl refl not_last
-    (asks_so number_of first_archive (runs_with 1 (take 8 transcript) [] [] (Some plan) 1 (Recorded a_path (mark one) ∷ [])) (Stage 1 0 two_bytes ∷ []) [] ((refl, (second_planned, refl, (refl, 6, (4, (7, omega arith, refl))))), tt) tt ((omega arith, (omega arith, omega arith, (omega arith, omega arith, second_bytes_lawful))), tt)
-    (omega arith) (omega arith) ((refl, (refl, (refl, (refl, (refl, (refl, (refl, (refl, tt)))))))), (refl, tt), tt) (omega arith, omega arith, omega arith))
+takes_second_piece =
+    goes_on_so second_fetched right_fetches Right 4 (Fetch b_path 2 0) (Piece 6 two_bytes)
+    (Some plan) [] (start_of second_fetched.coordinator right_fetches)
+    [] (Stage 1 0 two_bytes ∷ []) [] refl refl refl coordinator.stays
+    (stands (start_of second_fetched.coordinator right_fetches)) refl refl not_last
+    (asks_so number_of first_archive (runs_with 1 (take 8 transcript) []
+    [] (Some plan) 1 (Recorded a_path (mark one) ∷ [])) (Stage 1 0 two_bytes ∷ []) []
+    ((refl, (second_planned, refl, (refl, 6, (4, (7, omega arith, refl))))), tt) tt (
+      (
+        omega arith,
+        (omega arith, omega arith, (omega arith, omega arith, second_bytes_lawful)),
+      ),
+      tt,
+    )
+    (omega arith) (omega arith) (
+      (refl, (refl, (refl, (refl, (refl, (refl, (refl, (refl, tt)))))))),
+      (refl, tt),
+      tt,
+    ) (omega arith, omega arith, omega arith))
 
 takes_second_staged : Steps second_staged (Deliver 17) second_replacing
-takes_second_staged = goes_on_so second_staged left_stages Left 3 (Stage 1 0 two_bytes) Staged (Some plan) [] (start_of second_staged.coordinator left_stages) [] (Replace 1 b_path 2 6 ∷ []) [] refl refl refl coordinator.stays (stands (start_of second_staged.coordinator left_stages)) refl refl not_last
-    (asks_so number_of first_archive (runs_with 1 (take 9 transcript) [] [] (Some plan) 1 (Recorded a_path (mark one) ∷ [])) (Replace 1 b_path 2 6 ∷ []) [] ((refl, (second_planned, refl, (refl, refl, 0, two_bytes, (4, (7, omega arith, refl)), inr (0, two_bytes, (3, (8, omega arith, refl)), refl)))), tt) tt ((omega arith, (omega arith, path_of_letter 98 letter_b, omega arith, omega arith)), tt)
-    (omega arith) (omega arith) ((refl, (refl, (refl, (refl, (refl, (refl, (refl, (refl, (refl, tt))))))))), (refl, tt), tt) (omega arith, omega arith, omega arith))
+takes_second_staged =
+    goes_on_so second_staged left_stages Left 3 (Stage 1 0 two_bytes) Staged (Some plan)
+    [] (start_of second_staged.coordinator left_stages) [] (Replace 1 b_path 2 6 ∷ [])
+    [] refl refl refl coordinator.stays
+    (stands (start_of second_staged.coordinator left_stages)) refl refl not_last
+    (asks_so number_of first_archive
+    (runs_with 1 (take 9 transcript) [] [] (Some plan) 1 (Recorded a_path (mark one) ∷ []))
+    (Replace 1 b_path 2 6 ∷ []) [] (
+      (
+        refl,
+        (
+          second_planned,
+          refl,
+          (
+            refl,
+            refl,
+            0,
+            two_bytes,
+            (4, (7, omega arith, refl)),
+            inr (0, two_bytes, (3, (8, omega arith, refl)), refl),
+          ),
+        ),
+      ),
+      tt,
+    ) tt
+    ((omega arith, (omega arith, path_of_letter 98 letter_b, omega arith, omega arith)), tt)
+    (omega arith) (omega arith)
+    ((refl, (refl, (refl, (refl, (refl, (refl, (refl, (refl, (refl, tt))))))))), (refl, tt), tt)
+    (omega arith, omega arith, omega arith))
 
-second_fits : nat_le (record_size (kept_spelling (Recorded b_path (mark two)))) (4194252 - record_size (kept_spelling (Recorded a_path (mark one)))) ≡ true
-second_fits = ap (λ size. nat_le size (4194252 - record_size (kept_spelling (Recorded a_path (mark one))))) (letter_size 98 (50 ∷ [])) ∙ ap (λ size. nat_le 42 (4194252 - size)) (letter_size 97 (49 ∷ []))
+second_fits : nat_le (record_size (kept_spelling (Recorded b_path (mark two))))
+    (4194252 - record_size (kept_spelling (Recorded a_path (mark one)))) ≡ true
+second_fits =
+    ap (λ size. nat_le size (4194252 - record_size (kept_spelling (Recorded a_path (mark one)))))
+    (letter_size 98 (50 ∷ []))
+    ∙ ap (λ size. nat_le 42 (4194252 - size)) (letter_size 97 (49 ∷ []))
 
 takes_second_done : Steps second_replaced (Deliver 19) exchanged
 takes_second_done =
     let walk = start_of second_replaced.coordinator left_replaces in
-    ends_so second_replaced left_replaces Left 4 (Replace 1 b_path 2 6) Done plan [] (recorded 7 walk (Recorded b_path (mark two))) (Recorded b_path (mark two) ∷ []) refl refl refl coordinator.stays
-    (keeps_so 7 plan (took Left 4 (Replace 1 b_path 2 6) Done) walk (Recorded b_path (mark two)) second_planned refl (done b_path 2 6 refl refl refl) can_record_second refl refl refl second_fits) refl refl
+    ends_so second_replaced left_replaces Left 4 (Replace 1 b_path 2 6) Done plan
+    [] (recorded 7 walk (Recorded b_path (mark two)))
+    (Recorded b_path (mark two) ∷ []) refl refl refl coordinator.stays
+    (keeps_so 7 plan (took Left 4 (Replace 1 b_path 2 6) Done) walk
+    (Recorded b_path (mark two)) second_planned refl
+    (done b_path 2 6 refl refl refl) can_record_second refl refl refl second_fits) refl refl
 
 -- The whole run
 left_has : HasBoth (tree_of left_done.history) one two
 unfolding tree_of
-left_has = record { first_there = stays empty_directory one two a_path b_path refl; second_there = subtree-replace (replace empty_directory a_path one) b_path two }
+left_has =
+    record {
+      first_there = stays empty_directory one two a_path b_path refl;
+      second_there = subtree-replace (replace empty_directory a_path one) b_path two;
+    }
 
 right_has : HasBoth (tree_of right_done.history) one two
 unfolding tree_of
-right_has = record { first_there = subtree-replace (replace empty_directory b_path two) a_path one; second_there = stays empty_directory two one b_path a_path refl }
+right_has =
+    record {
+      first_there = subtree-replace (replace empty_directory b_path two) a_path one;
+      second_there = stays empty_directory two one b_path a_path refl;
+    }
 
 archive_has : HasBoth both_archive.marks (mark one) (mark two)
-archive_has = record { first_there = stays empty_directory (mark one) (mark two) a_path b_path refl; second_there = subtree-replace first_archive.marks b_path (mark two) }
+archive_has =
+    record {
+      first_there = stays empty_directory (mark one) (mark two) a_path b_path refl;
+      second_there = subtree-replace first_archive.marks b_path (mark two);
+    }
 
-quiet : IsQuietSession formatted exchanged.acknowledged exchanged.reports (complete 2) (record { left = Edited 1 put_one ∷ []; right = Edited 2 put_two ∷ []; archive = new_archive }) (stores_of exchanged)
+quiet : IsQuietSession formatted exchanged.acknowledged exchanged.reports (complete 2)
+    (record { left = Edited 1 put_one ∷ []; right = Edited 2 put_two ∷ []; archive = new_archive })
+    (stores_of exchanged)
 quiet = record {
   acks = 9;
   reported = (0, omega arith, refl);
@@ -202,25 +395,91 @@ quiet = record {
   taken = refl;
 }
 
-begins : Runs opened_world (Edits Left 1 put_one ∷ Edits Right 2 put_two ∷ Start ∷ map Deliver (0 ∷ 1 ∷ 2 ∷ 3 ∷ [])) listing
-begins = (first_edited, edits_left, (both_edited, edits_right, (started, begins_session, (left_begun, begins_left, (both_begun, begins_right, (right_awaited, takes_left_begun, (listing, takes_right_begun, refl)))))))
+begins : Runs opened_world (Edits Left 1 put_one ∷ Edits Right 2 put_two ∷ Start
+    ∷ map Deliver (0 ∷ 1 ∷ 2 ∷ 3 ∷ [])) listing
+begins = (
+  first_edited,
+  edits_left,
+  (
+    both_edited,
+    edits_right,
+    (
+      started,
+      begins_session,
+      (
+        left_begun,
+        begins_left,
+        (
+          both_begun,
+          begins_right,
+          (right_awaited, takes_left_begun, (listing, takes_right_begun, refl)),
+        ),
+      ),
+    ),
+  ),
+)
 
 lists_both : Runs listing (map Deliver (4 ∷ 5 ∷ 6 ∷ 7 ∷ [])) fetching
-lists_both = (left_listed, lists_left, (both_listed, lists_right, (right_list_awaited, takes_left_listing, (fetching, takes_right_listing, refl))))
+lists_both = (
+  left_listed,
+  lists_left,
+  (
+    both_listed,
+    lists_right,
+    (right_list_awaited, takes_left_listing, (fetching, takes_right_listing, refl)),
+  ),
+)
 
 carries_first : Runs fetching (map Deliver (8 ∷ 9 ∷ 10 ∷ 11 ∷ 12 ∷ 13 ∷ [])) second_fetching
-carries_first = (fetched, fetches_first, (staging, takes_first_piece, (staged, stages_first, (replacing, takes_first_staged, (replaced, replaces_first, (second_fetching, takes_first_done, refl))))))
+carries_first = (
+  fetched,
+  fetches_first,
+  (
+    staging,
+    takes_first_piece,
+    (
+      staged,
+      stages_first,
+      (
+        replacing,
+        takes_first_staged,
+        (replaced, replaces_first, (second_fetching, takes_first_done, refl)),
+      ),
+    ),
+  ),
+)
 
 carries_second : Runs second_fetching (map Deliver (14 ∷ 15 ∷ 16 ∷ 17 ∷ 18 ∷ 19 ∷ [])) exchanged
-carries_second =
-    (second_fetched, fetches_second, (second_staging, takes_second_piece, (second_staged, stages_second, (second_replacing, takes_second_staged, (second_replaced, replaces_second, (exchanged, takes_second_done, refl))))))
+carries_second = (
+  second_fetched,
+  fetches_second,
+  (
+    second_staging,
+    takes_second_piece,
+    (
+      second_staged,
+      stages_second,
+      (
+        second_replacing,
+        takes_second_staged,
+        (second_replaced, replaces_second, (exchanged, takes_second_done, refl)),
+      ),
+    ),
+  ),
+)
 
 pub files_are_exchanged : FilesAreExchanged
 files_are_exchanged = record {
   new = exchanged;
-  runs = runs_on_from opened_world listing exchanged (Edits Left 1 put_one ∷ Edits Right 2 put_two ∷ Start ∷ map Deliver (0 ∷ 1 ∷ 2 ∷ 3 ∷ [])) (map Deliver (4 ∷ 5 ∷ 6 ∷ 7 ∷ 8 ∷ 9 ∷ 10 ∷ 11 ∷ 12 ∷ 13 ∷ 14 ∷ 15 ∷ 16 ∷ 17 ∷ 18 ∷ 19 ∷ [])) begins
-      (runs_on_from listing fetching exchanged (map Deliver (4 ∷ 5 ∷ 6 ∷ 7 ∷ [])) (map Deliver (8 ∷ 9 ∷ 10 ∷ 11 ∷ 12 ∷ 13 ∷ 14 ∷ 15 ∷ 16 ∷ 17 ∷ 18 ∷ 19 ∷ [])) lists_both
-      (runs_on_from fetching second_fetching exchanged (map Deliver (8 ∷ 9 ∷ 10 ∷ 11 ∷ 12 ∷ 13 ∷ [])) (map Deliver (14 ∷ 15 ∷ 16 ∷ 17 ∷ 18 ∷ 19 ∷ [])) carries_first carries_second));
+  runs =
+      runs_on_from opened_world listing exchanged
+      (Edits Left 1 put_one ∷ Edits Right 2 put_two ∷ Start ∷ map Deliver (0 ∷ 1 ∷ 2 ∷ 3 ∷ []))
+      (map Deliver (4 ∷ 5 ∷ 6 ∷ 7 ∷ 8 ∷ 9 ∷ 10 ∷ 11 ∷ 12 ∷ 13 ∷ 14 ∷ 15 ∷ 16 ∷ 17 ∷ 18 ∷ 19 ∷ []))
+      begins
+      (runs_on_from listing fetching exchanged (map Deliver (4 ∷ 5 ∷ 6 ∷ 7 ∷ []))
+      (map Deliver (8 ∷ 9 ∷ 10 ∷ 11 ∷ 12 ∷ 13 ∷ 14 ∷ 15 ∷ 16 ∷ 17 ∷ 18 ∷ 19 ∷ [])) lists_both
+      (runs_on_from fetching second_fetching exchanged (map Deliver (8 ∷ 9 ∷ 10 ∷ 11 ∷ 12 ∷ 13
+      ∷ [])) (map Deliver (14 ∷ 15 ∷ 16 ∷ 17 ∷ 18 ∷ 19 ∷ [])) carries_first carries_second));
   sent = refl;
   acknowledged_then = refl;
   reported = refl;

@@ -1,23 +1,40 @@
--- An edit whose third device call fails, and the reopening after it; and a checkpoint that is cut off.
-use Rattle.std.proofs.Common.{◌≡◌, true, ◌⊎◌, ℕ, ◌≢◌, List, [], ◌∷◌, refl, Some, None, arith, inl, inr}
+-- An edit whose third device call fails, and the reopening after it; and a checkpoint that is cut
+-- off.
+use Rattle.std.proofs.Common.{◌≡◌, true, ◌⊎◌, ℕ, ◌≢◌, List, [], ◌∷◌, refl, Some, None, arith, inl}
+use Rattle.std.proofs.Common.{inr}
 use Rattle.syn_model.specs.Refusal.{Device, Halted as Halted_before}
 use Rattle.syn_model.specs.Event.{Edited}
 use Rattle.syn_headline.specs.Network.{Left}
 use Rattle.syn_headline.specs.Acknowledged.{Happened}
-use Rattle.syn_headline.specs.Machine.{Halted, Down, unarmed, room_behind, all_made, one_fails, one_stops, written, unwritten, not_compacted, opened, recovered}
+use Rattle.syn_headline.specs.Machine.{Halted, Down, unarmed, room_behind, all_made, one_fails}
+use Rattle.syn_headline.specs.Machine.{one_stops, written, unwritten, not_compacted, opened}
+use Rattle.syn_headline.specs.Machine.{recovered}
 use Rattle.syn_headline.specs.SideMachine.{SideMachine}
-use Rattle.syn_headline.specs.World.{World, Step, At, Edits, Fail, Reopen, Steps, Runs, compacts_side, opens, opens_side, reopens}
+use Rattle.syn_headline.specs.World.{World, Step, At, Edits, Fail, Reopen, Steps, Runs}
+use Rattle.syn_headline.specs.World.{compacts_side, opens, opens_side, reopens}
 use Rattle.syn_model.specs.Image.{image_spelling}
 use Rattle.syn_model.specs.History.{standing_of}
-use Rattle.syn_witness.specs.Witness.{CutCheckpoint, CheckpointIsCut, new_room, new_machine, opened_world, FailIsRefused, put_one}
-use Rattle.syn_witness.proofs.WitnessSteps.{room_of, machine_of, edits_so, meets_unarmed, up_not_down}
+use Rattle.syn_witness.specs.Witness.{CutCheckpoint, CheckpointIsCut, new_room, new_machine}
+use Rattle.syn_witness.specs.Witness.{opened_world, FailIsRefused, put_one}
+use Rattle.syn_witness.proofs.WitnessSteps.{room_of, machine_of, edits_so, meets_unarmed}
+use Rattle.syn_witness.proofs.WitnessSteps.{up_not_down}
 use Rattle.syn_witness.proofs.WitnessLemmas.{edit_allowed}
 
 armed_world : World
-armed_world = record opened_world { left = record new_machine { journal = record new_machine.journal { arms = record { fail = 3; stop = 0 } } } }
+armed_world =
+    record opened_world {
+      left = record new_machine
+          { journal = record new_machine.journal { arms = record { fail = 3; stop = 0 } } };
+    }
 
 halted_world : World
-halted_world = record opened_world { left = record new_machine { journal = record new_machine.journal { status = Halted; writing = Some (Edited 1 put_one); failures = 1 } } }
+halted_world =
+    record opened_world {
+      left = record new_machine {
+        journal = record new_machine.journal
+            { status = Halted; writing = Some (Edited 1 put_one); failures = 1 };
+      };
+    }
 
 refused_world : World
 refused_world = record halted_world { refusals = Device ∷ [] }
@@ -27,36 +44,59 @@ twice_refused = record halted_world { refusals = Device ∷ Halted_before ∷ []
 
 recovered_world : World
 recovered_world = record twice_refused {
-  left = record { journal = record (machine_of (record { history = Edited 1 put_one ∷ []; staging = None })).journal { failures = 1 }; staging = None };
+  left =
+      record {
+        journal =
+            record (machine_of (record { history = Edited 1 put_one ∷ []; staging = None })).journal
+            { failures = 1 };
+        staging = None;
+      };
   acknowledged = Happened Left (Edited 1 put_one) ∷ [];
 }
 
 lost_world : World
-lost_world = record twice_refused { left = record new_machine { journal = record new_machine.journal { failures = 1 } } }
+lost_world =
+    record twice_refused
+    { left = record new_machine { journal = record new_machine.journal { failures = 1 } } }
 
 halted_not_down : Halted ≢ Down
 halted_not_down e = cc
 
 -- up to the reopening
-refuses : (steps : List Step) (new : World) → Runs twice_refused steps new → Runs opened_world (Fail (At Left) 3 ∷ Edits Left 1 put_one ∷ Edits Left 1 put_one ∷ steps) new
+refuses : (steps : List Step) (new : World) → Runs twice_refused steps new →
+    Runs opened_world (Fail (At Left) 3 ∷ Edits Left 1 put_one ∷ Edits Left 1 put_one ∷ steps) new
 unfolding armed_world halted_world refused_world twice_refused
 refuses steps new more = (
   armed_world,
   inr (up_not_down, refl),
   (
     refused_world,
-    edits_so armed_world Left 1 put_one halted_world.left.journal [] refused_world refl refl edit_allowed (unwritten Halted unarmed 1 refl (inl refl) (one_fails 2 (omega arith) (inr (omega arith)) (inl refl))) refl,
+    edits_so armed_world Left 1 put_one halted_world.left.journal
+        [] refused_world refl refl edit_allowed (unwritten Halted unarmed 1 refl (inl refl)
+        (one_fails 2 (omega arith) (inr (omega arith)) (inl refl))) refl,
     (twice_refused, inr (halted_not_down, inl (Halted_before, refl, refl)), more),
   ),
 )
 
 gives_back : Steps twice_refused (Reopen (At Left)) recovered_world
 unfolding halted_world twice_refused recovered_world
-gives_back = inr (halted_not_down, reopens 1 recovered_world (omega arith) (opens_side Left recovered_world.left.journal (Edited 1 put_one ∷ []) (recovered unarmed (Edited 1 put_one) (meets_unarmed 1) refl edit_allowed)))
+gives_back =
+    inr (
+      halted_not_down,
+      reopens 1 recovered_world (omega arith)
+          (opens_side Left recovered_world.left.journal (Edited 1 put_one ∷ [])
+          (recovered unarmed (Edited 1 put_one) (meets_unarmed 1) refl edit_allowed)),
+    )
 
 loses : Steps twice_refused (Reopen (At Left)) lost_world
 unfolding halted_world twice_refused lost_world
-loses = inr (halted_not_down, reopens 1 lost_world (omega arith) (opens_side Left lost_world.left.journal [] (opened new_room 1 unarmed (meets_unarmed 1) (inl (refl, refl)))))
+loses =
+    inr (
+      halted_not_down,
+      reopens 1 lost_world (omega arith) (opens_side Left
+          lost_world.left.journal
+          [] (opened new_room 1 unarmed (meets_unarmed 1) (inl (refl, refl)))),
+    )
 
 pub fail_is_refused : FailIsRefused
 unfolding halted_world twice_refused recovered_world lost_world
@@ -82,22 +122,41 @@ fail_is_refused = (
 -- A checkpoint that is cut off after its fifth call
 
 nine_ahead : World
-nine_ahead = record opened_world { left = record new_machine { journal = record new_machine.journal { arms = record { fail = 0; stop = 9 } } } }
+nine_ahead =
+    record opened_world {
+      left = record new_machine
+          { journal = record new_machine.journal { arms = record { fail = 0; stop = 9 } } };
+    }
 
 edited_machine : SideMachine
 edited_machine = machine_of (record { history = Edited 1 put_one ∷ []; staging = None })
 
 five_ahead : World
-five_ahead = record opened_world { left = record edited_machine { journal = record edited_machine.journal { arms = record { fail = 0; stop = 5 } } }; acknowledged = Happened Left (Edited 1 put_one) ∷ [] }
+five_ahead =
+    record opened_world {
+      left = record edited_machine
+          { journal = record edited_machine.journal { arms = record { fail = 0; stop = 5 } } };
+      acknowledged = Happened Left (Edited 1 put_one) ∷ [];
+    }
 
 cut_off_world : World
-cut_off_world = record five_ahead { left = record edited_machine { journal = record edited_machine.journal { status = Down; compacting = true } } }
+cut_off_world =
+    record five_ahead {
+      left = record edited_machine
+          { journal = record edited_machine.journal { status = Down; compacting = true } };
+    }
 
 found : ℕ → ℕ → World
-found room generation = record five_ahead { left = record edited_machine { journal = record edited_machine.journal { room = room; generation = generation } } }
+found room generation =
+    record five_ahead {
+      left = record edited_machine
+          { journal = record edited_machine.journal { room = room; generation = generation } };
+    }
 
 -- up to the opening
-cuts : (room generation : ℕ) → ((room ≡ room_of (Edited 1 put_one ∷ [])) × (generation ≡ 1)) ⊎ ((room ≡ room_behind (image_spelling 7 (standing_of (Edited 1 put_one ∷ [])))) × (generation ≡ 2)) → CutCheckpoint room generation
+cuts : (room generation : ℕ) → ((room ≡ room_of (Edited 1 put_one ∷ [])) × (generation ≡ 1))
+    ⊎ ((room ≡ room_behind (image_spelling 7 (standing_of (Edited 1 put_one ∷ []))))
+    × (generation ≡ 2)) → CutCheckpoint room generation
 unfolding nine_ahead edited_machine five_ahead cut_off_world found
 cuts room generation finds = record {
   new = found room generation;
@@ -106,11 +165,32 @@ cuts room generation finds = record {
     inr (up_not_down, refl),
     (
       five_ahead,
-      edits_so nine_ahead Left 1 put_one five_ahead.left.journal (Edited 1 put_one ∷ []) five_ahead refl refl edit_allowed (written five_ahead.left.journal.arms refl (all_made (inl refl) (inr (omega arith)))) refl,
+      edits_so nine_ahead Left 1 put_one five_ahead.left.journal
+          (Edited 1 put_one ∷ []) five_ahead refl refl edit_allowed
+          (written five_ahead.left.journal.arms refl (all_made (inl refl) (inr (omega arith))))
+          refl,
       (
         cut_off_world,
-        inr (up_not_down, inr (refl, cut_off_world, compacts_side Left cut_off_world.left.journal (not_compacted Down unarmed 0 (inr refl) (one_stops 4 0 (omega arith) (inl refl) refl (omega arith) (λ e. absurd (omega (arith, e))))), refl)),
-        (found room generation, inr (refl, opens 0 (found room generation) (opens_side Left (found room generation).left.journal [] (opened room generation unarmed (meets_unarmed 0) finds_it))), refl),
+        inr (
+          up_not_down,
+          inr (
+            refl,
+            cut_off_world,
+            compacts_side Left cut_off_world.left.journal
+                (not_compacted Down unarmed 0 (inr refl) (one_stops 4 0 (omega arith)
+                (inl refl) refl (omega arith) (λ e. absurd (omega (arith, e))))),
+            refl,
+          ),
+        ),
+        (
+          found room generation,
+          inr (
+            refl,
+            opens 0 (found room generation) (opens_side Left (found room generation).left.journal
+                [] (opened room generation unarmed (meets_unarmed 0) finds_it)),
+          ),
+          refl,
+        ),
       ),
     ),
   );
@@ -120,11 +200,16 @@ cuts room generation finds = record {
   ends_well = (refl, refl, refl, refl);
 }
   where
-    finds_it : ((room ≡ room_of (Edited 1 put_one ∷ [])) × (generation ≡ 1)) ⊎ ((true ≡ true) × (room ≡ room_behind (image_spelling 7 (standing_of (Edited 1 put_one ∷ [])))) × (generation ≡ 2))
-    finds_it = elim finds as (λ _. ((room ≡ room_of (Edited 1 put_one ∷ [])) × (generation ≡ 1)) ⊎ ((true ≡ true) × (room ≡ room_behind (image_spelling 7 (standing_of (Edited 1 put_one ∷ [])))) × (generation ≡ 2))) [
-      | inl same ↦ inl same
-      | inr alone ↦ inr (refl, alone.0, alone.1)
-    ]
+    finds_it : ((room ≡ room_of (Edited 1 put_one ∷ [])) × (generation ≡ 1)) ⊎ ((true ≡ true)
+        × (room ≡ room_behind (image_spelling 7 (standing_of (Edited 1 put_one ∷ []))))
+        × (generation ≡ 2))
+    finds_it =
+        elim finds as (λ _. ((room ≡ room_of (Edited 1 put_one ∷ [])) × (generation ≡ 1))
+        ⊎ ((true ≡ true) × (room ≡ room_behind
+        (image_spelling 7 (standing_of (Edited 1 put_one ∷ [])))) × (generation ≡ 2))) [
+          | inl same ↦ inl same
+          | inr alone ↦ inr (refl, alone.0, alone.1)
+        ]
 
 pub checkpoint_is_cut : CheckpointIsCut
 checkpoint_is_cut = (cuts _ 1 (inl (refl, refl)), cuts _ 2 (inr (refl, refl)))

@@ -1,61 +1,116 @@
 -- What no coordinator does.
-use Rattle.std.proofs.Common.{◌≡◌, ◌≢◌, ◌&&◌, ℕ, not, nat_lt, is_some, length, Bool, true, false, true≢false, if◌then◌else◌, [], ◌∷◌, refl, sym, ap, ◌∙◌, Option, Some, None, inl, inr}
+use Rattle.std.proofs.Common.{◌≡◌, ◌≢◌, ◌&&◌, ℕ, not, nat_lt, is_some, length, Bool, true, false}
+use Rattle.std.proofs.Common.{true≢false, if◌then◌else◌, [], ◌∷◌, refl, sym, ap, ◌∙◌, Option, Some}
+use Rattle.std.proofs.Common.{None, inl, inr}
 use Rattle.std.specs.Prelude.{All}
 use Rattle.std.proofs.lemmas.List.Elements.{All-nil, All-cons}
 use Rattle.std.proofs.lemmas.Option.{none-some, same_Some}
-use Rattle.syn_model.specs.Refusal.{Refusal, NoAnswer, Memory, TooLarge, BadMessage, Device, Halted, JournalFull}
+use Rattle.syn_model.specs.Refusal.{Refusal, NoAnswer, Memory, TooLarge, BadMessage, Device, Halted}
+use Rattle.syn_model.specs.Refusal.{JournalFull}
 use Rattle.syn_headline.specs.Report.{Report, Complete, Incomplete}
 use Rattle.syn_headline.specs.Machine.{Status}
-use Rattle.syn_headline.specs.Coordinator.{CoordinatorMachine, Running, Exchange, Call, Walk, Takes, EndsFor, CoordinatorTicks, is_resent, is_unstable, is_not_dir, is_whole, report_of, hearing, advanced, fault_of}
+use Rattle.syn_headline.specs.Coordinator.{CoordinatorMachine, Running, Exchange, Call, Walk, Takes}
+use Rattle.syn_headline.specs.Coordinator.{EndsFor, CoordinatorTicks, is_resent, is_unstable}
+use Rattle.syn_headline.specs.Coordinator.{is_not_dir, is_whole, report_of, hearing, advanced}
+use Rattle.syn_headline.specs.Coordinator.{fault_of}
 use Rattle.syn_headline.specs.Coordinator as coordinator
 use Rattle.syn_headline.proofs.FineRuns.{owe}
-use Rattle.syn_witness.specs.Forbidden.{StartsFresh, BeginsOnce, FaultsAlone, UnstableIsIncomplete, FailureEnds}
+use Rattle.syn_witness.specs.Forbidden.{StartsFresh, BeginsOnce, FaultsAlone, UnstableIsIncomplete}
+use Rattle.syn_witness.specs.Forbidden.{FailureEnds}
 
 pub one_report : (P : Report → Type 0) (report : Report) → P report → All P (report ∷ [])
 one_report P report h = All-cons P report [] h (All-nil P)
 
 -- requests that were just sent were not resent
-ticks_fresh : (machine new : CoordinatorMachine) (call : Call) (running : Running) → machine.running ≡ Some running → is_resent running ≡ false → CoordinatorTicks machine new call → All (λ report. report.ended ≢ Some NoAnswer) call.reports
-ticks_fresh machine _ _ running is fresh (coordinator.no_session none) = All-nil (λ report. report.ended ≢ Some NoAnswer)
-ticks_fresh machine _ _ running is fresh (coordinator.resends r e few) = All-nil (λ report. report.ended ≢ Some NoAnswer)
+ticks_fresh : (machine new : CoordinatorMachine) (call : Call) (running : Running) →
+    machine.running ≡ Some running → is_resent running ≡ false → CoordinatorTicks machine new call →
+    All (λ report. report.ended ≢ Some NoAnswer) call.reports
+ticks_fresh machine _ _ running is fresh (coordinator.no_session none) =
+    All-nil (λ report. report.ended ≢ Some NoAnswer)
+ticks_fresh machine _ _ running is fresh (coordinator.resends r e few) =
+    All-nil (λ report. report.ended ≢ Some NoAnswer)
 ticks_fresh machine _ _ running is fresh (coordinator.gives_up r why e (inl (late, because))) =
     absurd (true≢false (sym late ∙ (ap is_resent (same_Some _ _ (sym e ∙ is)) ∙ fresh)))
 ticks_fresh machine _ _ running is fresh (coordinator.gives_up r why e (inr (early, because))) =
-    one_report (λ report. report.ended ≢ Some NoAnswer) (report_of r (Some why)) (λ same. let x : Memory ≡ NoAnswer = sym because ∙ same_Some _ _ same in cc)
+    one_report (λ report. report.ended ≢ Some NoAnswer) (report_of r (Some why))
+    (λ same. let x : Memory ≡ NoAnswer = sym because ∙ same_Some _ _ same in cc)
 
-ticks_nothing : (machine new : CoordinatorMachine) (call : Call) → machine.running ≡ None → CoordinatorTicks machine new call → All (λ report. report.ended ≢ Some NoAnswer) call.reports
-ticks_nothing machine _ _ none (coordinator.no_session is) = All-nil (λ report. report.ended ≢ Some NoAnswer)
-ticks_nothing machine _ _ none (coordinator.resends r e few) = All-nil (λ report. report.ended ≢ Some NoAnswer)
-ticks_nothing machine _ _ none (coordinator.gives_up r why e because) = absurd (none-some _ (sym none ∙ e))
+ticks_nothing : (machine new : CoordinatorMachine) (call : Call) → machine.running ≡ None →
+    CoordinatorTicks machine new call → All (λ report. report.ended ≢ Some NoAnswer) call.reports
+ticks_nothing machine _ _ none (coordinator.no_session is) =
+    All-nil (λ report. report.ended ≢ Some NoAnswer)
+ticks_nothing machine _ _ none (coordinator.resends r e few) =
+    All-nil (λ report. report.ended ≢ Some NoAnswer)
+ticks_nothing machine _ _ none (coordinator.gives_up r why e because) =
+    absurd (none-some _ (sym none ∙ e))
 
 pub starts_fresh : StartsFresh
-starts_fresh pair old _ new _ ticked (coordinator.starts session journal next lawful keeps up) t = ticks_fresh _ new ticked _ refl refl t
-starts_fresh pair old _ new _ ticked (coordinator.start_breaks session journal kept next keeps broken) t = ticks_nothing _ new ticked refl t
+starts_fresh pair old _ new _ ticked (coordinator.starts session journal next lawful keeps up) t =
+    ticks_fresh _ new ticked _ refl refl t
+starts_fresh pair old _ new _ ticked
+    (coordinator.start_breaks session journal kept next keeps broken) t =
+    ticks_nothing _ new ticked refl t
 
 pub begins_once : BeginsOnce
-begins_once old new steps s g side session m n pair again c d = (owe old new steps s g).2 side session m n _ _ c d tt
+begins_once old new steps s g side session m n pair again c d =
+    (owe old new steps s g).2 side session m n _ _ c d tt
 
 -- why a session ends that took an answer without a fault
-ends_belong : (pair : ℕ) (running : Running) (taken : Exchange) (was : Status) (walk : Walk) (why : Option Refusal) → EndsFor pair running taken was walk why → (why ≢ Some TooLarge) × (why ≢ Some BadMessage)
-ends_belong pair running taken was walk _ (coordinator.settled some over up) = (λ e. none-some _ e, λ e. none-some _ e)
-ends_belong pair running taken was walk _ (coordinator.fails up now) = (λ e. let x : Device ≡ TooLarge = same_Some _ _ e in cc, λ e. let x : Device ≡ BadMessage = same_Some _ _ e in cc)
-ends_belong pair running taken was walk _ (coordinator.failed_before planned kept at due up now) = (λ e. let x : Halted ≡ TooLarge = same_Some _ _ e in cc, λ e. let x : Halted ≡ BadMessage = same_Some _ _ e in cc)
-ends_belong pair running taken was walk _ (coordinator.no_room_left kept full room) = (λ e. let x : JournalFull ≡ TooLarge = same_Some _ _ e in cc, λ e. let x : JournalFull ≡ BadMessage = same_Some _ _ e in cc)
-ends_belong pair running taken was walk _ (coordinator.no_memory same) = (λ e. let x : Memory ≡ TooLarge = same_Some _ _ e in cc, λ e. let x : Memory ≡ BadMessage = same_Some _ _ e in cc)
+ends_belong : (pair : ℕ) (running : Running) (taken : Exchange) (was : Status) (walk : Walk)
+    (why : Option Refusal) → EndsFor pair running taken was walk why →
+    (why ≢ Some TooLarge) × (why ≢ Some BadMessage)
+ends_belong pair running taken was walk _ (coordinator.settled some over up) =
+    (λ e. none-some _ e, λ e. none-some _ e)
+ends_belong pair running taken was walk _ (coordinator.fails up now) = (
+  λ e. let x : Device ≡ TooLarge = same_Some _ _ e in
+      cc,
+  λ e. let x : Device ≡ BadMessage = same_Some _ _ e in cc,
+)
+ends_belong pair running taken was walk _ (coordinator.failed_before planned kept at due up now) = (
+  λ e. let x : Halted ≡ TooLarge = same_Some _ _ e in
+      cc,
+  λ e. let x : Halted ≡ BadMessage = same_Some _ _ e in cc,
+)
+ends_belong pair running taken was walk _ (coordinator.no_room_left kept full room) = (
+  λ e. let x : JournalFull ≡ TooLarge = same_Some _ _ e in
+      cc,
+  λ e. let x : JournalFull ≡ BadMessage = same_Some _ _ e in cc,
+)
+ends_belong pair running taken was walk _ (coordinator.no_memory same) = (
+  λ e. let x : Memory ≡ TooLarge = same_Some _ _ e in
+      cc,
+  λ e. let x : Memory ≡ BadMessage = same_Some _ _ e in cc,
+)
 
 pub faults_alone : FaultsAlone
-faults_alone pair old running taken _ _ (coordinator.ends_at_once why (inl fault)) none = absurd (none-some _ (sym none ∙ fault))
+faults_alone pair old running taken _ _ (coordinator.ends_at_once why (inl fault)) none =
+    absurd (none-some _ (sym none ∙ fault))
 faults_alone pair old running taken _ _ (coordinator.ends_at_once why (inr memory)) none =
-    one_report (λ report. (report.ended ≢ Some TooLarge) × (report.ended ≢ Some BadMessage)) (report_of running (Some why))
-    (λ e. let x : Memory ≡ TooLarge = sym memory ∙ same_Some _ _ e in cc, λ e. let x : Memory ≡ BadMessage = sym memory ∙ same_Some _ _ e in cc)
-faults_alone pair old running taken _ _ (coordinator.stops plan logged walk kept fault has advances down) none = All-nil (λ report. (report.ended ≢ Some TooLarge) × (report.ended ≢ Some BadMessage))
-faults_alone pair old running taken _ _ (coordinator.ends plan logged walk kept why fault has advances ends) none =
-    one_report (λ report. (report.ended ≢ Some TooLarge) × (report.ended ≢ Some BadMessage)) (report_of (advanced (hearing running taken) plan walk kept) why) (ends_belong pair _ taken _ walk why ends)
-faults_alone pair old running taken _ _ (coordinator.goes_on plan logged walk kept left right fault has advances rests stays moves asks) none = All-nil (λ report. (report.ended ≢ Some TooLarge) × (report.ended ≢ Some BadMessage))
+    one_report (λ report. (report.ended ≢ Some TooLarge) × (report.ended ≢ Some BadMessage))
+    (report_of running (Some why)) (
+      λ e. let x : Memory ≡ TooLarge = sym memory ∙ same_Some _ _ e in
+          cc,
+      λ e. let x : Memory ≡ BadMessage = sym memory ∙ same_Some _ _ e in cc,
+    )
+faults_alone pair old running taken _ _
+    (coordinator.stops plan logged walk kept fault has advances down) none =
+    All-nil (λ report. (report.ended ≢ Some TooLarge) × (report.ended ≢ Some BadMessage))
+faults_alone pair old running taken _ _
+    (coordinator.ends plan logged walk kept why fault has advances ends) none =
+    one_report (λ report. (report.ended ≢ Some TooLarge) × (report.ended ≢ Some BadMessage))
+    (report_of (advanced (hearing running taken) plan walk kept) why)
+    (ends_belong pair _ taken _ walk why ends)
+faults_alone pair old running taken _ _
+    (coordinator.goes_on plan logged walk kept left right fault has advances rests stays moves asks)
+    none =
+    All-nil (λ report. (report.ended ≢ Some TooLarge) × (report.ended ≢ Some BadMessage))
 
 -- what has an unstable path is not whole
-not_whole : (running : Running) (ended : Option Refusal) → is_unstable running ≡ true → (report_of running ended).end ≢ Complete
-not_whole running ended unstable = by (is_whole running ended) (whole_is (not (is_some ended) && not (nat_lt 0 (length running.refused))) (is_unstable running) unstable)
+not_whole : (running : Running) (ended : Option Refusal) → is_unstable running ≡ true →
+    (report_of running ended).end ≢ Complete
+not_whole running ended unstable =
+    by (is_whole running ended) (whole_is (not (is_some ended)
+    && not (nat_lt 0 (length running.refused))) (is_unstable running) unstable)
   where
     whole_is : (a b : Bool) → b ≡ true → (a && not b) ≡ false
     whole_is true true e = refl
@@ -71,14 +126,31 @@ not_early : (running : Running) (why : Refusal) → (report_of running (Some why
 not_early running why c = let x : Incomplete ≡ Complete = c in cc
 
 pub unstable_is_incomplete : UnstableIsIncomplete
-unstable_is_incomplete pair old running taken _ _ (coordinator.ends_at_once why fault) unstable = one_report (λ report. report.end ≢ Complete) (report_of running (Some why)) (not_early running why)
-unstable_is_incomplete pair old running taken _ _ (coordinator.stops plan logged walk kept fault has advances down) unstable = All-nil (λ report. report.end ≢ Complete)
-unstable_is_incomplete pair old running taken _ _ (coordinator.ends plan logged walk kept why fault has advances ends) unstable =
-    one_report (λ report. report.end ≢ Complete) (report_of (advanced (hearing running taken) plan walk kept) why) (not_whole (advanced (hearing running taken) plan walk kept) why unstable)
-unstable_is_incomplete pair old running taken _ _ (coordinator.goes_on plan logged walk kept left right fault has advances rests stays moves asks) unstable = All-nil (λ report. report.end ≢ Complete)
+unstable_is_incomplete pair old running taken _ _ (coordinator.ends_at_once why fault) unstable =
+    one_report (λ report. report.end ≢ Complete) (report_of running (Some why))
+    (not_early running why)
+unstable_is_incomplete pair old running taken _ _
+    (coordinator.stops plan logged walk kept fault has advances down) unstable =
+    All-nil (λ report. report.end ≢ Complete)
+unstable_is_incomplete pair old running taken _ _
+    (coordinator.ends plan logged walk kept why fault has advances ends) unstable =
+    one_report (λ report. report.end ≢ Complete)
+    (report_of (advanced (hearing running taken) plan walk kept) why)
+    (not_whole (advanced (hearing running taken) plan walk kept) why unstable)
+unstable_is_incomplete pair old running taken _ _
+    (coordinator.goes_on plan logged walk kept left right fault has advances rests stays moves asks)
+    unstable =
+    All-nil (λ report. report.end ≢ Complete)
 
 pub failure_ends : FailureEnds
 failure_ends pair old running taken _ _ (coordinator.ends_at_once why fault) changed = refl
-failure_ends pair old running taken _ _ (coordinator.stops plan logged walk kept fault has advances down) changed = refl
-failure_ends pair old running taken _ _ (coordinator.ends plan logged walk kept why fault has advances ends) changed = refl
-failure_ends pair old running taken _ _ (coordinator.goes_on plan logged walk kept left right fault has advances rests stays moves asks) changed = absurd (changed stays)
+failure_ends pair old running taken _ _
+    (coordinator.stops plan logged walk kept fault has advances down) changed =
+    refl
+failure_ends pair old running taken _ _
+    (coordinator.ends plan logged walk kept why fault has advances ends) changed =
+    refl
+failure_ends pair old running taken _ _
+    (coordinator.goes_on plan logged walk kept left right fault has advances rests stays moves asks)
+    changed =
+    absurd (changed stays)

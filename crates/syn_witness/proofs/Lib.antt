@@ -10,6 +10,7 @@ pub mod FailureLemmas
 pub mod DeviceLemmas
 pub mod WitnessScans
 pub mod WitnessSteps
+pub mod WitnessPlan
 pub mod WitnessSession
 pub mod ExchangeScans
 pub mod ExchangeSides
@@ -19,12 +20,17 @@ pub mod MarkedLemmas
 pub mod RefusedLemmas
 pub mod RoomLemmas
 pub mod TurnLemmas
+pub mod CutOffLemmas
 pub mod ShortLemmas
 pub mod RefusedCalls
 pub mod OneListing
 pub mod TwoFilesLemmas
 pub mod ConflictScans
+pub mod ConflictSteps
 pub mod ConflictLemmas
+pub mod UnstablePlan
 pub mod UnstableLemmas
+pub mod RemovalPlan
+pub mod RemovalWorlds
 pub mod RemovalLemmas
 pub mod BothRemovedLemmas

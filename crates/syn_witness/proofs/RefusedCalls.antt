@@ -1,22 +1,28 @@
 -- The short runs in which a call is refused.
-use Rattle.std.proofs.Common.{ℕ, ◌≡◌, ◌≢◌, true, List, [], ◌∷◌, ◌++◌, append_assoc, refl, ap, ◌∙◌, subst, if◌then◌else◌, Some, None, arith, inl, inr}
-use Rattle.syn_model.specs.Refusal.{Cause, first_cause, Busy, Device, JournalFull, Memory, Halted as Halted_before}
+use Rattle.std.proofs.Common.{ℕ, ◌≡◌, ◌≢◌, true, List, [], ◌∷◌, ◌++◌, append_assoc, refl, ap, ◌∙◌}
+use Rattle.std.proofs.Common.{subst, if◌then◌else◌, Some, None, arith, inl, inr}
+use Rattle.syn_model.specs.Refusal.{Cause, first_cause, Busy, Device, JournalFull, Memory}
+use Rattle.syn_model.specs.Refusal.{Halted as Halted_before}
 use Rattle.syn_model.specs.Event.{Edited}
 use Rattle.syn_model.specs.History.{event_causes}
 use Rattle.syn_model.specs.Archive.{Session}
 use Rattle.syn_model.proofs.HistoryLemmas.{first_cause-none}
-use Rattle.syn_headline.specs.Machine.{Up, Halted, Down, unarmed, written, unwritten, one_fails, compacted}
+use Rattle.syn_headline.specs.Machine.{Up, Halted, Down, unarmed, written, unwritten, one_fails}
+use Rattle.syn_headline.specs.Machine.{compacted}
 use Rattle.syn_headline.specs.Side.{room_causes}
 use Rattle.syn_headline.specs.SideMachine.{has_room_for, causes_of}
 use Rattle.syn_headline.specs.Network.{Left}
 use Rattle.syn_headline.specs.Acknowledged.{Happened}
 use Rattle.syn_headline.specs.Coordinator.{writes, start_breaks}
-use Rattle.syn_headline.specs.World.{World, At, Edits, Start, Checkpoint, Reopen, Steps, starts, compacts_side, reopen_fails, fails_device}
+use Rattle.syn_headline.specs.World.{World, At, Edits, Start, Checkpoint, Reopen, Steps, starts}
+use Rattle.syn_headline.specs.World.{compacts_side, reopen_fails, fails_device}
 use Rattle.syn_headline.proofs.FormattedLemmas.{formatted_is_pair}
 use Rattle.syn_witness.specs.Witness.{opened_world, new_machine, new_journal, new_room, put_one}
-use Rattle.syn_witness.specs.Refused.{crowded_world, SecondStartIsBusy, FullIsCompacted, StartFails, ReopeningFails}
+use Rattle.syn_witness.specs.Refused.{crowded_world, SecondStartIsBusy, FullIsCompacted, StartFails}
+use Rattle.syn_witness.specs.Refused.{ReopeningFails}
 use Rattle.syn_witness.proofs.WitnessSteps.{machine_of, meets_unarmed, edits_so, up_not_down}
-use Rattle.syn_witness.proofs.WitnessLemmas.{edit_allowed, new_room_is, begins_sent, waiting, start_waits}
+use Rattle.syn_witness.proofs.WitnessLemmas.{edit_allowed, new_room_is, begins_sent, waiting}
+use Rattle.syn_witness.proofs.WitnessLemmas.{start_waits}
 
 halted_not_down : Halted ≢ Down
 halted_not_down e = cc
@@ -46,23 +52,38 @@ full_world : World
 full_world = record crowded_world { refusals = JournalFull ∷ [] }
 
 with_room : ℕ → World
-with_room room = record full_world { left = record new_machine { journal = record (new_journal [] room) { generation = 2 } } }
+with_room room =
+    record full_world
+    { left = record new_machine { journal = record (new_journal [] room) { generation = 2 } } }
 
 edited_world : World
 edited_world = record (with_room new_room) {
-  left = record new_machine { journal = record (machine_of (record { history = Edited 1 put_one ∷ []; staging = None })).journal { generation = 2 } };
+  left =
+      record new_machine {
+        journal = record (machine_of
+            (record { history = Edited 1 put_one ∷ []; staging = None })).journal {
+              generation =
+                  2;
+            };
+      };
   acknowledged = Happened Left (Edited 1 put_one) ∷ [];
 }
 
 -- causes that do not stand leave it to those behind them
 behind_none : (xs ys : List Cause) → first_cause xs ≡ None → first_cause (xs ++ ys) ≡ first_cause ys
 behind_none [] ys e = refl
-behind_none (x ∷ xs) ys e = let parts = first_cause-none x xs e in ap (λ b. if b then Some x.1 else first_cause (xs ++ ys)) parts.0 ∙ behind_none xs ys parts.1
+behind_none (x ∷ xs) ys e =
+    let parts = first_cause-none x xs e in
+    ap (λ b. if b then Some x.1 else first_cause (xs ++ ys)) parts.0 ∙ behind_none xs ys parts.1
 
-is_full : first_cause (causes_of 7 crowded_world.left (Edited 1 put_one) ++ (true, Memory) ∷ []) ≡ Some JournalFull
+is_full : first_cause (causes_of 7 crowded_world.left (Edited 1 put_one) ++ (true, Memory) ∷ [])
+    ≡ Some JournalFull
 is_full =
-    let event = Edited 1 put_one in let room = room_causes (has_room_for 7 crowded_world.left) event in let memory : List Cause = (true, Memory) ∷ [] in
-    ap first_cause (append_assoc (event_causes [] event) room memory) ∙ behind_none (event_causes [] event) (room ++ memory) edit_allowed.not_refused
+    let event = Edited 1 put_one in
+    let room = room_causes (has_room_for 7 crowded_world.left) event in
+    let memory : List Cause = (true, Memory) ∷ [] in
+    ap first_cause (append_assoc (event_causes [] event) room memory)
+    ∙ behind_none (event_causes [] event) (room ++ memory) edit_allowed.not_refused
 
 refuses_it : Steps crowded_world (Edits Left 1 put_one) full_world
 unfolding full_world
@@ -72,11 +93,16 @@ makes_room : Steps full_world (Checkpoint (At Left)) (with_room new_room)
 unfolding full_world with_room
 makes_room =
     subst (λ room. Steps full_world (Checkpoint (At Left)) (with_room room)) new_room_is.0
-    (inr (up_not_down, inr (refl, _, compacts_side Left _ (compacted unarmed (meets_unarmed 6)), refl)))
+    (inr (
+      up_not_down,
+      inr (refl, _, compacts_side Left _ (compacted unarmed (meets_unarmed 6)), refl),
+    ))
 
 edits_it : Steps (with_room new_room) (Edits Left 1 put_one) edited_world
 unfolding full_world with_room edited_world
-edits_it = edits_so (with_room new_room) Left 1 put_one edited_world.left.journal (Edited 1 put_one ∷ []) edited_world refl refl edit_allowed (written unarmed refl (meets_unarmed 4)) refl
+edits_it =
+    edits_so (with_room new_room) Left 1 put_one edited_world.left.journal (Edited 1 put_one ∷ [])
+    edited_world refl refl edit_allowed (written unarmed refl (meets_unarmed 4)) refl
 
 pub full_is_compacted : FullIsCompacted
 unfolding full_world with_room edited_world
@@ -90,7 +116,8 @@ full_is_compacted = (
   },
   record {
     new = edited_world;
-    runs = (full_world, refuses_it, (with_room new_room, makes_room, (edited_world, edits_it, refl)));
+    runs =
+        (full_world, refuses_it, (with_room new_room, makes_room, (edited_world, edits_it, refl)));
     sent = refl;
     acknowledged_then = refl;
     reported = refl;
@@ -101,10 +128,23 @@ full_is_compacted = (
 -- A start whose second device call fails
 
 armed_start : World
-armed_start = record opened_world { coordinator = record opened_world.coordinator { journal = record opened_world.coordinator.journal { arms = record { fail = 2; stop = 0 } } } }
+armed_start =
+    record opened_world {
+      coordinator = record opened_world.coordinator {
+        journal =
+            record opened_world.coordinator.journal { arms = record { fail = 2; stop = 0 } };
+      };
+    }
 
 halted_start : World
-halted_start = record opened_world { coordinator = record { journal = record opened_world.coordinator.journal { status = Halted; writing = Some (Session 1); failures = 1 }; running = None } }
+halted_start =
+    record opened_world {
+      coordinator = record {
+        journal = record opened_world.coordinator.journal
+            { status = Halted; writing = Some (Session 1); failures = 1 };
+        running = None;
+      };
+    }
 
 refused_start : World
 refused_start = record halted_start { refusals = Device ∷ [] }
@@ -121,7 +161,8 @@ fails_it =
         refl,
         halted_start,
         starts halted_start.coordinator _ (start_breaks 1 halted_start.coordinator.journal [] refl
-            (writes halted_start.coordinator.journal [] (unwritten Halted unarmed 1 refl (inl refl) (one_fails 1 (omega arith) (inr (omega arith)) (inl refl)))) halted_not_up),
+            (writes halted_start.coordinator.journal [] (unwritten Halted unarmed 1 refl (inl refl)
+            (one_fails 1 (omega arith) (inr (omega arith)) (inl refl)))) halted_not_up),
         refl,
       ),
     )
@@ -130,7 +171,15 @@ pub start_fails : StartFails
 unfolding armed_start halted_start refused_start refused_twice
 start_fails = record {
   new = refused_twice;
-  runs = (armed_start, inr (up_not_down, refl), (refused_start, fails_it, (refused_twice, inr (halted_not_down, inl (Halted_before, refl, refl)), refl)));
+  runs = (
+    armed_start,
+    inr (up_not_down, refl),
+    (
+      refused_start,
+      fails_it,
+      (refused_twice, inr (halted_not_down, inl (Halted_before, refl, refl)), refl),
+    ),
+  );
   sent = refl;
   acknowledged_then = refl;
   reported = refl;
@@ -140,17 +189,30 @@ start_fails = record {
 -- A reopening whose first device call fails
 
 armed_left : World
-armed_left = record opened_world { left = record new_machine { journal = record new_machine.journal { arms = record { fail = 1; stop = 0 } } } }
+armed_left =
+    record opened_world {
+      left = record new_machine
+          { journal = record new_machine.journal { arms = record { fail = 1; stop = 0 } } };
+    }
 
 halted_left : World
-halted_left = record opened_world { left = record new_machine { journal = record new_machine.journal { status = Halted; failures = 1 } } }
+halted_left =
+    record opened_world {
+      left = record new_machine
+          { journal = record new_machine.journal { status = Halted; failures = 1 } };
+    }
 
 unopened_left : World
 unopened_left = record halted_left { refusals = Device ∷ [] }
 
 fails_to_open : Steps armed_left (Reopen (At Left)) unopened_left
 unfolding armed_left halted_left unopened_left
-fails_to_open = inr (up_not_down, reopen_fails 1 halted_left (fails_device unarmed 1 (one_fails 0 (omega arith) (inr (omega arith)) (inl refl))))
+fails_to_open =
+    inr (
+      up_not_down,
+      reopen_fails 1 halted_left
+          (fails_device unarmed 1 (one_fails 0 (omega arith) (inr (omega arith)) (inl refl))),
+    )
 
 pub reopening_fails : ReopeningFails
 unfolding armed_left halted_left unopened_left

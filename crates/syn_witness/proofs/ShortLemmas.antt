@@ -1,187 +1,44 @@
--- The short runs, step by step.
+-- The short runs with checkpoints, a request that is sent again, and a session that is over.
 use Rattle.std.proofs.lemmas.Option.{none-some, same_Some}
-use Rattle.std.proofs.Common.{ℕ, nat_le, ◌++◌, [], ◌∷◌, map, refl, sym, ap, ◌∙◌, subst, Some, None, arith, inl, inr}
-use Rattle.syn_model.specs.Path.{root}
-use Rattle.syn_model.specs.Tree.{empty_directory, replace}
+use Rattle.std.proofs.Common.{ℕ, ◌++◌, [], ◌∷◌, map, refl, ap, ◌∙◌, subst, Some, None, arith, inl}
+use Rattle.std.proofs.Common.{inr}
+use Rattle.syn_model.specs.Tree.{empty_directory}
 use Rattle.syn_model.specs.Refusal.{OldSession}
-use Rattle.syn_model.specs.Event.{Event, Edited, Began, Replaced}
-use Rattle.syn_model.specs.History.{IsAllowed, tree_of}
-use Rattle.syn_model.specs.Archive.{Archive, Kept, Session, Recorded, CanKeep, new_archive}
-use Rattle.syn_model.specs.Mark.{mark}
-use Rattle.syn_model.proofs.TreeLemmas.{subtree-replace}
-use Rattle.syn_headline.specs.Machine.{Down, unarmed, written, unwritten, one_stops, compacted, opened, recovered}
-use Rattle.syn_headline.specs.Side.{Side, Request, Begin, Begun, Replace, Done, Refused, answer, token_of}
-use Rattle.syn_headline.specs.SideMachine.{adds}
+use Rattle.syn_model.specs.Event.{Edited, Began}
+use Rattle.syn_model.specs.Archive.{Session}
+use Rattle.syn_headline.specs.Machine.{Down, unarmed, written, compacted, opened}
+use Rattle.syn_headline.specs.Side.{Side, Request, Begin, Begun, Replace, Refused}
 use Rattle.syn_headline.specs.Network.{Left, Right, Asks, Answers}
 use Rattle.syn_headline.specs.Acknowledged.{Happened, Kept_by}
-use Rattle.syn_headline.specs.Coordinator.{Running, writes, start_breaks, stays, stands, start_of, ignores, IsExpected, asked_of, no_call, Advances, record_breaks, done, takes, stops}
-use Rattle.syn_headline.specs.World.{World, coordinator_goes, At, Coordinator, Start, Deliver, Checkpoint, Stop, Open, Steps, starts, to_side, to_coordinator, compacts_side, compacts_archive, opens, opens_side, opens_archive, reopens}
-use Rattle.syn_witness.specs.Witness.{opened_world, new_journal, new_archive_room, a_path, put_one, one, up_to_replacement}
-use Rattle.syn_witness.specs.Short.{StartIsRecovered, ReplacementIsRecovered, CheckpointIsMade, ArchiveIsReopened, ResendIsAnswered, LateIsOld, RecordIsRecovered}
+use Rattle.syn_headline.specs.Coordinator.{Running, stays, stands, start_of, ignores, IsExpected}
+use Rattle.syn_headline.specs.Coordinator.{asked_of, no_call}
+use Rattle.syn_headline.specs.World.{World, coordinator_goes, Coordinator, Start, Deliver}
+use Rattle.syn_headline.specs.World.{Checkpoint, Stop, Open, Steps, to_coordinator, compacts_side}
+use Rattle.syn_headline.specs.World.{compacts_archive, opens, opens_archive, reopens}
+use Rattle.syn_witness.specs.Witness.{opened_world, new_journal, new_archive_room, a_path, put_one}
+use Rattle.syn_witness.specs.Witness.{one, up_to_replacement}
+use Rattle.syn_witness.specs.Short.{CheckpointIsMade, ArchiveIsReopened, ResendIsAnswered}
+use Rattle.syn_witness.specs.Short.{LateIsOld}
 use Rattle.syn_witness.proofs.WitnessMessages.{number_of}
-use Rattle.syn_witness.proofs.WitnessTrees.{get_by, fits_by}
-use Rattle.syn_witness.proofs.WitnessFiles.{letter_size, alone, with_file, content, alone-entries, file-entries, put-entries, path_of_letter, one_byte, file_is_part}
-use Rattle.syn_witness.proofs.WitnessSteps.{archive_left, machine_of, meets_unarmed, edits_so, starts_so, says_so, adds_so, goes_on_so, asks_so, not_last, reads_nothing, runs_with, waits, took, runs_on_from, up_not_down}
-use Rattle.syn_witness.proofs.WitnessLemmas.{letter_a, edit_allowed, new_room_is, begins_sent, begin_again, waiting_for, waiting, start_waits, sends_again}
-use Rattle.syn_witness.proofs.WitnessSession.{replacing, replaced, replaces, right_staged, right_done, right_replaces, planned, plan, recorded_archive, can_record, done_is, run_to_replacement}
+use Rattle.syn_witness.proofs.WitnessSteps.{archive_left, machine_of, meets_unarmed, edits_so}
+use Rattle.syn_witness.proofs.WitnessSteps.{starts_so, says_so, adds_so, goes_on_so, asks_so}
+use Rattle.syn_witness.proofs.WitnessSteps.{not_last, reads_nothing, runs_with, waits, took}
+use Rattle.syn_witness.proofs.WitnessSteps.{runs_on_from, up_not_down}
+use Rattle.syn_witness.proofs.WitnessLemmas.{edit_allowed, new_room_is, begins_sent, begin_again}
+use Rattle.syn_witness.proofs.WitnessLemmas.{waiting_for, waiting, start_waits, sends_again}
+use Rattle.syn_witness.proofs.WitnessPlan.{replacing, right_staged}
+use Rattle.syn_witness.proofs.WitnessSession.{run_to_replacement}
 use Rattle.syn_witness.proofs.RefusedLemmas.{reads_one}
-
--- A start that is cut off
-
-armed_start : World
-armed_start = record opened_world { coordinator = record opened_world.coordinator { journal = record opened_world.coordinator.journal { arms = record { fail = 0; stop = 2 } } } }
-
-cut_start : World
-cut_start = record opened_world { coordinator = record { journal = record opened_world.coordinator.journal { status = Down; writing = Some (Session 1) }; running = None } }
-
-abbrev begun_archive : Archive
-begun_archive = record { marks = empty_directory; last_session = 1 }
-
-started_again : World
-started_again = record opened_world {
-  coordinator = record { journal = new_journal begun_archive (archive_left new_archive_room (Session 1 ∷ [])); running = None };
-  acknowledged = Kept_by (Session 1) ∷ [];
-}
-
-can_keep_session : CanKeep new_archive (Session 1)
-can_keep_session = record { lawful = tt; not_refused = refl }
-
-pub start_is_recovered : StartIsRecovered
-unfolding armed_start cut_start started_again
-start_is_recovered = record {
-  new = started_again;
-  runs = (
-    armed_start,
-    inr (up_not_down, refl),
-    (
-      cut_start,
-      inr (
-        up_not_down,
-        inr (
-          refl,
-          cut_start,
-          starts cut_start.coordinator _ (start_breaks 1 cut_start.coordinator.journal [] refl
-              (writes cut_start.coordinator.journal [] (unwritten Down unarmed 0 refl (inr refl) (one_stops 1 0 (omega arith) (inl refl) refl (omega arith) (λ e. absurd (omega (arith, e)))))) (λ e. up_not_down (sym e))),
-          refl,
-        ),
-      ),
-      (started_again, inr (refl, opens 0 started_again (opens_archive started_again.coordinator.journal (Session 1 ∷ []) (recovered unarmed (Session 1) (meets_unarmed 0) refl can_keep_session))), refl),
-    ),
-  );
-  sent = refl;
-  acknowledged_then = refl;
-  reported = refl;
-  ends_well = (refl, refl, refl);
-}
-
--- A replacement that is cut off
-
-abbrev replacement : Event
-replacement = Replaced (token_of 1 0) a_path 1 one
-
-armed_right : World
-armed_right = record replacing { right = record replacing.right { journal = record replacing.right.journal { arms = record { fail = 0; stop = 2 } } } }
-
-cut_right : World
-cut_right = record replacing { right = record { journal = record replacing.right.journal { status = Down; writing = Some replacement }; staging = None } }
-
-recovered_right : World
-recovered_right = record replacing {
-  right = machine_of (record { history = Began 1 ∷ replacement ∷ []; staging = None });
-  acknowledged = replacing.acknowledged ++ Happened Right replacement ∷ [];
-}
-
-replacement_allowed : IsAllowed (Began 1 ∷ []) replacement
-unfolding tree_of
-replacement_allowed =
-    let new = put-entries empty_directory one 97 (content (49 ∷ [])) alone-entries (file-entries (49 ∷ [])) in
-    record {
-      lawful = ((omega arith, omega arith), path_of_letter 97 letter_a, omega arith, file_is_part (49 ∷ []) (one_byte 49 (omega arith)));
-      not_refused = rw (get_by empty_directory alone root alone-entries, fits_by (replace empty_directory a_path one) (with_file 97 (content (49 ∷ []))) new) refl;
-    }
-
-cuts_it : Steps armed_right (Deliver 12) cut_right
-unfolding armed_right cut_right
-cuts_it = to_side Right 1 3 (Replace 0 a_path 1 6) cut_right.right None []
-    (adds (answer right_done Done) replacement cut_right.right.journal [] refl (inl (Some one, inl reads_one, done_is)) refl
-    (unwritten Down unarmed 0 refl (inr refl) (one_stops 1 0 (omega arith) (inl refl) refl (omega arith) (λ e. absurd (omega (arith, e))))))
-
-pub replacement_is_recovered : ReplacementIsRecovered
-unfolding armed_right cut_right recovered_right
-replacement_is_recovered = record {
-  new = recovered_right;
-  runs = runs_on_from opened_world replacing recovered_right up_to_replacement (Stop (At Right) 2 ∷ Deliver 12 ∷ Open (At Right) ∷ []) run_to_replacement (
-    armed_right,
-    inr (up_not_down, refl),
-    (
-      cut_right,
-      cuts_it,
-      (recovered_right, inr (refl, opens 0 recovered_right (opens_side Right recovered_right.right.journal (replacement ∷ []) (recovered unarmed replacement (meets_unarmed 0) refl replacement_allowed))), refl),
-    ),
-  );
-  sent = refl;
-  acknowledged_then = refl;
-  reported = refl;
-  ends_well = (refl, refl, refl);
-}
-
--- A record that is cut off
-
-abbrev what_is_due : Kept
-what_is_due = Recorded a_path (mark one)
-
-armed_archive : World
-armed_archive = record replaced { coordinator = record replaced.coordinator { journal = record replaced.coordinator.journal { arms = record { fail = 0; stop = 2 } } } }
-
-cut_archive : World
-cut_archive = record replaced { coordinator = record { journal = record replaced.coordinator.journal { status = Down; writing = Some what_is_due }; running = None } }
-
-recovered_archive : World
-recovered_archive = record replaced {
-  coordinator = record { journal = new_journal recorded_archive (archive_left new_archive_room (Session 1 ∷ what_is_due ∷ [])); running = None };
-  acknowledged = replaced.acknowledged ++ Kept_by what_is_due ∷ [];
-}
-
-breaks_off : Advances 7 plan (took Right 3 (Replace 0 a_path 1 6) Done) (start_of armed_archive.coordinator right_replaces) [] (record (start_of armed_archive.coordinator right_replaces) { journal = cut_archive.coordinator.journal })
-unfolding armed_archive cut_archive
-breaks_off =
-    record_breaks (start_of armed_archive.coordinator right_replaces) what_is_due [] cut_archive.coordinator.journal
-    (record { planned = planned; at = refl; due = done a_path 1 6 refl refl refl; can = can_record; up = refl })
-    (ap (λ size. nat_le size 4194252) (letter_size 97 (49 ∷ [])))
-    (writes cut_archive.coordinator.journal [] (unwritten Down unarmed 0 refl (inr refl) (one_stops 1 0 (omega arith) (inl refl) refl (omega arith) (λ e. absurd (omega (arith, e)))))) (λ e. up_not_down (sym e))
-
-cuts_record : Steps armed_archive (Deliver 13) cut_archive
-unfolding armed_archive cut_archive
-cuts_record = to_coordinator Right 1 3 Done cut_archive.coordinator _
-    (takes right_replaces (Replace 0 a_path 1 6) _ _ (record { runs = refl; of_session = refl; asked = refl }) (stops (Some plan) [] _ [] refl stays breaks_off refl))
-
-pub record_is_recovered : RecordIsRecovered
-unfolding armed_archive cut_archive recovered_archive
-record_is_recovered = record {
-  new = recovered_archive;
-  runs = runs_on_from opened_world replacing recovered_archive up_to_replacement (Deliver 12 ∷ Stop Coordinator 2 ∷ Deliver 13 ∷ Open Coordinator ∷ []) run_to_replacement (
-    replaced,
-    replaces,
-    (
-      armed_archive,
-      inr (up_not_down, refl),
-      (
-        cut_archive,
-        cuts_record,
-        (recovered_archive, inr (refl, opens 0 recovered_archive (opens_archive recovered_archive.coordinator.journal (what_is_due ∷ []) (recovered unarmed what_is_due (meets_unarmed 0) refl can_record))), refl),
-      ),
-    ),
-  );
-  sent = refl;
-  acknowledged_then = refl;
-  reported = refl;
-  ends_well = (refl, refl, subtree-replace empty_directory a_path (mark one));
-}
+use Rattle.syn_witness.proofs.CutOffLemmas.{begun_archive, replacement}
 
 -- Checkpoints that are made, and a reopening
 
 edited_world : World
-edited_world = record opened_world { left = machine_of (record { history = Edited 1 put_one ∷ []; staging = None }); acknowledged = Happened Left (Edited 1 put_one) ∷ [] }
+edited_world =
+    record opened_world {
+      left = machine_of (record { history = Edited 1 put_one ∷ []; staging = None });
+      acknowledged = Happened Left (Edited 1 put_one) ∷ [];
+    }
 
 pub checkpoint_is_made : CheckpointIsMade
 unfolding edited_world
@@ -189,8 +46,16 @@ checkpoint_is_made = record {
   new = _;
   runs = (
     edited_world,
-    edits_so opened_world Left 1 put_one edited_world.left.journal (Edited 1 put_one ∷ []) edited_world refl refl edit_allowed (written unarmed refl (meets_unarmed 4)) refl,
-    (_, inr (up_not_down, inr (refl, _, compacts_side Left _ (compacted unarmed (meets_unarmed 6)), refl)), refl),
+    edits_so opened_world Left 1 put_one edited_world.left.journal (Edited 1 put_one ∷ [])
+        edited_world refl refl edit_allowed (written unarmed refl (meets_unarmed 4)) refl,
+    (
+      _,
+      inr (
+        up_not_down,
+        inr (refl, _, compacts_side Left _ (compacted unarmed (meets_unarmed 6)), refl),
+      ),
+      refl,
+    ),
   );
   sent = refl;
   acknowledged_then = refl;
@@ -199,14 +64,23 @@ checkpoint_is_made = record {
 }
 
 compacted_archive : World
-compacted_archive = record opened_world { coordinator = record opened_world.coordinator { journal = record opened_world.coordinator.journal { generation = 2 } } }
+compacted_archive =
+    record opened_world {
+      coordinator = record opened_world.coordinator
+          { journal = record opened_world.coordinator.journal { generation = 2 } };
+    }
 
 compacts_it : Steps opened_world (Checkpoint Coordinator) compacted_archive
 unfolding compacted_archive
 compacts_it =
-    let with_room : ℕ → World = λ room. record opened_world { coordinator = record opened_world.coordinator { journal = record opened_world.coordinator.journal { room = room; generation = 2 } } } in
+    let with_room : ℕ → World =
+    λ room. record opened_world {
+      coordinator = record opened_world.coordinator
+          { journal = record opened_world.coordinator.journal { room = room; generation = 2 } };
+    } in
     subst (λ room. Steps opened_world (Checkpoint Coordinator) (with_room room)) new_room_is.1
-    (inr (up_not_down, inr (refl, _, compacts_archive _ (compacted unarmed (meets_unarmed 6)), refl)))
+    (inr
+    (up_not_down, inr (refl, _, compacts_archive _ (compacted unarmed (meets_unarmed 6)), refl)))
 
 pub archive_is_reopened : ArchiveIsReopened
 unfolding compacted_archive
@@ -215,7 +89,16 @@ archive_is_reopened = record {
   runs = (
     compacted_archive,
     compacts_it,
-    (compacted_archive, inr (up_not_down, reopens 1 compacted_archive (omega arith) (opens_archive compacted_archive.coordinator.journal [] (opened new_archive_room 2 unarmed (meets_unarmed 1) (inl (refl, refl))))), refl),
+    (
+      compacted_archive,
+      inr (
+        up_not_down,
+        reopens 1 compacted_archive (omega arith)
+            (opens_archive compacted_archive.coordinator.journal
+            [] (opened new_archive_room 2 unarmed (meets_unarmed 1) (inl (refl, refl)))),
+      ),
+      refl,
+    ),
   );
   sent = refl;
   acknowledged_then = refl;
@@ -236,30 +119,41 @@ right_waits : Running
 right_waits = runs_with 1 (took Left 0 (Begin 7) (Begun 1) ∷ []) [] (begin_again 1 ∷ []) None 0 []
 
 left_taken : World
-left_taken = record left_begun { coordinator = record left_begun.coordinator { running = Some right_waits } }
+left_taken =
+    record left_begun { coordinator = record left_begun.coordinator { running = Some right_waits } }
 
 left_again : World
 left_again = record left_taken { sent = left_taken.sent ++ Answers Left 1 0 (Begun 1) ∷ [] }
 
 begins_left : Steps (waiting 1) (Deliver 2) left_begun
 unfolding left_begun begins_sent
-begins_left = adds_so (waiting 1) Left 1 0 (Begin 7) None (record { history = Began 1 ∷ []; staging = None }) (Begun 1) (Began 1) refl refl reads_nothing refl refl
+begins_left =
+    adds_so (waiting 1) Left 1 0 (Begin 7) None (record { history = Began 1 ∷ []; staging = None })
+    (Begun 1) (Began 1) refl refl reads_nothing refl refl
 
 takes_left : Steps left_begun (Deliver 4) left_taken
 unfolding left_begun right_waits left_taken begins_sent
-takes_left = goes_on_so left_begun (waiting_for 1) Left 0 (Begin 7) (Begun 1) None [] (start_of left_begun.coordinator (waiting_for 1)) [] [] [] refl refl refl stays (stands (start_of left_begun.coordinator (waiting_for 1))) refl refl not_last
-    (asks_so number_of begun_archive right_waits [] [] tt tt tt (omega arith) (omega arith) ((refl, tt), tt, (refl, tt)) (omega arith, omega arith, omega arith))
+takes_left =
+    goes_on_so left_begun (waiting_for 1) Left 0 (Begin 7) (Begun 1) None
+    [] (start_of left_begun.coordinator (waiting_for 1)) [] [] [] refl refl refl stays
+    (stands (start_of left_begun.coordinator (waiting_for 1))) refl refl not_last
+    (asks_so number_of begun_archive right_waits [] [] tt tt tt (omega arith) (omega arith)
+    ((refl, tt), tt, (refl, tt)) (omega arith, omega arith, omega arith))
 
 begins_again : Steps left_taken (Deliver 0) left_again
 unfolding left_begun right_waits left_taken left_again begins_sent
-begins_again = says_so left_taken Left 1 0 (Begin 7) None (record { history = Began 1 ∷ []; staging = None }) (Begun 1) refl reads_nothing refl refl
+begins_again =
+    says_so left_taken Left 1 0 (Begin 7) None (record { history = Began 1 ∷ []; staging = None })
+    (Begun 1) refl reads_nothing refl refl
 
 ignored : World
 ignored = coordinator_goes left_again left_again.coordinator no_call
 
-not_asked : (running : Running) (request : Request) → IsExpected left_again.coordinator Left 1 0 running request → ⊥
+not_asked : (running : Running) (request : Request) →
+    IsExpected left_again.coordinator Left 1 0 running request → ⊥
 unfolding left_begun right_waits left_taken left_again
-not_asked running request e = none-some _ (ap (λ r. asked_of r Left 0) (same_Some _ _ e.runs) ∙ e.asked)
+not_asked running request e =
+    none-some _ (ap (λ r. asked_of r Left 0) (same_Some _ _ e.runs) ∙ e.asked)
 
 ignores_it : Steps left_again (Deliver 5) ignored
 unfolding left_begun right_waits left_taken left_again ignored begins_sent
@@ -269,7 +163,19 @@ pub resend_is_answered : ResendIsAnswered
 unfolding left_begun right_waits left_taken left_again ignored begins_sent
 resend_is_answered = record {
   new = ignored;
-  runs = (waiting 0, start_waits, (waiting 1, sends_again 0 refl, (left_begun, begins_left, (left_taken, takes_left, (left_again, begins_again, (ignored, ignores_it, refl))))));
+  runs = (
+    waiting 0,
+    start_waits,
+    (
+      waiting 1,
+      sends_again 0 refl,
+      (
+        left_begun,
+        begins_left,
+        (left_taken, takes_left, (left_again, begins_again, (ignored, ignores_it, refl))),
+      ),
+    ),
+  );
   sent = refl;
   acknowledged_then = refl;
   reported = refl;
@@ -279,15 +185,26 @@ resend_is_answered = record {
 -- A replacement of a session that is over
 
 stopped_late : World
-stopped_late = record replacing { coordinator = record { journal = record replacing.coordinator.journal { status = Down }; running = None } }
+stopped_late =
+    record replacing {
+      coordinator =
+          record {
+            journal = record replacing.coordinator.journal { status = Down };
+            running = None;
+          };
+    }
 
 opened_late : World
-opened_late = record replacing { coordinator = record { journal = replacing.coordinator.journal; running = None } }
+opened_late =
+    record replacing
+    { coordinator = record { journal = replacing.coordinator.journal; running = None } }
 
 started_late : World
 started_late = record opened_late {
   coordinator = record {
-    journal = new_journal (record { marks = empty_directory; last_session = 2 }) (archive_left new_archive_room (Session 1 ∷ Session 2 ∷ []));
+    journal =
+        new_journal (record { marks = empty_directory; last_session = 2 })
+        (archive_left new_archive_room (Session 1 ∷ Session 2 ∷ []));
     running = Some (runs_with 2 [] (waits 0 (Begin 7)) (waits 0 (Begin 7)) None 0 []);
   };
   sent = replacing.sent ++ Asks Left 2 0 (Begin 7) ∷ Asks Right 2 0 (Begin 7) ∷ [];
@@ -305,33 +222,50 @@ begun_late = record started_late {
 }
 
 refused_late : World
-refused_late = record begun_late { sent = begun_late.sent ++ Answers Right 1 3 (Refused OldSession) ∷ [] }
+refused_late =
+    record begun_late { sent = begun_late.sent ++ Answers Right 1 3 (Refused OldSession) ∷ [] }
 
 starts_late : Steps opened_late Start started_late
 unfolding opened_late started_late
-starts_late = starts_so opened_late 2 refl refl refl refl (omega arith, omega arith) started_late refl
+starts_late =
+    starts_so opened_late 2 refl refl refl refl (omega arith, omega arith) started_late refl
 
 begins_late : Steps started_late (Deliver 14) begun_late
 unfolding opened_late started_late begun_side begun_late
-begins_late = adds_so started_late Right 2 0 (Begin 7) (Some one) begun_side (Begun 2) (Began 2) refl refl reads_one refl refl
+begins_late =
+    adds_so started_late Right 2 0 (Begin 7) (Some one) begun_side (Begun 2)
+    (Began 2) refl refl reads_one refl refl
 
 refuses_late : Steps begun_late (Deliver 12) refused_late
 unfolding opened_late started_late begun_side begun_late refused_late
-refuses_late = says_so begun_late Right 1 3 (Replace 0 a_path 1 6) (Some one) begun_side (Refused OldSession) refl reads_one refl refl
+refuses_late =
+    says_so begun_late Right 1 3 (Replace 0 a_path 1 6) (Some one) begun_side
+    (Refused OldSession) refl reads_one refl refl
 
 pub late_is_old : LateIsOld
 unfolding stopped_late opened_late started_late begun_side begun_late refused_late
 late_is_old = record {
   new = refused_late;
-  runs = runs_on_from opened_world replacing refused_late up_to_replacement (Stop Coordinator 0 ∷ Open Coordinator ∷ Start ∷ map Deliver (14 ∷ 12 ∷ [])) run_to_replacement (
-    stopped_late,
-    inr (up_not_down, refl),
-    (
-      opened_late,
-      inr (refl, opens 0 opened_late (opens_archive opened_late.coordinator.journal [] (opened opened_late.coordinator.journal.room 1 unarmed (meets_unarmed 0) (inl (refl, refl))))),
-      (started_late, starts_late, (begun_late, begins_late, (refused_late, refuses_late, refl))),
-    ),
-  );
+  runs =
+      runs_on_from opened_world replacing refused_late up_to_replacement (Stop Coordinator 0
+      ∷ Open Coordinator ∷ Start ∷ map Deliver (14 ∷ 12 ∷ [])) run_to_replacement (
+        stopped_late,
+        inr (up_not_down, refl),
+        (
+          opened_late,
+          inr (
+            refl,
+            opens 0 opened_late (opens_archive opened_late.coordinator.journal [] (opened
+                opened_late.coordinator.journal.room 1 unarmed (meets_unarmed 0)
+                (inl (refl, refl)))),
+          ),
+          (
+            started_late,
+            starts_late,
+            (begun_late, begins_late, (refused_late, refuses_late, refl)),
+          ),
+        ),
+      );
   sent = refl;
   acknowledged_then = refl;
   reported = refl;

@@ -1,142 +1,51 @@
 -- The session with a directory that vanishes, step by step.
-use Rattle.std.proofs.Common.{◌≡◌, ◌⊎◌, inl, inr, ℕ, zero, suc, ◌-◌, ◌==◌, nat_le, Bool, true, false, true≢false, cond, if◌then◌else◌, List, [], ◌∷◌, ◌++◌, flat_map, take, drop, refl, sym, ap, ◌∙◌, subst, Some, None, Option, arith}
-use Rattle.std.specs.Prelude.{Contains}
-use Rattle.std.specs.Ordering.{eq_by_cmp}
+use Rattle.std.proofs.Common.{◌≡◌, inl, inr, ℕ, suc, true, true≢false, List, ◌∷◌, ◌++◌, refl, sym}
+use Rattle.std.proofs.Common.{ap, ◌∙◌, Some, None, arith, zero, ◌-◌, ◌==◌, nat_le, if◌then◌else◌}
+use Rattle.std.proofs.Common.{take, drop, subst, Option, []}
 use Rattle.std.specs.FinMap.{entries}
-use Rattle.std.proofs.lemmas.List.Elements.{All-nil, All-cons}
-use Rattle.syn_model.specs.Path.{Name, Path, IsPath, root, child, path_cmp}
-use Rattle.syn_model.specs.Tree.{Tree, Content, Directory, absent, empty_directory, subtree, replace, is_directory, is_directory_content}
-use Rattle.syn_model.specs.Limits.{children}
+use Rattle.syn_model.specs.Path.{Name, Path, root, IsPath}
+use Rattle.syn_model.specs.Tree.{Directory, empty_directory, subtree, replace, is_directory}
+use Rattle.syn_model.specs.Tree.{Content}
 use Rattle.syn_model.specs.Mark.{mark}
-use Rattle.syn_model.specs.Refusal.{Touched}
-use Rattle.syn_model.specs.Dirty.{Scan, IsScanBy, is_same_tree}
-use Rattle.syn_model.specs.Dirty as dirty
-use Rattle.syn_model.specs.Decision.{Item, Do, GoOn, ToRight, decision}
-use Rattle.syn_model.specs.Plan.{items_from, names_below, with_items_below}
-use Rattle.syn_model.specs.Plan.{plan as items_of}
+use Rattle.syn_model.specs.Dirty.{Scan, IsScanBy}
+use Rattle.syn_model.specs.Decision.{ToRight}
 use Rattle.syn_model.specs.Event.{Edited, Began}
-use Rattle.syn_model.specs.History.{History, IsHistory, IsAllowed, tree_of}
+use Rattle.syn_model.specs.History.{History, tree_of}
+use Rattle.syn_headline.specs.Coordinator.{stands, Exchange, Running, MakesPlan, WasTaken, IsShown}
+use Rattle.syn_headline.specs.Coordinator.{BothBegun, fault_of, hearing, start_of, refusing, stays}
+use Rattle.syn_headline.specs.Coordinator.{makes, side_refuses}
+use Rattle.syn_witness.specs.Conflict.{d_name, d_path, make_d}
+use Rattle.syn_witness.specs.Unstable.{remove_d, unstable_report, VanishedIsUnstable}
+use Rattle.syn_witness.proofs.WitnessTrees.{replace-entries, part-entries, directory_by, get_by}
+use Rattle.syn_witness.proofs.WitnessTrees.{fits_archive_by}
+use Rattle.syn_witness.proofs.WitnessFiles.{path_of_letter, alone, alone-entries, alone_whole}
+use Rattle.syn_witness.proofs.WitnessFiles.{root_alone}
+use Rattle.syn_witness.proofs.ConflictScans.{letter_d, one_dir, make_allowed, marked_tree}
+use Rattle.syn_witness.proofs.ConflictScans.{children_at}
+use Rattle.std.specs.Prelude.{Contains}
+use Rattle.std.proofs.lemmas.List.Elements.{All-nil, All-cons}
+use Rattle.syn_model.specs.Limits.{children}
+use Rattle.syn_model.specs.Refusal.{Touched}
+use Rattle.syn_model.specs.Dirty as dirty
 use Rattle.syn_model.specs.Archive.{Archive, Session, Recorded, kept_refusal, new_archive}
-use Rattle.syn_model.proofs.PathLemmas.{same_path}
 use Rattle.syn_model.proofs.HistoryLemmas.{history-is_tree}
 use Rattle.syn_headline.specs.Machine.{unarmed, written}
-use Rattle.syn_headline.specs.Side.{Side, Begin, Begun, ListAt, Listed, NotDir, Fetch, Refused, answer, list_at}
+use Rattle.syn_headline.specs.Side.{Side, Begin, Begun, ListAt, Listed, NotDir, Fetch, Refused}
+use Rattle.syn_headline.specs.Side.{answer, list_at}
 use Rattle.syn_headline.specs.Network.{Which, Left, Right, Asks, Answers, Sent}
 use Rattle.syn_headline.specs.Acknowledged.{Ack, Happened, Kept_by}
 use Rattle.syn_headline.specs.Planning.{Planned, SeesBoth, SessionPlan}
-use Rattle.syn_headline.specs.Coordinator.{Exchange, Running, MakesPlan, WasTaken, IsShown, BothBegun, fault_of, hearing, start_of, refusing, stays, makes, stands, side_refuses}
 use Rattle.syn_headline.specs.World.{World, Edits, Start, Deliver, Steps}
 use Rattle.syn_witness.specs.Witness.{opened_world}
-use Rattle.syn_witness.specs.Conflict.{d_name, d_path, make_d}
-use Rattle.syn_witness.specs.Unstable.{remove_d, unstable_report, VanishedIsUnstable}
-use Rattle.syn_witness.proofs.WitnessTrees.{absent-entries, replace-entries, mark-entries, same_by, part-entries, directory_by, get_by, fits_by, fits_archive_by}
-use Rattle.syn_witness.proofs.WitnessFiles.{path_of_letter, alone, alone-entries, alone_whole, root_alone}
-use Rattle.syn_witness.proofs.WitnessScans.{one_name_at}
-use Rattle.syn_witness.proofs.WitnessSteps.{meets_unarmed, waits, took, runs_with, world_of, reads_nothing, says_so, adds_so, edits_so, lists, starts_so, asks_so, goes_on_so, ends_so, not_last}
+use Rattle.syn_witness.proofs.WitnessSteps.{meets_unarmed, waits, took, runs_with, world_of}
+use Rattle.syn_witness.proofs.WitnessSteps.{reads_nothing, says_so, adds_so, edits_so, lists}
+use Rattle.syn_witness.proofs.WitnessSteps.{starts_so, asks_so, goes_on_so, ends_so, not_last}
 use Rattle.syn_witness.proofs.WitnessSession.{none_there, root_lawful}
-use Rattle.syn_witness.proofs.ConflictScans.{letter_d, one_dir, dir-entries, make_allowed, marked_tree, children_at}
-
--- What stands
-
-abbrev left_history : History
-left_history = Edited 1 make_d ∷ Began 1 ∷ []
-
-abbrev right_history : History
-right_history = Began 1 ∷ []
-
-abbrev removed_history : History
-removed_history = Edited 1 make_d ∷ Began 1 ∷ Edited 1 remove_d ∷ []
-
-abbrev dir_tree : Tree
-dir_tree = replace empty_directory d_path empty_directory
-
-removed-entries : entries (replace dir_tree d_path absent) ≡ alone
-removed-entries = replace-entries dir_tree d_path absent one_dir [] dir-entries absent-entries
-
-remove_allowed : IsAllowed left_history (Edited 1 remove_d)
-unfolding tree_of
-remove_allowed = record {
-  lawful = (omega arith, path_of_letter 100 letter_d);
-  not_refused = rw (get_by dir_tree one_dir root dir-entries, get_by dir_tree one_dir d_path dir-entries, fits_by (replace dir_tree d_path absent) alone removed-entries) refl;
-}
-
-left_lawful : IsHistory left_history
-left_lawful = (make_allowed 1 (omega arith), (record { lawful = omega arith; not_refused = refl }, tt))
-
-left-entries : entries (tree_of left_history) ≡ one_dir
-unfolding tree_of
-left-entries = dir-entries
-
-right-entries : entries (tree_of right_history) ≡ alone
-unfolding tree_of
-right-entries = alone-entries
-
-gone-entries : entries (tree_of removed_history) ≡ alone
-unfolding tree_of
-gone-entries = removed-entries
-
-abbrev left_scan : Scan
-left_scan = record { marks = mark (tree_of left_history); unstable = d_path ∷ [] }
-
-abbrev right_scan : Scan
-right_scan = record { marks = mark (tree_of right_history); unstable = [] }
-
-left_marks-entries : entries left_scan.marks ≡ one_dir
-left_marks-entries = mark-entries (tree_of left_history) one_dir left-entries
-
-right_marks-entries : entries right_scan.marks ≡ alone
-right_marks-entries = mark-entries (tree_of right_history) alone right-entries
-
-left_directory : (path : Path) → is_directory left_scan.marks path ≡ true → (path ≡ root) ⊎ (path ≡ d_path)
-left_directory path there = by (eq_by_cmp path_cmp path root) (eq_by_cmp path_cmp path d_path) refl refl (sym (directory_by left_scan.marks one_dir path left_marks-entries) ∙ there)
-  where
-    by : (a b : Bool) → eq_by_cmp path_cmp path root ≡ a → eq_by_cmp path_cmp path d_path ≡ b → is_directory_content (cond a (Some Directory) (cond b (Some Directory) None)) ≡ true → (path ≡ root) ⊎ (path ≡ d_path)
-    by true b e f h = inl (same_path path root e)
-    by false true e f h = inr (same_path path d_path f)
-    by false false e f h = absurd (true≢false (sym h))
-
--- The plan
-
-root_differs : is_same_tree (subtree left_scan.marks root) (subtree empty_directory root) ≡ false
-root_differs = same_by _ _ one_dir alone (part-entries _ one_dir root left_marks-entries) (part-entries _ alone root alone-entries)
-
-goes_on_at_root : decision left_scan right_scan empty_directory root ≡ GoOn
-goes_on_at_root = rw (
-  root_differs,
-  directory_by left_scan.marks one_dir root left_marks-entries,
-  directory_by right_scan.marks alone root right_marks-entries,
-  directory_by empty_directory alone root alone-entries,
-) refl
-
-left_differs : is_same_tree (subtree left_scan.marks d_path) (subtree empty_directory d_path) ≡ false
-left_differs = same_by _ _ ((root, Directory) ∷ []) [] (part-entries _ one_dir d_path left_marks-entries) (part-entries _ alone d_path alone-entries)
-
-right_same : is_same_tree (subtree right_scan.marks d_path) (subtree empty_directory d_path) ≡ true
-right_same = same_by _ _ [] [] (part-entries _ alone d_path right_marks-entries) (part-entries _ alone d_path alone-entries)
-
-sides_differ : is_same_tree (subtree left_scan.marks d_path) (subtree right_scan.marks d_path) ≡ false
-sides_differ = same_by _ _ ((root, Directory) ∷ []) [] (part-entries _ one_dir d_path left_marks-entries) (part-entries _ alone d_path right_marks-entries)
-
-carries_d : decision left_scan right_scan empty_directory d_path ≡ Do (ToRight d_path)
-carries_d = rw (left_differs, right_same, sides_differ, directory_by left_scan.marks one_dir d_path left_marks-entries, directory_by right_scan.marks alone d_path right_marks-entries) refl
-
-abbrev names_at : Path → List Name
-names_at path = names_below left_scan right_scan empty_directory path
-
-names_at_root : names_at root ≡ d_name ∷ []
-names_at_root = one_name_at left_scan right_scan empty_directory one_dir alone alone d_name Directory left_marks-entries right_marks-entries alone-entries refl
-
-abbrev items_at : ℕ → Path → List Item
-items_at levels path = items_from (decision left_scan right_scan empty_directory) names_at levels path
-
-from_root : (levels : ℕ) → items_at (suc (suc levels)) root ≡ ToRight d_path ∷ []
-from_root levels =
-    ap (λ o. with_items_below o (flat_map (λ name. items_at (suc levels) (child root name)) (names_at root))) goes_on_at_root
-    ∙ (ap (flat_map (λ name. items_at (suc levels) (child root name))) names_at_root
-    ∙ ap (λ o. with_items_below o (flat_map (λ name. items_at levels (child d_path name)) (names_at d_path)) ++ []) carries_d)
-
-plan_is : items_of left_scan right_scan empty_directory ≡ ToRight d_path ∷ []
-plan_is = from_root 15
+use Rattle.syn_witness.proofs.UnstablePlan.{left_history, right_history, removed_history}
+use Rattle.syn_witness.proofs.UnstablePlan.{remove_allowed, left_lawful, left-entries}
+use Rattle.syn_witness.proofs.UnstablePlan.{right-entries, gone-entries, left_scan, right_scan}
+use Rattle.syn_witness.proofs.UnstablePlan.{left_marks-entries, right_marks-entries, left_directory}
+use Rattle.syn_witness.proofs.UnstablePlan.{plan_is}
 
 -- The worlds
 
@@ -151,25 +60,37 @@ right_names path = children right_scan.marks path
 
 abbrev messages : Sent
 messages =
-    Asks Left 1 0 (Begin 7) ∷ Asks Right 1 0 (Begin 7) ∷ Answers Left 1 0 (Begun 2) ∷ Answers Right 1 0 (Begun 1)
+    Asks Left 1 0 (Begin 7) ∷ Asks Right 1 0 (Begin 7) ∷ Answers Left 1 0 (Begun 2)
+    ∷ Answers Right 1 0 (Begun 1)
     ∷ Asks Left 1 1 (ListAt root) ∷ Asks Right 1 1 (ListAt root)
-    ∷ Answers Left 1 1 (Listed 2 (left_names root)) ∷ Answers Right 1 1 (Listed 1 (right_names root))
+    ∷ Answers Left 1 1 (Listed 2 (left_names root))
+    ∷ Answers Right 1 1 (Listed 1 (right_names root))
     ∷ Asks Left 1 2 (ListAt d_path) ∷ Answers Left 1 2 (NotDir 3)
     ∷ Asks Left 1 3 (Fetch d_path 2 0) ∷ Answers Left 1 3 (Refused Touched) ∷ []
 
 abbrev acks : List Ack
 acks =
-    Happened Left (Edited 1 make_d) ∷ Kept_by (Session 1) ∷ Happened Left (Began 1) ∷ Happened Right (Began 1)
+    Happened Left (Edited 1 make_d) ∷ Kept_by (Session 1) ∷ Happened Left (Began 1)
+    ∷ Happened Right (Began 1)
     ∷ Happened Left (Edited 1 remove_d) ∷ []
 
 abbrev transcript : List Exchange
 transcript =
     took Left 0 (Begin 7) (Begun 2) ∷ took Right 0 (Begin 7) (Begun 1)
-    ∷ took Left 1 (ListAt root) (Listed 2 (left_names root)) ∷ took Right 1 (ListAt root) (Listed 1 (right_names root))
+    ∷ took Left 1 (ListAt root) (Listed 2 (left_names root))
+    ∷ took Right 1 (ListAt root) (Listed 1 (right_names root))
     ∷ took Left 2 (ListAt d_path) (NotDir 3) ∷ took Left 3 (Fetch d_path 2 0) (Refused Touched) ∷ []
 
 abbrev planned : Planned
-planned = record { item = ToRight d_path; left = record { marks = subtree left_scan.marks d_path; since = 2 }; right = record { marks = subtree right_scan.marks d_path; since = 1 } }
+planned =
+    record {
+      item = ToRight d_path;
+      left = record {
+        marks = subtree left_scan.marks d_path;
+        since = 2;
+      };
+      right = record { marks = subtree right_scan.marks d_path; since = 1 };
+    }
 
 abbrev plan : List Planned
 plan = planned ∷ []
@@ -187,13 +108,22 @@ listed_at Left (name ∷ path) = 3
 listed_at Right path = 1
 
 abbrev made : SessionPlan
-made = record { session = 1; preference = None; scan = scans; since = listed_at; archive = empty_directory; plan = plan }
+made =
+    record {
+      session = 1;
+      preference = None;
+      scan = scans;
+      since = listed_at;
+      archive = empty_directory;
+      plan = plan;
+    }
 
 abbrev world : Side → Side → Archive → Option Running → ℕ → ℕ → World
 world = world_of messages acks (made ∷ []) 10
 
 abbrev number_of : Which → ℕ → ℕ
-number_of side request = if nat_le request 1 then request else if request == 2 then 3 else request - 3
+number_of side request =
+    if nat_le request 1 then request else if request == 2 then 3 else request - 3
 
 abbrev both_begin : Running
 both_begin = runs_with 1 [] (waits 0 (Begin 7)) (waits 0 (Begin 7)) None 0 []
@@ -202,10 +132,12 @@ abbrev right_begins : Running
 right_begins = runs_with 1 (take 1 transcript) [] (waits 0 (Begin 7)) None 0 []
 
 abbrev both_list : Running
-both_list = runs_with 1 (take 2 transcript) (waits 1 (ListAt root)) (waits 1 (ListAt root)) None 0 []
+both_list =
+    runs_with 1 (take 2 transcript) (waits 1 (ListAt root)) (waits 1 (ListAt root)) None 0 []
 
 abbrev left_deeper : Running
-left_deeper = runs_with 1 (take 3 transcript) (waits 2 (ListAt d_path)) (waits 1 (ListAt root)) None 0 []
+left_deeper =
+    runs_with 1 (take 3 transcript) (waits 2 (ListAt d_path)) (waits 1 (ListAt root)) None 0 []
 
 abbrev left_awaited : Running
 left_awaited = runs_with 1 (take 4 transcript) (waits 2 (ListAt d_path)) [] None 0 []
@@ -223,46 +155,74 @@ abbrev left_begun : World
 left_begun = world (side_with left_history) (side_with []) begun_archive (Some both_begin) 3 3
 
 abbrev listing : Running → ℕ → World
-listing running said = world (side_with left_history) (side_with right_history) begun_archive (Some running) said 4
+listing running said =
+    world (side_with left_history) (side_with right_history) begun_archive (Some running) said 4
 
 abbrev removed : Running → ℕ → World
-removed running said = world (side_with removed_history) (side_with right_history) begun_archive (Some running) said 5
+removed running said =
+    world (side_with removed_history) (side_with right_history) begun_archive (Some running) said 5
 
 abbrev ended : World
-ended = record (world (side_with removed_history) (side_with right_history) begun_archive None 12 5) { reports = (unstable_report, 5) ∷ [] }
+ended =
+    record (world (side_with removed_history) (side_with right_history) begun_archive None 12 5)
+    { reports = (unstable_report, 5) ∷ [] }
 
 -- The steps
 
 makes_d : Steps opened_world (Edits Left 1 make_d) made_d
-makes_d = edits_so opened_world Left 1 make_d made_d.left.journal (Edited 1 make_d ∷ []) made_d refl refl (make_allowed 1 (omega arith)) (written unarmed refl (meets_unarmed 4)) refl
+makes_d =
+    edits_so opened_world Left 1 make_d made_d.left.journal (Edited 1 make_d ∷ []) made_d refl refl
+    (make_allowed 1 (omega arith)) (written unarmed refl (meets_unarmed 4)) refl
 
 starts_it : Steps made_d Start started
 starts_it = starts_so made_d 1 refl refl refl refl (omega arith, omega arith) started refl
 
 begins_left : Steps started (Deliver 0) left_begun
-begins_left = adds_so started Left 1 0 (Begin 7) None (side_with left_history) (Begun 2) (Began 1) refl refl reads_nothing refl refl
+begins_left =
+    adds_so started Left 1 0 (Begin 7) None (side_with left_history) (Begun 2)
+    (Began 1) refl refl reads_nothing refl refl
 
 begins_right : Steps left_begun (Deliver 1) (listing both_begin 4)
-begins_right = adds_so left_begun Right 1 0 (Begin 7) None (side_with right_history) (Begun 1) (Began 1) refl refl reads_nothing refl refl
+begins_right =
+    adds_so left_begun Right 1 0 (Begin 7) None (side_with right_history) (Begun 1)
+    (Began 1) refl refl reads_nothing refl refl
 
 takes_left_begun : Steps (listing both_begin 4) (Deliver 2) (listing right_begins 4)
-takes_left_begun = goes_on_so (listing both_begin 4) both_begin Left 0 (Begin 7) (Begun 2) None [] (start_of (listing both_begin 4).coordinator both_begin) [] [] [] refl refl refl stays (stands _) refl refl not_last
-    (asks_so number_of begun_archive right_begins [] [] tt tt tt (omega arith) (omega arith) ((refl, tt), tt, (refl, tt)) (omega arith, omega arith, omega arith))
+takes_left_begun =
+    goes_on_so (listing both_begin 4) both_begin Left 0 (Begin 7) (Begun 2) None
+    [] (start_of (listing both_begin 4).coordinator both_begin) [] []
+    [] refl refl refl stays (stands _) refl refl not_last
+    (asks_so number_of begun_archive right_begins [] [] tt tt tt (omega arith) (omega arith)
+    ((refl, tt), tt, (refl, tt)) (omega arith, omega arith, omega arith))
 
 two_begun : (taken : List Exchange) → BothBegun (take 2 transcript ++ taken)
 two_begun taken Left = (7, 2, (0, (0, omega arith, refl)))
 two_begun taken Right = (7, 1, (0, (1, omega arith, refl)))
 
 takes_right_begun : Steps (listing right_begins 4) (Deliver 3) (listing both_list 6)
-takes_right_begun = goes_on_so (listing right_begins 4) right_begins Right 0 (Begin 7) (Begun 1) None [] (start_of (listing right_begins 4).coordinator right_begins) [] (ListAt root ∷ []) (ListAt root ∷ []) refl refl refl stays (stands _) refl refl not_last
-    (asks_so number_of begun_archive (runs_with 1 (take 2 transcript) [] [] None 0 []) (ListAt root ∷ []) (ListAt root ∷ []) ((refl, two_begun [], inl refl), tt) ((refl, two_begun [], inl refl), tt) ((omega arith, root_lawful), ((omega arith, root_lawful), tt))
-    (omega arith) (omega arith) ((refl, (refl, tt)), (refl, tt), (refl, tt)) (omega arith, omega arith, omega arith))
+takes_right_begun =
+    goes_on_so (listing right_begins 4) right_begins Right 0 (Begin 7) (Begun 1) None
+    [] (start_of (listing right_begins 4).coordinator right_begins)
+    [] (ListAt root ∷ []) (ListAt root ∷ []) refl refl refl stays (stands _) refl refl not_last
+    (asks_so number_of begun_archive (runs_with 1 (take 2 transcript) [] [] None 0 []) (ListAt root
+    ∷ []) (ListAt root ∷ []) ((refl, two_begun [], inl refl), tt) (
+      (refl, two_begun [], inl refl),
+      tt,
+    ) ((omega arith, root_lawful), ((omega arith, root_lawful), tt))
+    (omega arith) (omega arith) ((refl, (refl, tt)), (refl, tt), (refl, tt))
+    (omega arith, omega arith, omega arith))
 
 lists_left : Steps (listing both_list 6) (Deliver 4) (listing both_list 7)
-lists_left = says_so (listing both_list 6) Left 1 1 (ListAt root) None (side_with left_history) (Listed 2 (left_names root)) refl reads_nothing (lists (side_with left_history) root (directory_by (tree_of left_history) one_dir root left-entries)) refl
+lists_left =
+    says_so (listing both_list 6) Left 1 1 (ListAt root) None (side_with left_history)
+    (Listed 2 (left_names root)) refl reads_nothing (lists (side_with left_history) root
+    (directory_by (tree_of left_history) one_dir root left-entries)) refl
 
 lists_right : Steps (listing both_list 7) (Deliver 5) (listing both_list 8)
-lists_right = says_so (listing both_list 7) Right 1 1 (ListAt root) None (side_with right_history) (Listed 1 (right_names root)) refl reads_nothing (lists (side_with right_history) root (directory_by (tree_of right_history) alone root right-entries)) refl
+lists_right =
+    says_so (listing both_list 7) Right 1 1 (ListAt root) None (side_with right_history)
+    (Listed 1 (right_names root)) refl reads_nothing (lists (side_with right_history) root
+    (directory_by (tree_of right_history) alone root right-entries)) refl
 
 left_root_names : left_names root ≡ (d_name, Directory) ∷ []
 left_root_names = children_at left_scan.marks one_dir root left_marks-entries
@@ -271,30 +231,61 @@ right_root_names : right_names root ≡ []
 right_root_names = children_at right_scan.marks alone root right_marks-entries
 
 shown : IsShown (take 3 transcript) Left d_path
-shown = inr (root, d_name, 2, left_names root, refl, (1, (2, omega arith, refl)), subst (λ names. Contains names (d_name, Directory)) (sym left_root_names) (0, omega arith, refl))
+shown =
+    inr (
+      root,
+      d_name,
+      2,
+      left_names root,
+      refl,
+      (1, (2, omega arith, refl)),
+      subst
+          (λ names. Contains names (d_name, Directory)) (sym left_root_names)
+          (0, omega arith, refl),
+    )
 
 d_lawful : IsPath d_path
 d_lawful = path_of_letter 100 letter_d
 
 takes_left_root : Steps (listing both_list 8) (Deliver 6) (listing left_deeper 9)
-takes_left_root = goes_on_so (listing both_list 8) both_list Left 1 (ListAt root) (Listed 2 (left_names root)) None [] (start_of (listing both_list 8).coordinator both_list) [] (ListAt d_path ∷ []) [] refl refl
-    (ap (λ names. fault_of (take 2 transcript) Left (ListAt root) (Listed 2 names)) left_root_names) stays (stands _) refl refl not_last
-    (asks_so number_of begun_archive (runs_with 1 (take 3 transcript) [] (waits 1 (ListAt root)) None 0 []) (ListAt d_path ∷ []) [] ((refl, two_begun (drop 2 (take 3 transcript)), shown), tt) tt ((omega arith, d_lawful), tt)
-    (omega arith) (omega arith) ((refl, (refl, (refl, tt))), (refl, tt), (refl, tt)) (omega arith, omega arith, omega arith))
+takes_left_root =
+    goes_on_so (listing both_list 8) both_list Left 1 (ListAt root)
+    (Listed 2 (left_names root)) None [] (start_of (listing both_list 8).coordinator both_list)
+    [] (ListAt d_path ∷ []) [] refl refl
+    (ap (λ names. fault_of (take 2 transcript) Left (ListAt root) (Listed 2 names)) left_root_names)
+    stays (stands _) refl refl not_last
+    (asks_so number_of begun_archive
+    (runs_with 1 (take 3 transcript) [] (waits 1 (ListAt root)) None 0 []) (ListAt d_path ∷ []) []
+    ((refl, two_begun (drop 2 (take 3 transcript)), shown), tt) tt ((omega arith, d_lawful), tt)
+    (omega arith) (omega arith) ((refl, (refl, (refl, tt))), (refl, tt), (refl, tt))
+    (omega arith, omega arith, omega arith))
 
 removes_d : Steps (listing left_deeper 9) (Edits Left 1 remove_d) (removed left_deeper 9)
-removes_d = edits_so (listing left_deeper 9) Left 1 remove_d (removed left_deeper 9).left.journal (Edited 1 remove_d ∷ []) (removed left_deeper 9) refl refl remove_allowed (written unarmed refl (meets_unarmed 4)) refl
+removes_d =
+    edits_so (listing left_deeper 9) Left 1 remove_d (removed left_deeper 9).left.journal
+    (Edited 1 remove_d ∷ []) (removed left_deeper 9) refl refl remove_allowed
+    (written unarmed refl (meets_unarmed 4)) refl
 
 none_is : answer (side_with removed_history) (NotDir 3) ≡ list_at (side_with removed_history) d_path
-none_is = sym (ap (λ b. answer (side_with removed_history) (if b then Listed 3 (children (mark (tree_of removed_history)) d_path) else NotDir 3)) (directory_by (tree_of removed_history) alone d_path gone-entries))
+none_is =
+    sym (ap (λ b. answer (side_with removed_history)
+    (if b then Listed 3 (children (mark (tree_of removed_history)) d_path) else NotDir 3))
+    (directory_by (tree_of removed_history) alone d_path gone-entries))
 
 lists_none : Steps (removed left_deeper 9) (Deliver 8) (removed left_deeper 10)
-lists_none = says_so (removed left_deeper 9) Left 1 2 (ListAt d_path) None (side_with removed_history) (NotDir 3) refl reads_nothing none_is refl
+lists_none =
+    says_so (removed left_deeper 9) Left 1 2 (ListAt d_path) None (side_with removed_history)
+    (NotDir 3) refl reads_nothing none_is refl
 
 takes_right_root : Steps (removed left_deeper 10) (Deliver 7) (removed left_awaited 10)
-takes_right_root = goes_on_so (removed left_deeper 10) left_deeper Right 1 (ListAt root) (Listed 1 (right_names root)) None [] (start_of (removed left_deeper 10).coordinator left_deeper) [] [] [] refl refl
-    (ap (λ names. fault_of (take 3 transcript) Right (ListAt root) (Listed 1 names)) right_root_names) stays (stands _) refl refl not_last
-    (asks_so number_of begun_archive left_awaited [] [] tt tt tt (omega arith) (omega arith) ((refl, (refl, (refl, (refl, tt)))), (refl, tt), tt) (omega arith, omega arith, omega arith))
+takes_right_root =
+    goes_on_so (removed left_deeper 10) left_deeper Right 1 (ListAt root)
+    (Listed 1 (right_names root)) None
+    [] (start_of (removed left_deeper 10).coordinator left_deeper) [] [] [] refl refl
+    (ap (λ names. fault_of (take 3 transcript) Right (ListAt root) (Listed 1 names))
+    right_root_names) stays (stands _) refl refl not_last
+    (asks_so number_of begun_archive left_awaited [] [] tt tt tt (omega arith) (omega arith)
+    ((refl, (refl, (refl, (refl, tt)))), (refl, tt), tt) (omega arith, omega arith, omega arith))
 
 -- The plan is of what was answered
 
@@ -302,21 +293,38 @@ unstable_is : (path : Path) → Contains left_scan.unstable path → path ≡ d_
 unstable_is path (zero, less, e) = sym e
 unstable_is path (suc k, less, e) = absurd (omega (arith, less))
 
-both_scanned : (side : Which) → IsScanBy (λ path position entries. WasTaken (take 5 transcript) side (ListAt path) (Listed position entries)) (λ path position. WasTaken (take 5 transcript) side (ListAt path) (NotDir position)) (scans side) (listed_at side)
+both_scanned : (side : Which) → IsScanBy (λ path position entries. WasTaken (take 5 transcript) side
+    (ListAt path) (Listed position entries)) (λ path position. WasTaken (take 5 transcript) side
+    (ListAt path) (NotDir position)) (scans side) (listed_at side)
 both_scanned Left = record {
   tree = marked_tree (tree_of left_history) (history-is_tree left_history left_lawful);
   fits = fits_archive_by left_scan.marks one_dir left_marks-entries;
-  listed = λ path there stable. elim (left_directory path there) as (λ _. WasTaken (take 5 transcript) Left (ListAt path) (Listed (listed_at Left path) (left_names path))) [
-    | inl e ↦ subst (λ at. WasTaken (take 5 transcript) Left (ListAt at) (Listed (listed_at Left at) (left_names at))) (sym e) (1, (2, omega arith, refl))
-    | inr e ↦ absurd (true≢false (sym (ap (dirty.is_unstable left_scan) e) ∙ stable))
-  ];
-  not_dir = λ path c. subst (λ at. (is_directory left_scan.marks at ≡ true) × WasTaken (take 5 transcript) Left (ListAt at) (NotDir (listed_at Left at))) (sym (unstable_is path c)) (directory_by left_scan.marks one_dir d_path left_marks-entries, (2, (4, omega arith, refl)));
-  nothing_below = λ path c. subst (λ at. left_names at ≡ []) (sym (unstable_is path c)) (children_at left_scan.marks one_dir d_path left_marks-entries);
+  listed =
+      λ path there stable. elim (left_directory path there) as (λ _. WasTaken
+      (take 5 transcript) Left (ListAt path) (Listed (listed_at Left path) (left_names path))) [
+        | inl e ↦ subst (λ at. WasTaken (take 5 transcript) Left (ListAt at)
+            (Listed (listed_at Left at) (left_names at))) (sym e) (1, (2, omega arith, refl))
+        | inr e ↦ absurd (true≢false (sym (ap (dirty.is_unstable left_scan) e) ∙ stable))
+      ];
+  not_dir =
+      λ path c. subst (λ at. (is_directory left_scan.marks at ≡ true)
+      × WasTaken (take 5 transcript) Left (ListAt at) (NotDir (listed_at Left at)))
+      (sym (unstable_is path c)) (
+        directory_by left_scan.marks one_dir d_path left_marks-entries,
+        (2, (4, omega arith, refl)),
+      );
+  nothing_below =
+      λ path c. subst (λ at. left_names at ≡ []) (sym (unstable_is path c))
+      (children_at left_scan.marks one_dir d_path left_marks-entries);
 }
 both_scanned Right = record {
   tree = alone_whole right_scan.marks right_marks-entries;
   fits = fits_archive_by right_scan.marks alone right_marks-entries;
-  listed = λ path there stable. subst (λ at. WasTaken (take 5 transcript) Right (ListAt at) (Listed 1 (right_names at))) (sym (root_alone right_scan.marks right_marks-entries path there)) (1, (3, omega arith, refl));
+  listed =
+      λ path there stable. subst
+      (λ at. WasTaken (take 5 transcript) Right (ListAt at) (Listed 1 (right_names at)))
+      (sym (root_alone right_scan.marks right_marks-entries path there))
+      (1, (3, omega arith, refl));
   not_dir = λ path c. absurd (none_there path c);
   nothing_below = λ path c. absurd (none_there path c);
 }
@@ -325,7 +333,8 @@ sees : SeesBoth scans listed_at planned
 sees Left = (refl, refl)
 sees Right = (refl, refl)
 
-makes_plan : MakesPlan (hearing left_awaited (took Left 2 (ListAt d_path) (NotDir 3))) begun_archive made
+makes_plan :
+    MakesPlan (hearing left_awaited (took Left 2 (ListAt d_path) (NotDir 3))) begun_archive made
 makes_plan = record {
   of_session = refl;
   prefers_none = refl;
@@ -340,22 +349,35 @@ fits_then : kept_refusal begun_archive (Recorded d_path (subtree left_scan.marks
 fits_then = rw (
   get_by empty_directory alone root alone-entries,
   fits_archive_by (replace empty_directory d_path (subtree left_scan.marks d_path)) one_dir
-      (replace-entries empty_directory d_path (subtree left_scan.marks d_path) alone ((root, Directory) ∷ []) alone-entries (part-entries left_scan.marks one_dir d_path left_marks-entries)),
+      (replace-entries empty_directory d_path (subtree left_scan.marks d_path) alone
+      ((root, Directory) ∷ []) alone-entries
+      (part-entries left_scan.marks one_dir d_path left_marks-entries)),
 ) refl
 
 takes_none : Steps (removed left_awaited 10) (Deliver 9) (removed left_fetches 11)
-takes_none = goes_on_so (removed left_awaited 10) left_awaited Left 2 (ListAt d_path) (NotDir 3) (Some plan) (made ∷ []) (start_of (removed left_awaited 10).coordinator left_awaited) [] (Fetch d_path 2 0 ∷ []) [] refl refl refl (makes made refl makes_plan) (stands _) refl refl not_last
-    (asks_so number_of begun_archive (runs_with 1 (take 5 transcript) [] [] (Some plan) 0 []) (Fetch d_path 2 0 ∷ []) [] ((planned, refl, (refl, refl, fits_then, inl refl, refl)), tt) tt ((omega arith, (d_lawful, omega arith, omega arith)), tt)
-    (omega arith) (omega arith) ((refl, (refl, (refl, (refl, (refl, tt))))), (refl, tt), tt) (omega arith, omega arith, omega arith))
+takes_none =
+    goes_on_so (removed left_awaited 10) left_awaited Left 2 (ListAt d_path) (NotDir 3) (Some plan)
+    (made ∷ []) (start_of (removed left_awaited 10).coordinator left_awaited)
+    [] (Fetch d_path 2 0 ∷ [])
+    [] refl refl refl (makes made refl makes_plan) (stands _) refl refl not_last
+    (asks_so number_of begun_archive (runs_with 1 (take 5 transcript) [] [] (Some plan) 0 [])
+    (Fetch d_path 2 0 ∷ []) [] ((planned, refl, (refl, refl, fits_then, inl refl, refl)), tt) tt
+    ((omega arith, (d_lawful, omega arith, omega arith)), tt)
+    (omega arith) (omega arith) ((refl, (refl, (refl, (refl, (refl, tt))))), (refl, tt), tt)
+    (omega arith, omega arith, omega arith))
 
 refuses_it : Steps (removed left_fetches 11) (Deliver 10) (removed left_fetches 12)
-refuses_it = says_so (removed left_fetches 11) Left 1 3 (Fetch d_path 2 0) None (side_with removed_history) (Refused Touched) refl reads_nothing refl refl
+refuses_it =
+    says_so (removed left_fetches 11) Left 1 3 (Fetch d_path 2 0) None (side_with removed_history)
+    (Refused Touched) refl reads_nothing refl refl
 
 ends_it : Steps (removed left_fetches 12) (Deliver 11) ended
 ends_it =
     let walk = start_of (removed left_fetches 12).coordinator left_fetches in
-    ends_so (removed left_fetches 12) left_fetches Left 3 (Fetch d_path 2 0) (Refused Touched) plan [] (refusing walk Touched planned) [] refl refl refl stays
-    (side_refuses walk (refusing walk Touched planned) [] planned Touched refl refl refl refl (stands _)) refl refl
+    ends_so (removed left_fetches 12) left_fetches Left 3 (Fetch d_path 2 0) (Refused Touched) plan
+    [] (refusing walk Touched planned) [] refl refl refl stays
+    (side_refuses walk (refusing walk Touched planned)
+    [] planned Touched refl refl refl refl (stands _)) refl refl
 
 pub vanished_is_unstable : VanishedIsUnstable
 vanished_is_unstable = record {
@@ -390,7 +412,19 @@ vanished_is_unstable = record {
                     (
                       removed left_deeper 9,
                       removes_d,
-                      (removed left_deeper 10, lists_none, (removed left_awaited 10, takes_right_root, (removed left_fetches 11, takes_none, (removed left_fetches 12, refuses_it, (ended, ends_it, refl))))),
+                      (
+                        removed left_deeper 10,
+                        lists_none,
+                        (
+                          removed left_awaited 10,
+                          takes_right_root,
+                          (
+                            removed left_fetches 11,
+                            takes_none,
+                            (removed left_fetches 12, refuses_it, (ended, ends_it, refl)),
+                          ),
+                        ),
+                      ),
                     ),
                   ),
                 ),

@@ -1,5 +1,7 @@
 -- A directory with one file, whose name is a letter, and its marks.
-use Rattle.std.proofs.Common.{◌≤◌, ◌+◌, ◌≡◌, ◌≢◌, ℕ, suc, zero, ◌<◌, ◌^◌, Bool, true, false, true≢false, cond, ◌&&◌, nat_le, List, [], ◌∷◌, ◌++◌, length, refl, sym, ap, ◌∙◌, subst, Some, None, arith, inr}
+use Rattle.std.proofs.Common.{◌≤◌, ◌+◌, ◌≡◌, ◌≢◌, ℕ, suc, zero, ◌<◌, ◌^◌, Bool, true, false}
+use Rattle.std.proofs.Common.{true≢false, cond, ◌&&◌, nat_le, List, [], ◌∷◌, ◌++◌, length, refl}
+use Rattle.std.proofs.Common.{sym, ap, ◌∙◌, subst, Some, None, arith, inr}
 use Rattle.std.specs.Prelude.{flat_map, Contains, get_or}
 use Rattle.std.specs.List.{list_all}
 use Rattle.std.specs.Ordering.{eq_by_cmp}
@@ -10,7 +12,9 @@ use Rattle.std.proofs.lemmas.List.Elements.{All-nil, All-cons, All-append}
 use Rattle.std.proofs.lemmas.Str.{IsUtf8-from_ascii}
 use Rattle.sha2.specs.Sha256.{sha256, digest_bytes}
 use Rattle.syn_model.specs.Path.{Bytes, Path, IsName, IsPath, root, path_cmp}
-use Rattle.syn_model.specs.Tree.{subtree, Tree, Pair, Content, IsPart, IsTree, Directory, File, Contents, contents_of, file, empty_directory, replace, is_directory, is_directory_content}
+use Rattle.syn_model.specs.Tree.{subtree, Tree, Pair, Content, IsPart, IsTree, Directory, File}
+use Rattle.syn_model.specs.Tree.{Contents, contents_of, file, empty_directory, replace}
+use Rattle.syn_model.specs.Tree.{is_directory, is_directory_content}
 use Rattle.syn_model.specs.Limits.{fits_replica, fits_part, fits_paths, fits_content, fits_path}
 use Rattle.syn_model.specs.Event.{AreBytes, Edited, Put}
 use Rattle.syn_model.specs.History.{tree_of, IsAllowed}
@@ -22,8 +26,10 @@ use Rattle.syn_model.specs.MarkSpelling.{mark_spelling, kept_spelling, mark_spel
 use Rattle.syn_headline.specs.Machine.{record_size}
 use Rattle.syn_model.specs.Spelling.{spelling, spelling_within, content_spelling}
 use Rattle.syn_model.proofs.PathLemmas.{same_path}
-use Rattle.syn_model.proofs.HistoryLemmas.{empty-is_tree, at_root-is_part, replace-is_tree, same_file}
-use Rattle.syn_witness.proofs.WitnessTrees.{children_by, root-entries, replace-entries, mark-entries, get_by, children_in}
+use Rattle.syn_model.proofs.HistoryLemmas.{empty-is_tree, at_root-is_part, replace-is_tree}
+use Rattle.syn_model.proofs.HistoryLemmas.{same_file}
+use Rattle.syn_witness.proofs.WitnessTrees.{children_by, root-entries, replace-entries}
+use Rattle.syn_witness.proofs.WitnessTrees.{mark-entries, get_by, children_in}
 
 -- lawful names and paths
 pub record IsLetter (n : ℕ) : Type 0 where
@@ -71,12 +77,16 @@ byte_below (suc k) n = omega arith
 
 high_bytes : (k n : ℕ) → AreBytes (bytes_high_first k n)
 high_bytes zero n = All-nil (λ byte. byte < 256)
-high_bytes (suc k) n = All-cons (λ byte. byte < 256) (byte_at k n) (bytes_high_first k n) (byte_below k n) (high_bytes k n)
+high_bytes (suc k) n =
+    All-cons (λ byte. byte < 256) (byte_at k n) (bytes_high_first k n) (byte_below k n)
+    (high_bytes k n)
 
 words_bytes : (h : List ℕ) (n : ℕ) → AreBytes (digest_bytes h n)
 unfolding digest_bytes
 words_bytes h zero = All-nil (λ byte. byte < 256)
-words_bytes h (suc n) = All-append (λ byte. byte < 256) (digest_bytes h n) (to_be_bytes w32 _) (words_bytes h n) (high_bytes 4 _)
+words_bytes h (suc n) =
+    All-append (λ byte. byte < 256) (digest_bytes h n) (to_be_bytes w32 _) (words_bytes h n)
+    (high_bytes 4 _)
 
 pub digest_is_bytes : (bytes : List ℕ) → AreBytes (sha256 bytes)
 unfolding sha256
@@ -90,27 +100,37 @@ abbrev pub digest : Bytes → Content
 digest bytes = content (sha256 bytes)
 
 pub file_is_part : (bytes : Bytes) → AreBytes bytes → IsPart (file bytes)
-file_is_part bytes lawful = at_root-is_part (content bytes) (λ contents e. subst AreBytes (same_file (contents_of bytes) contents e) lawful)
+file_is_part bytes lawful =
+    at_root-is_part (content bytes)
+    (λ contents e. subst AreBytes (same_file (contents_of bytes) contents e) lawful)
 
 pub file-entries : (bytes : Bytes) → entries (file bytes) ≡ (root, content bytes) ∷ []
 file-entries bytes = root-entries (content bytes)
 
 pub file_mark-entries : (bytes : Bytes) → entries (mark (file bytes)) ≡ (root, digest bytes) ∷ []
-file_mark-entries bytes = mark-entries (file bytes) ((root, content bytes) ∷ []) (file-entries bytes)
+file_mark-entries bytes =
+    mark-entries (file bytes) ((root, content bytes) ∷ []) (file-entries bytes)
 
 pub mark_is_part : (bytes : Bytes) → IsPart (mark (file bytes))
 mark_is_part bytes =
-    subst IsPart (same_entries_map (file (sha256 bytes)) (mark (file bytes)) (file-entries (sha256 bytes) ∙ sym (file_mark-entries bytes))) (file_is_part (sha256 bytes) (digest_is_bytes bytes))
+    subst IsPart (same_entries_map (file (sha256 bytes)) (mark (file bytes))
+    (file-entries (sha256 bytes) ∙ sym (file_mark-entries bytes)))
+    (file_is_part (sha256 bytes) (digest_is_bytes bytes))
 
 pub are_marks : (bytes : Bytes) → IsMarks (mark (file bytes))
 are_marks bytes = record { part = mark_is_part bytes; digests = mark-digests (file bytes) }
 
-pub file_spelling : (bytes : Bytes) → spelling (file bytes) ≡ 1 ∷ to_be_bytes w32 (length bytes) ++ bytes
+pub file_spelling : (bytes : Bytes) →
+    spelling (file bytes) ≡ 1 ∷ to_be_bytes w32 (length bytes) ++ bytes
 unfolding spelling_within
-file_spelling bytes = ap (content_spelling (spelling_within (len (file bytes))) (file bytes)) (get_by (file bytes) ((root, content bytes) ∷ []) root (file-entries bytes))
+file_spelling bytes =
+    ap (content_spelling (spelling_within (len (file bytes))) (file bytes))
+    (get_by (file bytes) ((root, content bytes) ∷ []) root (file-entries bytes))
 
 pub file_fits_part : (b : ℕ) → fits_part (file (b ∷ [])) ≡ true
-file_fits_part b = ap (λ es. list_all (λ pair. fits_content pair.1 && nat_le (length (children_in es pair.0)) 256) es) (file-entries (b ∷ []))
+file_fits_part b =
+    ap (λ es. list_all (λ pair. fits_content pair.1 && nat_le (length (children_in es pair.0)) 256)
+    es) (file-entries (b ∷ []))
 
 pub file_fits_paths : (b : ℕ) → fits_paths (file (b ∷ [])) ≡ true
 file_fits_paths b = ap (list_all (λ pair. fits_path pair.0)) (file-entries (b ∷ []))
@@ -122,29 +142,39 @@ alone = (root, Directory) ∷ []
 abbrev pub with_file : ℕ → Content → List Pair
 with_file n content = (root, Directory) ∷ (letter_path n, content) ∷ []
 
-pub put-entries : (t u : Tree) (n : ℕ) (content : Content) → entries t ≡ alone → entries u ≡ (root, content) ∷ [] → entries (replace t (letter_path n) u) ≡ with_file n content
+pub put-entries : (t u : Tree) (n : ℕ) (content : Content) → entries t ≡ alone →
+    entries u ≡ (root, content) ∷ [] → entries (replace t (letter_path n) u) ≡ with_file n content
 put-entries t u n content e f = replace-entries t (letter_path n) u alone ((root, content) ∷ []) e f
 
 pub alone-entries : entries empty_directory ≡ alone
 alone-entries = root-entries Directory
 
-pub marked-entries : (t : Tree) (n : ℕ) (bytes : Bytes) → entries t ≡ with_file n (content bytes) → entries (mark t) ≡ with_file n (digest bytes)
+pub marked-entries : (t : Tree) (n : ℕ) (bytes : Bytes) → entries t ≡ with_file n (content bytes) →
+    entries (mark t) ≡ with_file n (digest bytes)
 marked-entries t n bytes e = mark-entries t (with_file n (content bytes)) e
 
 -- the marks are a whole tree, whose one directory is the root
-pub marked_whole : (t : Tree) (n : ℕ) (bytes : Bytes) → IsLetter n → entries t ≡ with_file n (content bytes) → IsTree (mark t)
+pub marked_whole : (t : Tree) (n : ℕ) (bytes : Bytes) → IsLetter n →
+    entries t ≡ with_file n (content bytes) → IsTree (mark t)
 unfolding tree_of
 marked_whole t n bytes letter e =
-    subst IsTree (same_entries_map (replace empty_directory (letter_path n) (file (sha256 bytes))) (mark t)
-    (put-entries empty_directory (file (sha256 bytes)) n (digest bytes) alone-entries (file-entries (sha256 bytes)) ∙ sym (marked-entries t n bytes e)))
-    (replace-is_tree empty_directory (letter_path n) (file (sha256 bytes)) empty-is_tree (file_is_part (sha256 bytes) (digest_is_bytes bytes)) refl (inr (get_by empty_directory alone root alone-entries))
+    subst IsTree
+    (same_entries_map (replace empty_directory (letter_path n) (file (sha256 bytes))) (mark t)
+    (put-entries empty_directory (file (sha256 bytes)) n (digest bytes) alone-entries
+    (file-entries (sha256 bytes)) ∙ sym (marked-entries t n bytes e)))
+    (replace-is_tree empty_directory (letter_path n) (file (sha256 bytes)) empty-is_tree
+    (file_is_part (sha256 bytes) (digest_is_bytes bytes)) refl
+    (inr (get_by empty_directory alone root alone-entries))
     (All-cons IsName (n ∷ []) [] (name_of_letter n letter) (All-nil IsName)))
 
 pub alone_whole : (t : Tree) → entries t ≡ alone → IsTree t
 unfolding tree_of
-alone_whole t e = subst IsTree (same_entries_map empty_directory t (alone-entries ∙ sym e)) empty-is_tree
+alone_whole t e =
+    subst IsTree (same_entries_map empty_directory t (alone-entries ∙ sym e)) empty-is_tree
 
-root_or_file : (b c : Bool) (contents : Contents) → is_directory_content (cond b (Some Directory) (cond c (Some (File contents)) None)) ≡ true → b ≡ true
+root_or_file : (b c : Bool) (contents : Contents) →
+    is_directory_content (cond b (Some Directory) (cond c (Some (File contents)) None)) ≡ true →
+    b ≡ true
 root_or_file true c contents h = refl
 root_or_file false true contents h = absurd (true≢false (sym h))
 root_or_file false false contents h = absurd (true≢false (sym h))
@@ -153,30 +183,48 @@ root_or_none : (b : Bool) → is_directory_content (cond b (Some Directory) None
 root_or_none true h = refl
 root_or_none false h = absurd (true≢false (sym h))
 
-pub root_only : (t : Tree) (n : ℕ) (bytes : Bytes) → entries t ≡ with_file n (content bytes) → (path : Path) → is_directory t path ≡ true → path ≡ root
+pub root_only : (t : Tree) (n : ℕ) (bytes : Bytes) → entries t ≡ with_file n (content bytes) →
+    (path : Path) → is_directory t path ≡ true → path ≡ root
 root_only t n bytes e path h =
-    same_path path root (root_or_file (eq_by_cmp path_cmp path root) (eq_by_cmp path_cmp path (letter_path n)) (contents_of bytes) (ap is_directory_content (sym (get_by t (with_file n (content bytes)) path e)) ∙ h))
+    same_path path root (root_or_file (eq_by_cmp path_cmp path root)
+    (eq_by_cmp path_cmp path (letter_path n)) (contents_of bytes)
+    (ap is_directory_content (sym (get_by t (with_file n (content bytes)) path e)) ∙ h))
 
-pub root_alone : (t : Tree) → entries t ≡ alone → (path : Path) → is_directory t path ≡ true → path ≡ root
-root_alone t e path h = same_path path root (root_or_none (eq_by_cmp path_cmp path root) (ap is_directory_content (sym (get_by t alone path e)) ∙ h))
+pub root_alone : (t : Tree) → entries t ≡ alone → (path : Path) → is_directory t path ≡ true →
+    path ≡ root
+root_alone t e path h =
+    same_path path root (root_or_none (eq_by_cmp path_cmp path root)
+    (ap is_directory_content (sym (get_by t alone path e)) ∙ h))
 
 -- the first edit of a new side is allowed where the file fits
-pub put_allowed : (user n b : ℕ) → user < 2 ^ 32 → IsLetter n → b < 256 → fits_replica (replace empty_directory (letter_path n) (file (b ∷ []))) ≡ true → IsAllowed [] (Edited user (Put (letter_path n) (b ∷ [])))
+pub put_allowed : (user n b : ℕ) → user < 2 ^ 32 → IsLetter n → b < 256 →
+    fits_replica (replace empty_directory (letter_path n) (file (b ∷ []))) ≡ true →
+    IsAllowed [] (Edited user (Put (letter_path n) (b ∷ [])))
 unfolding tree_of
 put_allowed user n b known letter byte fits = record {
   lawful = (known, (path_of_letter n letter, one_byte b byte));
-  not_refused = rw (get_by empty_directory alone root alone-entries, get_by empty_directory alone (letter_path n) alone-entries, fits) refl;
+  not_refused =
+      rw (
+        get_by empty_directory alone root alone-entries,
+        get_by empty_directory alone (letter_path n) alone-entries,
+        fits,
+      ) refl;
 }
 
 -- the record of a file's mark at a letter has 42 bytes
-pub letter_size : (letter : ℕ) (bytes : Bytes) → record_size (kept_spelling (Recorded (letter_path letter) (mark (file bytes)))) ≡ 42
+pub letter_size : (letter : ℕ) (bytes : Bytes) →
+    record_size (kept_spelling (Recorded (letter_path letter) (mark (file bytes)))) ≡ 42
 unfolding mark_spelling_within
 letter_size letter bytes =
     let marks = mark (file bytes) in
-    let at : get marks root ≡ Some (digest bytes) = get_by marks ((root, digest bytes) ∷ []) root (file_mark-entries bytes) in
-    ap (λ content. record_size (2 ∷ 1 ∷ 1 ∷ letter ∷ mark_spelling_within (suc (len marks)) marks content)) at ∙ ap (λ n. 5 + suc (suc (suc (suc (suc n))))) (length-sha256 bytes)
+    let at : get marks root ≡ Some (digest bytes) =
+    get_by marks ((root, digest bytes) ∷ []) root (file_mark-entries bytes) in
+    ap (λ content. record_size
+    (2 ∷ 1 ∷ 1 ∷ letter ∷ mark_spelling_within (suc (len marks)) marks content)) at
+    ∙ ap (λ n. 5 + suc (suc (suc (suc (suc n))))) (length-sha256 bytes)
 
-pub letter_fits : (letter : ℕ) (bytes : Bytes) (room : ℕ) → 42 ≤ room → record_size (kept_spelling (Recorded (letter_path letter) (mark (file bytes)))) ≤ room
+pub letter_fits : (letter : ℕ) (bytes : Bytes) (room : ℕ) → 42 ≤ room →
+    record_size (kept_spelling (Recorded (letter_path letter) (mark (file bytes)))) ≤ room
 letter_fits letter bytes room h = subst (λ size. size ≤ room) (sym (letter_size letter bytes)) h
 
 -- an archive of no marks
@@ -184,5 +232,8 @@ pub no_marks : mark_spelling empty_directory ≡ 2 ∷ 0 ∷ 0 ∷ []
 unfolding mark_spelling_within
 no_marks =
     let spell = λ (part : Tree). mark_spelling_within (len empty_directory) part (get part root) in
-    ap (mark_spelling_within (suc (len empty_directory)) empty_directory) (get_by empty_directory alone root alone-entries)
-    ∙ ap (λ found. 2 ∷ to_be_bytes w16 (length found) ++ flat_map (λ entry. length entry.0 ∷ entry.0 ++ spell (subtree empty_directory (entry.0 ∷ []))) found) (children_by empty_directory alone alone-entries)
+    ap (mark_spelling_within (suc (len empty_directory)) empty_directory)
+    (get_by empty_directory alone root alone-entries)
+    ∙ ap (λ found. 2 ∷ to_be_bytes w16 (length found) ++ flat_map
+    (λ entry. length entry.0 ∷ entry.0 ++ spell (subtree empty_directory (entry.0 ∷ []))) found)
+    (children_by empty_directory alone alone-entries)

@@ -1,6 +1,8 @@
--- The requests of the witness runs: on each side every kind of request has its own number, and so has each
+-- The requests of the witness runs: on each side every kind of request has its own number, and so
+-- has each
 -- depth of a listing.
-use Rattle.std.proofs.Common.{[], ◌∷◌, length, ◌+◌, ◌-◌, nat_le, if◌then◌else◌, ◌≡◌, ℕ, zero, suc, refl, sym, ap, ◌∙◌, inl, inr}
+use Rattle.std.proofs.Common.{[], ◌∷◌, length, ◌+◌, ◌-◌, nat_le, if◌then◌else◌, ◌≡◌, ℕ, zero, suc}
+use Rattle.std.proofs.Common.{refl, sym, ap, ◌∙◌, inl, inr}
 use Rattle.std.specs.List.{AllByRecursion}
 use Rattle.std.proofs.lemmas.List.Elements.{All-contains, All-from_recursion}
 use Rattle.syn_headline.specs.Side.{Request, Begin, ListAt, Fetch, Stage, Replace}
@@ -45,20 +47,32 @@ same_kind (Replace i p k x) (Replace j q l y) r = refl
 -- each request has the number of its kind on its side
 abbrev pub AreNumbered : (Which → ℕ → ℕ) → Running → Type 0
 AreNumbered number_of running =
-    AllByRecursion (λ exchange. number_of exchange.side (kind exchange.request) ≡ exchange.number) running.taken
+    AllByRecursion (λ exchange. number_of exchange.side (kind exchange.request) ≡ exchange.number)
+    running.taken
     × AllByRecursion (λ one. number_of Left (kind one.request) ≡ one.number) running.left
     × AllByRecursion (λ one. number_of Right (kind one.request) ≡ one.number) running.right
 
-number_was : (number_of : Which → ℕ → ℕ) (running : Running) → AreNumbered number_of running → (side : Which) (number : ℕ) (request : Request) → WasAsked running side number request → number_of side (kind request) ≡ number
+number_was : (number_of : Which → ℕ → ℕ) (running : Running) →
+    AreNumbered number_of running → (side : Which) (number : ℕ) (request : Request) →
+    WasAsked running side number request → number_of side (kind request) ≡ number
 number_was number_of running all side number request (inl taken) =
-    All-contains (λ exchange. number_of exchange.side (kind exchange.request) ≡ exchange.number) running.taken _ (All-from_recursion (λ exchange. number_of exchange.side (kind exchange.request) ≡ exchange.number) running.taken all.0) taken.1
+    All-contains (λ exchange. number_of exchange.side (kind exchange.request) ≡ exchange.number)
+    running.taken _ (All-from_recursion (λ exchange. number_of exchange.side
+    (kind exchange.request) ≡ exchange.number) running.taken all.0) taken.1
 number_was number_of running all Left number request (inr waits) =
-    All-contains (λ one. number_of Left (kind one.request) ≡ one.number) running.left _ (All-from_recursion (λ one. number_of Left (kind one.request) ≡ one.number) running.left all.1) waits.1
+    All-contains (λ one. number_of Left (kind one.request) ≡ one.number) running.left _
+    (All-from_recursion
+    (λ one. number_of Left (kind one.request) ≡ one.number) running.left all.1) waits.1
 number_was number_of running all Right number request (inr waits) =
-    All-contains (λ one. number_of Right (kind one.request) ≡ one.number) running.right _ (All-from_recursion (λ one. number_of Right (kind one.request) ≡ one.number) running.right all.2) waits.1
+    All-contains (λ one. number_of Right (kind one.request) ≡ one.number) running.right _
+    (All-from_recursion
+    (λ one. number_of Right (kind one.request) ≡ one.number) running.right all.2) waits.1
 
-pub asks_once : (number_of : Which → ℕ → ℕ) (running : Running) → AreNumbered number_of running → AsksOnce running
-asks_once number_of running all side m n a b ca cb r = sym (number_was number_of running all side m a ca) ∙ (ap (number_of side) (same_kind a b r) ∙ number_was number_of running all side n b cb)
+pub asks_once : (number_of : Which → ℕ → ℕ) (running : Running) → AreNumbered number_of running →
+    AsksOnce running
+asks_once number_of running all side m n a b ca cb r =
+    sym (number_was number_of running all side m a ca)
+    ∙ (ap (number_of side) (same_kind a b r) ∙ number_was number_of running all side n b cb)
 
 -- the numbers in a session that stages on the right first
 abbrev right_number : ℕ → ℕ

@@ -1,6 +1,8 @@
 -- What the scans of the witness session find, and its plan.
-use Rattle.std.proofs.Common.{◌≡◌, ℕ, suc, true, false, List, [], ◌∷◌, ◌++◌, map, flat_map, length, refl, sym, ap, ap₂, ◌∙◌, arith}
-use Rattle.std.specs.FinMap.{entries, empty, from_entries, keys, put, entries-insert, len-entries, len-empty, same_entries_map}
+use Rattle.std.proofs.Common.{◌≡◌, ℕ, suc, true, false, List, [], ◌∷◌, ◌++◌, map, flat_map, length}
+use Rattle.std.proofs.Common.{refl, sym, ap, ap₂, ◌∙◌, arith}
+use Rattle.std.specs.FinMap.{entries, empty, from_entries, keys, put, entries-insert, len-entries}
+use Rattle.std.specs.FinMap.{len-empty, same_entries_map}
 use Rattle.syn_model.specs.Path.{Bytes, Path, Name, root, child, name_cmp}
 use Rattle.syn_model.specs.Tree.{Tree, Pair, Content, empty_directory, subtree, is_directory}
 use Rattle.syn_model.specs.Event.{Edited, Began}
@@ -13,8 +15,11 @@ use Rattle.syn_model.specs.Plan.{plan as items_of}
 use Rattle.syn_model.specs.Rows.{a_name}
 use Rattle.syn_model.proofs.PathLemmas.{name_total}
 use Rattle.syn_witness.specs.Witness.{a_path, put_one, one}
-use Rattle.syn_witness.proofs.WitnessTrees.{children_in, mark-entries, same_by, part-entries, directory_by, children_by}
-use Rattle.syn_witness.proofs.WitnessFiles.{content, digest, alone, with_file, alone-entries, file-entries, file_mark-entries, marked-entries, put-entries}
+use Rattle.syn_witness.proofs.WitnessTrees.{children_in, mark-entries, same_by, part-entries}
+use Rattle.syn_witness.proofs.WitnessTrees.{directory_by, children_by}
+use Rattle.syn_witness.proofs.WitnessFiles.{content, digest, alone, with_file, alone-entries}
+use Rattle.syn_witness.proofs.WitnessFiles.{file-entries, file_mark-entries, marked-entries}
+use Rattle.syn_witness.proofs.WitnessFiles.{put-entries}
 
 -- what each side has as it is listed
 abbrev pub left_history : History
@@ -31,7 +36,8 @@ one_digest = digest one_bytes
 
 pub left-entries : entries (tree_of left_history) ≡ with_file 97 (content one_bytes)
 unfolding tree_of
-left-entries = put-entries empty_directory one 97 (content one_bytes) alone-entries (file-entries one_bytes)
+left-entries =
+    put-entries empty_directory one 97 (content one_bytes) alone-entries (file-entries one_bytes)
 
 pub right-entries : entries (tree_of right_history) ≡ alone
 unfolding tree_of
@@ -57,11 +63,17 @@ abbrev pub right_scan : Scan
 right_scan = record { marks = mark (tree_of right_history); unstable = [] }
 
 pub left_part : subtree (mark (tree_of left_history)) a_path ≡ mark one
-left_part = same_entries_map _ _ (part-entries (mark (tree_of left_history)) (with_file 97 one_digest) a_path left_marks-entries ∙ sym (file_mark-entries one_bytes))
+left_part =
+    same_entries_map _ _ (part-entries (mark (tree_of left_history))
+    (with_file 97 one_digest) a_path left_marks-entries ∙ sym (file_mark-entries one_bytes))
 
 -- at the root both differ from a new archive or not, and the plan goes on
-left_root_differs : is_same_tree (subtree left_scan.marks root) (subtree empty_directory root) ≡ false
-left_root_differs = same_by _ _ (with_file 97 one_digest) alone (part-entries _ (with_file 97 one_digest) root left_marks-entries) (part-entries _ alone root alone-entries)
+left_root_differs :
+    is_same_tree (subtree left_scan.marks root) (subtree empty_directory root) ≡ false
+left_root_differs =
+    same_by _ _ (with_file 97 one_digest) alone
+    (part-entries _ (with_file 97 one_digest) root left_marks-entries)
+    (part-entries _ alone root alone-entries)
 
 goes_on_at_root : decision left_scan right_scan empty_directory root ≡ GoOn
 goes_on_at_root = rw (
@@ -71,17 +83,33 @@ goes_on_at_root = rw (
   directory_by empty_directory alone root alone-entries,
 ) refl
 
-left_differs : is_same_tree (subtree left_scan.marks a_path) (subtree empty_directory a_path) ≡ false
-left_differs = same_by _ _ ((root, one_digest) ∷ []) [] (part-entries _ (with_file 97 one_digest) a_path left_marks-entries) (part-entries _ alone a_path alone-entries)
+left_differs : is_same_tree (subtree left_scan.marks a_path) (subtree empty_directory a_path)
+    ≡ false
+left_differs =
+    same_by _ _ ((root, one_digest) ∷ [])
+    [] (part-entries _ (with_file 97 one_digest) a_path left_marks-entries)
+    (part-entries _ alone a_path alone-entries)
 
 right_same : is_same_tree (subtree right_scan.marks a_path) (subtree empty_directory a_path) ≡ true
-right_same = same_by _ _ [] [] (part-entries _ alone a_path right_marks-entries) (part-entries _ alone a_path alone-entries)
+right_same =
+    same_by _ _ [] [] (part-entries _ alone a_path right_marks-entries)
+    (part-entries _ alone a_path alone-entries)
 
-sides_differ : is_same_tree (subtree left_scan.marks a_path) (subtree right_scan.marks a_path) ≡ false
-sides_differ = same_by _ _ ((root, one_digest) ∷ []) [] (part-entries _ (with_file 97 one_digest) a_path left_marks-entries) (part-entries _ alone a_path right_marks-entries)
+sides_differ : is_same_tree (subtree left_scan.marks a_path) (subtree right_scan.marks a_path)
+    ≡ false
+sides_differ =
+    same_by _ _ ((root, one_digest) ∷ [])
+    [] (part-entries _ (with_file 97 one_digest) a_path left_marks-entries)
+    (part-entries _ alone a_path right_marks-entries)
 
 carries_to_right : decision left_scan right_scan empty_directory a_path ≡ Do (ToRight a_path)
-carries_to_right = rw (left_differs, right_same, sides_differ, directory_by left_scan.marks (with_file 97 one_digest) a_path left_marks-entries) refl
+carries_to_right =
+    rw (
+      left_differs,
+      right_same,
+      sides_differ,
+      directory_by left_scan.marks (with_file 97 one_digest) a_path left_marks-entries,
+    ) refl
 
 no_entries : (es : List (Name × Content)) → length es ≡ 0 → es ≡ []
 no_entries [] e = refl
@@ -91,35 +119,49 @@ abbrev pub names_of : List (Name × Content) → List Name
 names_of es = keys (from_entries {X = Content} {R = name_cmp} es)
 
 pub no_names : entries (empty {X = Content} {R = name_cmp}) ≡ []
-no_names = no_entries (entries (empty {X = Content} {R = name_cmp})) (sym (len-entries (empty {X = Content} {R = name_cmp})) ∙ len-empty name_cmp Content)
+no_names =
+    no_entries (entries (empty {X = Content} {R = name_cmp}))
+    (sym (len-entries (empty {X = Content} {R = name_cmp})) ∙ len-empty name_cmp Content)
 
 pub one_name_of : (content : Content) → names_of ((a_name, content) ∷ []) ≡ a_name ∷ []
-one_name_of content = ap (map (λ e. e.0)) (entries-insert name_total empty a_name content ∙ ap (put name_cmp a_name content) no_names)
+one_name_of content =
+    ap (map (λ e. e.0))
+    (entries-insert name_total empty a_name content ∙ ap (put name_cmp a_name content) no_names)
 
 -- where one of three trees alone has a name in its root
-pub one_name_at : (left right : Scan) (archive : Tree) (ls rs os : List Pair) (name : Name) (content : Content) → entries left.marks ≡ ls → entries right.marks ≡ rs → entries archive ≡ os →
-    children_in ls root ++ (children_in rs root ++ children_in os root) ≡ (name, content) ∷ [] → names_below left right archive root ≡ name ∷ []
+pub one_name_at : (left right : Scan) (archive : Tree) (ls rs os : List Pair) (name : Name)
+    (content : Content) → entries left.marks ≡ ls →
+    entries right.marks ≡ rs → entries archive ≡ os →
+    children_in ls root ++ (children_in rs root ++ children_in os root) ≡ (name, content) ∷ [] →
+    names_below left right archive root ≡ name ∷ []
 one_name_at left right archive ls rs os name content l r o is =
-    ap names_of (ap₂ (λ xs ys. xs ++ ys) (children_by left.marks ls l) (ap₂ (λ xs ys. xs ++ ys) (children_by right.marks rs r) (children_by archive os o)) ∙ is)
-    ∙ ap (map (λ e. e.0)) (entries-insert name_total empty name content ∙ ap (put name_cmp name content) no_names)
+    ap names_of (ap₂ (λ xs ys. xs ++ ys) (children_by left.marks ls l)
+    (ap₂ (λ xs ys. xs ++ ys) (children_by right.marks rs r) (children_by archive os o)) ∙ is)
+    ∙ ap (map (λ e. e.0))
+    (entries-insert name_total empty name content ∙ ap (put name_cmp name content) no_names)
 
 one_name : names_below left_scan right_scan empty_directory root ≡ a_name ∷ []
 one_name =
-    ap names_of (ap₂ (λ xs ys. xs ++ ys) (children_by left_scan.marks (with_file 97 one_digest) left_marks-entries)
-    (ap₂ (λ xs ys. xs ++ ys) (children_by right_scan.marks alone right_marks-entries) (children_by empty_directory alone alone-entries)))
+    ap names_of (ap₂ (λ xs ys. xs ++ ys)
+    (children_by left_scan.marks (with_file 97 one_digest) left_marks-entries)
+    (ap₂ (λ xs ys. xs ++ ys) (children_by right_scan.marks alone right_marks-entries)
+    (children_by empty_directory alone alone-entries)))
     ∙ one_name_of one_digest
 
 abbrev names_at : Path → List Name
 names_at path = names_below left_scan right_scan empty_directory path
 
 abbrev items_at : ℕ → Path → List Item
-items_at levels path = items_from (decision left_scan right_scan empty_directory) names_at levels path
+items_at levels path =
+    items_from (decision left_scan right_scan empty_directory) names_at levels path
 
 from_root : (levels : ℕ) → items_at (suc (suc levels)) root ≡ ToRight a_path ∷ []
 from_root levels =
-    ap (λ o. with_items_below o (flat_map (λ name. items_at (suc levels) (child root name)) (names_at root))) goes_on_at_root
+    ap (λ o. with_items_below o
+    (flat_map (λ name. items_at (suc levels) (child root name)) (names_at root))) goes_on_at_root
     ∙ (ap (flat_map (λ name. items_at (suc levels) (child root name))) one_name
-    ∙ ap (λ o. with_items_below o (flat_map (λ name. items_at levels (child a_path name)) (names_at a_path)) ++ []) carries_to_right)
+    ∙ ap (λ o. with_items_below o (flat_map (λ name. items_at levels (child a_path name))
+    (names_at a_path)) ++ []) carries_to_right)
 
 pub plan_is : items_of left_scan right_scan empty_directory ≡ ToRight a_path ∷ []
 plan_is = from_root 15

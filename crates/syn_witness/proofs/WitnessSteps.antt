@@ -1,6 +1,10 @@
--- Steps of a witness run, built from what each is about: where no device fails and no machine stops.
+-- Steps of a witness run, built from what each is about: where no device fails and no machine
+-- stops.
 use Rattle.std.specs.Option.{option_map_or}
-use Rattle.std.proofs.Common.{fold, filter_map, ◌≤◌, ◌^◌, ◌||◌, not, nat_le, true≢false, inr, ◌-◌, ◌≡◌, ◌≢◌, ℕ, true, List, [], ◌∷◌, ◌++◌, take, length, if◌then◌else◌, refl, sym, ap, ◌∙◌, subst, Option, Some, None, arith, inl, ◌+◌, false, slice_get}
+use Rattle.std.proofs.Common.{fold, filter_map, ◌≤◌, ◌^◌, ◌||◌, not, nat_le, true≢false, inr, ◌-◌}
+use Rattle.std.proofs.Common.{◌≡◌, ◌≢◌, ℕ, true, List, [], ◌∷◌, ◌++◌, take, length, if◌then◌else◌}
+use Rattle.std.proofs.Common.{refl, sym, ap, ◌∙◌, subst, Option, Some, None, arith, inl, ◌+◌, false}
+use Rattle.std.proofs.Common.{slice_get}
 use Rattle.std.specs.List.{AllByRecursion}
 use Rattle.std.specs.FinMap.{get, len}
 use Rattle.std.proofs.lemmas.List.Elements.{All-from_recursion}
@@ -15,15 +19,26 @@ use Rattle.syn_model.specs.Spelling.{content_spelling, spelling_within, event_sp
 use Rattle.syn_model.specs.MarkSpelling.{kept_spelling}
 use Rattle.syn_model.specs.Refusal.{first_cause, Device, JournalFull, Halted as Halted_before}
 use Rattle.syn_model.proofs.HistoryLemmas.{append-none}
-use Rattle.syn_headline.specs.Machine.{Up, Down, Journaled, unarmed, after_calls, Meets, all_made, record_size, with_record, Writes, written}
-use Rattle.syn_headline.specs.Side.{room_causes, Side, Request, Begin, Reply, Listed, NotDir, Reads, answer, serve, list_at, staged_bytes, IsLawfulRequest}
-use Rattle.syn_headline.specs.SideMachine.{SideMachine, side_layout, side_now, with_journal, has_room_for, causes_of, said, ServesAs, answers, adds}
+use Rattle.syn_headline.specs.Machine.{Up, Down, Journaled, unarmed, after_calls, Meets, all_made}
+use Rattle.syn_headline.specs.Machine.{record_size, with_record, Writes, written}
+use Rattle.syn_headline.specs.Side.{room_causes, Side, Request, Begin, Reply, Listed, NotDir, Reads}
+use Rattle.syn_headline.specs.Side.{answer, serve, list_at, staged_bytes, IsLawfulRequest}
+use Rattle.syn_headline.specs.SideMachine.{SideMachine, side_layout, side_now, with_journal}
+use Rattle.syn_headline.specs.SideMachine.{has_room_for, causes_of, said, ServesAs, answers, adds}
 use Rattle.syn_headline.specs.Network.{Which, Left, Right, Asks, Answers, Sent}
 use Rattle.syn_headline.specs.Acknowledged.{Ack, kept_in}
 use Rattle.syn_headline.specs.Planning.{Planned, Log}
-use Rattle.syn_headline.specs.Coordinator.{Exchange, Outstanding, Running, CoordinatorMachine, Call, no_call, Walk, Waits, MayAsk, AsksNext, HasPlan, IsDue, Keeps, writes, Advances, stands, keeps, past, settled, is_recorded, archive_layout, asked_of, asked_count, asking, hearing, advanced, start_of, sent_now, fault_of, is_last, report_of, new_session, begins, start_causes, takes, ends, goes_on}
+use Rattle.syn_headline.specs.Coordinator.{Exchange, Outstanding, Running, CoordinatorMachine, Call}
+use Rattle.syn_headline.specs.Coordinator.{no_call, Walk, Waits, MayAsk, AsksNext, HasPlan, IsDue}
+use Rattle.syn_headline.specs.Coordinator.{Keeps, writes, Advances, stands, keeps, past, settled}
+use Rattle.syn_headline.specs.Coordinator.{is_recorded, archive_layout, asked_of, asked_count}
+use Rattle.syn_headline.specs.Coordinator.{asking, hearing, advanced, start_of, sent_now, fault_of}
+use Rattle.syn_headline.specs.Coordinator.{is_last, report_of, new_session, begins, start_causes}
+use Rattle.syn_headline.specs.Coordinator.{takes, ends, goes_on}
 use Rattle.syn_headline.specs.Coordinator.{starts as session_starts}
-use Rattle.syn_headline.specs.World.{World, At, Step, Edits, Start, Steps, Runs, side_of, side_goes, side_writes, coordinator_goes, says, is_halted, answered_by, refuses_with, edits, starts, Delivers, to_side, to_coordinator}
+use Rattle.syn_headline.specs.World.{World, At, Step, Edits, Start, Steps, Runs, side_of, side_goes}
+use Rattle.syn_headline.specs.World.{side_writes, coordinator_goes, says, is_halted, answered_by}
+use Rattle.syn_headline.specs.World.{refuses_with, edits, starts, Delivers, to_side, to_coordinator}
 use Rattle.syn_witness.specs.Witness.{new_room, new_archive_room, new_journal}
 use Rattle.syn_witness.proofs.WitnessMessages.{AreNumbered, asks_once}
 
@@ -44,7 +59,8 @@ abbrev pub archive_left : ℕ → List Kept → ℕ
 archive_left room kept = fold (λ room kept. room - record_size (kept_spelling kept)) room kept
 
 abbrev pub machine_of : Side → SideMachine
-machine_of side = record { journal = new_journal side.history (room_of side.history); staging = side.staging }
+machine_of side =
+    record { journal = new_journal side.history (room_of side.history); staging = side.staging }
 
 pub meets_unarmed : (calls : ℕ) → Meets unarmed calls Up (after_calls calls unarmed) 0
 meets_unarmed calls = all_made (inl refl) (inl refl)
@@ -53,7 +69,8 @@ meets_unarmed calls = all_made (inl refl) (inl refl)
 not_nil : {X : Type 0} (x : X) (xs : List X) → x ∷ xs ≢ []
 not_nil x xs e = let h = ap length e in omega (arith, h)
 
-some_spelling : (spell : Tree → List ℕ) (tree : Tree) (content : Option Content) → content_spelling spell tree content ≢ []
+some_spelling : (spell : Tree → List ℕ) (tree : Tree) (content : Option Content) →
+    content_spelling spell tree content ≢ []
 some_spelling spell tree None = not_nil 0 []
 some_spelling spell tree (Some (File contents)) = not_nil 1 _
 some_spelling spell tree (Some Directory) = not_nil 2 _
@@ -65,38 +82,78 @@ reads_nothing tree part fits paths = some_spelling (spelling_within (len tree)) 
 -- Steps of a side
 
 -- a side answers, and adds nothing
-pub says_so : (old : World) (which : Which) (session number : ℕ) (request : Request) (read : Option Tree) (side : Side) (reply : Reply) → (side_of old which).journal.status ≡ Up → Reads (staged_bytes (side_of old which).staging) read →
-    answer side reply ≡ serve old.pair (has_room_for old.pair (side_of old which)) read (side_now (side_of old which)) session request → side.history ≡ (side_of old which).journal.value →
-    Delivers old (Some (Asks which session number request)) (side_goes old which (record (side_of old which) { staging = side.staging }) (Answers which session number reply ∷ []) [])
-says_so old which session number request read side reply up reads is same = to_side which session number request (record (side_of old which) { staging = side.staging }) (Some reply) []
-    (answers (answer side reply) (subst (λ status. ServesAs status old.pair (has_room_for old.pair (side_of old which)) (side_now (side_of old which)) session request (answer side reply)) (sym up) (inl (read, inl reads, is))) same)
+pub says_so : (old : World) (which : Which) (session number : ℕ) (request : Request)
+    (read : Option Tree) (side : Side) (reply : Reply) → (side_of old which).journal.status ≡ Up →
+    Reads (staged_bytes (side_of old which).staging) read →
+    answer side reply ≡ serve old.pair (has_room_for old.pair (side_of old which)) read
+    (side_now (side_of old which)) session request →
+    side.history ≡ (side_of old which).journal.value →
+    Delivers old (Some (Asks which session number request)) (side_goes old which (record
+    (side_of old which) { staging = side.staging }) (Answers which session number reply ∷ []) [])
+says_so old which session number request read side reply up reads is same =
+    to_side which session number request (record (side_of old which) { staging = side.staging })
+    (Some reply) []
+    (answers (answer side reply) (subst (λ status. ServesAs status old.pair (has_room_for old.pair
+    (side_of old which)) (side_now (side_of old which)) session request (answer side reply))
+    (sym up) (inl (read, inl reads, is))) same)
 
 -- a side that is up answers, and adds an event
 abbrev pub with_event : World → Which → Event → SideMachine
-with_event old which event = with_journal (side_of old which) (with_record (side_layout old.pair) (side_of old which).journal event unarmed)
+with_event old which event =
+    with_journal (side_of old which)
+    (with_record (side_layout old.pair) (side_of old which).journal event unarmed)
 
-pub adds_so : (old : World) (which : Which) (session number : ℕ) (request : Request) (read : Option Tree) (side : Side) (reply : Reply) (event : Event) → (side_of old which).journal.status ≡ Up → (side_of old which).journal.arms ≡ unarmed → Reads (staged_bytes (side_of old which).staging) read →
-    answer side reply ≡ serve old.pair (has_room_for old.pair (side_of old which)) read (side_now (side_of old which)) session request → side.history ≡ (side_of old which).journal.value ++ event ∷ [] →
-    Delivers old (Some (Asks which session number request)) (side_goes old which (with_event old which event) (says which session number (said (side_of old which).journal.status reply)) (event ∷ []))
-adds_so old which session number request read side reply event up arms reads is more = to_side which session number request (with_event old which event) (said (side_of old which).journal.status reply) (event ∷ [])
-    (adds (answer side reply) event (with_record (side_layout old.pair) (side_of old which).journal event unarmed) (event ∷ []) up (inl (read, inl reads, is)) more
+pub adds_so : (old : World) (which : Which) (session number : ℕ) (request : Request)
+    (read : Option Tree) (side : Side) (reply : Reply) (event : Event) →
+    (side_of old which).journal.status ≡ Up → (side_of old which).journal.arms ≡ unarmed →
+    Reads (staged_bytes (side_of old which).staging) read →
+    answer side reply ≡ serve old.pair (has_room_for old.pair (side_of old which)) read
+    (side_now (side_of old which)) session request →
+    side.history ≡ (side_of old which).journal.value ++ event ∷ [] → Delivers old
+    (Some (Asks which session number request)) (side_goes old which (with_event old which event)
+    (says which session number (said (side_of old which).journal.status reply)) (event ∷ []))
+adds_so old which session number request read side reply event up arms reads is more =
+    to_side which session number request (with_event old which event)
+    (said (side_of old which).journal.status reply) (event ∷ [])
+    (adds (answer side reply) event (with_record (side_layout old.pair)
+    (side_of old which).journal event unarmed) (event ∷ []) up (inl (read, inl reads, is)) more
     (written unarmed refl (subst (λ arms. Meets arms 4 Up unarmed 0) (sym arms) (meets_unarmed 4))))
 
 -- a listing of a directory
 pub lists : (side : Side) (path : Path) → is_directory (tree_of side.history) path ≡ true →
-    answer side (Listed (length side.history) (children (mark (tree_of side.history)) path)) ≡ list_at side path
-lists side path h = sym (ap (λ b. answer side (if b then Listed (length side.history) (children (mark (tree_of side.history)) path) else NotDir (length side.history))) h)
+    answer side (Listed (length side.history) (children (mark (tree_of side.history)) path))
+    ≡ list_at side path
+lists side path h =
+    sym (ap (λ b. answer side (if b then Listed (length side.history)
+    (children (mark (tree_of side.history)) path) else NotDir (length side.history))) h)
 
 -- an edit that is allowed on a side that is up and has room for it
-pub edits_so : (old : World) (which : Which) (user : ℕ) (edit : Edit) (journal : Journaled History Event) (events : List Event) (new : World) → (side_of old which).journal.status ≡ Up → has_room_for old.pair (side_of old which) (Edited user edit) ≡ true →
-    IsAllowed (side_of old which).journal.value (Edited user edit) → Writes (side_layout old.pair) (side_of old which).journal (Edited user edit) journal events →
-    new ≡ answered_by (At which) (side_writes old which journal events) → Steps old (Edits which user edit) new
+pub edits_so : (old : World) (which : Which) (user : ℕ) (edit : Edit)
+    (journal : Journaled History Event) (events : List Event) (new : World) →
+    (side_of old which).journal.status ≡ Up →
+    has_room_for old.pair (side_of old which) (Edited user edit) ≡ true →
+    IsAllowed (side_of old which).journal.value (Edited user edit) →
+    Writes (side_layout old.pair) (side_of old which).journal (Edited user edit) journal events →
+    new ≡ answered_by (At which) (side_writes old which journal events) →
+    Steps old (Edits which user edit) new
 edits_so old which user edit journal events new up room allowed written_so says =
     let here = side_of old which in
     let event = Edited user edit in
-    let fits : first_cause (room_causes (has_room_for old.pair here) event) ≡ None = ap (λ b. first_cause ((not b, JournalFull) ∷ [])) room in
-    let none : first_cause (causes_of old.pair here event) ≡ None = append-none (event_causes here.journal.value event) (room_causes (has_room_for old.pair here) event) allowed.not_refused fits in
-    inr (λ e. up_not_down (sym up ∙ e), inr (ap (λ status. first_cause ((is_halted status, Halted_before) ∷ causes_of old.pair here event)) up ∙ none, side_writes old which journal events, edits journal events allowed.lawful written_so, says))
+    let fits : first_cause (room_causes (has_room_for old.pair here) event) ≡ None =
+    ap (λ b. first_cause ((not b, JournalFull) ∷ [])) room in
+    let none : first_cause (causes_of old.pair here event) ≡ None =
+    append-none (event_causes here.journal.value event)
+    (room_causes (has_room_for old.pair here) event) allowed.not_refused fits in
+    inr (
+      λ e. up_not_down (sym up ∙ e),
+      inr (
+        ap (λ status. first_cause
+            ((is_halted status, Halted_before) ∷ causes_of old.pair here event)) up ∙ none,
+        side_writes old which journal events,
+        edits journal events allowed.lawful written_so,
+        says,
+      ),
+    )
 
 -- Steps of the coordinator
 
@@ -105,10 +162,12 @@ abbrev pub waits : ℕ → Request → List Outstanding
 waits number request = record { number = number; request = request; resent = 0 } ∷ []
 
 abbrev pub took : Which → ℕ → Request → Reply → Exchange
-took side number request reply = record { side = side; number = number; request = request; reply = reply }
+took side number request reply =
+    record { side = side; number = number; request = request; reply = reply }
 
 -- a session that runs, with nothing refused
-abbrev pub runs_with : ℕ → List Exchange → List Outstanding → List Outstanding → Option (List Planned) → ℕ → List Kept → Running
+abbrev pub runs_with : ℕ → List Exchange → List Outstanding → List Outstanding →
+    Option (List Planned) → ℕ → List Kept → Running
 runs_with session taken left right plan cursor kept = record {
   session = session;
   taken = taken;
@@ -120,13 +179,20 @@ runs_with session taken left right plan cursor kept = record {
   refused = [];
 }
 
--- a world without failures, where so many of the messages have been sent, so much of the rest acknowledged, and a plan logged after so many messages
-abbrev pub world_of : Sent → List Ack → Log → ℕ → Side → Side → Archive → Option Running → ℕ → ℕ → World
+-- a world without failures, where so many of the messages have been sent, so much of the rest
+-- acknowledged, and a plan logged after so many messages
+abbrev pub world_of : Sent → List Ack → Log → ℕ → Side → Side → Archive → Option Running → ℕ → ℕ →
+    World
 world_of messages acks log made_at left right archive running said acknowledged = record {
   pair = 7;
   left = machine_of left;
   right = machine_of right;
-  coordinator = record { journal = new_journal archive (archive_left new_archive_room (filter_map kept_in (take acknowledged acks))); running = running };
+  coordinator =
+      record {
+        journal = new_journal archive (archive_left new_archive_room
+            (filter_map kept_in (take acknowledged acks)));
+        running = running;
+      };
   sent = take said messages;
   acknowledged = take acknowledged acks;
   refusals = [];
@@ -135,74 +201,148 @@ world_of messages acks log made_at left right archive running said acknowledged 
 }
 
 -- the start of a session
-pub starts_so : (old : World) (session : ℕ) → old.coordinator.journal.status ≡ Up → old.coordinator.journal.arms ≡ unarmed → first_cause (start_causes old.pair old.coordinator) ≡ None → session ≡ old.coordinator.journal.value.last_session + 1 → IsLawfulRequest session (Begin old.pair) →
-    (new : World) → new ≡ coordinator_goes old (record { journal = with_record (archive_layout old.pair) old.coordinator.journal (Session session) unarmed; running = Some (asking (new_session session) (begins old.pair) (begins old.pair)) })
-    (record no_call { kept = Session session ∷ []; messages = sent_now (new_session session) (begins old.pair) (begins old.pair) }) →
-    Steps old Start new
+pub starts_so : (old : World) (session : ℕ) → old.coordinator.journal.status ≡ Up →
+    old.coordinator.journal.arms ≡ unarmed →
+    first_cause (start_causes old.pair old.coordinator) ≡ None →
+    session ≡ old.coordinator.journal.value.last_session + 1 →
+    IsLawfulRequest session (Begin old.pair) → (new : World) → new ≡ coordinator_goes old (record {
+      journal = with_record (archive_layout old.pair) old.coordinator.journal (Session session)
+          unarmed;
+      running = Some (asking (new_session session) (begins old.pair) (begins old.pair));
+    })
+    (record no_call {
+      kept = Session session ∷ [];
+      messages =
+          sent_now (new_session session) (begins old.pair) (begins old.pair);
+    }) → Steps old Start new
 starts_so old session up arms none next lawful new is =
-    let journal = with_record (archive_layout old.pair) old.coordinator.journal (Session session) unarmed in
-    let machine : CoordinatorMachine = record { journal = journal; running = Some (asking (new_session session) (begins old.pair) (begins old.pair)) } in
-    let call : Call = record no_call { kept = Session session ∷ []; messages = sent_now (new_session session) (begins old.pair) (begins old.pair) } in
-    let keeps : Keeps old.pair old.coordinator.journal (Session session) journal (Session session ∷ []) =
-    writes journal (Session session ∷ []) (written unarmed refl (subst (λ arms. Meets arms 4 Up unarmed 0) (sym arms) (meets_unarmed 4))) in
+    let journal = with_record (archive_layout old.pair) old.coordinator.journal
+    (Session session) unarmed in
+    let machine : CoordinatorMachine = record {
+      journal = journal;
+      running = Some (asking (new_session session) (begins old.pair) (begins old.pair));
+    } in
+    let call : Call = record no_call {
+      kept = Session session ∷ [];
+      messages = sent_now (new_session session) (begins old.pair) (begins old.pair);
+    } in
+    let keeps : Keeps old.pair old.coordinator.journal (Session session) journal
+    (Session session ∷ []) =
+    writes journal (Session session ∷ []) (written unarmed refl
+    (subst (λ arms. Meets arms 4 Up unarmed 0) (sym arms) (meets_unarmed 4))) in
     inr (
       λ e. up_not_down (sym up ∙ e),
       inr (
-        ap (λ status. first_cause ((is_halted status, Halted_before) ∷ start_causes old.pair old.coordinator)) up ∙ none,
+        ap (λ status. first_cause
+            ((is_halted status, Halted_before) ∷ start_causes old.pair old.coordinator)) up ∙ none,
         coordinator_goes old machine call,
         starts machine call (session_starts session journal next lawful keeps up),
-        is ∙ sym (ap (λ status. if is_halted status then refuses_with (coordinator_goes old machine call) Device else coordinator_goes old machine call) up),
+        is ∙ sym (ap (λ status. if is_halted status then refuses_with
+            (coordinator_goes old machine call) Device else coordinator_goes old machine call) up),
       ),
     )
 
 -- what is asked for next
-pub asks_so : (number_of : Which → ℕ → ℕ) (archive : Archive) (running : Running) (left right : List Request) → AllByRecursion (MayAsk archive running Left) left → AllByRecursion (MayAsk archive running Right) right → AllByRecursion (IsLawfulRequest running.session) (left ++ right) →
-    (asked_count (asking running left right) Left ≤ 2 ^ 32) → (asked_count (asking running left right) Right ≤ 2 ^ 32) → AreNumbered number_of (asking running left right) → Waits (asking running left right) → AsksNext archive running left right
-asks_so number_of archive running left right may_left may_right lawful few few' numbered waits = record {
-  may_left = All-from_recursion (MayAsk archive running Left) left may_left;
-  may_right = All-from_recursion (MayAsk archive running Right) right may_right;
-  lawful = All-from_recursion (IsLawfulRequest running.session) (left ++ right) lawful;
-  numbers = λ side. elim side as (λ side. asked_count (asking running left right) side ≤ 2 ^ 32) [ Left ↦ few | Right ↦ few' ];
-  once = asks_once number_of (asking running left right) numbered;
-  waits = waits;
-}
+pub asks_so : (number_of : Which → ℕ → ℕ) (archive : Archive) (running : Running)
+    (left right : List Request) → AllByRecursion (MayAsk archive running Left) left →
+    AllByRecursion (MayAsk archive running Right) right →
+    AllByRecursion (IsLawfulRequest running.session) (left ++ right) →
+    (asked_count (asking running left right) Left ≤ 2 ^ 32) →
+    (asked_count (asking running left right) Right ≤ 2 ^ 32) →
+    AreNumbered number_of (asking running left right) → Waits (asking running left right) →
+    AsksNext archive running left right
+asks_so number_of archive running left right may_left may_right lawful few few' numbered waits =
+    record {
+      may_left = All-from_recursion (MayAsk archive running Left) left may_left;
+      may_right = All-from_recursion (MayAsk archive running Right) right may_right;
+      lawful = All-from_recursion (IsLawfulRequest running.session) (left ++ right) lawful;
+      numbers =
+          λ side. elim side as (λ side. asked_count (asking running left right) side ≤ 2 ^ 32)
+          [ Left ↦ few | Right ↦ few' ];
+      once = asks_once number_of (asking running left right) numbered;
+      waits = waits;
+    }
 
 -- an answer that is not the last of an item
 pub not_last : {P : Type 0} → false ≡ true → P
 not_last e = absurd (true≢false (sym e))
 
 -- the session goes on as an answer is taken
-pub goes_on_so : (old : World) (running : Running) (from : Which) (number : ℕ) (request : Request) (reply : Reply) (plan : Option (List Planned)) (logged : Log) (walk : Walk) (kept : List Kept) (left right : List Request) → old.coordinator.running ≡ Some running → asked_of running from number ≡ Some request →
-    fault_of running.taken from request reply ≡ None → HasPlan old.coordinator.journal.value (hearing running (took from number request reply)) plan logged →
-    Advances old.pair (option_map_or (λ plan. plan) plan []) (took from number request reply) (start_of old.coordinator running) kept walk → walk.made_room ≡ false → walk.journal.status ≡ old.coordinator.journal.status → (is_last reply ≡ true → walk.cursor ≢ running.cursor) →
-    AsksNext walk.journal.value (advanced (hearing running (took from number request reply)) plan walk kept) left right →
-    Delivers old (Some (Answers from running.session number reply)) (coordinator_goes old (record { journal = walk.journal; running = Some (asking (advanced (hearing running (took from number request reply)) plan walk kept) left right) })
-    (record { kept = kept; messages = sent_now (advanced (hearing running (took from number request reply)) plan walk kept) left right; reports = []; logged = logged }))
-goes_on_so old running from number request reply plan logged walk kept left right runs asked fault has advances rests stays moves asks =
-    to_coordinator from running.session number reply _ _ (takes running request _ _ (record { runs = runs; of_session = refl; asked = asked }) (goes_on plan logged walk kept left right fault has advances rests stays moves asks))
+pub goes_on_so : (old : World) (running : Running) (from : Which) (number : ℕ) (request : Request)
+    (reply : Reply) (plan : Option (List Planned)) (logged : Log) (walk : Walk) (kept : List Kept)
+    (left right : List Request) → old.coordinator.running ≡ Some running →
+    asked_of running from number ≡ Some request → fault_of running.taken from request reply ≡ None →
+    HasPlan old.coordinator.journal.value (hearing running (took from number request reply)) plan
+    logged → Advances old.pair (option_map_or (λ plan. plan) plan [])
+    (took from number request reply) (start_of old.coordinator running) kept walk →
+    walk.made_room ≡ false → walk.journal.status ≡ old.coordinator.journal.status →
+    (is_last reply ≡ true → walk.cursor ≢ running.cursor) → AsksNext walk.journal.value
+    (advanced (hearing running (took from number request reply)) plan walk kept) left right →
+    Delivers old (Some (Answers from running.session number reply))
+    (coordinator_goes old (record {
+      journal = walk.journal;
+      running = Some (asking
+          (advanced (hearing running (took from number request reply)) plan walk kept) left right);
+    })
+    (record {
+      kept = kept;
+      messages = sent_now (advanced (hearing running
+          (took from number request reply)) plan walk kept) left right;
+      reports = [];
+      logged = logged;
+    }))
+goes_on_so old running from number request reply plan logged walk kept left right runs asked fault
+    has advances rests stays moves asks =
+    to_coordinator from running.session number reply _ _
+    (takes running request _ _ (record { runs = runs; of_session = refl; asked = asked })
+    (goes_on plan logged walk kept left right fault has advances rests stays moves asks))
 
 -- or it ends, with each item settled
-pub ends_so : (old : World) (running : Running) (from : Which) (number : ℕ) (request : Request) (reply : Reply) (plan : List Planned) (logged : Log) (walk : Walk) (kept : List Kept) → old.coordinator.running ≡ Some running → asked_of running from number ≡ Some request →
-    fault_of running.taken from request reply ≡ None → HasPlan old.coordinator.journal.value (hearing running (took from number request reply)) (Some plan) logged →
-    Advances old.pair plan (took from number request reply) (start_of old.coordinator running) kept walk → slice_get plan walk.cursor ≡ None → walk.journal.status ≡ old.coordinator.journal.status →
-    Delivers old (Some (Answers from running.session number reply)) (coordinator_goes old (record { journal = walk.journal; running = None })
-    (record { kept = kept; messages = []; reports = report_of (advanced (hearing running (took from number request reply)) (Some plan) walk kept) None ∷ []; logged = logged }))
-ends_so old running from number request reply plan logged walk kept runs asked fault has advances over stays =
-    to_coordinator from running.session number reply _ _ (takes running request _ _ (record { runs = runs; of_session = refl; asked = asked }) (ends (Some plan) logged walk kept None fault has advances (settled refl over stays)))
+pub ends_so : (old : World) (running : Running) (from : Which) (number : ℕ) (request : Request)
+    (reply : Reply) (plan : List Planned) (logged : Log) (walk : Walk) (kept : List Kept) →
+    old.coordinator.running ≡ Some running → asked_of running from number ≡ Some request →
+    fault_of running.taken from request reply ≡ None → HasPlan old.coordinator.journal.value
+    (hearing running (took from number request reply)) (Some plan) logged → Advances old.pair plan
+    (took from number request reply) (start_of old.coordinator running) kept walk →
+    slice_get plan walk.cursor ≡ None → walk.journal.status ≡ old.coordinator.journal.status →
+    Delivers old (Some (Answers from running.session number reply))
+    (coordinator_goes old (record { journal = walk.journal; running = None })
+    (record {
+      kept = kept;
+      messages = [];
+      reports = report_of (advanced (hearing running
+          (took from number request reply)) (Some plan) walk kept) None ∷ [];
+      logged = logged;
+    }))
+ends_so old running from number request reply plan logged walk kept runs asked fault has advances
+    over stays =
+    to_coordinator from running.session number reply _ _
+    (takes running request _ _ (record { runs = runs; of_session = refl; asked = asked })
+    (ends (Some plan) logged walk kept None fault has advances (settled refl over stays)))
 
 -- a record that is due is kept, where the archive is up and has room for it
 abbrev pub recorded : ℕ → Walk → Kept → Walk
 recorded pair walk what = past walk (with_record (archive_layout pair) walk.journal what unarmed)
 
-pub keeps_so : (pair : ℕ) (plan : List Planned) (taken : Exchange) (walk : Walk) (what : Kept) (planned : Planned) → slice_get plan walk.cursor ≡ Some planned → IsDue walk.cursor planned taken what → CanKeep walk.journal.value what → walk.journal.status ≡ Up → walk.journal.arms ≡ unarmed →
-    is_recorded walk.journal.value what ≡ false → nat_le (record_size (kept_spelling what)) walk.journal.room ≡ true → Advances pair plan taken walk (what ∷ []) (recorded pair walk what)
+pub keeps_so : (pair : ℕ) (plan : List Planned) (taken : Exchange) (walk : Walk) (what : Kept)
+    (planned : Planned) → slice_get plan walk.cursor ≡ Some planned →
+    IsDue walk.cursor planned taken what → CanKeep walk.journal.value what →
+    walk.journal.status ≡ Up → walk.journal.arms ≡ unarmed →
+    is_recorded walk.journal.value what ≡ false →
+    nat_le (record_size (kept_spelling what)) walk.journal.room ≡ true →
+    Advances pair plan taken walk (what ∷ []) (recorded pair walk what)
 keeps_so pair plan taken walk what planned at due can up arms new room =
-    keeps walk (recorded pair walk what) what [] (with_record (archive_layout pair) walk.journal what unarmed) (record { planned = planned; at = at; due = due; can = can; up = up })
+    keeps walk (recorded pair walk what) what
+    [] (with_record (archive_layout pair) walk.journal what unarmed)
+    (record { planned = planned; at = at; due = due; can = can; up = up })
     (ap (λ b. b || nat_le (record_size (kept_spelling what)) walk.journal.room) new ∙ room)
-    (writes (with_record (archive_layout pair) walk.journal what unarmed) (what ∷ []) (written unarmed new (subst (λ arms. Meets arms 4 Up unarmed 0) (sym arms) (meets_unarmed 4)))) up
+    (writes (with_record (archive_layout pair) walk.journal what unarmed) (what ∷ []) (written
+    unarmed new (subst (λ arms. Meets arms 4 Up unarmed 0) (sym arms) (meets_unarmed 4)))) up
     (stands (recorded pair walk what))
 
 -- one run after another
-pub runs_on_from : (old between new : World) (steps more : List Step) → Runs old steps between → Runs between more new → Runs old (steps ++ more) new
+pub runs_on_from : (old between new : World) (steps more : List Step) → Runs old steps between →
+    Runs between more new → Runs old (steps ++ more) new
 runs_on_from old between new [] more h k = subst (λ w. Runs w more new) h k
-runs_on_from old between new (step ∷ steps) more h k = (h.0, h.1, runs_on_from h.0 between new steps more h.2 k)
+runs_on_from old between new (step ∷ steps) more h k =
+    (h.0, h.1, runs_on_from h.0 between new steps more h.2 k)

@@ -1,9 +1,12 @@
 -- Commands by their words, and what a command and its values say.
-use Rattle.std.proofs.Common.{◌≡◌, ◌∙◌, ℕ, Bool, true, false, cond, codes, List, [], ◌∷◌, Option, Some, None, inl, inr, refl, sym, ap, subst, true≢false}
+use Rattle.std.proofs.Common.{◌≡◌, ◌∙◌, ℕ, Bool, true, false, cond, codes, List, [], ◌∷◌, Option}
+use Rattle.std.proofs.Common.{Some, None, inl, inr, refl, sym, ap, subst, true≢false}
 use Rattle.std.specs.Str.{bytes_eq}
 use Rattle.std.proofs.lemmas.Option.{none-some, same_Some}
 use Rattle.clap.specs.Words.{Row, Text, first_of}
-use Rattle.syn_words.specs.Reads.{AreGiven, HasPlace, HasValues, IsEdit, HasNumber, IsGiven, IsNoNumber, IsNumber, IsOtherKind, IsPathless, IsWrong, IsWrongIn, MayHaveNumber, NothingReads, kind_word, verb_of}
+use Rattle.syn_words.specs.Reads.{AreGiven, HasPlace, HasValues, IsEdit, HasNumber, IsGiven}
+use Rattle.syn_words.specs.Reads.{IsNoNumber, IsNumber, IsOtherKind, IsPathless, IsWrong, IsWrongIn}
+use Rattle.syn_words.specs.Reads.{MayHaveNumber, NothingReads, kind_word, verb_of}
 use Rattle.syn_words.specs.Verbs.{edit_verb, name_of, values_of, word_of}
 use Rattle.syn_words.specs.declared.line.Change.{Change}
 use Rattle.syn_words.specs.declared.line.Change.TheVariants as change
@@ -53,12 +56,15 @@ file_given : (rows : List Row) (p : Place) → HasPlace rows p → IsGiven rows 
 file_given rows (place.File file) has = (file.now, has.0)
 file_given rows (place.Served address) has = (address.now, has.0)
 
-edit_given : (rows : List Row) (change : Change) → AreGiven rows (value.File ∷ value.User ∷ value.Path ∷ []) → AreGiven rows (values_of (edit_verb change))
+edit_given : (rows : List Row) (change : Change) →
+    AreGiven rows (value.File ∷ value.User ∷ value.Path ∷ []) →
+    AreGiven rows (values_of (edit_verb change))
 edit_given rows change.Put given = given
 edit_given rows change.MakeDir given = given
 edit_given rows change.Remove given = given
 
-pub values_given : (rows : List Row) (l : Line) → HasValues rows l → AreGiven rows (values_of (verb_of l))
+pub values_given : (rows : List Row) (l : Line) → HasValues rows l →
+    AreGiven rows (values_of (verb_of l))
 values_given rows (line.Format kind pair file) has =
     ((kind_word kind, has.0), ((has.1.0, has.1.1), ((file.now, has.2), tt)))
 values_given rows (line.Edit edit) has =
@@ -80,8 +86,8 @@ values_given rows (line.Simulate script is_traced) has = ((script.now, has.0), t
 no_text : (o : Option Text) (text : Text) → o ≡ None → o ≡ Some text → ⊥
 no_text o text none some = none-some text (sym none ∙ some)
 
-pub none_missing : (rows : List Row) (told : ValueName) (values : List ValueName) → AreGiven rows values
-    → IsOneOf told values → first_of (name_of told) rows ≡ None → ⊥
+pub none_missing : (rows : List Row) (told : ValueName) (values : List ValueName) →
+    AreGiven rows values → IsOneOf told values → first_of (name_of told) rows ≡ None → ⊥
 none_missing rows told [] given one none = one
 none_missing rows told (value ∷ values) given (inl same) none =
     let P : ValueName → Type 0 = λ v. first_of (name_of v) rows ≡ None in
@@ -92,12 +98,14 @@ none_missing rows told (value ∷ values) given (inr one) none =
 -- ---- what is wrong is no line's
 
 -- a number that is given is one
-no_number : (bits : ℕ) (rows : List Row) (id : Text) (n : ℕ) → IsNoNumber bits rows id → HasNumber bits rows id n → ⊥
+no_number : (bits : ℕ) (rows : List Row) (id : Text) (n : ℕ) → IsNoNumber bits rows id →
+    HasNumber bits rows id n → ⊥
 no_number bits rows id n wrong has =
     wrong.2 n (subst (λ t. IsNumber bits t n) (same_Some has.0 wrong.0 (sym has.1 ∙ wrong.1)) has.2)
 
-no_connections : (rows : List Row) (most : Option ℕ) → IsNoNumber 64 rows (name_of value.Connections)
-    → MayHaveNumber 64 rows (name_of value.Connections) most → ⊥
+no_connections : (rows : List Row) (most : Option ℕ) →
+    IsNoNumber 64 rows (name_of value.Connections) →
+    MayHaveNumber 64 rows (name_of value.Connections) most → ⊥
 no_connections rows None wrong has = no_text _ wrong.0 has wrong.1
 no_connections rows (Some n) wrong has =
     no_number 64 rows (name_of value.Connections) n wrong has
@@ -125,20 +133,23 @@ module _ (rows : List Row) where
   kind_right (line.Edit edit) is wrong has = no_edit edit.change verb.Format is refl
   kind_right _ is wrong has = cc
 
-  pair_right : (l : Line) → verb_of l ≡ verb.Format → IsNoNumber 64 rows (name_of value.Pair) → HasValues rows l → ⊥
+  pair_right : (l : Line) → verb_of l ≡ verb.Format → IsNoNumber 64 rows (name_of value.Pair) →
+      HasValues rows l → ⊥
   unfolding is_edit
   pair_right (line.Format kind pair file) is wrong has =
       no_number 64 rows (name_of value.Pair) pair wrong has.1
   pair_right (line.Edit edit) is wrong has = no_edit edit.change verb.Format is refl
   pair_right _ is wrong has = cc
 
-  user_right : (l : Line) → IsEdit (verb_of l) → IsNoNumber 32 rows (name_of value.User) → HasValues rows l → ⊥
+  user_right : (l : Line) → IsEdit (verb_of l) → IsNoNumber 32 rows (name_of value.User) →
+      HasValues rows l → ⊥
   unfolding is_edit
   user_right (line.Edit edit) is wrong has =
       no_number 32 rows (name_of value.User) edit.user wrong has.1
   user_right _ is wrong has = no_edit is.0 _ (sym is.1) refl
 
-  connections_right : (l : Line) → verb_of l ≡ verb.Serve → IsNoNumber 64 rows (name_of value.Connections) → HasValues rows l → ⊥
+  connections_right : (l : Line) → verb_of l ≡ verb.Serve →
+      IsNoNumber 64 rows (name_of value.Connections) → HasValues rows l → ⊥
   unfolding is_edit
   connections_right (line.Serve file address connections) is wrong has =
       no_connections rows connections wrong has.2
@@ -160,13 +171,15 @@ module _ (rows : List Row) where
   none_wrong l value.Path wrong has = path_right l wrong.0 wrong.1 has
   none_wrong l _ wrong has = wrong
 
-  none_lacking : (l : Line) (told : ValueName) → IsLacking (verb_of l) rows told → HasValues rows l → ⊥
+  none_lacking : (l : Line) (told : ValueName) → IsLacking (verb_of l) rows told →
+      HasValues rows l → ⊥
   none_lacking l told (inl missing) has =
       none_missing rows told (values_of (verb_of l)) (values_given rows l has) missing.0 missing.1
   none_lacking l told (inr wrong) has = none_wrong l told wrong has
 
   -- no line is that of a command that lacks a value
-  pub lacks_nothing : (name : Text) (told : ValueName) → LacksIn name rows told → NothingReads (Some (name, rows))
+  pub lacks_nothing : (name : Text) (told : ValueName) → LacksIn name rows told →
+      NothingReads (Some (name, rows))
   lacks_nothing name told (inl unknown) l read = unknown.1 (verb_of l) read.0
   lacks_nothing name told (inr lacks) l read =
       let same = same_verb lacks.0 (verb_of l) (sym lacks.1 ∙ read.0) in

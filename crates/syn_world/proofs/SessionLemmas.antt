@@ -9,7 +9,8 @@ use Rattle.syn_headline.specs.Coordinator.{CoordinatorTicks, no_call, with_archi
 use Rattle.syn_headline.specs.Machine.{Status, Up, Halted, Down}
 use Rattle.syn_headline.specs.Network.{Answers, Which}
 use Rattle.syn_headline.specs.Side.{Reply}
-use Rattle.syn_headline.specs.World.{World as ModelWorld, Checkpoint, Coordinator, Deliver, Delivers}
+use Rattle.syn_headline.specs.World.{World as ModelWorld, Checkpoint, Coordinator, Deliver}
+use Rattle.syn_headline.specs.World.{Delivers}
 use Rattle.syn_headline.specs.World.{Start, Steps, Tick, Ticks, answered_by, compacts_archive}
 use Rattle.syn_headline.specs.World.{coordinator_goes, is_halted, refuses_with, starts, ticks}
 use Rattle.syn_headline.specs.World.{to_coordinator}

@@ -1,6 +1,7 @@
 use Rattle.syn_headline.proofs.StandLemmas.{runs_stand}
 use Rattle.syn_headline.proofs.FormattedLemmas.{formatted_is_pair}
-use Rattle.syn_headline.proofs.FineRuns.{replace_legally, use_tokens_once, hold_archive, leave_pair, log_plans, owe}
+use Rattle.syn_headline.proofs.FineRuns.{replace_legally, use_tokens_once, hold_archive, leave_pair}
+use Rattle.syn_headline.proofs.FineRuns.{log_plans, owe}
 use Rattle.syn_headline.proofs.run_laws.Goals as goal
 
 pub returns-clause-stands : goal.returns-clause-stands

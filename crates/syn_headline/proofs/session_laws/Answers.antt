@@ -1,4 +1,5 @@
-use Rattle.syn_headline.proofs.FineRuns.{synchronize, reconcile, report_conflicts, count_items, mark_carried, mark_held}
+use Rattle.syn_headline.proofs.FineRuns.{synchronize, reconcile, report_conflicts, count_items}
+use Rattle.syn_headline.proofs.FineRuns.{mark_carried, mark_held}
 use Rattle.syn_headline.proofs.session_laws.Goals as goal
 
 pub returns-clause-synchronized : goal.returns-clause-synchronized

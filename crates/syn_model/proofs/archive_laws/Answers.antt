@@ -1,4 +1,6 @@
-use Rattle.syn_model.proofs.ArchiveImageLemmas.{keeping_stays_sound, stands_for_sound, archive_image_stands, new_archive_stands, record_goes_on}
+use Rattle.syn_model.proofs.ArchiveImageLemmas.{keeping_stays_sound, stands_for_sound}
+use Rattle.syn_model.proofs.ArchiveImageLemmas.{archive_image_stands, new_archive_stands}
+use Rattle.syn_model.proofs.ArchiveImageLemmas.{record_goes_on}
 use Rattle.syn_model.proofs.ImageLengths.{archive_images_fit}
 use Rattle.syn_model.proofs.archive_laws.Goals as goal
 

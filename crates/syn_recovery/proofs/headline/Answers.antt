@@ -6,5 +6,6 @@ returns-clause-start c = disks_are_start
 
 pub returns-clause-crash_safe : goal.returns-clause-crash_safe
 returns-clause-crash_safe c =
-    headline c.run_laws.ensures.stands c.run_laws.ensures.legal c.run_laws.ensures.archive c.run_laws.ensures.pair
+    headline c.run_laws.ensures.stands c.run_laws.ensures.legal c.run_laws.ensures.archive
+    c.run_laws.ensures.pair
     c.session_laws.ensures.synchronized c.session_laws.ensures.reconciled

@@ -3,7 +3,8 @@ use Rattle.syn_recovery.proofs.OpeningLemmas.{opens_to}
 use Rattle.syn_recovery.proofs.opening_laws.Goals as goal
 
 pub returns-clause-sides : goal.returns-clause-sides
-returns-clause-sides c pair machine calls arms value generation made = opens_to (of_side pair) machine calls arms value generation made
+returns-clause-sides c pair machine calls arms value generation made =
+    opens_to (of_side pair) machine calls arms value generation made
 
 pub returns-clause-archives : goal.returns-clause-archives
 returns-clause-archives c pair machine calls arms value generation made =

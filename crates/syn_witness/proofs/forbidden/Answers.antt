@@ -1,8 +1,10 @@
 use Rattle.syn_witness.proofs.FailureLemmas.{halted_after_failure}
 use Rattle.syn_witness.proofs.StopLemmas.{stay_without_stop, armed_calls_come, stops_as_armed}
-use Rattle.syn_witness.proofs.ForbiddenLemmas.{starts_fresh, begins_once, faults_alone, unstable_is_incomplete, failure_ends}
+use Rattle.syn_witness.proofs.ForbiddenLemmas.{starts_fresh, begins_once, faults_alone}
+use Rattle.syn_witness.proofs.ForbiddenLemmas.{unstable_is_incomplete, failure_ends}
 use Rattle.syn_witness.proofs.TurnLemmas.{lists_after_begun, refused_is_passed, kept_is_due}
-use Rattle.syn_witness.proofs.RoomLemmas.{records_after_room, checkpoints_are_needed, checkpoints_are_for_records, full_after_checkpoint}
+use Rattle.syn_witness.proofs.RoomLemmas.{records_after_room, checkpoints_are_needed}
+use Rattle.syn_witness.proofs.RoomLemmas.{checkpoints_are_for_records, full_after_checkpoint}
 use Rattle.syn_witness.proofs.DeviceLemmas.{refused_after_failure, ends_after_failure}
 use Rattle.syn_witness.proofs.forbidden.Goals as goal
 

@@ -1,6 +1,7 @@
 use Rattle.syn_witness.proofs.RefusedLemmas.{repeat_is_done, touched_is_refused, replacement_fails}
 use Rattle.syn_witness.proofs.FailLemmas.{fail_is_refused, checkpoint_is_cut}
-use Rattle.syn_witness.proofs.WitnessLemmas.{opened_is_start, new_room_is, stop_is_recovered, silence_ends}
+use Rattle.syn_witness.proofs.WitnessLemmas.{opened_is_start, new_room_is, stop_is_recovered}
+use Rattle.syn_witness.proofs.WitnessLemmas.{silence_ends}
 use Rattle.syn_witness.proofs.WitnessSession.{file_is_carried}
 use Rattle.syn_witness.proofs.ExchangeLemmas.{files_are_exchanged}
 use Rattle.syn_witness.proofs.MarkedLemmas.{carried_is_marked_later}

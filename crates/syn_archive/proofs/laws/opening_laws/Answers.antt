@@ -9,4 +9,5 @@ returns-clause-spelled c = kept_spelled c.replacement_laws.ensures.fits
 
 pub returns-clause-one : goal.returns-clause-one
 returns-clause-one c =
-    one_stands (kept_told c.image_laws.ensures.kept) (kept_spelled c.replacement_laws.ensures.fits) c.archive_laws.ensures.keeping c.image_laws.ensures.archive
+    one_stands (kept_told c.image_laws.ensures.kept) (kept_spelled c.replacement_laws.ensures.fits)
+    c.archive_laws.ensures.keeping c.image_laws.ensures.archive

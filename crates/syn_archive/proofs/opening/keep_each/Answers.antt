@@ -16,11 +16,14 @@ loop-payload-preserved c =
     let first = archive_read c.args.archive.now in
     let old = archive_read c.loop-payload.archive in
     let new = archive_read c.add_payload.new.archive in
-    let adds = subst (λ p. AddsKept old p new) c.deref.ensures.value c.in_ok-add_payload.ensures.added in
-    let more = replays_more first old new read c.payload-item.result.items c.loop-payload.invariant.replays adds in
+    let adds =
+    subst (λ p. AddsKept old p new) c.deref.ensures.value c.in_ok-add_payload.ensures.added in
+    let more = replays_more first old new read c.payload-item.result.items
+    c.loop-payload.invariant.replays adds in
     record {
       replays = subst (λ xs. Replays first xs new)
-          (sym (map_more (λ p. p.items) payloads i c.payload-item.result c.loop-payload-test.true ∙ ap (λ p. read ++ p.items ∷ []) (sym c.payload-item.is))) more;
+          (sym (map_more (λ p. p.items) payloads i c.payload-item.result c.loop-payload-test.true
+          ∙ ap (λ p. read ++ p.items ∷ []) (sym c.payload-item.is))) more;
       pair = c.in_ok-add_payload.ensures.pair ∙ c.loop-payload.invariant.pair;
     }
 
@@ -32,7 +35,11 @@ returns-in_err-add_payload-clause-damaged c =
     let payloads = c.args.payloads.now in
     let payload = c.payload-item.result in
     let read = c.loop-payload.invariant.replays in
-    let parts = row_parts payloads i payload read.kept c.loop-payload-test.true c.payload-item.is read.spelled in
+    let parts = row_parts payloads i payload read.kept c.loop-payload-test.true c.payload-item.is
+    read.spelled in
     rw (p.1, p.2) (λ is kept all spelled.
-    let next = next_kept laws.told laws.spelled laws.keeping (archive_read c.args.archive.now) kept read.kept payload.items (bytes_of_each (drop (i + 1) payloads)) c.requires all read.allowed (sym spelled ∙ parts) in
-    c.in_err-add_payload.ensures.damaged is next.0 (subst IsArchive (sym read.gives) next.3) (c.deref.ensures.value ∙ next.1) (subst (λ a. CanKeep a next.0) (sym read.gives) next.2))
+    let next = next_kept laws.told laws.spelled laws.keeping
+    (archive_read c.args.archive.now) kept read.kept payload.items
+    (bytes_of_each (drop (i + 1) payloads)) c.requires all read.allowed (sym spelled ∙ parts) in
+    c.in_err-add_payload.ensures.damaged is next.0 (subst IsArchive (sym read.gives) next.3)
+    (c.deref.ensures.value ∙ next.1) (subst (λ a. CanKeep a next.0) (sym read.gives) next.2))

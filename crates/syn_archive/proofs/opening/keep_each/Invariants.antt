@@ -4,6 +4,7 @@ use Rattle.syn_archive.proofs.opening.keep_each.Given as goal
 
 abbrev pub invariant-loop-payload : goal.invariant-loop-payload
 invariant-loop-payload l = record {
-  replays : Replays (archive_read l.initial.archive) (bytes_of_each (take l.payload-index l.payloads)) (archive_read l.archive);
+  replays : Replays (archive_read l.initial.archive)
+      (bytes_of_each (take l.payload-index l.payloads)) (archive_read l.archive);
   pair : l.archive.pair ≡ l.initial.archive.pair;
 }

@@ -7,12 +7,16 @@ use Rattle.syn_archive.proofs.opening.read_archive.Goals as goal
 
 pub returns-in_err-keep_each-clause-damaged : goal.returns-in_err-keep_each-clause-damaged
 returns-in_err-keep_each-clause-damaged c =
-    let p = err_from_is_err_and c.from_residual-in_err-keep_each.result c.from_residual-in_err-keep_each.ensures.1 in
+    let p = err_from_is_err_and c.from_residual-in_err-keep_each.result
+    c.from_residual-in_err-keep_each.ensures.1 in
     let is = c.in_ok-archive.ensures.read in
     let image = c.args.image.now in
     rw (p.1, p.2) (λ damaged pair archive fits stands.
-    let same = same_image c.opening_laws.ensures.one image pair c.in_ok-archive.archive.pair stands.first (archive_read c.in_ok-archive.archive) (record { fits = fits; sound = stands.sound; spelled = stands.image_is }) is in
-    c.in_err-keep_each.ensures.damaged damaged stands.kept (subst (λ a. AllKept a stands.kept) same stands.allowed) stands.payloads_are)
+    let same = same_image c.opening_laws.ensures.one image pair c.in_ok-archive.archive.pair
+    stands.first (archive_read c.in_ok-archive.archive)
+    (record { fits = fits; sound = stands.sound; spelled = stands.image_is }) is in
+    c.in_err-keep_each.ensures.damaged damaged stands.kept
+    (subst (λ a. AllKept a stands.kept) same stands.allowed) stands.payloads_are)
 
 pub returns-then-is_other-clause-other : goal.returns-then-is_other-clause-other
 returns-then-is_other-clause-other c other =
@@ -26,7 +30,10 @@ returns-then-is_other-clause-other c other =
       pair = c.keep_each.new.archive.pair;
       fits = subst (λ n. n < 2 ^ 64) (sym same) is.fits;
       archive = last;
-      stands = subst (λ n. ArchiveStandsFor n image payloads last) (sym same) (stands_of image payloads c.in_ok-archive.archive.pair (archive_read c.in_ok-archive.archive) last is c.in_ok-keep_each.ensures.replays);
+      stands =
+          subst (λ n. ArchiveStandsFor n image payloads last) (sym same)
+          (stands_of image payloads c.in_ok-archive.archive.pair
+          (archive_read c.in_ok-archive.archive) last is c.in_ok-keep_each.ensures.replays);
       asked = asked.0;
       wanted_is = asked.1;
       differ = asked.2;
@@ -39,4 +46,5 @@ returns-clause-stands c =
     let payloads = bytes_of_each c.args.payloads.now in
     let last = archive_read c.keep_each.new.archive in
     subst (λ n. ArchiveStandsFor n image payloads last) (sym c.in_ok-keep_each.ensures.pair)
-    (stands_of image payloads c.in_ok-archive.archive.pair (archive_read c.in_ok-archive.archive) last is c.in_ok-keep_each.ensures.replays)
+    (stands_of image payloads c.in_ok-archive.archive.pair
+    (archive_read c.in_ok-archive.archive) last is c.in_ok-keep_each.ensures.replays)

@@ -8,10 +8,13 @@ use Rattle.syn_archive.proofs.opening.read_kept.Goals as goal
 pub returns-in_default : goal.returns-in_default
 returns-in_default c kept spelled e =
     kept_there c.args.payload.now kept spelled e
-    (subst (λ o. IsReading IsSpelledKept kept_spelling c.args.payload.now (option_map (λ found. (kept_of found.0, found.1.now)) o)) c.in_default.is c.in_ok-kept.ensures)
+    (subst (λ o. IsReading IsSpelledKept kept_spelling c.args.payload.now (option_map
+    (λ found. (kept_of found.0, found.1.now)) o)) c.in_default.is c.in_ok-kept.ensures)
 
 pub returns-else-is_empty : goal.returns-else-is_empty
 returns-else-is_empty c kept spelled e =
-    let read = subst (λ o. IsReading IsSpelledKept kept_spelling c.args.payload.now (option_map (λ found. (kept_of found.0, found.1.now)) o)) c.in-Some.is c.in_ok-kept.ensures in
-    let empty = kept_ends c.args.payload.now kept spelled e c.image_laws.ensures.kept (kept_of c.in-Some.kept) c.in-Some.rest.now read in
+    let read = subst (λ o. IsReading IsSpelledKept kept_spelling c.args.payload.now
+    (option_map (λ found. (kept_of found.0, found.1.now)) o)) c.in-Some.is c.in_ok-kept.ensures in
+    let empty = kept_ends c.args.payload.now kept spelled e c.image_laws.ensures.kept
+    (kept_of c.in-Some.kept) c.in-Some.rest.now read in
     true≢false (sym (c.is_empty.ensures ∙ ap (λ xs. length xs == 0) empty) ∙ c.if-is_empty.false)

@@ -32,8 +32,10 @@ returns-in_err-edit-clause-refused g c history left why stands e refused =
     let edit = edit_of c.in_ok-asked.asked in
     let is : edit ≡ edit_asked line.change c.args.path (take 16385 left) =
     c.in_ok-asked.ensures.edit left e in
-    let same = same_refusal laws.fits laws.put laws.steps history line.user line.change c.args.path left in
-    let told = err_from_is_err_and c.from_residual-in_err-edit.result c.from_residual-in_err-edit.ensures.1 in
+    let same =
+    same_refusal laws.fits laws.put laws.steps history line.user line.change c.args.path left in
+    let told = err_from_is_err_and c.from_residual-in_err-edit.result
+    c.from_residual-in_err-edit.ensures.1 in
     let cause = c.in_err-edit.ensures.refused history why stands
     (refused_at (room_shown c.args.replica.now) (standing_of history) (Edited line.user edit) why
     (ap (λ (x : Edit). event_refusal history (Edited line.user x)) is ∙ (same ∙ refused))) in
@@ -48,7 +50,8 @@ returns-clause-acknowledged g c history left stands e =
     c.in_ok-asked.ensures.edit left e in
     let done = c.in_ok-edit.ensures.acknowledged history stands in
     let IsMade : Edit → Type 0 = λ x. IsHistory (history ++ Edited line.user x ∷ []) in
-    let same = same_edit laws.fits laws.put laws.steps history line.user line.change c.args.path left
+    let same =
+    same_edit laws.fits laws.put laws.steps history line.user line.change c.args.path left
     (subst IsMade is done.1.remembers.lawful) in
     let IsStanding : Edit → Type 0 =
     λ x. Stands c.edit.new.self (history ++ Edited line.user x ∷ []) in
@@ -76,7 +79,8 @@ returns-clause-refused g c history left why stands e refused =
     let edit = edit_of c.in_ok-asked.asked in
     let is : edit ≡ edit_asked line.change c.args.path (take 16385 left) =
     c.in_ok-asked.ensures.edit left e in
-    let same = same_refusal laws.fits laws.put laws.steps history line.user line.change c.args.path left in
+    let same =
+    same_refusal laws.fits laws.put laws.steps history line.user line.change c.args.path left in
     absurd (c.in_ok-edit.ensures.refused history why stands
     (refused_at (room_shown c.args.replica.now) (standing_of history) (Edited line.user edit) why
     (ap (λ (x : Edit). event_refusal history (Edited line.user x)) is ∙ (same ∙ refused))))

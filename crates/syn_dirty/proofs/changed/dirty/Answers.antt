@@ -19,12 +19,18 @@ pub returns-then-not-is_same_at : goal.returns-then-not-is_same_at
 returns-then-not-is_same_at c =
     let p = c.args.path.now in
     let s = c.args.scan.now in
-    let same = the_test c.is_same_at.result (subtree c.tree.result.now p) (subtree c.args.archive.now p) c.is_same_at.ensures ∙ ap (λ t. is_same_tree (subtree t p) (subtree c.args.archive.now p)) c.tree.ensures.marks in
-    ap not c.if-not-is_same_at.true ∙ sym (ap (λ b. not b || has_unstable (scan_of s) p) (sym same ∙ c.if-not-is_same_at.true))
+    let same = the_test c.is_same_at.result (subtree c.tree.result.now p)
+    (subtree c.args.archive.now p) c.is_same_at.ensures
+    ∙ ap (λ t. is_same_tree (subtree t p) (subtree c.args.archive.now p)) c.tree.ensures.marks in
+    ap not c.if-not-is_same_at.true
+    ∙ sym (ap (λ b. not b || has_unstable (scan_of s) p) (sym same ∙ c.if-not-is_same_at.true))
 
 pub returns-else-not-is_same_at : goal.returns-else-not-is_same_at
 returns-else-not-is_same_at c =
     let p = c.args.path.now in
     let s = c.args.scan.now in
-    let same = the_test c.is_same_at.result (subtree c.tree.result.now p) (subtree c.args.archive.now p) c.is_same_at.ensures ∙ ap (λ t. is_same_tree (subtree t p) (subtree c.args.archive.now p)) c.tree.ensures.marks in
-    c.unstable.ensures ∙ sym (ap (λ b. not b || has_unstable (scan_of s) p) (sym same ∙ c.if-not-is_same_at.false))
+    let same = the_test c.is_same_at.result (subtree c.tree.result.now p)
+    (subtree c.args.archive.now p) c.is_same_at.ensures
+    ∙ ap (λ t. is_same_tree (subtree t p) (subtree c.args.archive.now p)) c.tree.ensures.marks in
+    c.unstable.ensures
+    ∙ sym (ap (λ b. not b || has_unstable (scan_of s) p) (sym same ∙ c.if-not-is_same_at.false))

@@ -8,7 +8,8 @@ use Rattle.syn_dirty.proofs.compared.rows_of.Given as goal
 abbrev pub invariant-loop-path : goal.invariant-loop-path
 invariant-loop-path l =
     rows_at l.rows.items ++ with_set (is_unstable (scan_of l.fn.scan)) (compared l.lefts l.rights)
-    ≡ with_set (is_unstable (scan_of l.fn.scan)) (compared (entries l.fn.scan.marks) (entries l.fn.archive))
+    ≡ with_set (is_unstable (scan_of l.fn.scan))
+    (compared (entries l.fn.scan.marks) (entries l.fn.archive))
 
 abbrev pub decreases-loop-path : goal.decreases-loop-path
 decreases-loop-path l = length l.lefts + length l.rights

@@ -16,24 +16,61 @@ pub returns-in_default-2 : goal.returns-in_default-2
 returns-in_default-2 c =
     let fields = c.in-Some.fields.now in
     no_past c.args.bytes.now fields c.in-Some.ensures.cases.1
-    (subst (λ o. IsReading IsPast past_spelling fields (option_map (λ found. (((((found.0, found.1.position), (found.1.floor, found.1.session)), option_map token_of found.1.token), found.1.touches.items), found.2.now)) o)) c.in_default-2.is c.in_ok-pair.ensures)
+    (subst (λ o. IsReading IsPast past_spelling fields
+    (option_map (λ found. (
+      (
+        (
+          ((found.0, found.1.position), (found.1.floor, found.1.session)),
+          option_map token_of found.1.token,
+        ),
+        found.1.touches.items,
+      ),
+      found.2.now,
+    )) o))
+    c.in_default-2.is c.in_ok-pair.ensures)
 
 pub returns-in_default-3 : goal.returns-in_default-3
 returns-in_default-3 c value rest begins =
     let fields = c.in-Some.fields.now in
     let parts = c.in-Some-2.parts in
-    let found = subst (λ o. IsReading IsPast past_spelling fields (option_map (λ found. (((((found.0, found.1.position), (found.1.floor, found.1.session)), option_map token_of found.1.token), found.1.touches.items), found.2.now)) o)) c.in-Some-2.is c.in_ok-pair.ensures in
-    let none = subst (λ o. IsReading IsWholeTree spelling c.in-Some-2.after.now (option_map (λ found. (found.0, found.1.now)) o)) c.in_default-3.is c.in_ok-tree.ensures in
-    no_whole_tree c.args.bytes.now fields c.in-Some-2.after.now (past_value c.in-Some-2.pair (past_from parts)) c.in-Some.ensures.cases.1 found value rest begins none
+    let found = subst (λ o. IsReading IsPast past_spelling fields
+    (option_map (λ found. (
+      (
+        (
+          ((found.0, found.1.position), (found.1.floor, found.1.session)),
+          option_map token_of found.1.token,
+        ),
+        found.1.touches.items,
+      ),
+      found.2.now,
+    )) o)) c.in-Some-2.is
+    c.in_ok-pair.ensures in
+    let none = subst (λ o. IsReading IsWholeTree spelling c.in-Some-2.after.now
+    (option_map (λ found. (found.0, found.1.now)) o)) c.in_default-3.is c.in_ok-tree.ensures in
+    no_whole_tree c.args.bytes.now fields c.in-Some-2.after.now (past_value c.in-Some-2.pair
+    (past_from parts)) c.in-Some.ensures.cases.1 found value rest begins none
 
 pub returns-in_default-4 : goal.returns-in_default-4
 returns-in_default-4 c value rest begins =
     let fields = c.in-Some.fields.now in
     let parts = c.in-Some-2.parts in
     let past = past_from parts in
-    let found = subst (λ o. IsReading IsPast past_spelling fields (option_map (λ found. (((((found.0, found.1.position), (found.1.floor, found.1.session)), option_map token_of found.1.token), found.1.touches.items), found.2.now)) o)) c.in-Some-2.is c.in_ok-pair.ensures in
-    let none = subst (λ o. IfNone o ((tree : Tree) → ¬ IsStanding (standing_with tree past))) c.in_default-4.is c.in_ok-trail.ensures.none in
-    no_trail c.args.bytes.now fields c.in-Some-2.after.now (past_value c.in-Some-2.pair past) c.in-Some.ensures.cases.1 found value rest begins past refl none
+    let found = subst (λ o. IsReading IsPast past_spelling fields
+    (option_map (λ found. (
+      (
+        (
+          ((found.0, found.1.position), (found.1.floor, found.1.session)),
+          option_map token_of found.1.token,
+        ),
+        found.1.touches.items,
+      ),
+      found.2.now,
+    )) o)) c.in-Some-2.is
+    c.in_ok-pair.ensures in
+    let none = subst (λ o. IfNone o ((tree : Tree) → ¬ IsStanding (standing_with tree past)))
+    c.in_default-4.is c.in_ok-trail.ensures.none in
+    no_trail c.args.bytes.now fields c.in-Some-2.after.now (past_value c.in-Some-2.pair past)
+    c.in-Some.ensures.cases.1 found value rest begins past refl none
 
 pub returns : goal.returns
 returns c =
@@ -41,9 +78,24 @@ returns c =
     let parts = c.in-Some-2.parts in
     let past = past_from parts in
     let trail = c.in-Some-4.trail in
-    let found = subst (λ o. IsReading IsPast past_spelling fields (option_map (λ found. (((((found.0, found.1.position), (found.1.floor, found.1.session)), option_map token_of found.1.token), found.1.touches.items), found.2.now)) o)) c.in-Some-2.is c.in_ok-pair.ensures in
-    let read = subst (λ o. IsReading IsWholeTree spelling c.in-Some-2.after.now (option_map (λ found. (found.0, found.1.now)) o)) c.in-Some-3.is c.in_ok-tree.ensures in
-    let same = subst (λ o. IfSome o (λ trail. trail ≡ past)) c.in-Some-4.is c.in_ok-trail.ensures.parts in
+    let found = subst (λ o. IsReading IsPast past_spelling fields
+    (option_map (λ found. (
+      (
+        (
+          ((found.0, found.1.position), (found.1.floor, found.1.session)),
+          option_map token_of found.1.token,
+        ),
+        found.1.touches.items,
+      ),
+      found.2.now,
+    )) o)) c.in-Some-2.is
+    c.in_ok-pair.ensures in
+    let read = subst (λ o. IsReading IsWholeTree spelling c.in-Some-2.after.now
+    (option_map (λ found. (found.0, found.1.now)) o)) c.in-Some-3.is c.in_ok-tree.ensures in
+    let same =
+    subst (λ o. IfSome o (λ trail. trail ≡ past)) c.in-Some-4.is c.in_ok-trail.ensures.parts in
     let lawful = subst (λ o. IfSome o IsLawful) c.in-Some-4.is c.in_ok-trail.ensures.lawful in
-    image_found c.args.bytes.now fields c.in-Some-2.after.now c.in-Some-3.rest.now c.in-Some-2.pair trail c.in-Some-3.tree c.in-Some.ensures.cases.0 c.in-Some.ensures.cases.1
-    (subst (λ p. BeginsWith IsPast past_spelling fields (past_value c.in-Some-2.pair p) c.in-Some-2.after.now) (sym same) found) read lawful
+    image_found c.args.bytes.now fields c.in-Some-2.after.now c.in-Some-3.rest.now c.in-Some-2.pair
+    trail c.in-Some-3.tree c.in-Some.ensures.cases.0 c.in-Some.ensures.cases.1
+    (subst (λ p. BeginsWith IsPast past_spelling fields
+    (past_value c.in-Some-2.pair p) c.in-Some-2.after.now) (sym same) found) read lawful

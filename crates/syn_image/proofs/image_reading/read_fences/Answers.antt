@@ -7,8 +7,11 @@ use Rattle.syn_image.proofs.image_reading.read_fences.Goals as goal
 
 pub returns-in_err-first : goal.returns-in_err-first
 returns-in_err-first c =
-    rw c.from_residual.ensures (first_none AreFour IsLastToken four_spelling last_token_spelling c.args.bytes.now c.in_err-first.ensures)
+    rw c.from_residual.ensures (first_none AreFour IsLastToken four_spelling last_token_spelling
+    c.args.bytes.now c.in_err-first.ensures)
 
 pub returns-in_err-token : goal.returns-in_err-token
 returns-in_err-token c =
-    rw c.from_residual-in_err-token.ensures (second_none AreFour IsLastToken four_spelling last_token_spelling four_tell c.args.bytes.now c.in_ok-first.after.now (c.in_ok-first.first, c.in_ok-first.second) c.in_ok-first.ensures c.in_err-token.ensures)
+    rw c.from_residual-in_err-token.ensures (second_none AreFour IsLastToken four_spelling
+    last_token_spelling four_tell c.args.bytes.now c.in_ok-first.after.now
+    (c.in_ok-first.first, c.in_ok-first.second) c.in_ok-first.ensures c.in_err-token.ensures)

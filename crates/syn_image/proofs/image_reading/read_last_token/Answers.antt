@@ -7,4 +7,5 @@ pub returns-in_err-token-in-1 : goal.returns-in_err-token-in-1
 returns-in_err-token-in-1 c =
     let bytes = c.args.bytes.now in
     let fields = take (length bytes - 1) (drop 1 bytes) in
-    rw c.from_residual.ensures (no_token_behind bytes fields (first_and_rest bytes c.in-len1-up.len_at_least ∙ ap (λ k. k ∷ fields) c.in-1.is) c.in_err-token-in-1.ensures)
+    rw c.from_residual.ensures (no_token_behind bytes fields (first_and_rest bytes
+    c.in-len1-up.len_at_least ∙ ap (λ k. k ∷ fields) c.in-1.is) c.in_err-token-in-1.ensures)

@@ -9,5 +9,7 @@ returns-in_default c = no_count c.args.bytes.now c.in_default.ensures
 
 pub returns-in-None : goal.returns-in-None
 returns-in-None c =
-    let none = subst (λ o. IsReading (AreSoMany c.in-Some.count) each_spelling c.in-Some.after.now (option_map (λ found. (found.0.items, found.1.now)) o)) c.in-None.is c.in_ok-touches.ensures in
+    let none = subst (λ o. IsReading (AreSoMany c.in-Some.count) each_spelling c.in-Some.after.now
+    (option_map (λ found. (found.0.items, found.1.now)) o)) c.in-None.is c.in_ok-touches.ensures
+    in
     no_touches c.args.bytes.now c.in-Some.after.now c.in-Some.count c.in-Some.ensures none

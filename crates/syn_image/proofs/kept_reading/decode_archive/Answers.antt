@@ -9,11 +9,15 @@ use Rattle.syn_image.proofs.kept_reading.decode_archive.Goals as goal
 
 pub returns-in_default-read_two : goal.returns-in_default-read_two
 returns-in_default-read_two c value rest begins =
-    no_numbers c.args.bytes.now c.in-Some.fields.now c.in-Some.ensures.cases.1 value rest begins c.in_default-read_two.ensures
+    no_numbers c.args.bytes.now c.in-Some.fields.now c.in-Some.ensures.cases.1 value rest begins
+    c.in_default-read_two.ensures
 
 pub returns-in-File : goal.returns-in-File
 returns-in-File c value rest begins =
     let two : ℕ × ℕ = (c.in-Some-read_two.pair, c.in-Some-read_two.last_session) in
-    let read = subst (λ o. IsReading IsMarkTree mark_spelling c.in-Some-read_two.after.now (option_map (λ found. (found.0, found.1.now)) o)) c.in-Some-2.is c.in_ok-marks.ensures in
-    marks_of_file c.args.bytes.now c.in-Some.fields.now c.in-Some.ensures.cases.1 value rest begins two c.in-Some-read_two.after.now c.in-Some-read_two.ensures c.spelling_laws.ensures.marks c.in-Some-2.marks c.in-Some-2.rest.now read
+    let read = subst (λ o. IsReading IsMarkTree mark_spelling c.in-Some-read_two.after.now
+    (option_map (λ found. (found.0, found.1.now)) o)) c.in-Some-2.is c.in_ok-marks.ensures in
+    marks_of_file c.args.bytes.now c.in-Some.fields.now c.in-Some.ensures.cases.1 value rest begins
+    two c.in-Some-read_two.after.now c.in-Some-read_two.ensures c.spelling_laws.ensures.marks
+    c.in-Some-2.marks c.in-Some-2.rest.now read
     (λ directory. no_file _ (same_Some _ _ (sym directory ∙ c.in-File.ensures)))

@@ -7,4 +7,5 @@ use Rattle.syn_image.proofs.kept_reading.read_record.Goals as goal
 pub returns-in-None : goal.returns-in-None
 returns-in-None c =
     no_record c.args.fields.now
-    (subst (λ o. IsReading IsRecorded recorded_spelling c.args.fields.now (option_map (λ found. ((found.0, or_absent found.1), found.2.now)) o)) c.in-None.is c.in_ok-path.ensures)
+    (subst (λ o. IsReading IsRecorded recorded_spelling c.args.fields.now (option_map
+    (λ found. ((found.0, or_absent found.1), found.2.now)) o)) c.in-None.is c.in_ok-path.ensures)

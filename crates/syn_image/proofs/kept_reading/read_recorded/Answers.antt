@@ -11,10 +11,14 @@ use Rattle.syn_image.proofs.kept_reading.read_recorded.Goals as goal
 pub returns-in_default : goal.returns-in_default
 returns-in_default c =
     first_none IsPath IsOptionalMarkTree path_spelling mark_spelling c.args.bytes.now
-    (subst (λ o. IsReading IsPath path_spelling c.args.bytes.now (option_map (λ found. (found.0, found.1.now)) o)) c.in_default.is c.in_ok-path.ensures)
+    (subst (λ o. IsReading IsPath path_spelling c.args.bytes.now
+    (option_map (λ found. (found.0, found.1.now)) o)) c.in_default.is c.in_ok-path.ensures)
 
 pub returns-in-None : goal.returns-in-None
 returns-in-None c =
-    let found = subst (λ o. IsReading IsPath path_spelling c.args.bytes.now (option_map (λ found. (found.0, found.1.now)) o)) c.in-Some.is c.in_ok-path.ensures in
-    second_none IsPath IsOptionalMarkTree path_spelling mark_spelling paths_tell c.args.bytes.now c.in-Some.after.now c.in-Some.path found
-    (subst (λ o. IsReading IsOptionalMarkTree mark_spelling c.in-Some.after.now (option_map (λ found. (or_absent found.0, found.1.now)) o)) c.in-None.is c.in_ok-marks.ensures)
+    let found = subst (λ o. IsReading IsPath path_spelling c.args.bytes.now
+    (option_map (λ found. (found.0, found.1.now)) o)) c.in-Some.is c.in_ok-path.ensures in
+    second_none IsPath IsOptionalMarkTree path_spelling mark_spelling paths_tell c.args.bytes.now
+    c.in-Some.after.now c.in-Some.path found
+    (subst (λ o. IsReading IsOptionalMarkTree mark_spelling c.in-Some.after.now (option_map
+    (λ found. (or_absent found.0, found.1.now)) o)) c.in-None.is c.in_ok-marks.ensures)

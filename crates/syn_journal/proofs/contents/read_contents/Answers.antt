@@ -1,13 +1,17 @@
-use Rattle.std.proofs.Common.{◌≡◌, ◌∙◌, ◌≢◌, ◌+◌, ◌-◌, ◌++◌, Ok, None, List, ℕ, take, drop, get_or, length, subst, ap, sym, arith}
+use Rattle.std.proofs.Common.{◌≡◌, ◌∙◌, ◌≢◌, ◌+◌, ◌-◌, ◌++◌, Ok, None, List, ℕ, take, drop, get_or}
+use Rattle.std.proofs.Common.{length, subst, ap, sym, arith}
 use Rattle.std.specs.Int.{w32, to_be_bytes}
 use Rattle.std.specs.Prelude.{Err}
-use Rattle.syn_journal.specs.Layout.{open_gate, start_of, damaged, current, generation_at, value_at, meaning, bytes_from, records, records_of}
+use Rattle.syn_journal.specs.Layout.{open_gate, start_of, damaged, current, generation_at, value_at}
+use Rattle.syn_journal.specs.Layout.{meaning, bytes_from, records, records_of}
 use Rattle.syn_journal.specs.Opened.{payloads_of}
 use Rattle.syn_journal.specs.Refusals.{IsOpenRefusal}
 use Rattle.syn_journal.specs.inner.Reading.{IsReadRefusal}
-use Rattle.syn_journal.proofs.Openings.{if_err_by, refused_by_halves, refused_by_value, refused_by_records, front_read}
+use Rattle.syn_journal.proofs.Openings.{if_err_by, refused_by_halves, refused_by_value}
+use Rattle.syn_journal.proofs.Openings.{refused_by_records, front_read}
 use Rattle.syn_model.proofs.ExitLemmas.{match_of_exit}
-use Rattle.syn_journal.proofs.Calls.{one_broke, one_read, reads_of_exit, then_after, then_some, counts_of_exit}
+use Rattle.syn_journal.proofs.Calls.{one_broke, one_read, reads_of_exit, then_after, then_some}
+use Rattle.syn_journal.proofs.Calls.{counts_of_exit}
 use Rattle.syn_journal.proofs.Moments.{one_call, and_then}
 use Rattle.syn_journal.proofs.contents.read_contents.Goals as goal
 
@@ -15,20 +19,27 @@ pub returns-in_err-half-clause-refusals : goal.returns-in_err-half-clause-refusa
 returns-in_err-half-clause-refusals g c =
     let seen = g.D.Disk.seen c.args.disk.now in
     let e = c.in_err-half.field-0.0 in
-    let cause : IsOpenRefusal e (current seen) = subst (λ bytes. IsOpenRefusal e (current bytes)) c.in_ok-sync.ensures.seen c.in_err-half.ensures.refusals in
+    let cause : IsOpenRefusal e (current seen) = subst (λ bytes. IsOpenRefusal e (current bytes))
+    c.in_ok-sync.ensures.seen c.in_err-half.ensures.refusals in
     if_err_by c.from_residual-in_err-half.result _ _ c.from_residual-in_err-half.ensures.1
-    (λ e' gives. subst (λ refusal. IsOpenRefusal refusal (meaning seen)) (sym gives) (refused_by_halves seen e cause))
+    (λ e' gives. subst (λ refusal. IsOpenRefusal refusal (meaning seen)) (sym gives)
+    (refused_by_halves seen e cause))
 
 pub returns-in_err-image-clause-refusals : goal.returns-in_err-image-clause-refusals
 returns-in_err-image-clause-refusals g c =
     let seen = g.D.Disk.seen c.args.disk.now in
     let half = c.in_ok-half.half in
     let e = c.in_err-image.field-0.0 in
-    let is : current seen ≡ Ok half = ap current (sym c.in_ok-sync.ensures.seen) ∙ c.in_ok-half.ensures.half in
-    let same : g.D.Disk.seen c.read_current.new.disk ≡ seen = c.in_ok-half.ensures.untouched.same ∙ c.in_ok-sync.ensures.seen in
-    let cause : IsReadRefusal e (value_at seen half ≡ Err damaged) = subst (λ bytes. IsReadRefusal e (value_at bytes half ≡ Err damaged)) same c.in_err-image.ensures.refusals in
+    let is : current seen ≡ Ok half = ap current (sym c.in_ok-sync.ensures.seen)
+    ∙ c.in_ok-half.ensures.half in
+    let same : g.D.Disk.seen c.read_current.new.disk ≡ seen = c.in_ok-half.ensures.untouched.same
+    ∙ c.in_ok-sync.ensures.seen in
+    let cause : IsReadRefusal e (value_at seen half ≡ Err damaged) =
+    subst (λ bytes. IsReadRefusal e (value_at bytes half ≡ Err damaged)) same
+    c.in_err-image.ensures.refusals in
     if_err_by c.from_residual-in_err-image.result _ _ c.from_residual-in_err-image.ensures.1
-    (λ e' gives. subst (λ refusal. IsOpenRefusal refusal (meaning seen)) (sym gives) (refused_by_value seen half e is cause))
+    (λ e' gives. subst (λ refusal. IsOpenRefusal refusal (meaning seen)) (sym gives)
+    (refused_by_value seen half e is cause))
 
 pub returns-in_err-records-clause-refusals : goal.returns-in_err-records-clause-refusals
 returns-in_err-records-clause-refusals g c =
@@ -36,16 +47,24 @@ returns-in_err-records-clause-refusals g c =
     let half = c.in_ok-half.half in
     let image = c.in_ok-image.image.items in
     let e = c.in_err-records.field-0.0 in
-    let is : current seen ≡ Ok half = ap current (sym c.in_ok-sync.ensures.seen) ∙ c.in_ok-half.ensures.half in
-    let same : g.D.Disk.seen c.read_current.new.disk ≡ seen = c.in_ok-half.ensures.untouched.same ∙ c.in_ok-sync.ensures.seen in
-    let same' : g.D.Disk.seen c.read_image.new.disk ≡ seen = c.in_ok-image.ensures.untouched.same ∙ same in
-    let there : take (4 + length image) (drop (start_of half + 9) seen) ≡ to_be_bytes w32 (length image) ++ image =
-    ap (λ bytes. take (4 + length image) (drop (start_of half + 9) bytes)) (sym same) ∙ c.in_ok-image.ensures.image in
+    let is : current seen ≡ Ok half = ap current (sym c.in_ok-sync.ensures.seen)
+    ∙ c.in_ok-half.ensures.half in
+    let same : g.D.Disk.seen c.read_current.new.disk ≡ seen = c.in_ok-half.ensures.untouched.same
+    ∙ c.in_ok-sync.ensures.seen in
+    let same' : g.D.Disk.seen c.read_image.new.disk ≡ seen = c.in_ok-image.ensures.untouched.same
+    ∙ same in
+    let there : take (4 + length image) (drop (start_of half + 9) seen)
+    ≡ to_be_bytes w32 (length image) ++ image =
+    ap (λ bytes. take (4 + length image) (drop (start_of half + 9) bytes)) (sym same)
+    ∙ c.in_ok-image.ensures.image in
     let long : c.len.result ≡ length image = omega (arith, c.len.ensures, c.in_ok-image.image.ok) in
-    let P : List ℕ → ℕ → Type 0 = λ bytes n. IsReadRefusal e (let behind = bytes_from bytes half (13 + n) in records (length behind) behind ≡ None) in
-    let cause : P seen (length image) = subst (λ n. P seen n) long (subst (λ bytes. P bytes c.len.result) same' c.in_err-records.ensures.refusals) in
+    let P : List ℕ → ℕ → Type 0 = λ bytes n. IsReadRefusal e
+    (let behind = bytes_from bytes half (13 + n) in records (length behind) behind ≡ None) in
+    let cause : P seen (length image) = subst (λ n. P seen n) long
+    (subst (λ bytes. P bytes c.len.result) same' c.in_err-records.ensures.refusals) in
     if_err_by c.from_residual-in_err-records.result _ _ c.from_residual-in_err-records.ensures.1
-    (λ e' gives. subst (λ refusal. IsOpenRefusal refusal (meaning seen)) (sym gives) (refused_by_records seen half image c.in_ok-image.ensures.fits there e is cause))
+    (λ e' gives. subst (λ refusal. IsOpenRefusal refusal (meaning seen)) (sym gives)
+    (refused_by_records seen half image c.in_ok-image.ensures.fits there e is cause))
 
 pub returns-clause-whole : goal.returns-clause-whole
 returns-clause-whole g c =
@@ -55,20 +74,35 @@ returns-clause-whole g c =
     let image = c.in_ok-image.image.items in
     let gate = c.in_ok-records.gate in
     let payloads = payloads_of c.in_ok-records.records in
-    let same : g.D.Disk.seen c.read_current.new.disk ≡ seen = c.in_ok-half.ensures.untouched.same ∙ c.in_ok-sync.ensures.seen in
-    let same' : g.D.Disk.seen c.read_image.new.disk ≡ seen = c.in_ok-image.ensures.untouched.same ∙ same in
-    let there : take (4 + length image) (drop (start_of half + 9) seen) ≡ to_be_bytes w32 (length image) ++ image =
-    ap (λ bytes. take (4 + length image) (drop (start_of half + 9) bytes)) (sym same) ∙ c.in_ok-image.ensures.image in
+    let same : g.D.Disk.seen c.read_current.new.disk ≡ seen = c.in_ok-half.ensures.untouched.same
+    ∙ c.in_ok-sync.ensures.seen in
+    let same' : g.D.Disk.seen c.read_image.new.disk ≡ seen = c.in_ok-image.ensures.untouched.same
+    ∙ same in
+    let there : take (4 + length image) (drop (start_of half + 9) seen)
+    ≡ to_be_bytes w32 (length image) ++ image =
+    ap (λ bytes. take (4 + length image) (drop (start_of half + 9) bytes)) (sym same)
+    ∙ c.in_ok-image.ensures.image in
     let long : c.len.result ≡ length image = omega (arith, c.len.ensures, c.in_ok-image.image.ok) in
-    let next : take (gate - (13 + length image)) (drop (start_of half + (13 + length image)) seen) ≡ records_of payloads =
-    subst (λ n. take (gate - (13 + n)) (drop (start_of half + (13 + n)) seen) ≡ records_of payloads) long
-    (ap (λ bytes. take (gate - (13 + c.len.result)) (drop (start_of half + (13 + c.len.result)) bytes)) (sym same') ∙ c.in_ok-records.ensures.payloads) in
+    let next : take (gate - (13 + length image)) (drop (start_of half + (13 + length image)) seen)
+    ≡ records_of payloads =
+    subst (λ n. take (gate - (13 + n)) (drop (start_of half + (13 + n)) seen) ≡ records_of payloads)
+    long
+    (ap (λ bytes. take (gate - (13 + c.len.result)) (drop (start_of half + (13 + c.len.result))
+    bytes)) (sym same') ∙ c.in_ok-records.ensures.payloads) in
     record {
-      size = g.met.D.Disk.whole disk _ _ (g.met.D.Disk.counts_now disk (g.D.Disk.moment disk) _ (omega arith) (g.met.D.Disk.seen_may_stay disk));
+      size =
+          g.met.D.Disk.whole disk _ _ (g.met.D.Disk.counts_now disk (g.D.Disk.moment disk) _
+          (omega arith) (g.met.D.Disk.seen_may_stay disk));
       is_current = ap current (sym c.in_ok-sync.ensures.seen) ∙ c.in_ok-half.ensures.half;
-      numbered = ap (λ bytes. generation_at bytes half) (sym c.in_ok-sync.ensures.seen) ∙ sym c.in_ok-half.ensures.generation;
-      front = front_read seen half image c.in_ok-image.ensures.fits there payloads gate (omega (arith, long, c.in_ok-records.ensures.ordered)) next;
-      closed = subst (λ bytes. get_or bytes (start_of half + gate) 0 ≢ open_gate) same' c.in_ok-records.ensures.closed;
+      numbered =
+          ap (λ bytes. generation_at bytes half) (sym c.in_ok-sync.ensures.seen)
+          ∙ sym c.in_ok-half.ensures.generation;
+      front =
+          front_read seen half image c.in_ok-image.ensures.fits there payloads gate
+          (omega (arith, long, c.in_ok-records.ensures.ordered)) next;
+      closed =
+          subst (λ bytes. get_or bytes (start_of half + gate) 0 ≢ open_gate) same'
+          c.in_ok-records.ensures.closed;
       within = c.in_ok-records.ensures.within;
     }
 
@@ -84,7 +118,8 @@ returns-in_err-half-clause-calls g c =
     let old = g.D.Disk.arms c.args.disk.now in
     let synced = g.D.Disk.arms c.sync.new.self in
     let new = g.D.Disk.arms c.read_current.new.disk in
-    let first = one_read 1 old synced (omega arith) c.in_ok-sync.ensures.allowed c.sync.ensures.arms in
+    let first = one_read 1 old synced
+    (omega arith) c.in_ok-sync.ensures.allowed c.sync.ensures.arms in
     reads_of_exit 1 c.from_residual-in_err-half.result _ old new
     c.from_residual-in_err-half.ensures.1
     (then_after 1 old synced new first c.in_err-half.field-0.0 c.in_err-half.ensures.calls)
@@ -95,7 +130,8 @@ returns-in_err-image-clause-calls g c =
     let synced = g.D.Disk.arms c.sync.new.self in
     let chosen = g.D.Disk.arms c.read_current.new.disk in
     let new = g.D.Disk.arms c.read_image.new.disk in
-    let first = one_read 1 old synced (omega arith) c.in_ok-sync.ensures.allowed c.sync.ensures.arms in
+    let first = one_read 1 old synced
+    (omega arith) c.in_ok-sync.ensures.allowed c.sync.ensures.arms in
     let second = then_some 1 old synced chosen first c.in_ok-half.ensures.calls in
     reads_of_exit 1 c.from_residual-in_err-image.result _ old new
     c.from_residual-in_err-image.ensures.1
@@ -108,7 +144,8 @@ returns-in_err-records-clause-calls g c =
     let chosen = g.D.Disk.arms c.read_current.new.disk in
     let image = g.D.Disk.arms c.read_image.new.disk in
     let new = g.D.Disk.arms c.read_records.new.disk in
-    let first = one_read 1 old synced (omega arith) c.in_ok-sync.ensures.allowed c.sync.ensures.arms in
+    let first = one_read 1 old synced
+    (omega arith) c.in_ok-sync.ensures.allowed c.sync.ensures.arms in
     let second = then_some 1 old synced chosen first c.in_ok-half.ensures.calls in
     let third = then_some 1 old chosen image second c.in_ok-image.ensures.calls in
     reads_of_exit 1 c.from_residual-in_err-records.result _ old new
@@ -121,7 +158,8 @@ returns-clause-calls g c =
     let synced = g.D.Disk.arms c.sync.new.self in
     let chosen = g.D.Disk.arms c.read_current.new.disk in
     let image = g.D.Disk.arms c.read_image.new.disk in
-    let first = one_read 1 old synced (omega arith) c.in_ok-sync.ensures.allowed c.sync.ensures.arms in
+    let first = one_read 1 old synced
+    (omega arith) c.in_ok-sync.ensures.allowed c.sync.ensures.arms in
     let second = then_some 1 old synced chosen first c.in_ok-half.ensures.calls in
     let third = then_some 1 old chosen image second c.in_ok-image.ensures.calls in
     then_some 1 old image (g.D.Disk.arms c.read_records.new.disk) third
@@ -133,52 +171,73 @@ returns-in_err-sync-clause-count g c =
 
 pub returns-in_err-half-clause-count : goal.returns-in_err-half-clause-count
 returns-in_err-half-clause-count g c =
-    counts_of_exit c.from_residual-in_err-half.result _ (g.D.Disk.failures c.args.disk.now) (g.D.Disk.failures c.sync.new.self) (g.D.Disk.failures c.read_current.new.disk) c.from_residual-in_err-half.ensures.1
+    counts_of_exit c.from_residual-in_err-half.result _ (g.D.Disk.failures c.args.disk.now)
+    (g.D.Disk.failures c.sync.new.self)
+    (g.D.Disk.failures c.read_current.new.disk) c.from_residual-in_err-half.ensures.1
     c.in_ok-sync.ensures.count c.in_err-half.ensures.count
 
 pub returns-in_err-image-clause-count : goal.returns-in_err-image-clause-count
 returns-in_err-image-clause-count g c =
-    counts_of_exit c.from_residual-in_err-image.result _ (g.D.Disk.failures c.args.disk.now) (g.D.Disk.failures c.read_current.new.disk) (g.D.Disk.failures c.read_image.new.disk) c.from_residual-in_err-image.ensures.1
+    counts_of_exit c.from_residual-in_err-image.result _ (g.D.Disk.failures c.args.disk.now)
+    (g.D.Disk.failures c.read_current.new.disk)
+    (g.D.Disk.failures c.read_image.new.disk) c.from_residual-in_err-image.ensures.1
     (c.in_ok-half.ensures.count ∙ c.in_ok-sync.ensures.count) c.in_err-image.ensures.count
 
 pub returns-in_err-records-clause-count : goal.returns-in_err-records-clause-count
 returns-in_err-records-clause-count g c =
-    counts_of_exit c.from_residual-in_err-records.result _ (g.D.Disk.failures c.args.disk.now) (g.D.Disk.failures c.read_image.new.disk) (g.D.Disk.failures c.read_records.new.disk) c.from_residual-in_err-records.ensures.1
-    (c.in_ok-image.ensures.count ∙ c.in_ok-half.ensures.count ∙ c.in_ok-sync.ensures.count) c.in_err-records.ensures.count
+    counts_of_exit c.from_residual-in_err-records.result _ (g.D.Disk.failures c.args.disk.now)
+    (g.D.Disk.failures c.read_image.new.disk)
+    (g.D.Disk.failures c.read_records.new.disk) c.from_residual-in_err-records.ensures.1
+    (c.in_ok-image.ensures.count ∙ c.in_ok-half.ensures.count ∙ c.in_ok-sync.ensures.count)
+    c.in_err-records.ensures.count
 
 pub returns-clause-count : goal.returns-clause-count
 returns-clause-count g c =
-    c.in_ok-records.ensures.count ∙ c.in_ok-image.ensures.count ∙ c.in_ok-half.ensures.count ∙ c.in_ok-sync.ensures.count
+    c.in_ok-records.ensures.count ∙ c.in_ok-image.ensures.count ∙ c.in_ok-half.ensures.count
+    ∙ c.in_ok-sync.ensures.count
 
 pub returns-in_err-sync-clause-untouched : goal.returns-in_err-sync-clause-untouched
 returns-in_err-sync-clause-untouched g c =
-    one_call g.met.D.Disk.only_now c.args.disk.now c.sync.new.self c.sync.ensures.seen c.sync.ensures.stop c.sync.ensures.time
+    one_call g.met.D.Disk.only_now c.args.disk.now c.sync.new.self c.sync.ensures.seen
+    c.sync.ensures.stop c.sync.ensures.time
 
 pub returns-in_err-half-clause-untouched : goal.returns-in_err-half-clause-untouched
 returns-in_err-half-clause-untouched g c =
     let disk = c.args.disk.now in
-    let synced = one_call g.met.D.Disk.only_now disk c.sync.new.self c.sync.ensures.seen c.sync.ensures.stop c.sync.ensures.time in
+    let synced = one_call g.met.D.Disk.only_now disk c.sync.new.self c.sync.ensures.seen
+    c.sync.ensures.stop c.sync.ensures.time in
     and_then disk c.sync.new.self c.read_current.new.disk synced c.in_err-half.ensures.untouched
 
 pub returns-in_err-image-clause-untouched : goal.returns-in_err-image-clause-untouched
 returns-in_err-image-clause-untouched g c =
     let disk = c.args.disk.now in
-    let synced = one_call g.met.D.Disk.only_now disk c.sync.new.self c.sync.ensures.seen c.sync.ensures.stop c.sync.ensures.time in
-    let chosen = and_then disk c.sync.new.self c.read_current.new.disk synced c.in_ok-half.ensures.untouched in
-    and_then disk c.read_current.new.disk c.read_image.new.disk chosen c.in_err-image.ensures.untouched
+    let synced = one_call g.met.D.Disk.only_now disk c.sync.new.self c.sync.ensures.seen
+    c.sync.ensures.stop c.sync.ensures.time in
+    let chosen =
+    and_then disk c.sync.new.self c.read_current.new.disk synced c.in_ok-half.ensures.untouched in
+    and_then disk c.read_current.new.disk c.read_image.new.disk chosen
+    c.in_err-image.ensures.untouched
 
 pub returns-in_err-records-clause-untouched : goal.returns-in_err-records-clause-untouched
 returns-in_err-records-clause-untouched g c =
     let disk = c.args.disk.now in
-    let synced = one_call g.met.D.Disk.only_now disk c.sync.new.self c.sync.ensures.seen c.sync.ensures.stop c.sync.ensures.time in
-    let chosen = and_then disk c.sync.new.self c.read_current.new.disk synced c.in_ok-half.ensures.untouched in
-    let imaged = and_then disk c.read_current.new.disk c.read_image.new.disk chosen c.in_ok-image.ensures.untouched in
-    and_then disk c.read_image.new.disk c.read_records.new.disk imaged c.in_err-records.ensures.untouched
+    let synced = one_call g.met.D.Disk.only_now disk c.sync.new.self c.sync.ensures.seen
+    c.sync.ensures.stop c.sync.ensures.time in
+    let chosen =
+    and_then disk c.sync.new.self c.read_current.new.disk synced c.in_ok-half.ensures.untouched in
+    let imaged = and_then disk c.read_current.new.disk c.read_image.new.disk chosen
+    c.in_ok-image.ensures.untouched in
+    and_then disk c.read_image.new.disk c.read_records.new.disk imaged
+    c.in_err-records.ensures.untouched
 
 pub returns-clause-untouched : goal.returns-clause-untouched
 returns-clause-untouched g c =
     let disk = c.args.disk.now in
-    let synced = one_call g.met.D.Disk.only_now disk c.sync.new.self c.sync.ensures.seen c.sync.ensures.stop c.sync.ensures.time in
-    let chosen = and_then disk c.sync.new.self c.read_current.new.disk synced c.in_ok-half.ensures.untouched in
-    let imaged = and_then disk c.read_current.new.disk c.read_image.new.disk chosen c.in_ok-image.ensures.untouched in
-    and_then disk c.read_image.new.disk c.read_records.new.disk imaged c.in_ok-records.ensures.untouched
+    let synced = one_call g.met.D.Disk.only_now disk c.sync.new.self c.sync.ensures.seen
+    c.sync.ensures.stop c.sync.ensures.time in
+    let chosen =
+    and_then disk c.sync.new.self c.read_current.new.disk synced c.in_ok-half.ensures.untouched in
+    let imaged = and_then disk c.read_current.new.disk c.read_image.new.disk chosen
+    c.in_ok-image.ensures.untouched in
+    and_then disk c.read_image.new.disk c.read_records.new.disk imaged
+    c.in_ok-records.ensures.untouched

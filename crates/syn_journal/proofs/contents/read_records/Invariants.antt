@@ -9,8 +9,10 @@ abbrev pub invariant-loop-records : goal.invariant-loop-records
 invariant-loop-records g l = record {
   ordered : l.first ≤ l.gate;
   within : l.gate < half_size;
-  so_far : take (l.gate - l.first) (drop (start_of l.half + l.first) (g.D.Disk.seen l.initial.disk)) ≡ records_of (payloads_of l.records);
-  untouched : Untouched g.D.Disk.seen g.D.Disk.may_leave g.D.Disk.moment g.D.Disk.left_since l.initial.disk l.disk;
+  so_far : take (l.gate - l.first) (drop (start_of l.half + l.first) (g.D.Disk.seen l.initial.disk))
+      ≡ records_of (payloads_of l.records);
+  untouched : Untouched g.D.Disk.seen g.D.Disk.may_leave g.D.Disk.moment g.D.Disk.left_since
+      l.initial.disk l.disk;
   count : g.D.Disk.failures l.disk ≡ g.D.Disk.failures l.initial.disk;
   calls : MakesAtLeast 0 (g.D.Disk.arms l.initial.disk) (g.D.Disk.arms l.disk);
 }

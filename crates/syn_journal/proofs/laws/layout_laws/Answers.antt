@@ -6,8 +6,10 @@ use Rattle.syn_journal.proofs.laws.layout_laws.Goals as goal
 
 left : LeftBehindPayload
 left value payload =
-    let pushed = ap length (records_of-push value.payloads payload) ∙ length-append (records_of value.payloads) (record_of payload) in
-    let one : length (record_of payload) ≡ 5 + length payload = omega (arith, length-append (to_be_bytes w32 (length payload)) payload) in
+    let pushed = ap length (records_of-push value.payloads payload)
+    ∙ length-append (records_of value.payloads) (record_of payload) in
+    let one : length (record_of payload) ≡ 5 + length payload =
+    omega (arith, length-append (to_be_bytes w32 (length payload)) payload) in
     omega (arith, pushed, one)
 
 pub returns : goal.returns

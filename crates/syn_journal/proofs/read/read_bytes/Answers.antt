@@ -30,34 +30,43 @@ returns-in_err-bytes-clause-count g c =
 
 pub returns-in_err-read-clause-count : goal.returns-in_err-read-clause-count
 returns-in_err-read-clause-count g c =
-    match_of_exit c.from_residual-in_err-read.result _ _ _ c.from_residual-in_err-read.ensures.1 c.in_err-read.ensures.count
+    match_of_exit c.from_residual-in_err-read.result _ _ _ c.from_residual-in_err-read.ensures.1
+    c.in_err-read.ensures.count
 
 pub returns-in_err-bytes-clause-untouched : goal.returns-in_err-bytes-clause-untouched
 returns-in_err-bytes-clause-untouched g c = no_call g.met.D.Disk.only_now c.args.disk.now
 
 pub returns-in_err-read-clause-untouched : goal.returns-in_err-read-clause-untouched
 returns-in_err-read-clause-untouched g c =
-    one_call g.met.D.Disk.only_now c.args.disk.now c.read.new.self c.read.ensures.seen c.read.ensures.stop c.read.ensures.time
+    one_call g.met.D.Disk.only_now c.args.disk.now c.read.new.self c.read.ensures.seen
+    c.read.ensures.stop c.read.ensures.time
 
 pub returns-clause-untouched : goal.returns-clause-untouched
 returns-clause-untouched g c =
-    one_call g.met.D.Disk.only_now c.args.disk.now c.read.new.self c.read.ensures.seen c.read.ensures.stop c.read.ensures.time
+    one_call g.met.D.Disk.only_now c.args.disk.now c.read.new.self c.read.ensures.seen
+    c.read.ensures.stop c.read.ensures.time
 
 pub returns-in_err-bytes-clause-refusals : goal.returns-in_err-bytes-clause-refusals
 returns-in_err-bytes-clause-refusals g c =
-    if_err_by c.from_residual.result _ _ c.from_residual.ensures.1 (λ e gives. subst (λ refusal. IsReadRefusal refusal ⊥) (sym gives) tt)
+    if_err_by c.from_residual.result _ _ c.from_residual.ensures.1
+    (λ e gives. subst (λ refusal. IsReadRefusal refusal ⊥) (sym gives) tt)
 
 pub returns-in_err-read-clause-refusals : goal.returns-in_err-read-clause-refusals
 returns-in_err-read-clause-refusals g c =
-    if_err_by c.from_residual-in_err-read.result _ _ c.from_residual-in_err-read.ensures.1 (λ e gives. subst (λ refusal. IsReadRefusal refusal ⊥) (sym gives) tt)
+    if_err_by c.from_residual-in_err-read.result _ _ c.from_residual-in_err-read.ensures.1
+    (λ e gives. subst (λ refusal. IsReadRefusal refusal ⊥) (sym gives) tt)
 
 pub returns-clause-value : goal.returns-clause-value
 returns-clause-value g c =
-    let long : length c.read.new.into ≡ c.in_ok-bytes.bytes.len = c.read.auto.into ∙ ap length c.deref_mut.ensures.value ∙ sym c.in_ok-bytes.bytes.ok.0 in
+    let long : length c.read.new.into ≡ c.in_ok-bytes.bytes.len = c.read.auto.into
+    ∙ ap length c.deref_mut.ensures.value ∙ sym c.in_ok-bytes.bytes.ok.0 in
     take_at c.read.new.into _ c.in_ok-bytes.bytes.len long ∙ c.in_ok-read.ensures.bytes
-    ∙ ap (λ n. take n (drop c.args.at (g.D.Disk.seen c.args.disk.now))) (c.deref_mut.ensures.len ∙ c.in_ok-bytes.ensures.len)
+    ∙ ap (λ n. take n (drop c.args.at (g.D.Disk.seen c.args.disk.now)))
+    (c.deref_mut.ensures.len ∙ c.in_ok-bytes.ensures.len)
 
 pub returns-clause-size : goal.returns-clause-size
 returns-clause-size g c =
-    let long : length c.read.new.into ≡ c.in_ok-bytes.bytes.len = c.read.auto.into ∙ ap length c.deref_mut.ensures.value ∙ sym c.in_ok-bytes.bytes.ok.0 in
-    ap length (take_at c.read.new.into _ c.in_ok-bytes.bytes.len long) ∙ c.read.auto.into ∙ c.deref_mut.ensures.len ∙ c.in_ok-bytes.ensures.len
+    let long : length c.read.new.into ≡ c.in_ok-bytes.bytes.len = c.read.auto.into
+    ∙ ap length c.deref_mut.ensures.value ∙ sym c.in_ok-bytes.bytes.ok.0 in
+    ap length (take_at c.read.new.into _ c.in_ok-bytes.bytes.len long) ∙ c.read.auto.into
+    ∙ c.deref_mut.ensures.len ∙ c.in_ok-bytes.ensures.len

@@ -5,4 +5,6 @@ use Rattle.syn_keep.proofs.DueLemmas.{nothing_marks}
 use Rattle.syn_keep.proofs.due.are_lawful.Goals as goal
 
 pub returns-in-None : goal.returns-in-None
-returns-in-None c = subst (λ o. IsMarks (or_absent (option_map (λ there. there.now) o))) (sym c.in-None.is) nothing_marks
+returns-in-None c =
+    subst (λ o. IsMarks (or_absent (option_map (λ there. there.now) o)))
+    (sym c.in-None.is) nothing_marks

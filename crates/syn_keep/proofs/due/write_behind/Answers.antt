@@ -10,25 +10,37 @@ use Rattle.syn_image.specs.Archives.{kept_of}
 use Rattle.syn_keep.proofs.due.write_behind.Goals as goal
 
 pub returns-in-Some-clause-settles : goal.returns-in-Some-clause-settles
-returns-in-Some-clause-settles g c pair machine is ready no_room = without_room c.make_room.new.archive pair machine (kept_of c.args.kept.now) ready no_room c.in-Some.due (c.in-Some.ensures.room pair machine is)
+returns-in-Some-clause-settles g c pair machine is ready no_room =
+    without_room c.make_room.new.archive pair machine
+    (kept_of c.args.kept.now) ready no_room c.in-Some.due (c.in-Some.ensures.room pair machine is)
 
 pub returns-in-None-clause-settles : goal.returns-in-None-clause-settles
-returns-in-None-clause-settles g c pair machine is ready no_room = by (c.in-None.ensures.room pair machine is)
+returns-in-None-clause-settles g c pair machine is ready no_room =
+    by (c.in-None.ensures.room pair machine is)
   where
-    by : MakesRoomNow c.make_room.new.archive pair machine None → Settles c.write.new.archive pair machine (kept_of c.args.kept.now) c.write.result
+    by : MakesRoomNow c.make_room.new.archive pair machine None →
+        Settles c.write.new.archive pair machine (kept_of c.args.kept.now) c.write.result
     by (has_made between less compacts up now) =
         let kept = kept_of c.args.kept.now in
         let was = when_up c.make_room.new.archive pair between now up in
-        let room : has_room (archive_layout pair) between kept ≡ true = sym (room_is c.make_room.new.archive pair between now kept was) ∙ (sym c.has_room.ensures ∙ c.if-has_room.true) in
-        settled c.write.new.archive pair machine kept ready true between (makes_some between no_room less compacts up) room c.write.result
-        (c.write.ensures.writes pair between now (ready_still c.write.new.archive pair machine kept ready between compacts up))
+        let room : has_room (archive_layout pair) between kept ≡ true =
+        sym (room_is c.make_room.new.archive pair between now kept was)
+        ∙ (sym c.has_room.ensures ∙ c.if-has_room.true) in
+        settled c.write.new.archive pair machine kept ready true between
+        (makes_some between no_room less compacts up) room c.write.result
+        (c.write.ensures.writes pair between now
+        (ready_still c.write.new.archive pair machine kept ready between compacts up))
 
 pub returns-in-None-2-clause-settles : goal.returns-in-None-2-clause-settles
-returns-in-None-2-clause-settles g c pair machine is ready no_room = by (c.in-None-2.ensures.room pair machine is)
+returns-in-None-2-clause-settles g c pair machine is ready no_room =
+    by (c.in-None-2.ensures.room pair machine is)
   where
-    by : MakesRoomNow c.make_room.new.archive pair machine None → Settles c.make_room.new.archive pair machine (kept_of c.args.kept.now) (Ends refusal.JournalFull)
+    by : MakesRoomNow c.make_room.new.archive pair machine None → Settles c.make_room.new.archive
+        pair machine (kept_of c.args.kept.now) (Ends refusal.JournalFull)
     by (has_made between less compacts up now) =
         let kept = kept_of c.args.kept.now in
         let was = when_up c.make_room.new.archive pair between now up in
-        let room : has_room (archive_layout pair) between kept ≡ false = sym (room_is c.make_room.new.archive pair between now kept was) ∙ (sym c.has_room.ensures ∙ c.if-has_room.false) in
+        let room : has_room (archive_layout pair) between kept ≡ false =
+        sym (room_is c.make_room.new.archive pair between now kept was)
+        ∙ (sym c.has_room.ensures ∙ c.if-has_room.false) in
         no_room_left between ready (makes_some between no_room less compacts up) room now

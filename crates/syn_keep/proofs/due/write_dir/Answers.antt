@@ -9,16 +9,31 @@ use Rattle.syn_keep.proofs.DueLemmas.{write_fails, write_made, idle_is, left_alo
 use Rattle.syn_keep.proofs.due.write_dir.Goals as goal
 
 pub returns-in-Ok-clause-writes : goal.returns-in-Ok-clause-writes
-returns-in-Ok-clause-writes g c pair machine is ready = written (by (is_directory (marks_shown c.args.archive.now) c.args.path.now) refl)
+returns-in-Ok-clause-writes g c pair machine is ready =
+    written (by (is_directory (marks_shown c.args.archive.now) c.args.path.now) refl)
   where
-    by : (b : Bool) → is_directory (marks_shown c.args.archive.now) c.args.path.now ≡ b → KeepsSo c.record_dir.new.self pair machine (RecordedDir c.args.path.now) (RecordedDir c.args.path.now ∷ []) Up
-    by true there = left_alone c.args.archive.now c.record_dir.new.self pair machine is c.args.path.now ready there (c.in-Ok.ensures.recorded there)
+    by : (b : Bool) → is_directory (marks_shown c.args.archive.now) c.args.path.now ≡ b →
+        KeepsSo c.record_dir.new.self pair machine (RecordedDir c.args.path.now)
+        (RecordedDir c.args.path.now ∷ []) Up
+    by true there =
+        left_alone c.args.archive.now c.record_dir.new.self pair machine is c.args.path.now ready
+        there (c.in-Ok.ensures.recorded there)
     by false none =
-        write_made c.args.archive.now c.record_dir.new.self pair machine is (RecordedDir c.args.path.now) ready (sym (idle_is c.args.archive.now c.record_dir.new.self pair machine is c.args.path.now ready) ∙ none) c.in-Ok.ensures.acknowledged (c.in-Ok.ensures.record none) c.keeps_on_disk.ensures c.device_laws.ensures.made c.device_laws.ensures.behind (c.in-Ok.ensures.made none)
+        write_made c.args.archive.now c.record_dir.new.self pair machine is
+        (RecordedDir c.args.path.now) ready (sym
+        (idle_is c.args.archive.now c.record_dir.new.self pair machine is c.args.path.now ready)
+        ∙ none) c.in-Ok.ensures.acknowledged (c.in-Ok.ensures.record none) c.keeps_on_disk.ensures
+        c.device_laws.ensures.made c.device_laws.ensures.behind (c.in-Ok.ensures.made none)
 
 pub returns-in-Err-clause-writes : goal.returns-in-Err-clause-writes
 returns-in-Err-clause-writes g c pair machine is ready =
-    let none = not_there c.args.archive.now c.record_dir.new.self pair machine is c.args.path.now ready c.in-Err.ensures.done in
-    subst (Writes c.record_dir.new.self pair machine (RecordedDir c.args.path.now)) (sym c.ending.ensures)
-    (write_fails c.args.archive.now c.record_dir.new.self pair machine is (RecordedDir c.args.path.now) ready (sym (idle_is c.args.archive.now c.record_dir.new.self pair machine is c.args.path.now ready) ∙ none)
-    c.in-Err.error c.in-Err.ensures.halts c.in-Err.ensures.readings c.in-Err.ensures.unchanged g.met.D.Disk.counts_now c.in-Err.ensures.any_moment c.device_laws.ensures.broken c.in-Err.ensures.calls)
+    let none = not_there c.args.archive.now c.record_dir.new.self pair machine is c.args.path.now
+    ready c.in-Err.ensures.done in
+    subst (Writes c.record_dir.new.self pair machine (RecordedDir c.args.path.now))
+    (sym c.ending.ensures)
+    (write_fails c.args.archive.now c.record_dir.new.self pair machine is
+    (RecordedDir c.args.path.now) ready (sym (idle_is c.args.archive.now c.record_dir.new.self
+    pair machine is c.args.path.now ready) ∙ none)
+    c.in-Err.error c.in-Err.ensures.halts c.in-Err.ensures.readings c.in-Err.ensures.unchanged
+    g.met.D.Disk.counts_now c.in-Err.ensures.any_moment c.device_laws.ensures.broken
+    c.in-Err.ensures.calls)

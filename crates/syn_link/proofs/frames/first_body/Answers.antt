@@ -7,5 +7,7 @@ pub returns-in_default-clause-none : goal.returns-in_default-clause-none
 returns-in_default-clause-none c = no_front c.args.bytes.now c.in_default.ensures
 
 pub returns-in_default-clause-bad_frame : goal.returns-in_default-clause-bad_frame
-returns-in_default-clause-bad_frame c =
-    (λ same. absurd (true≢false (ap is_ok same)), λ claim. absurd (c.in_default.ensures 0 claim.0 claim.1))
+returns-in_default-clause-bad_frame c = (
+  λ same. absurd (true≢false (ap is_ok same)),
+  λ claim. absurd (c.in_default.ensures 0 claim.0 claim.1),
+)

@@ -7,5 +7,8 @@ pub loop-preserved : goal.loop-preserved
 loop-preserved g c =
     let (done, split, appended) = c.loop.invariant in
     let rest = c.loop.rest.now in
-    let n = c.in_ok-count.count in
-    (done ++ take n rest, moves_front _ done rest n split, Appends-trans _ _ _ _ _ appended c.in_ok-count.ensures.written)
+    let n = c.in_ok-count.count in (
+      done ++ take n rest,
+      moves_front _ done rest n split,
+      Appends-trans _ _ _ _ _ appended c.in_ok-count.ensures.written,
+    )

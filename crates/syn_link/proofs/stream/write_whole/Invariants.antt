@@ -5,4 +5,5 @@ use Rattle.syn_link.proofs.stream.write_whole.Given as goal
 -- what is gone from the rest has been written
 abbrev pub invariant-loop : goal.invariant-loop
 invariant-loop g l =
-    (done : List ℕ) × (l.bytes ≡ done ++ l.rest) × Appends (g.W.Write.contents l.initial.writer) (g.W.Write.contents l.writer) done
+    (done : List ℕ) × (l.bytes ≡ done ++ l.rest)
+    × Appends (g.W.Write.contents l.initial.writer) (g.W.Write.contents l.writer) done

@@ -6,5 +6,6 @@ use Rattle.syn_mark.proofs.listing.list_marks.Goals as goal
 
 pub returns-clause-marks : goal.returns-clause-marks
 returns-clause-marks c =
-    let same = ap marks_of c.in_ok-children.ensures.children ∙ children-mark c.args.tree.now c.args.path.now in
+    let same = ap marks_of c.in_ok-children.ensures.children
+    ∙ children-mark c.args.tree.now c.args.path.now in
     IfOk-weaker c.marks_at.result _ _ (λ listed is. is ∙ same) c.marks_at.ensures.ok

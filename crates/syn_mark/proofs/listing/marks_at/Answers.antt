@@ -14,13 +14,19 @@ loop-name-preserved c =
     let read = c.loop-name.yielded in
     let x : Name × Bor Pair = (c.in-Some.name, c.in-Some.entry) in
     record {
-      whole = c.loop-name.invariant.whole ∙ (ap (λ xs. read ++ xs) c.in-Some.ensures.steps.0 ∙ sym (append_assoc read (x ∷ []) c.next.new.self.rest.items));
-      pushed = ap contents_in c.in_ok-push.ensures.items ∙ marks-more c.loop-name.listed.items read x c.mark_at.result c.loop-name.invariant.pushed c.mark_at.ensures;
+      whole =
+          c.loop-name.invariant.whole ∙ (ap (λ xs. read ++ xs) c.in-Some.ensures.steps.0
+          ∙ sym (append_assoc read (x ∷ []) c.next.new.self.rest.items));
+      pushed =
+          ap contents_in c.in_ok-push.ensures.items ∙ marks-more c.loop-name.listed.items read x
+          c.mark_at.result c.loop-name.invariant.pushed c.mark_at.ensures;
     }
 
 pub returns-clause-ok : goal.returns-clause-ok
 returns-clause-ok c =
     let rest = c.loop-name.name-iterator.rest in
-    let none : rest.items ≡ [] = nil_from_length rest.items (omega (arith, c.in-None.ensures.steps.0, rest.ok)) in
-    let all = c.loop-name.invariant.whole ∙ (ap (λ xs. c.loop-name.yielded ++ xs) none ∙ append-nil c.loop-name.yielded) in
+    let none : rest.items ≡ [] =
+    nil_from_length rest.items (omega (arith, c.in-None.ensures.steps.0, rest.ok)) in
+    let all = c.loop-name.invariant.whole
+    ∙ (ap (λ xs. c.loop-name.yielded ++ xs) none ∙ append-nil c.loop-name.yielded) in
     c.loop-name.invariant.pushed ∙ ap (λ xs. marks_of (contents_at xs)) (sym all)

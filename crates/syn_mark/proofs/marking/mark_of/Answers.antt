@@ -10,5 +10,7 @@ pub returns-in-File-clause-ok : goal.returns-in-File-clause-ok
 returns-in-File-clause-ok c =
     let bytes = c.in-File.bytes.items in
     let same : at_root (content_of c.of_file.result) ≡ mark (node_tree c.args.node.now) =
-    ap at_root (c.of_file.ensures ∙ ap (λ bs. mark_of (File (contents_of bs))) c.deref.ensures.value) ∙ (mark_one (File (contents_of bytes)) ∙ ap (λ n. mark (node_tree n)) (sym c.in-File.is)) in
+    ap at_root (c.of_file.ensures
+    ∙ ap (λ bs. mark_of (File (contents_of bs))) c.deref.ensures.value)
+    ∙ (mark_one (File (contents_of bytes)) ∙ ap (λ n. mark (node_tree n)) (sym c.in-File.is)) in
     subst (λ t. IfOk c.of_mark.result (λ marks. marks ≡ t)) same c.of_mark.ensures.ok

@@ -9,5 +9,7 @@ pub returns-then-not-fits_below : goal.returns-then-not-fits_below
 returns-then-not-fits_below c =
     let at = c.args.at.now in
     let list = c.args.list.now in
-    sym (under_all at list ∙ list_all_at (λ (pair : Pair). fits_path (at ++ pair.0)) list c.loop-entry.entry-index c.entry-item.result c.loop-entry-test.true
-    (ap (λ (pair : Pair). fits_path (at ++ pair.0)) (sym c.entry-item.is) ∙ (ap (λ p. fits_path (at ++ p)) (sym c.path.ensures) ∙ (sym c.fits_below.ensures ∙ c.if-not-fits_below.true))))
+    sym (under_all at list ∙ list_all_at (λ (pair : Pair). fits_path (at ++ pair.0)) list
+    c.loop-entry.entry-index c.entry-item.result c.loop-entry-test.true
+    (ap (λ (pair : Pair). fits_path (at ++ pair.0)) (sym c.entry-item.is) ∙ (ap (λ p. fits_path
+    (at ++ p)) (sym c.path.ensures) ∙ (sym c.fits_below.ensures ∙ c.if-not-fits_below.true))))

@@ -11,8 +11,10 @@ returns-then-eq c =
     let right = c.args.right.now in
     let same : c.eq.result ≡ eq_by_cmp path_cmp left.0 right.0 = search rules in
     let path = same_path left.0 right.0 (sym same ∙ c.if-eq.true) in (
-      (λ is. ap₂ (λ (p : Path) (d : Content). (p, d)) path (sym c.standing.ensures ∙ (c.same_mark.ensures.0 is ∙ c.standing-then-eq.ensures))),
-      (λ e. c.same_mark.ensures.1 (c.standing.ensures ∙ (ap (λ (x : Pair). x.1) e ∙ sym c.standing-then-eq.ensures))),
+      (λ is. ap₂ (λ (p : Path) (d : Content). (p, d)) path
+          (sym c.standing.ensures ∙ (c.same_mark.ensures.0 is ∙ c.standing-then-eq.ensures))),
+      (λ e. c.same_mark.ensures.1
+          (c.standing.ensures ∙ (ap (λ (x : Pair). x.1) e ∙ sym c.standing-then-eq.ensures))),
     )
 
 pub returns-else-eq : goal.returns-else-eq
@@ -21,5 +23,6 @@ returns-else-eq c =
     let right = c.args.right.now in
     let same : c.eq.result ≡ eq_by_cmp path_cmp left.0 right.0 = search rules in (
       (λ is. absurd (true≢false (sym is ∙ c.if-eq.false))),
-      (λ e. absurd (true≢false (sym (same ∙ (ap (λ (x : Pair). eq_by_cmp path_cmp x.0 right.0) e ∙ path_itself right.0)) ∙ c.if-eq.false))),
+      (λ e. absurd (true≢false (sym (same ∙ (ap (λ (x : Pair). eq_by_cmp path_cmp x.0 right.0) e
+          ∙ path_itself right.0)) ∙ c.if-eq.false))),
     )

@@ -8,10 +8,14 @@ loop-name-init c = c.in_ok-names.ensures.items
 
 pub loop-name-preserved : goal.loop-name-preserved
 loop-name-preserved c =
-    let read = take_more c.args.source.now c.loop-name.name-index c.name-item.result c.loop-name-test.true in
-    c.in_ok-push.ensures.items ∙ (ap₂ (λ xs x. xs ++ x ∷ []) c.loop-name.invariant (c.in_ok-copy.ensures.ok ∙ c.name-item.is) ∙ sym read)
+    let read =
+    take_more c.args.source.now c.loop-name.name-index c.name-item.result c.loop-name-test.true in
+    c.in_ok-push.ensures.items ∙ (ap₂ (λ xs x. xs ++ x ∷ []) c.loop-name.invariant
+    (c.in_ok-copy.ensures.ok ∙ c.name-item.is) ∙ sym read)
 
 pub returns-clause-ok : goal.returns-clause-ok
 returns-clause-ok c =
-    let ended : c.loop-name.name-index ≡ length c.args.source.now = omega (arith, c.loop-name-test.false, c.loop-name.auto.name-index-end) in
-    c.loop-name.invariant ∙ (ap (λ n. take n c.args.source.now) ended ∙ take-length c.args.source.now)
+    let ended : c.loop-name.name-index ≡ length c.args.source.now =
+    omega (arith, c.loop-name-test.false, c.loop-name.auto.name-index-end) in
+    c.loop-name.invariant
+    ∙ (ap (λ n. take n c.args.source.now) ended ∙ take-length c.args.source.now)

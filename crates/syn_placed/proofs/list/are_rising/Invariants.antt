@@ -5,4 +5,5 @@ use Rattle.syn_placed.proofs.LastLemmas.{IsLast}
 use Rattle.syn_placed.proofs.list.are_rising.Given as goal
 
 abbrev pub invariant-loop-entry : goal.invariant-loop-entry
-invariant-loop-entry g l = IsLast (rooted (take l.entry-index l.list)) l.last × Rising (rooted (take l.entry-index l.list))
+invariant-loop-entry g l =
+    IsLast (rooted (take l.entry-index l.list)) l.last × Rising (rooted (take l.entry-index l.list))

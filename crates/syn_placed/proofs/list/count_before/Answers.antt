@@ -13,8 +13,13 @@ returns g c =
     let parts = three_parts at es (rising_of es c.requires) in
     let first = each-filter (is_before at) es in
     let others = none_after at es in
-    let parted : IsPartitionedBy (is_before at) es = subst (IsPartitionedBy (is_before at)) (sym parts) (partitioned (is_before at) (before at es) (within at es ++ behind at es) first others) in
-    let found = IsPartitionPoint-from_clause (is_before at) es c.partition_point.result c.partition_point.ensures.partitioned parted (λ a r q k. search rules) in
-    point (is_before at) (before at es) (within at es ++ behind at es) c.partition_point.result first others
+    let parted : IsPartitionedBy (is_before at) es =
+    subst (IsPartitionedBy (is_before at)) (sym parts)
+    (partitioned (is_before at) (before at es) (within at es ++ behind at es) first others) in
+    let found = IsPartitionPoint-from_clause (is_before at) es c.partition_point.result
+    c.partition_point.ensures.partitioned parted (λ a r q k. search rules) in
+    point (is_before at) (before at es)
+    (within at es ++ behind at es) c.partition_point.result first others
     (subst (λ xs. c.partition_point.result ≤ length xs) parts c.partition_point.ensures.bound)
-    (subst (λ xs. IsPartitionPoint (λ y. is_before at y ≡ true) (λ y. is_before at y ≡ false) xs c.partition_point.result) parts found)
+    (subst (λ xs. IsPartitionPoint (λ y. is_before at y ≡ true)
+    (λ y. is_before at y ≡ false) xs c.partition_point.result) parts found)

@@ -5,8 +5,11 @@ use Rattle.syn_placed.proofs.list.is_directory.Goals as goal
 
 pub returns-in-Some : goal.returns-in-Some
 returns-in-Some g c =
-    c.is_directory.ensures ∙ (ap (λ x. is_directory_content (Some x)) c.standing.ensures ∙ ap is_directory_content (c.in-Some.ensures ∙ sym (below_root c.args.names.now c.args.list.now (sym c.is_empty.ensures ∙ c.if-is_empty.false))))
+    c.is_directory.ensures ∙ (ap (λ x. is_directory_content (Some x)) c.standing.ensures
+    ∙ ap is_directory_content (c.in-Some.ensures ∙ sym
+    (below_root c.args.names.now c.args.list.now (sym c.is_empty.ensures ∙ c.if-is_empty.false))))
 
 pub returns-in-None : goal.returns-in-None
 returns-in-None g c =
-    ap is_directory_content (c.in-None.ensures ∙ sym (below_root c.args.names.now c.args.list.now (sym c.is_empty.ensures ∙ c.if-is_empty.false)))
+    ap is_directory_content (c.in-None.ensures ∙ sym
+    (below_root c.args.names.now c.args.list.now (sym c.is_empty.ensures ∙ c.if-is_empty.false)))

@@ -6,4 +6,5 @@ use Rattle.syn_placed.proofs.list.parent_names.Goals as goal
 pub returns-in-len1-up : goal.returns-in-len1-up
 returns-in-len1-up c =
     let names = c.names.result.now in
-    parent-take names (length names - 1) (omega (arith, c.in-len1-up.len_at_least)) ∙ ap parent c.names.ensures.names
+    parent-take names (length names - 1) (omega (arith, c.in-len1-up.len_at_least))
+    ∙ ap parent c.names.ensures.names

@@ -4,8 +4,11 @@ use Rattle.syn_placed.proofs.list.put_in.Goals as goal
 
 pub returns-clause-items : goal.returns-clause-items
 returns-clause-items g c =
-    let joined : c.append.new.self.items ≡ c.args.list.now.items ++ c.args.added.items = search rules in
-    run_put_in c.args.list.now.items c.args.added.items c.append.new.self.items c.split_at_mut-tail.result.0.now c.split_at_mut-tail.result.1.now c.rotate_right.new.self c.args.at c.append.new.self.len c.len-more.result
+    let joined : c.append.new.self.items ≡ c.args.list.now.items ++ c.args.added.items =
+    search rules in
+    run_put_in c.args.list.now.items c.args.added.items c.append.new.self.items
+    c.split_at_mut-tail.result.0.now c.split_at_mut-tail.result.1.now c.rotate_right.new.self
+    c.args.at c.append.new.self.len c.len-more.result
     (omega (arith, c.requires.bounds, c.args.list.now.ok))
     joined
     (omega (arith, c.append.new.self.ok))

@@ -15,4 +15,6 @@ the_test false t u h = by_case (is_same_tree t u) refl
     by_case false e = refl
 
 pub returns : goal.returns
-returns c = the_test c.is_same_at.result (subtree c.args.left.now c.args.path.now) (subtree c.args.right.now c.args.path.now) c.is_same_at.ensures
+returns c =
+    the_test c.is_same_at.result (subtree c.args.left.now c.args.path.now)
+    (subtree c.args.right.now c.args.path.now) c.is_same_at.ensures

@@ -10,8 +10,11 @@ abbrev pub invariant-loop-touched : goal.invariant-loop-touched
 invariant-loop-touched l = record {
   left : l.left_at ≤ length l.fn.lefts;
   right : l.right_at ≤ length l.fn.rights;
-  items : items_of l.items.items ++ walk (decided (scan_of l.fn.left) (scan_of l.fn.right) l.fn.archive) (merged (paths_at (drop l.left_at l.fn.lefts)) (paths_at (drop l.right_at l.fn.rights))) (target l.settled)
-      ≡ walk (decided (scan_of l.fn.left) (scan_of l.fn.right) l.fn.archive) (merged (paths_at l.fn.lefts) (paths_at l.fn.rights)) None;
+  items : items_of l.items.items
+      ++ walk (decided (scan_of l.fn.left) (scan_of l.fn.right) l.fn.archive)
+      (merged (paths_at (drop l.left_at l.fn.lefts)) (paths_at (drop l.right_at l.fn.rights)))
+      (target l.settled) ≡ walk (decided (scan_of l.fn.left) (scan_of l.fn.right) l.fn.archive)
+      (merged (paths_at l.fn.lefts) (paths_at l.fn.rights)) None;
 }
 
 abbrev pub decreases-loop-touched : goal.decreases-loop-touched

@@ -15,8 +15,13 @@ returns-clause-ok c =
     let right = c.args.right.now in
     let archive = c.args.archive.now in
     let decide = decided (scan_of left) (scan_of right) archive in
-    IfOk-weaker c.items_along.result (λ items. items_of items.items ≡ walk decide (merged (paths_at c.deref.result.now) (paths_at c.deref-2.result.now)) None)
+    IfOk-weaker c.items_along.result (λ items. items_of items.items
+    ≡ walk decide (merged (paths_at c.deref.result.now) (paths_at c.deref-2.result.now)) None)
     (λ items. items_of items.items ≡ plan (scan_of left) (scan_of right) archive)
-    (λ items is. is ∙ (ap₂ (λ ls rs. walk decide (merged (paths_at ls) (paths_at rs)) None) c.deref.ensures.value c.deref-2.ensures.value
-    ∙ plan_is_walk left right archive (paths_at c.in_ok-lefts.lefts.items) (paths_at c.in_ok-rights.rights.items) c.tree.ensures.found c.tree-2.ensures.found c.as_slice.ensures.marks.part.parents c.as_slice.ensures.fits c.in_ok-lefts.ensures.ok c.in_ok-rights.ensures.ok))
+    (λ items is. is ∙ (ap₂ (λ ls rs. walk decide (merged (paths_at ls) (paths_at rs)) None)
+    c.deref.ensures.value c.deref-2.ensures.value
+    ∙ plan_is_walk left right archive (paths_at c.in_ok-lefts.lefts.items)
+    (paths_at c.in_ok-rights.rights.items) c.tree.ensures.found c.tree-2.ensures.found
+    c.as_slice.ensures.marks.part.parents c.as_slice.ensures.fits c.in_ok-lefts.ensures.ok
+    c.in_ok-rights.ensures.ok))
     c.items_along.ensures.ok

@@ -10,7 +10,8 @@ returns-in_default-read_verb-clause-bad c =
     let words = c.args.words.now in
     let text = λ (word : Bor (List ℕ)). word.now in
     let d : Bor (List ℕ) = record { ref_ptr = (0, 0); now = [] } in
-    rw (first_word text words d (omega arith)) (λ e. no_verb _ _ c.in_default-read_verb.ensures.none)
+    rw (first_word text words d (omega arith))
+    (λ e. no_verb _ _ c.in_default-read_verb.ensures.none)
 
 pub returns-clause-bad : goal.returns-clause-bad
 returns-clause-bad c =
@@ -18,5 +19,7 @@ returns-clause-bad c =
     let text = λ (word : Bor (List ℕ)). word.now in
     let d : Bor (List ℕ) = record { ref_ptr = (0, 0); now = [] } in
     let rest = map text (take (length words - 1) (drop 1 words)) in
-    let parts = first_word text words d (omega arith) ∙ ap (λ (word : Text). word ∷ rest) c.in-Some.ensures.some in
-    IfErr-weaker c.read_behind.result _ _ (λ e bad why. rw parts (nothing_said _ _ (bad why))) c.read_behind.ensures.bad
+    let parts = first_word text words d (omega arith)
+    ∙ ap (λ (word : Text). word ∷ rest) c.in-Some.ensures.some in
+    IfErr-weaker c.read_behind.result _ _
+    (λ e bad why. rw parts (nothing_said _ _ (bad why))) c.read_behind.ensures.bad

@@ -7,5 +7,6 @@ use Rattle.syn_show.proofs.lines.file_line.Goals as goal
 
 pub returns : goal.returns
 returns c =
-    let hex : encode_lower (sha256 c.args.bytes.now) ≡ string_bytes c.in_ok-digest.digest = sym (c.in_ok-digest.ensures ∙ ap encode_lower c.digest.ensures) in
+    let hex : encode_lower (sha256 c.args.bytes.now) ≡ string_bytes c.in_ok-digest.digest =
+    sym (c.in_ok-digest.ensures ∙ ap encode_lower c.digest.ensures) in
     IfOk-weaker c.format.result _ _ (λ line told. rw hex told) c.format.ensures.ok

@@ -15,7 +15,8 @@ pub returns-clause-one : goal.returns-clause-one
 returns-clause-one c =
     let laws = c.history_laws.ensures in
     let trees = c.tree_laws.ensures in
-    one_given (events_told c.spelling_laws.ensures.event) (spelled_one laws.put trees.there trees.fits trees.fits_paths) c.image_laws.ensures.image
+    one_given (events_told c.spelling_laws.ensures.event)
+    (spelled_one laws.put trees.there trees.fits trees.fits_paths) c.image_laws.ensures.image
 
 pub returns-clause-short : goal.returns-clause-short
 returns-clause-short c =

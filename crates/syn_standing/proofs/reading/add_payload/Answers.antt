@@ -9,7 +9,12 @@ pub returns-in-Err-clause-damaged : goal.returns-in-Err-clause-damaged
 returns-in-Err-clause-damaged c damaged event e allowed =
     let laws = c.opening_laws.ensures in
     let old = c.args.standing.now in
-    let read = subst (λ o. IsEventOf c.args.payload.now (option_map event_of o)) c.in-Some.is c.in_ok-event.ensures in
-    let same = laws.told (event_of c.in-Some.event) event read.0 (laws.spelled old event allowed) (sym read.1 ∙ e) in
+    let read = subst (λ o. IsEventOf c.args.payload.now (option_map event_of o)) c.in-Some.is
+    c.in_ok-event.ensures in
+    let same = laws.told (event_of c.in-Some.event) event read.0 (laws.spelled old event allowed)
+    (sym read.1 ∙ e) in
     let none = ap (λ x. refusal_at old x) same ∙ allowed.not_refused in
-    elim c.in-Err.ensures.refused [ inl memory ↦ c.damage.ensures.damaged damaged memory | inr cause ↦ none-some _ (sym none ∙ cause) ]
+    elim c.in-Err.ensures.refused [
+      | inl memory ↦ c.damage.ensures.damaged damaged memory
+      | inr cause ↦ none-some _ (sym none ∙ cause)
+    ]

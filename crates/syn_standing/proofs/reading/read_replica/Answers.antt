@@ -13,7 +13,9 @@ returns-then-is_other-clause-other c other =
       pair = c.in_ok-pair.pair;
       fits = is.fits;
       standing = c.in_ok-standing.standing;
-      gives = gives_of c.args.image.now (bytes_of_each c.args.payloads.now) c.in_ok-pair.pair c.in_ok-pair.first c.in_ok-standing.standing is c.in_ok-standing.ensures.replays;
+      gives =
+          gives_of c.args.image.now (bytes_of_each c.args.payloads.now) c.in_ok-pair.pair
+          c.in_ok-pair.first c.in_ok-standing.standing is c.in_ok-standing.ensures.replays;
       asked = asked.0;
       wanted_is = asked.1;
       differ = asked.2;
@@ -21,25 +23,35 @@ returns-then-is_other-clause-other c other =
 
 pub returns-in_err-standing-clause-damaged : goal.returns-in_err-standing-clause-damaged
 returns-in_err-standing-clause-damaged c =
-    let p = err_from_is_err_and c.from_residual-in_err-standing.result c.from_residual-in_err-standing.ensures.1 in
+    let p = err_from_is_err_and c.from_residual-in_err-standing.result
+    c.from_residual-in_err-standing.ensures.1 in
     let is = c.in_ok-pair.ensures.read in
     let image = c.args.image.now in
     rw (p.1, p.2) (λ damaged pair standing fits gives.
-    let same = same_image c.opening_laws.ensures.one image pair c.in_ok-pair.pair gives.first c.in_ok-pair.first (record { fits = fits; sound = gives.sound; spelled = gives.image_is }) is in
-    c.in_err-standing.ensures.damaged damaged gives.events (subst (λ s. AllAllowedAt s gives.events) same gives.allowed) gives.payloads_are)
+    let same = same_image c.opening_laws.ensures.one image pair c.in_ok-pair.pair
+    gives.first c.in_ok-pair.first
+    (record { fits = fits; sound = gives.sound; spelled = gives.image_is }) is in
+    c.in_err-standing.ensures.damaged damaged gives.events
+    (subst (λ s. AllAllowedAt s gives.events) same gives.allowed) gives.payloads_are)
 
 pub returns-clause-one : goal.returns-clause-one
 returns-clause-one c pair standing fits gives =
     let is = c.in_ok-pair.ensures.read in
     let payloads = bytes_of_each c.args.payloads.now in
-    c.opening_laws.ensures.one c.args.image.now payloads pair c.in_ok-pair.pair standing c.in_ok-standing.standing fits is.fits gives
-    (gives_of c.args.image.now payloads c.in_ok-pair.pair c.in_ok-pair.first c.in_ok-standing.standing is c.in_ok-standing.ensures.replays)
+    c.opening_laws.ensures.one c.args.image.now payloads pair c.in_ok-pair.pair standing
+    c.in_ok-standing.standing fits is.fits gives
+    (gives_of c.args.image.now payloads c.in_ok-pair.pair c.in_ok-pair.first
+    c.in_ok-standing.standing is c.in_ok-standing.ensures.replays)
 
 pub returns-in_err-standing-clause-wrong_pair : goal.returns-in_err-standing-clause-wrong_pair
 returns-in_err-standing-clause-wrong_pair c other =
-    let p = err_from_is_err_and c.from_residual-in_err-standing.result c.from_residual-in_err-standing.ensures.1 in
+    let p = err_from_is_err_and c.from_residual-in_err-standing.result
+    c.from_residual-in_err-standing.ensures.1 in
     let is = c.in_ok-pair.ensures.read in
     let gives = other.gives in
-    let same = same_image c.opening_laws.ensures.one c.args.image.now other.pair c.in_ok-pair.pair gives.first c.in_ok-pair.first (record { fits = other.fits; sound = gives.sound; spelled = gives.image_is }) is in
+    let same = same_image c.opening_laws.ensures.one c.args.image.now other.pair c.in_ok-pair.pair
+    gives.first c.in_ok-pair.first
+    (record { fits = other.fits; sound = gives.sound; spelled = gives.image_is }) is in
     rw (p.1, p.2) (memory_else c.in_err-standing.field-0.0 c.in_err-standing.ensures.refusals
-    (λ damaged. c.in_err-standing.ensures.damaged damaged gives.events (subst (λ s. AllAllowedAt s gives.events) same gives.allowed) gives.payloads_are))
+    (λ damaged. c.in_err-standing.ensures.damaged damaged gives.events
+    (subst (λ s. AllAllowedAt s gives.events) same gives.allowed) gives.payloads_are))

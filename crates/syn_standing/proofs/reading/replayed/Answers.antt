@@ -16,10 +16,13 @@ loop-payload-preserved c =
     let payloads = c.args.payloads.now in
     let read = bytes_of_each (take i payloads) in
     let new = c.add_payload.new.standing in
-    let adds = subst (λ p. AddsEvent c.loop-payload.standing p new) c.deref.ensures.value c.in_ok-add_payload.ensures.added in
-    let more = replays_more c.args.first c.loop-payload.standing new read c.payload-item.result.items c.loop-payload.invariant adds in
+    let adds = subst (λ p. AddsEvent c.loop-payload.standing p new) c.deref.ensures.value
+    c.in_ok-add_payload.ensures.added in
+    let more = replays_more c.args.first c.loop-payload.standing new read
+    c.payload-item.result.items c.loop-payload.invariant adds in
     subst (λ xs. Replays c.args.first xs new)
-    (sym (map_more (λ p. p.items) payloads i c.payload-item.result c.loop-payload-test.true ∙ ap (λ p. read ++ p.items ∷ []) (sym c.payload-item.is))) more
+    (sym (map_more (λ p. p.items) payloads i c.payload-item.result c.loop-payload-test.true
+    ∙ ap (λ p. read ++ p.items ∷ []) (sym c.payload-item.is))) more
 
 pub returns-in_err-add_payload-clause-damaged : goal.returns-in_err-add_payload-clause-damaged
 returns-in_err-add_payload-clause-damaged c =
@@ -29,7 +32,10 @@ returns-in_err-add_payload-clause-damaged c =
     let payloads = c.args.payloads.now in
     let payload = c.payload-item.result in
     let read = c.loop-payload.invariant in
-    let parts = row_parts payloads i payload read.events c.loop-payload-test.true c.payload-item.is read.spelled in
+    let parts = row_parts payloads i payload read.events c.loop-payload-test.true c.payload-item.is
+    read.spelled in
     rw (p.1, p.2) (λ is events all spelled.
-    let next = next_event laws.told laws.spelled c.args.first events read.events payload.items (bytes_of_each (drop (i + 1) payloads)) all read.allowed (sym spelled ∙ parts) in
-    c.in_err-add_payload.ensures.damaged is next.0 (c.deref.ensures.value ∙ next.1) (subst (λ s. IsAllowedAt s next.0) (sym read.gives) next.2))
+    let next = next_event laws.told laws.spelled c.args.first events read.events payload.items
+    (bytes_of_each (drop (i + 1) payloads)) all read.allowed (sym spelled ∙ parts) in
+    c.in_err-add_payload.ensures.damaged is next.0 (c.deref.ensures.value ∙ next.1)
+    (subst (λ s. IsAllowedAt s next.0) (sym read.gives) next.2))

@@ -3,4 +3,5 @@ use Rattle.syn_standing.specs.Readings.{Replays, bytes_of_each}
 use Rattle.syn_standing.proofs.reading.replayed.Given as goal
 
 abbrev pub invariant-loop-payload : goal.invariant-loop-payload
-invariant-loop-payload l = Replays l.fn.first (bytes_of_each (take l.payload-index l.payloads)) l.standing
+invariant-loop-payload l =
+    Replays l.fn.first (bytes_of_each (take l.payload-index l.payloads)) l.standing

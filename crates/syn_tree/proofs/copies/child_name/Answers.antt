@@ -11,21 +11,27 @@ use Rattle.syn_tree.proofs.copies.child_name.Goals as goal
 pub returns-in-empty : goal.returns-in-empty
 returns-in-empty c =
     let path = c.names.ensures.names in
-    let none = no_child c.args.above.now c.args.path.now (subst (λ q. length q < 1) path c.in-empty.len_below) in
+    let none = no_child c.args.above.now c.args.path.now
+    (subst (λ q. length q < 1) path c.in-empty.len_below) in
     sym (not_named c.args.above.now c.args.path.now none)
 
 pub returns-then-eq : goal.returns-then-eq
 returns-then-eq c =
     let names = c.names.result.now in
     let path = c.names.ensures.names in
-    let same : c.eq.result ≡ eq_by_cmp path_cmp (take (length names - 1) names) c.args.above.now = search rules in
-    let one = named_last c.args.above.now names (length names - 1) c.name-item.result (omega (arith, c.in-len1-up.len_at_least)) c.name-item.is (sym same ∙ c.if-eq.true) in
+    let same : c.eq.result ≡ eq_by_cmp path_cmp (take (length names - 1) names) c.args.above.now =
+    search rules in
+    let one = named_last c.args.above.now names (length names - 1) c.name-item.result
+    (omega (arith, c.in-len1-up.len_at_least)) c.name-item.is (sym same ∙ c.if-eq.true) in
     sym (ap (λ q. option_and_then only_name (strip_prefix c.args.above.now q)) (sym path) ∙ one)
 
 pub returns-else-eq : goal.returns-else-eq
 returns-else-eq c =
     let names = c.names.result.now in
     let path = c.names.ensures.names in
-    let same : c.eq.result ≡ eq_by_cmp path_cmp (take (length names - 1) names) c.args.above.now = search rules in
-    let none = ap (is_child c.args.above.now) (sym path) ∙ (sym (child-take c.args.above.now names (length names - 1) (omega (arith, c.in-len1-up.len_at_least))) ∙ (sym same ∙ c.if-eq.false)) in
+    let same : c.eq.result ≡ eq_by_cmp path_cmp (take (length names - 1) names) c.args.above.now =
+    search rules in
+    let none = ap (is_child c.args.above.now) (sym path)
+    ∙ (sym (child-take c.args.above.now names (length names - 1)
+    (omega (arith, c.in-len1-up.len_at_least))) ∙ (sym same ∙ c.if-eq.false)) in
     sym (not_named c.args.above.now c.args.path.now none)

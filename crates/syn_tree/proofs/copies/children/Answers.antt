@@ -1,4 +1,5 @@
-use Rattle.std.proofs.Common.{◌≡◌, ◌++◌, ◌∷◌, [], Some, None, option_map, take, length, sym, ap, ◌∙◌, append-nil, arith}
+use Rattle.std.proofs.Common.{◌≡◌, ◌++◌, ◌∷◌, [], Some, None, option_map, take, length, sym, ap}
+use Rattle.std.proofs.Common.{◌∙◌, append-nil, arith}
 use Rattle.std.proofs.Math.Seq.{take-length}
 use Rattle.std.proofs.lemmas.List.{map-append}
 use Rattle.std.specs.Prelude.{option_and_then}
@@ -20,20 +21,28 @@ loop-entry-preserved g c =
     let x = c.entry-item.result in
     let more = contents-more above list i x c.loop-entry-test.true c.entry-item.is in
     let read = child_contents above (take i list) in
-    let named : option_and_then only_name (strip_prefix above x.0) ≡ option_map (λ name. name.now) c.child_name.result =
-    sym (c.child_name.ensures ∙ ap (λ q. option_and_then only_name (strip_prefix above q)) c.path.ensures) in
+    let named : option_and_then only_name (strip_prefix above x.0)
+    ≡ option_map (λ name. name.now) c.child_name.result =
+    sym (c.child_name.ensures
+    ∙ ap (λ q. option_and_then only_name (strip_prefix above q)) c.path.ensures) in
     elim c.match-child_name.branch [
       | in-Some+in_ok-copy+in_ok-push w ↦
           let name = w.in_ok-copy.field-0 in
-          let one = one_more above x (Some name) (named ∙ (ap (option_map (λ name. name.now)) w.in-Some.is ∙ ap (λ n. Some n) (sym w.in_ok-copy.ensures.ok))) in
+          let one = one_more above x (Some name) (named ∙ (ap (option_map (λ name. name.now))
+          w.in-Some.is ∙ ap (λ n. Some n) (sym w.in_ok-copy.ensures.ok))) in
           rw w.found-is (ap contents_at w.in_ok-push.ensures.items
-          ∙ (map-append _ c.loop-entry.found.items _ ∙ (ap (λ ys. ys ++ (name, x.1) ∷ []) c.loop-entry.invariant ∙ (ap (λ ys. read ++ ys) (sym one) ∙ sym more))))
+          ∙ (map-append _ c.loop-entry.found.items _ ∙ (ap (λ ys. ys ++ (name, x.1) ∷ [])
+          c.loop-entry.invariant ∙ (ap (λ ys. read ++ ys) (sym one) ∙ sym more))))
       | in_default w ↦
-          let none = one_more above x None (named ∙ ap (option_map (λ name. name.now)) w.in_default.is) in
-          rw w.found-is (c.loop-entry.invariant ∙ (sym (append-nil read) ∙ (ap (λ ys. read ++ ys) (sym none) ∙ sym more)))
+          let none = one_more above x None
+          (named ∙ ap (option_map (λ name. name.now)) w.in_default.is) in
+          rw w.found-is (c.loop-entry.invariant
+          ∙ (sym (append-nil read) ∙ (ap (λ ys. read ++ ys) (sym none) ∙ sym more)))
     ]
 
 pub returns-clause-ok : goal.returns-clause-ok
 returns-clause-ok g c =
-    let ended : c.loop-entry.entry-index ≡ length c.args.list.now = omega (arith, c.loop-entry-test.false, c.loop-entry.auto.entry-index-end) in
-    c.loop-entry.invariant ∙ ap (child_contents c.args.above.now) (ap (λ n. take n c.args.list.now) ended ∙ take-length c.args.list.now)
+    let ended : c.loop-entry.entry-index ≡ length c.args.list.now =
+    omega (arith, c.loop-entry-test.false, c.loop-entry.auto.entry-index-end) in
+    c.loop-entry.invariant ∙ ap (child_contents c.args.above.now)
+    (ap (λ n. take n c.args.list.now) ended ∙ take-length c.args.list.now)

@@ -6,4 +6,5 @@ use Rattle.syn_tree.proofs.placing.placed.Goals as goal
 
 pub returns-in-None-clause-ok : goal.returns-in-None-clause-ok
 returns-in-None-clause-ok c =
-    subst (λ o. IsPlaceable c.args.at.now (part_of o) c.new.result.items) (sym c.in-None.is) (placeable_none c.args.at.now c.new.result.items c.is_path.ensures c.new.ensures.items)
+    subst (λ o. IsPlaceable c.args.at.now (part_of o) c.new.result.items) (sym c.in-None.is)
+    (placeable_none c.args.at.now c.new.result.items c.is_path.ensures c.new.ensures.items)

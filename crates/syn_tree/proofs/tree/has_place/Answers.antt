@@ -15,10 +15,12 @@ pub returns-then-part-lt-MOST_CHILDREN : goal.returns-then-part-lt-MOST_CHILDREN
 returns-then-part-lt-MOST_CHILDREN c =
     let p = c.args.above.now in
     let part = c.part_at-part.result.now in
-    both_few (length part) (kids p part) c.if-part-lt-MOST_CHILDREN.true (count_by-le-length (λ e. is_child p e.0) part)
+    both_few (length part) (kids p part) c.if-part-lt-MOST_CHILDREN.true
+    (count_by-le-length (λ e. is_child p e.0) part)
     ∙ ap (λ n. nat_lt n 256) (ap (kids p) c.part_at-part.ensures ∙ kids-within p c.args.list.now)
 
 pub returns-else-part-lt-MOST_CHILDREN : goal.returns-else-part-lt-MOST_CHILDREN
 returns-else-part-lt-MOST_CHILDREN c =
     let p = c.args.above.now in
-    ap (λ n. nat_lt n 256) (c.count_children.ensures ∙ (ap (kids p) c.part_at-part.ensures ∙ kids-within p c.args.list.now))
+    ap (λ n. nat_lt n 256) (c.count_children.ensures
+    ∙ (ap (kids p) c.part_at-part.ensures ∙ kids-within p c.args.list.now))

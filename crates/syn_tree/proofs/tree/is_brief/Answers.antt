@@ -6,7 +6,11 @@ use Rattle.syn_placed.proofs.TreeLemmas.{entries-absent}
 use Rattle.syn_tree.proofs.tree.is_brief.Goals as goal
 
 pub returns-in-None-clause-brief : goal.returns-in-None-clause-brief
-returns-in-None-clause-brief c h = ap (λ o. fits_part (part_of (option_map (λ there. there.now) o))) c.in-None.is ∙ ap (list_all _) entries-absent
+returns-in-None-clause-brief c h =
+    ap (λ o. fits_part (part_of (option_map (λ there. there.now) o))) c.in-None.is
+    ∙ ap (list_all _) entries-absent
 
 pub returns-in-None-clause-paths : goal.returns-in-None-clause-paths
-returns-in-None-clause-paths c = ap (λ o. fits_paths (part_of (option_map (λ there. there.now) o))) c.in-None.is ∙ ap (list_all (λ pair. fits_path pair.0)) entries-absent
+returns-in-None-clause-paths c =
+    ap (λ o. fits_paths (part_of (option_map (λ there. there.now) o))) c.in-None.is
+    ∙ ap (list_all (λ pair. fits_path pair.0)) entries-absent

@@ -12,11 +12,17 @@ pub returns-in_default : goal.returns-in_default
 returns-in_default c =
     replaced_none c.args.fields.now
     (first_none IsSince IsOptionalTree since_spelling spelling c.args.fields.now
-    (subst (λ o. IsReading IsSince since_spelling c.args.fields.now (option_map (λ found. (((token_of found.0, found.1), found.2), found.3.now)) o)) c.in_default.is c.in_ok-token.ensures))
+    (subst (λ o. IsReading IsSince since_spelling c.args.fields.now
+    (option_map (λ found. (((token_of found.0, found.1), found.2), found.3.now)) o))
+    c.in_default.is c.in_ok-token.ensures))
 
 pub returns-in-None : goal.returns-in-None
 returns-in-None c =
-    let since = subst (λ o. IsReading IsSince since_spelling c.args.fields.now (option_map (λ found. (((token_of found.0, found.1), found.2), found.3.now)) o)) c.in-Some.is c.in_ok-token.ensures in
-    let none = subst (λ o. IsReading IsOptionalTree spelling c.in-Some.after.now (option_map (λ found. (part_of found.0, found.1.now)) o)) c.in-None.is c.in_ok-new.ensures in
+    let since = subst (λ o. IsReading IsSince since_spelling c.args.fields.now
+    (option_map (λ found. (((token_of found.0, found.1), found.2), found.3.now)) o)) c.in-Some.is
+    c.in_ok-token.ensures in
+    let none = subst (λ o. IsReading IsOptionalTree spelling c.in-Some.after.now
+    (option_map (λ found. (part_of found.0, found.1.now)) o)) c.in-None.is c.in_ok-new.ensures in
     replaced_none c.args.fields.now
-    (second_none IsSince IsOptionalTree since_spelling spelling since_tells c.args.fields.now c.in-Some.after.now ((token_of c.in-Some.token, c.in-Some.path), c.in-Some.since) since none)
+    (second_none IsSince IsOptionalTree since_spelling spelling since_tells c.args.fields.now
+    c.in-Some.after.now ((token_of c.in-Some.token, c.in-Some.path), c.in-Some.since) since none)

@@ -1,4 +1,5 @@
-use Rattle.std.proofs.Common.{◌-◌, ◌∷◌, ◌++◌, length, option_map, subst, sym, ap, ◌∙◌, take, drop, slice_index_or, arith}
+use Rattle.std.proofs.Common.{◌-◌, ◌∷◌, ◌++◌, length, option_map, subst, sym, ap, ◌∙◌, take, drop}
+use Rattle.std.proofs.Common.{slice_index_or, arith}
 use Rattle.syn_model.specs.MarkSpelling.{mark_spelling}
 use Rattle.syn_wire.specs.Marks.{IsMarkTree}
 use Rattle.syn_wire.specs.Reads.{IsReading}
@@ -16,11 +17,15 @@ returns-in-0 c =
     let rest = take (length bytes - 1) (drop 1 bytes) in
     record {
       lawful = nothing_lawful;
-      spelled = first_and_rest bytes c.in-len1-up.len_at_least ∙ (ap (λ kind. kind ∷ rest) c.in-0.is ∙ sym (ap (λ b. b ++ rest) no_marks));
+      spelled =
+          first_and_rest bytes c.in-len1-up.len_at_least
+          ∙ (ap (λ kind. kind ∷ rest) c.in-0.is ∙ sym (ap (λ b. b ++ rest) no_marks));
     }
 
 pub returns-in-None : goal.returns-in-None
 returns-in-None c =
     let bytes = c.args.bytes.now in
-    no_marks_there bytes (take (length bytes - 1) (drop 1 bytes)) (slice_index_or bytes 0 0) (first_and_rest bytes c.in-len1-up.len_at_least) (λ zero. omega (arith, zero))
-    (subst (λ o. IsReading IsMarkTree mark_spelling bytes (option_map (λ found. (found.0, found.1.now)) o)) c.in-None.is c.in_ok-marks-in_default-kind.ensures)
+    no_marks_there bytes (take (length bytes - 1) (drop 1 bytes)) (slice_index_or bytes 0 0)
+    (first_and_rest bytes c.in-len1-up.len_at_least) (λ zero. omega (arith, zero))
+    (subst (λ o. IsReading IsMarkTree mark_spelling bytes (option_map
+    (λ found. (found.0, found.1.now)) o)) c.in-None.is c.in_ok-marks-in_default-kind.ensures)

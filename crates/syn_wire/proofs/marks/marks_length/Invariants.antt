@@ -5,6 +5,7 @@ use Rattle.syn_wire.proofs.marks.marks_length.Given as goal
 
 abbrev pub invariant-loop-entry : goal.invariant-loop-entry
 invariant-loop-entry l = record {
-  so_far : l.length ≡ length (flat_map (pair_by digest_spelling l.marks) (take l.entry-index l.list));
+  so_far : l.length ≡ length
+      (flat_map (pair_by digest_spelling l.marks) (take l.entry-index l.list));
   small : l.length ≤ 98 * l.entry-index;
 }

@@ -6,4 +6,5 @@ use Rattle.syn_wire.proofs.marks.write_optional_marks.Goals as goal
 
 pub returns-in_ok-push-in-None-clause-added : goal.returns-in_ok-push-in-None-clause-added
 returns-in_ok-push-in-None-clause-added c =
-    c.in_ok-push-in-None.ensures.items ∙ ap (λ b. c.args.out.now.items ++ b) (sym no_marks ∙ ap (λ o. mark_spelling (or_absent (option_map (λ there. there.now) o))) (sym c.in-None.is))
+    c.in_ok-push-in-None.ensures.items ∙ ap (λ b. c.args.out.now.items ++ b) (sym no_marks
+    ∙ ap (λ o. mark_spelling (or_absent (option_map (λ there. there.now) o))) (sym c.in-None.is))

@@ -12,7 +12,8 @@ use Rattle.syn_wire.proofs.tree.write_present.Goals as goal
 
 pub write_file-requires : goal.write_file-requires
 write_file-requires c =
-    let brief = file_brief c.in-File.bytes.items (ap (λ n. fits_part (node_tree n)) (sym c.in-File.is) ∙ c.requires) in
+    let brief = file_brief c.in-File.bytes.items
+    (ap (λ n. fits_part (node_tree n)) (sym c.in-File.is) ∙ c.requires) in
     let long = ap length c.deref.ensures.value in
     omega (arith, brief, long)
 
@@ -23,10 +24,13 @@ returns-in_ok-push-in-File-clause-added c =
     let spelled = ap (λ n. spelling (node_tree n)) c.in-File.is ∙ file_spelled bytes in
     on_ok_weaker c.write_file.result (λ e.
     e ∙ (ap₂ (λ x y. x ++ file_spelling y) c.in_ok-push-in-File.ensures.items c.deref.ensures.value
-    ∙ (append_assoc out (1 ∷ []) (file_spelling bytes) ∙ ap (λ b. out ++ b) (sym spelled)))) c.write_file.ensures.added
+    ∙ (append_assoc out (1 ∷ []) (file_spelling bytes) ∙ ap (λ b. out ++ b) (sym spelled))))
+    c.write_file.ensures.added
 
 pub returns-in_ok-push-in-File-clause-lawful : goal.returns-in_ok-push-in-File-clause-lawful
 returns-in_ok-push-in-File-clause-lawful c =
     let bytes = c.in-File.bytes.items in
-    let part = lawful_part (File (contents_of bytes)) (subst AreBytes c.deref.ensures.value c.write_file.ensures.lawful) in
-    on_ok_weaker c.write_file.result (λ _. subst (λ n. IsPart (node_tree n)) (sym c.in-File.is) part) c.write_file.ensures.added
+    let part = lawful_part (File (contents_of bytes))
+    (subst AreBytes c.deref.ensures.value c.write_file.ensures.lawful) in
+    on_ok_weaker c.write_file.result
+    (λ _. subst (λ n. IsPart (node_tree n)) (sym c.in-File.is) part) c.write_file.ensures.added

@@ -10,4 +10,5 @@ returns-in_default c = none_without_kind IsWholeTree c.args.bytes.now c.in_defau
 pub returns-in_default-kind : goal.returns-in_default-kind
 returns-in_default-kind c =
     let bytes = c.args.bytes.now in
-    no_whole_of_kind bytes (take (length bytes - 1) (drop 1 bytes)) (slice_index_or bytes 0 0) (first_and_rest bytes c.in-len1-up.len_at_least) (λ two. omega (arith, two))
+    no_whole_of_kind bytes (take (length bytes - 1) (drop 1 bytes)) (slice_index_or bytes 0 0)
+    (first_and_rest bytes c.in-len1-up.len_at_least) (λ two. omega (arith, two))

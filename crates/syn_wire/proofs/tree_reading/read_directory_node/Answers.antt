@@ -7,4 +7,6 @@ use Rattle.syn_wire.proofs.tree_reading.read_directory_node.Goals as goal
 
 pub returns-in-None : goal.returns-in-None
 returns-in-None c =
-    directory_none c.args.fields.now (subst (λ o. IsReading IsDirectoryTree spelling (2 ∷ c.args.fields.now) (option_map (λ found. (found.0, found.1.now)) o)) c.in-None.is c.in_ok-entries.ensures)
+    directory_none c.args.fields.now
+    (subst (λ o. IsReading IsDirectoryTree spelling (2 ∷ c.args.fields.now)
+    (option_map (λ found. (found.0, found.1.now)) o)) c.in-None.is c.in_ok-entries.ensures)

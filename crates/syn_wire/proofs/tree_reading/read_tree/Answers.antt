@@ -11,5 +11,8 @@ full_only e = cc
 
 pub returns-in-Err-Full : goal.returns-in-Err-Full
 returns-in-Err-Full c =
-    let found = subst (λ o. IsReading IsDirectoryTree spelling (2 ∷ c.args.fields.now) (option_map (λ found. (found.0, found.1.now)) o)) c.in-Some.is c.in_ok-entries.ensures in
-    full_whole c.spelling_laws.ensures.tree c.args.fields.now c.in-Some.rest.now c.in-Some.entries found (c.in-Err-Full.ensures.refused (λ memory. full_only (sym c.in-Err-Full.field-0-is ∙ memory))).1
+    let found = subst (λ o. IsReading IsDirectoryTree spelling (2 ∷ c.args.fields.now)
+    (option_map (λ found. (found.0, found.1.now)) o)) c.in-Some.is c.in_ok-entries.ensures in
+    full_whole c.spelling_laws.ensures.tree c.args.fields.now c.in-Some.rest.now c.in-Some.entries
+    found (c.in-Err-Full.ensures.refused
+    (λ memory. full_only (sym c.in-Err-Full.field-0-is ∙ memory))).1

@@ -16,9 +16,13 @@ loop-value-preserved c =
     let rule_is : rule_of c.help.result ≡ required_rule (name_of here) = search rules in
     let added : app_of c.in_ok-command.command
     ≡ with_rule (named_app (word_of c.args.verb) (take at values)) (required_rule (name_of here)) =
-    c.in_ok-command.ensures.shape (search rules) ∙ ap₂ with_rule c.loop-value.invariant.app rule_is in
+    c.in_ok-command.ensures.shape (search rules)
+    ∙ ap₂ with_rule c.loop-value.invariant.app rule_is in
     record {
-      app = added ∙ sym (fold_more (λ (app : App) value. with_rule app (required_rule (name_of value))) (new_app (word_of c.args.verb)) values at Command c.loop-value-test.true);
+      app =
+          added
+          ∙ sym (fold_more (λ (app : App) value. with_rule app (required_rule (name_of value)))
+          (new_app (word_of c.args.verb)) values at Command c.loop-value-test.true);
       globals = c.in_ok-command.ensures.globals
           ∙ ap₂ (λ a b. a || b) c.loop-value.invariant.globals (search rules);
     }

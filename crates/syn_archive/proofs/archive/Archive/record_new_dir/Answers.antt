@@ -8,10 +8,16 @@ use Rattle.syn_mark.specs.Changes.{replace_refusal}
 use Rattle.syn_archive.specs.Archive.{KeepsBeforeOrAfter, left_shown}
 use Rattle.syn_archive.specs.Refusals.{of_tree}
 use Rattle.syn_archive.specs.declared.error.ArchiveError.TheVariants.{Memory}
-use Rattle.syn_archive.proofs.StandLemmas.{keeps_now, not_written, payload_keeps, stop_keeps, left_behind, leaves_weaker, seen_is_left}
+use Rattle.syn_archive.proofs.StandLemmas.{keeps_now, not_written, payload_keeps, stop_keeps}
+use Rattle.syn_archive.proofs.StandLemmas.{left_behind, leaves_weaker, seen_is_left}
 use Rattle.syn_archive.proofs.DirLemmas.{dir_allowed, dir_after}
 use Rattle.syn_model.proofs.ExitLemmas.{match_of_exit, if_err_of_exit, on_ok_of_exit}
-use Rattle.syn_archive.proofs.ExitLemmas.{exit_same, failures_of_journal, calls_of_journal, unchanged_of_journal, halts_of_journal, record_refusals, cause_of_journal, memory_not_device, memory_not_journal_full, failures_of_marks, calls_of_marks, marks_not_device, marks_not_journal_full, readings_of}
+use Rattle.syn_archive.proofs.ExitLemmas.{exit_same, failures_of_journal, calls_of_journal}
+use Rattle.syn_archive.proofs.ExitLemmas.{unchanged_of_journal, halts_of_journal, record_refusals}
+use Rattle.syn_archive.proofs.ExitLemmas.{cause_of_journal, memory_not_device}
+use Rattle.syn_archive.proofs.ExitLemmas.{memory_not_journal_full, failures_of_marks}
+use Rattle.syn_archive.proofs.ExitLemmas.{calls_of_marks, marks_not_device, marks_not_journal_full}
+use Rattle.syn_archive.proofs.ExitLemmas.{readings_of}
 use Rattle.syn_archive.proofs.archive.Archive.record_new_dir.Goals as goal
 
 abbrev with_marks : ℕ → Tree → Archive
@@ -21,63 +27,117 @@ pub returns-in_err-append-clause-any_moment : goal.returns-in_err-append-clause-
 returns-in_err-append-clause-any_moment g c kept stands =
     let what = RecordedDir c.args.path.now in
     let directory : c.in_ok-directory.directory ≡ empty_directory = c.in_ok-directory.ensures.ok in
-    let can : CanKeep kept what = record { lawful = c.in_ok-change.ensures.path; not_refused = ap (λ a. kept_refusal a what) (sym stands.remembers) ∙ dir_allowed c.args.self.now.last_session c.args.self.now.marks c.args.path.now c.requires (ap (replace_refusal c.args.self.now.marks c.args.path.now) (sym directory) ∙ c.in_ok-change.ensures.allowed) } in
-    let payload : c.deref.result.now ≡ kept_spelling what = c.deref.ensures.value ∙ c.in_ok-payload.ensures in
-    leaves_weaker g.D.Disk.moment g.D.Disk.left_since _ _ (IsBeforeOrAfter stands.value c.args.self.now.journal.generation (with_payload stands.value c.deref.result.now) c.args.self.now.journal.generation) (KeepsBeforeOrAfter c.args.self.now kept what)
-    (stop_keeps c.archive_laws.ensures.record c.layout_laws.ensures.left c.args.self.now.pair stands.value c.deref.result.now kept what (left_shown c.args.self.now) c.args.self.now.journal.generation stands.means can payload (left_behind c.args.self.now stands.value stands.runs))
+    let can : CanKeep kept what = record {
+      lawful = c.in_ok-change.ensures.path;
+      not_refused = ap (λ a. kept_refusal a what) (sym stands.remembers)
+          ∙ dir_allowed c.args.self.now.last_session c.args.self.now.marks c.args.path.now
+          c.requires
+          (ap (replace_refusal c.args.self.now.marks c.args.path.now) (sym directory)
+          ∙ c.in_ok-change.ensures.allowed);
+    } in
+    let payload : c.deref.result.now ≡ kept_spelling what = c.deref.ensures.value
+    ∙ c.in_ok-payload.ensures in
+    leaves_weaker g.D.Disk.moment g.D.Disk.left_since _ _
+    (IsBeforeOrAfter stands.value c.args.self.now.journal.generation
+    (with_payload stands.value c.deref.result.now) c.args.self.now.journal.generation)
+    (KeepsBeforeOrAfter c.args.self.now kept what)
+    (stop_keeps c.archive_laws.ensures.record c.layout_laws.ensures.left c.args.self.now.pair
+    stands.value c.deref.result.now kept what
+    (left_shown c.args.self.now) c.args.self.now.journal.generation stands.means can payload
+    (left_behind c.args.self.now stands.value stands.runs))
     (c.in_err-append.ensures.any_moment stands.value stands.runs)
 
 pub returns-clause-acknowledged : goal.returns-clause-acknowledged
 returns-clause-acknowledged g c kept stands =
     let what = RecordedDir c.args.path.now in
     let directory : c.in_ok-directory.directory ≡ empty_directory = c.in_ok-directory.ensures.ok in
-    let can : CanKeep kept what = record { lawful = c.in_ok-change.ensures.path; not_refused = ap (λ a. kept_refusal a what) (sym stands.remembers) ∙ dir_allowed c.args.self.now.last_session c.args.self.now.marks c.args.path.now c.requires (ap (replace_refusal c.args.self.now.marks c.args.path.now) (sym directory) ∙ c.in_ok-change.ensures.allowed) } in
-    let payload : c.deref.result.now ≡ kept_spelling what = c.deref.ensures.value ∙ c.in_ok-payload.ensures in
-    let made = c.make.ensures ∙ ap₂ (λ p u. replace c.args.self.now.marks p u) c.in_ok-change.ensures.at (c.in_ok-change.ensures.new ∙ directory) in
+    let can : CanKeep kept what = record {
+      lawful = c.in_ok-change.ensures.path;
+      not_refused = ap (λ a. kept_refusal a what) (sym stands.remembers)
+          ∙ dir_allowed c.args.self.now.last_session c.args.self.now.marks c.args.path.now
+          c.requires
+          (ap (replace_refusal c.args.self.now.marks c.args.path.now) (sym directory)
+          ∙ c.in_ok-change.ensures.allowed);
+    } in
+    let payload : c.deref.result.now ≡ kept_spelling what = c.deref.ensures.value
+    ∙ c.in_ok-payload.ensures in
+    let made = c.make.ensures ∙ ap₂ (λ p u. replace c.args.self.now.marks p u)
+    c.in_ok-change.ensures.at (c.in_ok-change.ensures.new ∙ directory) in
     record {
-      remembers = ap (with_marks c.args.self.now.last_session) made ∙ (sym (dir_after c.args.self.now.last_session c.args.self.now.marks c.args.path.now c.requires) ∙ ap (λ a. after_kept a what) stands.remembers);
+      remembers =
+          ap (with_marks c.args.self.now.last_session) made
+          ∙ (sym (dir_after c.args.self.now.last_session c.args.self.now.marks c.args.path.now
+          c.requires) ∙ ap (λ a. after_kept a what) stands.remembers);
       value = with_payload stands.value c.deref.result.now;
       runs = c.in_ok-append.ensures.acknowledged stands.value stands.runs;
-      means = payload_keeps c.archive_laws.ensures.record c.args.self.now.pair stands.value c.deref.result.now kept what stands.means can payload;
+      means =
+          payload_keeps c.archive_laws.ensures.record c.args.self.now.pair stands.value
+          c.deref.result.now kept what stands.means can payload;
     }
 
 pub returns-clause-any_moment : goal.returns-clause-any_moment
 returns-clause-any_moment g c kept stands =
     let what = RecordedDir c.args.path.now in
     let directory : c.in_ok-directory.directory ≡ empty_directory = c.in_ok-directory.ensures.ok in
-    let can : CanKeep kept what = record { lawful = c.in_ok-change.ensures.path; not_refused = ap (λ a. kept_refusal a what) (sym stands.remembers) ∙ dir_allowed c.args.self.now.last_session c.args.self.now.marks c.args.path.now c.requires (ap (replace_refusal c.args.self.now.marks c.args.path.now) (sym directory) ∙ c.in_ok-change.ensures.allowed) } in
-    let payload : c.deref.result.now ≡ kept_spelling what = c.deref.ensures.value ∙ c.in_ok-payload.ensures in
-    leaves_weaker g.D.Disk.moment g.D.Disk.left_since _ _ (IsBeforeOrAfter stands.value c.args.self.now.journal.generation (with_payload stands.value c.deref.result.now) c.args.self.now.journal.generation) (KeepsBeforeOrAfter c.args.self.now kept what)
-    (stop_keeps c.archive_laws.ensures.record c.layout_laws.ensures.left c.args.self.now.pair stands.value c.deref.result.now kept what (left_shown c.args.self.now) c.args.self.now.journal.generation stands.means can payload (left_behind c.args.self.now stands.value stands.runs))
+    let can : CanKeep kept what = record {
+      lawful = c.in_ok-change.ensures.path;
+      not_refused = ap (λ a. kept_refusal a what) (sym stands.remembers)
+          ∙ dir_allowed c.args.self.now.last_session c.args.self.now.marks c.args.path.now
+          c.requires
+          (ap (replace_refusal c.args.self.now.marks c.args.path.now) (sym directory)
+          ∙ c.in_ok-change.ensures.allowed);
+    } in
+    let payload : c.deref.result.now ≡ kept_spelling what = c.deref.ensures.value
+    ∙ c.in_ok-payload.ensures in
+    leaves_weaker g.D.Disk.moment g.D.Disk.left_since _ _
+    (IsBeforeOrAfter stands.value c.args.self.now.journal.generation
+    (with_payload stands.value c.deref.result.now) c.args.self.now.journal.generation)
+    (KeepsBeforeOrAfter c.args.self.now kept what)
+    (stop_keeps c.archive_laws.ensures.record c.layout_laws.ensures.left c.args.self.now.pair
+    stands.value c.deref.result.now kept what
+    (left_shown c.args.self.now) c.args.self.now.journal.generation stands.means can payload
+    (left_behind c.args.self.now stands.value stands.runs))
     (c.in_ok-append.ensures.any_moment stands.value stands.runs)
 
 pub returns-in_err-append-clause-seen : goal.returns-in_err-append-clause-seen
 returns-in_err-append-clause-seen g c kept stands =
-    seen_is_left g.D.Disk.seen g.D.Disk.may_leave g.D.Disk.moment g.D.Disk.left_since g.met.D.Disk.seen_may_stay g.met.D.Disk.counts_now _ _ (KeepsBeforeOrAfter c.args.self.now kept (RecordedDir c.args.path.now)) (returns-in_err-append-clause-any_moment g c kept stands)
+    seen_is_left g.D.Disk.seen g.D.Disk.may_leave g.D.Disk.moment g.D.Disk.left_since
+    g.met.D.Disk.seen_may_stay g.met.D.Disk.counts_now _ _
+    (KeepsBeforeOrAfter c.args.self.now kept (RecordedDir c.args.path.now))
+    (returns-in_err-append-clause-any_moment g c kept stands)
 
 pub returns-clause-seen : goal.returns-clause-seen
 returns-clause-seen g c kept stands =
-    seen_is_left g.D.Disk.seen g.D.Disk.may_leave g.D.Disk.moment g.D.Disk.left_since g.met.D.Disk.seen_may_stay g.met.D.Disk.counts_now _ _ (KeepsBeforeOrAfter c.args.self.now kept (RecordedDir c.args.path.now)) (returns-clause-any_moment g c kept stands)
+    seen_is_left g.D.Disk.seen g.D.Disk.may_leave g.D.Disk.moment g.D.Disk.left_since
+    g.met.D.Disk.seen_may_stay g.met.D.Disk.counts_now _ _
+    (KeepsBeforeOrAfter c.args.self.now kept (RecordedDir c.args.path.now))
+    (returns-clause-any_moment g c kept stands)
 
 pub returns-in_err-check_dir-clause-any_moment : goal.returns-in_err-check_dir-clause-any_moment
 returns-in_err-check_dir-clause-any_moment g c kept stands =
-    not_written g.met.D.Disk.only_now c.args.self.now kept stands _ (inl (keeps_now c.args.self.now kept stands))
+    not_written g.met.D.Disk.only_now c.args.self.now kept stands _
+    (inl (keeps_now c.args.self.now kept stands))
 
 pub returns-in_err-directory-clause-any_moment : goal.returns-in_err-directory-clause-any_moment
 returns-in_err-directory-clause-any_moment g c kept stands =
-    not_written g.met.D.Disk.only_now c.args.self.now kept stands _ (inl (keeps_now c.args.self.now kept stands))
+    not_written g.met.D.Disk.only_now c.args.self.now kept stands _
+    (inl (keeps_now c.args.self.now kept stands))
 
 pub returns-in_err-payload-clause-any_moment : goal.returns-in_err-payload-clause-any_moment
 returns-in_err-payload-clause-any_moment g c kept stands =
-    not_written g.met.D.Disk.only_now c.args.self.now kept stands _ (inl (keeps_now c.args.self.now kept stands))
+    not_written g.met.D.Disk.only_now c.args.self.now kept stands _
+    (inl (keeps_now c.args.self.now kept stands))
 
 pub returns-in_err-change-clause-any_moment : goal.returns-in_err-change-clause-any_moment
 returns-in_err-change-clause-any_moment g c kept stands =
-    not_written g.met.D.Disk.only_now c.args.self.now kept stands _ (inl (keeps_now c.args.self.now kept stands))
+    not_written g.met.D.Disk.only_now c.args.self.now kept stands _
+    (inl (keeps_now c.args.self.now kept stands))
 
-pub returns-then-dir_length-room-clause-any_moment : goal.returns-then-dir_length-room-clause-any_moment
+pub returns-then-dir_length-room-clause-any_moment :
+    goal.returns-then-dir_length-room-clause-any_moment
 returns-then-dir_length-room-clause-any_moment g c kept stands =
-    not_written g.met.D.Disk.only_now c.args.self.now kept stands _ (inl (keeps_now c.args.self.now kept stands))
+    not_written g.met.D.Disk.only_now c.args.self.now kept stands _
+    (inl (keeps_now c.args.self.now kept stands))
 
 pub returns-in_err-check_dir-clause-seen : goal.returns-in_err-check_dir-clause-seen
 returns-in_err-check_dir-clause-seen g c kept stands = inl (keeps_now c.args.self.now kept stands)
@@ -86,7 +146,8 @@ pub returns-in_err-directory-clause-seen : goal.returns-in_err-directory-clause-
 returns-in_err-directory-clause-seen g c kept stands = inl (keeps_now c.args.self.now kept stands)
 
 pub returns-then-dir_length-room-clause-seen : goal.returns-then-dir_length-room-clause-seen
-returns-then-dir_length-room-clause-seen g c kept stands = inl (keeps_now c.args.self.now kept stands)
+returns-then-dir_length-room-clause-seen g c kept stands =
+    inl (keeps_now c.args.self.now kept stands)
 
 pub returns-in_err-payload-clause-seen : goal.returns-in_err-payload-clause-seen
 returns-in_err-payload-clause-seen g c kept stands = inl (keeps_now c.args.self.now kept stands)
@@ -96,31 +157,40 @@ returns-in_err-change-clause-seen g c kept stands = inl (keeps_now c.args.self.n
 
 pub returns-in_err-append-clause-failures : goal.returns-in_err-append-clause-failures
 returns-in_err-append-clause-failures g c =
-    failures_of_journal c.from_residual-in_err-append.result c.in_err-append.field-0.0 c.from_residual-in_err-append.ensures.1 _ _ c.in_err-append.ensures.failures
+    failures_of_journal c.from_residual-in_err-append.result c.in_err-append.field-0.0
+    c.from_residual-in_err-append.ensures.1 _ _ c.in_err-append.ensures.failures
 
 pub returns-in_err-append-clause-calls : goal.returns-in_err-append-clause-calls
 returns-in_err-append-clause-calls g c =
-    calls_of_journal c.from_residual-in_err-append.result c.in_err-append.field-0.0 c.from_residual-in_err-append.ensures.1 _ 4 _ _ c.in_err-append.ensures.calls
+    calls_of_journal c.from_residual-in_err-append.result c.in_err-append.field-0.0
+    c.from_residual-in_err-append.ensures.1 _ 4 _ _ c.in_err-append.ensures.calls
 
 pub returns-in_err-append-clause-refusals : goal.returns-in_err-append-clause-refusals
 returns-in_err-append-clause-refusals g c =
-    record_refusals c.from_residual-in_err-append.result c.in_err-append.field-0.0 c.from_residual-in_err-append.ensures.1 c.in_err-append.ensures.refusals
+    record_refusals c.from_residual-in_err-append.result c.in_err-append.field-0.0
+    c.from_residual-in_err-append.ensures.1 c.in_err-append.ensures.refusals
 
 pub returns-in_err-append-clause-cause : goal.returns-in_err-append-clause-cause
 returns-in_err-append-clause-cause g c =
-    cause_of_journal c.from_residual-in_err-append.result c.in_err-append.field-0.0 c.from_residual-in_err-append.ensures.1 _ c.in_err-append.ensures.refusals
+    cause_of_journal c.from_residual-in_err-append.result c.in_err-append.field-0.0
+    c.from_residual-in_err-append.ensures.1 _ c.in_err-append.ensures.refusals
 
 pub returns-in_err-append-clause-unchanged : goal.returns-in_err-append-clause-unchanged
 returns-in_err-append-clause-unchanged g c =
-    unchanged_of_journal c.from_residual-in_err-append.result c.in_err-append.field-0.0 c.from_residual-in_err-append.ensures.1 _ c.in_err-append.ensures.unchanged
+    unchanged_of_journal c.from_residual-in_err-append.result c.in_err-append.field-0.0
+    c.from_residual-in_err-append.ensures.1 _ c.in_err-append.ensures.unchanged
 
 pub returns-in_err-append-clause-halts : goal.returns-in_err-append-clause-halts
 returns-in_err-append-clause-halts g c =
-    halts_of_journal c.from_residual-in_err-append.result c.in_err-append.field-0.0 c.from_residual-in_err-append.ensures.1 _ (λ is. c.in_err-append.ensures.halts (ap (λ e. Err e) is))
+    halts_of_journal c.from_residual-in_err-append.result c.in_err-append.field-0.0
+    c.from_residual-in_err-append.ensures.1 _
+    (λ is. c.in_err-append.ensures.halts (ap (λ e. Err e) is))
 
 pub returns-in_err-append-clause-readings : goal.returns-in_err-append-clause-readings
 returns-in_err-append-clause-readings g c =
-    if_err_of_exit c.from_residual-in_err-append.result _ _ c.from_residual-in_err-append.ensures.1 (readings_of c.args.self.now _ refl refl c.in_err-append.ensures.gate c.in_err-append.ensures.generation)
+    if_err_of_exit c.from_residual-in_err-append.result _ _ c.from_residual-in_err-append.ensures.1
+    (readings_of c.args.self.now _ refl refl c.in_err-append.ensures.gate
+    c.in_err-append.ensures.generation)
 
 pub returns-in_err-append-clause-acknowledged : goal.returns-in_err-append-clause-acknowledged
 returns-in_err-append-clause-acknowledged g c kept stands =
@@ -132,91 +202,124 @@ returns-in_err-append-clause-record g c =
 
 pub returns-in_err-payload-clause-failures : goal.returns-in_err-payload-clause-failures
 returns-in_err-payload-clause-failures g c =
-    match_of_exit c.from_residual-in_err-payload.result _ _ _ c.from_residual-in_err-payload.ensures.1 refl
+    match_of_exit c.from_residual-in_err-payload.result _ _ _
+    c.from_residual-in_err-payload.ensures.1 refl
 
 pub returns-in_err-payload-clause-calls : goal.returns-in_err-payload-clause-calls
 returns-in_err-payload-clause-calls g c =
-    match_of_exit c.from_residual-in_err-payload.result _ _ _ c.from_residual-in_err-payload.ensures.1 refl
+    match_of_exit c.from_residual-in_err-payload.result _ _ _
+    c.from_residual-in_err-payload.ensures.1 refl
 
 pub returns-in_err-payload-clause-refusals : goal.returns-in_err-payload-clause-refusals
 returns-in_err-payload-clause-refusals g c =
-    if_err_of_exit c.from_residual-in_err-payload.result _ _ c.from_residual-in_err-payload.ensures.1 tt
+    if_err_of_exit c.from_residual-in_err-payload.result _ _
+    c.from_residual-in_err-payload.ensures.1 tt
 
 pub returns-in_err-payload-clause-cause : goal.returns-in_err-payload-clause-cause
 returns-in_err-payload-clause-cause g c =
-    if_err_of_exit c.from_residual-in_err-payload.result _ _ c.from_residual-in_err-payload.ensures.1 (inl tt)
+    if_err_of_exit c.from_residual-in_err-payload.result _ _
+    c.from_residual-in_err-payload.ensures.1 (inl tt)
 
 pub returns-in_err-payload-clause-unchanged : goal.returns-in_err-payload-clause-unchanged
 returns-in_err-payload-clause-unchanged g c =
-    if_err_of_exit c.from_residual-in_err-payload.result _ _ c.from_residual-in_err-payload.ensures.1 (inr refl)
+    if_err_of_exit c.from_residual-in_err-payload.result _ _
+    c.from_residual-in_err-payload.ensures.1 (inr refl)
 
 pub returns-in_err-payload-clause-halts : goal.returns-in_err-payload-clause-halts
 returns-in_err-payload-clause-halts g c =
-    memory_not_device c.from_residual-in_err-payload.result c.from_residual-in_err-payload.ensures.1 _
+    memory_not_device c.from_residual-in_err-payload.result c.from_residual-in_err-payload.ensures.1
+    _
 
 pub returns-in_err-payload-clause-no_room : goal.returns-in_err-payload-clause-no_room
 returns-in_err-payload-clause-no_room g c =
-    memory_not_journal_full c.from_residual-in_err-payload.result c.from_residual-in_err-payload.ensures.1 _
+    memory_not_journal_full c.from_residual-in_err-payload.result
+    c.from_residual-in_err-payload.ensures.1 _
 
 pub returns-in_err-payload-clause-readings : goal.returns-in_err-payload-clause-readings
 returns-in_err-payload-clause-readings g c =
-    if_err_of_exit c.from_residual-in_err-payload.result _ _ c.from_residual-in_err-payload.ensures.1 (readings_of c.args.self.now _ refl refl refl refl)
+    if_err_of_exit c.from_residual-in_err-payload.result _ _
+    c.from_residual-in_err-payload.ensures.1 (readings_of c.args.self.now _ refl refl refl refl)
 
 pub returns-in_err-change-clause-failures : goal.returns-in_err-change-clause-failures
 returns-in_err-change-clause-failures g c =
-    failures_of_marks c.from_residual-in_err-change.result c.in_err-change.field-0.0 c.from_residual-in_err-change.ensures.1 _
+    failures_of_marks c.from_residual-in_err-change.result c.in_err-change.field-0.0
+    c.from_residual-in_err-change.ensures.1 _
 
 pub returns-in_err-change-clause-calls : goal.returns-in_err-change-clause-calls
 returns-in_err-change-clause-calls g c =
-    calls_of_marks c.from_residual-in_err-change.result c.in_err-change.field-0.0 c.from_residual-in_err-change.ensures.1 _ 4 _
+    calls_of_marks c.from_residual-in_err-change.result c.in_err-change.field-0.0
+    c.from_residual-in_err-change.ensures.1 _ 4 _
 
 pub returns-in_err-change-clause-unchanged : goal.returns-in_err-change-clause-unchanged
 returns-in_err-change-clause-unchanged g c =
-    if_err_of_exit c.from_residual-in_err-change.result _ _ c.from_residual-in_err-change.ensures.1 (inr refl)
+    if_err_of_exit c.from_residual-in_err-change.result _ _ c.from_residual-in_err-change.ensures.1
+    (inr refl)
 
 pub returns-in_err-change-clause-halts : goal.returns-in_err-change-clause-halts
 returns-in_err-change-clause-halts g c =
-    marks_not_device c.from_residual-in_err-change.result c.in_err-change.field-0.0 c.from_residual-in_err-change.ensures.1 _
+    marks_not_device c.from_residual-in_err-change.result c.in_err-change.field-0.0
+    c.from_residual-in_err-change.ensures.1 _
 
 pub returns-in_err-change-clause-no_room : goal.returns-in_err-change-clause-no_room
 returns-in_err-change-clause-no_room g c =
-    marks_not_journal_full c.from_residual-in_err-change.result c.in_err-change.field-0.0 c.from_residual-in_err-change.ensures.1 _
+    marks_not_journal_full c.from_residual-in_err-change.result c.in_err-change.field-0.0
+    c.from_residual-in_err-change.ensures.1 _
 
 pub returns-in_err-change-clause-readings : goal.returns-in_err-change-clause-readings
 returns-in_err-change-clause-readings g c =
-    if_err_of_exit c.from_residual-in_err-change.result _ _ c.from_residual-in_err-change.ensures.1 (readings_of c.args.self.now _ refl refl refl refl)
+    if_err_of_exit c.from_residual-in_err-change.result _ _ c.from_residual-in_err-change.ensures.1
+    (readings_of c.args.self.now _ refl refl refl refl)
 
 pub returns-in_err-directory-clause-failures : goal.returns-in_err-directory-clause-failures
 returns-in_err-directory-clause-failures g c =
-    match_of_exit c.from_residual-in_err-directory.result _ _ _ (exit_same c.from_residual-in_err-directory.result _ Memory c.from_residual-in_err-directory.ensures.1 (ap of_tree c.in_err-directory.ensures.memory)) refl
+    match_of_exit c.from_residual-in_err-directory.result _ _ _ (exit_same
+    c.from_residual-in_err-directory.result _ Memory c.from_residual-in_err-directory.ensures.1
+    (ap of_tree c.in_err-directory.ensures.memory)) refl
 
 pub returns-in_err-directory-clause-calls : goal.returns-in_err-directory-clause-calls
 returns-in_err-directory-clause-calls g c =
-    match_of_exit c.from_residual-in_err-directory.result _ _ _ (exit_same c.from_residual-in_err-directory.result _ Memory c.from_residual-in_err-directory.ensures.1 (ap of_tree c.in_err-directory.ensures.memory)) refl
+    match_of_exit c.from_residual-in_err-directory.result _ _ _ (exit_same
+    c.from_residual-in_err-directory.result _ Memory c.from_residual-in_err-directory.ensures.1
+    (ap of_tree c.in_err-directory.ensures.memory)) refl
 
 pub returns-in_err-directory-clause-refusals : goal.returns-in_err-directory-clause-refusals
 returns-in_err-directory-clause-refusals g c =
-    if_err_of_exit c.from_residual-in_err-directory.result _ _ (exit_same c.from_residual-in_err-directory.result _ Memory c.from_residual-in_err-directory.ensures.1 (ap of_tree c.in_err-directory.ensures.memory)) tt
+    if_err_of_exit c.from_residual-in_err-directory.result _ _
+    (exit_same c.from_residual-in_err-directory.result _ Memory
+    c.from_residual-in_err-directory.ensures.1 (ap of_tree c.in_err-directory.ensures.memory)) tt
 
 pub returns-in_err-directory-clause-cause : goal.returns-in_err-directory-clause-cause
 returns-in_err-directory-clause-cause g c =
-    if_err_of_exit c.from_residual-in_err-directory.result _ _ (exit_same c.from_residual-in_err-directory.result _ Memory c.from_residual-in_err-directory.ensures.1 (ap of_tree c.in_err-directory.ensures.memory)) (inl tt)
+    if_err_of_exit c.from_residual-in_err-directory.result _ _
+    (exit_same c.from_residual-in_err-directory.result _ Memory
+    c.from_residual-in_err-directory.ensures.1 (ap of_tree c.in_err-directory.ensures.memory))
+    (inl tt)
 
 pub returns-in_err-directory-clause-unchanged : goal.returns-in_err-directory-clause-unchanged
 returns-in_err-directory-clause-unchanged g c =
-    if_err_of_exit c.from_residual-in_err-directory.result _ _ (exit_same c.from_residual-in_err-directory.result _ Memory c.from_residual-in_err-directory.ensures.1 (ap of_tree c.in_err-directory.ensures.memory)) (inr refl)
+    if_err_of_exit c.from_residual-in_err-directory.result _ _
+    (exit_same c.from_residual-in_err-directory.result _ Memory
+    c.from_residual-in_err-directory.ensures.1 (ap of_tree c.in_err-directory.ensures.memory))
+    (inr refl)
 
 pub returns-in_err-directory-clause-halts : goal.returns-in_err-directory-clause-halts
 returns-in_err-directory-clause-halts g c =
-    memory_not_device c.from_residual-in_err-directory.result (exit_same c.from_residual-in_err-directory.result _ Memory c.from_residual-in_err-directory.ensures.1 (ap of_tree c.in_err-directory.ensures.memory)) _
+    memory_not_device c.from_residual-in_err-directory.result
+    (exit_same c.from_residual-in_err-directory.result _ Memory
+    c.from_residual-in_err-directory.ensures.1 (ap of_tree c.in_err-directory.ensures.memory)) _
 
 pub returns-in_err-directory-clause-no_room : goal.returns-in_err-directory-clause-no_room
 returns-in_err-directory-clause-no_room g c =
-    memory_not_journal_full c.from_residual-in_err-directory.result (exit_same c.from_residual-in_err-directory.result _ Memory c.from_residual-in_err-directory.ensures.1 (ap of_tree c.in_err-directory.ensures.memory)) _
+    memory_not_journal_full c.from_residual-in_err-directory.result
+    (exit_same c.from_residual-in_err-directory.result _ Memory
+    c.from_residual-in_err-directory.ensures.1 (ap of_tree c.in_err-directory.ensures.memory)) _
 
 pub returns-in_err-directory-clause-readings : goal.returns-in_err-directory-clause-readings
 returns-in_err-directory-clause-readings g c =
-    if_err_of_exit c.from_residual-in_err-directory.result _ _ (exit_same c.from_residual-in_err-directory.result _ Memory c.from_residual-in_err-directory.ensures.1 (ap of_tree c.in_err-directory.ensures.memory)) (readings_of c.args.self.now _ refl refl refl refl)
+    if_err_of_exit c.from_residual-in_err-directory.result _ _
+    (exit_same c.from_residual-in_err-directory.result _ Memory
+    c.from_residual-in_err-directory.ensures.1 (ap of_tree c.in_err-directory.ensures.memory))
+    (readings_of c.args.self.now _ refl refl refl refl)
 
 pub returns-in_err-directory-clause-full : goal.returns-in_err-directory-clause-full
 returns-in_err-directory-clause-full g c running can less =
@@ -236,12 +339,15 @@ returns-in_err-append-clause-full g c running can less =
 
 pub returns-in_err-directory-clause-refused : goal.returns-in_err-directory-clause-refused
 returns-in_err-directory-clause-refused g c why running some =
-    absurd (none-some _ (sym (dir_allowed c.args.self.now.last_session c.args.self.now.marks c.args.path.now c.requires (sym c.in_ok-check_dir.ensures)) ∙ some))
+    absurd (none-some _ (sym (dir_allowed c.args.self.now.last_session c.args.self.now.marks
+    c.args.path.now c.requires (sym c.in_ok-check_dir.ensures)) ∙ some))
 
 pub returns-in_err-payload-clause-refused : goal.returns-in_err-payload-clause-refused
 returns-in_err-payload-clause-refused g c why running some =
-    absurd (none-some _ (sym (dir_allowed c.args.self.now.last_session c.args.self.now.marks c.args.path.now c.requires (sym c.in_ok-check_dir.ensures)) ∙ some))
+    absurd (none-some _ (sym (dir_allowed c.args.self.now.last_session c.args.self.now.marks
+    c.args.path.now c.requires (sym c.in_ok-check_dir.ensures)) ∙ some))
 
 pub returns-then-dir_length-room-clause-refused : goal.returns-then-dir_length-room-clause-refused
 returns-then-dir_length-room-clause-refused g c why running some =
-    absurd (none-some _ (sym (dir_allowed c.args.self.now.last_session c.args.self.now.marks c.args.path.now c.requires (sym c.in_ok-check_dir.ensures)) ∙ some))
+    absurd (none-some _ (sym (dir_allowed c.args.self.now.last_session c.args.self.now.marks
+    c.args.path.now c.requires (sym c.in_ok-check_dir.ensures)) ∙ some))

@@ -12,7 +12,9 @@ use Rattle.syn_coordinator.proofs.coordinator.Coordinator.begin_course.Goals as 
 
 pub returns-in_default : goal.returns-in_default
 returns-in_default g c = record {
-  step = λ pair journal running taken is quiet fault heard scanned nothing. no_plan c.args.self.now pair journal running taken c.args.session.now is fault heard scanned nothing quiet;
+  step =
+      λ pair journal running taken is quiet fault heard scanned nothing. no_plan c.args.self.now
+      pair journal running taken c.args.session.now is fault heard scanned nothing quiet;
 }
 
 pub returns-in-Ok-asks : goal.returns-in-Ok-asks
@@ -26,14 +28,25 @@ returns-in-Ok-asks g c = record {
       let same_left = c.found-left.ensures.found in
       let same_right = c.found-right.ensures.found in
       let marks = c.tree.ensures ∙ ap (λ (a : Archive). a.marks) is.remembers in
-      let walked = c.in-Ok-asks.ensures.step pair journal taken (running.taken ++ taken ∷ []) (first_reached (plan_in made left right)) is quiet (at_first self pair journal running taken session is fault heard scanned nothing made left right same_left same_right c.in-Ok.ensures.begun) in (
-        subst (λ course. TakesOn c.walk-asks.new.self.archive pair journal running taken (record session { course = course }) (written c.walk-asks.new.self) c.asks_to.result) (sym c.replace.ensures.after)
-            (subst (TakesOn c.walk-asks.new.self.archive pair journal running taken (record session { course = Some c.walk-asks.new.course }) (written c.walk-asks.new.self)) (sym c.asks_to.ensures)
-            (begins_asking self pair journal running taken session is fault heard scanned nothing made left right same_left same_right c.in-Ok.ensures.begun
+      let walked = c.in-Ok-asks.ensures.step pair journal taken (running.taken ++ taken ∷ [])
+      (first_reached (plan_in made left right)) is quiet
+      (at_first self pair journal running taken session is fault heard scanned nothing made left
+      right same_left same_right c.in-Ok.ensures.begun) in (
+        subst (λ course. TakesOn c.walk-asks.new.self.archive pair journal running taken
+            (record session { course = course }) (written c.walk-asks.new.self) c.asks_to.result)
+            (sym c.replace.ensures.after)
+            (subst (TakesOn c.walk-asks.new.self.archive pair journal running taken (record session
+            { course = Some c.walk-asks.new.course }) (written c.walk-asks.new.self))
+            (sym c.asks_to.ensures)
+            (begins_asking self pair journal running taken session is fault heard scanned nothing
+            made left right same_left same_right c.in-Ok.ensures.begun
             (c.in-Ok.ensures.items ∙ ap (plan (scan_of left) (scan_of right)) marks)
-            (c.found-left.ensures.scan Left (running.taken ++ taken ∷ []) (scanned.whole Left) (scanned.found Left))
-            (c.found-right.ensures.scan Right (running.taken ++ taken ∷ []) (scanned.whole Right) (scanned.found Right))
-            c.walk-asks.new.self c.walk-asks.new.course c.in-Ok-asks.side c.in-Ok-asks.request walked)),
+            (c.found-left.ensures.scan Left (running.taken ++ taken ∷ []) (scanned.whole Left)
+            (scanned.found Left))
+            (c.found-right.ensures.scan Right (running.taken ++ taken ∷ []) (scanned.whole Right)
+            (scanned.found Right))
+            c.walk-asks.new.self c.walk-asks.new.course c.in-Ok-asks.side c.in-Ok-asks.request
+            walked)),
         walked.3,
       );
 }
@@ -49,11 +62,19 @@ returns-in-Err g c = record {
       let same_left = c.found-left.ensures.found in
       let same_right = c.found-right.ensures.found in
       let marks = c.tree.ensures ∙ ap (λ (a : Archive). a.marks) is.remembers in
-      let walked = c.in-Err.ensures.step pair journal taken (running.taken ++ taken ∷ []) (first_reached (plan_in made left right)) is quiet (at_first self pair journal running taken session is fault heard scanned nothing made left right same_left same_right c.in-Ok.ensures.begun) in
-      subst (λ course. TakesEnd c.walk-asks.new.self.archive c.walk-asks.new.self.tried pair journal running taken (record session { course = course }) (written c.walk-asks.new.self) c.in-Err.ended) (sym c.replace.ensures.after)
-      (begins_ending self pair journal running taken session is fault heard scanned nothing made left right same_left same_right c.in-Ok.ensures.begun
+      let walked = c.in-Err.ensures.step pair journal taken (running.taken ++ taken ∷ [])
+      (first_reached (plan_in made left right)) is quiet
+      (at_first self pair journal running taken session is fault heard scanned nothing made left
+      right same_left same_right c.in-Ok.ensures.begun) in
+      subst (λ course. TakesEnd c.walk-asks.new.self.archive c.walk-asks.new.self.tried pair journal
+      running taken (record session { course = course })
+      (written c.walk-asks.new.self) c.in-Err.ended) (sym c.replace.ensures.after)
+      (begins_ending self pair journal running taken session is fault heard scanned nothing made
+      left right same_left same_right c.in-Ok.ensures.begun
       (c.in-Ok.ensures.items ∙ ap (plan (scan_of left) (scan_of right)) marks)
-      (c.found-left.ensures.scan Left (running.taken ++ taken ∷ []) (scanned.whole Left) (scanned.found Left))
-      (c.found-right.ensures.scan Right (running.taken ++ taken ∷ []) (scanned.whole Right) (scanned.found Right))
+      (c.found-left.ensures.scan Left (running.taken ++ taken ∷ []) (scanned.whole Left)
+      (scanned.found Left))
+      (c.found-right.ensures.scan Right (running.taken ++ taken ∷ []) (scanned.whole Right)
+      (scanned.found Right))
       c.walk-asks.new.self c.walk-asks.new.course c.in-Err.ended walked);
 }

@@ -2,31 +2,50 @@ use Rattle.std.proofs.Common.{◌<◌, ◌^◌, Err, ap, subst, refl, inl, inr}
 use Rattle.syn_archive.specs.Archive.{disk_of}
 use Rattle.syn_archive.specs.Refusals.{MakesIfDevice}
 use Rattle.syn_keep.proofs.CheckpointLemmas.{compact_ok, compact_failed}
-use Rattle.syn_coordinator.proofs.RefusedLemmas.{checkpoint_does, refused_for, when_up, up_not_down, halted_not_down, none_stands}
-use Rattle.syn_keep.proofs.OutcomeLemmas.{device_not_halted, ok_not_halted, device_not_full, ok_not_full}
+use Rattle.syn_coordinator.proofs.RefusedLemmas.{checkpoint_does, refused_for, when_up, up_not_down}
+use Rattle.syn_coordinator.proofs.RefusedLemmas.{halted_not_down, none_stands}
+use Rattle.syn_keep.proofs.OutcomeLemmas.{device_not_halted, ok_not_halted, device_not_full}
+use Rattle.syn_keep.proofs.OutcomeLemmas.{ok_not_full}
 use Rattle.syn_keep.proofs.StayLemmas.{same_machine}
 use Rattle.syn_coordinator.proofs.coordinator.Coordinator.checkpoint.Goals as goal
 
 pub returns-in-Ok-clause-step : goal.returns-in-Ok-clause-step
 returns-in-Ok-clause-step g c pair machine stands =
     let is = stands.journal in
-    let was = when_up c.args.self.now.archive pair machine is (subst (λ n. n < 2 ^ 64) c.generation-generation.ensures c.is_long.ensures) (λ h. ok_not_halted _ _ refl (c.in-Ok.ensures.halted.1 h)) in
+    let was = when_up c.args.self.now.archive pair machine is
+    (subst (λ n. n < 2 ^ 64) c.generation-generation.ensures c.is_long.ensures)
+    (λ h. ok_not_halted _ _ refl (c.in-Ok.ensures.halted.1 h)) in
     checkpoint_does c.args.self.now _ pair machine stands refl was refl _ up_not_down
-    (compact_ok c.args.self.now.archive _ pair machine.journal is was c.in-Ok.ensures.memory (c.in-Ok.ensures.acknowledged _ was.stands) c.in-Ok.ensures.generation c.in-Ok.ensures.image g.met.D.Disk.seen_may_stay (c.keeps_on_disk.ensures _ (c.in-Ok.ensures.acknowledged _ was.stands)) c.device_laws.ensures.made c.in-Ok.ensures.calls)
+    (compact_ok c.args.self.now.archive _ pair machine.journal is was c.in-Ok.ensures.memory
+    (c.in-Ok.ensures.acknowledged _ was.stands) c.in-Ok.ensures.generation c.in-Ok.ensures.image
+    g.met.D.Disk.seen_may_stay (c.keeps_on_disk.ensures _
+    (c.in-Ok.ensures.acknowledged _ was.stands)) c.device_laws.ensures.made c.in-Ok.ensures.calls)
 
 pub returns-in-Err-clause-step : goal.returns-in-Err-clause-step
 returns-in-Err-clause-step g c pair machine stands device =
     let is = stands.journal in
-    let was = when_up c.args.self.now.archive pair machine is (subst (λ n. n < 2 ^ 64) c.generation-generation.ensures c.is_long.ensures) (λ h. device_not_halted _ _ device (c.in-Err.ensures.halted.1 h)) in
+    let was = when_up c.args.self.now.archive pair machine is
+    (subst (λ n. n < 2 ^ 64) c.generation-generation.ensures c.is_long.ensures)
+    (λ h. device_not_halted _ _ device (c.in-Err.ensures.halted.1 h)) in
     checkpoint_does c.args.self.now _ pair machine stands refl was refl _ halted_not_down
-    (compact_failed c.args.self.now.archive _ pair machine.journal is was (c.in-Err.ensures.halts (ap (λ e. Err e) device)) c.in-Err.ensures.readings g.met.D.Disk.counts_now (c.in-Err.ensures.any_moment _ was.stands) c.device_laws.ensures.broken
-    (subst (λ e. MakesIfDevice e 6 (g.D.Disk.arms (disk_of c.args.self.now.archive)) (g.D.Disk.arms (disk_of c.checkpoint.new.self))) device c.in-Err.ensures.calls))
+    (compact_failed c.args.self.now.archive _ pair machine.journal is was (c.in-Err.ensures.halts
+    (ap (λ e. Err e) device)) c.in-Err.ensures.readings g.met.D.Disk.counts_now
+    (c.in-Err.ensures.any_moment _ was.stands) c.device_laws.ensures.broken
+    (subst (λ e. MakesIfDevice e 6 (g.D.Disk.arms (disk_of c.args.self.now.archive))
+    (g.D.Disk.arms (disk_of c.checkpoint.new.self))) device c.in-Err.ensures.calls))
 
 pub returns-in-Err-clause-refused : goal.returns-in-Err-clause-refused
 returns-in-Err-clause-refused g c pair machine stands other = (
-  refused_for c.args.self.now.archive pair machine stands.journal (subst (λ n. n < 2 ^ 64) c.generation-generation.ensures c.is_long.ensures) _ c.in-Err.error c.in-Err.ensures.refusals other c.in-Err.ensures.halted c.in-Err.ensures.greatest,
+  refused_for c.args.self.now.archive pair machine stands.journal
+      (subst (λ n. n < 2 ^ 64) c.generation-generation.ensures c.is_long.ensures) _ c.in-Err.error
+      c.in-Err.ensures.refusals other c.in-Err.ensures.halted c.in-Err.ensures.greatest,
   record {
-    journal = elim c.in-Err.ensures.unchanged [ inl device ↦ absurd (other device) | inr same ↦ same_machine c.args.self.now.archive c.checkpoint.new.self same c.in-Err.ensures.readings pair machine.journal stands.journal ];
+    journal =
+        elim c.in-Err.ensures.unchanged [
+          | inl device ↦ absurd (other device)
+          | inr same ↦ same_machine c.args.self.now.archive c.checkpoint.new.self same
+              c.in-Err.ensures.readings pair machine.journal stands.journal
+        ];
     running = stands.running;
     quiet = stands.quiet;
     untried = stands.untried;
@@ -36,10 +55,20 @@ returns-in-Err-clause-refused g c pair machine stands other = (
 
 pub returns-in-Ok-clause-allowed : goal.returns-in-Ok-clause-allowed
 returns-in-Ok-clause-allowed g c pair machine stands =
-    let was = when_up c.args.self.now.archive pair machine stands.journal (subst (λ n. n < 2 ^ 64) c.generation-generation.ensures c.is_long.ensures) (λ h. ok_not_halted _ _ refl (c.in-Ok.ensures.halted.1 h)) in
-    none_stands c.args.self.now.archive pair machine stands.journal (subst (λ n. n < 2 ^ 64) c.generation-generation.ensures c.is_long.ensures) (λ h. ok_not_halted _ _ refl (c.in-Ok.ensures.halted.1 h)) (λ e. ok_not_full _ _ refl ((c.in-Ok.ensures.greatest _ was.stands).1 e))
+    let was = when_up c.args.self.now.archive pair machine stands.journal
+    (subst (λ n. n < 2 ^ 64) c.generation-generation.ensures c.is_long.ensures)
+    (λ h. ok_not_halted _ _ refl (c.in-Ok.ensures.halted.1 h)) in
+    none_stands c.args.self.now.archive pair machine stands.journal
+    (subst (λ n. n < 2 ^ 64) c.generation-generation.ensures c.is_long.ensures)
+    (λ h. ok_not_halted _ _ refl (c.in-Ok.ensures.halted.1 h))
+    (λ e. ok_not_full _ _ refl ((c.in-Ok.ensures.greatest _ was.stands).1 e))
 
 pub returns-in-Err-clause-allowed : goal.returns-in-Err-clause-allowed
 returns-in-Err-clause-allowed g c pair machine stands device =
-    let was = when_up c.args.self.now.archive pair machine stands.journal (subst (λ n. n < 2 ^ 64) c.generation-generation.ensures c.is_long.ensures) (λ h. device_not_halted _ _ device (c.in-Err.ensures.halted.1 h)) in
-    none_stands c.args.self.now.archive pair machine stands.journal (subst (λ n. n < 2 ^ 64) c.generation-generation.ensures c.is_long.ensures) (λ h. device_not_halted _ _ device (c.in-Err.ensures.halted.1 h)) (λ e. device_not_full _ _ device ((c.in-Err.ensures.greatest _ was.stands).1 e))
+    let was = when_up c.args.self.now.archive pair machine stands.journal
+    (subst (λ n. n < 2 ^ 64) c.generation-generation.ensures c.is_long.ensures)
+    (λ h. device_not_halted _ _ device (c.in-Err.ensures.halted.1 h)) in
+    none_stands c.args.self.now.archive pair machine stands.journal
+    (subst (λ n. n < 2 ^ 64) c.generation-generation.ensures c.is_long.ensures)
+    (λ h. device_not_halted _ _ device (c.in-Err.ensures.halted.1 h))
+    (λ e. device_not_full _ _ device ((c.in-Err.ensures.greatest _ was.stands).1 e))

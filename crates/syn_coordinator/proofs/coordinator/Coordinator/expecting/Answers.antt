@@ -24,5 +24,7 @@ returns-in-None-clause-none g c is_none =
       c.replace.ensures.after ∙ (ap (λ s. Some s) none.0 ∙ sym had),
       λ ran was.
           let same : c.in-Some.running ≡ ran = cc in
-          subst (λ (s : Session). s.number ≡ c.args.session → asked_in (waiting_of (line_of s (which_of c.args.from)).waiting) c.args.number ≡ None) same none.1,
+          subst (λ (s : Session). s.number ≡ c.args.session →
+          asked_in (waiting_of (line_of s (which_of c.args.from)).waiting) c.args.number ≡ None)
+          same none.1,
     )

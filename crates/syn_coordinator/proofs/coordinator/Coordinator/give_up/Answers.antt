@@ -25,6 +25,11 @@ returns-in-Ok g c = record {
 
 pub returns-in-Err : goal.returns-in-Err
 returns-in-Err g c = record {
-  step = λ pair journal left right taken before planned is quiet course_is at none passes.
-      ([], sym (append-nil _), ends_for_memory c.args.self.now.archive c.args.self.now.tried pair taken journal before c.refuse.new.self left right is quiet.0 quiet.1 (c.in-Err.ensures.stays left right before course_is));
+  step = λ pair journal left right taken before planned is quiet course_is at none passes. (
+    [],
+    sym (append-nil _),
+    ends_for_memory c.args.self.now.archive c.args.self.now.tried pair
+        taken journal before c.refuse.new.self left right is quiet.0 quiet.1
+        (c.in-Err.ensures.stays left right before course_is),
+  );
 }

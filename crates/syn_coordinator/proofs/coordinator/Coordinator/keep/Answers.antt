@@ -8,7 +8,8 @@ pub returns-then-is_err-clause-settles : goal.returns-then-is_err-clause-settles
 returns-then-is_err-clause-settles g c pair journal is = no_memory is
 
 pub returns-then-is_err-clause-written : goal.returns-then-is_err-clause-written
-returns-then-is_err-clause-written g c = ap (map kept_of) c.reserve.ensures.items ∙ sym (append-nil _)
+returns-then-is_err-clause-written g c =
+    ap (map kept_of) c.reserve.ensures.items ∙ sym (append-nil _)
 
 pub returns-then-is_err-clause-tried : goal.returns-then-is_err-clause-tried
 returns-then-is_err-clause-tried g c = refl

@@ -15,8 +15,11 @@ use Rattle.syn_coordinator.proofs.coordinator.Coordinator.keep_session.Goals as 
 pub returns-in-Ok-clause-ok : goal.returns-in-Ok-clause-ok
 returns-in-Ok-clause-ok g c pair machine stands =
     let kept = Session (session_shown c.args.self.now.archive + 1) in
-    subst (λ archive. KeepsSo archive pair machine.journal kept (kept ∷ []) Up) (sym c.run.ensures.archive)
-    (number_kept _ _ pair machine.journal stands.journal c.requires.up c.device_laws.ensures.made c.device_laws.ensures.behind c.in-Ok.field-0 c.in-Ok.ensures.acknowledged c.in-Ok.ensures.record c.keeps_on_disk.ensures c.in-Ok.ensures.calls)
+    subst (λ archive. KeepsSo archive pair machine.journal kept (kept ∷ []) Up)
+    (sym c.run.ensures.archive)
+    (number_kept _ _ pair machine.journal stands.journal c.requires.up c.device_laws.ensures.made
+    c.device_laws.ensures.behind c.in-Ok.field-0 c.in-Ok.ensures.acknowledged
+    c.in-Ok.ensures.record c.keeps_on_disk.ensures c.in-Ok.ensures.calls)
 
 -- what a result refuses
 abbrev refused : {T E : Type 0} → E → Result T E → E
@@ -27,9 +30,13 @@ pub returns-in-Err-clause-device : goal.returns-in-Err-clause-device
 returns-in-Err-clause-device g c pair machine stands e =
     let device = (c.not_begun.ensures.device (ap (refused error.Device) e)).0 in
     let kept = Session (session_shown c.args.self.now.archive + 1) in
-    subst (λ archive. KeepsSo archive pair machine.journal kept [] Halted) (sym c.not_begun.ensures.archive)
-    (number_failed _ _ pair machine.journal stands.journal c.requires.up c.device_laws.ensures.broken c.requires.fits (c.in-Err.ensures.halts (ap (λ e. Err e) device)) c.in-Err.ensures.readings g.met.D.Disk.counts_now c.in-Err.ensures.any_moment
-    (subst (λ e. MakesIfDevice e 4 (g.D.Disk.arms (disk_of c.args.self.now.archive)) (g.D.Disk.arms (disk_of c.next_session.new.self))) device c.in-Err.ensures.calls))
+    subst (λ archive. KeepsSo archive pair machine.journal kept [] Halted)
+    (sym c.not_begun.ensures.archive)
+    (number_failed _ _ pair machine.journal stands.journal c.requires.up
+    c.device_laws.ensures.broken c.requires.fits (c.in-Err.ensures.halts (ap (λ e. Err e) device))
+    c.in-Err.ensures.readings g.met.D.Disk.counts_now c.in-Err.ensures.any_moment
+    (subst (λ e. MakesIfDevice e 4 (g.D.Disk.arms (disk_of c.args.self.now.archive))
+    (g.D.Disk.arms (disk_of c.next_session.new.self))) device c.in-Err.ensures.calls))
 
 pub returns-in-Err-clause-failures : goal.returns-in-Err-clause-failures
 returns-in-Err-clause-failures g c =
@@ -39,9 +46,11 @@ returns-in-Err-clause-failures g c =
     elim c.not_begun.ensures.other [
       | inl device ↦ subst (λ e. CountsFailures e before after) (sym device)
           (subst (λ a. before < g.D.Disk.failures (disk_of a)) (sym archive)
-          (subst (λ e. Counts e before (g.D.Disk.failures (disk_of c.next_session.new.self))) (c.not_begun.ensures.device device).0 c.in-Err.ensures.failures))
+          (subst (λ e. Counts e before (g.D.Disk.failures (disk_of c.next_session.new.self)))
+          (c.not_begun.ensures.device device).0 c.in-Err.ensures.failures))
       | inr stays ↦ subst (λ e. CountsFailures e before after) (sym stays.0)
-          (ap (λ a. g.D.Disk.failures (disk_of a)) archive ∙ counts_none c.in-Err.error _ _ stays.1 c.in-Err.ensures.failures)
+          (ap (λ a. g.D.Disk.failures (disk_of a)) archive
+          ∙ counts_none c.in-Err.error _ _ stays.1 c.in-Err.ensures.failures)
     ]
 
 pub returns-in-Err-clause-memory : goal.returns-in-Err-clause-memory
@@ -50,10 +59,13 @@ returns-in-Err-clause-memory g c pair machine stands = elim c.not_begun.ensures.
   | inr stays ↦ inr (
     stays.0,
     subst (λ new. Stands new pair machine) (sym stays.2) (record {
-      journal = elim c.in-Err.ensures.unchanged as (λ _. IsMachine c.next_session.new.self pair machine.journal) [
-        | inl device ↦ absurd (stays.1 device)
-        | inr same ↦ same_machine c.args.self.now.archive c.next_session.new.self same c.in-Err.ensures.readings pair machine.journal stands.journal
-      ];
+      journal =
+          elim c.in-Err.ensures.unchanged
+          as (λ _. IsMachine c.next_session.new.self pair machine.journal) [
+            | inl device ↦ absurd (stays.1 device)
+            | inr same ↦ same_machine c.args.self.now.archive c.next_session.new.self same
+                c.in-Err.ensures.readings pair machine.journal stands.journal
+          ];
       running = stands.running;
       quiet = stands.quiet;
       untried = stands.untried;

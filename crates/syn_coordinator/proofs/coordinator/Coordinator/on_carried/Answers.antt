@@ -12,16 +12,22 @@ returns-in-Ok-Asks-clause-step g c pair journal all before to number request is 
     let left = c.args.left.now in
     let right = c.args.right.now in
     let taken = exchange_of to number request (reply_of c.args.reply) in
-    carries_further pair taken journal before left right all c.args.self.now c.take_answer.new.self is quiet c.in-Ok-Asks.side c.in-Ok-Asks.request
-    (subst (λ n. TakesAnswer journal.value left right all before taken c.take_answer.new.self (Ok n)) c.in-Ok-Asks.field-0-is (c.in-Ok-Asks.ensures.step journal.value left right all before to number request carries))
+    carries_further pair taken journal before left right all c.args.self.now c.take_answer.new.self
+    is quiet c.in-Ok-Asks.side c.in-Ok-Asks.request
+    (subst (λ n. TakesAnswer journal.value left right all before taken c.take_answer.new.self
+    (Ok n)) c.in-Ok-Asks.field-0-is
+    (c.in-Ok-Asks.ensures.step journal.value left right all before to number request carries))
 
 pub returns-in-Ok-Done-clause-step : goal.returns-in-Ok-Done-clause-step
 returns-in-Ok-Done-clause-step g c pair journal all before to number request is quiet carries =
     let left = c.args.left.now in
     let right = c.args.right.now in
     let taken = exchange_of to number request (reply_of c.args.reply) in
-    let took = subst (λ n. TakesAnswer journal.value left right all before taken c.take_answer.new.self (Ok n)) c.in-Ok-Done.field-0-is (c.in-Ok-Done.ensures.step journal.value left right all before to number request carries) in
-    goes_later pair taken journal before left right all c.args.self.now c.walk_behind.new.self c.walk_behind.new.course took.0 c.walk_behind.result
+    let took = subst (λ n. TakesAnswer journal.value left right all before taken
+    c.take_answer.new.self (Ok n)) c.in-Ok-Done.field-0-is
+    (c.in-Ok-Done.ensures.step journal.value left right all before to number request carries) in
+    goes_later pair taken journal before left right all c.args.self.now c.walk_behind.new.self
+    c.walk_behind.new.course took.0 c.walk_behind.result
     (c.walk_behind.ensures.step pair journal taken _ before took.1.0 is quiet took.1.1 took.1.2)
 
 pub returns-in-Ok-Refused-clause-step : goal.returns-in-Ok-Refused-clause-step
@@ -29,11 +35,17 @@ returns-in-Ok-Refused-clause-step g c pair journal all before to number request 
     let left = c.args.left.now in
     let right = c.args.right.now in
     let taken = exchange_of to number request (reply_of c.args.reply) in
-    let took = subst (λ n. TakesAnswer journal.value left right all before taken c.take_answer.new.self (Ok n)) c.in-Ok-Refused.field-0-is (c.in-Ok-Refused.ensures.step journal.value left right all before to number request carries) in
-    goes_later pair taken journal before left right all c.args.self.now c.walk_past.new.self c.walk_past.new.course took.0 c.walk_past.result
-    (c.walk_past.ensures.step pair journal taken _ before took.1.0 is quiet took.1.1 took.1.2 took.1.3)
+    let took = subst (λ n. TakesAnswer journal.value left right all before taken
+    c.take_answer.new.self (Ok n)) c.in-Ok-Refused.field-0-is
+    (c.in-Ok-Refused.ensures.step journal.value left right all before to number request carries)
+    in
+    goes_later pair taken journal before left right all c.args.self.now c.walk_past.new.self
+    c.walk_past.new.course took.0 c.walk_past.result
+    (c.walk_past.ensures.step pair journal taken _ before took.1.0 is quiet took.1.1 took.1.2
+    took.1.3)
 
 pub returns-in-Err-clause-step : goal.returns-in-Err-clause-step
 returns-in-Err-clause-step g c pair journal all before to number request is quiet carries =
-    let took = c.in-Err.ensures.step journal.value c.args.left.now c.args.right.now all before to number request carries in
+    let took = c.in-Err.ensures.step journal.value c.args.left.now c.args.right.now all before to
+    number request carries in
     carrying.at_once c.in-Err.why took.0 refl is quiet took.1

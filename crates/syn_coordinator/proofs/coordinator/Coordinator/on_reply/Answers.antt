@@ -7,15 +7,21 @@ use Rattle.syn_session.specs.Sendings.{messages_of}
 use Rattle.syn_session.specs.Answering.{exchange_of}
 use Rattle.syn_keep.specs.Machines.{IsMachine}
 use Rattle.syn_image.specs.Archives.{kept_of}
-use Rattle.syn_coordinator.proofs.ReplyLemmas.{answered_does, ends_so, expects, ignored_does, none_expected}
+use Rattle.syn_coordinator.proofs.ReplyLemmas.{answered_does, ends_so, expects, ignored_does}
+use Rattle.syn_coordinator.proofs.ReplyLemmas.{none_expected}
 use Rattle.syn_coordinator.proofs.coordinator.Coordinator.on_reply.Goals as goal
 
 pub returns-in_default : goal.returns-in_default
 returns-in_default g c = record {
   step = λ pair machine stands.
       let none = c.in_default.ensures.none refl in
-      ignored_does c.args.self.now c.expecting.new.self pair machine (which_of c.args.from) c.args.session c.args.number (reply_of c.args.reply) stands c.expecting.ensures.archive none.0 c.expecting.ensures.kept.2
-      (none_expected c.args.self.now c.args.self.now pair machine (which_of c.args.from) c.args.session c.args.number (reply_of c.args.reply) stands none.1) _ _ (ap (λ w. map kept_of w.items) c.expecting.ensures.kept.0 ∙ ap (map kept_of) c.new.ensures.items) (ap messages_of c.new-in_default.ensures.items);
+      ignored_does c.args.self.now c.expecting.new.self pair machine
+      (which_of c.args.from) c.args.session c.args.number
+      (reply_of c.args.reply) stands c.expecting.ensures.archive none.0 c.expecting.ensures.kept.2
+      (none_expected c.args.self.now c.args.self.now pair machine (which_of c.args.from)
+      c.args.session c.args.number (reply_of c.args.reply) stands none.1) _ _
+      (ap (λ w. map kept_of w.items) c.expecting.ensures.kept.0
+      ∙ ap (map kept_of) c.new.ensures.items) (ap messages_of c.new-in_default.ensures.items);
 }
 
 pub returns-in-Ok : goal.returns-in-Ok
@@ -26,10 +32,18 @@ returns-in-Ok g c = record {
       let side = which_of c.args.from in
       let reply = reply_of c.args.reply in
       let request = request_of c.in-Some.request in
-      let it = expects c.args.self.now c.args.self.now pair machine side c.args.session c.args.number reply stands waits.0 c.in-Some.running request was waits.2 waits.3 in
-      let on = c.in-Ok.ensures.step pair c.args.number machine.journal waits.0 it.0 (subst (λ a. IsMachine a pair machine.journal) (sym c.expecting.ensures.archive) stands.journal) (c.expecting.ensures.kept.2 ∙ stands.untried (ap is_some it.1.runs), stands.quiet (ap is_some it.1.runs)) it.2 waits.3 (ap (λ w. map kept_of w.items) c.expecting.ensures.kept.0 ∙ ap (map kept_of) c.new.ensures.items) in
-      answered_does c.args.self.now c.ask.new.self pair machine side c.args.session c.args.number reply it.0 request _ _ (ap is_some was) it.1
-      (c.ask.ensures.step pair machine it.0 (exchange_of side c.args.number request reply) (stands.quiet (ap is_some it.1.runs)) on.1 on.0);
+      let it = expects c.args.self.now c.args.self.now pair machine side c.args.session
+      c.args.number reply stands waits.0 c.in-Some.running request was waits.2 waits.3 in
+      let on = c.in-Ok.ensures.step pair c.args.number machine.journal waits.0 it.0 (subst
+      (λ a. IsMachine a pair machine.journal) (sym c.expecting.ensures.archive) stands.journal) (
+        c.expecting.ensures.kept.2 ∙ stands.untried (ap is_some it.1.runs),
+        stands.quiet (ap is_some it.1.runs),
+      ) it.2 waits.3 (ap (λ w. map kept_of w.items)
+      c.expecting.ensures.kept.0 ∙ ap (map kept_of) c.new.ensures.items) in
+      answered_does c.args.self.now c.ask.new.self pair machine side c.args.session c.args.number
+      reply it.0 request _ _ (ap is_some was) it.1
+      (c.ask.ensures.step pair machine it.0 (exchange_of side c.args.number request reply)
+      (stands.quiet (ap is_some it.1.runs)) on.1 on.0);
 }
 
 pub returns-in-Err : goal.returns-in-Err
@@ -40,8 +54,19 @@ returns-in-Err g c = record {
       let side = which_of c.args.from in
       let reply = reply_of c.args.reply in
       let request = request_of c.in-Some.request in
-      let it = expects c.args.self.now c.args.self.now pair machine side c.args.session c.args.number reply stands waits.0 c.in-Some.running request was waits.2 waits.3 in
-      let ends = c.in-Err.ensures.step pair c.args.number machine.journal waits.0 it.0 (subst (λ a. IsMachine a pair machine.journal) (sym c.expecting.ensures.archive) stands.journal) (c.expecting.ensures.kept.2 ∙ stands.untried (ap is_some it.1.runs), stands.quiet (ap is_some it.1.runs)) it.2 waits.3 (ap (λ w. map kept_of w.items) c.expecting.ensures.kept.0 ∙ ap (map kept_of) c.new.ensures.items) in
-      answered_does c.args.self.now c.finish.new.self pair machine side c.args.session c.args.number reply it.0 request _ _ (ap is_some was) it.1
-      (ends_so pair machine it.0 (exchange_of side c.args.number request reply) c.finish.new.self c.finish.ensures.running _ _ c.take.new.session _ _ c.in-Err.ended _ c.finish.ensures.archive c.finish.ensures.kept.2 (ap (λ w. map kept_of w.items) c.finish.ensures.kept.0) (ap messages_of c.new-in-Err.ensures.items) ends c.finish.ensures.report);
+      let it = expects c.args.self.now c.args.self.now pair machine side c.args.session
+      c.args.number reply stands waits.0 c.in-Some.running request was waits.2 waits.3 in
+      let ends = c.in-Err.ensures.step pair c.args.number machine.journal waits.0 it.0 (subst
+      (λ a. IsMachine a pair machine.journal) (sym c.expecting.ensures.archive) stands.journal) (
+        c.expecting.ensures.kept.2 ∙ stands.untried (ap is_some it.1.runs),
+        stands.quiet (ap is_some it.1.runs),
+      ) it.2 waits.3 (ap (λ w. map kept_of w.items)
+      c.expecting.ensures.kept.0 ∙ ap (map kept_of) c.new.ensures.items) in
+      answered_does c.args.self.now c.finish.new.self pair machine side c.args.session c.args.number
+      reply it.0 request _ _ (ap is_some was) it.1
+      (ends_so pair machine it.0
+      (exchange_of side c.args.number request reply) c.finish.new.self c.finish.ensures.running _
+      _ c.take.new.session _ _ c.in-Err.ended _ c.finish.ensures.archive c.finish.ensures.kept.2
+      (ap (λ w. map kept_of w.items) c.finish.ensures.kept.0)
+      (ap messages_of c.new-in-Err.ensures.items) ends c.finish.ensures.report);
 }

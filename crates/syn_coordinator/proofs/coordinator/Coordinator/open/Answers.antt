@@ -7,13 +7,19 @@ use Rattle.syn_coordinator.proofs.coordinator.Coordinator.open.Goals as goal
 pub returns-in-Ok-clause-opens : goal.returns-in-Ok-clause-opens
 returns-in-Ok-clause-opens g c machine rests =
     let fits : c.args.pair < 2 ^ 64 = omega arith in
-    open_ok g.D.Disk c.args.pair c.args.disk c.args.tried machine rests g.met.D.Disk.seen_may_stay c.device_laws.ensures.reads c.in-Ok.archive fits c.in-Ok.ensures.untouched c.in-Ok.ensures.each c.keeps_on_disk.ensures c.opening_laws.ensures.archives
-    c.new-coordinator.result (option_map kept_of c.found-kept.result) c.found-kept.ensures c.new-coordinator.ensures.stands c.in-Ok.ensures.calls
+    open_ok g.D.Disk c.args.pair c.args.disk c.args.tried machine rests g.met.D.Disk.seen_may_stay
+    c.device_laws.ensures.reads c.in-Ok.archive fits c.in-Ok.ensures.untouched
+    c.in-Ok.ensures.each c.keeps_on_disk.ensures c.opening_laws.ensures.archives
+    c.new-coordinator.result (option_map kept_of c.found-kept.result) c.found-kept.ensures
+    c.new-coordinator.ensures.stands c.in-Ok.ensures.calls
 
 pub returns-in-Err-clause-rests : goal.returns-in-Err-clause-rests
 returns-in-Err-clause-rests g c machine rests =
     let fits : c.args.pair < 2 ^ 64 = omega arith in
     let bytes = g.D.Disk.seen c.args.disk in
-    let there = some_stands c.args.pair machine bytes (rests.leaves bytes (g.met.D.Disk.seen_may_stay c.args.disk)) in
-    open_not g.D.Disk c.args.pair c.args.disk c.args.tried machine rests g.met.D.Disk.seen_may_stay c.device_laws.ensures.reads c.in-Err.disk c.in-Err.ensures.untouched c.device_laws.ensures.broken c.in-Err.error
+    let there = some_stands c.args.pair machine bytes
+    (rests.leaves bytes (g.met.D.Disk.seen_may_stay c.args.disk)) in
+    open_not g.D.Disk c.args.pair c.args.disk c.args.tried machine rests g.met.D.Disk.seen_may_stay
+    c.device_laws.ensures.reads c.in-Err.disk c.in-Err.ensures.untouched
+    c.device_laws.ensures.broken c.in-Err.error
     (c.in-Err.ensures.lawful c.args.pair there.0 fits there.1 (inr refl)) c.in-Err.ensures.calls

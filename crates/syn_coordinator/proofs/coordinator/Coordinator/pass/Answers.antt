@@ -9,8 +9,10 @@ pub returns-in-Ok-Nothing-clause-step : goal.returns-in-Ok-Nothing-clause-step
 returns-in-Ok-Nothing-clause-step g c pair journal taken all before is quiet at = (
   [],
   sym (append-nil _),
-  ends_settled pair taken journal before c.args.left.now c.args.right.now c.args.self.now.archive c.args.self.now.tried is quiet.0 quiet.1 c.args.course.now at.course_is
-      (subst (IsDoing c.args.course.now c.args.left.now c.args.right.now) c.in-Ok-Nothing.field-0-is (c.in-Ok-Nothing.ensures.ok before at.course_is)),
+  ends_settled pair taken journal before c.args.left.now c.args.right.now c.args.self.now.archive
+      c.args.self.now.tried is quiet.0 quiet.1 c.args.course.now at.course_is
+      (subst (IsDoing c.args.course.now c.args.left.now c.args.right.now) c.in-Ok-Nothing.field-0-is
+      (c.in-Ok-Nothing.ensures.ok before at.course_is)),
 )
 
 pub returns-in-Ok-Conflict-clause-step : goal.returns-in-Ok-Conflict-clause-step
@@ -18,31 +20,49 @@ returns-in-Ok-Conflict-clause-step g c pair journal taken all before is quiet at
     let left = c.args.left.now in
     let right = c.args.right.now in
     let course = c.args.course.now in
-    let doing = subst (IsDoing course left right) c.in-Ok-Conflict.field-0-is (c.in-Ok-Conflict.ensures.ok before at.course_is) in
-    past_so (AsksSo c.args.self.now c.args.self.now pair taken journal before c.pass_conflict.new.course left right all) (EndsSo c.args.self.now c.args.self.now pair taken journal before c.pass_conflict.new.course left right)
-    (on_past pair taken journal before left right c.args.self.now c.args.self.now course c.pass_conflict.new.course all at) c.pass_conflict.result c.nothing_asked.result c.nothing_asked.ensures
-    (c.pass_conflict.ensures.step pair journal left right taken before doing.0 is quiet at.course_is doing.1 doing.2)
+    let doing = subst (IsDoing course left right) c.in-Ok-Conflict.field-0-is
+    (c.in-Ok-Conflict.ensures.ok before at.course_is) in
+    past_so (AsksSo c.args.self.now c.args.self.now pair taken journal before
+    c.pass_conflict.new.course left right all) (EndsSo c.args.self.now c.args.self.now pair taken
+    journal before c.pass_conflict.new.course left right)
+    (on_past pair taken journal before left right c.args.self.now c.args.self.now course
+    c.pass_conflict.new.course all at) c.pass_conflict.result c.nothing_asked.result
+    c.nothing_asked.ensures
+    (c.pass_conflict.ensures.step pair journal left right taken before doing.0 is quiet at.course_is
+    doing.1 doing.2)
 
 pub returns-in-Ok-Mark-clause-step : goal.returns-in-Ok-Mark-clause-step
 returns-in-Ok-Mark-clause-step g c pair journal taken all before is quiet at =
     let left = c.args.left.now in
     let right = c.args.right.now in
     let course = c.args.course.now in
-    let doing = subst (IsDoing course left right) c.in-Ok-Mark.field-0-is (c.in-Ok-Mark.ensures.ok before at.course_is) in
-    past_so (AsksSo c.args.self.now c.settle.new.self pair taken journal before c.settle.new.course left right all) (EndsSo c.args.self.now c.settle.new.self pair taken journal before c.settle.new.course left right)
-    (on_past pair taken journal before left right c.args.self.now c.settle.new.self course c.settle.new.course all at) c.settle.result c.nothing_asked-in-Ok-Mark.result c.nothing_asked-in-Ok-Mark.ensures
-    (c.settle.ensures.step pair journal left right taken before doing.0 is quiet at.course_is doing.1 (doing.4 taken) doing.2)
+    let doing = subst (IsDoing course left right) c.in-Ok-Mark.field-0-is
+    (c.in-Ok-Mark.ensures.ok before at.course_is) in
+    past_so (AsksSo c.args.self.now c.settle.new.self pair taken journal before c.settle.new.course
+    left right all) (EndsSo c.args.self.now c.settle.new.self pair taken journal before
+    c.settle.new.course left right)
+    (on_past pair taken journal before left right c.args.self.now c.settle.new.self course
+    c.settle.new.course all at) c.settle.result c.nothing_asked-in-Ok-Mark.result
+    c.nothing_asked-in-Ok-Mark.ensures
+    (c.settle.ensures.step pair journal left right taken before doing.0 is quiet at.course_is
+    doing.1 (doing.4 taken) doing.2)
 
 pub returns-in-Ok-Carry-clause-step : goal.returns-in-Ok-Carry-clause-step
 returns-in-Ok-Carry-clause-step g c pair journal taken all before is quiet at =
     let left = c.args.left.now in
     let right = c.args.right.now in
     let course = c.args.course.now in
-    let doing = subst (IsDoing course left right) c.in-Ok-Carry.field-0-is (c.in-Ok-Carry.ensures.ok before at.course_is) in
-    further_so (AsksSo c.args.self.now c.args.self.now pair taken journal before c.carry.new.course left right all) (EndsSo c.args.self.now c.args.self.now pair taken journal before c.carry.new.course left right)
-    (on_past pair taken journal before left right c.args.self.now c.args.self.now course c.carry.new.course all at) c.carry.result
-    (c.carry.ensures.step pair journal left right taken all before doing.0 is quiet at doing.1 doing.2 doing.3 doing.4)
+    let doing = subst (IsDoing course left right) c.in-Ok-Carry.field-0-is
+    (c.in-Ok-Carry.ensures.ok before at.course_is) in
+    further_so (AsksSo c.args.self.now c.args.self.now pair taken journal before c.carry.new.course
+    left right all) (EndsSo c.args.self.now c.args.self.now pair taken journal before
+    c.carry.new.course left right)
+    (on_past pair taken journal before left right c.args.self.now c.args.self.now course
+    c.carry.new.course all at) c.carry.result
+    (c.carry.ensures.step pair journal left right taken all before doing.0 is quiet at doing.1
+    doing.2 doing.3 doing.4)
 
 pub returns-in-Err-clause-step : goal.returns-in-Err-clause-step
 returns-in-Err-clause-step g c pair journal taken all before is quiet at =
-    ends_here pair taken journal before c.args.left.now c.args.right.now c.args.self.now is quiet c.args.course.now c.args.course.now at.course_is refl _ refl
+    ends_here pair taken journal before c.args.left.now c.args.right.now c.args.self.now is quiet
+    c.args.course.now c.args.course.now at.course_is refl _ refl

@@ -15,7 +15,10 @@ returns-in-Ok g c = record {
         record {
           journal = journal;
           after = past_at before;
-          passes = passes_conflict pair taken journal before planned (at_walk before c.args.course.now left right course_is planned at) c.args.path conflict;
+          passes =
+              passes_conflict pair taken journal before planned
+              (at_walk before c.args.course.now left right course_is planned at) c.args.path
+              conflict;
           is = is;
           course_is = later;
         },
@@ -25,6 +28,11 @@ returns-in-Ok g c = record {
 
 pub returns-in-Err : goal.returns-in-Err
 returns-in-Err g c = record {
-  step = λ pair journal left right taken before planned is quiet course_is at conflict.
-      ([], sym (append-nil _), ends_for_memory c.args.self.now.archive c.args.self.now.tried pair taken journal before c.pass_conflict.new.self left right is quiet.0 quiet.1 (c.in-Err.ensures.stays left right before course_is));
+  step = λ pair journal left right taken before planned is quiet course_is at conflict. (
+    [],
+    sym (append-nil _),
+    ends_for_memory c.args.self.now.archive c.args.self.now.tried pair
+        taken journal before c.pass_conflict.new.self left right is quiet.0 quiet.1
+        (c.in-Err.ensures.stays left right before course_is),
+  );
 }

@@ -8,29 +8,51 @@ use Rattle.syn_keep.specs.Steps.{Moves}
 use Rattle.syn_archive.specs.Archive.{disk_of}
 use Rattle.syn_archive.specs.Disks.{IsReopenRefusal}
 use Rattle.syn_archive.specs.Refusals.{AfterReads}
-use Rattle.syn_coordinator.proofs.RefusedLemmas.{reopen_does, not_reopened, halted_not_down, halted_not_up, not_down, error_is}
-use Rattle.syn_coordinator.proofs.ReopenLemmas.{no_memory, reopen_ok, reopen_failed, reopen_stayed, only_memory}
+use Rattle.syn_coordinator.proofs.RefusedLemmas.{reopen_does, not_reopened, halted_not_down}
+use Rattle.syn_coordinator.proofs.RefusedLemmas.{halted_not_up, not_down, error_is}
+use Rattle.syn_coordinator.proofs.ReopenLemmas.{no_memory, reopen_ok, reopen_failed, reopen_stayed}
+use Rattle.syn_coordinator.proofs.ReopenLemmas.{only_memory}
 use Rattle.syn_coordinator.proofs.coordinator.Coordinator.reopen.Goals as goal
 
 pub returns-in-Ok-clause-ok : goal.returns-in-Ok-clause-ok
 returns-in-Ok-clause-ok g c pair machine stands =
-    reopen_does c.args.self.now c.recovered.new.self pair machine stands c.recovered.ensures.running (option_map kept_of c.recovered.result) c.recovered.ensures.goes c.recovered.ensures.stopped
-    (subst (λ a. Moves a pair (λ journal. (kept : List Kept) × Reopened pair machine.journal journal kept) Up) (sym c.recovered.ensures.archive) (reopen_ok c.args.self.now.archive c.reopen.new.self pair machine.journal stands.journal c.in-Ok.ensures.pair c.in-Ok.ensures.untouched g.met.D.Disk.seen_may_stay c.keeps_on_disk-in-Ok.ensures c.in-Ok.ensures.each c.opening_laws.ensures.archives c.device_laws.ensures.reads c.in-Ok.ensures.calls))
+    reopen_does c.args.self.now c.recovered.new.self pair machine stands c.recovered.ensures.running
+    (option_map kept_of c.recovered.result) c.recovered.ensures.goes c.recovered.ensures.stopped
+    (subst (λ a. Moves a pair
+    (λ journal. (kept : List Kept) × Reopened pair machine.journal journal kept) Up)
+    (sym c.recovered.ensures.archive) (reopen_ok c.args.self.now.archive c.reopen.new.self pair
+    machine.journal stands.journal c.in-Ok.ensures.pair c.in-Ok.ensures.untouched
+    g.met.D.Disk.seen_may_stay c.keeps_on_disk-in-Ok.ensures c.in-Ok.ensures.each
+    c.opening_laws.ensures.archives c.device_laws.ensures.reads c.in-Ok.ensures.calls))
 
 pub returns-in-Err-clause-device : goal.returns-in-Err-clause-device
 returns-in-Err-clause-device g c pair machine stands is_device =
     let device = error_is c.in-Err.error _ is_device in
-    not_reopened c.args.self.now _ pair machine stands refl refl _ _ halted_not_down (λ _. halted_not_up)
-    (reopen_failed c.args.self.now.archive c.reopen.new.self pair machine.journal stands.journal c.in-Err.ensures.pair c.in-Err.ensures.untouched g.met.D.Disk.seen_may_stay c.keeps_on_disk-in-Err.ensures c.in-Err.ensures.memory (c.in-Err.ensures.halts (no_memory _ device)) c.device_laws.ensures.broken
-    (subst (λ e. AfterReads 1 e (g.D.Disk.arms (disk_of c.args.self.now.archive)) (g.D.Disk.arms (disk_of c.reopen.new.self))) device c.in-Err.ensures.calls))
+    not_reopened c.args.self.now _ pair machine stands refl refl _ _ halted_not_down
+    (λ _. halted_not_up)
+    (reopen_failed c.args.self.now.archive c.reopen.new.self pair machine.journal stands.journal
+    c.in-Err.ensures.pair c.in-Err.ensures.untouched g.met.D.Disk.seen_may_stay
+    c.keeps_on_disk-in-Err.ensures c.in-Err.ensures.memory
+    (c.in-Err.ensures.halts (no_memory _ device)) c.device_laws.ensures.broken
+    (subst (λ e. AfterReads 1 e (g.D.Disk.arms (disk_of c.args.self.now.archive))
+    (g.D.Disk.arms (disk_of c.reopen.new.self))) device c.in-Err.ensures.calls))
 
 pub returns-in-Err-clause-memory : goal.returns-in-Err-clause-memory
 returns-in-Err-clause-memory g c pair machine stands other =
     let is = stands.journal in
-    let why = subst (λ p. IsReopenRefusal c.in-Err.error p (g.D.Disk.seen (disk_of c.args.self.now.archive))) is.pair_is c.in-Err.ensures.refusals in
-    let memory = only_memory pair machine.journal (g.D.Disk.seen (disk_of c.args.self.now.archive)) (is.leaves _ (g.met.D.Disk.seen_may_stay _)) c.in-Err.error other why in (
+    let why = subst (λ p. IsReopenRefusal c.in-Err.error p
+    (g.D.Disk.seen (disk_of c.args.self.now.archive))) is.pair_is c.in-Err.ensures.refusals in
+    let memory = only_memory pair machine.journal (g.D.Disk.seen (disk_of c.args.self.now.archive))
+    (is.leaves _ (g.met.D.Disk.seen_may_stay _)) c.in-Err.error other why in (
       memory,
-      not_reopened c.args.self.now _ pair machine stands refl refl _ _ (not_down c.args.self.now.archive machine.journal is.state) (λ up. up)
-          (reopen_stayed c.args.self.now.archive c.reopen.new.self pair machine.journal is c.in-Err.ensures.pair c.in-Err.ensures.untouched g.met.D.Disk.seen_may_stay c.keeps_on_disk-in-Err.ensures c.in-Err.ensures.memory c.in-Err.ensures.halted (λ kept was. elim (c.in-Err.ensures.unchanged kept was) [ inl device ↦ absurd (other device) | inr stays ↦ stays ]) c.keeps_on_disk.ensures c.device_laws.ensures.reads
-          (subst (λ e. AfterReads 1 e (g.D.Disk.arms (disk_of c.args.self.now.archive)) (g.D.Disk.arms (disk_of c.reopen.new.self))) memory c.in-Err.ensures.calls)),
+      not_reopened c.args.self.now _ pair machine stands refl refl _ _
+          (not_down c.args.self.now.archive machine.journal is.state) (λ up. up)
+          (reopen_stayed c.args.self.now.archive c.reopen.new.self pair machine.journal is
+          c.in-Err.ensures.pair c.in-Err.ensures.untouched g.met.D.Disk.seen_may_stay
+          c.keeps_on_disk-in-Err.ensures c.in-Err.ensures.memory c.in-Err.ensures.halted
+          (λ kept was. elim (c.in-Err.ensures.unchanged kept was)
+          [ inl device ↦ absurd (other device) | inr stays ↦ stays ]) c.keeps_on_disk.ensures
+          c.device_laws.ensures.reads
+          (subst (λ e. AfterReads 1 e (g.D.Disk.arms (disk_of c.args.self.now.archive))
+          (g.D.Disk.arms (disk_of c.reopen.new.self))) memory c.in-Err.ensures.calls)),
     )

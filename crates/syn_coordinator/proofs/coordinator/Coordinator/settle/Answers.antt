@@ -4,57 +4,85 @@ use Rattle.syn_coordinator.specs.declared.ended.Ended.TheVariants.{Early}
 use Rattle.syn_coordinator.specs.inner.Advancing.{kept_by}
 use Rattle.syn_coordinator.proofs.AdvanceLemmas.{record_due}
 use Rattle.syn_session.proofs.CourseLemmas.{no_conflict}
-use Rattle.syn_coordinator.proofs.SettleLemmas.{ends_for_memory, is_cut_off, is_ended, is_kept, is_refused, still_is, tries_by}
+use Rattle.syn_coordinator.proofs.SettleLemmas.{ends_for_memory, is_cut_off, is_ended, is_kept}
+use Rattle.syn_coordinator.proofs.SettleLemmas.{is_refused, still_is, tries_by}
 use Rattle.syn_keep.specs.declared.due.Due.TheVariants as due
 use Rattle.syn_image.specs.Archives.{kept_of}
 use Rattle.syn_coordinator.proofs.coordinator.Coordinator.settle.Goals as goal
 
 pub returns-then-is_cut-clause-step : goal.returns-then-is_cut-clause-step
-returns-then-is_cut-clause-step g c pair journal left right taken before planned is quiet course_is at is_due carries = (
-  kept_by (kept_of c.args.kept) c.keep-due.result,
-  c.keep-due.ensures.written,
-  is_cut_off c.keep-due.new.self.archive c.keep-due.new.self.tried pair taken journal before c.args.course.now left right course_is planned at (kept_of c.args.kept) is_due quiet.1 c.keep-due.result
-      (c.keep-due.ensures.settles pair journal is) (tries_by c.keep-due.new.self.archive (kept_of c.args.kept) c.args.self.now.tried c.keep-due.new.self.tried c.keep-due.result quiet.0 c.keep-due.ensures.tried) (sym c.is_cut.ensures ∙ c.if-is_cut.true) c.args.course.now (Early refusal.Device),
-)
+returns-then-is_cut-clause-step g c pair journal left right taken before planned is quiet course_is
+    at is_due carries = (
+      kept_by (kept_of c.args.kept) c.keep-due.result,
+      c.keep-due.ensures.written,
+      is_cut_off c.keep-due.new.self.archive c.keep-due.new.self.tried pair taken journal before
+          c.args.course.now left right course_is planned at
+          (kept_of c.args.kept) is_due quiet.1 c.keep-due.result
+          (c.keep-due.ensures.settles pair journal is)
+          (tries_by c.keep-due.new.self.archive (kept_of c.args.kept) c.args.self.now.tried
+          c.keep-due.new.self.tried c.keep-due.result quiet.0 c.keep-due.ensures.tried)
+          (sym c.is_cut.ensures ∙ c.if-is_cut.true) c.args.course.now (Early refusal.Device),
+    )
 
 pub returns-in-Recorded-clause-step : goal.returns-in-Recorded-clause-step
-returns-in-Recorded-clause-step g c pair journal left right taken before planned is quiet course_is at is_due carries =
+returns-in-Recorded-clause-step g c pair journal left right taken before planned is quiet course_is
+    at is_due carries =
     let what = kept_of c.args.kept in
-    let later = c.pass_kept.ensures.passes left right before planned what course_is at (record_due c.args.course.now.cursor planned taken what is_due) carries in (
+    let later = c.pass_kept.ensures.passes left right before planned what course_is at
+    (record_due c.args.course.now.cursor planned taken what is_due) carries in (
       what ∷ [],
       c.in-Recorded.ensures.written,
       later.cursor,
-      is_kept c.keep-due.new.self.archive c.keep-due.new.self.tried pair taken journal before c.args.course.now left right course_is planned at what is_due quiet.1 (sym c.is_cut.ensures ∙ c.if-is_cut.false)
-          (c.in-Recorded.ensures.settles pair journal is) (c.in-Recorded.ensures.tried ∙ quiet.0) c.pass_kept.new.self later,
+      is_kept c.keep-due.new.self.archive c.keep-due.new.self.tried pair taken journal before
+          c.args.course.now left right course_is planned at what is_due quiet.1
+          (sym c.is_cut.ensures ∙ c.if-is_cut.false)
+          (c.in-Recorded.ensures.settles pair journal is)
+          (c.in-Recorded.ensures.tried ∙ quiet.0) c.pass_kept.new.self later,
       c.in-Recorded.ensures.tried ∙ quiet.0,
     )
 
 pub returns-in-Ok-clause-step : goal.returns-in-Ok-clause-step
-returns-in-Ok-clause-step g c pair journal left right taken before planned is quiet course_is at is_due carries =
+returns-in-Ok-clause-step g c pair journal left right taken before planned is quiet course_is at
+    is_due carries =
     let what = kept_of c.args.kept in
-    let later = c.in-Ok.ensures.passes left right before planned course_is at (no_conflict planned planned.item what (record_due c.args.course.now.cursor planned taken what is_due)) in (
+    let later = c.in-Ok.ensures.passes left right before planned course_is at (no_conflict planned
+    planned.item what (record_due c.args.course.now.cursor planned taken what is_due)) in (
       [],
       c.in-Refused.ensures.written,
       later.cursor,
-      is_refused c.keep-due.new.self.archive c.keep-due.new.self.tried pair taken journal before c.args.course.now left right course_is planned at what is_due quiet.1 (sym c.is_cut.ensures ∙ c.if-is_cut.false)
-          c.in-Refused.why (c.in-Refused.ensures.settles pair journal is) (c.in-Refused.ensures.tried ∙ quiet.0) c.refuse.new.self later,
+      is_refused c.keep-due.new.self.archive c.keep-due.new.self.tried pair taken journal before
+          c.args.course.now left right course_is planned at what is_due quiet.1
+          (sym c.is_cut.ensures ∙ c.if-is_cut.false)
+          c.in-Refused.why (c.in-Refused.ensures.settles pair journal is)
+          (c.in-Refused.ensures.tried ∙ quiet.0) c.refuse.new.self later,
       c.in-Refused.ensures.tried ∙ quiet.0,
     )
 
 pub returns-in-Err-clause-step : goal.returns-in-Err-clause-step
-returns-in-Err-clause-step g c pair journal left right taken before planned is quiet course_is at is_due carries =
+returns-in-Err-clause-step g c pair journal left right taken before planned is quiet course_is at
+    is_due carries =
     let what = kept_of c.args.kept in (
       [],
       c.in-Refused.ensures.written,
-      ends_for_memory c.keep-due.new.self.archive c.keep-due.new.self.tried pair taken journal before c.refuse.new.self left right
-          (still_is c.keep-due.new.self.archive c.keep-due.new.self.tried pair taken journal before c.args.course.now left right course_is planned at what is_due quiet.1 (sym c.is_cut.ensures ∙ c.if-is_cut.false)
-          c.in-Refused.why (c.in-Refused.ensures.settles pair journal is) (c.in-Refused.ensures.tried ∙ quiet.0)) (c.in-Refused.ensures.tried ∙ quiet.0) quiet.1 (c.in-Err.ensures.stays left right before course_is),
+      ends_for_memory c.keep-due.new.self.archive c.keep-due.new.self.tried pair taken journal
+          before c.refuse.new.self left right
+          (still_is c.keep-due.new.self.archive c.keep-due.new.self.tried pair taken journal before
+          c.args.course.now left right course_is planned at what is_due quiet.1
+          (sym c.is_cut.ensures ∙ c.if-is_cut.false)
+          c.in-Refused.why (c.in-Refused.ensures.settles pair journal is)
+          (c.in-Refused.ensures.tried ∙ quiet.0)) (c.in-Refused.ensures.tried ∙ quiet.0) quiet.1
+          (c.in-Err.ensures.stays left right before course_is),
     )
 
 pub returns-in-Ends-clause-step : goal.returns-in-Ends-clause-step
-returns-in-Ends-clause-step g c pair journal left right taken before planned is quiet course_is at is_due carries = (
-  [],
-  c.in-Ends.ensures.written,
-  is_ended c.keep-due.new.self.archive c.keep-due.new.self.tried pair taken journal before c.args.course.now left right course_is planned at (kept_of c.args.kept) is_due quiet.1 c.in-Ends.why (c.in-Ends.ensures.settles pair journal is)
-      (tries_by c.keep-due.new.self.archive (kept_of c.args.kept) c.args.self.now.tried c.keep-due.new.self.tried (due.Ends c.in-Ends.why) quiet.0 c.in-Ends.ensures.tried),
-)
+returns-in-Ends-clause-step g c pair journal left right taken before planned is quiet course_is at
+    is_due carries = (
+      [],
+      c.in-Ends.ensures.written,
+      is_ended c.keep-due.new.self.archive c.keep-due.new.self.tried pair taken journal before
+          c.args.course.now left right course_is planned at
+          (kept_of c.args.kept) is_due quiet.1 c.in-Ends.why
+          (c.in-Ends.ensures.settles pair journal is)
+          (tries_by c.keep-due.new.self.archive (kept_of c.args.kept) c.args.self.now.tried
+          c.keep-due.new.self.tried (due.Ends c.in-Ends.why) quiet.0 c.in-Ends.ensures.tried),
+    )

@@ -20,10 +20,17 @@ returns-in-Ok g c = record {
       let was = c.in-Some.is in
       let same_left = c.found-left.ensures.found in
       let same_right = c.found-right.ensures.found in
-      let carries = carries_now pair journal before c.args.session.now running side number request reply session answers c.in-Some.course was left right same_left same_right in
-      let on = c.in-Ok.ensures.step pair journal running.taken (reached_by running) side number request is quiet carries in (
-        subst (TakesOn c.on_carried.new.self.archive pair journal running (exchange_of side number request reply) (record c.args.session.now { course = Some c.on_carried.new.course }) (written c.on_carried.new.self)) (sym c.asks_to.ensures)
-            (carries_asking pair journal before c.args.session.now running side number request reply session answers c.in-Some.course was left right same_left same_right c.transfer_laws.ensures c.args.self.now c.on_carried.new.self nothing c.on_carried.new.course c.in-Ok.side c.in-Ok.request
+      let carries = carries_now pair journal before c.args.session.now running side number request
+      reply session answers c.in-Some.course was left right same_left same_right in
+      let on = c.in-Ok.ensures.step pair journal running.taken
+      (reached_by running) side number request is quiet carries in (
+        subst (TakesOn c.on_carried.new.self.archive pair journal running (exchange_of side number
+            request reply) (record c.args.session.now { course = Some c.on_carried.new.course })
+            (written c.on_carried.new.self)) (sym c.asks_to.ensures)
+            (carries_asking pair journal before c.args.session.now running side number request reply
+            session answers c.in-Some.course was left right same_left same_right
+            c.transfer_laws.ensures c.args.self.now c.on_carried.new.self nothing
+            c.on_carried.new.course c.in-Ok.side c.in-Ok.request
             on),
         on.asks_so.3,
       );
@@ -40,7 +47,11 @@ returns-in-Err g c = record {
       let was = c.in-Some.is in
       let same_left = c.found-left.ensures.found in
       let same_right = c.found-right.ensures.found in
-      let carries = carries_now pair journal before c.args.session.now running side number request reply session answers c.in-Some.course was left right same_left same_right in
-      carries_ending pair journal before c.args.session.now running side number request reply session answers c.in-Some.course was left right same_left same_right c.transfer_laws.ensures c.args.self.now c.on_carried.new.self nothing c.on_carried.new.course c.in-Err.ended
-      (c.in-Err.ensures.step pair journal running.taken (reached_by running) side number request is quiet carries);
+      let carries = carries_now pair journal before c.args.session.now running side number request
+      reply session answers c.in-Some.course was left right same_left same_right in
+      carries_ending pair journal before c.args.session.now running side number request reply
+      session answers c.in-Some.course was left right same_left same_right c.transfer_laws.ensures
+      c.args.self.now c.on_carried.new.self nothing c.on_carried.new.course c.in-Err.ended
+      (c.in-Err.ensures.step pair journal running.taken
+      (reached_by running) side number request is quiet carries);
 }

@@ -1,12 +1,15 @@
 use Rattle.std.proofs.Common.{refl, subst, ◌∙◌}
 use Rattle.std.specs.Prelude.{MatchOption}
 use Rattle.syn_coordinator.specs.inner.Settling.{AsksSo, PassesOn}
-use Rattle.syn_coordinator.proofs.PassLemmas.{at_turn, no_turn, no_turn_left, still_quiet, turn_asks, turn_ends, turn_past}
+use Rattle.syn_coordinator.proofs.PassLemmas.{at_turn, no_turn, no_turn_left, still_quiet}
+use Rattle.syn_coordinator.proofs.PassLemmas.{turn_asks, turn_ends, turn_past}
 use Rattle.syn_coordinator.proofs.coordinator.Coordinator.walk.Goals as goal
 
 pub loop-init : goal.loop-init
 loop-init g c = record {
-  come = λ pair journal taken all before is quiet at. no_turn pair taken journal before c.args.left.now c.args.right.now all c.args.self.now is quiet c.args.course.now at;
+  come =
+      λ pair journal taken all before is quiet at. no_turn pair taken journal before c.args.left.now
+      c.args.right.now all c.args.self.now is quiet c.args.course.now at;
   running = refl;
   report = refl;
 }
@@ -17,9 +20,16 @@ loop-preserved g c = record {
       let left = c.args.left.now in
       let right = c.args.right.now in
       let come = c.loop.invariant.come pair journal taken all before is quiet at in
-      let turn = c.in-Ok-None.ensures.step pair come.2.journal taken all come.2.after come.2.is (still_quiet pair taken journal before left right all c.args.self.now c.loop.self c.loop.course come quiet.1) (at_turn pair taken journal before left right all c.args.self.now c.loop.self c.loop.course come) in
-      turn_past pair taken journal before left right all c.args.self.now c.loop.self c.loop.course come c.pass.new.self c.pass.new.course
-      (subst (λ o. MatchOption o (PassesOn c.loop.self c.pass.new.self pair taken come.2.journal come.2.after c.pass.new.course left right all) (AsksSo c.loop.self c.pass.new.self pair taken come.2.journal come.2.after c.pass.new.course left right all)) c.in-Ok-None.field-0-is turn);
+      let turn = c.in-Ok-None.ensures.step pair come.2.journal taken all come.2.after come.2.is
+      (still_quiet pair taken journal before left right all c.args.self.now c.loop.self
+      c.loop.course come quiet.1) (at_turn pair taken journal before left right all
+      c.args.self.now c.loop.self c.loop.course come) in
+      turn_past pair taken journal before left right all c.args.self.now c.loop.self c.loop.course
+      come c.pass.new.self c.pass.new.course
+      (subst (λ o. MatchOption o (PassesOn c.loop.self c.pass.new.self pair taken come.2.journal
+      come.2.after c.pass.new.course left right all) (AsksSo c.loop.self c.pass.new.self pair
+      taken come.2.journal come.2.after c.pass.new.course left right all)) c.in-Ok-None.field-0-is
+      turn);
   running = c.in-Ok-None.ensures.running ∙ c.loop.invariant.running;
   report = c.in-Ok-None.ensures.report ∙ c.loop.invariant.report;
 }
@@ -29,18 +39,30 @@ returns-in-Ok-Some-clause-step g c pair journal taken all before is quiet at =
     let left = c.args.left.now in
     let right = c.args.right.now in
     let come = c.loop.invariant.come pair journal taken all before is quiet at in
-    let turn = c.in-Ok-Some.ensures.step pair come.2.journal taken all come.2.after come.2.is (still_quiet pair taken journal before left right all c.args.self.now c.loop.self c.loop.course come quiet.1) (at_turn pair taken journal before left right all c.args.self.now c.loop.self c.loop.course come) in
-    turn_asks pair taken journal before left right all c.args.self.now c.loop.self c.loop.course come c.pass.new.self c.pass.new.course c.in-Ok-Some.asks
-    (subst (λ o. MatchOption o (PassesOn c.loop.self c.pass.new.self pair taken come.2.journal come.2.after c.pass.new.course left right all) (AsksSo c.loop.self c.pass.new.self pair taken come.2.journal come.2.after c.pass.new.course left right all)) c.in-Ok-Some.field-0-is turn)
+    let turn = c.in-Ok-Some.ensures.step pair come.2.journal taken all come.2.after come.2.is
+    (still_quiet pair taken journal before left right all c.args.self.now c.loop.self
+    c.loop.course come quiet.1) (at_turn pair taken journal before left right all c.args.self.now
+    c.loop.self c.loop.course come) in
+    turn_asks pair taken journal before left right all c.args.self.now c.loop.self c.loop.course
+    come c.pass.new.self c.pass.new.course c.in-Ok-Some.asks
+    (subst (λ o. MatchOption o (PassesOn c.loop.self c.pass.new.self pair taken come.2.journal
+    come.2.after c.pass.new.course left right all) (AsksSo c.loop.self c.pass.new.self pair taken
+    come.2.journal come.2.after c.pass.new.course left right all)) c.in-Ok-Some.field-0-is turn)
 
 pub returns-in-Err-clause-step : goal.returns-in-Err-clause-step
 returns-in-Err-clause-step g c pair journal taken all before is quiet at =
     let left = c.args.left.now in
     let right = c.args.right.now in
     let come = c.loop.invariant.come pair journal taken all before is quiet at in
-    turn_ends pair taken journal before left right all c.args.self.now c.loop.self c.loop.course come c.pass.new.self c.pass.new.course c.in-Err.ended
-    (c.in-Err.ensures.step pair come.2.journal taken all come.2.after come.2.is (still_quiet pair taken journal before left right all c.args.self.now c.loop.self c.loop.course come quiet.1) (at_turn pair taken journal before left right all c.args.self.now c.loop.self c.loop.course come))
+    turn_ends pair taken journal before left right all c.args.self.now c.loop.self c.loop.course
+    come c.pass.new.self c.pass.new.course c.in-Err.ended
+    (c.in-Err.ensures.step pair come.2.journal taken all come.2.after come.2.is (still_quiet pair
+    taken journal before left right all c.args.self.now c.loop.self c.loop.course come quiet.1)
+    (at_turn pair taken journal before left right all c.args.self.now c.loop.self c.loop.course
+    come))
 
 pub returns-clause-step : goal.returns-clause-step
 returns-clause-step g c pair journal taken all before is quiet at =
-    no_turn_left pair taken journal before c.args.left.now c.args.right.now all c.args.self.now c.loop.self c.loop.course (c.loop.invariant.come pair journal taken all before is quiet at) quiet.1 _ refl
+    no_turn_left pair taken journal before c.args.left.now c.args.right.now all
+    c.args.self.now c.loop.self c.loop.course
+    (c.loop.invariant.come pair journal taken all before is quiet at) quiet.1 _ refl

@@ -10,7 +10,10 @@ use Rattle.syn_coordinator.proofs.coordinator.Coordinator.walk.Given as goal
 -- it is past some items, and the call does nothing else
 abbrev pub invariant-loop : goal.invariant-loop
 invariant-loop g l = record {
-  come : (pair : ℕ) (journal : Journal) (taken : Exchange) (all : List Exchange) (before : Reached) → IsMachine (archive_of l.initial.self) pair journal → IsQuiet l.initial.self journal → IsAtItem l.initial.course l.left l.right all before → HasCome l.initial.self l.self pair taken journal before l.course l.left l.right all;
+  come : (pair : ℕ) (journal : Journal) (taken : Exchange) (all : List Exchange)
+      (before : Reached) → IsMachine (archive_of l.initial.self) pair journal →
+      IsQuiet l.initial.self journal → IsAtItem l.initial.course l.left l.right all before →
+      HasCome l.initial.self l.self pair taken journal before l.course l.left l.right all;
   running : l.self.running ≡ l.initial.self.running;
   report : l.self.report ≡ l.initial.self.report;
 }

@@ -5,10 +5,18 @@ pub returns-in-Ok-clause-step : goal.returns-in-Ok-clause-step
 returns-in-Ok-clause-step g c pair journal taken all before planned is quiet out is_due =
     let left = c.args.left.now in
     let right = c.args.right.now in
-    let past = c.in-Ok.ensures.step pair journal left right taken before planned is quiet out.course_is out.at is_due out.carries in
-    later_so pair taken journal before left right all c.args.self.now c.settle_carried.new.self c.args.course.now c.settle_carried.new.course planned out past c.walk.new.self c.walk.new.course c.walk.result
-    (c.walk.ensures.step pair past.3.journal taken all past.3.after past.3.is (still_quiet pair taken journal before left right all c.args.self.now c.settle_carried.new.self c.args.course.now c.settle_carried.new.course planned out past quiet) (at_next pair taken journal before left right all c.args.self.now c.settle_carried.new.self c.args.course.now c.settle_carried.new.course planned out past))
+    let past = c.in-Ok.ensures.step pair journal left right taken before planned is quiet
+    out.course_is out.at is_due out.carries in
+    later_so pair taken journal before left right all c.args.self.now c.settle_carried.new.self
+    c.args.course.now c.settle_carried.new.course planned out past c.walk.new.self
+    c.walk.new.course c.walk.result
+    (c.walk.ensures.step pair past.3.journal taken all past.3.after past.3.is (still_quiet pair
+    taken journal before left right all c.args.self.now c.settle_carried.new.self
+    c.args.course.now c.settle_carried.new.course planned out past quiet)
+    (at_next pair taken journal before left right all c.args.self.now c.settle_carried.new.self
+    c.args.course.now c.settle_carried.new.course planned out past))
 
 pub returns-in-Err-clause-step : goal.returns-in-Err-clause-step
 returns-in-Err-clause-step g c pair journal taken all before planned is quiet out is_due =
-    c.in-Err.ensures.step pair journal c.args.left.now c.args.right.now taken before planned is quiet out.course_is out.at is_due out.carries
+    c.in-Err.ensures.step pair journal c.args.left.now c.args.right.now taken before planned is
+    quiet out.course_is out.at is_due out.carries

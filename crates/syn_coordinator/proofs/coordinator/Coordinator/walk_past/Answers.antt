@@ -6,12 +6,21 @@ pub returns-in-Ok-clause-step : goal.returns-in-Ok-clause-step
 returns-in-Ok-clause-step g c pair journal taken all before planned is quiet out refused asked =
     let left = c.args.left.now in
     let right = c.args.right.now in
-    let past = c.in-Ok.ensures.step pair journal left right taken before planned is quiet out.course_is out.at out.apart
-    (refused_so pair taken journal before left right all c.args.course.now planned out (cause_of c.args.why) refused asked) in
-    later_so pair taken journal before left right all c.args.self.now c.args.self.now c.args.course.now c.give_up.new.course planned out past c.walk.new.self c.walk.new.course c.walk.result
-    (c.walk.ensures.step pair past.3.journal taken all past.3.after past.3.is (still_quiet pair taken journal before left right all c.args.self.now c.args.self.now c.args.course.now c.give_up.new.course planned out past quiet) (at_next pair taken journal before left right all c.args.self.now c.args.self.now c.args.course.now c.give_up.new.course planned out past))
+    let past = c.in-Ok.ensures.step pair journal left right taken before planned is quiet
+    out.course_is out.at out.apart
+    (refused_so pair taken journal before left right all c.args.course.now planned out
+    (cause_of c.args.why) refused asked) in
+    later_so pair taken journal before left right all c.args.self.now c.args.self.now
+    c.args.course.now c.give_up.new.course planned out past c.walk.new.self c.walk.new.course
+    c.walk.result
+    (c.walk.ensures.step pair past.3.journal taken all past.3.after past.3.is (still_quiet pair
+    taken journal before left right all c.args.self.now c.args.self.now c.args.course.now
+    c.give_up.new.course planned out past quiet) (at_next pair taken journal before left right all
+    c.args.self.now c.args.self.now c.args.course.now c.give_up.new.course planned out past))
 
 pub returns-in-Err-clause-step : goal.returns-in-Err-clause-step
 returns-in-Err-clause-step g c pair journal taken all before planned is quiet out refused asked =
-    c.in-Err.ensures.step pair journal c.args.left.now c.args.right.now taken before planned is quiet out.course_is out.at out.apart
-    (refused_so pair taken journal before c.args.left.now c.args.right.now all c.args.course.now planned out (cause_of c.args.why) refused asked)
+    c.in-Err.ensures.step pair journal c.args.left.now c.args.right.now taken before planned is
+    quiet out.course_is out.at out.apart
+    (refused_so pair taken journal before c.args.left.now c.args.right.now all c.args.course.now
+    planned out (cause_of c.args.why) refused asked)

@@ -12,9 +12,14 @@ use Rattle.syn_coordinator.proofs.coordinator.carrying.ask_first.Goals as goal
 pub returns-in-Ok-Ask-clause-step : goal.returns-in-Ok-Ask-clause-step
 returns-in-Ok-Ask-clause-step c archive left right all before planned is at carries ready asked =
     let course = c.args.course.now in
-    let fresh = fresh_for c.plan_laws.ensures.orderly archive course left right before is planned at c.args.carried carries all asked in
-    subst (λ carried. Carries archive (record course { carried = carried }) left right all before (λ transfer. Asks transfer all (which_of c.in-Ok-Ask.side) (request_of c.in-Ok-Ask.request))) (sym c.replace.ensures.after)
-    (carries_on archive course left right before is planned at c.args.carried (record c.args.carried { transfer = c.step.new.self }) c.step.ensures.carriage refl carries all
+    let fresh = fresh_for c.plan_laws.ensures.orderly archive course left right before is planned at
+    c.args.carried carries all asked in
+    subst (λ carried. Carries archive (record course { carried = carried }) left right all before
+    (λ transfer. Asks transfer all (which_of c.in-Ok-Ask.side) (request_of c.in-Ok-Ask.request)))
+    (sym c.replace.ensures.after)
+    (carries_on archive course left right before is planned at c.args.carried (record c.args.carried
+    { transfer = c.step.new.self }) c.step.ensures.carriage refl carries all
     (asked_past (plan_in course left right) course.cursor all asked)
     (λ transfer. Asks transfer all (which_of c.in-Ok-Ask.side) (request_of c.in-Ok-Ask.request))
-    (subst (λ next. Follows c.step.new.self all Staged next) c.in-Ok-Ask.field-0-is (c.in-Ok-Ask.ensures.starts all refl ready fresh Staged)))
+    (subst (λ next. Follows c.step.new.self all Staged next) c.in-Ok-Ask.field-0-is
+    (c.in-Ok-Ask.ensures.starts all refl ready fresh Staged)))

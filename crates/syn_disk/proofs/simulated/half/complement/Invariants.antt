@@ -6,6 +6,8 @@ use Rattle.syn_disk.proofs.simulated.half.complement.Given as goal
 abbrev pub invariant-loop-i : goal.invariant-loop-i
 invariant-loop-i l = record {
   size : length l.content ≡ length l.initial.content;
-  done : (k : ℕ) → l.from ≤ k → k < l.i → slice_index l.content k ≡ (if is_written l.written k then 255 - slice_index l.initial.content k else slice_index l.initial.content k);
-  others : (k : ℕ) → (k < l.from) ⊎ (l.i ≤ k) → slice_index l.content k ≡ slice_index l.initial.content k;
+  done : (k : ℕ) → l.from ≤ k → k < l.i → slice_index l.content k ≡ (if is_written l.written k
+      then 255 - slice_index l.initial.content k else slice_index l.initial.content k);
+  others : (k : ℕ) → (k < l.from) ⊎ (l.i ≤ k) →
+      slice_index l.content k ≡ slice_index l.initial.content k;
 }

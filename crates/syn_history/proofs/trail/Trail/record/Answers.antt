@@ -8,5 +8,7 @@ use Rattle.syn_history.proofs.trail.Trail.record.Goals as goal
 pub returns-in-Began : goal.returns-in-Began
 returns-in-Began c event e =
     let old = c.self.inside in
-    began_past (past_with old.position old.floor old.touches.items old.session (option_map token_of old.token)) c.in-Began.session event c.self.invariant.count (sym c.in-Began.is ∙ e)
+    began_past (past_with old.position old.floor old.touches.items old.session
+    (option_map token_of old.token)) c.in-Began.session event c.self.invariant.count
+    (sym c.in-Began.is ∙ e)
     ∙ ap (λ past. past_after past event) c.self.view_is

@@ -15,9 +15,14 @@ returns-in_err-replace-clause-any_moment g c value stands =
     let seen = g.D.Disk.seen journal.disk in
     let step = journal.in_step stands.running in
     let half = c.other-other.result in
-    let back : other_half half ≡ journal.half = ap other_half c.other-other.ensures ∙ twice journal.half in
-    let next : IsNextImage seen half journal.generation journal.gate value c.args.image.now c.deref.result.now = record {
-      whole = subst (λ h. IsWhole seen h journal.generation journal.gate value) (sym back) (subst (λ v. IsWhole seen journal.half journal.generation journal.gate v) (ap value_or_empty stands.holds.means) step.whole);
+    let back : other_half half ≡ journal.half = ap other_half c.other-other.ensures
+    ∙ twice journal.half in
+    let next : IsNextImage seen half journal.generation journal.gate value c.args.image.now
+    c.deref.result.now = record {
+      whole =
+          subst (λ h. IsWhole seen h journal.generation journal.gate value) (sym back)
+          (subst (λ v. IsWhole seen journal.half journal.generation journal.gate v)
+          (ap value_or_empty stands.holds.means) step.whole);
       spells = c.deref.ensures.value ∙ c.in_ok-body.ensures;
       fits = omega arith;
       numbered = omega arith;
@@ -30,9 +35,14 @@ returns-clause-any_moment g c value stands =
     let seen = g.D.Disk.seen journal.disk in
     let step = journal.in_step stands.running in
     let half = c.other-other.result in
-    let back : other_half half ≡ journal.half = ap other_half c.other-other.ensures ∙ twice journal.half in
-    let next : IsNextImage seen half journal.generation journal.gate value c.args.image.now c.deref.result.now = record {
-      whole = subst (λ h. IsWhole seen h journal.generation journal.gate value) (sym back) (subst (λ v. IsWhole seen journal.half journal.generation journal.gate v) (ap value_or_empty stands.holds.means) step.whole);
+    let back : other_half half ≡ journal.half = ap other_half c.other-other.ensures
+    ∙ twice journal.half in
+    let next : IsNextImage seen half journal.generation journal.gate value c.args.image.now
+    c.deref.result.now = record {
+      whole =
+          subst (λ h. IsWhole seen h journal.generation journal.gate value) (sym back)
+          (subst (λ v. IsWhole seen journal.half journal.generation journal.gate v)
+          (ap value_or_empty stands.holds.means) step.whole);
       spells = c.deref.ensures.value ∙ c.in_ok-body.ensures;
       fits = omega arith;
       numbered = omega arith;
@@ -47,14 +57,18 @@ returns-clause-acknowledged g c =
     let value = value_or_empty (meaning seen) in
     let half = c.other-other.result in
     let image = c.args.image.now in
-    let back : other_half half ≡ journal.half = ap other_half c.other-other.ensures ∙ twice journal.half in
-    let next : IsNextImage seen half journal.generation journal.gate value image c.deref.result.now = record {
-      whole = subst (λ h. IsWhole seen h journal.generation journal.gate value) (sym back) step.whole;
+    let back : other_half half ≡ journal.half = ap other_half c.other-other.ensures
+    ∙ twice journal.half in
+    let next : IsNextImage seen half journal.generation journal.gate value image
+    c.deref.result.now = record {
+      whole =
+          subst (λ h. IsWhole seen h journal.generation journal.gate value) (sym back) step.whole;
       spells = c.deref.ensures.value ∙ c.in_ok-body.ensures;
       fits = omega arith;
       numbered = omega arith;
     } in
-    let whole = (c.in_ok-replace.ensures.written journal.generation journal.gate value image next).0 in
+    let whole =
+    (c.in_ok-replace.ensures.written journal.generation journal.gate value image next).0 in
     record {
       running = refl;
       holds = has _ half (journal.generation + 1) (13 + length image) (image_alone image) whole;
@@ -70,17 +84,23 @@ invariant_of-self-2 g c =
     let value = value_or_empty (meaning seen) in
     let half = c.other-other.result in
     let image = c.args.image.now in
-    let back : other_half half ≡ journal.half = ap other_half c.other-other.ensures ∙ twice journal.half in
-    let next : IsNextImage seen half journal.generation journal.gate value image c.deref.result.now = record {
-      whole = subst (λ h. IsWhole seen h journal.generation journal.gate value) (sym back) step.whole;
+    let back : other_half half ≡ journal.half = ap other_half c.other-other.ensures
+    ∙ twice journal.half in
+    let next : IsNextImage seen half journal.generation journal.gate value image
+    c.deref.result.now = record {
+      whole =
+          subst (λ h. IsWhole seen h journal.generation journal.gate value) (sym back) step.whole;
       spells = c.deref.ensures.value ∙ c.in_ok-body.ensures;
       fits = omega arith;
       numbered = omega arith;
     } in
-    let written = c.in_ok-replace.ensures.written journal.generation journal.gate value image next in
+    let written =
+    c.in_ok-replace.ensures.written journal.generation journal.gate value image next in
     record {
       within = omega arith;
-      in_step = λ _. in_step _ half (journal.generation + 1) (13 + length image) (image_alone image) written.0 _ true written.1 c.in_ok-replace.ensures.durable;
+      in_step =
+          λ _. in_step _ half (journal.generation + 1) (13 + length image)
+          (image_alone image) written.0 _ true written.1 c.in_ok-replace.ensures.durable;
     }
 
 pub returns-then-self-clause-any_moment : goal.returns-then-self-clause-any_moment
@@ -101,8 +121,10 @@ returns-in_err-body-clause-calls g c =
 
 pub returns-in_err-replace-clause-failures : goal.returns-in_err-replace-clause-failures
 returns-in_err-replace-clause-failures g c =
-    match_of_exit c.from_residual-in_err-replace.result _ _ _ c.from_residual-in_err-replace.ensures.1 c.in_err-replace.ensures.count
+    match_of_exit c.from_residual-in_err-replace.result _ _ _
+    c.from_residual-in_err-replace.ensures.1 c.in_err-replace.ensures.count
 
 pub returns-in_err-replace-clause-calls : goal.returns-in_err-replace-clause-calls
 returns-in_err-replace-clause-calls g c =
-    match_of_exit c.from_residual-in_err-replace.result _ _ _ c.from_residual-in_err-replace.ensures.1 c.in_err-replace.ensures.calls
+    match_of_exit c.from_residual-in_err-replace.result _ _ _
+    c.from_residual-in_err-replace.ensures.1 c.in_err-replace.ensures.calls

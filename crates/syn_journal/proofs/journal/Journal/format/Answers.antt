@@ -9,15 +9,21 @@ pub invariant_of-result : goal.invariant_of-result
 invariant_of-result g c =
     let image = c.args.image.now in
     let fits : length image ≤ longest_image = omega arith in
-    let spells : c.deref.result.now ≡ body_of_image 1 image = c.deref.ensures.value ∙ c.in-Ok.ensures in
+    let spells : c.deref.result.now ≡ body_of_image 1 image = c.deref.ensures.value
+    ∙ c.in-Ok.ensures in
     let whole = c.in-Ok-write_image.ensures.written image fits spells in
-    record { within = omega arith; in_step = λ _. in_step _ First 1 (13 + length image) _ whole _ false c.in-Ok-write_image.ensures.other c.in-Ok-write_image.ensures.durable }
+    record {
+      within = omega arith;
+      in_step = λ _. in_step _ First 1 (13 + length image) _ whole _
+          false c.in-Ok-write_image.ensures.other c.in-Ok-write_image.ensures.durable;
+    }
 
 pub returns-in-Ok-write_image-clause-formatted : goal.returns-in-Ok-write_image-clause-formatted
 returns-in-Ok-write_image-clause-formatted g c =
     let image = c.args.image.now in
     let fits : length image ≤ longest_image = omega arith in
-    let spells : c.deref.result.now ≡ body_of_image 1 image = c.deref.ensures.value ∙ c.in-Ok.ensures in
+    let spells : c.deref.result.now ≡ body_of_image 1 image = c.deref.ensures.value
+    ∙ c.in-Ok.ensures in
     let whole = c.in-Ok-write_image.ensures.written image fits spells in
     record {
       running = refl;

@@ -9,5 +9,7 @@ returns-clause-later g c =
     let o = origin_of c.args.self.now in
     let laws = g.met.S.Grows in
     let sees = c.look.ensures.seen.0 in
-    subst (λ (n : ℕ). g.S.Grows.position (end_of o c.args.pass.now.seat.me.0.view.seen) ≤ n) (sym c.look.ensures.position)
-    (laws.advances _ _ (prefix_grows g.S.Grows.grows laws.reflexive laws.transitive o _ _ sees.0 sees.1))
+    subst (λ (n : ℕ). g.S.Grows.position (end_of o c.args.pass.now.seat.me.0.view.seen) ≤ n)
+    (sym c.look.ensures.position)
+    (laws.advances _ _
+    (prefix_grows g.S.Grows.grows laws.reflexive laws.transitive o _ _ sees.0 sees.1))

@@ -4,4 +4,6 @@ use Rattle.syn_mark.proofs.MarkLemmas.{entries_of}
 use Rattle.syn_mark.proofs.tree.MarkTree.as_slice.Goals as goal
 
 pub returns-clause-all : goal.returns-clause-all
-returns-clause-all c = c.as_slice.ensures.value ∙ (sym (entries_of c.self.inside.list.items c.self.invariant) ∙ ap entries c.self.view_is)
+returns-clause-all c =
+    c.as_slice.ensures.value
+    ∙ (sym (entries_of c.self.inside.list.items c.self.invariant) ∙ ap entries c.self.view_is)

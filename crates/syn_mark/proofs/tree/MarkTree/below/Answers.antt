@@ -8,4 +8,5 @@ pub returns : goal.returns
 returns c =
     let at = c.args.path.now in
     c.part_below.ensures ∙ (ap (filter (is_below at)) c.deref.ensures.value
-    ∙ (ap (filter (is_below at)) (sym (entries_of c.self.inside.list.items c.self.invariant)) ∙ ap (λ t. filter (is_below at) (entries t)) c.self.view_is))
+    ∙ (ap (filter (is_below at)) (sym (entries_of c.self.inside.list.items c.self.invariant))
+    ∙ ap (λ t. filter (is_below at) (entries t)) c.self.view_is))

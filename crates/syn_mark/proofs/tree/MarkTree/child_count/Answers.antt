@@ -8,5 +8,6 @@ pub returns : goal.returns
 returns c =
     let p = c.args.path.now in
     let ds = c.self.inside.list.items in
-    c.count_children_at.ensures ∙ (ap (kids p) c.deref.ensures.value ∙ (ap (kids p) (sym (entries_of ds c.self.invariant))
+    c.count_children_at.ensures
+    ∙ (ap (kids p) c.deref.ensures.value ∙ (ap (kids p) (sym (entries_of ds c.self.invariant))
     ∙ (sym (length-children _ p) ∙ ap (λ t. length (children t p)) c.self.view_is)))

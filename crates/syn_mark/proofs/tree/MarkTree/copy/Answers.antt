@@ -17,9 +17,13 @@ invariant_of-result c =
     let ds = c.self.inside.list.items in
     let all = sym (entries_of ds c.self.invariant) ∙ ap entries c.self.view_is in
     let items : c.in_ok-list.list.items ≡ entries t =
-    c.in_ok-list.ensures.ok ∙ (ap₂ (λ p es. (root, content_of c.root.result) ∷ stripped p es) c.root-2.ensures (c.deref.ensures.value ∙ all)
-    ∙ (stripped_part t root (content_of c.root.result) c.root.ensures ∙ ap entries (whole_part t))) in
-    are_marks t c.in_ok-list.list.items items (ap (λ u. is_present u root) (sym c.self.view_is) ∙ c.self.invariant.present) (subst IsMarks c.self.view_is c.self.invariant.marks) (ap fits_archive (sym c.self.view_is) ∙ c.self.invariant.fits)
+    c.in_ok-list.ensures.ok ∙ (ap₂ (λ p es. (root, content_of c.root.result) ∷ stripped p es)
+    c.root-2.ensures (c.deref.ensures.value ∙ all)
+    ∙ (stripped_part t root (content_of c.root.result) c.root.ensures ∙ ap entries (whole_part t)))
+    in
+    are_marks t c.in_ok-list.list.items items (ap (λ u. is_present u root) (sym c.self.view_is)
+    ∙ c.self.invariant.present) (subst IsMarks c.self.view_is c.self.invariant.marks)
+    (ap fits_archive (sym c.self.view_is) ∙ c.self.invariant.fits)
 
 pub returns-clause-ok : goal.returns-clause-ok
 returns-clause-ok c =
@@ -27,6 +31,8 @@ returns-clause-ok c =
     let ds = c.self.inside.list.items in
     let all = sym (entries_of ds c.self.invariant) ∙ ap entries c.self.view_is in
     let items : c.in_ok-list.list.items ≡ entries t =
-    c.in_ok-list.ensures.ok ∙ (ap₂ (λ p es. (root, content_of c.root.result) ∷ stripped p es) c.root-2.ensures (c.deref.ensures.value ∙ all)
-    ∙ (stripped_part t root (content_of c.root.result) c.root.ensures ∙ ap entries (whole_part t))) in
+    c.in_ok-list.ensures.ok ∙ (ap₂ (λ p es. (root, content_of c.root.result) ∷ stripped p es)
+    c.root-2.ensures (c.deref.ensures.value ∙ all)
+    ∙ (stripped_part t root (content_of c.root.result) c.root.ensures ∙ ap entries (whole_part t)))
+    in
     marks_same t c.in_ok-list.list.items items

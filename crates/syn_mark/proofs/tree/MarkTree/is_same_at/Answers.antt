@@ -10,8 +10,11 @@ returns c =
     let t = c.args.self.now in
     let u = c.args.other.now in
     let at = c.args.path.now in
-    let left = c.part_at-left.ensures ∙ ap₂ within c.names.ensures.names (c.deref.ensures.value ∙ (sym (entries_of c.self.inside.list.items c.self.invariant) ∙ ap entries c.self.view_is)) in
-    let right = c.part_at-right.ensures ∙ ap₂ within c.names-2.ensures.names (c.deref-2.ensures.value ∙ (sym (entries_of c.other.inside.list.items c.other.invariant) ∙ ap entries c.other.view_is)) in (
+    let left = c.part_at-left.ensures ∙ ap₂ within c.names.ensures.names (c.deref.ensures.value
+    ∙ (sym (entries_of c.self.inside.list.items c.self.invariant) ∙ ap entries c.self.view_is)) in
+    let right = c.part_at-right.ensures ∙ ap₂ within c.names-2.ensures.names
+    (c.deref-2.ensures.value ∙ (sym (entries_of c.other.inside.list.items c.other.invariant)
+    ∙ ap entries c.other.view_is)) in (
       (λ is. same_part t u at (sym left ∙ (c.same_entries.ensures.0 is ∙ right))),
       (λ e. c.same_entries.ensures.1 (left ∙ (same_within t u at e ∙ sym right))),
     )

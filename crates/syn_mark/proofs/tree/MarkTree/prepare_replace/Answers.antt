@@ -1,4 +1,5 @@
-use Rattle.std.proofs.Common.{◌≡◌, Option, Some, None, Bor, option_map, length, refl, sym, ap, ap₂, ◌∙◌, arith}
+use Rattle.std.proofs.Common.{◌≡◌, Option, Some, None, Bor, option_map, length, refl, sym, ap, ap₂}
+use Rattle.std.proofs.Common.{◌∙◌, arith}
 use Rattle.std.specs.Option.{option_copied}
 use Rattle.syn_mark.specs.declared.tree.MarkTree.{MarkTree}
 use Rattle.std.specs.FinMap.{entries, len, len-entries}
@@ -23,25 +24,33 @@ placed-requires c =
     let t = c.args.self.now in
     let at = c.args.path.now in
     let u = or_absent c.args.new in
-    let same : or_absent (option_map (λ m. m.now) c.as_ref.result) ≡ u = ap or_absent (copied c.as_ref.result ∙ c.as_ref.ensures.value) in
-    let allowed : replace_refusal t at u ≡ None = ap (replace_refusal t at) (sym same) ∙ (sym c.check_replace.ensures ∙ ap refusal_in c.in_ok-check_replace.was) in
+    let same : or_absent (option_map (λ m. m.now) c.as_ref.result) ≡ u =
+    ap or_absent (copied c.as_ref.result ∙ c.as_ref.ensures.value) in
+    let allowed : replace_refusal t at u ≡ None = ap (replace_refusal t at) (sym same)
+    ∙ (sym c.check_replace.ensures ∙ ap refusal_in c.in_ok-check_replace.was) in
     allowed_paths t at u (ap fits_archive (sym c.self.view_is) ∙ c.self.invariant.fits) allowed
 
 pub placed-requires-2 : goal.placed-requires-2
 placed-requires-2 c =
-    spaced_of c.args.path.now c.in_ok-at.at (or_absent c.args.new) c.in_ok-added.added.items c.in_ok-space.space.items c.in_ok-at.ensures.ok c.is_path.ensures c.placed.ensures.marks c.in_ok-added.ensures.ok c.in_ok-space.ensures.items
+    spaced_of c.args.path.now c.in_ok-at.at (or_absent c.args.new) c.in_ok-added.added.items
+    c.in_ok-space.space.items c.in_ok-at.ensures.ok c.is_path.ensures c.placed.ensures.marks
+    c.in_ok-added.ensures.ok c.in_ok-space.ensures.items
 
 pub returns-clause-new : goal.returns-clause-new
 returns-clause-new c =
-    c.placed-2.ensures.new ∙ (ap (λ p. taken_from p c.in_ok-added.added.items) c.in_ok-at.ensures.ok ∙ taken_is c.args.path.now (or_absent c.args.new) c.in_ok-added.added.items c.in_ok-added.ensures.ok)
+    c.placed-2.ensures.new
+    ∙ (ap (λ p. taken_from p c.in_ok-added.added.items) c.in_ok-at.ensures.ok ∙ taken_is
+    c.args.path.now (or_absent c.args.new) c.in_ok-added.added.items c.in_ok-added.ensures.ok)
 
 pub returns-clause-ready : goal.returns-clause-ready
 returns-clause-ready c =
     let t = c.args.self.now in
     let at = c.args.path.now in
     let u = or_absent c.args.new in
-    let same : or_absent (option_map (λ m. m.now) c.as_ref.result) ≡ u = ap or_absent (copied c.as_ref.result ∙ c.as_ref.ensures.value) in
-    let allowed : replace_refusal t at u ≡ None = ap (replace_refusal t at) (sym same) ∙ (sym c.check_replace.ensures ∙ ap refusal_in c.in_ok-check_replace.was) in
+    let same : or_absent (option_map (λ m. m.now) c.as_ref.result) ≡ u =
+    ap or_absent (copied c.as_ref.result ∙ c.as_ref.ensures.value) in
+    let allowed : replace_refusal t at u ≡ None = ap (replace_refusal t at) (sym same)
+    ∙ (sym c.check_replace.ensures ∙ ap refusal_in c.in_ok-check_replace.was) in
     let new = returns-clause-new c in
     let place = c.placed-2.ensures.at ∙ c.in_ok-at.ensures.ok in
     let parts = allowed_parts t at u allowed in
@@ -51,5 +60,20 @@ returns-clause-ready c =
       below = ap is_root place ∙ parts.0;
       parent = ap (λ p. is_directory t (parent p)) place ∙ parts.1.0;
       fits = ap₂ (λ p w. fits_archive (replace t p w)) place new ∙ parts.1.1;
-      room = omega (arith, c.placed-2.ensures.room, c.in_ok-space.ensures.capacity, c.len-nodes.ensures, c.len.ensures, c.self.inside.list.ok, c.in_ok-added.added.ok, len-entries t, ap length all, ap len new, len-entries u, ap length c.in_ok-added.ensures.ok, length_under at (entries u));
+      room =
+          omega (
+            arith,
+            c.placed-2.ensures.room,
+            c.in_ok-space.ensures.capacity,
+            c.len-nodes.ensures,
+            c.len.ensures,
+            c.self.inside.list.ok,
+            c.in_ok-added.added.ok,
+            len-entries t,
+            ap length all,
+            ap len new,
+            len-entries u,
+            ap length c.in_ok-added.ensures.ok,
+            length_under at (entries u),
+          );
     }

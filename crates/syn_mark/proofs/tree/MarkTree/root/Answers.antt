@@ -6,9 +6,13 @@ use Rattle.syn_mark.proofs.tree.MarkTree.root.Goals as goal
 
 pub returns-in-Some : goal.returns-in-Some
 returns-in-Some c =
-    ap (λ t. get t root) (sym c.self.view_is) ∙ (get_of c.self.inside.list.items root c.self.invariant
-    ∙ (ap (find path_cmp root) (sym c.deref.ensures.value) ∙ (sym c.in-Some.ensures ∙ ap (λ x. Some x) (sym c.standing.ensures))))
+    ap (λ t. get t root) (sym c.self.view_is)
+    ∙ (get_of c.self.inside.list.items root c.self.invariant
+    ∙ (ap (find path_cmp root) (sym c.deref.ensures.value)
+    ∙ (sym c.in-Some.ensures ∙ ap (λ x. Some x) (sym c.standing.ensures))))
 
 pub returns-in-None : goal.returns-in-None
 returns-in-None c =
-    absurd (true≢false (sym c.self.invariant.present ∙ ap is_some (get_of c.self.inside.list.items root c.self.invariant ∙ (ap (find path_cmp root) (sym c.deref.ensures.value) ∙ sym c.in-None.ensures))))
+    absurd (true≢false (sym c.self.invariant.present
+    ∙ ap is_some (get_of c.self.inside.list.items root c.self.invariant
+    ∙ (ap (find path_cmp root) (sym c.deref.ensures.value) ∙ sym c.in-None.ensures))))

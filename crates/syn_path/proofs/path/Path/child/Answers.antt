@@ -5,14 +5,23 @@ use Rattle.syn_path.proofs.path.Path.child.Goals as goal
 
 pub invariant_of-result : goal.invariant_of-result
 invariant_of-result c =
-    let below : c.push.new.self.items ≡ c.self.inside.names.items ++ c.args.name.now ∷ [] = search rules in
+    let below : c.push.new.self.items ≡ c.self.inside.names.items ++ c.args.name.now ∷ [] =
+    search rules in
     let room : length c.self.inside.names.items < 16 = search rules in
-    let short : length (path_spelling c.self.inside.names.items) + 1 + length c.args.name.now ≤ 255 = search rules in
-    rw below (child_lawful c.self.inside.names.items c.args.name.now c.self.invariant c.as_str.ensures.lawful room short)
+    let short : length (path_spelling c.self.inside.names.items) + 1 + length c.args.name.now
+    ≤ 255 = search rules in
+    rw below (child_lawful c.self.inside.names.items c.args.name.now c.self.invariant
+    c.as_str.ensures.lawful room short)
 
 pub returns-clause-ok : goal.returns-clause-ok
 returns-clause-ok c =
-    let below : c.push.new.self.items ≡ c.self.inside.names.items ++ c.args.name.now ∷ [] = search rules in
+    let below : c.push.new.self.items ≡ c.self.inside.names.items ++ c.args.name.now ∷ [] =
+    search rules in
     let room : length c.self.inside.names.items < 16 = search rules in
-    let short : length (path_spelling c.self.inside.names.items) + 1 + length c.args.name.now ≤ 255 = search rules in
-    rw (below, ← c.self.view_is) (refl, child_lawful c.self.inside.names.items c.args.name.now c.self.invariant c.as_str.ensures.lawful room short)
+    let short : length (path_spelling c.self.inside.names.items) + 1 + length c.args.name.now
+    ≤ 255 = search rules in
+    rw (below, ← c.self.view_is) (
+      refl,
+      child_lawful c.self.inside.names.items c.args.name.now
+          c.self.invariant c.as_str.ensures.lawful room short,
+    )

@@ -9,7 +9,9 @@ lawful c =
     record {
       names = subst (All IsName) same c.spelled_len.ensures.lawful;
       not_deep = omega (arith, c.args.names.ok, c.len.ensures, c.if-len-gt16.false);
-      not_long = subst (λ p. length (path_spelling p) ≤ 255) same (subst (λ n. n ≤ 255) c.spelled_len.ensures.length c.if-spelled_len-gt255.false);
+      not_long =
+          subst (λ p. length (path_spelling p) ≤ 255) same
+          (subst (λ n. n ≤ 255) c.spelled_len.ensures.length c.if-spelled_len-gt255.false);
     }
 
 pub invariant_of-result : goal.invariant_of-result

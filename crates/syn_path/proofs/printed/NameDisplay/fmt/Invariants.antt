@@ -7,6 +7,7 @@ use Rattle.syn_path.proofs.printed.NameDisplay.fmt.Given as goal
 
 abbrev pub invariant-loop-c : goal.invariant-loop-c
 invariant-loop-c g l = record {
-  written : IsPlainFormatter l.initial.f → HasWritten g.W.Write.write_str_gives l.initial.f (flat_map printed_char l.yielded) l.f;
+  written : IsPlainFormatter l.initial.f →
+      HasWritten g.W.Write.write_str_gives l.initial.f (flat_map printed_char l.yielded) l.f;
   left : encode_utf8_all l.yielded ++ l.c-iterator.rest.now ≡ l.initial.c-iterator.rest.now;
 }

@@ -6,4 +6,5 @@ use Rattle.syn_path.proofs.printed.PathDisplay.fmt.Given as goal
 
 abbrev pub invariant-loop-name : goal.invariant-loop-name
 invariant-loop-name g l =
-    IsPlainFormatter l.initial.f → HasWritten g.W.Write.write_str_gives l.initial.f (flat_map (λ other. 47 ∷ printed_name other) (take l.name-index l.others)) l.f
+    IsPlainFormatter l.initial.f → HasWritten g.W.Write.write_str_gives l.initial.f
+    (flat_map (λ other. 47 ∷ printed_name other) (take l.name-index l.others)) l.f

@@ -4,4 +4,5 @@ use Rattle.syn_play.proofs.LoopLemmas.{HasDrained}
 use Rattle.syn_play.proofs.player.Player.drain.Given as goal
 
 abbrev pub invariant-loop-drained : goal.invariant-loop-drained
-invariant-loop-drained g l = (state : State) → IsPlayer l.fn.self state → HasDrained state l._drained l.player
+invariant-loop-drained g l =
+    (state : State) → IsPlayer l.fn.self state → HasDrained state l._drained l.player

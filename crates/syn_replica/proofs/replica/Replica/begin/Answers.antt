@@ -5,21 +5,27 @@ use Rattle.syn_standing.specs.Refusals.{refusal_of, refusal_in}
 use Rattle.syn_model.specs.Event.{Began}
 use Rattle.syn_model.specs.History.{History, last_session}
 use Rattle.syn_replica.specs.Replica.{Stands, room_shown, standing_shown}
-use Rattle.syn_replica.proofs.RoomLemmas.{added_refusals, begun_among, refused_at, room_at, room_passed}
-use Rattle.syn_replica.proofs.SessionLemmas.{begin_cause, begin_refused, begin_allowed, begun_size, rest_at, not_begun, one_longer}
+use Rattle.syn_replica.proofs.RoomLemmas.{added_refusals, begun_among, refused_at, room_at}
+use Rattle.syn_replica.proofs.RoomLemmas.{room_passed}
+use Rattle.syn_replica.proofs.SessionLemmas.{begin_cause, begin_refused, begin_allowed, begun_size}
+use Rattle.syn_replica.proofs.SessionLemmas.{rest_at, not_begun, one_longer}
 use Rattle.syn_standing.proofs.StandingLemmas.{early_at}
 use Rattle.syn_replica.proofs.StandLemmas.{keeps_now, not_written}
 use Rattle.syn_replica.specs.Growing.{itself}
 use Rattle.syn_model.specs.Refusal as why
-use Rattle.syn_replica.proofs.RefusalLemmas.{inner_refusals, never, early_among, quiet_failures, quiet_calls, quiet_device, quiet_tries}
+use Rattle.syn_replica.proofs.RefusalLemmas.{inner_refusals, never, early_among, quiet_failures}
+use Rattle.syn_replica.proofs.RefusalLemmas.{quiet_calls, quiet_device, quiet_tries}
 use Rattle.syn_replica.proofs.replica.Replica.begin.Goals as goal
 
 pub returns-clause-acknowledged : goal.returns-clause-acknowledged
 returns-clause-acknowledged g c history stands =
     let session = c.args.session in
-    let last : c.last_session.result ≡ last_session history = c.last_session.ensures ∙ ap (λ s. s.session) stands.remembers.standing in
-    let other : session ≢ last_session history = λ same. c.if-session-last_session.false (same ∙ sym last) in
-    subst (λ (h : History). IfOk c.add.result (λ position. (position ≡ length h) × Stands c.add.new.self h)) (sym (not_begun history session other))
+    let last : c.last_session.result ≡ last_session history = c.last_session.ensures
+    ∙ ap (λ s. s.session) stands.remembers.standing in
+    let other : session ≢ last_session history =
+    λ same. c.if-session-last_session.false (same ∙ sym last) in
+    subst (λ (h : History). IfOk c.add.result (λ position. (position ≡ length h)
+    × Stands c.add.new.self h)) (sym (not_begun history session other))
     (one_longer c.add.result history (Began session) _ (c.add.ensures.acknowledged history stands))
 
 pub returns-then-is_halted-clause-grown : goal.returns-then-is_halted-clause-grown
@@ -28,7 +34,8 @@ returns-then-is_halted-clause-grown g c = itself c.args.self.now
 pub returns-then-pair-self-clause-grown : goal.returns-then-pair-self-clause-grown
 returns-then-pair-self-clause-grown g c = itself c.args.self.now
 
-pub returns-then-session-last_session-clause-grown : goal.returns-then-session-last_session-clause-grown
+pub returns-then-session-last_session-clause-grown :
+    goal.returns-then-session-last_session-clause-grown
 returns-then-session-last_session-clause-grown g c = itself c.args.self.now
 
 pub returns-in_err-check-clause-grown : goal.returns-in_err-check-clause-grown
@@ -39,81 +46,133 @@ returns-in_err-check_room-clause-grown g c = itself c.args.self.now
 
 pub returns-then-is_halted-clause-any_moment : goal.returns-then-is_halted-clause-any_moment
 returns-then-is_halted-clause-any_moment g c history stands =
-    not_written g.met.D.Disk.only_now c.args.self.now history stands _ (inl (keeps_now c.args.self.now history stands))
+    not_written g.met.D.Disk.only_now c.args.self.now history stands _
+    (inl (keeps_now c.args.self.now history stands))
 
 pub returns-then-is_halted-clause-seen : goal.returns-then-is_halted-clause-seen
-returns-then-is_halted-clause-seen g c history stands = inl (keeps_now c.args.self.now history stands)
+returns-then-is_halted-clause-seen g c history stands =
+    inl (keeps_now c.args.self.now history stands)
 
 pub returns-then-pair-self-clause-any_moment : goal.returns-then-pair-self-clause-any_moment
 returns-then-pair-self-clause-any_moment g c history stands =
-    not_written g.met.D.Disk.only_now c.args.self.now history stands _ (inl (keeps_now c.args.self.now history stands))
+    not_written g.met.D.Disk.only_now c.args.self.now history stands _
+    (inl (keeps_now c.args.self.now history stands))
 
 pub returns-then-pair-self-clause-seen : goal.returns-then-pair-self-clause-seen
-returns-then-pair-self-clause-seen g c history stands = inl (keeps_now c.args.self.now history stands)
+returns-then-pair-self-clause-seen g c history stands =
+    inl (keeps_now c.args.self.now history stands)
 
 pub returns-in_err-check-clause-any_moment : goal.returns-in_err-check-clause-any_moment
 returns-in_err-check-clause-any_moment g c history stands =
-    not_written g.met.D.Disk.only_now c.args.self.now history stands _ (inl (keeps_now c.args.self.now history stands))
+    not_written g.met.D.Disk.only_now c.args.self.now history stands _
+    (inl (keeps_now c.args.self.now history stands))
 
 pub returns-in_err-check-clause-seen : goal.returns-in_err-check-clause-seen
 returns-in_err-check-clause-seen g c history stands = inl (keeps_now c.args.self.now history stands)
 
 pub returns-in_err-check_room-clause-any_moment : goal.returns-in_err-check_room-clause-any_moment
 returns-in_err-check_room-clause-any_moment g c history stands =
-    not_written g.met.D.Disk.only_now c.args.self.now history stands _ (inl (keeps_now c.args.self.now history stands))
+    not_written g.met.D.Disk.only_now c.args.self.now history stands _
+    (inl (keeps_now c.args.self.now history stands))
 
 pub returns-in_err-check_room-clause-seen : goal.returns-in_err-check_room-clause-seen
-returns-in_err-check_room-clause-seen g c history stands = inl (keeps_now c.args.self.now history stands)
+returns-in_err-check_room-clause-seen g c history stands =
+    inl (keeps_now c.args.self.now history stands)
 
 pub returns-in_err-check-clause-tried : goal.returns-in_err-check-clause-tried
-returns-in_err-check-clause-tried g c other = quiet_tries c.from_residual.result _ c.from_residual.ensures.1 (never inner_refusals why.Device refl _ (early_among (standing_shown c.args.self.now) (Began c.args.session) _ c.in_err-check.ensures)) c.args.self.now (Began c.args.session)
+returns-in_err-check-clause-tried g c other =
+    quiet_tries c.from_residual.result _ c.from_residual.ensures.1
+    (never inner_refusals why.Device refl _ (early_among (standing_shown c.args.self.now)
+    (Began c.args.session) _ c.in_err-check.ensures)) c.args.self.now (Began c.args.session)
 
 pub returns-in_err-check-clause-failures : goal.returns-in_err-check-clause-failures
-returns-in_err-check-clause-failures g c = quiet_failures c.from_residual.result _ c.from_residual.ensures.1 (never inner_refusals why.Device refl _ (early_among (standing_shown c.args.self.now) (Began c.args.session) _ c.in_err-check.ensures)) _ _
+returns-in_err-check-clause-failures g c =
+    quiet_failures c.from_residual.result _ c.from_residual.ensures.1
+    (never inner_refusals why.Device refl _ (early_among (standing_shown c.args.self.now)
+    (Began c.args.session) _ c.in_err-check.ensures)) _ _
 
 pub returns-in_err-check-clause-calls : goal.returns-in_err-check-clause-calls
-returns-in_err-check-clause-calls g c = quiet_calls c.from_residual.result _ c.from_residual.ensures.1 (never inner_refusals why.Device refl _ (early_among (standing_shown c.args.self.now) (Began c.args.session) _ c.in_err-check.ensures)) _ 4 _
+returns-in_err-check-clause-calls g c =
+    quiet_calls c.from_residual.result _ c.from_residual.ensures.1
+    (never inner_refusals why.Device refl _ (early_among (standing_shown c.args.self.now)
+    (Began c.args.session) _ c.in_err-check.ensures)) _ 4 _
 
 pub returns-in_err-check-clause-halts : goal.returns-in_err-check-clause-halts
-returns-in_err-check-clause-halts g c = quiet_device c.from_residual.result _ c.from_residual.ensures.1 (never inner_refusals why.Device refl _ (early_among (standing_shown c.args.self.now) (Began c.args.session) _ c.in_err-check.ensures)) _
+returns-in_err-check-clause-halts g c =
+    quiet_device c.from_residual.result _ c.from_residual.ensures.1
+    (never inner_refusals why.Device refl _ (early_among (standing_shown c.args.self.now)
+    (Began c.args.session) _ c.in_err-check.ensures)) _
 
 pub returns-in_err-check-clause-cause : goal.returns-in_err-check-clause-cause
 returns-in_err-check-clause-cause g c history stands =
-    begin_cause (room_shown c.args.self.now) c.args.self.now.pair history c.args.pair c.args.session c.from_residual.result c.in_err-check.field-0.0 (standing_shown c.args.self.now) c.last_session.result c.from_residual.ensures.1
-    stands.remembers.standing c.if-pair-self.false c.last_session.ensures c.if-session-last_session.false
-    (refused_at (room_shown c.args.self.now) (standing_shown c.args.self.now) (Began c.args.session) _ (early_at (standing_shown c.args.self.now) (Began c.args.session) _ (sym c.in_err-check.ensures)))
+    begin_cause (room_shown c.args.self.now) c.args.self.now.pair history c.args.pair c.args.session
+    c.from_residual.result c.in_err-check.field-0.0
+    (standing_shown c.args.self.now) c.last_session.result c.from_residual.ensures.1
+    stands.remembers.standing c.if-pair-self.false c.last_session.ensures
+    c.if-session-last_session.false
+    (refused_at (room_shown c.args.self.now) (standing_shown c.args.self.now)
+    (Began c.args.session) _ (early_at (standing_shown c.args.self.now) (Began c.args.session) _
+    (sym c.in_err-check.ensures)))
 
 pub returns-in_err-check-clause-refused : goal.returns-in_err-check-clause-refused
 returns-in_err-check-clause-refused g c history why stands =
-    begin_refused (room_shown c.args.self.now) c.args.self.now.pair history c.args.pair c.args.session c.from_residual.result c.in_err-check.field-0.0 (standing_shown c.args.self.now) c.last_session.result c.from_residual.ensures.1
-    stands.remembers.standing c.if-pair-self.false c.last_session.ensures c.if-session-last_session.false
-    (refused_at (room_shown c.args.self.now) (standing_shown c.args.self.now) (Began c.args.session) _ (early_at (standing_shown c.args.self.now) (Began c.args.session) _ (sym c.in_err-check.ensures)))
+    begin_refused (room_shown c.args.self.now) c.args.self.now.pair history c.args.pair
+    c.args.session c.from_residual.result c.in_err-check.field-0.0
+    (standing_shown c.args.self.now) c.last_session.result c.from_residual.ensures.1
+    stands.remembers.standing c.if-pair-self.false c.last_session.ensures
+    c.if-session-last_session.false
+    (refused_at (room_shown c.args.self.now) (standing_shown c.args.self.now)
+    (Began c.args.session) _ (early_at (standing_shown c.args.self.now) (Began c.args.session) _
+    (sym c.in_err-check.ensures)))
     why
 
 pub returns-in_err-check_room-clause-cause : goal.returns-in_err-check_room-clause-cause
 returns-in_err-check_room-clause-cause g c history stands =
-    begin_cause (room_shown c.args.self.now) c.args.self.now.pair history c.args.pair c.args.session c.from_residual-in_err-check_room.result c.in_err-check_room.field-0.0 (standing_shown c.args.self.now) c.last_session.result c.from_residual-in_err-check_room.ensures.1
-    stands.remembers.standing c.if-pair-self.false c.last_session.ensures c.if-session-last_session.false
-    (room_at (room_shown c.args.self.now) (standing_shown c.args.self.now) (Began c.args.session) (sym c.check.ensures ∙ ap refusal_in c.in_ok-check.was) (subst (λ n. room_shown c.args.self.now < n) (sym (begun_size c.args.session)) c.in_err-check_room.ensures.refused.1) ∙ sym (ap (λ e. Some (refusal_of e)) c.in_err-check_room.ensures.refused.0))
+    begin_cause (room_shown c.args.self.now) c.args.self.now.pair history c.args.pair c.args.session
+    c.from_residual-in_err-check_room.result c.in_err-check_room.field-0.0
+    (standing_shown c.args.self.now) c.last_session.result
+    c.from_residual-in_err-check_room.ensures.1
+    stands.remembers.standing c.if-pair-self.false c.last_session.ensures
+    c.if-session-last_session.false
+    (room_at (room_shown c.args.self.now) (standing_shown c.args.self.now) (Began c.args.session)
+    (sym c.check.ensures ∙ ap refusal_in c.in_ok-check.was) (subst (λ n. room_shown
+    c.args.self.now < n) (sym (begun_size c.args.session)) c.in_err-check_room.ensures.refused.1)
+    ∙ sym (ap (λ e. Some (refusal_of e)) c.in_err-check_room.ensures.refused.0))
 
 pub returns-in_err-check_room-clause-refused : goal.returns-in_err-check_room-clause-refused
 returns-in_err-check_room-clause-refused g c history why stands =
-    begin_refused (room_shown c.args.self.now) c.args.self.now.pair history c.args.pair c.args.session c.from_residual-in_err-check_room.result c.in_err-check_room.field-0.0 (standing_shown c.args.self.now) c.last_session.result c.from_residual-in_err-check_room.ensures.1
-    stands.remembers.standing c.if-pair-self.false c.last_session.ensures c.if-session-last_session.false
-    (room_at (room_shown c.args.self.now) (standing_shown c.args.self.now) (Began c.args.session) (sym c.check.ensures ∙ ap refusal_in c.in_ok-check.was) (subst (λ n. room_shown c.args.self.now < n) (sym (begun_size c.args.session)) c.in_err-check_room.ensures.refused.1) ∙ sym (ap (λ e. Some (refusal_of e)) c.in_err-check_room.ensures.refused.0))
+    begin_refused (room_shown c.args.self.now) c.args.self.now.pair history c.args.pair
+    c.args.session c.from_residual-in_err-check_room.result c.in_err-check_room.field-0.0
+    (standing_shown c.args.self.now) c.last_session.result
+    c.from_residual-in_err-check_room.ensures.1
+    stands.remembers.standing c.if-pair-self.false c.last_session.ensures
+    c.if-session-last_session.false
+    (room_at (room_shown c.args.self.now) (standing_shown c.args.self.now) (Began c.args.session)
+    (sym c.check.ensures ∙ ap refusal_in c.in_ok-check.was) (subst (λ n. room_shown
+    c.args.self.now < n) (sym (begun_size c.args.session)) c.in_err-check_room.ensures.refused.1)
+    ∙ sym (ap (λ e. Some (refusal_of e)) c.in_err-check_room.ensures.refused.0))
     why
 
 pub returns-clause-cause : goal.returns-clause-cause
 returns-clause-cause g c history stands =
     subst (λ r. IfErr c.add.result (λ e. IsOneOf outside_refusals e ⊎ (r ≡ Some (refusal_of e))))
-    (sym (rest_at (room_shown c.args.self.now) c.args.self.now.pair history c.args.pair c.args.session (standing_shown c.args.self.now) c.last_session.result
-    stands.remembers.standing c.if-pair-self.false c.last_session.ensures c.if-session-last_session.false)) c.add.ensures.cause
+    (sym (rest_at (room_shown c.args.self.now) c.args.self.now.pair history c.args.pair
+    c.args.session (standing_shown c.args.self.now) c.last_session.result
+    stands.remembers.standing c.if-pair-self.false c.last_session.ensures
+    c.if-session-last_session.false)) c.add.ensures.cause
 
 pub returns-clause-refused : goal.returns-clause-refused
 returns-clause-refused g c history why stands e =
-    absurd (begin_allowed (room_shown c.args.self.now) c.args.self.now.pair history c.args.pair c.args.session (standing_shown c.args.self.now) c.last_session.result why
-    stands.remembers.standing c.if-pair-self.false c.last_session.ensures c.if-session-last_session.false
-    (room_passed (room_shown c.args.self.now) (standing_shown c.args.self.now) (Began c.args.session) (sym c.check.ensures ∙ ap refusal_in c.in_ok-check.was) (subst (λ n. n ≤ room_shown c.args.self.now) (sym (begun_size c.args.session)) c.in_ok-check_room.ensures.room)) e)
+    absurd (begin_allowed (room_shown c.args.self.now) c.args.self.now.pair history c.args.pair
+    c.args.session (standing_shown c.args.self.now) c.last_session.result why
+    stands.remembers.standing c.if-pair-self.false c.last_session.ensures
+    c.if-session-last_session.false
+    (room_passed (room_shown c.args.self.now) (standing_shown c.args.self.now)
+    (Began c.args.session) (sym c.check.ensures ∙ ap refusal_in c.in_ok-check.was)
+    (subst (λ n. n ≤ room_shown c.args.self.now)
+    (sym (begun_size c.args.session)) c.in_ok-check_room.ensures.room)) e)
 
 pub returns-clause-refusals : goal.returns-clause-refusals
-returns-clause-refusals g c = added_refusals begin_refusals refl refl _ (begun_among (room_shown c.args.self.now) (standing_shown c.args.self.now) c.args.session) c.add.result c.add.ensures.cause
+returns-clause-refusals g c =
+    added_refusals begin_refusals refl refl _ (begun_among (room_shown c.args.self.now)
+    (standing_shown c.args.self.now) c.args.session) c.add.result c.add.ensures.cause

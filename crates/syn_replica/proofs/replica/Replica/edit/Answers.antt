@@ -7,9 +7,12 @@ use Rattle.syn_replica.specs.Replica.{room_shown, standing_shown}
 use Rattle.syn_replica.specs.Steps.{add_refusal}
 use Rattle.syn_replica.specs.inner.Additions.{add_refusal_at}
 use Rattle.syn_model.specs.Refusal as why
-use Rattle.syn_replica.proofs.RefusalLemmas.{inner_refusals, never, edit_among, same_refusal, early_among, quiet_failures, quiet_calls, quiet_device, quiet_tries}
+use Rattle.syn_replica.proofs.RefusalLemmas.{inner_refusals, never, edit_among, same_refusal}
+use Rattle.syn_replica.proofs.RefusalLemmas.{early_among, quiet_failures, quiet_calls, quiet_device}
+use Rattle.syn_replica.proofs.RefusalLemmas.{quiet_tries}
 use Rattle.syn_standing.proofs.StandingLemmas.{early_at}
-use Rattle.syn_replica.proofs.RoomLemmas.{added_refusals, edited_among, refused_at, room_at, room_refused, room_passed}
+use Rattle.syn_replica.proofs.RoomLemmas.{added_refusals, edited_among, refused_at, room_at}
+use Rattle.syn_replica.proofs.RoomLemmas.{room_refused, room_passed}
 use Rattle.syn_replica.specs.Refusals.{IsOneOf, outside_refusals, edit_refusals}
 use Rattle.std.specs.Prelude.{IfErr}
 use Rattle.std.proofs.lemmas.Option.{none-some}
@@ -22,38 +25,48 @@ returns-in_err-check-clause-cause g c history stands =
     let p = err_from_is_err_and c.from_residual.result c.from_residual.ensures.1 in
     let old = c.args.self.now in
     let event = event_by c.args.user c.args.edit in
-    rw (p.1, p.2) (inr (ap (λ s. add_refusal_at (room_shown old) s event) (sym stands.remembers.standing)
-    ∙ refused_at (room_shown old) (standing_shown old) event _ (early_at (standing_shown old) event _ (sym c.in_err-check.ensures))))
+    rw (p.1, p.2)
+    (inr (ap (λ s. add_refusal_at (room_shown old) s event) (sym stands.remembers.standing)
+    ∙ refused_at (room_shown old) (standing_shown old) event _
+    (early_at (standing_shown old) event _ (sym c.in_err-check.ensures))))
 
 pub returns-in_err-check-clause-refused : goal.returns-in_err-check-clause-refused
 returns-in_err-check-clause-refused g c history why stands e =
     let p = err_from_is_err_and c.from_residual.result c.from_residual.ensures.1 in
     let old = c.args.self.now in
     let event = event_by c.args.user c.args.edit in
-    rw (p.1, p.2) (same_refusal c.in_err-check.field-0.0 why (add_refusal (room_shown old) history event)
+    rw (p.1, p.2)
+    (same_refusal c.in_err-check.field-0.0 why (add_refusal (room_shown old) history event)
     (ap (λ s. add_refusal_at (room_shown old) s event) (sym stands.remembers.standing)
-    ∙ refused_at (room_shown old) (standing_shown old) event _ (early_at (standing_shown old) event _ (sym c.in_err-check.ensures))) e)
+    ∙ refused_at (room_shown old) (standing_shown old) event _
+    (early_at (standing_shown old) event _ (sym c.in_err-check.ensures))) e)
 
 pub returns-in_err-check-clause-refusals : goal.returns-in_err-check-clause-refusals
 returns-in_err-check-clause-refusals g c =
     let p = err_from_is_err_and c.from_residual.result c.from_residual.ensures.1 in
-    rw (p.1, p.2) (edit_among (standing_shown c.args.self.now) c.args.user (edit_of c.args.edit) _ (sym c.in_err-check.ensures))
+    rw (p.1, p.2) (edit_among (standing_shown c.args.self.now) c.args.user (edit_of c.args.edit) _
+    (sym c.in_err-check.ensures))
 
 pub returns-in_err-check_room-clause-refused : goal.returns-in_err-check_room-clause-refused
 returns-in_err-check_room-clause-refused g c history why stands e =
-    let p = err_from_is_err_and c.from_residual-in_err-check_room.result c.from_residual-in_err-check_room.ensures.1 in
+    let p = err_from_is_err_and c.from_residual-in_err-check_room.result
+    c.from_residual-in_err-check_room.ensures.1 in
     let old = c.args.self.now in
     let event = event_by c.args.user c.args.edit in
     let none = sym c.check.ensures ∙ ap refusal_in c.in_ok-check.was in
-    let long = subst (λ n. room_shown old < n) (c.edit_length-length.ensures c.args.user) c.in_err-check_room.ensures.refused.1 in
+    let long = subst (λ n. room_shown old < n)
+    (c.edit_length-length.ensures c.args.user) c.in_err-check_room.ensures.refused.1 in
     let full = room_at (room_shown old) (standing_shown old) event none long in
-    rw (p.1, p.2) (same_refusal c.in_err-check_room.field-0.0 why (add_refusal (room_shown old) history event)
-    (ap (λ s. add_refusal_at (room_shown old) s event) (sym stands.remembers.standing) ∙ (full ∙ sym (ap (λ e. Some (refusal_of e)) c.in_err-check_room.ensures.refused.0))) e)
+    rw (p.1, p.2)
+    (same_refusal c.in_err-check_room.field-0.0 why (add_refusal (room_shown old) history event)
+    (ap (λ s. add_refusal_at (room_shown old) s event) (sym stands.remembers.standing)
+    ∙ (full ∙ sym (ap (λ e. Some (refusal_of e)) c.in_err-check_room.ensures.refused.0))) e)
 
 pub add-requires-clause-brief : goal.add-requires-clause-brief
 add-requires-clause-brief g c =
     let none = sym c.check.ensures ∙ ap refusal_in c.in_ok-check.was in
-    c.opening_laws.ensures.short (standing_shown c.args.self.now) (event_by c.args.user c.args.edit) none
+    c.opening_laws.ensures.short (standing_shown c.args.self.now)
+    (event_by c.args.user c.args.edit) none
 
 pub returns-then-is_halted-clause-grown : goal.returns-then-is_halted-clause-grown
 returns-then-is_halted-clause-grown g c = itself c.args.self.now
@@ -66,53 +79,85 @@ returns-in_err-check_room-clause-grown g c = itself c.args.self.now
 
 pub returns-then-is_halted-clause-any_moment : goal.returns-then-is_halted-clause-any_moment
 returns-then-is_halted-clause-any_moment g c history stands =
-    not_written g.met.D.Disk.only_now c.args.self.now history stands _ (inl (keeps_now c.args.self.now history stands))
+    not_written g.met.D.Disk.only_now c.args.self.now history stands _
+    (inl (keeps_now c.args.self.now history stands))
 
 pub returns-then-is_halted-clause-seen : goal.returns-then-is_halted-clause-seen
-returns-then-is_halted-clause-seen g c history stands = inl (keeps_now c.args.self.now history stands)
+returns-then-is_halted-clause-seen g c history stands =
+    inl (keeps_now c.args.self.now history stands)
 
 pub returns-in_err-check-clause-any_moment : goal.returns-in_err-check-clause-any_moment
 returns-in_err-check-clause-any_moment g c history stands =
-    not_written g.met.D.Disk.only_now c.args.self.now history stands _ (inl (keeps_now c.args.self.now history stands))
+    not_written g.met.D.Disk.only_now c.args.self.now history stands _
+    (inl (keeps_now c.args.self.now history stands))
 
 pub returns-in_err-check-clause-seen : goal.returns-in_err-check-clause-seen
 returns-in_err-check-clause-seen g c history stands = inl (keeps_now c.args.self.now history stands)
 
 pub returns-in_err-check_room-clause-any_moment : goal.returns-in_err-check_room-clause-any_moment
 returns-in_err-check_room-clause-any_moment g c history stands =
-    not_written g.met.D.Disk.only_now c.args.self.now history stands _ (inl (keeps_now c.args.self.now history stands))
+    not_written g.met.D.Disk.only_now c.args.self.now history stands _
+    (inl (keeps_now c.args.self.now history stands))
 
 pub returns-in_err-check_room-clause-seen : goal.returns-in_err-check_room-clause-seen
-returns-in_err-check_room-clause-seen g c history stands = inl (keeps_now c.args.self.now history stands)
+returns-in_err-check_room-clause-seen g c history stands =
+    inl (keeps_now c.args.self.now history stands)
 
 pub returns-in_err-check-clause-tried : goal.returns-in_err-check-clause-tried
-returns-in_err-check-clause-tried g c = quiet_tries c.from_residual.result _ c.from_residual.ensures.1 (never inner_refusals why.Device refl _ (early_among (standing_shown c.args.self.now) (event_by c.args.user c.args.edit) _ c.in_err-check.ensures)) c.args.self.now (event_by c.args.user c.args.edit)
+returns-in_err-check-clause-tried g c =
+    quiet_tries c.from_residual.result _ c.from_residual.ensures.1
+    (never inner_refusals why.Device refl _ (early_among (standing_shown c.args.self.now)
+    (event_by c.args.user c.args.edit) _ c.in_err-check.ensures)) c.args.self.now
+    (event_by c.args.user c.args.edit)
 
 pub returns-in_err-check-clause-failures : goal.returns-in_err-check-clause-failures
-returns-in_err-check-clause-failures g c = quiet_failures c.from_residual.result _ c.from_residual.ensures.1 (never inner_refusals why.Device refl _ (early_among (standing_shown c.args.self.now) (event_by c.args.user c.args.edit) _ c.in_err-check.ensures)) _ _
+returns-in_err-check-clause-failures g c =
+    quiet_failures c.from_residual.result _ c.from_residual.ensures.1
+    (never inner_refusals why.Device refl _ (early_among (standing_shown c.args.self.now)
+    (event_by c.args.user c.args.edit) _ c.in_err-check.ensures)) _ _
 
 pub returns-in_err-check-clause-calls : goal.returns-in_err-check-clause-calls
-returns-in_err-check-clause-calls g c = quiet_calls c.from_residual.result _ c.from_residual.ensures.1 (never inner_refusals why.Device refl _ (early_among (standing_shown c.args.self.now) (event_by c.args.user c.args.edit) _ c.in_err-check.ensures)) _ 4 _
+returns-in_err-check-clause-calls g c =
+    quiet_calls c.from_residual.result _ c.from_residual.ensures.1
+    (never inner_refusals why.Device refl _ (early_among (standing_shown c.args.self.now)
+    (event_by c.args.user c.args.edit) _ c.in_err-check.ensures)) _ 4 _
 
 pub returns-in_err-check-clause-halts : goal.returns-in_err-check-clause-halts
-returns-in_err-check-clause-halts g c = quiet_device c.from_residual.result _ c.from_residual.ensures.1 (never inner_refusals why.Device refl _ (early_among (standing_shown c.args.self.now) (event_by c.args.user c.args.edit) _ c.in_err-check.ensures)) _
+returns-in_err-check-clause-halts g c =
+    quiet_device c.from_residual.result _ c.from_residual.ensures.1
+    (never inner_refusals why.Device refl _ (early_among (standing_shown c.args.self.now)
+    (event_by c.args.user c.args.edit) _ c.in_err-check.ensures)) _
 
 pub returns-in_err-check_room-clause-cause : goal.returns-in_err-check_room-clause-cause
 returns-in_err-check_room-clause-cause g c history stands =
-    subst (λ s. IfErr c.from_residual-in_err-check_room.result (λ e. IsOneOf outside_refusals e ⊎ (add_refusal_at (room_shown c.args.self.now) s (event_by c.args.user c.args.edit) ≡ Some (refusal_of e)))) stands.remembers.standing
-    (room_refused (room_shown c.args.self.now) (standing_shown c.args.self.now) (event_by c.args.user c.args.edit) c.from_residual-in_err-check_room.result _ c.edit_length-length.result
-    c.from_residual-in_err-check_room.ensures.1 (sym c.check.ensures ∙ ap refusal_in c.in_ok-check.was) (c.edit_length-length.ensures c.args.user) c.in_err-check_room.ensures.refused)
+    subst (λ s. IfErr c.from_residual-in_err-check_room.result
+    (λ e. IsOneOf outside_refusals e ⊎ (add_refusal_at (room_shown c.args.self.now) s
+    (event_by c.args.user c.args.edit) ≡ Some (refusal_of e)))) stands.remembers.standing
+    (room_refused (room_shown c.args.self.now) (standing_shown c.args.self.now)
+    (event_by c.args.user c.args.edit) c.from_residual-in_err-check_room.result _
+    c.edit_length-length.result
+    c.from_residual-in_err-check_room.ensures.1
+    (sym c.check.ensures ∙ ap refusal_in c.in_ok-check.was)
+    (c.edit_length-length.ensures c.args.user) c.in_err-check_room.ensures.refused)
 
 pub returns-clause-cause : goal.returns-clause-cause
 returns-clause-cause g c history stands =
-    subst (λ s. IfErr c.add.result (λ e. IsOneOf outside_refusals e ⊎ (add_refusal_at (room_shown c.args.self.now) s (event_by c.args.user c.args.edit) ≡ Some (refusal_of e)))) stands.remembers.standing c.add.ensures.cause
+    subst (λ s. IfErr c.add.result (λ e. IsOneOf outside_refusals e ⊎ (add_refusal_at
+    (room_shown c.args.self.now) s (event_by c.args.user c.args.edit) ≡ Some (refusal_of e))))
+    stands.remembers.standing c.add.ensures.cause
 
 -- where it was added, there was no cause
 pub returns-clause-refused : goal.returns-clause-refused
 returns-clause-refused g c history why stands e =
-    absurd (none-some _ (sym (ap (λ s. add_refusal_at (room_shown c.args.self.now) s (event_by c.args.user c.args.edit)) (sym stands.remembers.standing)
-    ∙ room_passed (room_shown c.args.self.now) (standing_shown c.args.self.now) (event_by c.args.user c.args.edit) (sym c.check.ensures ∙ ap refusal_in c.in_ok-check.was)
-    (subst (λ n. n ≤ room_shown c.args.self.now) (c.edit_length-length.ensures c.args.user) c.in_ok-check_room.ensures.room)) ∙ e))
+    absurd (none-some _ (sym (ap (λ s. add_refusal_at (room_shown c.args.self.now) s
+    (event_by c.args.user c.args.edit)) (sym stands.remembers.standing)
+    ∙ room_passed (room_shown c.args.self.now) (standing_shown c.args.self.now)
+    (event_by c.args.user c.args.edit) (sym c.check.ensures ∙ ap refusal_in c.in_ok-check.was)
+    (subst (λ n. n ≤ room_shown c.args.self.now)
+    (c.edit_length-length.ensures c.args.user) c.in_ok-check_room.ensures.room)) ∙ e))
 
 pub returns-clause-refusals : goal.returns-clause-refusals
-returns-clause-refusals g c = added_refusals edit_refusals refl refl _ (edited_among (room_shown c.args.self.now) (standing_shown c.args.self.now) c.args.user (edit_of c.args.edit)) c.add.result c.add.ensures.cause
+returns-clause-refusals g c =
+    added_refusals edit_refusals refl refl _
+    (edited_among (room_shown c.args.self.now) (standing_shown c.args.self.now) c.args.user
+    (edit_of c.args.edit)) c.add.result c.add.ensures.cause

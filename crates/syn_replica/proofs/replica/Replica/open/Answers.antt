@@ -13,16 +13,25 @@ returns-in-Ok-read_replica-clause-each g c number history fits stands =
     let opened = c.in-Ok.opened in
     let read = c.in-Ok-read_replica in
     let value = value_read opened.image opened.records in
-    let gives = subst (λ p. Gives read.pair opened.image.items p read.standing) (ap bytes_of_each c.deref-2.ensures.value)
-    (subst (λ i. Gives read.pair i (bytes_of_each c.deref-2.result.now) read.standing) c.deref.ensures.value read.ensures.gives) in
-    stands_for_each c.opening_laws.ensures.one _ value (g.D.Disk.seen c.args.disk) number history c.in-Ok.ensures.opened c.in-Ok.ensures.untouched.same read.ensures.fits gives fits stands
+    let gives = subst (λ p. Gives read.pair opened.image.items p read.standing)
+    (ap bytes_of_each c.deref-2.ensures.value)
+    (subst (λ i. Gives read.pair i (bytes_of_each c.deref-2.result.now) read.standing)
+    c.deref.ensures.value read.ensures.gives) in
+    stands_for_each c.opening_laws.ensures.one _ value (g.D.Disk.seen c.args.disk) number history
+    c.in-Ok.ensures.opened c.in-Ok.ensures.untouched.same read.ensures.fits gives fits stands
 
 pub returns-clause-refusals : goal.returns-clause-refusals
 returns-clause-refusals g c =
     let opened = c.in-Ok.opened in
     let value = value_read opened.image opened.records in
     let refused = c.in-Err-read_replica in
-    meaning_refusal refused.error c.args.pair (g.D.Disk.seen c.args.disk) value (ap meaning (sym c.in-Ok.ensures.untouched.same) ∙ c.in-Ok.ensures.opened.holds.means) refused.ensures.refusals
+    meaning_refusal refused.error c.args.pair (g.D.Disk.seen c.args.disk) value
+    (ap meaning (sym c.in-Ok.ensures.untouched.same) ∙ c.in-Ok.ensures.opened.holds.means)
+    refused.ensures.refusals
     (λ damaged pair standing fits gives. refused.ensures.damaged damaged pair standing fits
-    (subst (λ p. Gives pair c.deref.result.now p standing) (ap bytes_of_each (sym c.deref-2.ensures.value)) (subst (λ i. Gives pair i value.payloads standing) (sym c.deref.ensures.value) gives)))
-    (λ other. subst (λ p. GivesOtherPair c.args.pair value.image p) (ap bytes_of_each c.deref-2.ensures.value) (subst (λ i. GivesOtherPair c.args.pair i (bytes_of_each c.deref-2.result.now)) c.deref.ensures.value (refused.ensures.other other)))
+    (subst (λ p. Gives pair c.deref.result.now p standing)
+    (ap bytes_of_each (sym c.deref-2.ensures.value))
+    (subst (λ i. Gives pair i value.payloads standing) (sym c.deref.ensures.value) gives)))
+    (λ other. subst (λ p. GivesOtherPair c.args.pair value.image p)
+    (ap bytes_of_each c.deref-2.ensures.value) (subst (λ i. GivesOtherPair c.args.pair i
+    (bytes_of_each c.deref-2.result.now)) c.deref.ensures.value (refused.ensures.other other)))

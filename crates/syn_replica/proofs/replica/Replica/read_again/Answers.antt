@@ -18,21 +18,35 @@ returns-in_err-_pair-clause-cause g c =
     rw (p.1, p.2) (λ bytes means. of_open refused.field-0.0 own.pair own.standing.position bytes
     (meaning_refusal refused.field-0.0 (Some own.pair) bytes value means refused.ensures.refusals
     (λ damaged pair standing fits gives. refused.ensures.damaged damaged pair standing fits
-    (subst (λ q. Gives pair c.deref.result.now q standing) (ap bytes_of_each (sym c.deref-2.ensures.value)) (subst (λ i. Gives pair i value.payloads standing) (sym c.deref.ensures.value) gives)))
-    (λ other. subst (λ q. GivesOtherPair (Some own.pair) value.image q) (ap bytes_of_each c.deref-2.ensures.value) (subst (λ i. GivesOtherPair (Some own.pair) i (bytes_of_each c.deref-2.result.now)) c.deref.ensures.value (refused.ensures.other other)))))
+    (subst (λ q. Gives pair c.deref.result.now q standing)
+    (ap bytes_of_each (sym c.deref-2.ensures.value))
+    (subst (λ i. Gives pair i value.payloads standing) (sym c.deref.ensures.value) gives)))
+    (λ other. subst (λ q. GivesOtherPair (Some own.pair) value.image q)
+    (ap bytes_of_each c.deref-2.ensures.value) (subst (λ i. GivesOtherPair (Some own.pair) i
+    (bytes_of_each c.deref-2.result.now)) c.deref.ensures.value (refused.ensures.other other)))))
 
 pub returns-then-position-clause-cause : goal.returns-then-position-clause-cause
 returns-then-position-clause-cause g c bytes means =
     let own = c.args.self.now in
     let value = value_read c.args.found.now.image c.args.found.now.records in
     let read = c.in_ok-_pair in
-    let gives = subst (λ q. Gives read._pair value.image q read.standing) (ap bytes_of_each c.deref-2.ensures.value)
-    (subst (λ i. Gives read._pair i (bytes_of_each c.deref-2.result.now) read.standing) c.deref.ensures.value read.ensures.gives) in
+    let gives = subst (λ q. Gives read._pair value.image q read.standing)
+    (ap bytes_of_each c.deref-2.ensures.value)
+    (subst (λ i. Gives read._pair i (bytes_of_each c.deref-2.result.now) read.standing)
+    c.deref.ensures.value read.ensures.gives) in
     let had = c.position.ensures ∙ ap (λ (p : Past). p.position) c.trail.ensures in
     inr (record {
       standing = read.standing;
-      gives = record { value = value; means = means; gives = subst (λ n. Gives n value.image value.payloads read.standing) (sym (read.ensures.wanted own.pair refl)) gives };
-      fewer = subst (λ n. read.standing.position < n) c.position-2.ensures (subst (λ n. n < c.position-2.result) had c.if-position.true);
+      gives =
+          record {
+            value = value;
+            means = means;
+            gives = subst (λ n. Gives n value.image
+                value.payloads read.standing) (sym (read.ensures.wanted own.pair refl)) gives;
+          };
+      fewer =
+          subst (λ n. read.standing.position < n) c.position-2.ensures
+          (subst (λ n. n < c.position-2.result) had c.if-position.true);
     })
 
 pub returns-clause-one : goal.returns-clause-one
@@ -40,6 +54,9 @@ returns-clause-one g c standing gives =
     let own = c.args.self.now in
     let value = value_read c.args.found.now.image c.args.found.now.records in
     let read = c.in_ok-_pair in
-    let fits = subst (λ n. n < 2 ^ 64) (sym (read.ensures.wanted own.pair refl)) read.ensures.fits in
+    let fits = subst (λ n. n < 2 ^ 64)
+    (sym (read.ensures.wanted own.pair refl)) read.ensures.fits in
     (read.ensures.one own.pair standing fits
-    (subst (λ q. Gives own.pair c.deref.result.now q standing) (ap bytes_of_each (sym c.deref-2.ensures.value)) (subst (λ i. Gives own.pair i value.payloads standing) (sym c.deref.ensures.value) gives))).1
+    (subst (λ q. Gives own.pair c.deref.result.now q standing)
+    (ap bytes_of_each (sym c.deref-2.ensures.value))
+    (subst (λ i. Gives own.pair i value.payloads standing) (sym c.deref.ensures.value) gives))).1

@@ -9,4 +9,5 @@ pub returns : goal.returns
 returns c =
     let path = c.args.path.now in
     c.any_within.ensures ∙ (ap (λ es. list_any (λ e. is_prefix path e.0) es) c.deref.ensures.value
-    ∙ (any_key (is_prefix path) c.self.inside.list.items c.self.invariant ∙ ap (λ m. list_any (is_prefix path) (keys m)) c.self.view_is))
+    ∙ (any_key (is_prefix path) c.self.inside.list.items c.self.invariant
+    ∙ ap (λ m. list_any (is_prefix path) (keys m)) c.self.view_is))

@@ -5,4 +5,5 @@ use Rattle.syn_placed.proofs.TreeLemmas.{rising-entries}
 use Rattle.syn_scan.proofs.scan.Scan.marks.Goals as goal
 
 pub part_at-requires : goal.part_at-requires
-part_at-requires c = subst AreRising (sym c.as_slice.ensures.all) (are_rising _ (rising-entries c.self.inside.marks))
+part_at-requires c =
+    subst AreRising (sym c.as_slice.ensures.all) (are_rising _ (rising-entries c.self.inside.marks))

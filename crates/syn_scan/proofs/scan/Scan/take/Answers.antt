@@ -10,39 +10,61 @@ use Rattle.syn_scan.specs.declared.error.ScanError.TheVariants.{Memory, BadMessa
 use Rattle.syn_scan.specs.Refusals.{of_tree}
 use Rattle.syn_scan.specs.Found.{Found, IsFound, is_open}
 use Rattle.syn_scan.specs.inner.Kept.{with_tree}
-use Rattle.syn_scan.proofs.FoundLemmas.{taken_is, listing_is_found, empty_path, not_root, replace-root, refused_for_limits}
+use Rattle.syn_scan.proofs.FoundLemmas.{taken_is, listing_is_found, empty_path, not_root}
+use Rattle.syn_scan.proofs.FoundLemmas.{replace-root, refused_for_limits}
 use Rattle.syn_scan.proofs.scan.Scan.take.Goals as goal
 
 pub invariant_of-self-then-is_empty : goal.invariant_of-self-then-is_empty
 invariant_of-self-then-is_empty c =
-    let old : Found = record { marks = c.self.inside.marks; listed = c.self.inside.listed; not_dirs = c.self.inside.not_dirs } in
+    let old : Found = record {
+      marks = c.self.inside.marks;
+      listed = c.self.inside.listed;
+      not_dirs = c.self.inside.not_dirs;
+    } in
     let p = c.args.path.now in
     let u = c.args.listing in
-    let at_root = empty_path p (sym (ap (λ q. length q == 0) c.names.ensures.names) ∙ (sym c.is_empty.ensures ∙ c.if-is_empty.true)) in
-    let marks : u ≡ replace old.marks p u = sym (ap (λ q. replace old.marks q u) at_root ∙ replace-root old.marks u) in
-    let listed = c.in_ok-insert.ensures.ok ∙ ap (λ q. insert old.listed q c.args.position) c.in_ok-copy.ensures.ok in
-    let same = taken_is old p c.args.position u u c.insert.new.self old.not_dirs marks listed refl in
-    subst IsFound (sym same) (listing_is_found old p c.args.position u c.self.invariant (ap (λ f. is_open f p) c.self.view_is ∙ c.requires.open) c.requires.flat (subst IsMarks marks c.is_marks.ensures.marks) (ap fits_archive (sym marks) ∙ c.is_marks.ensures.fits))
+    let at_root = empty_path p (sym (ap (λ q. length q == 0) c.names.ensures.names)
+    ∙ (sym c.is_empty.ensures ∙ c.if-is_empty.true)) in
+    let marks : u ≡ replace old.marks p u =
+    sym (ap (λ q. replace old.marks q u) at_root ∙ replace-root old.marks u) in
+    let listed = c.in_ok-insert.ensures.ok
+    ∙ ap (λ q. insert old.listed q c.args.position) c.in_ok-copy.ensures.ok in
+    let same =
+    taken_is old p c.args.position u u c.insert.new.self old.not_dirs marks listed refl in
+    subst IsFound (sym same) (listing_is_found old p c.args.position u c.self.invariant
+    (ap (λ f. is_open f p) c.self.view_is ∙ c.requires.open) c.requires.flat (subst IsMarks marks
+    c.is_marks.ensures.marks) (ap fits_archive (sym marks) ∙ c.is_marks.ensures.fits))
 
 pub returns-then-is_empty-clause-ok : goal.returns-then-is_empty-clause-ok
 returns-then-is_empty-clause-ok c =
-    let old : Found = record { marks = c.self.inside.marks; listed = c.self.inside.listed; not_dirs = c.self.inside.not_dirs } in
+    let old : Found = record {
+      marks = c.self.inside.marks;
+      listed = c.self.inside.listed;
+      not_dirs = c.self.inside.not_dirs;
+    } in
     let p = c.args.path.now in
     let u = c.args.listing in
-    let at_root = empty_path p (sym (ap (λ q. length q == 0) c.names.ensures.names) ∙ (sym c.is_empty.ensures ∙ c.if-is_empty.true)) in
-    let marks : u ≡ replace old.marks p u = sym (ap (λ q. replace old.marks q u) at_root ∙ replace-root old.marks u) in
-    let listed = c.in_ok-insert.ensures.ok ∙ ap (λ q. insert old.listed q c.args.position) c.in_ok-copy.ensures.ok in
-    taken_is old p c.args.position u u c.insert.new.self old.not_dirs marks listed refl ∙ ap (λ f. with_tree f p c.args.position u) c.self.view_is
+    let at_root = empty_path p (sym (ap (λ q. length q == 0) c.names.ensures.names)
+    ∙ (sym c.is_empty.ensures ∙ c.if-is_empty.true)) in
+    let marks : u ≡ replace old.marks p u =
+    sym (ap (λ q. replace old.marks q u) at_root ∙ replace-root old.marks u) in
+    let listed = c.in_ok-insert.ensures.ok
+    ∙ ap (λ q. insert old.listed q c.args.position) c.in_ok-copy.ensures.ok in
+    taken_is old p c.args.position u u c.insert.new.self old.not_dirs marks listed refl
+    ∙ ap (λ f. with_tree f p c.args.position u) c.self.view_is
 
 pub returns-then-is_empty-clause-fits : goal.returns-then-is_empty-clause-fits
 returns-then-is_empty-clause-fits c =
     let p = c.args.path.now in
     let u = c.args.listing in
-    let at_root = empty_path p (sym (ap (λ q. length q == 0) c.names.ensures.names) ∙ (sym c.is_empty.ensures ∙ c.if-is_empty.true)) in
-    ap fits_archive (ap (λ q. replace c.args.self.now.marks q u) at_root ∙ replace-root c.args.self.now.marks u) ∙ c.is_marks.ensures.fits
+    let at_root = empty_path p (sym (ap (λ q. length q == 0) c.names.ensures.names)
+    ∙ (sym c.is_empty.ensures ∙ c.if-is_empty.true)) in
+    ap fits_archive (ap (λ q. replace c.args.self.now.marks q u) at_root
+    ∙ replace-root c.args.self.now.marks u) ∙ c.is_marks.ensures.fits
 
 -- what is refused for another cause than memory does not belong
-refused : (e : TreeError) {P : Type 0} → (e ≢ tree.Memory → P) → of_tree e ≢ Memory → (of_tree e ≡ BadMessage) × P
+refused : (e : TreeError) {P : Type 0} → (e ≢ tree.Memory → P) → of_tree e ≢ Memory →
+    (of_tree e ≡ BadMessage) × P
 refused tree.NoParent h k = (refl, h (λ bad. let x : tree.NoParent ≡ tree.Memory = bad in cc))
 refused tree.IsDirectory h k = (refl, h (λ bad. let x : tree.IsDirectory ≡ tree.Memory = bad in cc))
 refused tree.Exists h k = (refl, h (λ bad. let x : tree.Exists ≡ tree.Memory = bad in cc))
@@ -53,20 +75,36 @@ refused tree.Memory h k = absurd (k refl)
 
 pub returns-in_err-change-clause-bad : goal.returns-in_err-change-clause-bad
 returns-in_err-change-clause-bad c =
-    let p = err_from_is_err_and c.from_residual-in_err-change.result c.from_residual-in_err-change.ensures.1 in
-    let old : Found = record { marks = c.self.inside.marks; listed = c.self.inside.listed; not_dirs = c.self.inside.not_dirs } in
+    let p = err_from_is_err_and c.from_residual-in_err-change.result
+    c.from_residual-in_err-change.ensures.1 in
+    let old : Found = record {
+      marks = c.self.inside.marks;
+      listed = c.self.inside.listed;
+      not_dirs = c.self.inside.not_dirs;
+    } in
     let path = c.args.path.now in
-    let below = not_root path (sym (ap (λ q. length q == 0) c.names.ensures.names) ∙ (sym c.is_empty.ensures ∙ c.if-is_empty.false)) in
+    let below = not_root path (sym (ap (λ q. length q == 0) c.names.ensures.names)
+    ∙ (sym c.is_empty.ensures ∙ c.if-is_empty.false)) in
     rw (p.1, p.2) (refused c.in_err-change.field-0.0 (λ other.
     sym (ap (λ (f : Found). fits_archive (replace f.marks path c.args.listing)) c.self.view_is)
-    ∙ refused_for_limits old path c.args.listing _ c.self.invariant (ap (λ f. is_open f path) c.self.view_is ∙ c.requires.open) below (c.in_err-change.ensures.refused other)))
+    ∙ refused_for_limits old path c.args.listing _ c.self.invariant (ap (λ f. is_open f path)
+    c.self.view_is ∙ c.requires.open) below (c.in_err-change.ensures.refused other)))
 
 pub invariant_of-self-2 : goal.invariant_of-self-2
 invariant_of-self-2 c =
-    let old : Found = record { marks = c.self.inside.marks; listed = c.self.inside.listed; not_dirs = c.self.inside.not_dirs } in
+    let old : Found = record {
+      marks = c.self.inside.marks;
+      listed = c.self.inside.listed;
+      not_dirs = c.self.inside.not_dirs;
+    } in
     let p = c.args.path.now in
     let u = c.args.listing in
-    let marks : c.make.new.self ≡ replace old.marks p u = c.make.ensures ∙ ap₂ (replace old.marks) c.in_ok-change.ensures.at c.in_ok-change.ensures.new in
-    let listed = c.in_ok-insert-2.ensures.ok ∙ ap (λ q. insert old.listed q c.args.position) c.in_ok-copy-2.ensures.ok in
-    let same = taken_is old p c.args.position u c.make.new.self c.insert-2.new.self old.not_dirs marks listed refl in
-    subst IsFound (sym same) (listing_is_found old p c.args.position u c.self.invariant (ap (λ f. is_open f p) c.self.view_is ∙ c.requires.open) c.requires.flat (subst IsMarks marks c.is_marks-2.ensures.marks) (ap fits_archive (sym marks) ∙ c.is_marks-2.ensures.fits))
+    let marks : c.make.new.self ≡ replace old.marks p u = c.make.ensures
+    ∙ ap₂ (replace old.marks) c.in_ok-change.ensures.at c.in_ok-change.ensures.new in
+    let listed = c.in_ok-insert-2.ensures.ok
+    ∙ ap (λ q. insert old.listed q c.args.position) c.in_ok-copy-2.ensures.ok in
+    let same = taken_is old p c.args.position u c.make.new.self c.insert-2.new.self old.not_dirs
+    marks listed refl in
+    subst IsFound (sym same) (listing_is_found old p c.args.position u c.self.invariant
+    (ap (λ f. is_open f p) c.self.view_is ∙ c.requires.open) c.requires.flat (subst IsMarks marks
+    c.is_marks-2.ensures.marks) (ap fits_archive (sym marks) ∙ c.is_marks-2.ensures.fits))

@@ -7,6 +7,25 @@ use Rattle.syn_session.proofs.session.Session.count_resend.Goals as goal
 pub returns : goal.returns
 returns c archive running is = resent_so archive c.args.self.now _ running is refl refl refl again
   where
-    again : (side : Which) → SentAgain (line_of c.args.self.now side) (line_of (record { number = c.args.self.now.number; left = c.count_resend.new.self; right = c.count_resend-2.new.self; is_unstable = c.args.self.now.is_unstable; course = c.args.self.now.course }) side)
-    again Left = record { waits = c.count_resend.ensures.waits; same = c.count_resend.ensures.same; asked = c.count_resend.ensures.asked; scan = c.count_resend.ensures.scan }
-    again Right = record { waits = c.count_resend-2.ensures.waits; same = c.count_resend-2.ensures.same; asked = c.count_resend-2.ensures.asked; scan = c.count_resend-2.ensures.scan }
+    again : (side : Which) → SentAgain (line_of c.args.self.now side) (line_of (record {
+      number =
+          c.args.self.now.number;
+      left = c.count_resend.new.self;
+      right = c.count_resend-2.new.self;
+      is_unstable = c.args.self.now.is_unstable;
+      course = c.args.self.now.course;
+    }) side)
+    again Left =
+        record {
+          waits = c.count_resend.ensures.waits;
+          same = c.count_resend.ensures.same;
+          asked = c.count_resend.ensures.asked;
+          scan = c.count_resend.ensures.scan;
+        }
+    again Right =
+        record {
+          waits = c.count_resend-2.ensures.waits;
+          same = c.count_resend-2.ensures.same;
+          asked = c.count_resend-2.ensures.asked;
+          scan = c.count_resend-2.ensures.scan;
+        }

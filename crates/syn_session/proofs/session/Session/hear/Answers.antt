@@ -6,5 +6,7 @@ use Rattle.syn_session.proofs.session.Session.hear.Goals as goal
 pub returns : goal.returns
 returns c = record {
   step = λ archive before running number is answers scans.
-      absurd (none_other archive before c.args.self.now running (which_of c.args.from) number c.args.request (reply_of c.args.reply) is answers scans c.in_default.not-Begin c.in_default.not-List);
+      absurd (none_other archive before c.args.self.now running
+      (which_of c.args.from) number c.args.request
+      (reply_of c.args.reply) is answers scans c.in_default.not-Begin c.in_default.not-List);
 }

@@ -6,7 +6,9 @@ use Rattle.syn_message.specs.Sides.{which_of}
 use Rattle.syn_session.specs.Answering.{exchange_of}
 use Rattle.syn_session.specs.Hearing.{at_once, behind}
 use Rattle.syn_session.proofs.HearLemmas.{heard_new, scans_either}
-use Rattle.syn_session.proofs.HearingLemmas.{begun_heard, begun_lines, both_begun, found_begun, hears_refused, tells_before, tells_heard, waits_on}
+use Rattle.syn_session.proofs.HearingLemmas.{begun_heard, begun_lines, both_begun, found_begun}
+use Rattle.syn_session.proofs.TellingLemmas.{tells_heard}
+use Rattle.syn_session.proofs.HearingLemmas.{hears_refused, tells_before, waits_on}
 use Rattle.syn_session.proofs.SessionLemmas.{is_none}
 use Rattle.syn_session.proofs.session.Session.hear_begun.Goals as goal
 
@@ -14,8 +16,11 @@ pub returns-in_err-check_begun : goal.returns-in_err-check_begun
 returns-in_err-check_begun c = record {
   step = λ archive before running number pair is answers scans.
       let side = which_of c.args.from in
-      hears_refused c.args.self.now running side number (Begin pair) (reply_of c.args.reply) c.from_residual.result _ c.from_residual.ensures.1
-      (at_once (inl (c.in_err-check_begun.ensures running.taken side pair)) (tells_before archive before c.args.self.now running side number (Begin pair) (reply_of c.args.reply) is answers scans c.args.self.now refl refl refl));
+      hears_refused c.args.self.now running side number (Begin pair)
+      (reply_of c.args.reply) c.from_residual.result _ c.from_residual.ensures.1
+      (at_once (inl (c.in_err-check_begun.ensures running.taken side pair))
+      (tells_before archive before c.args.self.now running side number (Begin pair)
+      (reply_of c.args.reply) is answers scans c.args.self.now refl refl refl));
 }
 
 pub returns-then-waits_across : goal.returns-then-waits_across
@@ -24,8 +29,11 @@ returns-then-waits_across c = record {
       let side = which_of c.args.from in
       let said = c.in_ok-check_begun.ensures running.taken side pair in (
         said.0,
-        begun_heard archive before c.args.self.now running side number (Begin pair) (reply_of c.args.reply) is answers scans pair said.1 refl said.2,
-        waits_on archive before c.args.self.now running side number (Begin pair) (reply_of c.args.reply) is answers scans pair said.1 refl said.2 (sym c.waits_across.ensures ∙ c.if-waits_across.true),
+        begun_heard archive before c.args.self.now running side number (Begin pair)
+            (reply_of c.args.reply) is answers scans pair said.1 refl said.2,
+        waits_on archive before c.args.self.now running side number (Begin pair)
+            (reply_of c.args.reply) is answers scans pair said.1 refl said.2
+            (sym c.waits_across.ensures ∙ c.if-waits_across.true),
       );
 }
 
@@ -37,13 +45,19 @@ returns-in-Ok c = record {
       let said = c.in_ok-check_begun.ensures running.taken side pair in
       let silent = is_none _ (sym c.waits_across.ensures ∙ c.if-waits_across.false) in
       let heard = hearing running (exchange_of side number (Begin pair) reply) in
-      let has = begun_heard archive before c.args.self.now running side number (Begin pair) reply is answers scans pair said.1 refl said.2 in
-      let both = both_begun archive before c.args.self.now running side number (Begin pair) reply is answers scans pair said.1 refl said.2 silent in
-      let found = found_begun archive before c.args.self.now running side number (Begin pair) reply is answers scans pair said.1 refl said.2 in
-      let lines = begun_lines archive before c.args.self.now running side number (Begin pair) reply is answers scans pair said.1 refl said.2 silent in (
+      let has = begun_heard archive before c.args.self.now running side number
+      (Begin pair) reply is answers scans pair said.1 refl said.2 in
+      let both = both_begun archive before c.args.self.now running side number
+      (Begin pair) reply is answers scans pair said.1 refl said.2 silent in
+      let found = found_begun archive before c.args.self.now running side number
+      (Begin pair) reply is answers scans pair said.1 refl said.2 in
+      let lines = begun_lines archive before c.args.self.now running side number
+      (Begin pair) reply is answers scans pair said.1 refl said.2 silent in (
         said.0,
-        heard_new c.args.self.now c.scan_on.new.self heard has both found lines c.in-Ok.ensures.same,
-        scans_either c.args.self.now c.scan_on.new.self heard has both found lines c.in-Ok.ensures.same c.in-Ok.next c.in-Ok.ensures.some c.in-Ok.ensures.none,
+        heard_new c.args.self.now c.scan_on.new.self heard has both found lines
+            c.in-Ok.ensures.same,
+        scans_either c.args.self.now c.scan_on.new.self heard has both found lines
+            c.in-Ok.ensures.same c.in-Ok.next c.in-Ok.ensures.some c.in-Ok.ensures.none,
       );
 }
 
@@ -55,9 +69,14 @@ returns-in-Err c = record {
       let said = c.in_ok-check_begun.ensures running.taken side pair in
       let silent = is_none _ (sym c.waits_across.ensures ∙ c.if-waits_across.false) in
       let heard = hearing running (exchange_of side number (Begin pair) reply) in
-      let has = begun_heard archive before c.args.self.now running side number (Begin pair) reply is answers scans pair said.1 refl said.2 in
-      let both = both_begun archive before c.args.self.now running side number (Begin pair) reply is answers scans pair said.1 refl said.2 silent in
-      let found = found_begun archive before c.args.self.now running side number (Begin pair) reply is answers scans pair said.1 refl said.2 in
-      let lines = begun_lines archive before c.args.self.now running side number (Begin pair) reply is answers scans pair said.1 refl said.2 silent in
-      behind said.0 refl (tells_heard c.scan_on.new.self heard (heard_new c.args.self.now c.scan_on.new.self heard has both found lines c.in-Err.ensures.same));
+      let has = begun_heard archive before c.args.self.now running side number
+      (Begin pair) reply is answers scans pair said.1 refl said.2 in
+      let both = both_begun archive before c.args.self.now running side number
+      (Begin pair) reply is answers scans pair said.1 refl said.2 silent in
+      let found = found_begun archive before c.args.self.now running side number
+      (Begin pair) reply is answers scans pair said.1 refl said.2 in
+      let lines = begun_lines archive before c.args.self.now running side number
+      (Begin pair) reply is answers scans pair said.1 refl said.2 silent in
+      behind said.0 refl (tells_heard c.scan_on.new.self heard (heard_new c.args.self.now
+      c.scan_on.new.self heard has both found lines c.in-Err.ensures.same));
 }

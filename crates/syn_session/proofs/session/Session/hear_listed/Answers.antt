@@ -7,7 +7,10 @@ use Rattle.syn_session.specs.Answering.{exchange_of}
 use Rattle.syn_session.specs.Hearing.{at_once, behind}
 use Rattle.std.specs.Prelude.{◌||◌}
 use Rattle.syn_session.proofs.HearLemmas.{heard_new, scans_either}
-use Rattle.syn_session.proofs.HearingLemmas.{found_before, hears_refused, listed_begun, listed_found, listed_heard, listed_lines, swapped, tells_before, tells_heard, waits_for}
+use Rattle.syn_session.proofs.HearingLemmas.{found_before, hears_refused, listed_begun}
+use Rattle.syn_session.proofs.HearingLemmas.{listed_found, listed_heard, listed_lines, swapped}
+use Rattle.syn_session.proofs.TellingLemmas.{tells_heard}
+use Rattle.syn_session.proofs.HearingLemmas.{tells_before, waits_for}
 use Rattle.syn_session.proofs.session.Session.hear_listed.Goals as goal
 
 pub returns-in_err-take_listing : goal.returns-in_err-take_listing
@@ -16,11 +19,17 @@ returns-in_err-take_listing c = record {
       let side = which_of c.args.from in
       let path = c.args.path.now in
       let reply = reply_of c.args.reply in
-      let waits = waits_for archive before c.args.self.now running side number (ListAt path) reply is answers scans path refl in
-      let found = found_before archive before c.args.self.now running side number (ListAt path) reply is answers scans path refl in
+      let waits = waits_for archive before c.args.self.now running side number
+      (ListAt path) reply is answers scans path refl in
+      let found = found_before archive before c.args.self.now running side number
+      (ListAt path) reply is answers scans path refl in
       let keeps = c.in_err-take_listing.ensures.keeps in
-      hears_refused c.take_listing.new.self running side number (ListAt path) reply c.from_residual.result _ c.from_residual.ensures.1
-      (at_once (swapped (c.in_err-take_listing.ensures.step running.taken number waits found)) (tells_before archive before c.args.self.now running side number (ListAt path) reply is answers scans c.take_listing.new.self keeps.number_is c.in_err-take_listing.ensures.unstable keeps.course));
+      hears_refused c.take_listing.new.self running side number
+      (ListAt path) reply c.from_residual.result _ c.from_residual.ensures.1
+      (at_once (swapped (c.in_err-take_listing.ensures.step running.taken number waits found))
+      (tells_before archive before c.args.self.now running side number
+      (ListAt path) reply is answers scans c.take_listing.new.self keeps.number_is
+      c.in_err-take_listing.ensures.unstable keeps.course));
 }
 
 pub returns-in-Ok : goal.returns-in-Ok
@@ -32,19 +41,35 @@ returns-in-Ok c = record {
       let now = c.args.self.now in
       let taken = c.take_listing.new.self in
       let after = c.count_unstable.new.self in
-      let waits = waits_for archive before now running side number (ListAt path) reply is answers scans path refl in
-      let before_found = found_before archive before now running side number (ListAt path) reply is answers scans path refl in
+      let waits = waits_for archive before now running side number
+      (ListAt path) reply is answers scans path refl in
+      let before_found = found_before archive before now running side number
+      (ListAt path) reply is answers scans path refl in
       let keeps = c.in_ok-take_listing.ensures.keeps in
       let step = c.in_ok-take_listing.ensures.step running.taken number waits before_found in
-      let counted = c.count_unstable.ensures.unstable ∙ ap (λ b. taken.is_unstable || b) c.is_no_directory-is_no_directory.ensures in
+      let counted = c.count_unstable.ensures.unstable
+      ∙ ap (λ b. taken.is_unstable || b) c.is_no_directory-is_no_directory.ensures in
       let heard = hearing running (exchange_of side number (ListAt path) reply) in
-      let has = listed_heard archive before now running side number (ListAt path) reply is answers scans path refl taken after keeps c.in_ok-take_listing.ensures.unstable counted c.count_unstable.ensures.left c.count_unstable.ensures.right c.count_unstable.ensures.number c.count_unstable.ensures.course step.1 in
-      let both = listed_begun archive before now running side number (ListAt path) reply is answers scans path refl taken after keeps c.in_ok-take_listing.ensures.unstable counted c.count_unstable.ensures.left c.count_unstable.ensures.right c.count_unstable.ensures.number c.count_unstable.ensures.course step.1 in
-      let found = listed_found archive before now running side number (ListAt path) reply is answers scans path refl taken after keeps c.in_ok-take_listing.ensures.unstable counted c.count_unstable.ensures.left c.count_unstable.ensures.right c.count_unstable.ensures.number c.count_unstable.ensures.course step.1 in
-      let lines = listed_lines archive before now running side number (ListAt path) reply is answers scans path refl taken after keeps c.in_ok-take_listing.ensures.unstable counted c.count_unstable.ensures.left c.count_unstable.ensures.right c.count_unstable.ensures.number c.count_unstable.ensures.course step.1 in (
+      let has = listed_heard archive before now running side number (ListAt path) reply is answers
+      scans path refl taken after keeps c.in_ok-take_listing.ensures.unstable counted
+      c.count_unstable.ensures.left c.count_unstable.ensures.right c.count_unstable.ensures.number
+      c.count_unstable.ensures.course step.1 in
+      let both = listed_begun archive before now running side number (ListAt path) reply is answers
+      scans path refl taken after keeps c.in_ok-take_listing.ensures.unstable counted
+      c.count_unstable.ensures.left c.count_unstable.ensures.right c.count_unstable.ensures.number
+      c.count_unstable.ensures.course step.1 in
+      let found = listed_found archive before now running side number (ListAt path) reply is answers
+      scans path refl taken after keeps c.in_ok-take_listing.ensures.unstable counted
+      c.count_unstable.ensures.left c.count_unstable.ensures.right c.count_unstable.ensures.number
+      c.count_unstable.ensures.course step.1 in
+      let lines = listed_lines archive before now running side number (ListAt path) reply is answers
+      scans path refl taken after keeps c.in_ok-take_listing.ensures.unstable counted
+      c.count_unstable.ensures.left c.count_unstable.ensures.right
+      c.count_unstable.ensures.number c.count_unstable.ensures.course step.1 in (
         step.0,
         heard_new after c.scan_on.new.self heard has both found lines c.in-Ok.ensures.same,
-        scans_either after c.scan_on.new.self heard has both found lines c.in-Ok.ensures.same c.in-Ok.next c.in-Ok.ensures.some c.in-Ok.ensures.none,
+        scans_either after c.scan_on.new.self heard has both found lines c.in-Ok.ensures.same
+            c.in-Ok.next c.in-Ok.ensures.some c.in-Ok.ensures.none,
       );
 }
 
@@ -57,15 +82,31 @@ returns-in-Err c = record {
       let now = c.args.self.now in
       let taken = c.take_listing.new.self in
       let after = c.count_unstable.new.self in
-      let waits = waits_for archive before now running side number (ListAt path) reply is answers scans path refl in
-      let before_found = found_before archive before now running side number (ListAt path) reply is answers scans path refl in
+      let waits = waits_for archive before now running side number
+      (ListAt path) reply is answers scans path refl in
+      let before_found = found_before archive before now running side number
+      (ListAt path) reply is answers scans path refl in
       let keeps = c.in_ok-take_listing.ensures.keeps in
       let step = c.in_ok-take_listing.ensures.step running.taken number waits before_found in
-      let counted = c.count_unstable.ensures.unstable ∙ ap (λ b. taken.is_unstable || b) c.is_no_directory-is_no_directory.ensures in
+      let counted = c.count_unstable.ensures.unstable
+      ∙ ap (λ b. taken.is_unstable || b) c.is_no_directory-is_no_directory.ensures in
       let heard = hearing running (exchange_of side number (ListAt path) reply) in
-      let has = listed_heard archive before now running side number (ListAt path) reply is answers scans path refl taken after keeps c.in_ok-take_listing.ensures.unstable counted c.count_unstable.ensures.left c.count_unstable.ensures.right c.count_unstable.ensures.number c.count_unstable.ensures.course step.1 in
-      let both = listed_begun archive before now running side number (ListAt path) reply is answers scans path refl taken after keeps c.in_ok-take_listing.ensures.unstable counted c.count_unstable.ensures.left c.count_unstable.ensures.right c.count_unstable.ensures.number c.count_unstable.ensures.course step.1 in
-      let found = listed_found archive before now running side number (ListAt path) reply is answers scans path refl taken after keeps c.in_ok-take_listing.ensures.unstable counted c.count_unstable.ensures.left c.count_unstable.ensures.right c.count_unstable.ensures.number c.count_unstable.ensures.course step.1 in
-      let lines = listed_lines archive before now running side number (ListAt path) reply is answers scans path refl taken after keeps c.in_ok-take_listing.ensures.unstable counted c.count_unstable.ensures.left c.count_unstable.ensures.right c.count_unstable.ensures.number c.count_unstable.ensures.course step.1 in
-      behind step.0 refl (tells_heard c.scan_on.new.self heard (heard_new after c.scan_on.new.self heard has both found lines c.in-Err.ensures.same));
+      let has = listed_heard archive before now running side number (ListAt path) reply is answers
+      scans path refl taken after keeps c.in_ok-take_listing.ensures.unstable counted
+      c.count_unstable.ensures.left c.count_unstable.ensures.right c.count_unstable.ensures.number
+      c.count_unstable.ensures.course step.1 in
+      let both = listed_begun archive before now running side number (ListAt path) reply is answers
+      scans path refl taken after keeps c.in_ok-take_listing.ensures.unstable counted
+      c.count_unstable.ensures.left c.count_unstable.ensures.right c.count_unstable.ensures.number
+      c.count_unstable.ensures.course step.1 in
+      let found = listed_found archive before now running side number (ListAt path) reply is answers
+      scans path refl taken after keeps c.in_ok-take_listing.ensures.unstable counted
+      c.count_unstable.ensures.left c.count_unstable.ensures.right c.count_unstable.ensures.number
+      c.count_unstable.ensures.course step.1 in
+      let lines = listed_lines archive before now running side number (ListAt path) reply is answers
+      scans path refl taken after keeps c.in_ok-take_listing.ensures.unstable counted
+      c.count_unstable.ensures.left c.count_unstable.ensures.right c.count_unstable.ensures.number
+      c.count_unstable.ensures.course step.1 in
+      behind step.0 refl (tells_heard c.scan_on.new.self heard
+      (heard_new after c.scan_on.new.self heard has both found lines c.in-Err.ensures.same));
 }

@@ -7,7 +7,9 @@ use Rattle.syn_session.proofs.SessionLemmas.{session_begins}
 use Rattle.syn_session.proofs.session.Session.new.Goals as goal
 
 pub returns-clause-begun : goal.returns-clause-begun
-returns-clause-begun c archive = session_begins archive _ c.args.number c.args.pair refl c.ranges.number.fits refl refl waits asked found
+returns-clause-begun c archive =
+    session_begins archive _ c.args.number c.args.pair refl c.ranges.number.fits refl refl waits
+    asked found
   where
     line : Which → Line
     line Left = c.in_ok-left.left

@@ -14,15 +14,40 @@ use Rattle.syn_session.proofs.session.Session.take_listing.Goals as goal
 pub returns-in-Left-clause-step : goal.returns-in-Left-clause-step
 returns-in-Left-clause-step c taken number =
     let self = c.args.self.now in let path = c.args.path.now in let reply = reply_of c.args.reply in
-    let now : Session = record { number = self.number; left = record { waiting = self.left.waiting; asked = self.left.asked; scan = c.take.new.self }; right = self.right; is_unstable = self.is_unstable; course = self.course } in
-    subst (λ f. WaitsFor (line_of self (which_of f)).scan path → IsFoundIn (found_on self (which_of f)) (which_of f) taken → MatchResult c.take.result
-    (λ _. (fault_of taken (which_of f) (ListAt path) reply ≡ None) × IsFoundIn (found_on now (which_of f)) (which_of f) (with_listing_answered taken (which_of f) number path reply))
-    (λ e. (cause_of e ≡ Memory) ⊎ (fault_of taken (which_of f) (ListAt path) reply ≡ Some (cause_of e)))) (sym c.in-Left.is) (c.take.ensures.step (which_of Left) taken number)
+    let now : Session = record {
+      number = self.number;
+      left =
+          record { waiting = self.left.waiting; asked = self.left.asked; scan = c.take.new.self };
+      right = self.right;
+      is_unstable = self.is_unstable;
+      course = self.course;
+    } in
+    subst (λ f. WaitsFor (line_of self (which_of f)).scan path →
+    IsFoundIn (found_on self (which_of f)) (which_of f) taken → MatchResult c.take.result
+    (λ _. (fault_of taken (which_of f) (ListAt path) reply ≡ None) × IsFoundIn (found_on now
+    (which_of f)) (which_of f) (with_listing_answered taken (which_of f) number path reply))
+    (λ e. (cause_of e ≡ Memory)
+    ⊎ (fault_of taken (which_of f) (ListAt path) reply ≡ Some (cause_of e)))) (sym c.in-Left.is)
+    (c.take.ensures.step (which_of Left) taken number)
 
 pub returns-in-Right-clause-step : goal.returns-in-Right-clause-step
 returns-in-Right-clause-step c taken number =
     let self = c.args.self.now in let path = c.args.path.now in let reply = reply_of c.args.reply in
-    let now : Session = record { number = self.number; left = self.left; right = record { waiting = self.right.waiting; asked = self.right.asked; scan = c.take-in-Right.new.self }; is_unstable = self.is_unstable; course = self.course } in
-    subst (λ f. WaitsFor (line_of self (which_of f)).scan path → IsFoundIn (found_on self (which_of f)) (which_of f) taken → MatchResult c.take-in-Right.result
-    (λ _. (fault_of taken (which_of f) (ListAt path) reply ≡ None) × IsFoundIn (found_on now (which_of f)) (which_of f) (with_listing_answered taken (which_of f) number path reply))
-    (λ e. (cause_of e ≡ Memory) ⊎ (fault_of taken (which_of f) (ListAt path) reply ≡ Some (cause_of e)))) (sym c.in-Right.is) (c.take-in-Right.ensures.step (which_of Right) taken number)
+    let now : Session = record {
+      number = self.number;
+      left = self.left;
+      right = record {
+        waiting = self.right.waiting;
+        asked = self.right.asked;
+        scan = c.take-in-Right.new.self;
+      };
+      is_unstable = self.is_unstable;
+      course = self.course;
+    } in
+    subst (λ f. WaitsFor (line_of self (which_of f)).scan path →
+    IsFoundIn (found_on self (which_of f)) (which_of f) taken → MatchResult c.take-in-Right.result
+    (λ _. (fault_of taken (which_of f) (ListAt path) reply ≡ None) × IsFoundIn (found_on now
+    (which_of f)) (which_of f) (with_listing_answered taken (which_of f) number path reply))
+    (λ e. (cause_of e ≡ Memory)
+    ⊎ (fault_of taken (which_of f) (ListAt path) reply ≡ Some (cause_of e)))) (sym c.in-Right.is)
+    (c.take-in-Right.ensures.step (which_of Right) taken number)

@@ -4,7 +4,7 @@ use Rattle.syn_replica.specs.Growth.{IsGrown}
 use Rattle.syn_replica.specs.Edits.{event_by}
 use Rattle.syn_shared.specs.Edits.{Edits}
 use Rattle.syn_tree.specs.Edits.{edit_of}
-use Rattle.syn_shared.proofs.WorldLemmas.{edit_world}
+use Rattle.syn_shared.proofs.UpkeepSteps.{edit_world}
 use Rattle.syn_shared.proofs.StepLemmas.{step_by}
 use Rattle.syn_shared.proofs.HoldLemmas.{held_now, later_now}
 use Rattle.syn_shared.proofs.shared.SharedReplica.edit.Goals as goal
@@ -12,28 +12,47 @@ use Rattle.syn_shared.proofs.shared.SharedReplica.edit.Goals as goal
 pub returns-clause-held : goal.returns-clause-held
 returns-clause-held g c = (
   c.enter-guard.ensures.entered.0,
-  held_now IsGrown _ (origin_of c.own-own.result.now) (ap origin_of c.own-own.ensures) _ _ c.enter-guard.result c.deref_mut.result.now c.edit-made.new.self (Edits (event_by c.args.user c.args.edit) c.edit-made.result) c.enter-guard.ensures.entered.1 c.deref_mut.ensures.value (search rules) (record {
-    world = λ pair agent machine is. edit_world pair _ c.edit-made.new.self agent machine is g.met.D.Disk.counts_now c.step_laws.ensures.up c.step_laws.ensures.written c.step_laws.ensures.made c.step_laws.ensures.broken c.args.user (edit_of c.args.edit) c.edit-made.result c.edit-made.ensures.acknowledged c.edit-made.ensures.record c.edit-made.ensures.any_moment c.edit-made.ensures.cause c.edit-made.ensures.refused c.edit-made.ensures.halted c.edit-made.ensures.halts c.edit-made.ensures.journal c.edit-made.ensures.readings c.edit-made.ensures.calls;
-    step = λ history stands. step_by _ c.edit-made.new.self history (event_by c.args.user c.args.edit) _ stands c.edit-made.result (c.edit-made.ensures.acknowledged history stands) c.edit-made.ensures.record (c.edit-made.ensures.cause history stands) c.edit-made.ensures.halts c.edit-made.ensures.tried (c.edit-made.ensures.unchanged history stands) c.edit-made.ensures.readings (c.edit-made.ensures.seen history stands) c.edit-made.ensures.calls c.edit-made.ensures.failures;
-    acknowledged = c.edit-made.ensures.acknowledged;
-    writes = c.edit-made.ensures.record;
-    any_moment = c.edit-made.ensures.any_moment;
-    seen = c.edit-made.ensures.seen;
-    grown = c.edit-made.ensures.grown;
-    tried = c.edit-made.ensures.tried;
-    cause = c.edit-made.ensures.cause;
-    refused = c.edit-made.ensures.refused;
-    refusals = c.edit-made.ensures.refusals;
-    halted = c.edit-made.ensures.halted;
-    halts = c.edit-made.ensures.halts;
-    readings = c.edit-made.ensures.readings;
-    unchanged = c.edit-made.ensures.unchanged;
-    journal = c.edit-made.ensures.journal;
-    failures = c.edit-made.ensures.failures;
-    calls = c.edit-made.ensures.calls;
-  }),
+  held_now IsGrown _ (origin_of c.own-own.result.now) (ap origin_of c.own-own.ensures) _ _
+      c.enter-guard.result c.deref_mut.result.now c.edit-made.new.self
+      (Edits (event_by c.args.user c.args.edit) c.edit-made.result) c.enter-guard.ensures.entered.1
+      c.deref_mut.ensures.value (search rules) (record {
+        world =
+            λ pair agent machine is. edit_world pair _ c.edit-made.new.self agent machine is
+            g.met.D.Disk.counts_now c.step_laws.ensures.up c.step_laws.ensures.written
+            c.step_laws.ensures.made c.step_laws.ensures.broken c.args.user
+            (edit_of c.args.edit) c.edit-made.result c.edit-made.ensures.acknowledged
+            c.edit-made.ensures.record c.edit-made.ensures.any_moment c.edit-made.ensures.cause
+            c.edit-made.ensures.refused c.edit-made.ensures.halted c.edit-made.ensures.halts
+            c.edit-made.ensures.journal c.edit-made.ensures.readings c.edit-made.ensures.calls;
+        step =
+            λ history stands. step_by _ c.edit-made.new.self history
+            (event_by c.args.user c.args.edit) _ stands c.edit-made.result
+            (c.edit-made.ensures.acknowledged history stands) c.edit-made.ensures.record
+            (c.edit-made.ensures.cause history stands) c.edit-made.ensures.halts
+            c.edit-made.ensures.tried (c.edit-made.ensures.unchanged history stands)
+            c.edit-made.ensures.readings (c.edit-made.ensures.seen history stands)
+            c.edit-made.ensures.calls c.edit-made.ensures.failures;
+        acknowledged = c.edit-made.ensures.acknowledged;
+        writes = c.edit-made.ensures.record;
+        any_moment = c.edit-made.ensures.any_moment;
+        seen = c.edit-made.ensures.seen;
+        grown = c.edit-made.ensures.grown;
+        tried = c.edit-made.ensures.tried;
+        cause = c.edit-made.ensures.cause;
+        refused = c.edit-made.ensures.refused;
+        refusals = c.edit-made.ensures.refusals;
+        halted = c.edit-made.ensures.halted;
+        halts = c.edit-made.ensures.halts;
+        readings = c.edit-made.ensures.readings;
+        unchanged = c.edit-made.ensures.unchanged;
+        journal = c.edit-made.ensures.journal;
+        failures = c.edit-made.ensures.failures;
+        calls = c.edit-made.ensures.calls;
+      }),
 )
 
 pub returns-clause-later : goal.returns-clause-later
 returns-clause-later g c =
-    later_now _ _ _ (origin_of c.own-own.result.now) (ap origin_of c.own-own.ensures) c.enter-guard.result c.deref_mut.result.now c.edit-made.new.self c.enter-guard.ensures.later c.deref_mut.ensures.value (search rules) c.edit-made.ensures.grown
+    later_now _ _ _ (origin_of c.own-own.result.now) (ap origin_of c.own-own.ensures)
+    c.enter-guard.result c.deref_mut.result.now c.edit-made.new.self c.enter-guard.ensures.later
+    c.deref_mut.ensures.value (search rules) c.edit-made.ensures.grown

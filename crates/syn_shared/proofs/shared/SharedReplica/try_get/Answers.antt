@@ -12,10 +12,16 @@ leave-requires-clause-grown g c = still _ _ c.in-Ok.guard c.in-Ok.ensures.entere
 
 pub returns-clause-held : goal.returns-clause-held
 returns-clause-held g c =
-    held_answer c.answered.result _ _ _ c.answered.ensures (held_reading IsGrown _ (origin_of c.own-own.result.now) (ap origin_of c.own-own.ensures) _ _ c.in-Ok.guard c.deref-2.result.now (Gets c.args.path.now c.get-answer.result) c.in-Ok.ensures.entered c.deref-2.ensures (search rules) (record {
+    held_answer c.answered.result _ _ _ c.answered.ensures
+    (held_reading IsGrown _ (origin_of c.own-own.result.now) (ap origin_of c.own-own.ensures) _ _
+    c.in-Ok.guard c.deref-2.result.now (Gets c.args.path.now c.get-answer.result)
+    c.in-Ok.ensures.entered c.deref-2.ensures (search rules) (record {
       same = refl;
       content = c.get-answer.ensures.found;
-      fits = read_fits _ _ c.get-answer.result c.get-answer.ensures.found (subst (λ x. EachFits (tree_shown x)) (c.deref.ensures ∙ sym c.deref-2.ensures) c.limit_laws.ensures);
+      fits =
+          read_fits _ _ c.get-answer.result c.get-answer.ensures.found
+          (subst (λ x. EachFits (tree_shown x))
+          (c.deref.ensures ∙ sym c.deref-2.ensures) c.limit_laws.ensures);
       absent = c.get-answer.ensures.absent;
       halted = c.get-answer.ensures.halted;
       refusals = c.get-answer.ensures.refusals;
@@ -23,7 +29,8 @@ returns-clause-held g c =
 
 pub returns-clause-later : goal.returns-clause-later
 returns-clause-later g c =
-    later_still _ _ _ (origin_of c.own-own.result.now) (ap origin_of c.own-own.ensures) c.in-Ok.guard c.in-Ok.ensures.later (search rules)
+    later_still _ _ _ (origin_of c.own-own.result.now)
+    (ap origin_of c.own-own.ensures) c.in-Ok.guard c.in-Ok.ensures.later (search rules)
 
 pub returns-in_default-clause-later : goal.returns-in_default-clause-later
 returns-in_default-clause-later g c = later_none _ _ _ (search rules)

@@ -4,16 +4,37 @@ use Rattle.syn_replica.specs.Growth.{IsGrown}
 use Rattle.syn_history.specs.Events.{token_of}
 use Rattle.syn_tree.specs.Nodes.{part_of}
 use Rattle.syn_shared.specs.Replacements.{Replaces}
-use Rattle.syn_shared.proofs.WorldLemmas.{replace_world}
+use Rattle.syn_shared.proofs.UpkeepSteps.{replace_world}
 use Rattle.syn_shared.proofs.StepLemmas.{replaced_by}
 use Rattle.syn_shared.proofs.HoldLemmas.{held_now, held_answer, later_now, later_none}
 use Rattle.syn_shared.proofs.shared.SharedReplica.try_replace.Goals as goal
 
 pub returns-clause-held : goal.returns-clause-held
 returns-clause-held g c =
-    held_answer c.answered.result _ _ _ c.answered.ensures (held_now IsGrown _ (origin_of c.own-own.result.now) (ap origin_of c.own-own.ensures) _ _ c.in-Ok.guard c.deref_mut.result.now c.replace-answer.new.self (Replaces (token_of c.args.token) c.args.path.now c.args.since (part_of c.args.new) c.replace-answer.result) c.in-Ok.ensures.entered c.deref_mut.ensures.value (search rules) (record {
-      world = λ pair agent machine is open_is. replace_world pair _ c.replace-answer.new.self agent machine is g.met.D.Disk.counts_now c.step_laws.ensures.up c.step_laws.ensures.written c.step_laws.ensures.made c.step_laws.ensures.broken (token_of c.args.token) c.args.path.now c.args.since (part_of c.args.new) open_is c.replace-answer.result c.replace-answer.ensures.acknowledged c.replace-answer.ensures.record c.replace-answer.ensures.any_moment c.replace-answer.ensures.cause c.replace-answer.ensures.refused c.replace-answer.ensures.halted c.replace-answer.ensures.halts c.replace-answer.ensures.unchanged c.replace-answer.ensures.readings c.replace-answer.ensures.calls;
-      step = λ history stands done. replaced_by _ c.replace-answer.new.self history (token_of c.args.token) c.args.path.now c.args.since (part_of c.args.new) stands done c.replace-answer.result (c.replace-answer.ensures.acknowledged history stands) (c.replace-answer.ensures.record history stands done) (c.replace-answer.ensures.cause history stands) c.replace-answer.ensures.halts (c.replace-answer.ensures.tried history stands done) c.replace-answer.ensures.unchanged c.replace-answer.ensures.readings (c.replace-answer.ensures.seen history stands) (c.replace-answer.ensures.calls history stands) c.replace-answer.ensures.failures;
+    held_answer c.answered.result _ _ _ c.answered.ensures (held_now IsGrown _
+    (origin_of c.own-own.result.now) (ap origin_of c.own-own.ensures) _ _ c.in-Ok.guard
+    c.deref_mut.result.now c.replace-answer.new.self (Replaces (token_of c.args.token)
+    c.args.path.now c.args.since (part_of c.args.new) c.replace-answer.result)
+    c.in-Ok.ensures.entered c.deref_mut.ensures.value (search rules) (record {
+      world =
+          λ pair agent machine is open_is. replace_world pair _ c.replace-answer.new.self agent
+          machine is g.met.D.Disk.counts_now c.step_laws.ensures.up c.step_laws.ensures.written
+          c.step_laws.ensures.made c.step_laws.ensures.broken (token_of c.args.token)
+          c.args.path.now c.args.since (part_of c.args.new) open_is c.replace-answer.result
+          c.replace-answer.ensures.acknowledged c.replace-answer.ensures.record
+          c.replace-answer.ensures.any_moment c.replace-answer.ensures.cause
+          c.replace-answer.ensures.refused c.replace-answer.ensures.halted
+          c.replace-answer.ensures.halts c.replace-answer.ensures.unchanged
+          c.replace-answer.ensures.readings c.replace-answer.ensures.calls;
+      step =
+          λ history stands done. replaced_by _ c.replace-answer.new.self history
+          (token_of c.args.token) c.args.path.now c.args.since (part_of c.args.new) stands done
+          c.replace-answer.result (c.replace-answer.ensures.acknowledged history stands)
+          (c.replace-answer.ensures.record history stands done)
+          (c.replace-answer.ensures.cause history stands) c.replace-answer.ensures.halts
+          (c.replace-answer.ensures.tried history stands done) c.replace-answer.ensures.unchanged
+          c.replace-answer.ensures.readings (c.replace-answer.ensures.seen history stands)
+          (c.replace-answer.ensures.calls history stands) c.replace-answer.ensures.failures;
       acknowledged = c.replace-answer.ensures.acknowledged;
       again = c.replace-answer.ensures.again;
       writes = c.replace-answer.ensures.record;
@@ -35,7 +56,9 @@ returns-clause-held g c =
 
 pub returns-clause-later : goal.returns-clause-later
 returns-clause-later g c =
-    later_now _ _ _ (origin_of c.own-own.result.now) (ap origin_of c.own-own.ensures) c.in-Ok.guard c.deref_mut.result.now c.replace-answer.new.self c.in-Ok.ensures.later c.deref_mut.ensures.value (search rules) c.replace-answer.ensures.grown
+    later_now _ _ _ (origin_of c.own-own.result.now) (ap origin_of c.own-own.ensures) c.in-Ok.guard
+    c.deref_mut.result.now c.replace-answer.new.self c.in-Ok.ensures.later
+    c.deref_mut.ensures.value (search rules) c.replace-answer.ensures.grown
 
 pub returns-in_default-clause-later : goal.returns-in_default-clause-later
 returns-in_default-clause-later g c = later_none _ _ _ (search rules)

@@ -11,15 +11,20 @@ invariant_of-result c =
     let at = c.in_ok-at.at in
     let content = content_of c.args.content in
     let entry = c.new-entry.ensures ∙ ap (λ p. (p, content)) (sym c.in_ok-at.ensures.ok) in
-    let pairs : c.push.new.self.items ≡ (at, content) ∷ [] = c.in_ok-push.ensures.items ∙ ap₂ (λ xs x. xs ++ x ∷ []) c.in_ok-added.ensures.items entry in
-    placed_part at (at_root content) c.push.new.self.items c.entry_spelled-size.result (under_one at content c.push.new.self.items pairs)
+    let pairs : c.push.new.self.items ≡ (at, content) ∷ [] = c.in_ok-push.ensures.items
+    ∙ ap₂ (λ xs x. xs ++ x ∷ []) c.in_ok-added.ensures.items entry in
+    placed_part at (at_root content) c.push.new.self.items c.entry_spelled-size.result
+    (under_one at content c.push.new.self.items pairs)
     (subst IsPath c.at.view_is c.at.invariant) (lawful_part content c.requires)
-    (c.entry_spelled-size.ensures.length ∙ (ap pair_spelling_length entry ∙ size_one at content c.push.new.self.items pairs))
+    (c.entry_spelled-size.ensures.length
+    ∙ (ap pair_spelling_length entry ∙ size_one at content c.push.new.self.items pairs))
 
 pub returns-clause-new : goal.returns-clause-new
 returns-clause-new c =
     let at = c.in_ok-at.at in
     let content = content_of c.args.content in
     let entry = c.new-entry.ensures ∙ ap (λ p. (p, content)) (sym c.in_ok-at.ensures.ok) in
-    let pairs : c.push.new.self.items ≡ (at, content) ∷ [] = c.in_ok-push.ensures.items ∙ ap₂ (λ xs x. xs ++ x ∷ []) c.in_ok-added.ensures.items entry in
-    taken_same at (at_root content) c.push.new.self.items (under_one at content c.push.new.self.items pairs)
+    let pairs : c.push.new.self.items ≡ (at, content) ∷ [] = c.in_ok-push.ensures.items
+    ∙ ap₂ (λ xs x. xs ++ x ∷ []) c.in_ok-added.ensures.items entry in
+    taken_same at (at_root content) c.push.new.self.items
+    (under_one at content c.push.new.self.items pairs)

@@ -5,4 +5,6 @@ use Rattle.syn_placed.proofs.TreeLemmas.{entries-with}
 use Rattle.syn_tree.proofs.entries.Entries.as_slice.Goals as goal
 
 pub returns-clause-all : goal.returns-clause-all
-returns-clause-all c = ap rooted c.as_slice.ensures.value ∙ (sym (entries-with c.self.inside.list.items c.self.invariant.rising) ∙ ap entries c.self.view_is)
+returns-clause-all c =
+    ap rooted c.as_slice.ensures.value ∙ (sym
+    (entries-with c.self.inside.list.items c.self.invariant.rising) ∙ ap entries c.self.view_is)

@@ -9,5 +9,6 @@ pub returns : goal.returns
 returns c =
     let p = c.args.path.now in
     let ds = c.self.inside.list.items in
-    c.count_children_at.ensures ∙ (ap (kids p) c.deref.ensures.value ∙ (sym (kids_rooted p ds) ∙ (ap (kids p) (sym (entries-with ds c.self.invariant.rising))
+    c.count_children_at.ensures ∙ (ap (kids p) c.deref.ensures.value
+    ∙ (sym (kids_rooted p ds) ∙ (ap (kids p) (sym (entries-with ds c.self.invariant.rising))
     ∙ (sym (length-children _ p) ∙ ap (λ t. length (children t p)) c.self.view_is))))

@@ -4,4 +4,5 @@ use Rattle.syn_placed.proofs.TreeLemmas.{entries-with}
 use Rattle.syn_tree.proofs.entries.Entries.into_vec.Goals as goal
 
 pub returns-clause-all : goal.returns-clause-all
-returns-clause-all c = sym (entries-with c.self.inside.list.items c.self.invariant.rising) ∙ ap entries c.self.view_is
+returns-clause-all c =
+    sym (entries-with c.self.inside.list.items c.self.invariant.rising) ∙ ap entries c.self.view_is

@@ -10,5 +10,7 @@ returns c =
     let t = c.args.self.now in
     let p = c.args.path.now in
     let place = sym c.check_place.ensures ∙ ap refusal_in c.in_ok-check_place.was in
-    let there = sym (found_present (λ found. found_content found) t p c.get.result c.get.ensures) ∙ (c.is_none.ensures ∙ ap not c.if-is_none.false) in
-    sym (remove_answer t p place there ∙ ap (λ b. if b then None else Some Full) (rest_fits t p c.entries.ensures.fits place))
+    let there = sym (found_present (λ found. found_content found) t p c.get.result c.get.ensures)
+    ∙ (c.is_none.ensures ∙ ap not c.if-is_none.false) in
+    sym (remove_answer t p place there
+    ∙ ap (λ b. if b then None else Some Full) (rest_fits t p c.entries.ensures.fits place))

@@ -1,4 +1,5 @@
-use Rattle.std.proofs.Common.{◌≡◌, ◌<◌, Some, None, if◌then◌else◌, length, sym, ap, ap₂, ◌∙◌, subst, arith}
+use Rattle.std.proofs.Common.{◌≡◌, ◌<◌, Some, None, if◌then◌else◌, length, sym, ap, ap₂, ◌∙◌, subst}
+use Rattle.std.proofs.Common.{arith}
 use Rattle.std.proofs.lemmas.Result.{err_from_is_err_and}
 use Rattle.syn_model.specs.Path.{parent, is_root}
 use Rattle.syn_model.specs.Tree.{replace, is_directory}
@@ -9,33 +10,40 @@ use Rattle.syn_placed.specs.Pairs.{spelling_length}
 use Rattle.syn_tree.specs.Refusals.{refusal_in, refusal_of}
 use Rattle.syn_tree.proofs.CheckLemmas.{replace_answer}
 use Rattle.syn_placed.proofs.ParentLemmas.{place_free}
-use Rattle.syn_tree.proofs.PlaceableLemmas.{placeable_measured, placeable_placed, placeable_new, nowhere_size}
+use Rattle.syn_tree.proofs.PlaceableLemmas.{placeable_measured, placeable_placed, placeable_new}
+use Rattle.syn_tree.proofs.PlaceableLemmas.{nowhere_size}
 use Rattle.syn_tree.proofs.tree.Tree.prepare_replace.Goals as goal
 
 pub returns-in_err-added-clause-refused : goal.returns-in_err-added-clause-refused
 returns-in_err-added-clause-refused c =
-    let p = err_from_is_err_and c.from_residual-in_err-added.result c.from_residual-in_err-added.ensures.1 in
+    let p = err_from_is_err_and c.from_residual-in_err-added.result
+    c.from_residual-in_err-added.ensures.1 in
     let t = c.args.self.now in
     let place = sym c.check_place.ensures ∙ ap refusal_in c.in_ok-check_place.was in
     rw (p.1, p.2) (λ other. let full = c.in_err-added.ensures.full other in
-    replace_answer t c.args.path.now (part_of c.args.new) place ∙ (ap (λ b. if b then None else Some Full) (full.1 t) ∙ sym (ap (λ e. Some (refusal_of e)) full.0)))
+    replace_answer t c.args.path.now (part_of c.args.new) place ∙ (ap
+    (λ b. if b then None else Some Full) (full.1 t) ∙ sym (ap (λ e. Some (refusal_of e)) full.0)))
 
 pub returns-in_default-clause-refused : goal.returns-in_default-clause-refused
 returns-in_default-clause-refused c other =
     let t = c.args.self.now in
     let u = part_of c.args.new in
     let place = sym c.check_place.ensures ∙ ap refusal_in c.in_ok-check_place.was in
-    let large : 524288 < spelling_length c.in_ok-added.added.items = subst (λ xs. 524288 < spelling_length xs) c.deref.ensures.value c.in_default.ensures.none in
-    replace_answer t c.args.path.now u place ∙ ap (λ b. if b then None else Some Full) (nowhere_size c.args.path.now u c.in_ok-added.added.items c.in_ok-added.ensures.ok.placed large t)
+    let large : 524288 < spelling_length c.in_ok-added.added.items =
+    subst (λ xs. 524288 < spelling_length xs) c.deref.ensures.value c.in_default.ensures.none in
+    replace_answer t c.args.path.now u place ∙ ap (λ b. if b then None else Some Full) (nowhere_size
+    c.args.path.now u c.in_ok-added.added.items c.in_ok-added.ensures.ok.placed large t)
 
 pub placed-requires-then-fits : goal.placed-requires-then-fits
 placed-requires-then-fits c =
     let size = c.in-Some.ensures.some.0 ∙ ap spelling_length c.deref.ensures.value in
-    placeable_placed c.args.path.now c.in_ok-at.at (part_of c.args.new) c.in_ok-added.added.items c.in-Some.size c.in_ok-added.ensures.ok c.in_ok-at.ensures.ok size
+    placeable_placed c.args.path.now c.in_ok-at.at (part_of c.args.new) c.in_ok-added.added.items
+    c.in-Some.size c.in_ok-added.ensures.ok c.in_ok-at.ensures.ok size
 
 pub returns-then-fits-clause-new : goal.returns-then-fits-clause-new
 returns-then-fits-clause-new c =
-    c.placed-then-fits.ensures.new ∙ placeable_new c.args.path.now c.in_ok-at.at (part_of c.args.new) c.in_ok-added.added.items c.in_ok-added.ensures.ok c.in_ok-at.ensures.ok
+    c.placed-then-fits.ensures.new ∙ placeable_new c.args.path.now c.in_ok-at.at
+    (part_of c.args.new) c.in_ok-added.added.items c.in_ok-added.ensures.ok c.in_ok-at.ensures.ok
 
 pub returns-then-fits-clause-ready : goal.returns-then-fits-clause-ready
 returns-then-fits-clause-ready c =
@@ -44,8 +52,10 @@ returns-then-fits-clause-ready c =
     let place = sym c.check_place.ensures ∙ ap refusal_in c.in_ok-check_place.was in
     let free = place_free t c.args.path.now place in
     let size = c.in-Some.ensures.some.0 ∙ ap spelling_length c.deref.ensures.value in
-    let count : c.len.result ≡ length c.in_ok-added.added.items = omega (arith, c.len.ensures, c.in_ok-added.added.ok) in
-    let fits = sym (c.fits.ensures u (placeable_measured c.args.path.now u c.in_ok-added.added.items c.len.result c.in-Some.size c.in_ok-added.ensures.ok count size)) ∙ c.if-fits.true in
+    let count : c.len.result ≡ length c.in_ok-added.added.items =
+    omega (arith, c.len.ensures, c.in_ok-added.added.ok) in
+    let fits = sym (c.fits.ensures u (placeable_measured c.args.path.now u c.in_ok-added.added.items
+    c.len.result c.in-Some.size c.in_ok-added.ensures.ok count size)) ∙ c.if-fits.true in
     let at = c.placed-then-fits.ensures.at ∙ c.in_ok-at.ensures.ok in
     let new = returns-then-fits-clause-new c in
     record {
@@ -60,8 +70,10 @@ returns-then-fits-clause-allowed c =
     let u = part_of c.args.new in
     let place = sym c.check_place.ensures ∙ ap refusal_in c.in_ok-check_place.was in
     let size = c.in-Some.ensures.some.0 ∙ ap spelling_length c.deref.ensures.value in
-    let count : c.len.result ≡ length c.in_ok-added.added.items = omega (arith, c.len.ensures, c.in_ok-added.added.ok) in
-    let fits = sym (c.fits.ensures u (placeable_measured c.args.path.now u c.in_ok-added.added.items c.len.result c.in-Some.size c.in_ok-added.ensures.ok count size)) ∙ c.if-fits.true in
+    let count : c.len.result ≡ length c.in_ok-added.added.items =
+    omega (arith, c.len.ensures, c.in_ok-added.added.ok) in
+    let fits = sym (c.fits.ensures u (placeable_measured c.args.path.now u c.in_ok-added.added.items
+    c.len.result c.in-Some.size c.in_ok-added.ensures.ok count size)) ∙ c.if-fits.true in
     replace_answer t c.args.path.now u place ∙ ap (λ b. if b then None else Some Full) fits
 
 pub returns-else-fits-clause-refused : goal.returns-else-fits-clause-refused
@@ -70,6 +82,8 @@ returns-else-fits-clause-refused c other =
     let u = part_of c.args.new in
     let place = sym c.check_place.ensures ∙ ap refusal_in c.in_ok-check_place.was in
     let size = c.in-Some.ensures.some.0 ∙ ap spelling_length c.deref.ensures.value in
-    let count : c.len.result ≡ length c.in_ok-added.added.items = omega (arith, c.len.ensures, c.in_ok-added.added.ok) in
-    let fits = sym (c.fits.ensures u (placeable_measured c.args.path.now u c.in_ok-added.added.items c.len.result c.in-Some.size c.in_ok-added.ensures.ok count size)) ∙ c.if-fits.false in
+    let count : c.len.result ≡ length c.in_ok-added.added.items =
+    omega (arith, c.len.ensures, c.in_ok-added.added.ok) in
+    let fits = sym (c.fits.ensures u (placeable_measured c.args.path.now u c.in_ok-added.added.items
+    c.len.result c.in-Some.size c.in_ok-added.ensures.ok count size)) ∙ c.if-fits.false in
     replace_answer t c.args.path.now u place ∙ ap (λ b. if b then None else Some Full) fits

@@ -6,7 +6,8 @@ use Rattle.syn_world.proofs.world.World.checkpoint.Goals as goal
 
 pub returns-in-Side : goal.returns-in-Side
 returns-in-Side g c model is =
-    subst (λ m. GoesSo model (Checkpoint (machine_of m)) c.checkpoint_side.result) (sym c.in-Side.is)
+    subst (λ m. GoesSo model (Checkpoint (machine_of m)) c.checkpoint_side.result)
+    (sym c.in-Side.is)
     (c.checkpoint_side.ensures model is)
 
 pub returns-in-Coordinator : goal.returns-in-Coordinator

@@ -12,7 +12,8 @@ pub returns-in-Left : goal.returns-in-Left
 returns-in-Left g c model is =
     let call = c.checkpoint-call.result in
     let so = c.checkpoint-call.ensures model.pair model.left is.machines.left in
-    subst (λ s. GoesSo model (Checkpoint (At (which_of s))) c.noted.result) (sym c.in-Left.is) (record {
+    subst (λ s. GoesSo model (Checkpoint (At (which_of s))) c.noted.result) (sym c.in-Left.is)
+    (record {
       new = side_next model Left so.next [] [] (refused_in call.outcome);
       steps = lift_checkpoint model Left so.next (refused_in call.outcome) so.checkpoints;
       ends = goes_left c.args.self model is call so.next [] so.acknowledges so.is
@@ -23,7 +24,8 @@ pub returns-in-Right : goal.returns-in-Right
 returns-in-Right g c model is =
     let call = c.checkpoint-call-in-Right.result in
     let so = c.checkpoint-call-in-Right.ensures model.pair model.right is.machines.right in
-    subst (λ s. GoesSo model (Checkpoint (At (which_of s))) c.noted-in-Right.result) (sym c.in-Right.is) (record {
+    subst (λ s. GoesSo model (Checkpoint (At (which_of s))) c.noted-in-Right.result)
+    (sym c.in-Right.is) (record {
       new = side_next model Right so.next [] [] (refused_in call.outcome);
       steps = lift_checkpoint model Right so.next (refused_in call.outcome) so.checkpoints;
       ends = goes_right c.args.self model is call so.next [] so.acknowledges so.is

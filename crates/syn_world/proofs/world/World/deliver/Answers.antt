@@ -29,10 +29,12 @@ returns-in-Ok g c model is =
     (ap (λ l. slice_get l c.args.message) (sym c.deref.ensures.value)
     ∙ (slice_get_read _ _ _ _ refl c.in-Some-Asks.ensures.lookup.3.0
     c.in-Some-Asks.ensures.lookup.1 ∙ ap (λ m. Some m) c.in-Some-Asks.field-0-is))
-    ∙ ap (λ r. Some (Asks (which_of sending.to) asked.session asked.number r)) (sym c.in-Ok.ensures)))
+    ∙ ap (λ r. Some (Asks (which_of sending.to) asked.session asked.number r))
+    (sym c.in-Ok.ensures)))
 
 pub returns-in-Err : goal.returns-in-Err
-returns-in-Err g c model is = no_memory c.into_disks.result refl (c.into_disks.ensures.left model is.machines)
+returns-in-Err g c model is =
+    no_memory c.into_disks.result refl (c.into_disks.ensures.left model is.machines)
 
 pub returns-in-Ok-copy : goal.returns-in-Ok-copy
 returns-in-Ok-copy g c model is =
@@ -49,4 +51,5 @@ returns-in-Ok-copy g c model is =
 
 pub returns-in-Err-copy : goal.returns-in-Err-copy
 returns-in-Err-copy g c model is =
-    no_memory c.into_disks-in-Err-copy.result refl (c.into_disks-in-Err-copy.ensures.left model is.machines)
+    no_memory c.into_disks-in-Err-copy.result refl
+    (c.into_disks-in-Err-copy.ensures.left model is.machines)

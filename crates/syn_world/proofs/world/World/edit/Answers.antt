@@ -13,9 +13,12 @@ pub returns-in-Left : goal.returns-in-Left
 returns-in-Left g c model is =
     let call = c.edit-call.result in
     let so = c.edit-call.ensures model.pair model.left is.machines.left in
-    subst (λ s. GoesSo model (Edits (which_of s) c.args.user (edit_of c.args.edit)) c.noted.result) (sym c.in-Left.is) (record {
+    subst (λ s. GoesSo model (Edits (which_of s) c.args.user (edit_of c.args.edit)) c.noted.result)
+    (sym c.in-Left.is) (record {
       new = side_next model Left so.next [] so.events (refused_in call.outcome);
-      steps = lift_edit model Left c.args.user (edit_of c.args.edit) so.next so.events (refused_in call.outcome) so.edits;
+      steps =
+          lift_edit model Left c.args.user (edit_of c.args.edit) so.next so.events
+          (refused_in call.outcome) so.edits;
       ends = goes_left c.args.self model is call so.next so.events so.acknowledges so.is
           c.noted.result c.noted.ensures;
     })
@@ -24,9 +27,12 @@ pub returns-in-Right : goal.returns-in-Right
 returns-in-Right g c model is =
     let call = c.edit-call-in-Right.result in
     let so = c.edit-call-in-Right.ensures model.pair model.right is.machines.right in
-    subst (λ s. GoesSo model (Edits (which_of s) c.args.user (edit_of c.args.edit)) c.noted-in-Right.result) (sym c.in-Right.is) (record {
+    subst (λ s. GoesSo model (Edits (which_of s) c.args.user (edit_of c.args.edit))
+    c.noted-in-Right.result) (sym c.in-Right.is) (record {
       new = side_next model Right so.next [] so.events (refused_in call.outcome);
-      steps = lift_edit model Right c.args.user (edit_of c.args.edit) so.next so.events (refused_in call.outcome) so.edits;
+      steps =
+          lift_edit model Right c.args.user (edit_of c.args.edit) so.next so.events
+          (refused_in call.outcome) so.edits;
       ends = goes_right c.args.self model is call so.next so.events so.acknowledges so.is
           c.noted-in-Right.result c.noted-in-Right.ensures;
     })

@@ -6,7 +6,8 @@ use Rattle.syn_world.proofs.world.World.fail.Goals as goal
 
 pub returns-in-Side : goal.returns-in-Side
 returns-in-Side g c model is =
-    subst (λ m. StaysSo model (Fail (machine_of m) c.args.call) c.fail_side.result) (sym c.in-Side.is)
+    subst (λ m. StaysSo model (Fail (machine_of m) c.args.call) c.fail_side.result)
+    (sym c.in-Side.is)
     (c.fail_side.ensures model is)
 
 pub returns-in-Coordinator : goal.returns-in-Coordinator

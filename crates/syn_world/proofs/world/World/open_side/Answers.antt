@@ -28,7 +28,8 @@ returns-in-Right g c model is =
     let so = subst (λ p. OpensSo p model.right c.open-call-in-Right.result) is.machines.pair
     (c.open-call-in-Right.ensures model.right (subst (λ p. IsHost p c.args.self.right model.right)
     (sym is.machines.pair) is.machines.right)) in
-    subst (λ s. GoesSo model (Open (At (which_of s))) c.noted-in-Right.result) (sym c.in-Right.is) (record {
+    subst (λ s. GoesSo model (Open (At (which_of s))) c.noted-in-Right.result) (sym c.in-Right.is)
+    (record {
       new = side_next model Right so.next [] so.events (refused_in call.outcome);
       steps = lift_open model Right so.next so.events (refused_in call.outcome) so.opens;
       ends = goes_right c.args.self model is call so.next so.events so.acknowledges so.is

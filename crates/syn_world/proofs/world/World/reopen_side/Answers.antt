@@ -23,7 +23,8 @@ pub returns-in-Right : goal.returns-in-Right
 returns-in-Right g c model is =
     let call = c.reopen-call-in-Right.result in
     let so = c.reopen-call-in-Right.ensures model.pair model.right is.machines.right in
-    subst (λ s. GoesSo model (Reopen (At (which_of s))) c.noted-in-Right.result) (sym c.in-Right.is) (record {
+    subst (λ s. GoesSo model (Reopen (At (which_of s))) c.noted-in-Right.result) (sym c.in-Right.is)
+    (record {
       new = side_next model Right so.next [] so.events (refused_in call.outcome);
       steps = lift_reopen model Right so.next so.events (refused_in call.outcome) so.reopens;
       ends = goes_right c.args.self model is call so.next so.events so.acknowledges so.is

@@ -6,7 +6,8 @@ use Rattle.syn_world.proofs.world.World.stop.Goals as goal
 
 pub returns-in-Side : goal.returns-in-Side
 returns-in-Side g c model is =
-    subst (λ m. StaysSo model (Stop (machine_of m) c.args.calls) c.stop_side.result) (sym c.in-Side.is)
+    subst (λ m. StaysSo model (Stop (machine_of m) c.args.calls) c.stop_side.result)
+    (sym c.in-Side.is)
     (c.stop_side.ensures model is)
 
 pub returns-in-Coordinator : goal.returns-in-Coordinator

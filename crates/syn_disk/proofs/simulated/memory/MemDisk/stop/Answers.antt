@@ -8,4 +8,5 @@ pub returns-clause-each : goal.returns-clause-each
 returns-clause-each c =
     let low = c.args.self.now.low in
     rw (sym c.next_leaves-leaves.ensures.now)
-    (left_joined _ (content_of low) _ _ _ _ _ _ _ (length-synced low ∙ sym (length-half low)) (length-written low ∙ sym (length-half low)) c.stop.ensures.each c.stop-2.ensures.each)
+    (left_joined _ (content_of low) _ _ _ _ _ _ _ (length-synced low ∙ sym (length-half low))
+    (length-written low ∙ sym (length-half low)) c.stop.ensures.each c.stop-2.ensures.each)

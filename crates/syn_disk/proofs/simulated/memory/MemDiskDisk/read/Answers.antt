@@ -12,11 +12,15 @@ returns-clause-bytes c =
     let at = c.args.at in
     let n = length c.args.into.now in
     let k = c.min-low.result in
-    let is_k : k ≡ min (HALF_SIZE - at) n = omega (arith, c.min-low.ensures, c.saturating_sub.ensures) in
-    let fits : at + n ≤ HALF_SIZE + length (content_of disk.high) = omega (arith, c.requires, length-half disk.high) in
+    let is_k : k ≡ min (HALF_SIZE - at) n =
+    omega (arith, c.min-low.ensures, c.saturating_sub.ensures) in
+    let fits : at + n ≤ HALF_SIZE + length (content_of disk.high) =
+    omega (arith, c.requires, length-half disk.high) in
     let parts = c.split_at_mut-front.ensures in
-    joined_read (content_of disk.low) (content_of disk.high) HALF_SIZE at n (length-half disk.low) fits k is_k _ _ _ _ _ _
-    (omega (arith, c.min.ensures)) (omega (arith, c.saturating_sub-2.ensures)) parts.front_len (omega (arith, parts.back_len)) c.read.ensures.into c.read-2.ensures.into
+    joined_read (content_of disk.low) (content_of disk.high) HALF_SIZE at n
+    (length-half disk.low) fits k is_k _ _ _ _ _ _
+    (omega (arith, c.min.ensures)) (omega (arith, c.saturating_sub-2.ensures)) parts.front_len
+    (omega (arith, parts.back_len)) c.read.ensures.into c.read-2.ensures.into
 
 pub returns-clause-time : goal.returns-clause-time
 returns-clause-time c = rw c.note.ensures (elapses_noted HalvesMayLeave _ _ _)

@@ -7,16 +7,21 @@ use Rattle.syn_disk.proofs.simulated.memory.MemDiskDisk.sync.Goals as goal
 pub returns-clause-durable : goal.returns-clause-durable
 returns-clause-durable c =
     let disk = c.args.self.now in
-    let same : both_contents c.sync.new.self c.sync-2.new.self ≡ both_contents disk.low disk.high = cc (c.sync.ensures.content, c.sync-2.ensures.content) in
-    λ after left. only_settled _ _ (length-halves c.sync.new.self c.sync-2.new.self) (none_joined _ _ c.sync.ensures.clean c.sync-2.ensures.clean) after left ∙ same
+    let same : both_contents c.sync.new.self c.sync-2.new.self ≡ both_contents disk.low disk.high =
+    cc (c.sync.ensures.content, c.sync-2.ensures.content) in
+    λ after left. only_settled _ _ (length-halves c.sync.new.self c.sync-2.new.self)
+    (none_joined _ _ c.sync.ensures.clean c.sync-2.ensures.clean) after left ∙ same
 
 pub returns-clause-stop : goal.returns-clause-stop
 returns-clause-stop c =
     let disk = c.args.self.now in
-    let same : both_contents c.sync.new.self c.sync-2.new.self ≡ both_contents disk.low disk.high = cc (c.sync.ensures.content, c.sync-2.ensures.content) in
+    let same : both_contents c.sync.new.self c.sync-2.new.self ≡ both_contents disk.low disk.high =
+    cc (c.sync.ensures.content, c.sync-2.ensures.content) in
     λ after left. record {
       whole = left.whole;
-      kept = λ i none. left.kept i (none_joined _ _ c.sync.ensures.clean c.sync-2.ensures.clean i) ∙ ap (λ xs. get_or xs i 0) same;
+      kept =
+          λ i none. left.kept i (none_joined _ _ c.sync.ensures.clean c.sync-2.ensures.clean i)
+          ∙ ap (λ xs. get_or xs i 0) same;
     }
 
 pub returns-clause-time : goal.returns-clause-time

@@ -1,8 +1,10 @@
-use Rattle.std.proofs.Common.{◌≡◌, ◌∙◌, ◌≤◌, ◌+◌, ◌-◌, min, true, false, length, replicate, ap, sym, subst, arith}
+use Rattle.std.proofs.Common.{◌≡◌, ◌∙◌, ◌≤◌, ◌+◌, ◌-◌, min, true, false, length, replicate, ap, sym}
+use Rattle.std.proofs.Common.{subst, arith}
 use Rattle.std.proofs.lemmas.List.{length-replicate, take-replicate, drop-replicate}
 use Rattle.syn_disk.specs.Disk.{overwritten}
 use Rattle.syn_disk.specs.Half.{content_of, written_of}
-use Rattle.syn_disk.specs.Halves.{HalvesMayLeave, both_contents, both_written, length-half, length-written, length-halves, length-both_written}
+use Rattle.syn_disk.specs.Halves.{HalvesMayLeave, both_contents, both_written, length-half}
+use Rattle.syn_disk.specs.Halves.{length-written, length-halves, length-both_written}
 use Rattle.syn_disk.specs.Moments.{MayLeave}
 use Rattle.syn_disk.specs.Written.{is_written}
 use Rattle.syn_disk.specs.declared.disk.TheConstants.{HALF_SIZE}
@@ -16,11 +18,15 @@ returns-clause-written c =
     let disk = c.args.self.now in
     let bytes = c.args.bytes.now in
     let k = c.min-low.result in
-    let is_k : k ≡ min (HALF_SIZE - c.args.at) (length bytes) = omega (arith, c.min-low.ensures, c.saturating_sub.ensures) in
-    let fits : c.args.at + length bytes ≤ HALF_SIZE + length (content_of disk.high) = omega (arith, c.requires, length-half disk.high) in
+    let is_k : k ≡ min (HALF_SIZE - c.args.at) (length bytes) =
+    omega (arith, c.min-low.ensures, c.saturating_sub.ensures) in
+    let fits : c.args.at + length bytes ≤ HALF_SIZE + length (content_of disk.high) =
+    omega (arith, c.requires, length-half disk.high) in
     let parts = c.split_at.ensures in
-    joined_write 0 (content_of disk.low) (content_of disk.high) HALF_SIZE c.args.at bytes (length-half disk.low) fits k is_k _ _ _ _ _ _
-    (omega (arith, c.min.ensures)) (omega (arith, c.saturating_sub-2.ensures)) parts.front parts.back c.write.ensures.content c.write-2.ensures.content
+    joined_write 0 (content_of disk.low) (content_of disk.high) HALF_SIZE c.args.at bytes
+    (length-half disk.low) fits k is_k _ _ _ _ _ _
+    (omega (arith, c.min.ensures)) (omega (arith, c.saturating_sub-2.ensures)) parts.front
+    parts.back c.write.ensures.content c.write-2.ensures.content
 
 pub returns-clause-flags : goal.returns-clause-flags
 returns-clause-flags c =
@@ -28,12 +34,15 @@ returns-clause-flags c =
     let n = length c.args.bytes.now in
     let k = c.min-low.result in
     let long = length-replicate n true in
-    let is_k : k ≡ min (HALF_SIZE - c.args.at) (length (replicate n true)) = omega (arith, long, c.min-low.ensures, c.saturating_sub.ensures) in
-    let fits : c.args.at + length (replicate n true) ≤ HALF_SIZE + length (written_of disk.high) = omega (arith, long, c.requires, length-written disk.high) in
+    let is_k : k ≡ min (HALF_SIZE - c.args.at) (length (replicate n true)) =
+    omega (arith, long, c.min-low.ensures, c.saturating_sub.ensures) in
+    let fits : c.args.at + length (replicate n true) ≤ HALF_SIZE + length (written_of disk.high) =
+    omega (arith, long, c.requires, length-written disk.high) in
     let parts = c.split_at.ensures in
     let within : k ≤ n = omega (arith, is_k, long) in
     let others : length c.split_at.result.1.now ≡ n - k = omega (arith, parts.back_len) in
-    joined_write false (written_of disk.low) (written_of disk.high) HALF_SIZE c.args.at (replicate n true) (length-written disk.low) fits k is_k _ _ _ _ _ _
+    joined_write false (written_of disk.low) (written_of disk.high) HALF_SIZE c.args.at
+    (replicate n true) (length-written disk.low) fits k is_k _ _ _ _ _ _
     (omega (arith, c.min.ensures)) (omega (arith, c.saturating_sub-2.ensures))
     (ap (λ m. replicate m true) parts.front_len ∙ sym (take-replicate k n true within))
     (ap (λ m. replicate m true) others ∙ sym (drop-replicate k n true))
@@ -48,12 +57,17 @@ returns-clause-stop c =
     let high = c.write-2.new.self in
     let content = both_contents disk.low disk.high in
     let written = both_written disk.low disk.high in
-    let fits : c.args.at + n ≤ length content = omega (arith, c.requires, length-halves disk.low disk.high) in
-    let in_written : c.args.at + n ≤ length written = omega (arith, c.requires, length-both_written disk.low disk.high) in
-    λ left may. left_before_write content bytes c.args.at (length-halves disk.low disk.high) fits (is_written written) (is_written (overwritten written c.args.at (replicate n true)))
+    let fits : c.args.at + n ≤ length content =
+    omega (arith, c.requires, length-halves disk.low disk.high) in
+    let in_written : c.args.at + n ≤ length written =
+    omega (arith, c.requires, length-both_written disk.low disk.high) in
+    λ left may. left_before_write content bytes c.args.at (length-halves disk.low disk.high) fits
+    (is_written written) (is_written (overwritten written c.args.at (replicate n true)))
     (λ i apart none. marked-outside written c.args.at n in_written true i apart ∙ none) left
-    (subst (λ ws. MayLeave (overwritten content c.args.at bytes) (is_written ws) left) (returns-clause-flags c)
-    (subst (λ xs. MayLeave xs (is_written (both_written low high)) left) (returns-clause-written c) may))
+    (subst (λ ws. MayLeave (overwritten content c.args.at bytes) (is_written ws) left)
+    (returns-clause-flags c)
+    (subst (λ xs. MayLeave xs (is_written (both_written low high)) left)
+    (returns-clause-written c) may))
 
 pub returns-clause-time : goal.returns-clause-time
 returns-clause-time c = rw c.note.ensures (elapses_noted HalvesMayLeave _ _ _)

@@ -7,10 +7,15 @@ use Rattle.syn_disk.proofs.simulated.memory.MemDiskRestart.restart.Goals as goal
 pub returns-clause-left : goal.returns-clause-left
 returns-clause-left c =
     let left = c.stop.ensures.each in
-    record { whole = left.size ∙ length-halves c.args.self.low c.args.self.high; kept = unwritten_stays _ _ _ _ _ left }
+    record {
+      whole = left.size ∙ length-halves c.args.self.low c.args.self.high;
+      kept = unwritten_stays _ _ _ _ _ left;
+    }
 
 pub returns-clause-settled : goal.returns-clause-settled
-returns-clause-settled c = only_settled _ _ (length-halves c.stop.new.self.low c.stop.new.self.high) c.stop.ensures.settled.none_written
+returns-clause-settled c =
+    only_settled _ _ (length-halves c.stop.new.self.low c.stop.new.self.high)
+    c.stop.ensures.settled.none_written
 
 pub returns-clause-time : goal.returns-clause-time
 returns-clause-time c = rw c.stop.ensures.past (elapses_noted HalvesMayLeave _ _ _)

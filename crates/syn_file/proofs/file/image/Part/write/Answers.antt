@@ -7,5 +7,6 @@ use Rattle.syn_file.proofs.file.image.Part.write.Goals as goal
 
 pub returns-then-not-is_empty : goal.returns-then-not-is_empty
 returns-then-not-is_empty c =
-    ap (λ xs. padded xs HALF_SIZE 0) c.overwrite.ensures.items ∙ sym (overwritten-padded 0 _ HALF_SIZE c.args.at c.args.bytes.now c.reach.ensures.kept)
+    ap (λ xs. padded xs HALF_SIZE 0) c.overwrite.ensures.items
+    ∙ sym (overwritten-padded 0 _ HALF_SIZE c.args.at c.args.bytes.now c.reach.ensures.kept)
     ∙ ap (λ xs. overwritten xs c.args.at c.args.bytes.now) c.reach.ensures.same

@@ -4,7 +4,8 @@ use Rattle.syn_disk.proofs.Moments.{elapses_noted, only_settled}
 use Rattle.syn_file.proofs.file.mirror.MirroredFileDiskFile.sync.Goals as goal
 
 pub returns-in-Ok-clause-durable : goal.returns-in-Ok-clause-durable
-returns-in-Ok-clause-durable g c = only_settled _ _ (length-bytes c.args.self.now.image) (λ i. rw c.new-self.ensures refl)
+returns-in-Ok-clause-durable g c =
+    only_settled _ _ (length-bytes c.args.self.now.image) (λ i. rw c.new-self.ensures refl)
 
 pub returns-in-Ok-clause-time : goal.returns-in-Ok-clause-time
 returns-in-Ok-clause-time g c = rw c.note.ensures (elapses_noted FileMayLeave _ _ _)

@@ -1,0 +1,101 @@
+-- What a session without a plan tells, and which answers are not the last to an item.
+use Rattle.std.proofs.Common.{◌≡◌, ℕ, Bool, true, false, ◌||◌, ◌==◌, if◌then◌else◌, List, Option}
+use Rattle.std.proofs.Common.{Some, None, refl, sym, ap, subst}
+use Rattle.std.specs.Prelude.{option_map}
+use Rattle.std.proofs.lemmas.Bool.{false≢true}
+use Rattle.std.proofs.lemmas.Option.{none-some}
+use Rattle.syn_headline.specs.Coordinator.{Exchange, Running, asked_in, is_last, is_unstable}
+use Rattle.syn_headline.specs.Network.{Left, Right, Which, is_side, other}
+use Rattle.syn_headline.specs.Session.{fault_of}
+use Rattle.syn_headline.specs.Side.{Begin, Begun, Fetch, ListAt, Replace, Request, Stage}
+use Rattle.syn_headline.specs.Side as model
+use Rattle.syn_message.specs.Requests.{request_of}
+use Rattle.syn_model.specs.Path.{Path}
+use Rattle.syn_session.specs.declared.requests.Waiting.{Waiting}
+use Rattle.syn_session.specs.declared.session.Session.{Session}
+use Rattle.syn_session.specs.Hearing.{HasHeard}
+use Rattle.syn_session.specs.Sessions.{Tells, TellsOf, waiting_of}
+use Rattle.syn_session.specs.Stages.{IsOfScan, nothing_reached, reached_by}
+use Rattle.syn_session.proofs.SessionLemmas.{first_request}
+
+-- of a side and the one across
+pub by_sides : (P : Which → Type 0) (side : Which) → P side → P (other side) → (on : Which) → P on
+by_sides P Left own across Left = own
+by_sides P Left own across Right = across
+by_sides P Right own across Left = across
+by_sides P Right own across Right = own
+
+pub asked_first : (waiting : Option Waiting) (number : ℕ) (request : Request) →
+    asked_in (waiting_of waiting) number ≡ Some request →
+    first_request (waiting_of waiting) ≡ Some request
+asked_first None number request is = absurd (none-some _ is)
+asked_first (Some one) number request is = by (one.number == number) is
+  where
+    by : (b : Bool) → (if b then Some (request_of one.request) else None) ≡ Some request →
+        Some (request_of one.request) ≡ Some request
+    by true e = e
+    by false e = absurd (none-some _ e)
+
+pub list_not_begin : (path : Path) (pair : ℕ) → ListAt path ≡ Begin pair → ⊥
+list_not_begin path pair e = cc
+
+pub some_list_not_begin : (path : Path) (pair : ℕ) → Some (ListAt path) ≡ Some (Begin pair) → ⊥
+some_list_not_begin path pair e = cc
+
+pub no_waiting : (waiting : Option Waiting) →
+    option_map (λ one. request_of one.request) waiting ≡ None → waiting ≡ None
+no_waiting None e = refl
+no_waiting (Some one) e = absurd (none-some _ (sym e))
+
+pub or_false : (b : Bool) → (b || false) ≡ b
+or_false true = refl
+or_false false = refl
+
+pub either_nothing : (b : Bool) → let n : ℕ = if b then 0 else 0 in n ≡ 0
+either_nothing true = refl
+either_nothing false = refl
+
+pub not_across : (side : Which) → is_side (other side) side ≡ false
+not_across Left = refl
+not_across Right = refl
+
+pub other_side : (side : Which) → side ≡ other side → ⊥
+other_side Left e = false≢true (sym (ap (is_side Left) e))
+other_side Right e = false≢true (sym (ap (is_side Right) e))
+
+-- what a session tells that has no plan
+pub tells_nothing : (session : Session) (running : Running) → running.session ≡ session.number →
+    is_unstable running ≡ session.is_unstable → session.course ≡ None →
+    reached_by running ≡ nothing_reached → Tells session running
+tells_nothing session running number unstable scans nothing =
+    record {
+      number = number;
+      unstable = unstable;
+      told = subst (λ c. TellsOf c (reached_by running)) (sym scans) nothing;
+    }
+
+pub tells_heard : (session : Session) (heard : Running) → HasHeard session heard →
+    Tells session heard
+tells_heard session heard h =
+    tells_nothing session heard h.heard_is.number h.unstable h.scans h.reached
+
+-- an answer to a begin or a listing that does not end the session is not the last to an item
+pub scans_further : (taken : List Exchange) (side : Which) (request : Request) → IsOfScan request →
+    (reply : model.Reply) → fault_of taken side request reply ≡ None → is_last reply ≡ true → ⊥
+scans_further taken side (Begin pair) this (model.Begun position) f l = false≢true l
+scans_further taken side (Begin pair) this (model.Listed position entries) f l = false≢true l
+scans_further taken side (Begin pair) this (model.NotDir position) f l = false≢true l
+scans_further taken side (Begin pair) this (model.Piece total bytes) f l = false≢true l
+scans_further taken side (Begin pair) this model.Staged f l = false≢true l
+scans_further taken side (Begin pair) this model.Done f l = none-some _ (sym f)
+scans_further taken side (Begin pair) this (model.Refused why) f l = none-some _ (sym f)
+scans_further taken side (ListAt path) this (model.Begun position) f l = false≢true l
+scans_further taken side (ListAt path) this (model.Listed position entries) f l = false≢true l
+scans_further taken side (ListAt path) this (model.NotDir position) f l = false≢true l
+scans_further taken side (ListAt path) this (model.Piece total bytes) f l = false≢true l
+scans_further taken side (ListAt path) this model.Staged f l = false≢true l
+scans_further taken side (ListAt path) this model.Done f l = none-some _ (sym f)
+scans_further taken side (ListAt path) this (model.Refused why) f l = none-some _ (sym f)
+scans_further taken side (Fetch path since offset) this reply f l = absurd this
+scans_further taken side (Stage item offset bytes) this reply f l = absurd this
+scans_further taken side (Replace item path since size) this reply f l = absurd this
