@@ -4,7 +4,7 @@ use Rattle.syn_replica.specs.Growth.{IsGrown}
 use Rattle.syn_replica.specs.Edits.{event_by}
 use Rattle.syn_shared.specs.Edits.{Edits}
 use Rattle.syn_tree.specs.Edits.{edit_of}
-use Rattle.syn_shared.proofs.UpkeepSteps.{edit_world}
+use Rattle.syn_shared.proofs.WorldLemmas.{edit_world}
 use Rattle.syn_shared.proofs.StepLemmas.{step_by}
 use Rattle.syn_shared.proofs.HoldLemmas.{held_now, later_now}
 use Rattle.syn_shared.proofs.shared.SharedReplica.edit.Goals as goal

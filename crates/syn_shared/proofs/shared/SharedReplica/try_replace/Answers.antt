@@ -4,7 +4,7 @@ use Rattle.syn_replica.specs.Growth.{IsGrown}
 use Rattle.syn_history.specs.Events.{token_of}
 use Rattle.syn_tree.specs.Nodes.{part_of}
 use Rattle.syn_shared.specs.Replacements.{Replaces}
-use Rattle.syn_shared.proofs.UpkeepSteps.{replace_world}
+use Rattle.syn_shared.proofs.WorldLemmas.{replace_world}
 use Rattle.syn_shared.proofs.StepLemmas.{replaced_by}
 use Rattle.syn_shared.proofs.HoldLemmas.{held_now, held_answer, later_now, later_none}
 use Rattle.syn_shared.proofs.shared.SharedReplica.try_replace.Goals as goal
