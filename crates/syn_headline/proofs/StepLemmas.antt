@@ -1,4 +1,4 @@
--- The invariant is kept by each step of the coordinator, and so by each step of the world.
+-- The invariant is kept by each call of the coordinator, also where it makes a plan.
 use Rattle.std.proofs.Common.{◌≡◌, ◌≤◌, ℕ, List, ◌∷◌, ◌++◌, refl, sym, ap, ◌∙◌, subst, Option, Some}
 use Rattle.std.proofs.Common.{None, append-nil, arith, inr, ◌≢◌, ◌+◌, is_some, append_assoc, []}
 use Rattle.std.specs.Prelude.{Contains, IfSome, All}

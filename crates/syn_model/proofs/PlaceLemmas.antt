@@ -1,4 +1,4 @@
--- What carrying out one item leaves at its path and at the paths around it.
+-- The result that a plan has to leave at one path stays where what is there stays.
 use Rattle.std.proofs.Common.{◌≡◌, true, ◌&&◌, ◌++◌, refl, sym, ap, ap₂, ◌∙◌, subst, Option}
 use Rattle.std.proofs.Common.{option_map, Some, None, true≢false, append-nil, []}
 use Rattle.std.specs.FinMap.{get}
