@@ -219,8 +219,8 @@ module _ (heard : Running) (old new : Session) (asks : Asks) (is : IsHeard old h
           | inr right ↦ let one = ap length (line_asked Right).waits
               ∙ some_waiting new.right.waiting right in omega (arith, one)
         ],
-        length_on Left,
-        length_on Right,
+        inl (length_on Left),
+        inl (length_on Right),
       )
 
       -- so that it may go on with that

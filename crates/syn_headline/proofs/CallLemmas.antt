@@ -1,7 +1,7 @@
 -- What a call of the coordinator is in the coarser picture, and what its session then remembers.
 use Rattle.std.proofs.Common.{◌≡◌, ◌≢◌, ℕ, Bool, ◌&&◌, true≢false, List, ◌∷◌, ◌++◌, map, filter_map}
 use Rattle.std.proofs.Common.{length, refl, sym, ap, ◌∙◌, subst, Option, Some, None, is_some}
-use Rattle.std.proofs.Common.{append-nil, inl, inr, slice_get, ◌≤◌, take, option_map, []}
+use Rattle.std.proofs.Common.{append-nil, inl, inr, slice_get, take, option_map, []}
 use Rattle.std.specs.Prelude.{Contains, All, Any, IfSome, IsSome}
 use Rattle.std.proofs.lemmas.List.Elements.{All-nil, All-contains_itself, Contains-append_left}
 use Rattle.std.proofs.lemmas.List.Elements.{All-append, All-weaker, All-contains}
@@ -60,10 +60,6 @@ module _ (plans : Plans) (old : fine_world.World) (k : IsKept plans (view old)) 
   over : RunsOver old.sent old.coordinator.journal.value (Some (view_running r))
   over = subst (RunsOver old.sent old.coordinator.journal.value) runs k.coordinator.runs_over
 
-  few : (side : Which) → length (outstanding r side) ≤ 1
-  few Left = over.2.1
-  few Right = over.2.2
-
   -- nothing is being written while a session runs
   pub nothing_written : old.coordinator.journal.writing ≡ None
   nothing_written = by old.coordinator.journal.writing refl
@@ -78,13 +74,13 @@ module _ (plans : Plans) (old : fine_world.World) (k : IsKept plans (view old)) 
 
   pub remembers_then : Remembers old.sent (hearing r exchange)
   remembers_then =
-      hearing_remembers old.sent r k.sound.numbers h.remembers from number request reply few asked
+      hearing_remembers old.sent r k.sound.numbers h.remembers from number request reply asked
       heard
 
   in_order_then : ListsInOrder old.sent (hearing r exchange)
   in_order_then =
       hearing_in_order old.sent r h.in_order k.sound.numbers h.remembers from number request reply
-      few asked heard
+      asked heard
 
   coarse_asked : coarse.asked_of (view_running r) from number ≡ Some request
   coarse_asked = same_asked from ∙ asked

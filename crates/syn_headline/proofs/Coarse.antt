@@ -24,7 +24,7 @@ use Rattle.syn_headline.specs.Planning.{WritesTo}
 use Rattle.syn_model.specs.Decision.{Item, Conflict, MarkSame, MarkDir, path_of}
 use Rattle.syn_headline.specs.Report.{Report, Complete, Incomplete, is_kept, is_carrying}
 use Rattle.syn_headline.specs.Report.{is_marking, conflict_at}
-use Rattle.syn_headline.specs.Coordinator.{Outstanding, asked_in, most_outstanding}
+use Rattle.syn_headline.specs.Coordinator.{Outstanding, asked_in, MayWait}
 
 -- a side: what it stands for, and which event was being written when it stopped or a device failed
 pub record SideMachine : Type 0 where
@@ -235,8 +235,8 @@ WasSent sent running =
 -- it waits for an answer, and on each side for no more than it may at a time
 abbrev pub Waits : Running → Type 0
 Waits running =
-    (1 ≤ length running.left + length running.right) × (length running.left ≤ most_outstanding)
-    × (length running.right ≤ most_outstanding)
+    (1 ≤ length running.left + length running.right)
+    × MayWait running.left × MayWait running.right
 
 -- a running session has the number that the archive kept last, waits for an answer, and what waits
 -- was sent

@@ -1,6 +1,6 @@
 -- A session lists a directory after the listing that showed it: so its scans stand in order.
 use Rattle.std.proofs.Common.{◌≡◌, ◌≢◌, ◌≤◌, ◌⊎◌, ℕ, zero, suc, true, false, not, ◌==◌, true≢false}
-use Rattle.std.proofs.Common.{if◌then◌else◌, List, [], ◌∷◌, ◌++◌, length, refl, sym, ap, ◌∙◌, subst}
+use Rattle.std.proofs.Common.{if◌then◌else◌, List, [], ◌∷◌, ◌++◌, refl, sym, ap, ◌∙◌, subst}
 use Rattle.std.proofs.Common.{Option, Some, None, arith, inl, inr}
 use Rattle.std.specs.Prelude.{Contains, IsSome, slice_get}
 use Rattle.std.proofs.lemmas.List.Elements.{Contains-append_left, Contains-append_cases}
@@ -126,8 +126,7 @@ off_number number (first ∷ waiting) one c =
 
 module _ (sent : Sent) (r : Running) (m : ListsInOrder sent r) (tell : NumbersTell sent)
     (remembers : Remembers sent r) (from : Which) (number : ℕ) (request : Request) (reply : Reply)
-    (few : (side : Which) → length (outstanding r side) ≤ 1) (expected : asked_of r from number
-    ≡ Some request) (heard : Contains sent (Answers from r.session number reply)) where
+    (expected : asked_of r from number ≡ Some request) (heard : Contains sent (Answers from r.session number reply)) where
   abbrev exchange : Exchange
   exchange = record { side = from; number = number; request = request; reply = reply }
 
@@ -140,7 +139,7 @@ module _ (sent : Sent) (r : Running) (m : ListsInOrder sent r) (tell : NumbersTe
 
   was_waiting : (side : Which) (one : Outstanding) → Contains (outstanding then_ side) one →
       Contains (outstanding r side) one
-  was_waiting = waited sent r tell remembers from number request reply few expected heard
+  was_waiting = waited sent r tell remembers from number request reply expected heard
 
   waits_here : outstanding then_ from ≡ without number (outstanding r from)
   waits_here =

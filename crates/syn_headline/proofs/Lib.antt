@@ -41,6 +41,7 @@ pub mod LoggedRuns
 pub mod View
 pub mod Walks
 pub mod Heard
+pub mod Rising
 pub mod Remembers
 pub mod InOrder
 pub mod Sessions

@@ -1,15 +1,15 @@
 -- What the transcript of a session has to do with the messages that were sent, as it takes answers
 -- and asks on.
 use Rattle.std.proofs.Common.{◌≡◌, ◌≤◌, ◌<◌, ◌+◌, ◌⊎◌, ℕ, zero, suc, Bool, true, false, not, ◌==◌}
-use Rattle.std.proofs.Common.{true≢false, if◌then◌else◌, List, [], ◌∷◌, ◌++◌, length, refl, sym, ap}
-use Rattle.std.proofs.Common.{◌∙◌, subst, Option, Some, None, arith, inl, inr}
-use Rattle.std.specs.Prelude.{Contains}
+use Rattle.std.proofs.Common.{true≢false, if◌then◌else◌, List, [], ◌∷◌, ◌++◌, length, get_or, refl, sym}
+use Rattle.std.proofs.Common.{ap, ◌∙◌, subst, Option, Some, arith, inl, inr}
+use Rattle.std.specs.Prelude.{Contains, All}
 use Rattle.std.specs.List.{count_by}
 use Rattle.std.proofs.lemmas.Bool.{eqb-true}
 use Rattle.std.proofs.lemmas.List.{length-append}
 use Rattle.std.proofs.lemmas.List.Elements.{Contains-push, Contains-push_cases}
 use Rattle.std.proofs.lemmas.List.Elements.{Contains-append_left, Contains-append_right}
-use Rattle.std.proofs.lemmas.List.Elements.{Contains-append_cases}
+use Rattle.std.proofs.lemmas.List.Elements.{Contains-append_cases, All-contains_itself}
 use Rattle.std.proofs.lemmas.Option.{none-some, same_Some}
 use Rattle.syn_model.specs.Archive.{Kept}
 use Rattle.syn_headline.specs.Side.{Request, Reply}
@@ -21,6 +21,8 @@ use Rattle.syn_headline.specs.Coordinator.{without, asked_in, asked_of, asked_co
 use Rattle.syn_headline.specs.Coordinator.{asking, hearing, advanced, WasAsked, AsksOnce}
 use Rattle.syn_headline.specs.Coordinator.{messages_to, sent_now}
 use Rattle.std.proofs.lemmas.List.Sums.{sum_by-append}
+use Rattle.syn_headline.specs.Coordinator.{AreRising}
+use Rattle.syn_headline.proofs.Rising.{without-rising, one_less, numbered-rising}
 use Rattle.syn_headline.proofs.StagedLemmas.{on_both}
 use Rattle.syn_headline.proofs.Heard.{TakenWas, number_within, same_number, numbered-length}
 use Rattle.syn_headline.proofs.Heard.{sent_to, waits_sent}
@@ -33,6 +35,7 @@ pub record Remembers (sent : Sent) (r : Running) : Type 0 where
       Contains sent (Asks side r.session number request) → WasAsked r side number request
   pub below : (side : Which) (number : ℕ) (request : Request) → WasAsked r side number request →
       number < asked_count r side
+  pub rising : (side : Which) → AreRising (outstanding r side)
 
 -- The rest of a session is no matter of it
 module _ (sent : Sent) (r : Running) (plan : Option (List Planned)) (walk : Walk)
@@ -60,6 +63,10 @@ module _ (sent : Sent) (r : Running) (plan : Option (List Planned)) (walk : Walk
   waits_later m Left one c = m.waiting Left one c
   waits_later m Right one c = m.waiting Right one c
 
+  rising_later : Remembers sent r → (side : Which) → AreRising (outstanding later side)
+  rising_later m Left = m.rising Left
+  rising_later m Right = m.rising Right
+
   pub advanced_remembers : Remembers sent r → Remembers sent later
   advanced_remembers m = record {
     taken = m.taken;
@@ -68,6 +75,7 @@ module _ (sent : Sent) (r : Running) (plan : Option (List Planned)) (walk : Walk
     below =
         λ side number request w. subst (λ n. number < n) (sym (same_count side))
         (m.below side number request (from_later side number request w));
+    rising = rising_later m;
   }
 
 -- An answer is taken
@@ -122,18 +130,6 @@ asked_waits (first ∷ waiting) number request e =
           (rest.0, (suc rest.1.0, let w = rest.1.1 in omega (arith, w), rest.1.2), rest.2, rest.3)
     ] refl e
 
--- with one request at a time on a side, what was answered was the one that waited there
-one_less : (waiting : List Outstanding) (number : ℕ) (request : Request) → length waiting ≤ 1 →
-    asked_in waiting number ≡ Some request → length (without number waiting) + 1 ≡ length waiting
-one_less [] number request few e = absurd (none-some _ e)
-one_less (first ∷ []) number request few e =
-    elim (first.number == number) as (λ b. (if b then Some first.request else None) ≡ Some request →
-    length (if not b then first ∷ [] else []) + 1 ≡ 1) [
-      | true ↦ λ _. omega arith
-      | false ↦ λ is. absurd (none-some _ is)
-    ] e
-one_less (first ∷ next ∷ more) number request few e = absurd (omega (arith, few))
-
 -- one, if so
 abbrev one_if : Bool → ℕ
 one_if b = if b then 1 else 0
@@ -151,8 +147,7 @@ count_push side taken exchange =
 
 module _ (sent : Sent) (r : Running) (tell : NumbersTell sent) (m : Remembers sent r) (from : Which)
     (number : ℕ) (request : Request) (reply : Reply)
-    (few : (side : Which) → length (outstanding r side) ≤ 1) (expected : asked_of r from number
-    ≡ Some request) (heard : Contains sent (Answers from r.session number reply)) where
+    (expected : asked_of r from number ≡ Some request) (heard : Contains sent (Answers from r.session number reply)) where
   abbrev exchange : Exchange
   exchange = record { side = from; number = number; request = request; reply = reply }
 
@@ -255,7 +250,7 @@ module _ (sent : Sent) (r : Running) (tell : NumbersTell sent) (m : Remembers se
   count_still : (side : Which) → asked_count then_ side ≡ asked_count r side
   count_still = on_both (λ side. asked_count then_ side ≡ asked_count r side) from
       (let pushed = count_push from r.taken exchange in
-      let less = one_less (outstanding r from) number request (few from) expected in
+      let less = one_less (outstanding r from) number request (m.rising from) expected in
       let at : length (outstanding then_ from) ≡ length (without number (outstanding r from)) =
       ap length waits_here in
       let one : one_if (is_side from from) ≡ 1 = itself from in
@@ -284,6 +279,12 @@ module _ (sent : Sent) (r : Running) (tell : NumbersTell sent) (m : Remembers se
             × Contains sent (Answers e.side r.session e.number e.reply)) now (was_sent, heard)
       ]
 
+  rising_then : (side : Which) → AreRising (outstanding then_ side)
+  rising_then = on_both (λ side. AreRising (outstanding then_ side)) from
+      (subst AreRising (sym waits_here)
+      (without-rising number (outstanding r from) (m.rising from)))
+      (subst AreRising (sym waits_there) (m.rising (other from)))
+
   pub hearing_remembers : Remembers sent then_
   hearing_remembers = record {
     taken = taken_was;
@@ -292,6 +293,7 @@ module _ (sent : Sent) (r : Running) (tell : NumbersTell sent) (m : Remembers se
     below =
         λ side n q w. subst (λ k. n < k) (sym (count_still side))
         (m.below side n q (asked_before side n q w));
+    rising = rising_then;
   }
 
 -- More is asked for
@@ -450,8 +452,22 @@ module _ (sent : Sent) (r : Running) (tell : NumbersTell sent) (m : Remembers se
               (subst (λ k. WasAsked on side x.1.number k) x.4 (inr (x.1.resent, c')))
         ];
     below = λ side n q w. below_more side n q w;
+    rising = rising_more;
   }
     where
+      below_waiting : (side : Which) →
+          All (λ one. one.number < asked_count r side) (outstanding r side)
+      below_waiting side k d less =
+          let one : Outstanding = get_or (outstanding r side) k d in
+          m.below side one.number one.request
+          (inr (one.resent, All-contains_itself (outstanding r side) k d less))
+
+      rising_more : (side : Which) → AreRising (outstanding on side)
+      rising_more side =
+          subst AreRising (sym (waits_on side))
+          (numbered-rising (outstanding r side) (asked_count r side) (asks_of side) (m.rising side)
+          (below_waiting side))
+
       below_more : (side : Which) (n : ℕ) (q : Request) → WasAsked on side n q →
           n < asked_count on side
       below_more side n q (inl taken) =

@@ -62,6 +62,7 @@ heard_beside old new running g h = record {
           | inr now ↦ absurd (g.no_request side running.session number request now)
         ];
     below = h.remembers.below;
+    rising = h.remembers.rising;
   });
   in_order =
       subst (λ sent. ListsInOrder sent running) (sym g.sent)

@@ -22,7 +22,7 @@ use Rattle.syn_headline.specs.Planning.{Log}
 use Rattle.syn_headline.specs.Report.{Report}
 use Rattle.syn_headline.specs.Coordinator.{IsShown, Outstanding, Running, CoordinatorMachine, Call}
 use Rattle.syn_headline.specs.Coordinator.{WasAsked, AsksOnce, Keeps, new_session, begins, asking}
-use Rattle.syn_headline.specs.Coordinator.{sent_now, asked_count, CoordinatorStarts}
+use Rattle.syn_headline.specs.Coordinator.{sent_now, asked_count, CoordinatorStarts, AreRising}
 use Rattle.syn_headline.specs.Coordinator as fine
 use Rattle.syn_headline.specs.World as fine_world
 use Rattle.syn_headline.specs.World.{coordinator_goes}
@@ -121,8 +121,13 @@ module _ (plans : Plans) (old : fine_world.World) (k : IsKept plans (view old))
         λ side n q c. let kept = (k.sound.asked side session n q c).session_kept in
         absurd (omega (arith, kept, next));
     below = λ side n q w. none_asked side n q w;
+    rising = none_rise;
   }
     where
+      none_rise : (side : Which) → AreRising (fine.outstanding (new_session session) side)
+      none_rise Left i j d before less = absurd (omega (arith, less))
+      none_rise Right i j d before less = absurd (omega (arith, less))
+
       none_waits : (side : Which) (one : Outstanding) →
           Contains (fine.outstanding (new_session session) side) one →
           Contains old.sent (Asks side session one.number one.request)
@@ -234,7 +239,7 @@ module _ (plans : Plans) (old : fine_world.World) (k : IsKept plans (view old))
           (next, refl) (
             sym (ap (λ a. a.last_session) left.value),
             all_sent,
-            (omega arith, omega arith, omega arith),
+            (omega arith, inl (omega arith), inl (omega arith)),
           )
           (asking_tells old.sent (new_session session) k.sound.numbers (new_remembers session next)
           (begins old.pair) (begins old.pair))

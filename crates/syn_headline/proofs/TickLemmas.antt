@@ -15,7 +15,7 @@ use Rattle.syn_headline.specs.Network.{AsksNothingTwice, Answers, is_side}
 use Rattle.syn_headline.specs.Report.{Report, is_kept, is_carrying, is_marking}
 use Rattle.syn_headline.specs.Coordinator.{Outstanding, Running, CoordinatorMachine, Call, WasAsked}
 use Rattle.syn_headline.specs.Coordinator.{asked_count, messages_to, once_more, plan_of, report_of}
-use Rattle.syn_headline.specs.Coordinator.{CoordinatorTicks}
+use Rattle.syn_headline.specs.Coordinator.{CoordinatorTicks, AreRising}
 use Rattle.syn_headline.specs.Coordinator as fine
 use Rattle.syn_headline.specs.World as fine_world
 use Rattle.syn_headline.specs.World.{coordinator_goes}
@@ -26,6 +26,7 @@ use Rattle.syn_headline.proofs.Invariant.{Plans, histories_of, IsHarmless, IsKep
 use Rattle.syn_headline.proofs.View.{view, view_running, view_coordinator}
 use Rattle.syn_headline.proofs.InOrder.{IsSaid, no_answer, after_less}
 use Rattle.syn_headline.proofs.Sessions.{IsHeard}
+use Rattle.syn_headline.proofs.Rising.{once_more-length, once_more-rising, may_wait_again}
 use Rattle.std.specs.List.{count_by}
 use Rattle.std.proofs.lemmas.Option.{none-some}
 use Rattle.syn_model.specs.Decision.{Item}
@@ -55,10 +56,6 @@ once_again sent more twice was side session n l a b c d again =
     before m c =
         elim (Contains-append_cases sent more m c) as (λ _. Contains sent m)
         [ inl had ↦ had | inr now ↦ was m now ]
-
-same_length : (waiting : List Outstanding) → length (once_more waiting) ≡ length waiting
-same_length [] = refl
-same_length (one ∷ waiting) = ap suc (same_length waiting)
 
 more_was : (waiting : List Outstanding) (one : Outstanding) →
     Contains (once_more waiting) one → (was : Outstanding) × Contains waiting was
@@ -179,7 +176,7 @@ module _ (plans : Plans) (old : fine_world.World) (k : IsKept plans (view old)) 
   count_again : (side : Which) → asked_count again side ≡ asked_count r side
   count_again side =
       ap (λ n. count_by (λ e. is_side side e.side) r.taken + n)
-      (ap length (waits_again side) ∙ same_length (fine.outstanding r side))
+      (ap length (waits_again side) ∙ once_more-length (fine.outstanding r side))
 
   -- nothing is answered by it
   said_again : (side : Which) (number position : ℕ) →
@@ -221,6 +218,9 @@ module _ (plans : Plans) (old : fine_world.World) (k : IsKept plans (view old)) 
       below =
           λ side n q w. subst (λ count. n < count) (sym (count_again side))
           (h.remembers.below side n q (asked_before side n q w));
+      rising =
+          λ side. subst AreRising (sym (waits_again side))
+          (once_more-rising (fine.outstanding r side) (h.remembers.rising side));
     };
     in_order = record {
       apart = λ side one x c d at.
@@ -320,13 +320,14 @@ module _ (plans : Plans) (old : fine_world.World) (k : IsKept plans (view old)) 
 
       waits_still : coarse.Waits (view_running again)
       waits_still =
-          let l = same_length r.left in
-          let q = same_length r.right in
+          let l = once_more-length r.left in
+          let q = once_more-length r.right in
           let waits = over.2 in
-          let one = waits.0 in
-          let two = waits.1 in
-          let three = waits.2 in
-          (omega (arith, l, q, one), omega (arith, l, two), omega (arith, q, three))
+          let one = waits.0 in (
+            omega (arith, l, q, one),
+            may_wait_again r.left waits.1,
+            may_wait_again r.right waits.2,
+          )
 
   gives_up_so : (why : Refusal) →
       Follows (view old) (view (coordinator_goes old (record old.coordinator { running = None })

@@ -24,7 +24,8 @@ use Rattle.syn_headline.specs.Report.{is_marking, conflict_at}
 pub use Rattle.syn_headline.specs.Session.{Exchange, Outstanding, Running, CoordinatorMachine}
 pub use Rattle.syn_headline.specs.Session.{is_recorded, archive_layout, outstanding, asked_in}
 pub use Rattle.syn_headline.specs.Session.{asked_of, without, asked_count, numbered, asking}
-pub use Rattle.syn_headline.specs.Session.{messages_to, most_outstanding, Waits, WasTaken}
+pub use Rattle.syn_headline.specs.Session.{messages_to, most_listings, IsListing, MayWait}
+pub use Rattle.syn_headline.specs.Session.{AreRising, Waits, WasTaken}
 pub use Rattle.syn_headline.specs.Session.{WasAsked, AsksOnce, BothBegun, IsShown, is_not_dir}
 pub use Rattle.syn_headline.specs.Session.{is_unstable, entries_in, nodes_shown}
 pub use Rattle.syn_headline.specs.Session.{piece_total, first_total, fits_piece}

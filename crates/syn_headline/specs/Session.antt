@@ -4,9 +4,9 @@ use Rattle.std.specs.Option.{option_map_or}
 use Rattle.std.specs.List.{list_any, list_all, count_by}
 use Rattle.std.specs.Ordering.{eq_by_cmp}
 use Rattle.std.specs.Prelude.{ℕ, suc, min, Bool, true, false, not, nat_le, nat_lt, if◌then◌else◌}
-use Rattle.std.specs.Prelude.{◌&&◌, ◌==◌, ◌+◌, ◌-◌, ◌^◌, ◌≤◌, ◌≡◌, ◌⊎◌, List, [], ◌∷◌, ◌++◌, map}
-use Rattle.std.specs.Prelude.{filter, filter_map, length, slice_get, sum_by, Option, Some, None}
-use Rattle.std.specs.Prelude.{All, Contains}
+use Rattle.std.specs.Prelude.{◌&&◌, ◌==◌, ◌+◌, ◌-◌, ◌^◌, ◌≤◌, ◌<◌, ◌≡◌, ◌⊎◌, List, [], ◌∷◌, ◌++◌}
+use Rattle.std.specs.Prelude.{map, filter, filter_map, length, slice_get, sum_by, Option, Some}
+use Rattle.std.specs.Prelude.{None, All, AllPairs, Contains}
 use Rattle.syn_model.specs.Path.{Path, Name, root, child, path_cmp}
 use Rattle.syn_model.specs.Tree.{Content, Directory, is_directory}
 use Rattle.syn_model.specs.Limits.{fits_path, greatest_piece, most_nodes}
@@ -105,15 +105,28 @@ asking running left right = record running {
 abbrev pub messages_to : ℕ → Which → List Outstanding → List Message
 messages_to session side waiting = map (λ one. Asks side session one.number one.request) waiting
 
--- so many requests wait on a side at most
-abbrev pub most_outstanding : ℕ
-most_outstanding = 1
+-- so many listings wait on a side at most
+abbrev pub most_listings : ℕ
+most_listings = 8
+
+abbrev pub IsListing : Request → Type 0
+IsListing (ListAt path) = Unit {0}
+IsListing _ = ⊥
+
+-- what may wait on a side at a time: one request of any kind, or several listings
+abbrev pub MayWait : List Outstanding → Type 0
+MayWait waiting = (length waiting ≤ 1)
+    ⊎ (All (λ one. IsListing one.request) waiting × (length waiting ≤ most_listings))
+
+-- what was asked for first stands first
+abbrev pub AreRising : List Outstanding → Type 0
+AreRising waiting = AllPairs (λ earlier later. earlier.number < later.number) waiting
 
 -- it waits for an answer, and on each side for no more than it may at a time
 abbrev pub Waits : Running → Type 0
 Waits running =
     (1 ≤ length running.left + length running.right)
-    × (length running.left ≤ most_outstanding) × (length running.right ≤ most_outstanding)
+    × MayWait running.left × MayWait running.right
 
 -- The transcript
 

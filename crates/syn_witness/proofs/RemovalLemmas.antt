@@ -1,7 +1,7 @@
 -- The session that carries a removal, step by step.
 use Rattle.std.proofs.Common.{◌≡◌, List, ◌∷◌, ◌++◌, refl, ap, ◌∙◌, arith, inl, inr, ◌<◌, nat_le}
 use Rattle.std.proofs.Common.{take, drop, length, sym, subst, Some, None, []}
-use Rattle.std.specs.FinMap.{entries, get, same_entries_map}
+use Rattle.std.specs.FinMap.{get, same_entries_map}
 use Rattle.sha2.specs.Sha256.{sha256}
 use Rattle.syn_model.specs.Path.{Path, root}
 use Rattle.syn_model.specs.Tree.{Content, absent, subtree, replace}

@@ -29,7 +29,7 @@ use Rattle.syn_witness.proofs.WitnessLemmas.{waiting_for, waiting, start_waits, 
 use Rattle.syn_witness.proofs.WitnessPlan.{replacing, right_staged}
 use Rattle.syn_witness.proofs.WitnessSession.{run_to_replacement}
 use Rattle.syn_witness.proofs.RefusedLemmas.{reads_one}
-use Rattle.syn_witness.proofs.CutOffLemmas.{begun_archive, replacement}
+use Rattle.syn_witness.proofs.CutOffLemmas.{begun_archive}
 
 -- Checkpoints that are made, and a reopening
 

@@ -2,7 +2,6 @@
 use Rattle.std.proofs.Common.{◌≡◌, inl, inr, ℕ, suc, true, true≢false, List, ◌∷◌, ◌++◌, refl, sym}
 use Rattle.std.proofs.Common.{ap, ◌∙◌, Some, None, arith, zero, ◌-◌, ◌==◌, nat_le, if◌then◌else◌}
 use Rattle.std.proofs.Common.{take, drop, subst, Option, []}
-use Rattle.std.specs.FinMap.{entries}
 use Rattle.syn_model.specs.Path.{Name, Path, root, IsPath}
 use Rattle.syn_model.specs.Tree.{Directory, empty_directory, subtree, replace, is_directory}
 use Rattle.syn_model.specs.Tree.{Content}

@@ -13,7 +13,6 @@ use Rattle.syn_model.specs.Plan.{items_from, names_below, with_items_below, plan
 use Rattle.syn_model.specs.Event.{Edited, Began}
 use Rattle.syn_model.specs.History.{History, IsHistory, IsAllowed, tree_of}
 use Rattle.syn_model.proofs.PathLemmas.{same_path}
-use Rattle.syn_headline.specs.Coordinator.{stands}
 use Rattle.syn_witness.specs.Conflict.{d_name, d_path, make_d}
 use Rattle.syn_witness.specs.Unstable.{remove_d}
 use Rattle.syn_witness.proofs.WitnessTrees.{absent-entries, replace-entries, mark-entries, same_by}

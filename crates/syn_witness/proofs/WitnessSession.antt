@@ -43,7 +43,7 @@ use Rattle.syn_witness.proofs.WitnessFiles.{file_spelling, file_fits_part, file_
 use Rattle.syn_witness.proofs.WitnessFiles.{are_marks}
 use Rattle.syn_witness.proofs.WitnessMessages.{number_of}
 use Rattle.syn_witness.proofs.WitnessLemmas.{letter_a, edit_allowed}
-use Rattle.syn_witness.proofs.WitnessPlan.{left_side, right_side, right_staged, right_done, acks}
+use Rattle.syn_witness.proofs.WitnessPlan.{left_side, right_side, right_staged, right_done}
 use Rattle.syn_witness.proofs.WitnessPlan.{transcript, planned, plan, begun_archive, scans}
 use Rattle.syn_witness.proofs.WitnessPlan.{listed_at, made, edited_world, both_begin, started}
 use Rattle.syn_witness.proofs.WitnessPlan.{left_begun, both_begun, right_begins, right_awaited}

@@ -243,7 +243,7 @@ starts_so old session up arms none next lawful new is =
     )
 
 -- what is asked for next
-pub asks_so : (number_of : Which → ℕ → ℕ) (archive : Archive) (running : Running)
+pub asks_several : (number_of : Which → ℕ → ℕ) (archive : Archive) (running : Running)
     (left right : List Request) → AllByRecursion (MayAsk archive running Left) left →
     AllByRecursion (MayAsk archive running Right) right →
     AllByRecursion (IsLawfulRequest running.session) (left ++ right) →
@@ -251,7 +251,8 @@ pub asks_so : (number_of : Which → ℕ → ℕ) (archive : Archive) (running :
     (asked_count (asking running left right) Right ≤ 2 ^ 32) →
     AreNumbered number_of (asking running left right) → Waits (asking running left right) →
     AsksNext archive running left right
-asks_so number_of archive running left right may_left may_right lawful few few' numbered waits =
+asks_several number_of archive running left right may_left may_right lawful few few' numbered
+    waits =
     record {
       may_left = All-from_recursion (MayAsk archive running Left) left may_left;
       may_right = All-from_recursion (MayAsk archive running Right) right may_right;
@@ -262,6 +263,21 @@ asks_so number_of archive running left right may_left may_right lawful few few' 
       once = asks_once number_of (asking running left right) numbered;
       waits = waits;
     }
+
+-- where one request waits on a side at most
+pub asks_so : (number_of : Which → ℕ → ℕ) (archive : Archive) (running : Running)
+    (left right : List Request) → AllByRecursion (MayAsk archive running Left) left →
+    AllByRecursion (MayAsk archive running Right) right →
+    AllByRecursion (IsLawfulRequest running.session) (left ++ right) →
+    (asked_count (asking running left right) Left ≤ 2 ^ 32) →
+    (asked_count (asking running left right) Right ≤ 2 ^ 32) →
+    AreNumbered number_of (asking running left right) →
+    (1 ≤ length (asking running left right).left + length (asking running left right).right)
+    × (length (asking running left right).left ≤ 1)
+    × (length (asking running left right).right ≤ 1) → AsksNext archive running left right
+asks_so number_of archive running left right may_left may_right lawful few few' numbered waits =
+    asks_several number_of archive running left right may_left may_right lawful few few' numbered
+    (waits.0, inl waits.1, inl waits.2)
 
 -- an answer that is not the last of an item
 pub not_last : {P : Type 0} → false ≡ true → P
