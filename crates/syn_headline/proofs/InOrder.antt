@@ -126,7 +126,8 @@ off_number number (first ∷ waiting) one c =
 
 module _ (sent : Sent) (r : Running) (m : ListsInOrder sent r) (tell : NumbersTell sent)
     (remembers : Remembers sent r) (from : Which) (number : ℕ) (request : Request) (reply : Reply)
-    (expected : asked_of r from number ≡ Some request) (heard : Contains sent (Answers from r.session number reply)) where
+    (expected : asked_of r from number ≡ Some request)
+    (heard : Contains sent (Answers from r.session number reply)) where
   abbrev exchange : Exchange
   exchange = record { side = from; number = number; request = request; reply = reply }
 

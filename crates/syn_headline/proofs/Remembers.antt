@@ -1,7 +1,8 @@
 -- What the transcript of a session has to do with the messages that were sent, as it takes answers
 -- and asks on.
 use Rattle.std.proofs.Common.{◌≡◌, ◌≤◌, ◌<◌, ◌+◌, ◌⊎◌, ℕ, zero, suc, Bool, true, false, not, ◌==◌}
-use Rattle.std.proofs.Common.{true≢false, if◌then◌else◌, List, [], ◌∷◌, ◌++◌, length, get_or, refl, sym}
+use Rattle.std.proofs.Common.{true≢false, if◌then◌else◌, List, [], ◌∷◌, ◌++◌, length}
+use Rattle.std.proofs.Common.{get_or, refl, sym}
 use Rattle.std.proofs.Common.{ap, ◌∙◌, subst, Option, Some, arith, inl, inr}
 use Rattle.std.specs.Prelude.{Contains, All}
 use Rattle.std.specs.List.{count_by}

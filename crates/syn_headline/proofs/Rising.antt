@@ -1,5 +1,5 @@
--- The numbers of what waits on a side rise: as an answer is taken, as more is asked for, and as what
--- waits is sent again.
+-- The numbers of what waits on a side rise: as an answer is taken, as more is asked for, and as
+-- what waits is sent again.
 use Rattle.std.proofs.Common.{◌≡◌, ◌<◌, ◌+◌, ℕ, suc, true, false, not, ◌==◌}
 use Rattle.std.proofs.Common.{if◌then◌else◌, List, [], ◌∷◌, ◌++◌, length, get_or, refl, sym, ap}
 use Rattle.std.proofs.Common.{subst, Some, arith, append_assoc, append-nil, inl, inr}
