@@ -148,7 +148,8 @@ count_push side taken exchange =
 
 module _ (sent : Sent) (r : Running) (tell : NumbersTell sent) (m : Remembers sent r) (from : Which)
     (number : ℕ) (request : Request) (reply : Reply)
-    (expected : asked_of r from number ≡ Some request) (heard : Contains sent (Answers from r.session number reply)) where
+    (expected : asked_of r from number ≡ Some request)
+    (heard : Contains sent (Answers from r.session number reply)) where
   abbrev exchange : Exchange
   exchange = record { side = from; number = number; request = request; reply = reply }
 
