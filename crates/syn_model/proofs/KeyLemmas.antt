@@ -15,13 +15,12 @@ then_assoc Less b c = refl
 then_assoc Equal b c = refl
 then_assoc Greater b c = refl
 
-NoZero : Bytes → Type 0
+abbrev pub NoZero : Bytes → Type 0
 NoZero name = All (λ b. 0 < b) name
 
 -- names that are ended by a zero byte compare first, and then what follows
 ended : (n m a b : Bytes) → NoZero n → NoZero m →
     key_cmp (n ++ 0 ∷ a) (m ++ 0 ∷ b) ≡ ordering_then (name_cmp n m) (key_cmp a b)
-unfolding NoZero
 ended [] [] a b hn hm = refl
 ended [] (y ∷ m) a b hn hm =
     let p : 0 < y = All-head (λ b. 0 < b) y m hm in
@@ -56,8 +55,7 @@ by_names (n ∷ p) (m ∷ q) hp hq =
     ∙ sym
     (ap₂ key_cmp (append_assoc n (0 ∷ []) (path_key p)) (append_assoc m (0 ∷ []) (path_key q))))
 
-no_zero : (name : Name) → IsName name → NoZero name
-unfolding NoZero
+pub no_zero : (name : Name) → IsName name → NoZero name
 no_zero name lawful k d below =
     pos_of_ne-zero (λ e. lawful.no_zero (subst (Contains name) e (Contains-get_or name k d below)))
 

@@ -1,18 +1,16 @@
 -- Laws of paths, their spelling and their text.
 use Rattle.std.proofs.Common.{◌≡◌, ◌≢◌, ℕ, ◌+◌, ◌<◌, ◌≤◌, List, [], ◌∷◌, ◌++◌, length, refl, sym}
-use Rattle.std.proofs.Common.{ap, ◌∙◌, subst, arith, rules, codes, length-append, eqb, true, false}
-use Rattle.std.proofs.Common.{cond, Bool, nat_lt, slice_index_or, map, eqb-true, take, drop, ◌-◌}
+use Rattle.std.proofs.Common.{ap, ◌∙◌, subst, arith, codes, length-append, eqb, true, false}
+use Rattle.std.proofs.Common.{Bool, slice_index_or, eqb-true, take, drop, ◌-◌}
 use Rattle.std.proofs.Common.{get_or, ap₂, ◌&&◌, if◌then◌else◌, is_some, None}
 use Rattle.std.specs.Prelude.{bytes_eq}
-use Rattle.std.proofs.lemmas.Bool.{and_parts, and_from}
-use Rattle.std.proofs.lemmas.Slice.Eq.{bytes_eq-Decides}
 use Rattle.std.specs.List.{starts_with, All, AllByRecursion, Contains, flat_map, join_with_byte}
 use Rattle.std.specs.List.{slice_split}
 use Rattle.std.proofs.lemmas.List.Elements.{recursion_from_All, All-from_recursion, All-append}
 use Rattle.std.proofs.lemmas.List.Elements.{All-cons, All-nil, Contains-get_or}
 use Rattle.std.proofs.lemmas.List.Splits.{join_with_byte-slice_split, slice_split_none}
 use Rattle.std.proofs.lemmas.List.Splits.{slice_split_at, length-slice_split}
-use Rattle.std.proofs.lemmas.Grind.{flat_map-append, common_steps}
+use Rattle.std.proofs.lemmas.Grind.{flat_map-append}
 use Rattle.std.proofs.lemmas.List.{take_more, take_all}
 use Rattle.syn_model.specs.Path.{Name, Path, name_cmp, strip_prefix, IsName, IsPath, path_spelling}
 use Rattle.syn_model.specs.Path.{is_prefix}
@@ -151,7 +149,7 @@ pub not_all_names : (ps : List (List ℕ)) (i : ℕ) (d : List ℕ) → i < leng
     ¬ IsName (slice_index_or ps i d) → ¬ All IsName ps
 not_all_names ps i d l bad names = bad (names i d l)
 
-by_name : (n m : Name) (p q : Path) →
+pub by_name : (n m : Name) (p q : Path) →
     is_prefix (n ∷ p) (m ∷ q) ≡ (eq_by_cmp name_cmp n m && is_prefix p q)
 by_name n m p q =
     elim (eq_by_cmp name_cmp n m)

@@ -2,11 +2,13 @@
 #![tactic(auto)]
 
 mod error;
+mod key;
 mod name;
 mod order;
 mod path;
 mod printed;
 
 pub use error::PathError;
+pub use key::Key;
 pub use name::Name;
 pub use path::Path;

@@ -7,6 +7,7 @@ ghost use Rattle.syn_model.specs.Path.{path_spelling};
 ghost use Rattle.syn_path.specs.Paths.{IsPrefix, NamesPath};
 
 use crate::error::PathError;
+use crate::key::Key;
 use crate::name::Name;
 use std::alloc::{AllocError, Global};
 use std::marker::Model;
@@ -80,6 +81,13 @@ impl Path {
         ensures lawful { IsPath self.now }
     {
         self.names.as_slice()
+    }
+
+    /// The key of the path. It takes no memory.
+    pub fn key(&self) -> Key
+        ensures { result ≡ self.now }
+    {
+        Key::of(self.names.as_slice())
     }
 
     /// How many bytes spell the path: a count, and each name with its length.
