@@ -8,3 +8,5 @@ pub mod BelowLemmas
 pub mod ParentLemmas
 pub mod CountLemmas
 pub mod LastLemmas
+pub mod KeyedLemmas
+pub mod KeyedParts

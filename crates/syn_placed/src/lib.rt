@@ -4,7 +4,11 @@
 //! entries.
 #![tactic(auto)]
 
+mod key_map;
 pub mod list;
 mod placed;
+mod slot;
 
+pub use key_map::KeyMap;
 pub use placed::{Placed, Standing};
+pub use slot::Slot;
