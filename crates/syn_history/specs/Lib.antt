@@ -1,4 +1,5 @@
 pub mod Events
+pub mod Index
 pub mod Past
 pub mod Trails
 pub mod Refusals

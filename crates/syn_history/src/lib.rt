@@ -3,7 +3,9 @@
 
 mod error;
 mod event;
+mod index;
 mod laws;
+mod place;
 mod step;
 mod token;
 mod touch;
@@ -12,6 +14,7 @@ mod trail;
 pub use error::HistoryError;
 pub use event::Event;
 pub use laws::trail_laws;
+pub use place::Place;
 pub use step::Step;
 pub use token::Token;
 pub use touch::Touch;

@@ -6,6 +6,7 @@ ghost use Rattle.syn_history.specs.Trails.{step_of};
 
 use crate::error::HistoryError;
 use crate::event::Event;
+use crate::place::Place;
 use crate::token::Token;
 use std::alloc::Global;
 use syn_path::Path;
@@ -15,11 +16,11 @@ use syn_tree::Edit;
 #[derive(Debug, Drop)]
 pub enum Step {
     /// A user changes what is at the path.
-    Edited(Path),
+    Edited(Place),
     /// The session with this number begins.
     Began(u64),
     /// A session's item replaces what is at the path.
-    Replaced(Token, Path),
+    Replaced(Token, Place),
 }
 
 impl Step {
@@ -30,9 +31,11 @@ impl Step {
         ensures memory { IfErr result (λ e. e ≡ HistoryError.Memory) }
     {
         match event {
-            Event::Edited { edit, .. } => Ok(Step::Edited(edited_path(edit).copy(alloc)?)),
+            Event::Edited { edit, .. } => Ok(Step::Edited(Place::of(alloc, edited_path(edit))?)),
             Event::Began { session } => Ok(Step::Began(*session)),
-            Event::Replaced { token, path, .. } => Ok(Step::Replaced(*token, path.copy(alloc)?)),
+            Event::Replaced { token, path, .. } => {
+                Ok(Step::Replaced(*token, Place::of(alloc, path)?))
+            }
         }
     }
 }

@@ -1,9 +1,11 @@
 //! The trail of a history: what a replica keeps of it beside the tree, so that it need not keep the
 //! events.
-ghost use Rattle.std.specs.Prelude.{◌≡◌, ◌≢◌, ◌↔◌, ◌⊎◌, ◌<◌, ◌≤◌, ◌++◌, ◌∷◌, [], Err, not, length};
+ghost use Rattle.std.specs.Prelude.{◌≡◌, ◌≢◌, ◌↔◌, ◌⊎◌, ◌<◌, ◌≤◌, ◌+◌, ◌++◌, ◌∷◌, [], Err, not};
+ghost use Rattle.std.specs.Prelude.{length};
 ghost use Rattle.std.specs.Prelude.{take, drop, option_map, All, IfOk, IfErr, IfSome, IfNone};
 ghost use Rattle.std.specs.Prelude.{IsTrue, OnOk, OnErr};
-ghost use Rattle.std.specs.List.{list_any};
+ghost use Rattle.std.specs.List.{AllPairs, list_any};
+ghost use Rattle.std.specs.Option.{ForSome, option_map_or};
 ghost use Rattle.circular_buffer.specs.Buffer.{buffer};
 ghost use Rattle.syn_model.specs.Event as model;
 ghost use Rattle.syn_model.specs.Tree as model_tree;
@@ -18,20 +20,21 @@ ghost use Rattle.syn_history.specs.Past.{past_of, past_after, past_touched, stan
 ghost use Rattle.syn_history.specs.Past.{IsLawful, tells, are_between, is_lawful, past_with};
 ghost use Rattle.syn_history.specs.Past.{is_of_session as is_session_of};
 ghost use Rattle.syn_history.specs.Trails.{step_of, past_from};
+ghost use Rattle.syn_history.specs.Index.{IsEarlier, IsIndexed, forgotten};
 
 use crate::error::HistoryError;
 use crate::event::Event;
+use crate::index::{Index, MOST_TOUCHES, forget, is_touched};
+use crate::place::Place;
 use crate::step::Step;
 use crate::token::Token;
 use crate::touch::Touch;
 use circular_buffer::HeapCircularBuffer;
-use std::alloc::Global;
+use std::alloc::{AllocError, Global};
 use std::marker::Model;
 use syn_model::history_laws;
 use syn_path::Path;
-
-/// So many touches are kept.
-const MOST_TOUCHES: usize = 4096;
+use syn_placed::{KeyMap, Slot};
 
 /// What an image has of a trail.
 #[derive(Debug, Drop)]
@@ -59,6 +62,8 @@ pub struct Trail {
     /// The touches, the oldest first, with room for the most: no event takes memory for the list,
     /// and none moves another.
     touches: HeapCircularBuffer<Touch>,
+    /// Where each of their paths was touched last, with room for as many.
+    index: Index,
     session: u64,
     token: Option<Token>,
 }
@@ -73,6 +78,7 @@ impl Model for Trail {
 
     ghost use Rattle.syn_history.specs.Events.{token_of};
     ghost use Rattle.syn_history.specs.Past.{IsKept};
+    ghost use Rattle.syn_history.specs.Index.{IsIndexed};
 
     ghost view = { λ t. record {
       position = t.position;
@@ -82,7 +88,8 @@ impl Model for Trail {
       token = option_map token_of t.token;
     } };
 
-    ghost invariant = { λ t. IsKept t.position t.touches.items t.touches.capacity };
+    ghost invariant = { λ t. IsKept t.position t.touches.items t.touches.capacity
+        × IsIndexed t.touches.items t.index };
 }
 
 impl Trail {
@@ -92,10 +99,12 @@ impl Trail {
         ensures memory { IfErr result (λ e. e ≡ HistoryError.Memory) }
     {
         let touches = HeapCircularBuffer::with_capacity(alloc, MOST_TOUCHES)?;
+        let index = KeyMap::new(alloc)?;
         Ok(Trail {
             position: 0,
             floor: 0,
             touches,
+            index,
             session: 0,
             token: None,
         })
@@ -123,14 +132,12 @@ impl Trail {
         if !are_lawful(position, floor, &listed, session, &token) {
             return Ok(None);
         }
-        let mut touches = HeapCircularBuffer::with_capacity(alloc, MOST_TOUCHES)?;
-        for touch in listed {
-            touches.push_back(touch);
-        }
+        let (touches, index) = index_of(alloc, listed)?;
         Ok(Some(Trail {
             position,
             floor,
             touches,
+            index,
             session,
             token,
         }))
@@ -193,8 +200,7 @@ impl Trail {
         if since < self.floor || self.position < since {
             return Err(HistoryError::BelowFloor);
         }
-        let (older, newer) = self.touches.as_slices();
-        Ok(is_touched(older, path, since) || is_touched(newer, path, since))
+        Ok(is_touched(&self.index, path, since))
     }
 
     /// The step of the event, ready to be recorded, with all memory for it. The trail stays as it
@@ -220,25 +226,26 @@ impl Trail {
             ≡ past_after self.old event }
     {
         match step {
-            Step::Edited(path) => self.touch(path),
+            Step::Edited(place) => self.touch(place),
             Step::Began(session) => {
                 self.session = session;
                 self.position += 1;
             }
-            Step::Replaced(token, path) => {
-                self.touch(path);
+            Step::Replaced(token, place) => {
+                self.touch(place);
                 self.token = Some(token);
             }
         }
     }
 
     /// Goes on by an event that changed the path.
-    fn touch(&mut self, path: Path)
+    fn touch(&mut self, place: Place)
         requires { self.old.position < greatest }
-        ensures { self.new ≡ past_touched self.old path }
+        ensures { self.new ≡ past_touched self.old place }
     {
+        let (path, slot) = place.at(self.position);
         let touch = Touch::new(self.position, path);
-        self.floor = add_touch(&mut self.touches, self.floor, touch);
+        self.floor = add_touch(&mut self.touches, &mut self.index, self.floor, touch, slot);
         self.position += 1;
     }
 
@@ -259,28 +266,68 @@ impl Trail {
     }
 }
 
-/// Adds the touch, where the oldest goes if there are 4,096. The result is the floor then.
-fn add_touch(touches: &mut HeapCircularBuffer<Touch>, floor: u64, touch: Touch) -> u64
+/// The touches with their index, where they rise and are no more than 4,096. Refused where memory
+/// is refused.
+fn index_of(
+    alloc: Global,
+    listed: Vec<Touch>,
+) -> Result<(HeapCircularBuffer<Touch>, Index), AllocError>
+    requires few { length listed.items ≤ most_touches }
+    requires rising { AllPairs IsEarlier listed.items }
+    ensures touches { IfOk result (λ kept. kept.0 ≡ buffer listed.items most_touches) }
+    ensures indexed { IfOk result (λ kept. IsIndexed listed.items kept.1) }
+{
+    let mut touches = HeapCircularBuffer::with_capacity(alloc, MOST_TOUCHES)?;
+    let mut index = KeyMap::new(alloc)?;
+    for touch in listed {
+        index.insert(Slot::new(alloc, &touch.path().key(), touch.position())?);
+        touches.push_back(touch);
+    }
+    Ok((touches, index))
+}
+
+/// Adds the touch with its slot, where the oldest goes if there are 4,096. The result is the floor
+/// then.
+fn add_touch(
+    touches: &mut HeapCircularBuffer<Touch>,
+    index: &mut Index,
+    floor: u64,
+    touch: Touch,
+    slot: Slot<u64>,
+) -> u64
     requires room { touches.old.capacity ≡ most_touches }
     requires brief { All (λ older. older.position < greatest) touches.old.items }
-    requires after { touch.position < greatest }
+    requires few { length touches.old.items ≤ most_touches }
+    requires indexed { IsIndexed touches.old.items index.old }
+    requires later { All (λ older. older.position < touch.position) touches.old.items }
+    requires slot { slot ≡ (touch.path, touch.position) }
     ensures touches { let all = touches.old.items ++ touch ∷ [] in touches.new
         ≡ buffer (drop (surplus most_touches all) all) most_touches }
+    ensures indexed { IsIndexed touches.new.items index.new }
     ensures floor { let all = touches.old.items ++ touch ∷ [] in result
         ≡ above_last floor (take (surplus most_touches all) all) }
 {
     let _count = touches.len();
-    match touches.push_back(touch) {
-        None => floor,
-        Some(oldest) => oldest.position() + 1,
-    }
+    let dropped = touches.push_back(touch);
+    let floor = drop_oldest(index, floor, dropped);
+    index.insert(slot);
+    floor
 }
 
-/// One of the touches, from the position on, has a path that is the one, above it or below it.
-fn is_touched(touches: &[Touch], path: &Path, since: u64) -> bool
-    ensures { result ≡ list_any (tells since path.now) touches.now }
+/// Takes the touch that was dropped, if any, out of the index. The result is the floor then.
+fn drop_oldest(index: &mut Index, floor: u64, dropped: Option<Touch>) -> u64
+    requires { ForSome dropped (λ oldest. oldest.position < greatest) }
+    ensures index { index.new
+        ≡ option_map_or (λ oldest. forgotten index.old oldest) dropped index.old }
+    ensures floor { result ≡ option_map_or (λ oldest. oldest.position + 1) dropped floor }
 {
-    touches.iter().any(|touch| since <= touch.position() && touch.path().comparable(path))
+    match dropped {
+        None => floor,
+        Some(oldest) => {
+            forget(index, &oldest);
+            oldest.position() + 1
+        }
+    }
 }
 
 /// Parts like these are lawful.

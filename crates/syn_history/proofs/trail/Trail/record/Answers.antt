@@ -9,6 +9,6 @@ pub returns-in-Began : goal.returns-in-Began
 returns-in-Began c event e =
     let old = c.self.inside in
     began_past (past_with old.position old.floor old.touches.items old.session
-    (option_map token_of old.token)) c.in-Began.session event c.self.invariant.count
+    (option_map token_of old.token)) c.in-Began.session event c.self.invariant.0.count
     (sym c.in-Began.is ∙ e)
     ∙ ap (λ past. past_after past event) c.self.view_is
