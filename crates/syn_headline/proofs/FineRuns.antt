@@ -29,7 +29,7 @@ start_view old s = record {
   left = (s.left.1, s.left.0.1);
   right = (s.right.1, s.right.0.1);
   coordinator = (ap (option_map view_running) s.coordinator.1, s.coordinator.0.1);
-  nothing_yet = s.nothing_yet;
+  nothing_yet = (s.nothing_yet.0, s.nothing_yet.1, s.nothing_yet.2, s.nothing_yet.3);
 }
 
 module _ (old new : World) (steps : List Step) (s : IsStart old) (g : Runs old steps new) where

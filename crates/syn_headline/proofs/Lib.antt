@@ -56,3 +56,4 @@ pub mod FineRuns
 pub mod AlikeLemmas
 pub mod CarriedLemmas
 pub mod FetchedLemmas
+mod RecoveredLemmas

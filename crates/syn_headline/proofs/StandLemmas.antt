@@ -14,7 +14,7 @@ use Rattle.syn_headline.specs.Side.{Request, Reply}
 use Rattle.syn_headline.specs.SideMachine.{SideMachine, side_layout, SideTakes, answers, adds}
 use Rattle.syn_headline.specs.SideMachine.{causes_of}
 use Rattle.syn_headline.specs.Network.{Which, Left, Right, Message}
-use Rattle.syn_headline.specs.Acknowledged.{Stores}
+use Rattle.syn_headline.specs.Acknowledged.{Stores, history_of, stores_after}
 use Rattle.syn_headline.specs.Coordinator.{CoordinatorMachine, Call, Walk, Exchange, Running}
 use Rattle.syn_headline.specs.Coordinator.{archive_layout, past, refusing, making_room, Keeps}
 use Rattle.syn_headline.specs.Coordinator.{writes, cut_behind, Takes, CoordinatorTakes}
@@ -34,7 +34,7 @@ use Rattle.syn_headline.specs.World.{no_memory_to_open, Reopens, reopens, reopen
 use Rattle.syn_headline.specs.World.{reopen_is_cut, no_memory_to_reopen, full_generation}
 use Rattle.syn_headline.specs.World.{generation_of, Steps, Runs}
 use Rattle.syn_headline.specs.World as world
-use Rattle.syn_headline.specs.Headline.{StandsFor, RunsStand}
+use Rattle.syn_headline.specs.Headline.{StandsFor, RunsStand, stores_of}
 use Rattle.syn_headline.proofs.CoarseRuns as picture
 use Rattle.syn_headline.proofs.View.{view, view_goes}
 use Rattle.syn_headline.proofs.WorldLemmas.{side_goes as view_side_goes}
@@ -311,3 +311,17 @@ pub runs_stand : RunsStand
 runs_stand before old new [] e s = subst (StandsFor before) (sym e) s
 runs_stand before old new (step ∷ steps) g s =
     runs_stand before g.0 new steps g.2 (step_stands before old s step g.0 g.1)
+
+-- nothing is acknowledged yet, so that each machine stands for what was there
+pub at_start : (world : World) → world.acknowledged ≡ [] → StandsFor (stores_of world) world
+at_start world none =
+    let before = stores_of world in
+    record {
+      left =
+          sym (append-nil before.left)
+          ∙ ap (λ acks. history_of (stores_after before acks) Left) (sym none);
+      right =
+          sym (append-nil before.right)
+          ∙ ap (λ acks. history_of (stores_after before acks) Right) (sym none);
+      archive = ap (λ acks. (stores_after before acks).archive) (sym none);
+    }

@@ -36,11 +36,11 @@ pub record IsPair (stores : Stores) : Type 0 where
   pub left_begun : last_session stores.left ≤ stores.archive.last_session
   pub right_begun : last_session stores.right ≤ stores.archive.last_session
 
--- a journal that has just been opened, with nothing armed at its device
+-- a journal that has just been opened, with nothing armed at its device, and no failure counted
 abbrev pub IsJustOpened : {V W : Type 0} → Journaled V W → Type 0
 IsJustOpened machine =
     (machine.status ≡ Up) × (machine.writing ≡ None) × (machine.compacting ≡ false)
-    × (machine.arms ≡ unarmed)
+    × (machine.arms ≡ unarmed) × (machine.failures ≡ 0)
 
 -- a world that has just been opened
 pub record IsStart (world : World) : Type 0 where
@@ -49,7 +49,7 @@ pub record IsStart (world : World) : Type 0 where
   pub right : IsJustOpened world.right.journal × (world.right.staging ≡ None)
   pub coordinator : IsJustOpened world.coordinator.journal × (world.coordinator.running ≡ None)
   pub nothing_yet : (world.sent ≡ []) × (world.acknowledged ≡ []) × (world.reports ≡ [])
-      × (world.log ≡ [])
+      × (world.log ≡ []) × (world.refusals ≡ [])
 
 -- Each replacement of the run is of its session's plan, and puts what the other side held over what
 -- the archive recorded, untouched since its listing
@@ -59,6 +59,16 @@ EachReplacementIsLegal before world =
     (new : Tree) →
     world.acknowledged ≡ earlier ++ Happened side (Replaced token path since new) ∷ later →
     IsLegal world.sent world.log side (stores_after before earlier) token path since new
+
+-- And so is one that was being written as its machine stopped or its device failed, where an opening
+-- then gives it
+abbrev pub RecoveredIsLegal : Stores → World → Type 0
+RecoveredIsLegal before world =
+    let now = stores_after before world.acknowledged in
+    (side : Which) (history : History) (token : Token) (path : Path) (since : ℕ) (new : Tree) →
+    Grown (side_of world side).journal.writing (history_of now side) history →
+    history ≡ history_of now side ++ Replaced token path since new ∷ [] →
+    IsLegal world.sent world.log side now token path since new
 
 -- Each archive entry was held by both sides, whatever an opening then gives
 abbrev pub EachEntryWasHeld : Stores → World → Type 0

@@ -5,6 +5,7 @@ ghost use Rattle.syn_headline.specs.Laws.{ServesAllowed, PiecesAreUntouched, Rep
 ghost use Rattle.syn_headline.specs.Laws.{LaterAreOld, DeadAreOld, ServesByReading};
 ghost use Rattle.syn_headline.specs.Headline.{formatted, IsPair, RunsStand, OfEachRun};
 ghost use Rattle.syn_headline.specs.Headline.{EachReplacementIsLegal, EachTokenOnce};
+ghost use Rattle.syn_headline.specs.Headline.{RecoveredIsLegal};
 ghost use Rattle.syn_headline.specs.Headline.{EachEntryWasHeld, LeavesPair, LogsPlans, Owes};
 ghost use Rattle.syn_headline.specs.Headline.{CompleteSessionsSynchronize};
 ghost use Rattle.syn_headline.specs.Headline.{CompleteSessionsReconcile, ReportsItsConflicts};
@@ -28,6 +29,7 @@ pub fn run_laws()
     ensures formatted { IsPair formatted }
     ensures stands { RunsStand }
     ensures legal { OfEachRun EachReplacementIsLegal }
+    ensures recovered { OfEachRun RecoveredIsLegal }
     ensures tokens { OfEachRun EachTokenOnce }
     ensures archive { OfEachRun EachEntryWasHeld }
     ensures pair { OfEachRun LeavesPair }

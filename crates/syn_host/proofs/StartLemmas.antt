@@ -145,7 +145,7 @@ module _ {D : Type 0} (disk : Ghosts D) (pair : ℕ) (device : D) (history : His
           idle = λ _. refl;
           tries = λ told writing. absurd (none_not_some told writing);
         };
-        fresh = (refl, refl, refl, refl);
+        fresh = (refl, refl, refl, refl, refl);
         unstaged = refl;
         is = record {
           value = can.is_disk.value;
@@ -240,7 +240,7 @@ module _ {D : Type 0} (disk : Ghosts D) (pair : ℕ) (device : D) (kept : KeptAr
     coordinator_opens coordinator is_new = record {
       journal = journal;
       stands = is_new pair journal is_machine refl;
-      fresh = (refl, refl, refl, refl);
+      fresh = (refl, refl, refl, refl, refl);
       is = record {
         value = can.is_disk.value;
         generation = can.is_disk.generation;

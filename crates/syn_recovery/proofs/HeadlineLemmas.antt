@@ -11,14 +11,17 @@ use Rattle.syn_headline.specs.Network.{Which, Left, Right}
 use Rattle.syn_headline.specs.Acknowledged.{Stores, history_of, stores_after, Grown, ArchiveGrown}
 use Rattle.syn_headline.specs.World.{World, side_of}
 use Rattle.syn_headline.specs.Headline.{stores_of, OfEachRun, EachReplacementIsLegal}
-use Rattle.syn_headline.specs.Headline.{EachEntryWasHeld, LeavesPair}
+use Rattle.syn_headline.specs.Headline.{EachEntryWasHeld, LeavesPair, LogsPlans, Owes}
 use Rattle.syn_headline.specs.Headline.{CompleteSessionsSynchronize, CompleteSessionsReconcile}
+use Rattle.syn_headline.specs.Headline.{RecoveredIsLegal, EachTokenOnce, ReportsItsConflicts}
+use Rattle.syn_headline.specs.Headline.{CountsItsItems, CarriedIsMarked, HeldIsMarked}
 use Rattle.syn_headline.specs.Headline.{RunsStand, StandsFor}
 use Rattle.syn_recovery.specs.Meaning.{Keeping, IsDiskOf, IsOf, MayBeOf, as_kept, with_record}
 use Rattle.syn_recovery.specs.Meaning.{compacted}
 use Rattle.syn_recovery.specs.Machines.{of_side, of_archive}
 use Rattle.syn_recovery.specs.Headline.{Disks, disk_of, DisksStand, IsOpenedFrom, DisksAreStart}
 use Rattle.syn_recovery.specs.Headline.{Headline}
+use Rattle.syn_headline.proofs.StandLemmas.{at_start}
 
 -- Before the run
 
@@ -81,10 +84,10 @@ module _ (pair : ℕ) (disks : Disks) (stores : Stores) (d : DisksStand pair dis
     pair_is = refl;
     start = record {
       pair = d.is_pair;
-      left = ((refl, refl, refl, refl), refl);
-      right = ((refl, refl, refl, refl), refl);
-      coordinator = ((refl, refl, refl, refl), refl);
-      nothing_yet = (refl, refl, refl, refl);
+      left = ((refl, refl, refl, refl, refl), refl);
+      right = ((refl, refl, refl, refl, refl), refl);
+      coordinator = ((refl, refl, refl, refl, refl), refl);
+      nothing_yet = (refl, refl, refl, refl, refl);
     };
     side = each_side;
     archive = is_of (of_archive pair) disks.archive stores.archive d.archive;
@@ -167,28 +170,28 @@ archive_grown pair machine old new is (inr (added, writing, can, more)) =
     subst (λ w. ArchiveGrown w old new) (sym writing)
     (inr (subst (λ a. CanKeep a added) is can, more ∙ ap (λ a. after_kept a added) is))
 
--- nothing is acknowledged yet, so that each machine stands for what was there
-at_start : (world : World) → world.acknowledged ≡ [] → StandsFor (stores_of world) world
-at_start world none =
-    let before = stores_of world in
-    record {
-      left =
-          sym (append-nil before.left)
-          ∙ ap (λ acks. history_of (stores_after before acks) Left) (sym none);
-      right =
-          sym (append-nil before.right)
-          ∙ ap (λ acks. history_of (stores_after before acks) Right) (sym none);
-      archive = ap (λ acks. (stores_after before acks).archive) (sym none);
-    }
+-- what holds of every run, law by law
+pub record Laws : Type 0 where
+  pub stand : RunsStand
+  pub legal : OfEachRun EachReplacementIsLegal
+  pub recovered : OfEachRun RecoveredIsLegal
+  pub tokens : OfEachRun EachTokenOnce
+  pub held : OfEachRun EachEntryWasHeld
+  pub again : OfEachRun LeavesPair
+  pub logged : OfEachRun LogsPlans
+  pub owe : OfEachRun Owes
+  pub synchronized : OfEachRun CompleteSessionsSynchronize
+  pub reconciled : OfEachRun CompleteSessionsReconcile
+  pub conflicts : OfEachRun ReportsItsConflicts
+  pub counts : OfEachRun CountsItsItems
+  pub marked : OfEachRun CarriedIsMarked
+  pub kept : OfEachRun HeldIsMarked
 
-module _ (stand : RunsStand) (legal : OfEachRun EachReplacementIsLegal)
-    (held : OfEachRun EachEntryWasHeld) (again : OfEachRun LeavesPair)
-    (synchronized : OfEachRun CompleteSessionsSynchronize)
-    (reconciled : OfEachRun CompleteSessionsReconcile) where
+module _ (laws : Laws) where
   pub headline : Headline
   headline pair disks later old new steps opened runs left =
       let before = stores_of old in
-      let stands = stand before old new steps runs (at_start old opened.start.nothing_yet.1) in
+      let stands = laws.stand before old new steps runs (at_start old opened.start.nothing_yet.1) in
       let of_left = recovers (of_side new.pair) new.left.journal later.left (left.side Left) in
       let of_right = recovers (of_side new.pair) new.right.journal later.right (left.side Right) in
       let of_both = recovers
@@ -213,7 +216,7 @@ module _ (stand : RunsStand) (legal : OfEachRun EachReplacementIsLegal)
                 ];
             archive = of_both.1;
             is_pair =
-                again old new steps opened.start runs of_left.0 of_right.0 of_both.0 left_grown
+                laws.again old new steps opened.start runs of_left.0 of_right.0 of_both.0 left_grown
                 right_grown grown;
           };
           side =
@@ -224,8 +227,16 @@ module _ (stand : RunsStand) (legal : OfEachRun EachReplacementIsLegal)
               ];
           archive = grown;
         };
-        replaced = legal old new steps opened.start runs;
-        archived = held old new steps opened.start runs;
-        synchronized = synchronized old new steps opened.start runs;
-        reconciled = reconciled old new steps opened.start runs;
+        replaced = laws.legal old new steps opened.start runs;
+        given_back = laws.recovered old new steps opened.start runs;
+        once = laws.tokens old new steps opened.start runs;
+        archived = laws.held old new steps opened.start runs;
+        planned = laws.logged old new steps opened.start runs;
+        owes = laws.owe old new steps opened.start runs;
+        synchronized = laws.synchronized old new steps opened.start runs;
+        reconciled = laws.reconciled old new steps opened.start runs;
+        conflicts = laws.conflicts old new steps opened.start runs;
+        counts = laws.counts old new steps opened.start runs;
+        carried = laws.marked old new steps opened.start runs;
+        held = laws.kept old new steps opened.start runs;
       }

@@ -5,8 +5,11 @@ use Rattle.syn_headline.specs.Network.{Which, Left, Right}
 use Rattle.syn_headline.specs.Acknowledged.{Stores, history_of, stores_after, Grown, ArchiveGrown}
 use Rattle.syn_headline.specs.World.{World, Step, Runs, side_of}
 use Rattle.syn_headline.specs.Headline.{stores_of, IsPair, IsStart}
-use Rattle.syn_headline.specs.Headline.{EachReplacementIsLegal, EachEntryWasHeld}
+use Rattle.syn_headline.specs.Headline.{EachReplacementIsLegal, RecoveredIsLegal, EachTokenOnce}
+use Rattle.syn_headline.specs.Headline.{EachEntryWasHeld, LogsPlans, Owes}
 use Rattle.syn_headline.specs.Headline.{CompleteSessionsSynchronize, CompleteSessionsReconcile}
+use Rattle.syn_headline.specs.Headline.{ReportsItsConflicts, CountsItsItems, CarriedIsMarked}
+use Rattle.syn_headline.specs.Headline.{HeldIsMarked}
 use Rattle.syn_recovery.specs.Meaning.{IsDiskOf, IsOf, MayBeOf}
 use Rattle.syn_recovery.specs.Machines.{of_side, of_archive}
 
@@ -66,9 +69,17 @@ pub record IsCrashSafe (before : Stores) (world : World) (disks : Disks) : Type 
   pub now : Stores
   pub recovered : IsRecovered before world disks now
   pub replaced : EachReplacementIsLegal before world
+  pub given_back : RecoveredIsLegal before world
+  pub once : EachTokenOnce before world
   pub archived : EachEntryWasHeld before world
+  pub planned : LogsPlans before world
+  pub owes : Owes before world
   pub synchronized : CompleteSessionsSynchronize before world
   pub reconciled : CompleteSessionsReconcile before world
+  pub conflicts : ReportsItsConflicts before world
+  pub counts : CountsItsItems before world
+  pub carried : CarriedIsMarked before world
+  pub held : HeldIsMarked before world
 
 -- For every list of steps from three disks, with stops and failing devices at any call of any
 -- machine

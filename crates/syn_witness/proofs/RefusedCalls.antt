@@ -109,10 +109,10 @@ unfolding full_world with_room edited_world
 full_is_compacted = (
   record {
     pair = formatted_is_pair;
-    left = ((refl, refl, refl, refl), refl);
-    right = ((refl, refl, refl, refl), refl);
-    coordinator = ((refl, refl, refl, refl), refl);
-    nothing_yet = (refl, refl, refl, refl);
+    left = ((refl, refl, refl, refl, refl), refl);
+    right = ((refl, refl, refl, refl, refl), refl);
+    coordinator = ((refl, refl, refl, refl, refl), refl);
+    nothing_yet = (refl, refl, refl, refl, refl);
   },
   record {
     new = edited_world;

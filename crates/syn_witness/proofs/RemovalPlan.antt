@@ -101,10 +101,10 @@ kept_is_start = record {
     left_begun = omega arith;
     right_begun = omega arith;
   };
-  left = ((refl, refl, refl, refl), refl);
-  right = ((refl, refl, refl, refl), refl);
-  coordinator = ((refl, refl, refl, refl), refl);
-  nothing_yet = (refl, refl, refl, refl);
+  left = ((refl, refl, refl, refl, refl), refl);
+  right = ((refl, refl, refl, refl, refl), refl);
+  coordinator = ((refl, refl, refl, refl, refl), refl);
+  nothing_yet = (refl, refl, refl, refl, refl);
 }
 
 pub remove_allowed : IsAllowed left_before (Edited 1 remove_a)

@@ -359,10 +359,10 @@ pub room_is_made : RoomIsMade
 room_is_made = (
   record {
     pair = formatted_is_pair;
-    left = ((refl, refl, refl, refl), refl);
-    right = ((refl, refl, refl, refl), refl);
-    coordinator = ((refl, refl, refl, refl), refl);
-    nothing_yet = (refl, refl, refl, refl);
+    left = ((refl, refl, refl, refl, refl), refl);
+    right = ((refl, refl, refl, refl, refl), refl);
+    coordinator = ((refl, refl, refl, refl, refl), refl);
+    nothing_yet = (refl, refl, refl, refl, refl);
   },
   record {
     new = marked;

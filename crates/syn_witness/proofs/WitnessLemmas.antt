@@ -29,10 +29,10 @@ use Rattle.syn_witness.proofs.WitnessSteps.{starts_so, runs_with, up_not_down}
 pub opened_is_start : OpenedIsStart
 opened_is_start = record {
   pair = formatted_is_pair;
-  left = ((refl, refl, refl, refl), refl);
-  right = ((refl, refl, refl, refl), refl);
-  coordinator = ((refl, refl, refl, refl), refl);
-  nothing_yet = (refl, refl, refl, refl);
+  left = ((refl, refl, refl, refl, refl), refl);
+  right = ((refl, refl, refl, refl, refl), refl);
+  coordinator = ((refl, refl, refl, refl, refl), refl);
+  nothing_yet = (refl, refl, refl, refl, refl);
 }
 
 pub new_room_is : NewRoomIs

@@ -106,7 +106,7 @@ module _ {D : Type 0} (disk : Ghosts D) (pair : ℕ) (disks : Disks D) (stores :
             left = (on_left.fresh, on_left.unstaged);
             right = (on_right.fresh, on_right.unstaged);
             coordinator = (on_archive.fresh, refl);
-            nothing_yet = (refl, refl, refl, refl);
+            nothing_yet = (refl, refl, refl, refl, refl);
           };
           side = side_is;
           archive = on_archive.is;

@@ -2,6 +2,7 @@ use Rattle.syn_headline.proofs.StandLemmas.{runs_stand}
 use Rattle.syn_headline.proofs.FormattedLemmas.{formatted_is_pair}
 use Rattle.syn_headline.proofs.FineRuns.{replace_legally, use_tokens_once, hold_archive, leave_pair}
 use Rattle.syn_headline.proofs.FineRuns.{log_plans, owe}
+use Rattle.syn_headline.proofs.RecoveredLemmas.{recover_legally}
 use Rattle.syn_headline.proofs.run_laws.Goals as goal
 
 pub returns-clause-stands : goal.returns-clause-stands
@@ -12,6 +13,9 @@ returns-clause-formatted c = formatted_is_pair
 
 pub returns-clause-legal : goal.returns-clause-legal
 returns-clause-legal c = replace_legally
+
+pub returns-clause-recovered : goal.returns-clause-recovered
+returns-clause-recovered c = recover_legally replace_legally runs_stand
 
 pub returns-clause-tokens : goal.returns-clause-tokens
 returns-clause-tokens c = use_tokens_once

@@ -5,7 +5,19 @@ pub returns-clause-start : goal.returns-clause-start
 returns-clause-start c = disks_are_start
 
 pub returns-clause-crash_safe : goal.returns-clause-crash_safe
-returns-clause-crash_safe c =
-    headline c.run_laws.ensures.stands c.run_laws.ensures.legal c.run_laws.ensures.archive
-    c.run_laws.ensures.pair
-    c.session_laws.ensures.synchronized c.session_laws.ensures.reconciled
+returns-clause-crash_safe c = headline (record {
+  stand = c.run_laws.ensures.stands;
+  legal = c.run_laws.ensures.legal;
+  recovered = c.run_laws.ensures.recovered;
+  tokens = c.run_laws.ensures.tokens;
+  held = c.run_laws.ensures.archive;
+  again = c.run_laws.ensures.pair;
+  logged = c.run_laws.ensures.logged;
+  owe = c.run_laws.ensures.owe;
+  synchronized = c.session_laws.ensures.synchronized;
+  reconciled = c.session_laws.ensures.reconciled;
+  conflicts = c.session_laws.ensures.conflicts;
+  counts = c.session_laws.ensures.counts;
+  marked = c.session_laws.ensures.marked;
+  kept = c.session_laws.ensures.held;
+})
