@@ -178,6 +178,15 @@ module _ {D : Type 0} {disk : Ghosts D} (pair : ℕ) (old new : Replica D disk) 
   abbrev arms_now : Arms
   arms_now = armed_at (disk.arms (disk_of new))
 
+  abbrev failed_before : ℕ
+  failed_before = disk.failures (disk_of old)
+
+  abbrev failed_after : ℕ
+  failed_after = disk.failures (disk_of new)
+
+  same_count : IsUnchanged old new → failed_after ≡ failed_before
+  same_count same = ap (λ j. disk.failures (journal.disk_of j)) same.journal
+
   -- the machine with another staging, where the replica stays
   stays_of : (staged : Option Staging) → staged ≡ staging_of after → IsUnchanged old new
       → StandsAs machine.journal.status new value
@@ -229,7 +238,7 @@ module _ {D : Type 0} {disk : Ghosts D} (pair : ℕ) (old new : Replica D disk) 
         → served.side ≡ side_of (value ++ event ∷ []) agent → staging_of after ≡ staging_of agent
         → Adds old new value event
         → CallsMeet (disk.arms (disk_of old)) (disk.arms (disk_of new)) 4 Up 0
-        → Takes pair new after machine session request served.reply
+        → Takes pair old new after machine session request served.reply
     added served event serves so staged adding (calls.goes_on runs meets) =
         let after_it = with_record (side_layout pair) machine.journal event arms_now in
         record {
@@ -257,6 +266,7 @@ module _ {D : Type 0} {disk : Ghosts D} (pair : ℕ) (old new : Replica D disk) 
           });
           added = λ told same. sent event told adding.sends.tried (one_same event told same);
           writing = λ told under_way. inl under_way;
+          counts = omega (arith, adding.failures);
         }
     added served event serves so staged adding (calls.goes_down stopped meets) =
         let after_it = writing_it event Down unarmed 0 in
@@ -280,6 +290,7 @@ module _ {D : Type 0} {disk : Ghosts D} (pair : ℕ) (old new : Replica D disk) 
           added = λ told same. absurd (none_same told same);
           writing = λ told under_way. inr (sent event told adding.sends.tried
               (some_same event told under_way));
+          counts = omega (arith, adding.failures);
         }
 
     -- before the event or with it, of a machine that was writing it
@@ -300,7 +311,7 @@ module _ {D : Type 0} {disk : Ghosts D} (pair : ℕ) (old new : Replica D disk) 
         → served.side ≡ side_of (value ++ event ∷ []) agent → staging_of after ≡ staging_of agent
         → BreaksOff old new value event
         → CallsMeet (disk.arms (disk_of old)) (disk.arms (disk_of new)) 4 Halted 1
-        → Takes pair new after machine session request (Refused Device)
+        → Takes pair old new after machine session request (Refused Device)
     broke served event stands serves so staged off (calls.goes_on runs meets) =
         let after_it = writing_it event Halted arms_now 1 in
         record {
@@ -330,6 +341,7 @@ module _ {D : Type 0} {disk : Ghosts D} (pair : ℕ) (old new : Replica D disk) 
           added = λ told same. absurd (none_same told same);
           writing = λ told under_way. inr (sent event told off.sends.tried
               (some_same event told under_way));
+          counts = omega (arith, off.failures);
         }
     broke served event stands serves so staged off (calls.goes_down stopped meets) =
         let after_it = writing_it event Down unarmed 1 in
@@ -350,11 +362,12 @@ module _ {D : Type 0} {disk : Ghosts D} (pair : ℕ) (old new : Replica D disk) 
           added = λ told same. absurd (none_same told same);
           writing = λ told under_way. inr (sent event told off.sends.tried
               (some_same event told under_way));
+          counts = omega (arith, off.failures);
         }
 
     takes_up : (reply : Reply) → Stands old value
         → Answers old new agent after value session request reply
-        → Takes pair new after machine session request reply
+        → Takes pair old new after machine session request reply
     takes_up _ stands (keeps served serves so same still) = record {
       next = record machine { staging = served.side.staging };
       events = [];
@@ -368,6 +381,7 @@ module _ {D : Type 0} {disk : Ghosts D} (pair : ℕ) (old new : Replica D disk) 
           (subst (λ s. StandsAs s new value) (sym up) still));
       added = λ told same. absurd (none_same told same);
       writing = λ told under_way. inl under_way;
+      counts = omega (arith, same_count same);
     }
     takes_up _ stands (adds served event serves so staged adding) =
         added served event serves so staged adding
@@ -380,7 +394,7 @@ module _ {D : Type 0} {disk : Ghosts D} (pair : ℕ) (old new : Replica D disk) 
   takes_halted : (reply : Reply) → machine.journal.status ≡ Halted → IsHalted old
       → Remembers old value
       → ServesHalted (side_of value agent) session request (answer (side_of value after) reply)
-      → IsUnchanged old new → Takes pair new after machine session request reply
+      → IsUnchanged old new → Takes pair old new after machine session request reply
   takes_halted reply at halted remembers serves same = record {
     next = record machine { staging = staging_of after };
     events = [];
@@ -402,6 +416,7 @@ module _ {D : Type 0} {disk : Ghosts D} (pair : ℕ) (old new : Replica D disk) 
         )));
     added = λ told same'. absurd (none_same told same');
     writing = λ told under_way. inl under_way;
+    counts = omega (arith, same_count same);
   }
 
   pub takes_so : (reply : Reply)
@@ -409,11 +424,11 @@ module _ {D : Type 0} {disk : Ghosts D} (pair : ℕ) (old new : Replica D disk) 
       → (IsHalted old
       → ServesHalted (side_of value agent) session request (answer (side_of value after) reply))
       → (IsHalted old → IsUnchanged old new)
-      → Takes pair new after machine session request reply
+      → Takes pair old new after machine session request reply
   takes_so reply answers halted unchanged = by machine.journal.status refl is.stands
     where
       by : (status : Status) → machine.journal.status ≡ status → StandsAs status old value
-          → Takes pair new after machine session request reply
+          → Takes pair old new after machine session request reply
       by Up at stands = takes_up at reply stands (answers stands)
       by Halted at stands = takes_halted reply at stands.0 stands.1 (halted stands.0)
           (unchanged stands.0)

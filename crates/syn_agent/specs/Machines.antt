@@ -11,7 +11,7 @@ use Rattle.syn_headline.specs.SideMachine.{SideMachine, SideTakes}
 use Rattle.syn_model.specs.Event.{Event}
 use Rattle.syn_model.specs.History.{History, standing_of}
 use Rattle.syn_model.specs.Spelling.{event_spelling}
-use Rattle.syn_recovery.specs.Calls.{armed_at}
+use Rattle.syn_recovery.specs.Calls.{CountsNoMore, armed_at}
 use Rattle.syn_recovery.specs.Machines.{of_side}
 use Rattle.syn_recovery.specs.Meaning.{MayBeOf}
 use Rattle.syn_replica.specs.Disks.{DiskCompacted, DiskKeeps, event_size}
@@ -84,8 +84,8 @@ heard _ reply = Some reply
 -- A step of the world's side, with the machine after it, what it says and the events that it adds.
 -- An event that it adds, or was writing as its device failed or stopped, is what was sent to the
 -- disk last
-pub record Takes {D : Type 0} {disk : Ghosts D} (pair : ℕ) (new : Replica D disk) (after : Agent)
-    (machine : SideMachine) (session : ℕ) (request : Request) (reply : Reply) : Type 0 where
+pub record Takes {D : Type 0} {disk : Ghosts D} (pair : ℕ) (old new : Replica D disk)
+    (after : Agent) (machine : SideMachine) (session : ℕ) (request : Request) (reply : Reply) : Type 0 where
   pub next : SideMachine
   pub events : List Event
   pub takes : SideTakes pair machine session request next (heard next.journal.status reply) events
@@ -95,6 +95,8 @@ pub record Takes {D : Type 0} {disk : Ghosts D} (pair : ℕ) (new : Replica D di
   pub writing : (event : Event) → next.journal.writing ≡ Some event →
       (machine.journal.writing ≡ Some event)
       ⊎ (tried_shown new ≡ Some (event_spelling event))
+  pub counts : CountsNoMore (disk.failures (disk_of old)) (disk.failures (disk_of new))
+      machine.journal next.journal
 
 -- What a call of a replica leaves on its disk may be the machine's that was making it. It is as it
 -- was kept, or with the event that was being written

@@ -35,7 +35,7 @@ impl Agent {
     ) -> Reply
         // It is a step of the world's side, and the replica is the machine's behind it.
         ensures takes { (pair : ℕ) (machine : SideMachine) → IsOf pair replica.old self.old machine
-            → Takes pair replica.new self.new machine session (request_of request)
+            → Takes pair replica.old replica.new self.new machine session (request_of request)
             (reply_of result) }
 
         // What it does to the replica, for every history that this stands for.

@@ -24,7 +24,7 @@ use Rattle.syn_model.specs.Event.{Event}
 use Rattle.syn_model.specs.Spelling.{event_spelling}
 use Rattle.syn_replica.specs.Replica.{IsHalted, disk_of, position_shown, tried_shown}
 use Rattle.syn_replica.specs.declared.replica.Replica.{Replica}
-use Rattle.syn_host.proofs.EditLemmas.{side_of}
+use Rattle.syn_host.proofs.EditLemmas.{failed_by, side_of}
 use Rattle.syn_host.proofs.SideLemmas.{halted_not_down, halted_not_up, none_not_some, not_down}
 use Rattle.syn_host.proofs.SideLemmas.{position_is, state, up_not_down}
 
@@ -107,7 +107,7 @@ module _ {D : Type 0} {disk : Ghosts D} (pair : ℕ) (old new : Replica D disk)
     (agent after : Agent) (machine : SideMachine) (session : ℕ) (request : Request) (said : Said)
     (runs : RunsAs pair (side_of old agent) machine)
     (unchanged : IsHalted old → IsUnchanged old new) (lawful : IsLawfulReply (reply_of said))
-    (takes_so : Takes pair new after machine session request (reply_of said)) where
+    (takes_so : Takes pair old new after machine session request (reply_of said)) where
   abbrev next : SideMachine
   next = takes_so.next
 
@@ -132,9 +132,9 @@ module _ {D : Type 0} {disk : Ghosts D} (pair : ℕ) (old new : Replica D disk)
   pub answer_cut : (position : ℕ) → position ≡ length machine.journal.value
       → (call : SideCall D disk) → Settles (side_of new after) position Nothing call
       → is_stopped (disk.arms (disk_of new)) ≡ true
-      → AnswersSo pair machine session request (record { call = call; reply = None })
+      → AnswersSo pair machine (failed_by old) session request (record { call = call; reply = None })
   answer_cut position position_now call settles stopped = elim takes_so.leaves
-      as (λ _. AnswersSo pair machine session request (record { call = call; reply = None })) [
+      as (λ _. AnswersSo pair machine (failed_by old) session request (record { call = call; reply = None })) [
         | goes_on goes ↦ absurd (false≢true (sym goes.runs ∙ stopped))
         | stops rests ↦
             let down = becomes.down rests.down in
@@ -156,6 +156,7 @@ module _ {D : Type 0} {disk : Ghosts D} (pair : ℕ) (old new : Replica D disk)
                 tries = tries;
                 leaves = rests.left;
               });
+              counts = omega (arith, settles.counted, takes_so.counts);
             }
       ]
 
@@ -186,9 +187,9 @@ module _ {D : Type 0} {disk : Ghosts D} (pair : ℕ) (old new : Replica D disk)
       → (position ≡ position_shown new → Settles (side_of new after) position Nothing call)
       → (position ≢ position_shown new → SettlesAdded (side_of new after) position call)
       → is_stopped (disk.arms (disk_of new)) ≡ false
-      → AnswersSo pair machine session request (record { call = call; reply = Some said })
+      → AnswersSo pair machine (failed_by old) session request (record { call = call; reply = Some said })
   answer_goes position position_now call same added goes = elim takes_so.leaves
-      as (λ _. AnswersSo pair machine session request
+      as (λ _. AnswersSo pair machine (failed_by old) session request
       (record { call = call; reply = Some said })) [
         | stops rests ↦ absurd (false≢true (sym goes ∙ rests.stopped))
         | goes_on is ↦
@@ -199,11 +200,12 @@ module _ {D : Type 0} {disk : Ghosts D} (pair : ℕ) (old new : Replica D disk)
             (subst (λ r. SideTakes pair machine session request takes_so.next r
             takes_so.events) (says takes_so.next.journal.status other) takes_so.takes) in
             elim (becomes.either other)
-            as (λ _. AnswersSo pair machine session request
+            as (λ _. AnswersSo pair machine (failed_by old) session request
             (record { call = call; reply = Some said })) [
               | inl stays ↦
-                  let behind = (same (position_now
-                  ∙ (ap length (sym stays.1) ∙ sym shown))).goes_on goes in
+                  let settled = same (position_now
+                  ∙ (ap length (sym stays.1) ∙ sym shown)) in
+                  let behind = settled.goes_on goes in
                   record {
                     next = takes_so.next;
                     events = takes_so.events;
@@ -213,11 +215,12 @@ module _ {D : Type 0} {disk : Ghosts D} (pair : ℕ) (old new : Replica D disk)
                         stays.0;
                     lawful = lawful;
                     is = behind.1 pair takes_so.next now;
+                    counts = omega (arith, settled.counted, takes_so.counts);
                   }
               | inr grown ↦
-                  let behind = (added (λ is. one_longer machine.journal.value grown.0
-                  (ap length (sym grown.2) ∙ (sym shown ∙ (sym is ∙ position_now))))).goes_on
-                  goes grown.0 (takes_so.added grown.0 grown.1) in
+                  let settled = added (λ is. one_longer machine.journal.value grown.0
+                  (ap length (sym grown.2) ∙ (sym shown ∙ (sym is ∙ position_now)))) in
+                  let behind = settled.goes_on goes grown.0 (takes_so.added grown.0 grown.1) in
                   record {
                     next = takes_so.next;
                     events = takes_so.events;
@@ -227,6 +230,7 @@ module _ {D : Type 0} {disk : Ghosts D} (pair : ℕ) (old new : Replica D disk)
                         behind.1;
                     lawful = lawful;
                     is = behind.2 pair takes_so.next grown.3 now;
+                    counts = omega (arith, settled.counted, takes_so.counts);
                   }
             ]
       ]

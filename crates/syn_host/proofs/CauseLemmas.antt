@@ -1,10 +1,13 @@
 -- Causes of refusals, in their order.
 use Rattle.std.proofs.Common.{◌≡◌, ◌≢◌, ◌⊎◌, ◌∙◌, ◌+◌, ◌-◌, ◌≤◌, ℕ, suc, Bool, true, false, not}
 use Rattle.std.proofs.Common.{List, [], ◌∷◌, ◌++◌, Option, Some, None, ap, arith, inl, inr, refl}
-use Rattle.std.proofs.Common.{sym}
+use Rattle.std.proofs.Common.{subst, sym, ◌<◌}
 use Rattle.std.proofs.lemmas.Bool.{eqb-true, false≢true}
 use Rattle.std.proofs.lemmas.Bool.Decides.{leb_tells}
 use Rattle.std.specs.Prelude.{◌||◌, ◌==◌, nat_le, nat_lt, length}
+use Rattle.syn_archive.specs.Refusals as archives
+use Rattle.syn_archive.specs.declared.error.ArchiveError.{ArchiveError}
+use Rattle.syn_archive.specs.declared.error.ArchiveError.TheVariants as errors
 use Rattle.syn_disk.specs.Arms.{Arms}
 use Rattle.syn_disk.specs.Calls.{MakesAtLeast}
 use Rattle.syn_headline.specs.SideMachine.{SideMachine, causes_of}
@@ -17,7 +20,8 @@ use Rattle.syn_model.specs.History.{History, event_causes}
 use Rattle.syn_model.specs.Refusal.{Refusal, Cause, first_cause, number}
 use Rattle.syn_model.specs.Refusal as why
 use Rattle.syn_model.specs.Spelling.{event_spelling}
-use Rattle.syn_replica.specs.Refusals.{AfterReads, IsOneOf, MakesIfDevice, checkpoint_refusals}
+use Rattle.syn_replica.specs.Refusals.{AfterReads, CountsFailures, IsOneOf, MakesIfDevice}
+use Rattle.syn_replica.specs.Refusals.{checkpoint_refusals}
 use Rattle.syn_replica.specs.Refusals.{outside_refusals}
 use Rattle.syn_standing.specs.Refusals.{refusal_of}
 use Rattle.syn_replica.specs.Steps.{add_refusal, room_causes}
@@ -30,7 +34,7 @@ use Rattle.syn_history.specs.declared.error.HistoryError.TheVariants as history
 use Rattle.syn_tree.specs.Refusals.{refusal_of as of_tree}
 use Rattle.syn_tree.specs.declared.error.TreeError.{TreeError}
 use Rattle.syn_tree.specs.declared.error.TreeError.TheVariants as tree
-use Rattle.syn_agent.proofs.CauseLemmas.{none_is_no, or_cases, outside, rooms}
+use Rattle.syn_agent.proofs.CauseLemmas.{device_is, none_is_no, or_cases, outside, rooms}
 use Rattle.syn_agent.proofs.ReadingLemmas.{halted_number}
 use Rattle.syn_replica.proofs.RoomLemmas.{spelled_long}
 use Rattle.syn_standing.proofs.CauseLemmas.{first_skips, first_stays}
@@ -65,6 +69,29 @@ pub reads_made : (e : ReplicaError) (least : ℕ) (old new : Arms) → refusal_o
     → AfterReads least e old new → MakesAtLeast least old new
 reads_made (Journal journal.Device) least old new other calls = absurd (other refl)
 reads_made e least old new other calls = calls
+
+-- a call of the disk failed exactly where the device is the cause
+pub has_failed : (e : ReplicaError) (old new : ℕ) → refusal_of e ≡ why.Device
+    → CountsFailures e old new → old < new
+has_failed e old new device counts =
+    subst (λ e. CountsFailures e old new) (device_is e device) counts
+
+pub none_failed : (e : ReplicaError) (old new : ℕ) → refusal_of e ≢ why.Device
+    → CountsFailures e old new → new ≡ old
+none_failed (Journal journal.Device) old new other counts = absurd (other refl)
+none_failed e old new other counts = counts
+
+-- and so of an archive's
+pub archive_failed : (e : ArchiveError) (old new : ℕ) → archives.refusal_of e ≡ why.Device
+    → archives.CountsFailures e old new → old < new
+archive_failed errors.Device old new device counts = counts
+archive_failed e old new device counts =
+    absurd (let k : archives.refusal_of e ≡ why.Device = device in cc)
+
+pub archive_did_not : (e : ArchiveError) (old new : ℕ) → archives.refusal_of e ≢ why.Device
+    → archives.CountsFailures e old new → new ≡ old
+archive_did_not errors.Device old new other counts = absurd (other refl)
+archive_did_not e old new other counts = counts
 
 pub memory_not_device : why.Memory ≢ why.Device
 memory_not_device e = cc

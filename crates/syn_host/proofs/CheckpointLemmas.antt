@@ -17,7 +17,8 @@ use Rattle.syn_headline.specs.World.{full_generation}
 use Rattle.syn_host.specs.Outcomes.{Acknowledges, refused_in}
 use Rattle.syn_host.specs.SideSteps.{Checkpoints, Journal, causes_at, checkpoints, refused_by}
 use Rattle.syn_host.specs.SideSteps.{refuses}
-use Rattle.syn_host.specs.Sides.{CheckpointsSo, IsHost, IsRefused, RunsAs, Settles, Stops}
+use Rattle.syn_host.specs.Sides.{CheckpointsSo, HasCounted, IsHost, IsRefused, RunsAs, Settles}
+use Rattle.syn_host.specs.Sides.{Stops}
 use Rattle.syn_host.specs.declared.outcome.Outcome.{Outcome}
 use Rattle.syn_host.specs.declared.outcome.Outcome.TheVariants.{Nothing}
 use Rattle.syn_host.specs.declared.side.SideCall.{SideCall}
@@ -40,7 +41,7 @@ use Rattle.syn_replica.specs.Replica.{IsHalted, KeepsOrCompacts, KeepsReadings, 
 use Rattle.syn_replica.specs.Replica.{disk_of, generation_shown, journal_of, left_shown, pair_of}
 use Rattle.syn_replica.specs.Replica.{standing_shown, tried_shown}
 use Rattle.syn_replica.specs.declared.replica.Replica.{Replica}
-use Rattle.syn_host.proofs.EditLemmas.{side_of, stays}
+use Rattle.syn_host.proofs.EditLemmas.{counts_still, failed_by, side_of, stays}
 use Rattle.syn_host.proofs.SideLemmas.{halted_not_up, none_not_some, not_down, remembers}
 use Rattle.syn_host.proofs.SideLemmas.{still_staged}
 use Rattle.syn_recovery.proofs.DiskLemmas.{behind_image}
@@ -111,10 +112,11 @@ module _ {D : Type 0} {disk : Ghosts D} (pair : ℕ) (old new : Replica D disk) 
   met status arms failed = subst (λ a. Meets a 6 status arms failed) (sym runs.is.armed)
 
   module _ (stops : is_stopped (disk.arms (disk_of new)) ≡ true
-      → Stops new_side position (tried_shown new) call) where
-    stopped_so : (failed : ℕ) → is_stopped (disk.arms (disk_of new)) ≡ true
-        → Meets machine.journal.arms 6 Down unarmed failed → CheckpointsSo pair machine call
-    stopped_so failed stopped meets =
+      → Stops new_side position (tried_shown new) call) (counted : HasCounted new_side call) where
+    stopped_so : (failed : ℕ) → failed + failed_by old ≤ failed_by new
+        → is_stopped (disk.arms (disk_of new)) ≡ true
+        → Meets machine.journal.arms 6 Down unarmed failed → CheckpointsSo pair machine (failed_by old) call
+    stopped_so failed few stopped meets =
         let behind = stops stopped in
         let next = with_journal machine (under_way Down unarmed failed) in
         record {
@@ -133,6 +135,7 @@ module _ {D : Type 0} {disk : Ghosts D} (pair : ℕ) (old new : Replica D disk) 
                 absurd (none_not_some told (sym (runs.idle up) ∙ writing));
             leaves = leaves Down unarmed failed;
           });
+          counts = omega (arith, counted, few);
         }
 
   -- the image is written
@@ -140,7 +143,8 @@ module _ {D : Type 0} {disk : Ghosts D} (pair : ℕ) (old new : Replica D disk) 
       (is_up : (next : SideMachine) → IsUpAs pair new agent next → IsOf pair new agent next)
       (stands : Stands new value) (numbered : generation_shown new ≡ generation_shown old + 1)
       (alone : journal.Stands (journal_of new)
-      (image_alone (image_spelling (pair_of old) (standing_shown old)))) where
+      (image_alone (image_spelling (pair_of old) (standing_shown old))))
+      (same : failed_by new ≡ failed_by old) where
     abbrev with_it : Journal
     with_it = with_image (side_layout pair) machine.journal arms_now
 
@@ -151,7 +155,7 @@ module _ {D : Type 0} {disk : Ghosts D} (pair : ℕ) (old new : Replica D disk) 
         ∙ ap₂ (λ p s. room_behind (image_spelling p s)) runs.is.pair_is standing_is))
 
     compacts : is_stopped (disk.arms (disk_of new)) ≡ false
-        → Meets machine.journal.arms 6 Up arms_now 0 → CheckpointsSo pair machine call
+        → Meets machine.journal.arms 6 Up arms_now 0 → CheckpointsSo pair machine (failed_by old) call
     compacts goes meets =
         let behind = settles.goes_on goes in
         let next = with_journal machine with_it in
@@ -179,24 +183,25 @@ module _ {D : Type 0} {disk : Ghosts D} (pair : ℕ) (old new : Replica D disk) 
             idle = λ _. runs.idle up;
             tries = λ told writing. absurd (none_not_some told (sym (runs.idle up) ∙ writing));
           });
+          counts = omega (arith, settles.counted, same);
         }
 
     pub compact_ok : MadeCallsMeet → Makes 6 (disk.arms (disk_of old)) (disk.arms (disk_of new))
-        → CheckpointsSo pair machine call
+        → CheckpointsSo pair machine (failed_by old) call
     compact_ok made makes =
         elim (made 6 (disk.arms (disk_of old)) (disk.arms (disk_of new)) runs.is.runs makes)
-        as (λ _. CheckpointsSo pair machine call) [
+        as (λ _. CheckpointsSo pair machine (failed_by old) call) [
           | goes_on goes meets ↦ compacts goes (met Up arms_now 0 meets)
-          | goes_down stopped meets ↦ stopped_so settles.stops 0 stopped
-              (met Down unarmed 0 meets)
+          | goes_down stopped meets ↦ stopped_so settles.stops settles.counted 0
+              (omega (arith, same)) stopped (met Down unarmed 0 meets)
         ]
 
   -- the device failed
   module _ (outcome : Outcome) (settles : Settles new_side position outcome call)
       (is_refused : refused_in outcome ≡ why.Device ∷ []) (is_not : Acknowledges outcome [])
-      (halted : IsHalted new) where
+      (halted : IsHalted new) (more : failed_by old < failed_by new) where
     broke : is_stopped (disk.arms (disk_of new)) ≡ false
-        → Meets machine.journal.arms 6 Halted arms_now 1 → CheckpointsSo pair machine call
+        → Meets machine.journal.arms 6 Halted arms_now 1 → CheckpointsSo pair machine (failed_by old) call
     broke goes meets =
         let behind = settles.goes_on goes in
         let next = with_journal machine (under_way Halted arms_now 1) in
@@ -227,17 +232,18 @@ module _ {D : Type 0} {disk : Ghosts D} (pair : ℕ) (old new : Replica D disk) 
             idle = λ is. absurd (halted_not_up is);
             tries = λ told writing. same_tried ∙ runs.tries told writing;
           });
+          counts = omega (arith, settles.counted, more);
         }
 
     pub compact_failed : BrokenCallsMeet
         → Breaks 6 (disk.arms (disk_of old)) (disk.arms (disk_of new))
-        → CheckpointsSo pair machine call
+        → CheckpointsSo pair machine (failed_by old) call
     compact_failed broken breaks =
         elim (broken 6 (disk.arms (disk_of old)) (disk.arms (disk_of new)) runs.is.runs breaks)
-        as (λ _. CheckpointsSo pair machine call) [
+        as (λ _. CheckpointsSo pair machine (failed_by old) call) [
           | goes_on goes meets ↦ broke goes (met Halted arms_now 1 meets)
-          | goes_down stopped meets ↦ stopped_so settles.stops 1 stopped
-              (met Down unarmed 1 meets)
+          | goes_down stopped meets ↦ stopped_so settles.stops settles.counted 1
+              (omega (arith, more)) stopped (met Down unarmed 1 meets)
         ]
 
 -- it is refused, and nothing changes
@@ -251,9 +257,10 @@ pub compact_refused : {D : Type 0} {disk : Ghosts D} (pair : ℕ) (old new : Rep
     Settles (side_of new agent) position outcome call → refused_in outcome ≡ reason ∷ [] →
     Acknowledges outcome [] → first_cause
     (causes_at machine (full_generation machine.journal.generation) ++ (true, why.Memory) ∷ [])
-    ≡ Some reason → CheckpointsSo pair machine call
+    ≡ Some reason → failed_by new ≡ failed_by old
+    → CheckpointsSo pair machine (failed_by old) call
 compact_refused pair old new agent machine runs up stands readings same_tried arms is_up outcome
-    reason call position settles is_refused is_not some =
+    reason call position settles is_refused is_not some same =
     let behind = settles.goes_on (ap is_stopped arms ∙ runs.is.runs) in
     let made : Checkpoints pair machine machine (reason ∷ []) =
     refuses reason (not_down pair (side_of old agent) machine runs) some in
@@ -264,6 +271,7 @@ compact_refused pair old new agent machine runs up stands readings same_tried ar
       acknowledges = subst (λ o. Acknowledges o []) (sym behind.0) is_not;
       is = behind.1 pair machine
           (stays pair old new agent machine runs up stands readings same_tried arms is_up);
+      counts = omega (arith, settles.counted, same);
     }
 
 -- it is refused before the replica is asked
@@ -271,7 +279,8 @@ pub checkpoint_halted : {D : Type 0} {disk : Ghosts D} (pair : ℕ) (side : UpSi
     (machine : SideMachine) → RunsAs pair side machine → (refusal : Code)
     (call : SideCall D disk) → IsRefused side refusal call
     → first_cause (causes_at machine (full_generation machine.journal.generation)
-    ++ (true, why.Memory) ∷ []) ≡ Some (cause_of refusal) → CheckpointsSo pair machine call
+    ++ (true, why.Memory) ∷ []) ≡ Some (cause_of refusal)
+    → CheckpointsSo pair machine (failed_by side.replica) call
 checkpoint_halted pair side machine runs refusal call refused some = record {
   next = machine;
   checkpoints = subst (λ o. Checkpoints pair machine machine (refused_in o))
@@ -279,4 +288,5 @@ checkpoint_halted pair side machine runs refusal call refused some = record {
       (refuses (cause_of refusal) (not_down pair side machine runs) some);
   acknowledges = subst (λ o. Acknowledges o []) (sym refused.outcome_is) refl;
   is = subst (λ s. IsHost pair s machine) (sym refused.side_is) runs;
+  counts = counts_still side machine call refused.side_is;
 }

@@ -1,5 +1,5 @@
 -- An edit of a side's user is a step of its machine.
-use Rattle.std.proofs.Common.{◌≡◌, ◌⊎◌, ◌∙◌, ◌-◌, ◌≤◌, ℕ, true, false}
+use Rattle.std.proofs.Common.{◌≡◌, ◌⊎◌, ◌∙◌, ◌+◌, ◌-◌, ◌<◌, ◌≤◌, ℕ, true, false, arith}
 use Rattle.std.proofs.Common.{List, [], ◌∷◌, ◌++◌, Option, Some, None, refl}
 use Rattle.std.proofs.Common.{sym, ap, subst, inl, inr}
 use Rattle.std.specs.Prelude.{length}
@@ -16,7 +16,8 @@ use Rattle.syn_headline.specs.SideMachine.{with_journal}
 use Rattle.syn_host.specs.Outcomes.{Acknowledges, refused_in}
 use Rattle.syn_host.specs.SideSteps.{Edits, Journal, causes_at, edits, refused_by, refuses}
 use Rattle.syn_host.specs.Sides.{EditsSo, IsHost, IsRefused, RunsAs, Settles, SettlesAdded}
-use Rattle.syn_host.specs.Sides.{Stops}
+use Rattle.syn_host.specs.Sides.{CountsFrom, HasCounted, Stops, side_disk}
+use Rattle.syn_host.specs.declared.side.SideHost.TheVariants as host
 use Rattle.syn_host.specs.declared.outcome.Outcome.{Outcome}
 use Rattle.syn_host.specs.declared.side.SideCall.{SideCall}
 use Rattle.syn_host.specs.declared.side.UpSide.{UpSide}
@@ -39,6 +40,10 @@ use Rattle.syn_replica.specs.Replica.{left_shown, tried_shown}
 use Rattle.syn_replica.specs.declared.replica.Replica.{Replica}
 use Rattle.syn_host.proofs.SideLemmas.{halted_not_up, none_not_some, not_down, remembers}
 use Rattle.syn_host.proofs.SideLemmas.{still_staged}
+
+-- how many calls of its disk failed
+abbrev pub failed_by : {D : Type 0} → {disk : Ghosts D} → Replica D disk → ℕ
+failed_by {D} {disk} replica = disk.failures (disk_of replica)
 
 abbrev pub side_of : {D : Type 0} → {disk : Ghosts D} → Replica D disk → Agent → UpSide D disk
 side_of replica agent = record { replica = replica; agent = agent }
@@ -100,11 +105,12 @@ module _ {D : Type 0} {disk : Ghosts D} (pair : ℕ) (old new : Replica D disk) 
 
   -- it goes down as the event is written
   module _ (stops : is_stopped (disk.arms (disk_of new)) ≡ true
-      → Stops new_side position (tried_shown new) call)
+      → Stops new_side position (tried_shown new) call) (counted : HasCounted new_side call)
       (none : first_cause (causes_at machine (causes_of pair machine event)) ≡ None) where
-    stopped_so : (failed : ℕ) → is_stopped (disk.arms (disk_of new)) ≡ true
-        → Meets machine.journal.arms 4 Down unarmed failed → EditsSo pair machine event call
-    stopped_so failed stopped meets =
+    stopped_so : (failed : ℕ) → failed + failed_by old ≤ failed_by new
+        → is_stopped (disk.arms (disk_of new)) ≡ true
+        → Meets machine.journal.arms 4 Down unarmed failed → EditsSo pair machine (failed_by old) event call
+    stopped_so failed few stopped meets =
         let behind = stops stopped in
         let next = with_journal machine (writing_it Down unarmed failed) in
         record {
@@ -122,18 +128,20 @@ module _ {D : Type 0} {disk : Ghosts D} (pair : ℕ) (old new : Replica D disk) 
             tries = tries;
             leaves = leaves Down unarmed failed;
           });
+          counts = omega (arith, counted, few);
         }
 
   -- the event is written
   module _ (settles : SettlesAdded new_side position call)
       (none : first_cause (causes_at machine (causes_of pair machine event)) ≡ None)
       (is_up : (next : SideMachine) → IsUpAs pair new agent next → IsOf pair new agent next)
-      (stands : Stands new (value ++ event ∷ [])) (has : HasRecord old new event) where
+      (stands : Stands new (value ++ event ∷ [])) (has : HasRecord old new event)
+      (same : failed_by new ≡ failed_by old) where
     abbrev with_it : Journal
     with_it = with_record (side_layout pair) machine.journal event arms_now
 
     added : is_stopped (disk.arms (disk_of new)) ≡ false
-        → Meets machine.journal.arms 4 Up arms_now 0 → EditsSo pair machine event call
+        → Meets machine.journal.arms 4 Up arms_now 0 → EditsSo pair machine (failed_by old) event call
     added goes meets =
         let behind = settles.goes_on goes event tried in
         let next = with_journal machine with_it in
@@ -161,25 +169,27 @@ module _ {D : Type 0} {disk : Ghosts D} (pair : ℕ) (old new : Replica D disk) 
             idle = λ _. runs.idle up;
             tries = λ told under_way. absurd (none_not_some told (sym (runs.idle up) ∙ under_way));
           });
+          counts = omega (arith, settles.counted, same);
         }
 
     pub edit_ok : MadeCallsMeet → Makes 4 (disk.arms (disk_of old)) (disk.arms (disk_of new))
-        → EditsSo pair machine event call
+        → EditsSo pair machine (failed_by old) event call
     edit_ok made makes =
         elim (made 4 (disk.arms (disk_of old)) (disk.arms (disk_of new)) runs.is.runs makes)
-        as (λ _. EditsSo pair machine event call) [
+        as (λ _. EditsSo pair machine (failed_by old) event call) [
           | goes_on goes meets ↦ added goes (met Up arms_now 0 meets)
-          | goes_down stopped meets ↦ stopped_so settles.stops none 0 stopped
-              (met Down unarmed 0 meets)
+          | goes_down stopped meets ↦ stopped_so settles.stops settles.counted none 0
+              (omega (arith, same)) stopped (met Down unarmed 0 meets)
         ]
 
   -- the device failed
   module _ (outcome : Outcome) (settles : Settles new_side position outcome call)
       (is_refused : refused_in outcome ≡ why.Device ∷ []) (is_not : Acknowledges outcome [])
       (none : first_cause (causes_at machine (causes_of pair machine event)) ≡ None)
-      (halted : IsHalted new) (readings : KeepsReadings old new) where
+      (halted : IsHalted new) (readings : KeepsReadings old new)
+      (more : failed_by old < failed_by new) where
     broke : is_stopped (disk.arms (disk_of new)) ≡ false
-        → Meets machine.journal.arms 4 Halted arms_now 1 → EditsSo pair machine event call
+        → Meets machine.journal.arms 4 Halted arms_now 1 → EditsSo pair machine (failed_by old) event call
     broke goes meets =
         let behind = settles.goes_on goes in
         let next = with_journal machine (writing_it Halted arms_now 1) in
@@ -213,17 +223,18 @@ module _ {D : Type 0} {disk : Ghosts D} (pair : ℕ) (old new : Replica D disk) 
             idle = λ is. absurd (halted_not_up is);
             tries = tries;
           });
+          counts = omega (arith, settles.counted, more);
         }
 
     pub edit_failed : BrokenCallsMeet
         → Breaks 4 (disk.arms (disk_of old)) (disk.arms (disk_of new))
-        → EditsSo pair machine event call
+        → EditsSo pair machine (failed_by old) event call
     edit_failed broken breaks =
         elim (broken 4 (disk.arms (disk_of old)) (disk.arms (disk_of new)) runs.is.runs breaks)
-        as (λ _. EditsSo pair machine event call) [
+        as (λ _. EditsSo pair machine (failed_by old) event call) [
           | goes_on goes meets ↦ broke goes (met Halted arms_now 1 meets)
-          | goes_down stopped meets ↦ stopped_so settles.stops none 1 stopped
-              (met Down unarmed 1 meets)
+          | goes_down stopped meets ↦ stopped_so settles.stops settles.counted none 1
+              (omega (arith, more)) stopped (met Down unarmed 1 meets)
         ]
 
 -- the edit is refused, and nothing changes
@@ -253,8 +264,9 @@ module _ {D : Type 0} {disk : Ghosts D} (pair : ℕ) (old new : Replica D disk) 
       (call : SideCall D disk) (position : ℕ) → Settles (side_of new agent) position outcome call
       → refused_in outcome ≡ reason ∷ [] → Acknowledges outcome []
       → first_cause (causes_at machine (causes_of pair machine event) ++ (true, why.Memory) ∷ [])
-      ≡ Some reason → EditsSo pair machine event call
-  edit_refused event outcome reason call position settles is_refused is_not some =
+      ≡ Some reason → failed_by new ≡ failed_by old
+      → EditsSo pair machine (failed_by old) event call
+  edit_refused event outcome reason call position settles is_refused is_not some same =
       let behind = settles.goes_on (ap is_stopped arms ∙ runs.is.runs) in
       let made : Edits pair machine event machine [] (reason ∷ []) =
       refuses reason (not_down pair (side_of old agent) machine runs) some in
@@ -265,14 +277,22 @@ module _ {D : Type 0} {disk : Ghosts D} (pair : ℕ) (old new : Replica D disk) 
             (subst (λ r. Edits pair machine event machine [] r) (sym is_refused) made);
         acknowledges = subst (λ o. Acknowledges o []) (sym behind.0) is_not;
         is = behind.1 pair machine stays;
+        counts = omega (arith, settles.counted, same);
       }
+
+-- a side that stays as it was counts as it did
+pub counts_still : {D : Type 0} {disk : Ghosts D} (side : UpSide D disk) (machine : SideMachine)
+    (call : SideCall D disk) → call.side ≡ host.Up side
+    → CountsFrom (failed_by side.replica) call.side machine machine
+counts_still {D} {disk} side machine call same =
+    let is = ap (λ s. disk.failures (side_disk s)) same in omega (arith, is)
 
 -- it is refused before the replica is asked
 pub edit_halted : {D : Type 0} {disk : Ghosts D} (pair : ℕ) (side : UpSide D disk)
     (machine : SideMachine) → RunsAs pair side machine → (event : Event) (refusal : Code)
     (call : SideCall D disk) → IsRefused side refusal call
     → first_cause (causes_at machine (causes_of pair machine event) ++ (true, why.Memory) ∷ [])
-    ≡ Some (cause_of refusal) → EditsSo pair machine event call
+    ≡ Some (cause_of refusal) → EditsSo pair machine (failed_by side.replica) event call
 edit_halted pair side machine runs event refusal call refused some = record {
   next = machine;
   events = [];
@@ -280,4 +300,5 @@ edit_halted pair side machine runs event refusal call refused some = record {
       (refuses (cause_of refusal) (not_down pair side machine runs) some);
   acknowledges = subst (λ o. Acknowledges o []) (sym refused.outcome_is) refl;
   is = subst (λ s. IsHost pair s machine) (sym refused.side_is) runs;
+  counts = counts_still side machine call refused.side_is;
 }

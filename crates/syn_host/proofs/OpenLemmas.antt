@@ -10,7 +10,7 @@ use Rattle.syn_disk.specs.Arms.{Arms as DiskArms, is_stopped}
 use Rattle.syn_disk.specs.Calls.{BreaksSometime, MakesAtLeast}
 use Rattle.syn_disk.specs.Stops.{Untouched}
 use Rattle.syn_headline.specs.Machine.{Status, Up, Halted, Down, Arms, Meets, unarmed, Opens}
-use Rattle.syn_headline.specs.Machine.{opened}
+use Rattle.syn_headline.specs.Machine.{Journaled, Layout, opened}
 use Rattle.syn_headline.specs.Machine.{recovered, one_stops, all_made, one_fails}
 use Rattle.syn_headline.specs.SideMachine.{SideMachine, side_layout, with_journal}
 use Rattle.syn_host.specs.Outcomes.{Acknowledges}
@@ -41,7 +41,7 @@ use Rattle.syn_replica.specs.Disks.{DiskStands}
 use Rattle.syn_replica.specs.Replica.{Stands, disk_of, generation_shown, left_shown, pair_of}
 use Rattle.syn_replica.specs.Replica.{position_shown}
 use Rattle.syn_replica.specs.declared.replica.Replica.{Replica}
-use Rattle.syn_host.proofs.EditLemmas.{side_of}
+use Rattle.syn_host.proofs.EditLemmas.{failed_by, side_of}
 use Rattle.syn_host.proofs.SideLemmas.{none_not_some, still_staged, up_not_down}
 use Rattle.syn_coordinator.proofs.DownLemmas.{never_stops, still_unarmed}
 use Rattle.syn_recovery.proofs.DiskLemmas.{may_be_still, one_generation, one_value}
@@ -65,6 +65,13 @@ pub gives : (pair : ℕ) (machine : Journal) (calls : ℕ) (new : Journal) (even
 gives pair machine calls _ _ (opened room generation arms meets left) = inl (refl, refl)
 gives pair machine calls _ _ (recovered arms kept meets writing can) =
     inr (kept, writing, refl, refl)
+
+-- no call of an opening that gives something failed
+pub opens_counts : {V W : Type 0} (layout : Layout V W) (CanKeep : V → W → Type 0)
+    (machine : Journaled V W) (calls : ℕ) (new : Journaled V W) (kept : List W)
+    → Opens layout CanKeep machine calls new kept → new.failures ≡ machine.failures
+opens_counts layout CanKeep machine calls _ _ (opened room generation arms meets left) = refl
+opens_counts layout CanKeep machine calls _ _ (recovered arms kept meets writing can) = refl
 
 -- and what is acknowledged of them
 pub gained_so : (pair : ℕ) (machine : Journal) (calls : ℕ) (new : Journal) (events : List Event)
@@ -136,10 +143,11 @@ module _ {D : Type 0} (disk : Ghosts D) (pair : ℕ) (side : DownSide D) (machin
       (is_new : staging_of agent ≡ None)
       (is_up : (next : SideMachine) → IsUpAs pair replica agent next
       → IsOf pair replica agent next)
-      (gains : Gains outcome side.position (position_shown replica) tried) (sides : SidesOpen) where
+      (gains : Gains outcome side.position (position_shown replica) tried) (sides : SidesOpen)
+      (same : failed_by replica ≡ disk.failures side.disk) where
     opened_so : (calls : ℕ) → is_stopped (disk.arms (disk_of replica)) ≡ false →
         Meets machine.journal.arms calls Up (armed_at (disk.arms (disk_of replica))) 0 →
-        OpensSo pair machine (record { side = host.Up (side_of replica agent); outcome = outcome })
+        OpensSo pair machine (disk.failures side.disk) (record { side = host.Up (side_of replica agent); outcome = outcome })
     opened_so calls goes meets =
         let arms_now = armed_at (disk.arms (disk_of replica)) in
         let found = sides pair machine.journal calls arms_now here.value here.generation meets
@@ -177,10 +185,17 @@ module _ {D : Type 0} (disk : Ghosts D) (pair : ℕ) (side : DownSide D) (machin
             tries = λ told writing.
                 absurd (none_not_some told (sym found.opened.idle ∙ writing));
           };
+          counts =
+              omega (
+                arith,
+                same,
+                opens_counts (side_layout pair) IsAllowed machine.journal calls
+                    found.new found.added found.opens,
+              );
         }
 
     pub open_ok : MakesAtLeast 1 (disk.arms side.disk) (disk.arms (disk_of replica)) →
-        OpensSo pair machine (record { side = host.Up (side_of replica agent); outcome = outcome })
+        OpensSo pair machine (disk.failures side.disk) (record { side = host.Up (side_of replica agent); outcome = outcome })
     open_ok makes =
         let found = reads 1 (disk.arms side.disk) (disk.arms (disk_of replica)) rests.goes makes in
         let met = goes_so found.0 Up 0 (disk.arms (disk_of replica)) found.2 in
@@ -192,11 +207,12 @@ module _ {D : Type 0} (disk : Ghosts D) (pair : ℕ) (side : DownSide D) (machin
     abbrev rest : DownSide D
     rest = record { disk = back; position = side.position; tried = side.tried }
 
-    pub open_failed : cause_of refusal ≡ why.Device → BrokenCallsMeet
+    pub open_failed : cause_of refusal ≡ why.Device → disk.failures side.disk < disk.failures back
+        → BrokenCallsMeet
         → BreaksSometime (disk.arms side.disk) (disk.arms back)
-        → OpensSo {D = D} {disk = disk} pair machine
+        → OpensSo {D = D} {disk = disk} pair machine (disk.failures side.disk)
         (record { side = host.Down rest; outcome = Refused refusal })
-    open_failed is_device broken breaks =
+    open_failed is_device more broken breaks =
         let met = goes_so breaks.0 Halted 1 (disk.arms back)
         (broken breaks.0 (disk.arms side.disk) (disk.arms back) rests.goes breaks.1) in
         let next = with_device machine Down (armed_at (disk.arms back)) 1 in
@@ -218,13 +234,14 @@ module _ {D : Type 0} (disk : Ghosts D) (pair : ℕ) (side : DownSide D) (machin
                 (armed_at (disk.arms back)) 1 bytes
                 (rests.leaves bytes (untouched.nothing_new bytes may));
           };
+          counts = omega (arith, more);
         }
 
     pub open_refused : cause_of refusal ≡ why.Memory
-        → MakesAtLeast 1 (disk.arms side.disk) (disk.arms back)
-        → OpensSo {D = D} {disk = disk} pair machine
+        → disk.failures back ≡ disk.failures side.disk → MakesAtLeast 1 (disk.arms side.disk) (disk.arms back)
+        → OpensSo {D = D} {disk = disk} pair machine (disk.failures side.disk)
         (record { side = host.Down rest; outcome = Refused refusal })
-    open_refused is_memory makes =
+    open_refused is_memory same makes =
         let found = reads 1 (disk.arms side.disk) (disk.arms back) rests.goes makes in
         let met = goes_so found.0 Up 0 (disk.arms back) found.2 in
         record {
@@ -243,6 +260,7 @@ module _ {D : Type 0} (disk : Ghosts D) (pair : ℕ) (side : DownSide D) (machin
             goes = met.0;
             leaves = λ bytes may. rests.leaves bytes (untouched.nothing_new bytes may);
           };
+          counts = omega (arith, same);
         }
 
 -- what the disk means stands for some history of the pair

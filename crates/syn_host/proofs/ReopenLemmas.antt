@@ -1,5 +1,5 @@
 -- Another opening of a side's own disk is a step of its machine.
-use Rattle.std.proofs.Common.{◌≡◌, ◌≢◌, ◌∙◌, ◌-◌, ◌≤◌, ℕ, suc, zero, true, false, []}
+use Rattle.std.proofs.Common.{◌≡◌, ◌≢◌, ◌∙◌, ◌+◌, ◌-◌, ◌<◌, ◌≤◌, ℕ, suc, zero, true, false, []}
 use Rattle.std.proofs.Common.{◌∷◌, ◌++◌, Option, inl, inr, refl, sym, ap, ap₂, subst, arith}
 use Rattle.std.specs.Prelude.{length}
 use Rattle.syn_agent.specs.Machines.{IsOf, IsUpAs, StandsAs}
@@ -10,16 +10,16 @@ use Rattle.syn_disk.specs.Stops.{Untouched}
 use Rattle.syn_disk.specs.declared.disk.Disk.{Ghosts}
 use Rattle.syn_headline.specs.Machine.{Status, Up, Halted, Down, Arms, Meets, unarmed, IsBefore}
 use Rattle.syn_headline.specs.Machine.{after_calls, all_made}
-use Rattle.syn_headline.specs.SideMachine.{SideMachine, with_journal}
+use Rattle.syn_headline.specs.SideMachine.{SideMachine, side_layout, with_journal}
 use Rattle.syn_host.specs.Outcomes.{Acknowledges, refused_in}
 use Rattle.syn_host.specs.SideSteps.{ReopensSide, is_cut, no_memory, reopen_fails}
 use Rattle.syn_host.specs.SideSteps.{reopens, with_device}
 use Rattle.syn_host.specs.Sides.{IsHost, IsRefused, ReopensSo, RunsAs, Settles, SettlesOpened}
-use Rattle.syn_host.specs.Sides.{Stops, TriesWriting}
+use Rattle.syn_host.specs.Sides.{HasCounted, Stops, TriesWriting}
 use Rattle.syn_host.specs.declared.outcome.Outcome.{Outcome}
 use Rattle.syn_host.specs.declared.side.SideCall.{SideCall}
 use Rattle.syn_journal.specs.Layout.{HasJournal, size_of}
-use Rattle.syn_model.specs.History.{History}
+use Rattle.syn_model.specs.History.{History, IsAllowed}
 use Rattle.syn_model.specs.Image.{StandsFor}
 use Rattle.syn_model.specs.Path.{Bytes}
 use Rattle.syn_model.specs.Refusal.{Refusal}
@@ -35,8 +35,8 @@ use Rattle.syn_replica.specs.Replica.{IsHalted, SameMemory, Stands, disk_of, gen
 use Rattle.syn_replica.specs.Replica.{left_shown, pair_of, position_shown, tried_shown}
 use Rattle.syn_replica.specs.declared.replica.Replica.{Replica}
 use Rattle.syn_host.proofs.ArmLemmas.{stands_as, still_runs}
-use Rattle.syn_host.proofs.EditLemmas.{side_of}
-use Rattle.syn_host.proofs.OpenLemmas.{gained_so, knows, some_history}
+use Rattle.syn_host.proofs.EditLemmas.{counts_still, failed_by, side_of}
+use Rattle.syn_host.proofs.OpenLemmas.{gained_so, knows, opens_counts, some_history}
 use Rattle.syn_host.proofs.SideLemmas.{halted_not_up, none_not_some, not_down}
 use Rattle.syn_host.proofs.SideLemmas.{remembers, state, still_staged, up_not_down}
 use Rattle.syn_recovery.proofs.DiskLemmas.{may_be_still, one_generation, one_value}
@@ -121,10 +121,11 @@ module _ {D : Type 0} {disk : Ghosts D} (pair : ℕ) (old new : Replica D disk) 
   -- it goes down among the device calls
   cut_so : (tried : Option Bytes) → TriesWriting machine tried →
       (is_stopped (disk.arms (disk_of new)) ≡ true →
-      Stops (side_of new agent) position tried call) → (calls failed : ℕ) →
+      Stops (side_of new agent) position tried call) → HasCounted (side_of new agent) call →
+      (calls failed : ℕ) → failed + failed_by old ≤ failed_by new →
       is_stopped (disk.arms (disk_of new)) ≡ true →
-      Meets machine.journal.arms calls Down unarmed failed → ReopensSo pair machine call
-  cut_so tried tries settles calls failed stopped meets =
+      Meets machine.journal.arms calls Down unarmed failed → ReopensSo pair machine (failed_by old) call
+  cut_so tried tries settles counted calls failed few stopped meets =
       let behind = settles stopped in
       let next = with_device machine Down unarmed failed in
       record {
@@ -141,6 +142,7 @@ module _ {D : Type 0} {disk : Ghosts D} (pair : ℕ) (old new : Replica D disk) 
           tries = tries;
           leaves = leaves Down unarmed failed;
         });
+        counts = omega (arith, counted, few);
       }
 
   -- it is opened
@@ -151,12 +153,12 @@ module _ {D : Type 0} {disk : Ghosts D} (pair : ℕ) (old new : Replica D disk) 
       (each : (history : History) → DiskStands (pair_of new) (disk.seen (disk_of old)) history
       → Stands new history)
       (is_up : (next : SideMachine) → IsUpAs pair new agent next → IsOf pair new agent next)
-      (sides : SidesOpen) where
+      (sides : SidesOpen) (same : failed_by new ≡ failed_by old) where
     here : MayBeOf (of_side pair) machine.journal (disk.seen (disk_of old))
     here = runs.is.left (disk.seen (disk_of old)) (stays (disk_of old))
 
     opened_so : (calls : ℕ) → 1 ≤ calls → is_stopped (disk.arms (disk_of new)) ≡ false
-        → Meets machine.journal.arms calls Up arms_now 0 → ReopensSo pair machine call
+        → Meets machine.journal.arms calls Up arms_now 0 → ReopensSo pair machine (failed_by old) call
     opened_so calls least goes meets =
         let behind = settles.goes_on goes in
         let gains = behind.0 in
@@ -195,18 +197,26 @@ module _ {D : Type 0} {disk : Ghosts D} (pair : ℕ) (old new : Replica D disk) 
             tries = λ told writing.
                 absurd (none_not_some told (sym found.opened.idle ∙ writing));
           });
+          counts =
+              omega (
+                arith,
+                settles.counted,
+                same,
+                opens_counts (side_layout pair) IsAllowed
+                    machine.journal calls found.new found.added found.opens,
+              );
         }
 
     pub reopen_ok : MadeReadsMeet
         → MakesAtLeast 1 (disk.arms (disk_of old)) (disk.arms (disk_of new))
-        → ReopensSo pair machine call
+        → ReopensSo pair machine (failed_by old) call
     reopen_ok reads makes =
         let found = reads 1 (disk.arms (disk_of old)) (disk.arms (disk_of new)) runs.is.runs
         makes in
-        elim found.2 as (λ _. ReopensSo pair machine call) [
+        elim found.2 as (λ _. ReopensSo pair machine (failed_by old) call) [
           | goes_on goes meets ↦ opened_so found.0 found.1 goes (met found.0 Up arms_now 0 meets)
-          | goes_down stopped meets ↦ cut_so tried tries settles.stops found.0 0 stopped
-              (met found.0 Down unarmed 0 meets)
+          | goes_down stopped meets ↦ cut_so tried tries settles.stops settles.counted found.0 0
+              (omega (arith, same)) stopped (met found.0 Down unarmed 0 meets)
         ]
 
   module _ (outcome : Outcome) (settles : Settles (side_of new agent) position outcome call)
@@ -216,12 +226,12 @@ module _ {D : Type 0} {disk : Ghosts D} (pair : ℕ) (old new : Replica D disk) 
     tries_still told writing = same_tried ∙ runs.tries told writing
 
     -- its device failed
-    pub reopen_failed : refused_in outcome ≡ why.Device ∷ [] → IsHalted new → BrokenCallsMeet
-        → BreaksSometime (disk.arms (disk_of old)) (disk.arms (disk_of new))
-        → ReopensSo pair machine call
-    reopen_failed is_refused halted broken breaks =
+    pub reopen_failed : refused_in outcome ≡ why.Device ∷ [] → IsHalted new
+        → failed_by old < failed_by new → BrokenCallsMeet → BreaksSometime (disk.arms (disk_of old)) (disk.arms (disk_of new))
+        → ReopensSo pair machine (failed_by old) call
+    reopen_failed is_refused halted more broken breaks =
         elim (broken breaks.0 (disk.arms (disk_of old)) (disk.arms (disk_of new)) runs.is.runs
-        breaks.1) as (λ _. ReopensSo pair machine call) [
+        breaks.1) as (λ _. ReopensSo pair machine (failed_by old) call) [
           | goes_on goes meets ↦
               let behind = settles.goes_on goes in
               let next = with_device machine Halted arms_now 1 in
@@ -255,21 +265,23 @@ module _ {D : Type 0} {disk : Ghosts D} (pair : ℕ) (old new : Replica D disk) 
                   idle = λ is. absurd (halted_not_up is);
                   tries = tries_still;
                 });
+                counts = omega (arith, settles.counted, more);
               }
-          | goes_down stopped meets ↦ cut_so (tried_shown new) tries_still settles.stops breaks.0
-              1 stopped (met breaks.0 Down unarmed 1 meets)
+          | goes_down stopped meets ↦ cut_so (tried_shown new) tries_still settles.stops
+              settles.counted breaks.0 1 (omega (arith, more)) stopped
+              (met breaks.0 Down unarmed 1 meets)
         ]
 
     -- memory was refused behind its device calls
     pub reopen_refused : refused_in outcome ≡ why.Memory ∷ []
         → (Stands old machine.journal.value → Stands new machine.journal.value)
-        → (IsHalted old → IsHalted new) → MadeReadsMeet
+        → (IsHalted old → IsHalted new) → failed_by new ≡ failed_by old → MadeReadsMeet
         → MakesAtLeast 1 (disk.arms (disk_of old)) (disk.arms (disk_of new))
-        → ReopensSo pair machine call
-    reopen_refused is_refused unchanged halted reads makes =
+        → ReopensSo pair machine (failed_by old) call
+    reopen_refused is_refused unchanged halted count reads makes =
         let found = reads 1 (disk.arms (disk_of old)) (disk.arms (disk_of new)) runs.is.runs
         makes in
-        elim found.2 as (λ _. ReopensSo pair machine call) [
+        elim found.2 as (λ _. ReopensSo pair machine (failed_by old) call) [
           | goes_on goes meets ↦
               let behind = settles.goes_on goes in
               let next = with_device machine machine.journal.status arms_now 0 in
@@ -293,9 +305,11 @@ module _ {D : Type 0} {disk : Ghosts D} (pair : ℕ) (old new : Replica D disk) 
                     (λ up. runs.is.room up ∙ sym (same up).0)
                     (λ up. runs.is.generation up ∙ sym (same up).1) refl goes same_tried
                     untouched.nothing_new);
+                counts = omega (arith, settles.counted, count);
               }
-          | goes_down stopped meets ↦ cut_so (tried_shown new) tries_still settles.stops found.0
-              0 stopped (met found.0 Down unarmed 0 meets)
+          | goes_down stopped meets ↦ cut_so (tried_shown new) tries_still settles.stops
+              settles.counted found.0 0 (omega (arith, count)) stopped
+              (met found.0 Down unarmed 0 meets)
         ]
 
 before_none : (n : ℕ) → IsBefore 0 n
@@ -309,7 +323,7 @@ none_less n = omega arith
 pub reopen_early : {D : Type 0} {disk : Ghosts D} (pair : ℕ) (replica : Replica D disk)
     (agent : Agent) (machine : SideMachine) → RunsAs pair (side_of replica agent) machine
     → (refusal : Code) (call : SideCall D disk) → IsRefused (side_of replica agent) refusal call
-    → cause_of refusal ≡ why.Memory → ReopensSo pair machine call
+    → cause_of refusal ≡ why.Memory → ReopensSo pair machine (failed_by replica) call
 reopen_early pair replica agent machine runs refusal call refused is_memory =
     let arms = after_calls 0 machine.journal.arms in
     let same = ap₂ (λ f s. record { fail = f; stop = s }) (none_less machine.journal.arms.fail)
@@ -329,4 +343,6 @@ reopen_early pair replica agent machine runs refusal call refused is_memory =
           (still_runs pair replica replica agent machine arms 0 runs
           (record { pair = refl; standing = refl }) runs.is.stands runs.is.room
           runs.is.generation (same ∙ runs.is.armed) runs.is.runs refl (λ _ may. may));
+      counts =
+          omega (arith, counts_still (side_of replica agent) machine call refused.side_is);
     }

@@ -5,11 +5,12 @@ use Rattle.syn_disk.specs.declared.disk.Disk.{Ghosts}
 use Rattle.syn_headline.specs.Coordinator.{CoordinatorMachine, archive_layout, with_archive}
 use Rattle.syn_headline.specs.Machine.{Arms, Down, Halted, Meets, Opens, Status, Up, after_device}
 use Rattle.syn_host.specs.CoordinatorSteps.{StopsAs}
-use Rattle.syn_host.specs.Coordinators.{IsCoordinator}
+use Rattle.syn_host.specs.Coordinators.{IsCoordinator, archive_disk}
 use Rattle.syn_host.specs.Outcomes.{causes_in}
 use Rattle.syn_host.specs.declared.coordinator.open.CoordinatorOpening.{CoordinatorOpening}
 use Rattle.syn_model.specs.Archive.{CanKeep, Kept}
 use Rattle.syn_model.specs.Refusal.{Refusal, Device, Memory}
+use Rattle.syn_recovery.specs.Calls.{CountsNoMore}
 use Rattle.syn_refusal.specs.declared.refusal.Refusal.{Refusal as Code}
 use Rattle.syn_coordinator.specs.Coordinators.{Stands, device_of}
 use Rattle.syn_keep.specs.Machines.{Journal}
@@ -61,11 +62,14 @@ pub data ReopensMachine (pair : ℕ) (machine : CoordinatorMachine) : Coordinato
 abbrev pub found_by : Option Record → List Kept
 found_by found = listed (option_map kept_of found)
 
+-- The machine counts no more failed calls than its disk, which had counted so many before
 pub record OpensSo {D : Type 0} {disk : Ghosts D} (pair : ℕ) (machine : CoordinatorMachine)
-    (opening : CoordinatorOpening D disk) : Type 0 where
+    (before : ℕ) (opening : CoordinatorOpening D disk) : Type 0 where
   pub next : CoordinatorMachine
   pub opens : OpensDown pair machine next (found_by opening.found) (causes_in opening.refused)
   pub is : IsCoordinator pair opening.coordinator next
+  pub counts : CountsNoMore before (disk.failures (archive_disk opening.coordinator))
+      machine.journal next.journal
 
 pub record ReopensSo {D : Type 0} {disk : Ghosts D} (pair : ℕ) (machine : CoordinatorMachine)
     (opening : CoordinatorOpening D disk) : Type 0 where

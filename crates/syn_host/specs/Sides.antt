@@ -22,7 +22,7 @@ use Rattle.syn_message.specs.Replies.{IsLawfulReply, reply_of}
 use Rattle.syn_model.specs.Event.{Event}
 use Rattle.syn_model.specs.Path.{Bytes}
 use Rattle.syn_model.specs.Spelling.{event_spelling}
-use Rattle.syn_recovery.specs.Calls.{armed_at}
+use Rattle.syn_recovery.specs.Calls.{CountsNoMore, armed_at}
 use Rattle.syn_recovery.specs.Machines.{of_side}
 use Rattle.syn_recovery.specs.Meaning.{MayBeOf}
 use Rattle.syn_refusal.specs.declared.refusal.Refusal.{Refusal}
@@ -98,6 +98,11 @@ Stops side position tried call = (call.outcome ≡ Nothing)
     × ((pair : ℕ) (machine : SideMachine) → StopsAs pair position tried side.replica machine →
     IsHost pair call.side machine)
 
+-- the disk of the side that a call leaves has counted as many failed calls as its replica's
+abbrev pub HasCounted : {D : Type 0} → {disk : Ghosts D} → UpSide D disk → SideCall D disk → Type 0
+HasCounted {D} {disk} side call =
+    disk.failures (side_disk call.side) ≡ disk.failures (disk_of side.replica)
+
 -- a call goes on with the outcome, or its machine stopped
 pub record Settles {D : Type 0} {disk : Ghosts D} (side : UpSide D disk) (position : ℕ)
     (outcome : Outcome) (call : SideCall D disk) : Type 0 where
@@ -105,6 +110,7 @@ pub record Settles {D : Type 0} {disk : Ghosts D} (side : UpSide D disk) (positi
       × ((pair : ℕ) (machine : SideMachine) → RunsAs pair side machine →
       IsHost pair call.side machine)
   pub stops : HasStopped side ≡ true → Stops side position (tried_shown side.replica) call
+  pub counted : HasCounted side call
 
 -- it acknowledges the event that was sent to the disk last
 pub record SettlesAdded {D : Type 0} {disk : Ghosts D} (side : UpSide D disk) (position : ℕ)
@@ -115,6 +121,7 @@ pub record SettlesAdded {D : Type 0} {disk : Ghosts D} (side : UpSide D disk) (p
       × ((pair : ℕ) (machine : SideMachine) → machine.journal.status ≡ Up →
       RunsAs pair side machine → IsHost pair call.side machine)
   pub stops : HasStopped side ≡ true → Stops side position (tried_shown side.replica) call
+  pub counted : HasCounted side call
 
 -- What an opening gave of the event that was being written: it is there where there are more
 -- events than before
@@ -131,6 +138,7 @@ pub record SettlesOpened {D : Type 0} {disk : Ghosts D} (side : UpSide D disk) (
       × ((pair : ℕ) (machine : SideMachine) → RunsAs pair side machine →
       IsHost pair call.side machine)
   pub stops : HasStopped side ≡ true → Stops side position tried call
+  pub counted : HasCounted side call
 
 -- the side as it was, and a refusal
 pub record IsRefused {D : Type 0} {disk : Ghosts D} (side : UpSide D disk) (refusal : Refusal)
@@ -138,42 +146,52 @@ pub record IsRefused {D : Type 0} {disk : Ghosts D} (side : UpSide D disk) (refu
   pub side_is : call.side ≡ host.Up side
   pub outcome_is : call.outcome ≡ Refused refusal
 
+-- a machine that counts no more failed calls than the side's disk, which had counted so many before
+abbrev pub CountsFrom : {D : Type 0} → {disk : Ghosts D} → ℕ → SideHost D disk → SideMachine →
+    SideMachine → Type 0
+CountsFrom {D} {disk} before side machine next =
+    CountsNoMore before (disk.failures (side_disk side)) machine.journal next.journal
+
 -- an edit is a step of the machine
-pub record EditsSo {D : Type 0} {disk : Ghosts D} (pair : ℕ) (machine : SideMachine)
+pub record EditsSo {D : Type 0} {disk : Ghosts D} (pair : ℕ) (machine : SideMachine) (before : ℕ)
     (event : Event) (call : SideCall D disk) : Type 0 where
   pub next : SideMachine
   pub events : List Event
   pub edits : Edits pair machine event next events (refused_in call.outcome)
   pub acknowledges : Acknowledges call.outcome events
   pub is : IsHost pair call.side next
+  pub counts : CountsFrom before call.side machine next
 
 -- and so is a checkpoint, which acknowledges nothing
 pub record CheckpointsSo {D : Type 0} {disk : Ghosts D} (pair : ℕ) (machine : SideMachine)
-    (call : SideCall D disk) : Type 0 where
+    (before : ℕ) (call : SideCall D disk) : Type 0 where
   pub next : SideMachine
   pub checkpoints : Checkpoints pair machine next (refused_in call.outcome)
   pub acknowledges : Acknowledges call.outcome []
   pub is : IsHost pair call.side next
+  pub counts : CountsFrom before call.side machine next
 
 -- an opening may give the event that was being written
 pub record OpensSo {D : Type 0} {disk : Ghosts D} (pair : ℕ) (machine : SideMachine)
-    (call : SideCall D disk) : Type 0 where
+    (before : ℕ) (call : SideCall D disk) : Type 0 where
   pub next : SideMachine
   pub events : List Event
   pub opens : OpensSide pair machine next events (refused_in call.outcome)
   pub acknowledges : Acknowledges call.outcome events
   pub is : IsHost pair call.side next
+  pub counts : CountsFrom before call.side machine next
 
 pub record ReopensSo {D : Type 0} {disk : Ghosts D} (pair : ℕ) (machine : SideMachine)
-    (call : SideCall D disk) : Type 0 where
+    (before : ℕ) (call : SideCall D disk) : Type 0 where
   pub next : SideMachine
   pub events : List Event
   pub reopens : ReopensSide pair machine next events (refused_in call.outcome)
   pub acknowledges : Acknowledges call.outcome events
   pub is : IsHost pair call.side next
+  pub counts : CountsFrom before call.side machine next
 
 -- a request is taken, and refuses a user nothing
-pub record AnswersSo {D : Type 0} {disk : Ghosts D} (pair : ℕ) (machine : SideMachine)
+pub record AnswersSo {D : Type 0} {disk : Ghosts D} (pair : ℕ) (machine : SideMachine) (before : ℕ)
     (session : ℕ) (request : Request) (answer : SideAnswer D disk) : Type 0 where
   pub next : SideMachine
   pub events : List Event
@@ -182,16 +200,19 @@ pub record AnswersSo {D : Type 0} {disk : Ghosts D} (pair : ℕ) (machine : Side
   pub acknowledges : Acknowledges answer.call.outcome events
   pub lawful : IfSome answer.reply (λ said. IsLawfulReply (reply_of said))
   pub is : IsHost pair answer.call.side next
+  pub counts : CountsFrom before answer.call.side machine next
 
 -- what is armed at it is a step of the machine
-pub record FailsSo {D : Type 0} {disk : Ghosts D} (pair : ℕ) (machine : SideMachine) (call : ℕ)
-    (side : SideHost D disk) : Type 0 where
+pub record FailsSo {D : Type 0} {disk : Ghosts D} (pair : ℕ) (machine : SideMachine)
+    (before call : ℕ) (side : SideHost D disk) : Type 0 where
   pub next : SideMachine
   pub fails : Fails machine call next
   pub is : IsHost pair side next
+  pub counts : CountsFrom before side machine next
 
-pub record StopsSo {D : Type 0} {disk : Ghosts D} (pair : ℕ) (machine : SideMachine) (calls : ℕ)
-    (side : SideHost D disk) : Type 0 where
+pub record StopsSo {D : Type 0} {disk : Ghosts D} (pair : ℕ) (machine : SideMachine)
+    (before calls : ℕ) (side : SideHost D disk) : Type 0 where
   pub next : SideMachine
   pub stops : StopsSide machine calls next
   pub is : IsHost pair side next
+  pub counts : CountsFrom before side machine next

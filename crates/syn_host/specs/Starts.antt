@@ -1,5 +1,9 @@
 -- What the disk of one machine stands for, and the machine that is opened from it.
-use Rattle.std.specs.Prelude.{◌≡◌, ◌⊎◌, ℕ, None, false}
+use Rattle.std.specs.Prelude.{◌≡◌, ◌≢◌, ◌⊎◌, ◌<◌, ℕ, None, Option, false}
+use Rattle.syn_archive.specs.Disks.{DiskStands}
+use Rattle.syn_archive.specs.Disks as archive_disks
+use Rattle.syn_archive.specs.Refusals as archives
+use Rattle.syn_archive.specs.declared.error.ArchiveError.{ArchiveError}
 use Rattle.syn_disk.specs.Arms.{Arms, is_stopped}
 use Rattle.syn_disk.specs.declared.disk.Disk.{Ghosts}
 use Rattle.syn_headline.specs.Headline.{IsJustOpened}
@@ -11,11 +15,15 @@ use Rattle.syn_model.specs.Archive.{Archive}
 use Rattle.syn_model.specs.History.{History}
 use Rattle.syn_model.specs.Path.{Bytes}
 use Rattle.syn_model.specs.Refusal as why
+use Rattle.syn_model.specs.Standing.{Standing}
 use Rattle.syn_recovery.specs.Calls.{armed_at}
 use Rattle.syn_recovery.specs.Machines.{of_archive, of_side}
 use Rattle.syn_recovery.specs.Meaning.{IsDiskOf, IsOf, Keeping}
 use Rattle.syn_refusal.specs.Refusals.{cause_of}
 use Rattle.syn_refusal.specs.declared.refusal.Refusal.{Refusal}
+use Rattle.syn_replica.specs.Disks.{DiskGives, IsOpenRefusal}
+use Rattle.syn_standing.specs.Refusals.{refusal_of}
+use Rattle.syn_standing.specs.declared.error.ReplicaError.{ReplicaError}
 use Rattle.syn_coordinator.specs.Coordinators.{Stands}
 use Rattle.syn_keep.specs.Machines.{Journal}
 use Rattle.syn_coordinator.specs.declared.coordinator.Coordinator.{Coordinator}
@@ -53,3 +61,33 @@ pub record StartsCoordinator {D : Type 0} {disk : Ghosts D} (pair : ℕ) (bytes 
   pub fresh : IsJustOpened journal
   pub is : IsOf (of_archive pair) journal bytes
   pub value_is : journal.value ≡ archive
+
+-- Why a disk is not opened, and what it holds where it is
+
+-- the disk holds a replica of the pair: an image, with the payloads of events allowed in turn
+pub record HoldsReplica (pair : ℕ) (bytes : Bytes) : Type 0 where
+  pub standing : Standing
+  pub gives : DiskGives pair bytes standing
+
+-- and this one an archive of it
+pub record HoldsArchive (pair : ℕ) (bytes : Bytes) : Type 0 where
+  pub archive : Archive
+  pub stands : DiskStands pair bytes archive
+
+-- the refusal is one of a replica's opening, whose cause lies in the bytes, or outside of them where
+-- it is 9 or 11
+pub record RefusesSide (wanted : Option ℕ) (bytes : Bytes) (refusal : Refusal) : Type 0 where
+  pub error : ReplicaError
+  pub is : cause_of refusal ≡ refusal_of error
+  pub cause : IsOpenRefusal error wanted bytes
+
+-- and this one of an archive's
+pub record RefusesArchive (wanted : Option ℕ) (bytes : Bytes) (refusal : Refusal) : Type 0 where
+  pub error : ArchiveError
+  pub is : cause_of refusal ≡ archives.refusal_of error
+  pub cause : archive_disks.IsOpenRefusal error wanted bytes
+
+-- 9 is answered where the count of failed calls grew, and any other refusal where it did not
+pub record CountsFailure (refusal : Refusal) (before after : ℕ) : Type 0 where
+  pub grew : cause_of refusal ≡ why.Device → before < after
+  pub same : cause_of refusal ≢ why.Device → after ≡ before

@@ -12,7 +12,8 @@ pub trait SimulatedDisk: Limit {
     fn after_stop(self) -> Self
         ensures left { NothingNew (Self.Limit.may_leave self)
             (Self.Limit.may_leave result) }
-        ensures arms { Self.Limit.arms result ≡ no_arms };
+        ensures arms { Self.Limit.arms result ≡ no_arms }
+        ensures count { Self.Limit.failures result ≡ Self.Limit.failures self };
 }
 
 impl<D: Restart> SimulatedDisk for Cut<D> {

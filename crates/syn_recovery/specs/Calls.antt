@@ -1,9 +1,10 @@
 -- What the device calls of a call on a journal are to the machine that makes it.
-use Rattle.std.specs.Prelude.{ℕ, true, false, ◌≤◌, ◌≡◌}
+use Rattle.std.specs.Prelude.{ℕ, true, false, ◌+◌, ◌≤◌, ◌≡◌}
 use Rattle.std.specs.Option.{option_map_or}
 use Rattle.syn_disk.specs.Arms.{Arms as DiskArms, is_stopped}
 use Rattle.syn_disk.specs.Calls.{Makes, MakesAtLeast, Breaks}
 use Rattle.syn_headline.specs.Machine.{Status, Up, Halted, Down, Arms, unarmed, Meets, IsBefore}
+use Rattle.syn_headline.specs.Machine.{Journaled}
 
 -- what is armed at the machine of a disk that was not stopped yet
 abbrev pub armed_at : DiskArms → Arms
@@ -40,3 +41,8 @@ abbrev pub MadeReadsMeet : Type 0
 MadeReadsMeet = (least : ℕ) (old new : DiskArms) → is_stopped old ≡ false →
     MakesAtLeast least old new →
     (calls : ℕ) × (least ≤ calls) × CallsMeet old new calls Up 0
+
+-- The machine counts no more failed calls than its disk, whose count was the first and is the
+-- second: so where no call of the disk failed, none of the machine's did
+abbrev pub CountsNoMore : {V W : Type 0} → ℕ → ℕ → Journaled V W → Journaled V W → Type 0
+CountsNoMore before after old new = new.failures + before ≤ old.failures + after

@@ -34,7 +34,7 @@ pub record AnswersAlone {D : Type 0} {disk : Ghosts D} (agent after : Agent) (se
     (request : Request) (reply : Reply) (found left : Replica D disk) : Type 0 where
   -- it is a step of the world's side
   pub takes : (pair : ℕ) (machine : SideMachine) → IsOf pair found agent machine
-      → Takes pair left after machine session request reply
+      → Takes pair found left after machine session request reply
   -- for every history that the replica stands for
   pub answers : (history : History) → Stands found history
       → AnswersOf found left agent after history session request reply

@@ -96,21 +96,27 @@ pub record AreStopped {D : Type 0} (disk : Ghosts D) (disks stopped : Disks D) :
   pub archive : disk.arms stopped.archive ≡ no_arms
 
 module _ {D : Type 0} (disk : Ghosts D) (disks stopped : Disks D)
+    (is : AreStopped disk disks stopped)
+    (stays : (one : D) → disk.may_leave one (disk.seen one)) where
+  pub might_hold : MayHold disk.may_leave disks (shown_on disk.seen stopped)
+  might_hold = record {
+    left = is.back.left (disk.seen stopped.left) (stays stopped.left);
+    right = is.back.right (disk.seen stopped.right) (stays stopped.right);
+    archive = is.back.archive (disk.seen stopped.archive) (stays stopped.archive);
+  }
+
+module _ {D : Type 0} (disk : Ghosts D) (disks stopped : Disks D)
     (is : AreStopped disk disks stopped) (before : Stores) (run : ModelWorld)
     (fits : run.pair < 2 ^ 64) (safe : AreSafe disk.may_leave before disks run)
     (stays : (one : D) → disk.may_leave one (disk.seen one)) where
   abbrev pub shown : Shown
   shown = shown_on disk.seen stopped
 
-  pub might_hold : MayHold disk.may_leave disks shown
-  might_hold = record {
-    left = is.back.left shown.left (stays stopped.left);
-    right = is.back.right shown.right (stays stopped.right);
-    archive = is.back.archive shown.archive (stays stopped.archive);
-  }
+  abbrev holds : MayHold disk.may_leave disks shown
+  holds = might_hold disk disks stopped is stays
 
   abbrev pub found : IsCrashSafe before run shown
-  found = safe shown might_hold
+  found = safe shown holds
 
   -- it stands for the stores of the run
   pub stand : StandFor disk.seen disk.arms run.pair stopped found.now
@@ -127,7 +133,7 @@ module _ {D : Type 0} (disk : Ghosts D) (disks stopped : Disks D)
       → Recovers disks before run world
   recovers world opens = record {
     shown = shown;
-    might_hold = might_hold;
+    might_hold = holds;
     safe = found;
     opens = opens;
   }

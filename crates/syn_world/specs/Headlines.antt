@@ -6,13 +6,14 @@ use Rattle.syn_headline.specs.Headline.{stores_of}
 use Rattle.syn_headline.specs.World.{World as ModelWorld, Step, Runs}
 use Rattle.syn_host.specs.Coordinators.{archive_disk}
 use Rattle.syn_host.specs.Sides.{side_disk}
-use Rattle.syn_host.specs.Starts.{IsFromOutside}
+use Rattle.syn_host.specs.Starts.{CountsFailure, IsFromOutside}
 use Rattle.syn_model.specs.Path.{Bytes}
 use Rattle.syn_model.specs.Refusal as why
 use Rattle.syn_recovery.specs.Headline.{Disks as Shown, IsCrashSafe, IsOpenedFrom}
 use Rattle.syn_refusal.specs.Refusals.{cause_of}
 use Rattle.syn_refusal.specs.declared.refusal.Refusal.{Refusal}
-use Rattle.syn_world.specs.Openings.{ComeBack, OpensFrom, shown_on}
+use Rattle.syn_world.specs.Openings.{AreOfPair, ComeBack, OpensFrom, RefusesDisks, failed_calls}
+use Rattle.syn_world.specs.Openings.{shown_on}
 use Rattle.syn_world.specs.Worlds.{IsWorld}
 use Rattle.syn_world.specs.declared.world.Disks.{Disks}
 use Rattle.syn_world.specs.declared.world.World.{World}
@@ -55,11 +56,14 @@ pub record HasRunSafely {D : Type 0} {disk : Ghosts D} (pair : ℕ) (disks : Dis
   pub is : IsWorld world new
   pub run : IsSafeRun disk pair disks (disks_of world) stores steps new
 
--- no world was opened, for no cause that lies in the disks' bytes, and the disks come back
-pub record IsNotOpened {D : Type 0} (may_leave : D → Bytes → Type 0) (disks : Disks D)
+-- no world was opened, for no cause that lies in the disks' bytes, and the disks come back: memory
+-- was refused, or a call of one of them failed
+pub record IsNotOpened {D : Type 0} (disk : Ghosts D) (disks : Disks D)
     (refused : Refusal × Disks D) : Type 0 where
   pub cause : IsFromOutside refused.0
-  pub back : ComeBack may_leave disks refused.1
+  pub failures : CountsFailure refused.0 (failed_calls disk.failures disks)
+      (failed_calls disk.failures refused.1)
+  pub back : ComeBack disk.may_leave disks refused.1
 
 -- memory was refused behind the first of the steps, and the disks come back as those left them
 pub record IsCutShort {D : Type 0} (disk : Ghosts D) (pair : ℕ) (disks : Disks D)
@@ -77,7 +81,21 @@ abbrev pub RunsSafely : {D : Type 0} → {disk : Ghosts D} → ℕ → Disks D �
 RunsSafely {D} {disk} pair disks stores steps (Ok world) =
     HasRunSafely pair disks stores steps world
 RunsSafely {D} {disk} pair disks stores steps (Err refused) =
-    IsNotOpened disk.may_leave disks refused ⊎ IsCutShort disk pair disks stores steps refused
+    IsNotOpened disk disks refused ⊎ IsCutShort disk pair disks stores steps refused
+
+-- What was opened after a stop: a stop might have left disks of one pair
+pub record FindsPair {D : Type 0} (may_leave : D → Bytes → Type 0) (disks : Disks D)
+    (pair : ℕ) : Type 0 where
+  pub shown : Shown
+  pub might_hold : MayHold may_leave disks shown
+  pub holds : AreOfPair shown pair
+
+-- And why it was not: a stop might have left disks that are refused so
+pub record FindsCause {D : Type 0} (may_leave : D → Bytes → Type 0) (disks : Disks D)
+    (refusal : Refusal) : Type 0 where
+  pub shown : Shown
+  pub might_hold : MayHold may_leave disks shown
+  pub refuses : RefusesDisks shown refusal
 
 -- A world was opened from disks as a stop might have left them behind a run. It stands for what the
 -- run acknowledged, with at most the change that each machine was making
@@ -87,3 +105,12 @@ pub record Recovers {D : Type 0} {disk : Ghosts D} (disks : Disks D) (before : S
   pub might_hold : MayHold disk.may_leave disks shown
   pub safe : IsCrashSafe before run shown
   pub opens : OpensFrom run.pair shown safe.now world
+
+-- A world that was opened again after a run of these steps and a stop of all machines: the run was
+-- safe with whatever a stop may leave, and this is what was opened of it
+pub record RunsAndRecovers {D : Type 0} {disk : Ghosts D} (pair : ℕ) (disks : Disks D)
+    (stores : Stores) (steps : List Step) (world : World D disk) : Type 0 where
+  pub later : Disks D
+  pub new : ModelWorld
+  pub run : IsSafeRun disk pair disks later stores steps new
+  pub recovers : Recovers later stores new world

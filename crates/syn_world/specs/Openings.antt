@@ -1,14 +1,16 @@
 -- What three disks stand for, and the world that is opened from them.
-use Rattle.std.specs.Prelude.{◌≡◌, ◌<◌, ◌^◌, ℕ}
+use Rattle.std.specs.Prelude.{◌≡◌, ◌+◌, ◌<◌, ◌^◌, ℕ, None, Some}
 use Rattle.syn_disk.specs.Arms.{Arms}
 use Rattle.syn_disk.specs.Disk.{NothingNew}
 use Rattle.syn_disk.specs.declared.disk.Disk.{Ghosts}
 use Rattle.syn_headline.specs.Acknowledged.{Stores}
 use Rattle.syn_headline.specs.Headline.{stores_of}
 use Rattle.syn_headline.specs.World.{World as ModelWorld}
-use Rattle.syn_host.specs.Starts.{IsFree}
+use Rattle.syn_host.specs.Starts.{HoldsArchive, HoldsReplica, IsFree, RefusesArchive}
+use Rattle.syn_host.specs.Starts.{RefusesSide}
 use Rattle.syn_model.specs.Path.{Bytes}
 use Rattle.syn_recovery.specs.Headline.{Disks as Shown, DisksStand, IsOpenedFrom}
+use Rattle.syn_refusal.specs.declared.refusal.Refusal.{Refusal}
 use Rattle.syn_world.specs.Worlds.{IsWorld}
 use Rattle.syn_world.specs.declared.world.Disks.{Disks}
 use Rattle.syn_world.specs.declared.world.World.{World}
@@ -39,6 +41,26 @@ pub record OpensFrom {D : Type 0} {disk : Ghosts D} (pair : ℕ) (shown : Shown)
   pub is : IsWorld world model
   pub opened : IsOpenedFrom pair shown model
   pub stores_are : stores_of model ≡ stores
+
+-- the three disks hold two replicas and an archive, all of one pair
+pub record AreOfPair (shown : Shown) (pair : ℕ) : Type 0 where
+  pub left : HoldsReplica pair shown.left
+  pub right : HoldsReplica pair shown.right
+  pub archive : HoldsArchive pair shown.archive
+
+-- Why they are not opened: the first of left, right and archive that is refused has the cause, and
+-- those before it hold what they should
+pub data RefusesDisks (shown : Shown) (refusal : Refusal) : Type 0 where
+  refuses_left : RefusesSide None shown.left refusal → RefusesDisks shown refusal
+  refuses_right : (pair : ℕ) → HoldsReplica pair shown.left →
+      RefusesSide (Some pair) shown.right refusal → RefusesDisks shown refusal
+  refuses_archive : (pair : ℕ) → HoldsReplica pair shown.left → HoldsReplica pair shown.right →
+      RefusesArchive (Some pair) shown.archive refusal → RefusesDisks shown refusal
+
+-- how many calls of the three disks failed
+abbrev pub failed_calls : {D : Type 0} → (D → ℕ) → Disks D → ℕ
+failed_calls failures disks =
+    failures disks.left + failures disks.right + failures disks.archive
 
 -- a stop leaves on each of the disks only what it might have left before
 pub record ComeBack {D : Type 0} (may_leave : D → Bytes → Type 0) (old new : Disks D)

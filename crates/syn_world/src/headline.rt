@@ -1,10 +1,14 @@
 //! A run of a world from three disks to what a stop may leave on them, and the opening behind it.
-ghost use Rattle.std.specs.Prelude.{◌<◌, ◌^◌, ℕ, IfErr, IfOk, map};
+ghost use Rattle.std.specs.Prelude.{◌≡◌, ◌⊎◌, ◌<◌, ◌^◌, ℕ, IfErr, IfOk, MatchResult, map};
 ghost use Rattle.syn_headline.specs.Acknowledged.{Stores};
 ghost use Rattle.syn_headline.specs.World.{World as ModelWorld};
-ghost use Rattle.syn_host.specs.Starts.{IsFromOutside};
-ghost use Rattle.syn_world.specs.Headlines.{AreSafe, Recovers, RunsSafely};
-ghost use Rattle.syn_world.specs.Openings.{ComeBack, StandFor};
+ghost use Rattle.syn_host.specs.Starts.{CountsFailure, IsFromOutside};
+ghost use Rattle.syn_model.specs.Refusal as why;
+ghost use Rattle.syn_refusal.specs.Refusals.{cause_of};
+ghost use Rattle.syn_world.specs.Headlines.{AreSafe, FindsCause, FindsPair, Recovers, RunsSafely};
+ghost use Rattle.syn_world.specs.Headlines.{RunsAndRecovers, disks_of};
+ghost use Rattle.syn_world.specs.Openings.{AreOfPair, ComeBack, RefusesDisks, StandFor};
+ghost use Rattle.syn_world.specs.Openings.{failed_calls, shown_on};
 ghost use Rattle.syn_world.specs.Steps.{step_of};
 
 use crate::step::Step;
@@ -19,15 +23,23 @@ use syn_refusal::Refusal;
 /// Whatever a stop may leave on the disks behind the last of them stands for what was acknowledged,
 /// in order, with at most the one change that each machine was making.
 ///
-/// Refused 9 and 11 where the opening is, and 11 where memory is refused for a list of the world.
-/// Then the disks come back as the steps until then left them, and the same holds of those.
+/// Refused as the opening is, and 11 where memory is refused for a list of the world. Then the
+/// disks come back as the steps until then left them, and the same holds of those.
 pub fn run<D: SimulatedDisk>(
     alloc: Global,
     disks: Disks<D>,
     steps: Vec<Step>,
 ) -> Result<World<D>, (Refusal, Disks<D>)>
-    ensures { (pair : ℕ) (stores : Stores) → StandFor D.Limit.seen D.Limit.arms pair disks stores
+    ensures safe { (pair : ℕ) (stores : Stores)
+        → StandFor D.Limit.seen D.Limit.arms pair disks stores
         → RunsSafely pair disks stores (map step_of steps.items) result }
+
+    // Of any disks, whatever they hold: it begins only from those of one pair.
+    ensures pair { IfOk result (λ _. (pair : ℕ) × AreOfPair (shown_on D.Limit.seen disks) pair) }
+    ensures cause { IfErr result (λ refused. (cause_of refused.0 ≡ why.Memory)
+        ⊎ RefusesDisks (shown_on D.Limit.seen disks) refused.0) }
+    ensures failures { IfErr result (λ refused. cause_of refused.0 ≡ why.Device
+        → failed_calls D.Limit.failures disks < failed_calls D.Limit.failures refused.1) }
 {
     headline();
     match World::open(alloc, disks) {
@@ -41,8 +53,9 @@ pub fn run<D: SimulatedDisk>(
 
 /// Opens the world of a pair again from its three disks, behind a stop of all of its machines.
 ///
-/// Refused 9 where a device call fails, and 11 where memory is refused. The disks of a run that was
-/// safe are refused for no other cause. The disks come back, and nothing is written.
+/// Refused 9 where a device call fails, 11 where memory is refused, and 18, 19 and 20 where the
+/// disks are no pair's, as [`World::open`] is; the disks of a run that was safe are refused for
+/// none of these three. The disks come back, and nothing is written.
 pub fn recover<D: SimulatedDisk>(
     alloc: Global,
     disks: Disks<D>,
@@ -53,6 +66,15 @@ pub fn recover<D: SimulatedDisk>(
         → AreSafe D.Limit.may_leave before disks run
         → IfErr result (λ refused. IsFromOutside refused.0) }
     ensures back { IfErr result (λ refused. ComeBack D.Limit.may_leave disks refused.1) }
+
+    // Of any disks, whatever they hold: only those of one pair are opened.
+    ensures pair { IfOk result (λ world. FindsPair D.Limit.may_leave disks world.pair) }
+    ensures cause { IfErr result (λ refused. FindsCause D.Limit.may_leave disks refused.0) }
+    ensures failures { MatchResult result
+        (λ world. failed_calls D.Limit.failures (disks_of world)
+        ≡ failed_calls D.Limit.failures disks)
+        (λ refused. CountsFailure refused.0 (failed_calls D.Limit.failures disks)
+        (failed_calls D.Limit.failures refused.1)) }
 {
     let stopped = Disks {
         left: disks.left.after_stop(),
@@ -60,4 +82,28 @@ pub fn recover<D: SimulatedDisk>(
         archive: disks.archive.after_stop(),
     };
     World::open(alloc, stopped)
+}
+
+/// Runs these steps from three disks, stops all machines, and opens what their disks then hold.
+///
+/// What is opened stands for what the run acknowledged, in order, with at most the one change that
+/// each machine was making. Nothing else is asked of the disks than that they are of one pair.
+///
+/// Refused as [`run`] and [`recover`] are; from disks of a pair, 9 and 11 alone.
+pub fn run_and_recover<D: SimulatedDisk>(
+    alloc: Global,
+    disks: Disks<D>,
+    steps: Vec<Step>,
+) -> Result<World<D>, (Refusal, Disks<D>)>
+    ensures recovered { (pair : ℕ) (stores : Stores)
+        → StandFor D.Limit.seen D.Limit.arms pair disks stores
+        → IfOk result (RunsAndRecovers pair disks stores (map step_of steps.items)) }
+    ensures refused { (pair : ℕ) (stores : Stores)
+        → StandFor D.Limit.seen D.Limit.arms pair disks stores
+        → IfErr result (λ refused. IsFromOutside refused.0) }
+{
+    match run(alloc, disks, steps) {
+        Ok(world) => recover(alloc, world.into_disks()),
+        Err(refused) => Err(refused),
+    }
 }

@@ -10,7 +10,7 @@ mod replies;
 mod step;
 mod world;
 
-pub use headline::{recover, run};
+pub use headline::{recover, run, run_and_recover};
 pub use lists::{Ack, Lists, Message};
 pub use step::{Machine, Step};
 pub use world::{Disks, World};

@@ -1,8 +1,10 @@
 //! A world is opened from its three disks.
-ghost use Rattle.std.specs.Prelude.{◌≡◌, ℕ, [], IfErr, IfOk};
+ghost use Rattle.std.specs.Prelude.{◌≡◌, ℕ, [], IfErr, IfOk, MatchResult};
 ghost use Rattle.syn_headline.specs.Acknowledged.{Stores};
-ghost use Rattle.syn_host.specs.Starts.{IsFromOutside};
-ghost use Rattle.syn_world.specs.Openings.{ComeBack, OpensFrom, StandFor, shown_on};
+ghost use Rattle.syn_host.specs.Starts.{CountsFailure, IsFromOutside};
+ghost use Rattle.syn_world.specs.Headlines.{disks_of};
+ghost use Rattle.syn_world.specs.Openings.{AreOfPair, ComeBack, OpensFrom, RefusesDisks};
+ghost use Rattle.syn_world.specs.Openings.{StandFor, failed_calls, shown_on};
 
 use crate::lists::Lists;
 use crate::world::{Disks, World};
@@ -26,6 +28,16 @@ impl<D: SimulatedDisk> World<D> {
             → StandFor D.Limit.seen D.Limit.arms pair disks stores
             → IfErr result (λ refused. IsFromOutside refused.0) }
         ensures back { IfErr result (λ refused. ComeBack D.Limit.may_leave disks refused.1) }
+
+        // Of any disks, whatever they hold: only those of one pair are opened.
+        ensures pair { IfOk result (λ world. AreOfPair (shown_on D.Limit.seen disks) world.pair) }
+        ensures cause { IfErr result
+            (λ refused. RefusesDisks (shown_on D.Limit.seen disks) refused.0) }
+        ensures failures { MatchResult result
+            (λ world. failed_calls D.Limit.failures (disks_of world)
+            ≡ failed_calls D.Limit.failures disks)
+            (λ refused. CountsFailure refused.0 (failed_calls D.Limit.failures disks)
+            (failed_calls D.Limit.failures refused.1)) }
     {
         let left = match start_side(alloc, disks.left, None) {
             Ok(left) => left,

@@ -1,5 +1,6 @@
 //! The answers that come to a coordinator.
-ghost use Rattle.std.specs.Prelude.{◌≡◌, [], ℕ, IfSome, None, Some, is_some, option_map, true};
+ghost use Rattle.std.specs.Prelude.{◌≡◌, ◌⊎◌, [], ℕ, IfSome, None, Some, false, is_some, option_map};
+ghost use Rattle.std.specs.Prelude.{true};
 ghost use Rattle.syn_coordinator.specs.inner.Answered.{Answered};
 ghost use Rattle.syn_coordinator.specs.inner.Taking.{asks_to, TakesOn, TakesSo};
 ghost use Rattle.syn_coordinator.specs.inner.Walking.{ended_by};
@@ -29,7 +30,7 @@ use syn_session::{Asks, Course, Sending, Session};
 
 impl<D: Limit> Coordinator<D> {
     ghost use Rattle.syn_coordinator.specs.Coordinators.{Does, Stands, archive_of, tried_shown};
-    ghost use Rattle.syn_coordinator.specs.Coordinators.{written};
+    ghost use Rattle.syn_coordinator.specs.Coordinators.{report_shown, runs, written};
     ghost use Rattle.syn_coordinator.specs.inner.Settling.{IsQuiet};
 
     /// Takes an answer of a side, under the session and the number of its request. It goes on
@@ -55,6 +56,9 @@ impl<D: Limit> Coordinator<D> {
         ensures step { (pair : ℕ) (machine : CoordinatorMachine) → Stands self.old pair machine
             → Does self.old self.new pair (CoordinatorTakes pair machine (which_of from) session
             number (reply_of reply)) (written self.new) (messages_of result.items) }
+        // An answer that ends no session leaves the last report.
+        ensures report { (runs self.new ≡ true) ⊎ (runs self.old ≡ false)
+            → report_shown self.new ≡ report_shown self.old }
     {
         self.written = Vec::new(alloc);
         self.broke = false;
@@ -116,6 +120,7 @@ impl<D: Limit> Coordinator<D> {
             journal running
             (exchange_of (which_of from) number (request_of request) (reply_of reply)) session.new
             (written self.new) result }
+        ensures report { self.new.report ≡ self.old.report }
     {
         if session.course.is_some() {
             return self.take_carried(alloc, session, from, request, reply);
@@ -136,6 +141,7 @@ impl<D: Limit> Coordinator<D> {
             → IsScanned session.old (hearing running taken)
             → written self.old ≡ [] → TakesSo (archive_of self.new) (tried_shown self.new) pair
             journal running taken session.new (written self.new) result }
+        ensures report { self.new.report ≡ self.old.report }
     {
         let left = session.left.scan.found();
         let right = session.right.scan.found();
@@ -168,6 +174,7 @@ impl<D: Limit> Coordinator<D> {
             journal running
             (exchange_of (which_of from) number (request_of request) (reply_of reply)) session.new
             (written self.new) result }
+        ensures report { self.new.report ≡ self.old.report }
     {
         transfer_laws();
         drop(request);
@@ -195,6 +202,7 @@ impl<D: Disk> Coordinator<D> {
             → TakesOn (archive_of self.old) pair machine.journal running taken session
             (written self.old) asks → Answered self.new pair machine running taken
             (written self.new) (messages_of result.items) }
+        ensures report { runs self.new ≡ true → self.new.report ≡ self.old.report }
     {
         let mut session = session;
         match session.ask(alloc, asks) {

@@ -1,5 +1,7 @@
 //! The machine of a coordinator is started again.
-ghost use Rattle.std.specs.Prelude.{IfErr, IfOk, option_map};
+ghost use Rattle.std.specs.Prelude.{◌≡◌, IfErr, IfOk, MatchResult, option_map};
+ghost use Rattle.syn_archive.specs.Refusals.{CountsFailures};
+ghost use Rattle.syn_coordinator.specs.Coordinators.{device_of};
 ghost use Rattle.syn_coordinator.specs.Openings.{OpensAs, RestsStill, RestsWith};
 ghost use Rattle.syn_keep.specs.Machines.{Journal};
 ghost use Rattle.syn_keep.specs.Tries.{listed};
@@ -32,6 +34,9 @@ impl<D: Disk> Coordinator<D> {
         ensures rests { (machine : Journal) → RestsWith D.arms D.may_leave pair disk tried
             machine → IfErr result (λ refused. RestsStill D.arms D.may_leave pair refused.1
             refused.2 machine refused.0) }
+        ensures failures { MatchResult result
+            (λ made. D.failures (device_of made.0) ≡ D.failures disk)
+            (λ refused. CountsFailures refused.0 (D.failures disk) (D.failures refused.1)) }
     {
         device_laws();
         opening_laws();

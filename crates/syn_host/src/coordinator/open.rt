@@ -1,13 +1,14 @@
 //! A coordinator is opened: from its disk alone, behind a stop of its machine, or again.
-ghost use Rattle.std.specs.Prelude.{ℕ, IfErr, IfOk};
+ghost use Rattle.std.specs.Prelude.{◌≡◌, ℕ, IfErr, IfOk, MatchResult, Some};
 ghost use Rattle.syn_disk.specs.Disk.{NothingNew};
 ghost use Rattle.syn_headline.specs.Coordinator.{CoordinatorMachine};
 ghost use Rattle.syn_host.specs.CoordinatorOpenings.{OpensSo, ReopensSo, SettlesFound};
-ghost use Rattle.syn_host.specs.Coordinators.{IsCoordinator, Rests};
-ghost use Rattle.syn_host.specs.Starts.{CanStart, IsFromOutside, StartsCoordinator};
+ghost use Rattle.syn_host.specs.Coordinators.{IsCoordinator, Rests, archive_disk};
+ghost use Rattle.syn_host.specs.Starts.{CanStart, CountsFailure, HoldsArchive, IsFromOutside};
+ghost use Rattle.syn_host.specs.Starts.{RefusesArchive, StartsCoordinator};
 ghost use Rattle.syn_model.specs.Archive.{Archive as KeptArchive};
 ghost use Rattle.syn_recovery.specs.Machines.{of_archive};
-ghost use Rattle.syn_coordinator.specs.Coordinators.{Stands};
+ghost use Rattle.syn_coordinator.specs.Coordinators.{Stands, device_of};
 
 use super::settle::down;
 use super::{CoordinatorHost, DownCoordinator};
@@ -33,11 +34,18 @@ pub fn start_coordinator<D: SimulatedDisk>(
     ensures starts { (kept : KeptArchive)
         → CanStart (of_archive pair) (D.Limit.arms disk) (D.Limit.seen disk) kept
         → IfOk result (StartsCoordinator pair (D.Limit.seen disk) kept) }
+    ensures holds { IfOk result (λ _. HoldsArchive pair (D.Limit.seen disk)) }
+    ensures cause { IfErr result
+        (λ refused. RefusesArchive (Some pair) (D.Limit.seen disk) refused.0) }
     ensures refused { (kept : KeptArchive)
         → CanStart (of_archive pair) (D.Limit.arms disk) (D.Limit.seen disk) kept
         → IfErr result (λ refused. IsFromOutside refused.0) }
     ensures left { IfErr result
         (λ refused. NothingNew (D.Limit.may_leave disk) (D.Limit.may_leave refused.1)) }
+    ensures failures { MatchResult result
+        (λ coordinator. D.Limit.failures (device_of coordinator) ≡ D.Limit.failures disk)
+        (λ refused. CountsFailure refused.0 (D.Limit.failures disk)
+        (D.Limit.failures refused.1)) }
 {
     device_laws();
     match Archive::open(alloc, disk, Some(pair)) {
@@ -66,7 +74,7 @@ impl<D: SimulatedDisk> CoordinatorHost<D> {
     /// Refused 9 where a device call fails, and 11 where memory is refused. Then it stays down.
     pub fn open(self, alloc: Global, pair: u64) -> CoordinatorOpening<D>
         ensures { (machine : CoordinatorMachine) → IsCoordinator pair self machine
-            → OpensSo pair machine result }
+            → OpensSo pair machine (D.Limit.failures (archive_disk self)) result }
     {
         match self {
             CoordinatorHost::Up(coordinator) => CoordinatorOpening {
@@ -105,7 +113,8 @@ fn open_down<D: SimulatedDisk>(
     pair: u64,
 ) -> CoordinatorOpening<D>
     ensures { (machine : CoordinatorMachine)
-        → Rests D.Limit.arms D.Limit.may_leave pair down machine → OpensSo pair machine result }
+        → Rests D.Limit.arms D.Limit.may_leave pair down machine
+        → OpensSo pair machine (D.Limit.failures down.disk) result }
 {
     let DownCoordinator { disk, tried } = down;
     match Coordinator::open(alloc, disk, pair, tried) {

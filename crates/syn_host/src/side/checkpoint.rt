@@ -1,7 +1,7 @@
 //! A checkpoint of a side.
 ghost use Rattle.std.specs.Prelude.{◌<◌, ◌+◌, ◌^◌, ℕ};
 ghost use Rattle.syn_headline.specs.SideMachine.{SideMachine};
-ghost use Rattle.syn_replica.specs.Replica.{IsHalted, generation_shown};
+ghost use Rattle.syn_replica.specs.Replica.{IsHalted, disk_of, generation_shown};
 
 use super::{SideCall, SideHost, UpSide};
 use crate::disk::SimulatedDisk;
@@ -20,7 +20,7 @@ impl<D: SimulatedDisk> UpSide<D> {
     /// memory is refused, and 9 where a device call fails.
     pub fn checkpoint(self, alloc: Global) -> SideCall<D>
         ensures { (pair : ℕ) (machine : SideMachine) → RunsAs pair self machine
-            → CheckpointsSo pair machine result }
+            → CheckpointsSo pair machine (D.Limit.failures (disk_of self.replica)) result }
     {
         if self.replica.is_halted() {
             return self.refused(Refusal::Halted);
@@ -36,7 +36,7 @@ impl<D: SimulatedDisk> UpSide<D> {
         requires running { ¬ IsHalted self.replica }
         requires less { generation_shown self.replica + 1 < 2 ^ 64 }
         ensures { (pair : ℕ) (machine : SideMachine) → RunsAs pair self machine
-            → CheckpointsSo pair machine result }
+            → CheckpointsSo pair machine (D.Limit.failures (disk_of self.replica)) result }
     {
         device_laws();
         let mut side = self;

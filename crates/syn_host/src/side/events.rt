@@ -6,7 +6,7 @@ ghost use Rattle.syn_message.specs.Requests.{request_of};
 ghost use Rattle.syn_model.specs.Event.{AreBytes, IsLawfulEvent};
 ghost use Rattle.syn_model.specs.Path.{IsPath};
 ghost use Rattle.syn_replica.specs.Edits.{event_by};
-ghost use Rattle.syn_replica.specs.Replica.{IsHalted, position_shown};
+ghost use Rattle.syn_replica.specs.Replica.{IsHalted, disk_of, position_shown};
 
 use super::{SideAnswer, SideCall, UpSide};
 use crate::disk::SimulatedDisk;
@@ -25,7 +25,8 @@ impl<D: SimulatedDisk> UpSide<D> {
     /// The user makes the edit. Refused as an edit of the replica is.
     pub fn edit(self, alloc: Global, user: u32, edit: Edit) -> SideCall<D>
         ensures { (pair : ℕ) (machine : SideMachine) → RunsAs pair self machine
-            → EditsSo pair machine (event_by user edit) result }
+            → EditsSo pair machine (D.Limit.failures (disk_of self.replica)) (event_by user edit)
+            result }
     {
         if self.replica.is_halted() {
             return self.refused(Refusal::Halted);
@@ -39,7 +40,8 @@ impl<D: SimulatedDisk> UpSide<D> {
         requires running { ¬ IsHalted self.replica }
         requires lawful { IsLawfulEvent (event_by user edit) }
         ensures { (pair : ℕ) (machine : SideMachine) → RunsAs pair self machine
-            → EditsSo pair machine (event_by user edit) result }
+            → EditsSo pair machine (D.Limit.failures (disk_of self.replica)) (event_by user edit)
+            result }
     {
         device_laws();
         let mut side = self;
@@ -59,7 +61,8 @@ impl<D: SimulatedDisk> UpSide<D> {
     /// The agent answers the request. Where the machine stops in it, nothing is said.
     pub fn answer(self, alloc: Global, session: u64, request: Request) -> SideAnswer<D>
         ensures { (pair : ℕ) (machine : SideMachine) → RunsAs pair self machine
-            → AnswersSo pair machine session (request_of request) result }
+            → AnswersSo pair machine (D.Limit.failures (disk_of self.replica)) session
+            (request_of request) result }
     {
         let mut side = self;
         let position = side.replica.position();

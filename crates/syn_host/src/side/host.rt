@@ -21,7 +21,8 @@ impl<D: SimulatedDisk> SideHost<D> {
     /// The user makes the edit, unless the machine is down.
     pub fn edit(self, alloc: Global, user: u32, edit: Edit) -> SideCall<D>
         ensures { (pair : ℕ) (machine : SideMachine) → IsHost pair self machine
-            → EditsSo pair machine (event_by user edit) result }
+            → EditsSo pair machine (D.Limit.failures (side_disk self)) (event_by user edit)
+            result }
     {
         match self {
             SideHost::Up(side) => side.edit(alloc, user, edit),
@@ -32,7 +33,8 @@ impl<D: SimulatedDisk> SideHost<D> {
     /// A request is delivered. A machine that is down takes none.
     pub fn answer(self, alloc: Global, session: u64, request: Request) -> SideAnswer<D>
         ensures { (pair : ℕ) (machine : SideMachine) → IsHost pair self machine
-            → AnswersSo pair machine session (request_of request) result }
+            → AnswersSo pair machine (D.Limit.failures (side_disk self)) session
+            (request_of request) result }
     {
         match self {
             SideHost::Up(side) => side.answer(alloc, session, request),
@@ -46,7 +48,7 @@ impl<D: SimulatedDisk> SideHost<D> {
     /// A checkpoint, unless the machine is down.
     pub fn checkpoint(self, alloc: Global) -> SideCall<D>
         ensures { (pair : ℕ) (machine : SideMachine) → IsHost pair self machine
-            → CheckpointsSo pair machine result }
+            → CheckpointsSo pair machine (D.Limit.failures (side_disk self)) result }
     {
         match self {
             SideHost::Up(side) => side.checkpoint(alloc),
@@ -57,7 +59,7 @@ impl<D: SimulatedDisk> SideHost<D> {
     /// The device call with this number from now on fails, and is not made; at 0 none does.
     pub fn fail(self, call: u64) -> SideHost<D>
         ensures { (pair : ℕ) (machine : SideMachine) → IsHost pair self machine
-            → FailsSo pair machine call result }
+            → FailsSo pair machine (D.Limit.failures (side_disk self)) call result }
     {
         match self {
             SideHost::Up(side) => SideHost::Up(side.fail(call)),
@@ -69,7 +71,7 @@ impl<D: SimulatedDisk> SideHost<D> {
     /// stops at once.
     pub fn stop(self, calls: u64) -> SideHost<D>
         ensures { (pair : ℕ) (machine : SideMachine) → IsHost pair self machine
-            → StopsSo pair machine calls result }
+            → StopsSo pair machine (D.Limit.failures (side_disk self)) calls result }
     {
         match self {
             SideHost::Up(side) => {
@@ -86,7 +88,7 @@ impl<D: SimulatedDisk> SideHost<D> {
     /// The machine is started again, unless it is up.
     pub fn open(self, alloc: Global, pair: u64) -> SideCall<D>
         ensures { (machine : SideMachine) → IsHost pair self machine
-            → OpensSo pair machine result }
+            → OpensSo pair machine (D.Limit.failures (side_disk self)) result }
     {
         match self {
             SideHost::Up(side) => SideHost::Up(side).unchanged(),
@@ -97,7 +99,7 @@ impl<D: SimulatedDisk> SideHost<D> {
     /// The replica opens its disk again, unless the machine is down.
     pub fn reopen(self, alloc: Global) -> SideCall<D>
         ensures { (pair : ℕ) (machine : SideMachine) → IsHost pair self machine
-            → ReopensSo pair machine result }
+            → ReopensSo pair machine (D.Limit.failures (side_disk self)) result }
     {
         match self {
             SideHost::Up(side) => side.reopen(alloc),

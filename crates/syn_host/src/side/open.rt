@@ -2,7 +2,7 @@
 ghost use Rattle.std.specs.Prelude.{◌≡◌, ℕ, IfOk, option_map};
 ghost use Rattle.syn_headline.specs.SideMachine.{SideMachine};
 ghost use Rattle.syn_host.specs.Sides.{Gains};
-ghost use Rattle.syn_replica.specs.Replica.{tried_shown};
+ghost use Rattle.syn_replica.specs.Replica.{disk_of, tried_shown};
 
 use super::{DownSide, SideCall, SideHost, UpSide};
 use crate::disk::SimulatedDisk;
@@ -22,7 +22,7 @@ impl<D: SimulatedDisk> DownSide<D> {
     /// Refused 9 where a device call fails, and 11 where memory is refused. Then it stays down.
     pub fn open(self, alloc: Global, pair: u64) -> SideCall<D>
         ensures { (machine : SideMachine) → RestsAs D.Limit.arms D.Limit.may_leave pair self machine
-            → OpensSo pair machine result }
+            → OpensSo pair machine (D.Limit.failures self.disk) result }
     {
         device_laws();
         opening_laws();
@@ -63,7 +63,7 @@ impl<D: SimulatedDisk> UpSide<D> {
     /// Refused 9 where a device call fails, and 11 where memory is refused.
     pub fn reopen(self, alloc: Global) -> SideCall<D>
         ensures { (pair : ℕ) (machine : SideMachine) → RunsAs pair self machine
-            → ReopensSo pair machine result }
+            → ReopensSo pair machine (D.Limit.failures (disk_of self.replica)) result }
     {
         match self.copied(alloc) {
             Ok(tried) => self.reopen_with(alloc, tried),
@@ -86,7 +86,7 @@ impl<D: SimulatedDisk> UpSide<D> {
     fn reopen_with(self, alloc: Global, tried: Option<Vec<u8>>) -> SideCall<D>
         requires { option_map (λ spelled. spelled.items) tried ≡ tried_shown self.replica }
         ensures { (pair : ℕ) (machine : SideMachine) → RunsAs pair self machine
-            → ReopensSo pair machine result }
+            → ReopensSo pair machine (D.Limit.failures (disk_of self.replica)) result }
     {
         device_laws();
         opening_laws();

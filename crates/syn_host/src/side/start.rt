@@ -7,7 +7,8 @@ ghost use Rattle.syn_archive.specs.Disks.{IsWanted};
 ghost use Rattle.syn_disk.specs.Disk.{NothingNew};
 ghost use Rattle.syn_headline.specs.SideMachine.{SideMachine};
 ghost use Rattle.syn_host.specs.Sides.{replica_in};
-ghost use Rattle.syn_host.specs.Starts.{CanStart, IsFromOutside, StartsSide};
+ghost use Rattle.syn_host.specs.Starts.{CanStart, CountsFailure, HoldsReplica, IsFromOutside};
+ghost use Rattle.syn_host.specs.Starts.{RefusesSide, StartsSide};
 ghost use Rattle.syn_model.specs.History.{History};
 ghost use Rattle.syn_recovery.specs.Machines.{of_side};
 ghost use Rattle.syn_replica.specs.Replica.{disk_of, pair_of};
@@ -73,6 +74,11 @@ pub fn start_side<D: SimulatedDisk>(
     ensures starts { (number : ℕ) (history : History) → number < 2 ^ 64
         → CanStart (of_side number) (D.Limit.arms disk) (D.Limit.seen disk) history
         → IfOk result (StartsSide number (D.Limit.seen disk) history) }
+    ensures holds { IfOk result
+        (λ side. HoldsReplica (pair_of (replica_in side)) (D.Limit.seen disk)) }
+    ensures wanted { IfOk result (λ side. (asked : ℕ) → pair ≡ Some asked
+        → asked ≡ pair_of (replica_in side)) }
+    ensures cause { IfErr result (λ refused. RefusesSide pair (D.Limit.seen disk) refused.0) }
     ensures refused { (number : ℕ) (history : History) → number < 2 ^ 64 → IsWanted pair number
         → CanStart (of_side number) (D.Limit.arms disk) (D.Limit.seen disk) history
         → IfErr result (λ refused. IsFromOutside refused.0) }
@@ -80,6 +86,10 @@ pub fn start_side<D: SimulatedDisk>(
         (λ side. NothingNew (D.Limit.may_leave disk)
         (D.Limit.may_leave (disk_of (replica_in side))))
         (λ refused. NothingNew (D.Limit.may_leave disk) (D.Limit.may_leave refused.1)) }
+    ensures failures { MatchResult result
+        (λ side. D.Limit.failures (disk_of (replica_in side)) ≡ D.Limit.failures disk)
+        (λ refused. CountsFailure refused.0 (D.Limit.failures disk)
+        (D.Limit.failures refused.1)) }
 {
     device_laws();
     disk_laws();

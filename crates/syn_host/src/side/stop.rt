@@ -17,9 +17,11 @@ impl<D: SimulatedDisk> UpSide<D> {
 
     /// The device call with this number from now on fails, and is not made; at 0 none does.
     pub fn fail(self, call: u64) -> UpSide<D>
-        ensures { (pair : ℕ) (machine : SideMachine) → RunsAs pair self machine
+        ensures runs { (pair : ℕ) (machine : SideMachine) → RunsAs pair self machine
             → RunsAs pair result
             (with_arms machine (record machine.journal.arms { fail = call })) }
+        ensures count { D.Limit.failures (disk_of result.replica)
+            ≡ D.Limit.failures (disk_of self.replica) }
     {
         self.arm(Arm::Fail(call))
     }
@@ -27,9 +29,11 @@ impl<D: SimulatedDisk> UpSide<D> {
     /// So many device calls are still made, and the machine stops behind the last of them.
     pub fn stop_after(self, calls: u64) -> UpSide<D>
         requires { calls ≢ 0 }
-        ensures { (pair : ℕ) (machine : SideMachine) → RunsAs pair self machine
+        ensures runs { (pair : ℕ) (machine : SideMachine) → RunsAs pair self machine
             → RunsAs pair result
             (with_arms machine (record machine.journal.arms { stop = calls })) }
+        ensures count { D.Limit.failures (disk_of result.replica)
+            ≡ D.Limit.failures (disk_of self.replica) }
     {
         self.arm(Arm::Stop(calls))
     }
@@ -41,6 +45,8 @@ impl<D: SimulatedDisk> UpSide<D> {
         ensures runs { is_stopped (D.Limit.arms (disk_of result.replica)) ≡ false
             → (pair : ℕ) (machine : SideMachine) → RunsAs pair self machine → RunsAs pair result
             (with_arms machine (armed_at (D.Limit.arms (disk_of result.replica)))) }
+        ensures count { D.Limit.failures (disk_of result.replica)
+            ≡ D.Limit.failures (disk_of self.replica) }
     {
         let mut side = self;
         side.replica.arm(arm);
@@ -49,8 +55,9 @@ impl<D: SimulatedDisk> UpSide<D> {
 
     /// The machine stops at once. What is in memory is lost, and so is what is staged.
     pub fn stop(self) -> DownSide<D>
-        ensures { (pair : ℕ) (machine : SideMachine) → RunsAs pair self machine
+        ensures rests { (pair : ℕ) (machine : SideMachine) → RunsAs pair self machine
             → RestsAs D.Limit.arms D.Limit.may_leave pair result (stopped machine) }
+        ensures count { D.Limit.failures result.disk ≡ D.Limit.failures (disk_of self.replica) }
     {
         let position = self.replica.position();
         self.stop_at(position)
@@ -58,9 +65,10 @@ impl<D: SimulatedDisk> UpSide<D> {
 
     /// The machine has stopped, and so many events had been acknowledged.
     pub(crate) fn stop_at(self, position: u64) -> DownSide<D>
-        ensures { (pair : ℕ) (machine : SideMachine)
+        ensures rests { (pair : ℕ) (machine : SideMachine)
             → StopsAs pair position (tried_shown self.replica) self.replica machine
             → RestsAs D.Limit.arms D.Limit.may_leave pair result machine }
+        ensures count { D.Limit.failures result.disk ≡ D.Limit.failures (disk_of self.replica) }
     {
         let (disk, tried) = self.replica.into_parts();
         DownSide {

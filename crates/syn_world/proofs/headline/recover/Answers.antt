@@ -1,5 +1,11 @@
+use Rattle.std.proofs.Common.{◌≡◌, arith, subst}
+use Rattle.std.specs.Prelude.{MatchResult}
+use Rattle.syn_host.specs.Starts.{CountsFailure}
+use Rattle.syn_world.specs.Headlines.{MayHold, disks_of}
+use Rattle.syn_world.specs.Openings.{failed_calls, shown_on}
 use Rattle.syn_world.specs.declared.world.Disks.{Disks}
-use Rattle.syn_world.proofs.HeadlineLemmas.{AreStopped, found, if_ok, recovers, stand}
+use Rattle.syn_world.proofs.HeadlineLemmas.{AreStopped, found, if_err, if_ok, might_hold, recovers}
+use Rattle.syn_world.proofs.HeadlineLemmas.{stand}
 use Rattle.syn_world.proofs.headline.recover.Goals as goal
 
 -- the disks as they are found behind the stop
@@ -44,3 +50,41 @@ returns-clause-refused g c before run fits safe =
     c.open.ensures.refused run.pair
     (found g.D.Disk disks stopped is before run fits safe stays).now
     (stand g.D.Disk disks stopped is before run fits safe stays)
+
+-- what the stopped disks show might have been left by a stop
+shown_is : (g : _) (c : goal.After-open g) → MayHold g.D.Disk.may_leave c.args.disks
+    (shown_on g.D.Disk.seen (stopped_disks g c))
+shown_is g c =
+    might_hold g.D.Disk c.args.disks (stopped_disks g c) (are_stopped g c)
+    g.met.D.Disk.seen_may_stay
+
+pub returns-clause-pair : goal.returns-clause-pair
+returns-clause-pair g c =
+    if_ok c.open.result c.open.ensures.pair (λ world holds. record {
+      shown = shown_on g.D.Disk.seen (stopped_disks g c);
+      might_hold = shown_is g c;
+      holds = holds;
+    })
+
+pub returns-clause-cause : goal.returns-clause-cause
+returns-clause-cause g c =
+    if_err c.open.result c.open.ensures.cause (λ refused refuses. record {
+      shown = shown_on g.D.Disk.seen (stopped_disks g c);
+      might_hold = shown_is g c;
+      refuses = refuses;
+    })
+
+pub returns-clause-failures : goal.returns-clause-failures
+returns-clause-failures g c =
+    let same : failed_calls g.D.Disk.failures (stopped_disks g c)
+    ≡ failed_calls g.D.Disk.failures c.args.disks =
+    omega (
+      arith,
+      c.after_stop.ensures.count,
+      c.after_stop-2.ensures.count,
+      c.after_stop-3.ensures.count,
+    ) in
+    subst (λ n. MatchResult c.open.result
+    (λ world. failed_calls g.D.Disk.failures (disks_of world) ≡ n)
+    (λ refused. CountsFailure refused.0 n (failed_calls g.D.Disk.failures refused.1))) same
+    c.open.ensures.failures

@@ -5,8 +5,8 @@ use Rattle.syn_world.specs.Steps.{step_of}
 use Rattle.syn_world.proofs.HeadlineLemmas.{safe_run, world_left}
 use Rattle.syn_world.proofs.headline.run.Goals as goal
 
-pub returns-in-Ok-run : goal.returns-in-Ok-run
-returns-in-Ok-run g c pair stores all =
+pub returns-in-Ok-run-clause-safe : goal.returns-in-Ok-run-clause-safe
+returns-in-Ok-run-clause-safe g c pair stores all =
     let opens = c.in-Ok.ensures.opened pair stores all in
     let had = c.in-Ok-run.ensures opens.model opens.is in
     record {
@@ -18,8 +18,8 @@ returns-in-Ok-run g c pair stores all =
           (world_left c.in-Ok-run.world had.new had.is.machines);
     }
 
-pub returns-in-Err-run : goal.returns-in-Err-run
-returns-in-Err-run g c pair stores all =
+pub returns-in-Err-run-clause-safe : goal.returns-in-Err-run-clause-safe
+returns-in-Err-run-clause-safe g c pair stores all =
     let opens = c.in-Ok.ensures.opened pair stores all in
     let ended = c.in-Err-run.ensures opens.model opens.is in
     inr (record {
@@ -33,8 +33,21 @@ returns-in-Err-run g c pair stores all =
           ended.left;
     })
 
-pub returns-in-Err : goal.returns-in-Err
-returns-in-Err g c pair stores all = inl (record {
+pub returns-in-Err-clause-safe : goal.returns-in-Err-clause-safe
+returns-in-Err-clause-safe g c pair stores all = inl (record {
   cause = c.in-Err.ensures.refused pair stores all;
+  failures = c.in-Err.ensures.failures;
   back = c.in-Err.ensures.back;
 })
+
+pub returns-in-Ok-run-clause-pair : goal.returns-in-Ok-run-clause-pair
+returns-in-Ok-run-clause-pair g c = (_, c.in-Ok.ensures.pair)
+
+pub returns-in-Err-run-clause-cause : goal.returns-in-Err-run-clause-cause
+returns-in-Err-run-clause-cause g c = inl refl
+
+pub returns-in-Err-clause-cause : goal.returns-in-Err-clause-cause
+returns-in-Err-clause-cause g c = inr c.in-Err.ensures.cause
+
+pub returns-in-Err-clause-failures : goal.returns-in-Err-clause-failures
+returns-in-Err-clause-failures g c = c.in-Err.ensures.failures.grew

@@ -1,4 +1,6 @@
-use Rattle.std.proofs.Common.{refl, sym, subst, ap, ◌∙◌, map}
+use Rattle.std.proofs.Common.{refl, sym, subst, ap, ◌∙◌, map, option_map, inl, inr}
+use Rattle.std.proofs.lemmas.Bool.{false≢true}
+use Rattle.syn_session.specs.Reports.{report_model}
 use Rattle.std.specs.Prelude.{is_some}
 use Rattle.syn_message.specs.Replies.{reply_of}
 use Rattle.syn_message.specs.Requests.{request_of}
@@ -22,6 +24,7 @@ returns-in_default g c = record {
       c.args.session c.args.number (reply_of c.args.reply) stands none.1) _ _
       (ap (λ w. map kept_of w.items) c.expecting.ensures.kept.0
       ∙ ap (map kept_of) c.new.ensures.items) (ap messages_of c.new-in_default.ensures.items);
+  report = λ _. ap (option_map report_model) c.expecting.ensures.report;
 }
 
 pub returns-in-Ok : goal.returns-in-Ok
@@ -44,6 +47,12 @@ returns-in-Ok g c = record {
       reply it.0 request _ _ (ap is_some was) it.1
       (c.ask.ensures.step pair machine it.0 (exchange_of side c.args.number request reply)
       (stands.quiet (ap is_some it.1.runs)) on.1 on.0);
+  report = λ either. elim either [
+    | inl runs ↦ ap (option_map report_model) (c.ask.ensures.report runs
+        ∙ (c.take.ensures.report ∙ c.expecting.ensures.report))
+    | inr idle ↦
+        absurd (false≢true (sym idle ∙ ap is_some c.in-Some.ensures.some.1))
+  ];
 }
 
 pub returns-in-Err : goal.returns-in-Err
@@ -69,4 +78,9 @@ returns-in-Err g c = record {
       _ c.take.new.session _ _ c.in-Err.ended _ c.finish.ensures.archive c.finish.ensures.kept.2
       (ap (λ w. map kept_of w.items) c.finish.ensures.kept.0)
       (ap messages_of c.new-in-Err.ensures.items) ends c.finish.ensures.report);
+  report = λ either. elim either [
+    | inl runs ↦ absurd (false≢true (sym (ap is_some c.finish.ensures.running) ∙ runs))
+    | inr idle ↦
+        absurd (false≢true (sym idle ∙ ap is_some c.in-Some.ensures.some.1))
+  ];
 }

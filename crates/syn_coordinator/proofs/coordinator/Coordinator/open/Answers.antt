@@ -1,5 +1,6 @@
-use Rattle.std.proofs.Common.{◌<◌, ◌^◌, arith, inr, refl}
+use Rattle.std.proofs.Common.{◌<◌, ◌^◌, ◌∙◌, ap, arith, inr, refl}
 use Rattle.std.specs.Prelude.{option_map}
+use Rattle.syn_archive.specs.Archive.{disk_of}
 use Rattle.syn_coordinator.proofs.DownLemmas.{open_not, open_ok, some_stands}
 use Rattle.syn_image.specs.Archives.{kept_of}
 use Rattle.syn_coordinator.proofs.coordinator.Coordinator.open.Goals as goal
@@ -12,6 +13,11 @@ returns-in-Ok-clause-opens g c machine rests =
     c.in-Ok.ensures.each c.keeps_on_disk.ensures c.opening_laws.ensures.archives
     c.new-coordinator.result (option_map kept_of c.found-kept.result) c.found-kept.ensures
     c.new-coordinator.ensures.stands c.in-Ok.ensures.calls
+
+pub returns-in-Ok-clause-failures : goal.returns-in-Ok-clause-failures
+returns-in-Ok-clause-failures g c =
+    ap (λ archive. g.D.Disk.failures (disk_of archive)) c.new-coordinator.ensures.archive
+    ∙ c.in-Ok.ensures.failures
 
 pub returns-in-Err-clause-rests : goal.returns-in-Err-clause-rests
 returns-in-Err-clause-rests g c machine rests =

@@ -1,7 +1,9 @@
-use Rattle.std.proofs.Common.{subst}
+use Rattle.std.proofs.Common.{arith, subst}
 use Rattle.syn_host.specs.CoordinatorOpenings.{opens}
 use Rattle.syn_coordinator.specs.Coordinators.{Stands}
-use Rattle.syn_headline.specs.Coordinator.{with_archive}
+use Rattle.syn_headline.specs.Coordinator.{archive_layout, with_archive}
+use Rattle.syn_model.specs.Archive.{CanKeep}
+use Rattle.syn_host.proofs.OpenLemmas.{opens_counts}
 use Rattle.syn_host.proofs.CoordinatorLemmas.{with_journal_alone}
 use Rattle.syn_host.proofs.CoordinatorOpenLemmas.{rests_with, stays_down}
 use Rattle.syn_host.proofs.coordinator.open.open_down.Goals as goal
@@ -15,6 +17,13 @@ returns-in-Ok g c machine rests =
       opens = opens made.calls made.journal _ rests.down made.opens;
       is = subst (λ m. Stands c.in-Ok.coordinator c.args.pair m)
           (with_journal_alone machine made.journal rests.idle) made.stands;
+      counts =
+          omega (
+            arith,
+            c.in-Ok.ensures.failures,
+            opens_counts (archive_layout c.args.pair) CanKeep
+                machine.journal made.calls made.journal _ made.opens,
+          );
     }
 
 pub returns-in-Err : goal.returns-in-Err
@@ -22,3 +31,4 @@ returns-in-Err g c machine rests =
     stays_down g.D.Disk c.args.pair c.args.down machine rests c.in-Err.disk c.in-Err.tried
     c.in-Err.error c.refusal.result c.refusal.ensures (c.in-Err.ensures.rests machine.journal
     (rests_with g.D.Disk.arms g.D.Disk.may_leave c.args.pair c.args.down machine rests))
+    c.in-Err.ensures.failures

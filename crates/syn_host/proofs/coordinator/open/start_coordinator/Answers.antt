@@ -1,6 +1,9 @@
-use Rattle.std.proofs.Common.{◌<◌, ◌∙◌, ap, arith, inl, inr, refl}
+use Rattle.std.proofs.Common.{◌<◌, ◌∙◌, ap, arith, inl, inr, refl, subst, sym}
 use Rattle.std.specs.Prelude.{◌^◌}
+use Rattle.syn_archive.specs.Archive.{disk_of, shown}
+use Rattle.syn_archive.specs.Disks.{DiskStands}
 use Rattle.syn_archive.specs.Refusals.{refusal_of}
+use Rattle.syn_host.proofs.CauseLemmas.{archive_did_not, archive_failed}
 use Rattle.syn_host.proofs.StartLemmas.{archive_stands_for, coordinator_starts}
 use Rattle.syn_host.proofs.coordinator.open.start_coordinator.Goals as goal
 
@@ -11,6 +14,33 @@ returns-in-Ok-clause-starts g c kept can =
     c.in-Ok.ensures.untouched c.in-Ok.ensures.each c.keeps_on_disk.ensures
     g.met.D.Disk.seen_may_stay c.device_laws.ensures.reads c.in-Ok.ensures.calls
     c.new.ensures.stands
+
+pub returns-in-Ok-clause-holds : goal.returns-in-Ok-clause-holds
+returns-in-Ok-clause-holds g c = record {
+  archive = shown c.in-Ok.archive;
+  stands = subst (λ p. DiskStands p (g.D.Disk.seen c.args.disk) (shown c.in-Ok.archive))
+      (sym (c.in-Ok.ensures.wanted c.args.pair refl)) c.in-Ok.ensures.given;
+}
+
+pub returns-in-Ok-clause-failures : goal.returns-in-Ok-clause-failures
+returns-in-Ok-clause-failures g c =
+    ap (λ archive. g.D.Disk.failures (disk_of archive)) c.new.ensures.archive
+    ∙ c.in-Ok.ensures.failures
+
+pub returns-in-Err-clause-cause : goal.returns-in-Err-clause-cause
+returns-in-Err-clause-cause g c = record {
+  error = c.in-Err.error;
+  is = c.refusal.ensures;
+  cause = c.in-Err.ensures.refusals;
+}
+
+pub returns-in-Err-clause-failures : goal.returns-in-Err-clause-failures
+returns-in-Err-clause-failures g c = record {
+  grew = λ device. archive_failed c.in-Err.error _ _ (sym c.refusal.ensures ∙ device)
+      c.in-Err.ensures.failures;
+  same = λ other. archive_did_not c.in-Err.error _ _ (λ device. other (c.refusal.ensures ∙ device))
+      c.in-Err.ensures.failures;
+}
 
 pub returns-in-Err-clause-refused : goal.returns-in-Err-clause-refused
 returns-in-Err-clause-refused g c kept can =

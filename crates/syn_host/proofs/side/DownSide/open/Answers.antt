@@ -3,7 +3,7 @@ use Rattle.std.specs.Prelude.{◌^◌, option_map}
 use Rattle.syn_host.specs.Sides.{Gains}
 use Rattle.syn_replica.specs.Refusals.{AfterReads}
 use Rattle.syn_agent.proofs.CauseLemmas.{device_is}
-use Rattle.syn_host.proofs.CauseLemmas.{memory_not_device, reads_made}
+use Rattle.syn_host.proofs.CauseLemmas.{has_failed, memory_not_device, none_failed, reads_made}
 use Rattle.syn_host.proofs.OpenLemmas.{open_failed, open_ok, open_refused, some_stands}
 use Rattle.syn_host.proofs.side.DownSide.open.Goals as goal
 
@@ -16,7 +16,8 @@ returns-in-Ok g c machine rests =
     rests.tries fits c.in-Ok.ensures.untouched c.in-Ok.ensures.each c.new-agent.ensures
     (c.machine_laws.ensures.up c.args.pair)
     (subst (λ n. Gains c.gained-outcome.result c.args.self.position n tried) c.position.ensures
-    c.gained-outcome.ensures) c.opening_laws.ensures.sides c.in-Ok.ensures.calls
+    c.gained-outcome.ensures) c.opening_laws.ensures.sides c.in-Ok.ensures.failures
+    c.in-Ok.ensures.calls
 
 pub returns-in-Err : goal.returns-in-Err
 returns-in-Err g c machine rests =
@@ -29,12 +30,14 @@ returns-in-Err g c machine rests =
       | inl device ↦ open_failed g.D.Disk c.args.pair c.args.self machine rests
           g.met.D.Disk.seen_may_stay c.device_laws.ensures.reads c.in-Err.disk
           c.in-Err.ensures.untouched c.refusal.result (c.refusal.ensures ∙ device)
-          c.device_laws.ensures.broken (subst (λ e. AfterReads 1 e
+          (has_failed c.in-Err.error _ _ device c.in-Err.ensures.failures) c.device_laws.ensures.broken (subst (λ e. AfterReads 1 e
           (g.D.Disk.arms c.args.self.disk) (g.D.Disk.arms c.in-Err.disk))
           (device_is c.in-Err.error device) c.in-Err.ensures.calls)
       | inr memory ↦ open_refused g.D.Disk c.args.pair c.args.self machine rests
           g.met.D.Disk.seen_may_stay c.device_laws.ensures.reads c.in-Err.disk
           c.in-Err.ensures.untouched c.refusal.result (c.refusal.ensures ∙ memory)
+          (none_failed c.in-Err.error _ _ (λ device. memory_not_device (sym memory ∙ device))
+          c.in-Err.ensures.failures)
           (reads_made c.in-Err.error 1 _ _ (λ device. memory_not_device (sym memory ∙ device))
           c.in-Err.ensures.calls)
     ]

@@ -1,6 +1,6 @@
-use Rattle.std.proofs.Common.{subst}
+use Rattle.std.proofs.Common.{ap, arith, subst}
 use Rattle.syn_host.specs.SideSteps.{fails, with_arms}
-use Rattle.syn_host.specs.Sides.{IsHost}
+use Rattle.syn_host.specs.Sides.{IsHost, side_disk}
 use Rattle.syn_host.proofs.HostLemmas.{fail_down}
 use Rattle.syn_host.proofs.SideLemmas.{not_down}
 use Rattle.syn_host.proofs.side.SideHost.fail.Goals as goal
@@ -11,7 +11,9 @@ returns-in-Up g c pair machine is =
     record {
       next = with_arms machine (record machine.journal.arms { fail = c.args.call });
       fails = fails (not_down pair c.in-Up.side machine runs);
-      is = c.fail.ensures pair machine runs;
+      is = c.fail.ensures.runs pair machine runs;
+      counts =
+          omega (arith, c.fail.ensures.count, ap (λ s. g.D.Disk.failures (side_disk s)) c.in-Up.is);
     }
 
 pub returns-in-Down : goal.returns-in-Down

@@ -1,6 +1,6 @@
-use Rattle.std.proofs.Common.{◌≡◌, ◌≢◌, arith, subst, sym}
+use Rattle.std.proofs.Common.{◌≡◌, ◌≢◌, ap, arith, subst, sym}
 use Rattle.syn_host.specs.SideSteps.{StopsSide, at_once, behind, stopped, with_arms}
-use Rattle.syn_host.specs.Sides.{IsHost}
+use Rattle.syn_host.specs.Sides.{IsHost, side_disk}
 use Rattle.syn_host.proofs.HostLemmas.{stop_down}
 use Rattle.syn_host.proofs.SideLemmas.{not_down}
 use Rattle.syn_host.proofs.side.SideHost.stop.Goals as goal
@@ -13,7 +13,9 @@ returns-then-calls-eq0 g c pair machine is =
       next = stopped machine;
       stops = subst (λ n. StopsSide machine n (stopped machine)) (sym none)
           (at_once (not_down pair c.in-Up.side machine runs));
-      is = c.stop.ensures pair machine runs;
+      is = c.stop.ensures.rests pair machine runs;
+      counts =
+          omega (arith, c.stop.ensures.count, ap (λ s. g.D.Disk.failures (side_disk s)) c.in-Up.is);
     }
 
 pub returns-else-calls-eq0 : goal.returns-else-calls-eq0
@@ -23,7 +25,13 @@ returns-else-calls-eq0 g c pair machine is =
     record {
       next = with_arms machine (record machine.journal.arms { stop = c.args.calls });
       stops = behind c.args.calls (not_down pair c.in-Up.side machine runs) some;
-      is = c.stop_after.ensures pair machine runs;
+      is = c.stop_after.ensures.runs pair machine runs;
+      counts =
+          omega (
+            arith,
+            c.stop_after.ensures.count,
+            ap (λ s. g.D.Disk.failures (side_disk s)) c.in-Up.is,
+          );
     }
 
 pub returns-in-Down : goal.returns-in-Down

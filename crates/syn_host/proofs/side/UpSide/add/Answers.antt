@@ -12,8 +12,8 @@ use Rattle.syn_replica.specs.Steps.{add_refusal}
 use Rattle.syn_tree.specs.Edits.{edit_of}
 use Rattle.syn_agent.proofs.CauseLemmas.{device_is, edit_never, none_of, outside}
 use Rattle.syn_host.proofs.CauseLemmas.{causes_are, causes_none, causes_some}
-use Rattle.syn_host.proofs.CauseLemmas.{no_calls, reason_is}
-use Rattle.syn_host.proofs.EditLemmas.{edit_failed, edit_ok, edit_refused}
+use Rattle.syn_host.proofs.CauseLemmas.{has_failed, no_calls, none_failed, reason_is}
+use Rattle.syn_host.proofs.EditLemmas.{edit_failed, edit_ok, edit_refused, failed_by}
 use Rattle.syn_host.proofs.SideLemmas.{position_is, when_up}
 use Rattle.syn_host.proofs.side.UpSide.add.Goals as goal
 
@@ -35,7 +35,7 @@ returns-in-Ok g c pair machine runs =
     (c.in-Ok.ensures.any_moment machine.journal.value is_up.1) c.in-Ok.ensures.tried
     c.settle_added.ensures none (c.machine_laws.ensures.up pair)
     (c.in-Ok.ensures.acknowledged machine.journal.value is_up.1).1 c.in-Ok.ensures.record
-    c.device_laws.ensures.made c.in-Ok.ensures.calls
+    c.in-Ok.ensures.failures c.device_laws.ensures.made c.in-Ok.ensures.calls
 
 pub returns-in-Err : goal.returns-in-Err
 returns-in-Err g c pair machine runs =
@@ -48,7 +48,8 @@ returns-in-Err g c pair machine runs =
     let same = causes_are pair (room_shown old) (left_shown old) c.args.user
     (edit_of c.args.edit) machine room_is (runs.is.room is_up.0) in
     let position_now = c.position-position.ensures ∙ position_is pair c.args.self machine runs in
-    elim c.in-Err.ensures.tried as (λ _. EditsSo pair machine event c.settle.result) [
+    elim c.in-Err.ensures.tried
+    as (λ _. EditsSo pair machine (failed_by old) event c.settle.result) [
       | inl device ↦
           let none = causes_none machine (causes_of pair machine event) is_up.0 (sym same
           ∙ none_of (add_refusal (room_shown old) value event)
@@ -60,7 +61,7 @@ returns-in-Err g c pair machine runs =
           (c.in-Err.ensures.any_moment value is_up.1) device.1 _ c.settle.ensures
           (ap (λ r. r ∷ []) (c.refusal.ensures ∙ device.0)) refl none
           (c.in-Err.ensures.halts device.0) c.in-Err.ensures.readings
-          c.device_laws.ensures.broken
+          (has_failed e _ _ device.0 c.in-Err.ensures.failures) c.device_laws.ensures.broken
           (subst (λ e. MakesIfDevice e 4 (g.D.Disk.arms (disk_of old))
           (g.D.Disk.arms (disk_of c.edit.new.self))) (device_is e device.0)
           c.in-Err.ensures.calls)
@@ -87,4 +88,5 @@ returns-in-Err g c pair machine runs =
           (no_calls e 4 _ _ other.0 c.in-Err.ensures.calls) (c.machine_laws-in-Err.ensures.up pair)
           event _ (refusal_of e) c.settle.result _ c.settle.ensures
           (ap (λ r. r ∷ []) c.refusal.ensures) refl some
+          (none_failed e _ _ other.0 c.in-Err.ensures.failures)
     ]

@@ -11,7 +11,8 @@ use Rattle.syn_replica.specs.Replica.{disk_of, journal_of}
 use Rattle.syn_agent.proofs.CauseLemmas.{device_is}
 use Rattle.syn_agent.proofs.ReadingLemmas.{halted_is}
 use Rattle.syn_host.proofs.CauseLemmas.{causes_none, causes_some, no_calls}
-use Rattle.syn_host.proofs.CauseLemmas.{memory_not_device, of_checkpoint}
+use Rattle.syn_host.proofs.CauseLemmas.{has_failed, memory_not_device, none_failed, of_checkpoint}
+use Rattle.syn_host.proofs.EditLemmas.{failed_by}
 use Rattle.syn_host.proofs.CheckpointLemmas.{compact_failed, compact_ok, compact_refused, is_less}
 use Rattle.syn_replica.proofs.GrowthLemmas.{stands_still}
 use Rattle.syn_host.proofs.SideLemmas.{position_is, when_up}
@@ -30,7 +31,7 @@ returns-in-Ok g c pair machine runs =
     none g.met.D.Disk.counts_now c.machine_laws.ensures.compacted c.in-Ok.ensures.memory
     c.in-Ok.ensures.tried (c.in-Ok.ensures.any_moment value is_up.1) c.settle.ensures
     (c.machine_laws.ensures.up pair) (c.in-Ok.ensures.acknowledged value is_up.1)
-    c.in-Ok.ensures.generation c.in-Ok.ensures.image c.device_laws.ensures.made
+    c.in-Ok.ensures.generation c.in-Ok.ensures.image c.in-Ok.ensures.failures c.device_laws.ensures.made
     c.in-Ok.ensures.calls
 
 pub returns-in-Err : goal.returns-in-Err
@@ -44,7 +45,7 @@ returns-in-Err g c pair machine runs =
     (is_less machine.journal.generation less) in
     let none = causes_none machine (full_generation machine.journal.generation) is_up.0 full in
     elim (of_checkpoint e c.in-Err.ensures.refusals)
-    as (λ _. CheckpointsSo pair machine c.settle-in-Err.result) [
+    as (λ _. CheckpointsSo pair machine (failed_by old) c.settle-in-Err.result) [
       | inl halted ↦ absurd (c.requires.running
           (c.in-Err.ensures.halted.0 (ap (λ x. Err x) (halted_is e halted))))
       | inr (inl is_full) ↦
@@ -67,6 +68,8 @@ returns-in-Err g c pair machine runs =
           (causes_some machine (full_generation machine.journal.generation) is_up.0
           (refusal_of e) (ap (λ b. first_cause ((b, why.Full) ∷ (true, why.Memory) ∷ []))
           (is_less machine.journal.generation less) ∙ ap (λ r. Some r) (sym memory)))
+          (none_failed e _ _ (λ device. memory_not_device (sym memory ∙ device))
+          c.in-Err.ensures.failures)
       | inr (inr (inr device)) ↦
           compact_failed pair old c.checkpoint.new.self c.args.self.agent machine runs is_up.0
           c.settle-in-Err.result _
@@ -75,7 +78,7 @@ returns-in-Err g c pair machine runs =
           c.in-Err.ensures.memory c.in-Err.ensures.tried
           (c.in-Err.ensures.any_moment value is_up.1) _ c.settle-in-Err.ensures
           (ap (λ r. r ∷ []) (c.refusal.ensures ∙ device)) refl (c.in-Err.ensures.halts device)
-          c.device_laws.ensures.broken
+          (has_failed e _ _ device c.in-Err.ensures.failures) c.device_laws.ensures.broken
           (subst (λ e. MakesIfDevice e 6 (g.D.Disk.arms (disk_of old))
           (g.D.Disk.arms (disk_of c.checkpoint.new.self))) (device_is e device)
           c.in-Err.ensures.calls)

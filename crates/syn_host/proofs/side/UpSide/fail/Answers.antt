@@ -6,8 +6,8 @@ use Rattle.syn_host.specs.Sides.{RunsAs}
 use Rattle.syn_recovery.specs.Calls.{armed_at}
 use Rattle.syn_host.proofs.side.UpSide.fail.Goals as goal
 
-pub returns : goal.returns
-returns g c pair machine runs =
+pub returns-clause-runs : goal.returns-clause-runs
+returns-clause-runs g c pair machine runs =
     subst (λ a. RunsAs pair c.arm.result (with_arms machine a))
     (ap armed_at c.arm.ensures.arms
     ∙ ap (λ (a : Arms). record a { fail = c.args.call }) (sym runs.is.armed))

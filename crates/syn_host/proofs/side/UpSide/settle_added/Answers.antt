@@ -8,5 +8,6 @@ returns-then-is_cut g c =
     let stopped : HasStopped c.args.self ≡ true = cc in
     record {
       goes_on = λ runs. absurd (false≢true (sym runs ∙ stopped));
-      stops = λ _. (refl, λ pair machine is. c.stop_at.ensures pair machine is);
+      stops = λ _. (refl, λ pair machine is. c.stop_at.ensures.rests pair machine is);
+      counted = c.stop_at.ensures.count;
     }

@@ -6,8 +6,8 @@ use Rattle.syn_recovery.specs.Machines.{of_side}
 use Rattle.syn_host.proofs.SideLemmas.{position_is}
 use Rattle.syn_host.proofs.side.UpSide.stop.Goals as goal
 
-pub returns : goal.returns
-returns g c pair machine runs = c.stop_at.ensures pair (stopped machine) (record {
+pub returns-clause-rests : goal.returns-clause-rests
+returns-clause-rests g c pair machine runs = c.stop_at.ensures.rests pair (stopped machine) (record {
   down = refl;
   unarmed_is = refl;
   unstaged = refl;

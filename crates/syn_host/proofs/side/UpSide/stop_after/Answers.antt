@@ -12,8 +12,8 @@ use Rattle.syn_host.proofs.side.UpSide.stop_after.Goals as goal
 not_zero : (n : ℕ) → n ≢ 0 → (n == 0) ≡ false
 not_zero n other = grind (arith, nat_tests)
 
-pub returns : goal.returns
-returns g c pair machine runs =
+pub returns-clause-runs : goal.returns-clause-runs
+returns-clause-runs g c pair machine runs =
     let was = g.D.Disk.arms (disk_of c.args.self.replica) in
     let now = c.arm.ensures.arms
     ∙ ap (λ b. if b then was else record was { stop = Some c.args.calls }) runs.is.runs in

@@ -1,5 +1,7 @@
-use Rattle.std.proofs.Common.{◌∙◌, inl, inr}
+use Rattle.std.proofs.Common.{◌∙◌, inl, inr, sym}
+use Rattle.syn_replica.specs.Replica.{standing_shown}
 use Rattle.syn_host.proofs.StartLemmas.{as_wanted, side_starts, stands_for}
+use Rattle.syn_host.proofs.CauseLemmas.{has_failed, none_failed}
 use Rattle.syn_host.proofs.side.start.start_side.Goals as goal
 
 pub returns-in-Ok-clause-starts : goal.returns-in-Ok-clause-starts
@@ -7,6 +9,27 @@ returns-in-Ok-clause-starts g c number history fits can =
     side_starts g.D.Disk number c.args.disk history fits can c.in-Ok.replica c.new-agent.result
     c.in-Ok.ensures.untouched c.in-Ok.ensures.each c.device_laws.ensures.reads
     c.in-Ok.ensures.calls c.new-agent.ensures (c.machine_laws.ensures.up number)
+
+pub returns-in-Ok-clause-holds : goal.returns-in-Ok-clause-holds
+returns-in-Ok-clause-holds g c = record {
+  standing = standing_shown c.in-Ok.replica;
+  gives = c.in-Ok.ensures.given;
+}
+
+pub returns-in-Err-clause-cause : goal.returns-in-Err-clause-cause
+returns-in-Err-clause-cause g c = record {
+  error = c.in-Err.error;
+  is = c.refusal.ensures;
+  cause = c.in-Err.ensures.refusals;
+}
+
+pub returns-in-Err-clause-failures : goal.returns-in-Err-clause-failures
+returns-in-Err-clause-failures g c = record {
+  grew = λ device. has_failed c.in-Err.error _ _ (sym c.refusal.ensures ∙ device)
+      c.in-Err.ensures.failures;
+  same = λ other. none_failed c.in-Err.error _ _ (λ device. other (c.refusal.ensures ∙ device))
+      c.in-Err.ensures.failures;
+}
 
 pub returns-in-Err-clause-refused : goal.returns-in-Err-clause-refused
 returns-in-Err-clause-refused g c number history fits wanted can =

@@ -1,6 +1,7 @@
-use Rattle.std.proofs.Common.{◌∙◌, Some, ap, inl, inr, refl, subst, sym}
-use Rattle.syn_host.specs.Starts.{CanStart, StartsCoordinator}
+use Rattle.std.proofs.Common.{◌∙◌, Some, ap, arith, inl, inr, refl, subst, sym}
+use Rattle.syn_host.specs.Starts.{CanStart, HoldsReplica, StartsCoordinator}
 use Rattle.syn_recovery.specs.Machines.{of_archive}
+use Rattle.syn_world.specs.Openings.{refuses_archive, refuses_left, refuses_right}
 use Rattle.syn_world.proofs.WorldOpenLemmas.{archive_can, left_can, right_can, world_opens}
 use Rattle.syn_world.proofs.world.World.open.Goals as goal
 
@@ -45,3 +46,87 @@ returns-in-Err-start_coordinator-clause-refused g c pair stores all =
     c.in-Err-start_coordinator.ensures.refused stores.archive
     (subst (λ p. CanStart (of_archive p) (g.D.Disk.arms c.args.disks.archive) bytes stores.archive)
     (sym same) (archive_can g.D.Disk pair c.args.disks stores all))
+
+pub returns-in-Ok-start_coordinator-clause-pair : goal.returns-in-Ok-start_coordinator-clause-pair
+returns-in-Ok-start_coordinator-clause-pair g c = record {
+  left = subst (λ p. HoldsReplica p (g.D.Disk.seen c.args.disks.left)) (sym c.pair-pair.ensures)
+      c.in-Ok.ensures.holds;
+  right = subst (λ p. HoldsReplica p (g.D.Disk.seen c.args.disks.right))
+      (sym (c.in-Ok-start_side.ensures.wanted c.pair-pair.result refl))
+      c.in-Ok-start_side.ensures.holds;
+  archive = c.in-Ok-start_coordinator.ensures.holds;
+}
+
+pub returns-in-Ok-start_coordinator-clause-failures :
+    goal.returns-in-Ok-start_coordinator-clause-failures
+returns-in-Ok-start_coordinator-clause-failures g c =
+    omega (
+      arith,
+      c.in-Ok.ensures.failures,
+      c.in-Ok-start_side.ensures.failures,
+      c.in-Ok-start_coordinator.ensures.failures,
+    )
+
+pub returns-in-Err-clause-cause : goal.returns-in-Err-clause-cause
+returns-in-Err-clause-cause g c = refuses_left c.in-Err.ensures.cause
+
+pub returns-in-Err-clause-failures : goal.returns-in-Err-clause-failures
+returns-in-Err-clause-failures g c = record {
+  grew = λ device. omega (arith, c.in-Err.ensures.failures.grew device);
+  same = λ other. omega (arith, c.in-Err.ensures.failures.same other);
+}
+
+pub returns-in-Err-start_side-clause-cause : goal.returns-in-Err-start_side-clause-cause
+returns-in-Err-start_side-clause-cause g c =
+    refuses_right c.pair-pair.result (subst (λ p. HoldsReplica p (g.D.Disk.seen c.args.disks.left))
+    (sym c.pair-pair.ensures) c.in-Ok.ensures.holds) c.in-Err-start_side.ensures.cause
+
+pub returns-in-Err-start_side-clause-failures : goal.returns-in-Err-start_side-clause-failures
+returns-in-Err-start_side-clause-failures g c =
+    let left = ap g.D.Disk.failures c.into_disk.ensures.disk in record {
+      grew = λ device. omega (
+        arith,
+        left,
+        c.in-Ok.ensures.failures,
+        c.in-Err-start_side.ensures.failures.grew device,
+      );
+      same = λ other. omega (
+        arith,
+        left,
+        c.in-Ok.ensures.failures,
+        c.in-Err-start_side.ensures.failures.same other,
+      );
+    }
+
+pub returns-in-Err-start_coordinator-clause-cause :
+    goal.returns-in-Err-start_coordinator-clause-cause
+returns-in-Err-start_coordinator-clause-cause g c =
+    refuses_archive c.pair-pair.result
+    (subst (λ p. HoldsReplica p (g.D.Disk.seen c.args.disks.left)) (sym c.pair-pair.ensures)
+    c.in-Ok.ensures.holds)
+    (subst (λ p. HoldsReplica p (g.D.Disk.seen c.args.disks.right))
+    (sym (c.in-Ok-start_side.ensures.wanted c.pair-pair.result refl))
+    c.in-Ok-start_side.ensures.holds) c.in-Err-start_coordinator.ensures.cause
+
+pub returns-in-Err-start_coordinator-clause-failures :
+    goal.returns-in-Err-start_coordinator-clause-failures
+returns-in-Err-start_coordinator-clause-failures g c =
+    let left = ap g.D.Disk.failures c.into_disk.ensures.disk in
+    let right = ap g.D.Disk.failures c.into_disk-2.ensures.disk in record {
+      grew = λ device. omega (
+        arith,
+        left,
+        right,
+        c.in-Ok.ensures.failures,
+        c.in-Ok-start_side.ensures.failures,
+        c.in-Err-start_coordinator.ensures.failures.grew device,
+      );
+      same = λ other. omega (
+        arith,
+        left,
+        right,
+        c.in-Ok.ensures.failures,
+        c.in-Ok-start_side.ensures.failures,
+        c.in-Err-start_coordinator.ensures.failures.same other,
+      );
+    }

@@ -2,7 +2,7 @@ use Rattle.std.proofs.Common.{[], subst, sym}
 use Rattle.syn_headline.specs.Network.{Left, Right}
 use Rattle.syn_headline.specs.World.{At, Open}
 use Rattle.syn_host.specs.Outcomes.{refused_in}
-use Rattle.syn_host.specs.Sides.{IsHost, OpensSo}
+use Rattle.syn_host.specs.Sides.{IsHost, OpensSo, side_disk}
 use Rattle.syn_message.specs.Sides.{which_of}
 use Rattle.syn_world.specs.Worlds.{GoesSo}
 use Rattle.syn_world.proofs.StepLemmas.{lift_open, side_next}
@@ -12,7 +12,8 @@ use Rattle.syn_world.proofs.world.World.open_side.Goals as goal
 pub returns-in-Left : goal.returns-in-Left
 returns-in-Left g c model is =
     let call = c.open-call.result in
-    let so = subst (λ p. OpensSo p model.left c.open-call.result) is.machines.pair
+    let before = g.D.Disk.failures (side_disk c.args.self.left) in
+    let so = subst (λ p. OpensSo p model.left before c.open-call.result) is.machines.pair
     (c.open-call.ensures model.left (subst (λ p. IsHost p c.args.self.left model.left)
     (sym is.machines.pair) is.machines.left)) in
     subst (λ s. GoesSo model (Open (At (which_of s))) c.noted.result) (sym c.in-Left.is) (record {
@@ -25,7 +26,9 @@ returns-in-Left g c model is =
 pub returns-in-Right : goal.returns-in-Right
 returns-in-Right g c model is =
     let call = c.open-call-in-Right.result in
-    let so = subst (λ p. OpensSo p model.right c.open-call-in-Right.result) is.machines.pair
+    let before = g.D.Disk.failures (side_disk c.args.self.right) in
+    let so = subst (λ p. OpensSo p model.right before c.open-call-in-Right.result)
+    is.machines.pair
     (c.open-call-in-Right.ensures model.right (subst (λ p. IsHost p c.args.self.right model.right)
     (sym is.machines.pair) is.machines.right)) in
     subst (λ s. GoesSo model (Open (At (which_of s))) c.noted-in-Right.result) (sym c.in-Right.is)
