@@ -1,27 +1,55 @@
-use Rattle.std.proofs.Common.{◌≡◌, ◌<◌, ◌⊎◌, List, Result, inl, inr, subst, sym}
-use Rattle.std.specs.Prelude.{◌^◌, map}
+use Rattle.std.proofs.Common.{◌<◌, ◌⊎◌, ℕ, List, inl, inr, map, subst, sym}
+use Rattle.std.specs.Prelude.{◌^◌}
 use Rattle.syn_disk.specs.declared.disk.Disk.{Ghosts}
 use Rattle.syn_headline.specs.Acknowledged.{Stores}
 use Rattle.syn_headline.specs.World.{Step}
 use Rattle.syn_host.specs.Starts.{IsFromOutside}
 use Rattle.syn_refusal.specs.declared.refusal.Refusal.{Refusal}
-use Rattle.syn_world.specs.Headlines.{AreSafe, IsCutShort, IsNotOpened}
+use Rattle.syn_world.specs.Headlines.{HasRunSafely, IsCutShort, IsNotOpened, IsSafeRun}
+use Rattle.syn_world.specs.Openings.{StandFor}
+use Rattle.syn_world.specs.Steps.{step_of}
 use Rattle.syn_world.specs.declared.world.Disks.{Disks}
 use Rattle.syn_world.proofs.HeadlineLemmas.{if_ok}
 use Rattle.syn_world.proofs.headline.run_and_recover.Goals as goal
 
-from_outside : {D : Type 0} (disk : Ghosts D) (pair : _) (disks : Disks D) (stores : Stores)
+-- the disks that the run left, with what holds of them
+module _ (g : _) (c : goal.After-recover g) (pair : ℕ) (stores : Stores)
+    (all : StandFor g.D.Disk.seen g.D.Disk.arms pair c.args.disks stores) where
+  had : HasRunSafely pair c.args.disks stores (map step_of c.args.steps.items) c.in-Ok.world
+  had = c.in-Ok.ensures.safe pair stores all
+
+  run : IsSafeRun g.D.Disk pair c.args.disks c.into_disks.result stores
+      (map step_of c.args.steps.items) had.new
+  run = subst (λ later. IsSafeRun g.D.Disk pair c.args.disks later stores
+      (map step_of c.args.steps.items) had.new) (sym c.into_disks.ensures.disks) had.run
+
+  fits : had.new.pair < 2 ^ 64
+  fits = subst (λ p. p < 2 ^ 64) (sym run.pair_is) all.fits
+
+pub returns-in-Ok-clause-recovered : goal.returns-in-Ok-clause-recovered
+returns-in-Ok-clause-recovered g c pair stores all =
+    if_ok c.recover.result
+    (c.recover.ensures.opened stores (had g c pair stores all).new (fits g c pair stores all)
+    (run g c pair stores all).safe) (λ world recovers. record {
+      later = c.into_disks.result;
+      new = (had g c pair stores all).new;
+      run = run g c pair stores all;
+      recovers = recovers;
+    })
+
+pub returns-in-Ok-clause-refused : goal.returns-in-Ok-clause-refused
+returns-in-Ok-clause-refused g c pair stores all =
+    c.recover.ensures.refused stores (had g c pair stores all).new (fits g c pair stores all)
+    (run g c pair stores all).safe
+
+from_outside : {D : Type 0} (disk : Ghosts D) (pair : ℕ) (disks : Disks D) (stores : Stores)
     (steps : List Step) (refused : Refusal × Disks D)
     → IsNotOpened disk disks refused ⊎ IsCutShort disk pair disks stores steps refused
     → IsFromOutside refused.0
 from_outside disk pair disks stores steps refused (inl not) = not.cause
 from_outside disk pair disks stores steps refused (inr short) = inr short.memory
 
-pub returns-in-Ok-clause-recovered : goal.returns-in-Ok-clause-recovered
-returns-in-Ok-clause-recovered g c pair stores all = ?
-
-pub returns-in-Ok-clause-refused : goal.returns-in-Ok-clause-refused
-returns-in-Ok-clause-refused g c pair stores all = ?
-
 pub returns-in-Err-clause-refused : goal.returns-in-Err-clause-refused
-returns-in-Err-clause-refused g c pair stores all = ?
+returns-in-Err-clause-refused g c pair stores all =
+    from_outside g.D.Disk pair c.args.disks stores (map step_of c.args.steps.items)
+    c.in-Err.refused (c.in-Err.ensures.safe pair stores all)

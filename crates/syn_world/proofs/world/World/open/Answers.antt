@@ -111,8 +111,8 @@ returns-in-Err-start_coordinator-clause-cause g c =
 pub returns-in-Err-start_coordinator-clause-failures :
     goal.returns-in-Err-start_coordinator-clause-failures
 returns-in-Err-start_coordinator-clause-failures g c =
-    let left = ap g.D.Disk.failures c.into_disk.ensures.disk in
-    let right = ap g.D.Disk.failures c.into_disk-2.ensures.disk in record {
+    let left = ap g.D.Disk.failures c.into_disk-in-Err-start_coordinator.ensures.disk in
+    let right = ap g.D.Disk.failures c.into_disk-in-Err-start_coordinator-2.ensures.disk in record {
       grew = λ device. omega (
         arith,
         left,
