@@ -85,7 +85,8 @@ heard _ reply = Some reply
 -- An event that it adds, or was writing as its device failed or stopped, is what was sent to the
 -- disk last
 pub record Takes {D : Type 0} {disk : Ghosts D} (pair : ℕ) (old new : Replica D disk)
-    (after : Agent) (machine : SideMachine) (session : ℕ) (request : Request) (reply : Reply) : Type 0 where
+    (after : Agent) (machine : SideMachine) (session : ℕ) (request : Request) (reply : Reply)
+    : Type 0 where
   pub next : SideMachine
   pub events : List Event
   pub takes : SideTakes pair machine session request next (heard next.journal.status reply) events

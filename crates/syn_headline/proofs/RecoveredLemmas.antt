@@ -42,8 +42,12 @@ module _ (world : World) (side : Which) (event : Event) where
   opens_again : journal.status ≡ Down → journal.writing ≡ Some event →
       IsAllowed journal.value event → Steps world (Open (At side)) given
   opens_again down writing allowed =
-      inr (down, opens 0 given (opens_side side _ _ (recovered (after_calls 0 journal.arms) event
-      (all_made (before_any journal.arms.fail) (before_any journal.arms.stop)) writing allowed)))
+      inr (
+        down,
+        opens 0 given (opens_side side _ _ (recovered (after_calls 0 journal.arms) event
+            (all_made (before_any journal.arms.fail) (before_any journal.arms.stop))
+            writing allowed)),
+      )
 
 -- each side's machine stands for what was acknowledged
 value_is : (before : Stores) (world : World) → StandsFor before world → (side : Which) →
@@ -119,7 +123,8 @@ module _ (legal : OfEachRun EachReplacementIsLegal) (old new : World)
   from_up up writing allowed =
       let machine = cut_off new side in
       let last = set_side new side machine in
-      from_down last (Stop (At side) 0 ∷ []) (last, inr (up, refl), refl) (same_sent new side machine)
+      from_down last (Stop (At side) 0 ∷ []) (last, inr (up, refl), refl)
+      (same_sent new side machine)
       (same_log new side machine) (same_acknowledged new side machine)
       (ap (λ m. m.journal.status) (set_is new side machine))
       (ap (λ m. m.journal.writing) (set_is new side machine) ∙ writing)

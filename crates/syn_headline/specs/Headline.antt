@@ -60,8 +60,8 @@ EachReplacementIsLegal before world =
     world.acknowledged ≡ earlier ++ Happened side (Replaced token path since new) ∷ later →
     IsLegal world.sent world.log side (stores_after before earlier) token path since new
 
--- And so is one that was being written as its machine stopped or its device failed, where an opening
--- then gives it
+-- And so is one that was being written as its machine stopped or its device failed, where an
+-- opening then gives it
 abbrev pub RecoveredIsLegal : Stores → World → Type 0
 RecoveredIsLegal before world =
     let now = stores_after before world.acknowledged in

@@ -132,9 +132,11 @@ module _ {D : Type 0} {disk : Ghosts D} (pair : ℕ) (old new : Replica D disk)
   pub answer_cut : (position : ℕ) → position ≡ length machine.journal.value
       → (call : SideCall D disk) → Settles (side_of new after) position Nothing call
       → is_stopped (disk.arms (disk_of new)) ≡ true
-      → AnswersSo pair machine (failed_by old) session request (record { call = call; reply = None })
+      → AnswersSo pair machine (failed_by old) session request
+      (record { call = call; reply = None })
   answer_cut position position_now call settles stopped = elim takes_so.leaves
-      as (λ _. AnswersSo pair machine (failed_by old) session request (record { call = call; reply = None })) [
+      as (λ _. AnswersSo pair machine (failed_by old) session request
+      (record { call = call; reply = None })) [
         | goes_on goes ↦ absurd (false≢true (sym goes.runs ∙ stopped))
         | stops rests ↦
             let down = becomes.down rests.down in
@@ -187,7 +189,8 @@ module _ {D : Type 0} {disk : Ghosts D} (pair : ℕ) (old new : Replica D disk)
       → (position ≡ position_shown new → Settles (side_of new after) position Nothing call)
       → (position ≢ position_shown new → SettlesAdded (side_of new after) position call)
       → is_stopped (disk.arms (disk_of new)) ≡ false
-      → AnswersSo pair machine (failed_by old) session request (record { call = call; reply = Some said })
+      → AnswersSo pair machine (failed_by old) session request
+      (record { call = call; reply = Some said })
   answer_goes position position_now call same added goes = elim takes_so.leaves
       as (λ _. AnswersSo pair machine (failed_by old) session request
       (record { call = call; reply = Some said })) [

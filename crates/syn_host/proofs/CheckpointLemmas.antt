@@ -115,7 +115,8 @@ module _ {D : Type 0} {disk : Ghosts D} (pair : ℕ) (old new : Replica D disk) 
       → Stops new_side position (tried_shown new) call) (counted : HasCounted new_side call) where
     stopped_so : (failed : ℕ) → failed + failed_by old ≤ failed_by new
         → is_stopped (disk.arms (disk_of new)) ≡ true
-        → Meets machine.journal.arms 6 Down unarmed failed → CheckpointsSo pair machine (failed_by old) call
+        → Meets machine.journal.arms 6 Down unarmed failed
+        → CheckpointsSo pair machine (failed_by old) call
     stopped_so failed few stopped meets =
         let behind = stops stopped in
         let next = with_journal machine (under_way Down unarmed failed) in
@@ -155,7 +156,8 @@ module _ {D : Type 0} {disk : Ghosts D} (pair : ℕ) (old new : Replica D disk) 
         ∙ ap₂ (λ p s. room_behind (image_spelling p s)) runs.is.pair_is standing_is))
 
     compacts : is_stopped (disk.arms (disk_of new)) ≡ false
-        → Meets machine.journal.arms 6 Up arms_now 0 → CheckpointsSo pair machine (failed_by old) call
+        → Meets machine.journal.arms 6 Up arms_now 0
+        → CheckpointsSo pair machine (failed_by old) call
     compacts goes meets =
         let behind = settles.goes_on goes in
         let next = with_journal machine with_it in
@@ -201,7 +203,8 @@ module _ {D : Type 0} {disk : Ghosts D} (pair : ℕ) (old new : Replica D disk) 
       (is_refused : refused_in outcome ≡ why.Device ∷ []) (is_not : Acknowledges outcome [])
       (halted : IsHalted new) (more : failed_by old < failed_by new) where
     broke : is_stopped (disk.arms (disk_of new)) ≡ false
-        → Meets machine.journal.arms 6 Halted arms_now 1 → CheckpointsSo pair machine (failed_by old) call
+        → Meets machine.journal.arms 6 Halted arms_now 1
+        → CheckpointsSo pair machine (failed_by old) call
     broke goes meets =
         let behind = settles.goes_on goes in
         let next = with_journal machine (under_way Halted arms_now 1) in

@@ -109,7 +109,8 @@ module _ {D : Type 0} {disk : Ghosts D} (pair : ℕ) (old new : Replica D disk) 
       (none : first_cause (causes_at machine (causes_of pair machine event)) ≡ None) where
     stopped_so : (failed : ℕ) → failed + failed_by old ≤ failed_by new
         → is_stopped (disk.arms (disk_of new)) ≡ true
-        → Meets machine.journal.arms 4 Down unarmed failed → EditsSo pair machine (failed_by old) event call
+        → Meets machine.journal.arms 4 Down unarmed failed
+        → EditsSo pair machine (failed_by old) event call
     stopped_so failed few stopped meets =
         let behind = stops stopped in
         let next = with_journal machine (writing_it Down unarmed failed) in
@@ -141,7 +142,8 @@ module _ {D : Type 0} {disk : Ghosts D} (pair : ℕ) (old new : Replica D disk) 
     with_it = with_record (side_layout pair) machine.journal event arms_now
 
     added : is_stopped (disk.arms (disk_of new)) ≡ false
-        → Meets machine.journal.arms 4 Up arms_now 0 → EditsSo pair machine (failed_by old) event call
+        → Meets machine.journal.arms 4 Up arms_now 0
+        → EditsSo pair machine (failed_by old) event call
     added goes meets =
         let behind = settles.goes_on goes event tried in
         let next = with_journal machine with_it in
@@ -189,7 +191,8 @@ module _ {D : Type 0} {disk : Ghosts D} (pair : ℕ) (old new : Replica D disk) 
       (halted : IsHalted new) (readings : KeepsReadings old new)
       (more : failed_by old < failed_by new) where
     broke : is_stopped (disk.arms (disk_of new)) ≡ false
-        → Meets machine.journal.arms 4 Halted arms_now 1 → EditsSo pair machine (failed_by old) event call
+        → Meets machine.journal.arms 4 Halted arms_now 1
+        → EditsSo pair machine (failed_by old) event call
     broke goes meets =
         let behind = settles.goes_on goes in
         let next = with_journal machine (writing_it Halted arms_now 1) in

@@ -147,7 +147,8 @@ module _ {D : Type 0} (disk : Ghosts D) (pair : ℕ) (side : DownSide D) (machin
       (same : failed_by replica ≡ disk.failures side.disk) where
     opened_so : (calls : ℕ) → is_stopped (disk.arms (disk_of replica)) ≡ false →
         Meets machine.journal.arms calls Up (armed_at (disk.arms (disk_of replica))) 0 →
-        OpensSo pair machine (disk.failures side.disk) (record { side = host.Up (side_of replica agent); outcome = outcome })
+        OpensSo pair machine (disk.failures side.disk)
+        (record { side = host.Up (side_of replica agent); outcome = outcome })
     opened_so calls goes meets =
         let arms_now = armed_at (disk.arms (disk_of replica)) in
         let found = sides pair machine.journal calls arms_now here.value here.generation meets
@@ -195,7 +196,8 @@ module _ {D : Type 0} (disk : Ghosts D) (pair : ℕ) (side : DownSide D) (machin
         }
 
     pub open_ok : MakesAtLeast 1 (disk.arms side.disk) (disk.arms (disk_of replica)) →
-        OpensSo pair machine (disk.failures side.disk) (record { side = host.Up (side_of replica agent); outcome = outcome })
+        OpensSo pair machine (disk.failures side.disk)
+        (record { side = host.Up (side_of replica agent); outcome = outcome })
     open_ok makes =
         let found = reads 1 (disk.arms side.disk) (disk.arms (disk_of replica)) rests.goes makes in
         let met = goes_so found.0 Up 0 (disk.arms (disk_of replica)) found.2 in
@@ -238,7 +240,8 @@ module _ {D : Type 0} (disk : Ghosts D) (pair : ℕ) (side : DownSide D) (machin
         }
 
     pub open_refused : cause_of refusal ≡ why.Memory
-        → disk.failures back ≡ disk.failures side.disk → MakesAtLeast 1 (disk.arms side.disk) (disk.arms back)
+        → disk.failures back ≡ disk.failures side.disk
+        → MakesAtLeast 1 (disk.arms side.disk) (disk.arms back)
         → OpensSo {D = D} {disk = disk} pair machine (disk.failures side.disk)
         (record { side = host.Down rest; outcome = Refused refusal })
     open_refused is_memory same makes =

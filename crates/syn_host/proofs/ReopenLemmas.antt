@@ -124,7 +124,8 @@ module _ {D : Type 0} {disk : Ghosts D} (pair : ℕ) (old new : Replica D disk) 
       Stops (side_of new agent) position tried call) → HasCounted (side_of new agent) call →
       (calls failed : ℕ) → failed + failed_by old ≤ failed_by new →
       is_stopped (disk.arms (disk_of new)) ≡ true →
-      Meets machine.journal.arms calls Down unarmed failed → ReopensSo pair machine (failed_by old) call
+      Meets machine.journal.arms calls Down unarmed failed →
+      ReopensSo pair machine (failed_by old) call
   cut_so tried tries settles counted calls failed few stopped meets =
       let behind = settles stopped in
       let next = with_device machine Down unarmed failed in
@@ -158,7 +159,8 @@ module _ {D : Type 0} {disk : Ghosts D} (pair : ℕ) (old new : Replica D disk) 
     here = runs.is.left (disk.seen (disk_of old)) (stays (disk_of old))
 
     opened_so : (calls : ℕ) → 1 ≤ calls → is_stopped (disk.arms (disk_of new)) ≡ false
-        → Meets machine.journal.arms calls Up arms_now 0 → ReopensSo pair machine (failed_by old) call
+        → Meets machine.journal.arms calls Up arms_now 0
+        → ReopensSo pair machine (failed_by old) call
     opened_so calls least goes meets =
         let behind = settles.goes_on goes in
         let gains = behind.0 in
@@ -227,7 +229,8 @@ module _ {D : Type 0} {disk : Ghosts D} (pair : ℕ) (old new : Replica D disk) 
 
     -- its device failed
     pub reopen_failed : refused_in outcome ≡ why.Device ∷ [] → IsHalted new
-        → failed_by old < failed_by new → BrokenCallsMeet → BreaksSometime (disk.arms (disk_of old)) (disk.arms (disk_of new))
+        → failed_by old < failed_by new → BrokenCallsMeet
+        → BreaksSometime (disk.arms (disk_of old)) (disk.arms (disk_of new))
         → ReopensSo pair machine (failed_by old) call
     reopen_failed is_refused halted more broken breaks =
         elim (broken breaks.0 (disk.arms (disk_of old)) (disk.arms (disk_of new)) runs.is.runs

@@ -74,8 +74,8 @@ pub record HoldsArchive (pair : ℕ) (bytes : Bytes) : Type 0 where
   pub archive : Archive
   pub stands : DiskStands pair bytes archive
 
--- the refusal is one of a replica's opening, whose cause lies in the bytes, or outside of them where
--- it is 9 or 11
+-- the refusal is one of a replica's opening, whose cause lies in the bytes, or outside of them
+-- where it is 9 or 11
 pub record RefusesSide (wanted : Option ℕ) (bytes : Bytes) (refusal : Refusal) : Type 0 where
   pub error : ReplicaError
   pub is : cause_of refusal ≡ refusal_of error

@@ -1,5 +1,6 @@
 //! The answers that come to a coordinator.
-ghost use Rattle.std.specs.Prelude.{◌≡◌, ◌⊎◌, [], ℕ, IfSome, None, Some, false, is_some, option_map};
+ghost use Rattle.std.specs.Prelude.{◌≡◌, ◌⊎◌, [], ℕ, IfSome, None, Some, false, is_some};
+ghost use Rattle.std.specs.Prelude.{option_map};
 ghost use Rattle.std.specs.Prelude.{true};
 ghost use Rattle.syn_coordinator.specs.inner.Answered.{Answered};
 ghost use Rattle.syn_coordinator.specs.inner.Taking.{asks_to, TakesOn, TakesSo};

@@ -30,7 +30,8 @@ returns-in-Err g c machine rests =
       | inl device ↦ open_failed g.D.Disk c.args.pair c.args.self machine rests
           g.met.D.Disk.seen_may_stay c.device_laws.ensures.reads c.in-Err.disk
           c.in-Err.ensures.untouched c.refusal.result (c.refusal.ensures ∙ device)
-          (has_failed c.in-Err.error _ _ device c.in-Err.ensures.failures) c.device_laws.ensures.broken (subst (λ e. AfterReads 1 e
+          (has_failed c.in-Err.error _ _ device c.in-Err.ensures.failures)
+          c.device_laws.ensures.broken (subst (λ e. AfterReads 1 e
           (g.D.Disk.arms c.args.self.disk) (g.D.Disk.arms c.in-Err.disk))
           (device_is c.in-Err.error device) c.in-Err.ensures.calls)
       | inr memory ↦ open_refused g.D.Disk c.args.pair c.args.self machine rests

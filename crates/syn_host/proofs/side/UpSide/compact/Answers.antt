@@ -31,8 +31,8 @@ returns-in-Ok g c pair machine runs =
     none g.met.D.Disk.counts_now c.machine_laws.ensures.compacted c.in-Ok.ensures.memory
     c.in-Ok.ensures.tried (c.in-Ok.ensures.any_moment value is_up.1) c.settle.ensures
     (c.machine_laws.ensures.up pair) (c.in-Ok.ensures.acknowledged value is_up.1)
-    c.in-Ok.ensures.generation c.in-Ok.ensures.image c.in-Ok.ensures.failures c.device_laws.ensures.made
-    c.in-Ok.ensures.calls
+    c.in-Ok.ensures.generation c.in-Ok.ensures.image c.in-Ok.ensures.failures
+    c.device_laws.ensures.made c.in-Ok.ensures.calls
 
 pub returns-in-Err : goal.returns-in-Err
 returns-in-Err g c pair machine runs =

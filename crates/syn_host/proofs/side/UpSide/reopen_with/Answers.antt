@@ -17,7 +17,8 @@ returns-in-Ok g c pair machine runs =
     c.in-Ok.ensures.untouched c.in-Ok.ensures.pair _
     (λ told writing. c.requires ∙ runs.tries told writing) c.settle_opened.ensures
     g.met.D.Disk.seen_may_stay c.in-Ok.ensures.each (c.machine_laws.ensures.up pair)
-    c.opening_laws.ensures.sides c.in-Ok.ensures.failures c.device_laws.ensures.reads c.in-Ok.ensures.calls
+    c.opening_laws.ensures.sides c.in-Ok.ensures.failures c.device_laws.ensures.reads
+    c.in-Ok.ensures.calls
 
 pub returns-in-Err : goal.returns-in-Err
 returns-in-Err g c pair machine runs =
@@ -27,7 +28,8 @@ returns-in-Err g c pair machine runs =
     let e = c.in-Err.error in
     let position_now = c.position-position.ensures ∙ position_is pair c.args.self machine runs in
     elim (outside e (c.in-Err.ensures.keeps_up value (keeps_up pair old c.args.self.agent machine
-    runs g.met.D.Disk.seen_may_stay))) as (λ _. ReopensSo pair machine (failed_by old) c.settle.result) [
+    runs g.met.D.Disk.seen_may_stay)))
+    as (λ _. ReopensSo pair machine (failed_by old) c.settle.result) [
       | inl memory ↦
           let unchanged : Stands old value → Stands new value =
           λ stands. elim (c.in-Err.ensures.unchanged value stands) as (λ _. Stands new value) [

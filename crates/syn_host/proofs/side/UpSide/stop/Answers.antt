@@ -7,12 +7,13 @@ use Rattle.syn_host.proofs.SideLemmas.{position_is}
 use Rattle.syn_host.proofs.side.UpSide.stop.Goals as goal
 
 pub returns-clause-rests : goal.returns-clause-rests
-returns-clause-rests g c pair machine runs = c.stop_at.ensures.rests pair (stopped machine) (record {
-  down = refl;
-  unarmed_is = refl;
-  unstaged = refl;
-  position_is = c.position-position.ensures ∙ position_is pair c.args.self machine runs;
-  tries = runs.tries;
-  leaves = λ bytes may.
-      may_be_still (of_side pair) machine.journal Down unarmed 0 bytes (runs.is.left bytes may);
-})
+returns-clause-rests g c pair machine runs = c.stop_at.ensures.rests pair (stopped machine)
+    (record {
+      down = refl;
+      unarmed_is = refl;
+      unstaged = refl;
+      position_is = c.position-position.ensures ∙ position_is pair c.args.self machine runs;
+      tries = runs.tries;
+      leaves = λ bytes may.
+          may_be_still (of_side pair) machine.journal Down unarmed 0 bytes (runs.is.left bytes may);
+    })
